@@ -1,0 +1,80 @@
+-- The faults of a payload that is to be a letter, in their order.
+-- Source: the payload header, version 1, of docs/FORMATS.md: what the table of letters allows for each kind.
+use Rattle.std.specs.Prelude.{ℕ, ◌-◌, Bool, false, not, ◌||◌, ◌&&◌, ◌==◌, nat_lt, nat_le, List, [], ◌∷◌, length, slice_index, Option, Some, None, is_some, if◌then◌else◌}
+use Rattle.mc_base.specs.Limits.{item_size, letter_header_size}
+use Rattle.mc_base.specs.Bytes.{number_at}
+use Rattle.mc_base.specs.FaultRow.{FaultRow, row}
+use Rattle.mc_base.specs.declared.fault.LetterFault.{LetterFault}
+use Rattle.mc_base.specs.declared.fault.LetterFault.TheVariants.{PayloadShort, Magic, Version, Kind, Argument, Channel, Size}
+
+-- what a kind allows: its arguments, its channels, and the lengths of its content by the argument
+pub record Form : Type 0 where
+  pub kind : ℕ
+  pub argument : ℕ → Bool
+  pub channel : ℕ → Bool
+  pub content : ℕ → ℕ → Bool
+
+abbrev pub form : ℕ → (ℕ → Bool) → (ℕ → Bool) → (ℕ → ℕ → Bool) → Form
+form kind argument channel content = record { kind = kind; argument = argument; channel = channel; content = content }
+
+abbrev pub only : ℕ → ℕ → Bool
+only n m = m == n
+
+abbrev pub from_to : ℕ → ℕ → ℕ → Bool
+from_to low high n = nat_le low n && nat_le n high
+
+abbrev pub a_channel : ℕ → Bool
+a_channel n = not (n == 0)
+
+abbrev pub nothing : ℕ → ℕ → Bool
+nothing argument n = n == 0
+
+abbrev pub an_item : ℕ → ℕ → Bool
+an_item argument n = nat_le n item_size
+
+abbrev pub a_width : ℕ → Bool
+a_width n = n == 1 || (n == 2 || (n == 4 || n == 8))
+
+-- the table of letters: kind, arguments, channels, content
+abbrev pub forms : List Form
+forms =
+    form 1 (from_to 0 3) (only 0) an_item
+    ∷ form 2 (from_to 0 1) a_channel nothing
+    ∷ form 3 (only 0) a_channel nothing
+    ∷ form 4 (from_to 1 3) a_channel nothing
+    ∷ form 5 (only 0) a_channel nothing
+    ∷ form 6 (only 0) a_channel nothing
+    ∷ form 7 (only 0) a_channel an_item
+    ∷ form 8 a_width a_channel (λ argument n. n == argument)
+    ∷ form 9 (only 0) a_channel nothing
+    ∷ form 10 (only 0) a_channel nothing
+    ∷ []
+
+-- the form of a kind, where it is one
+abbrev pub form_in : ℕ → List Form → Option Form
+form_in kind [] = None
+form_in kind (f ∷ fs) = if f.kind == kind then Some f else form_in kind fs
+
+abbrev pub form_of : ℕ → Option Form
+form_of kind = form_in kind forms
+
+-- the kind's form allows it; a kind that is none allows nothing
+abbrev pub allows : Option Form → (Form → Bool) → Bool
+allows None test = false
+allows (Some f) test = test f
+
+-- the faults in their order. `frame` prints the place of each in a frame without more header
+abbrev pub letter_faults : List ℕ → List (FaultRow LetterFault)
+letter_faults payload =
+    let kind = slice_index payload 2 in
+    let argument = slice_index payload 3 in
+    let channel = number_at 4 4 payload in
+    let content = length payload - letter_header_size in
+    row PayloadShort (nat_lt (length payload) letter_header_size) 12
+    ∷ row Magic (not (slice_index payload 0 == 0x4d)) 16
+    ∷ row Version (not (slice_index payload 1 == 1)) 17
+    ∷ row Kind (not (is_some (form_of kind))) 18
+    ∷ row Argument (not (allows (form_of kind) (λ f. f.argument argument))) 19
+    ∷ row Channel (not (allows (form_of kind) (λ f. f.channel channel))) 20
+    ∷ row Size (not (allows (form_of kind) (λ f. f.content argument content))) 12
+    ∷ []

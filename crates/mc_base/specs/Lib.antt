@@ -1,0 +1,10 @@
+pub mod Limits
+pub mod Stored
+pub mod Lending
+pub mod Bytes
+pub mod FaultRow
+pub mod Frame
+pub mod Letter
+pub mod LetterFaults
+pub mod Announcement
+pub mod Fault

@@ -1,0 +1,36 @@
+//! The plain words of the board: names, limits, buffers, refusals, requests, letters, announcements and faults.
+//!
+//! Everything else stands on this crate. `specs/` defines what a frame, a letter and a name announcement are.
+#![tactic(auto)]
+
+mod announcement;
+mod buffer;
+mod channel;
+mod fate;
+mod fault;
+mod letter;
+mod limits;
+mod name;
+mod priority;
+mod refusal;
+mod request;
+
+pub use announcement::Ns;
+pub use buffer::Buffer;
+pub use channel::{Bits, Kind, Reason, Side};
+pub use fate::Fate;
+pub use fault::{Fault, FrameFault, LetterFault, NsFault};
+pub use letter::Letter;
+pub use limits::{
+    BUFFER_SIZE, FIRST_ADDRESS, FRAME_HEADER_SIZE, ITEM_SIZE, LETTER_HEADER_SIZE, MAX_CHANNELS,
+    MAX_DOMAINS, MAX_ENDPOINTS, MAX_ENDPOINTS_EVER, MAX_NODES, MAX_OWED_ANNOUNCEMENTS,
+    MAX_OWED_REPLIES, MAX_POOL, MAX_REQUESTS, MAX_RING_SIZE, NAME_SERVICE_ADDRESS, NAME_SIZE,
+    NAMES_KNOWN, NS_SIZE, TURN_FRAMES,
+};
+pub use name::{EndName, Local};
+pub use priority::Priority;
+pub use refusal::{BufInvalid, Full, NoMemory, Refusal, RequestLimit, SclSize};
+pub use request::{Done, Got, PacketId, RequestId, Slot};
+
+#[cfg(test)]
+mod tests;

@@ -1,0 +1,39 @@
+ghost use Rattle.std.specs.Prelude.{◌≡◌, ◌≤◌, ◌<◌, ℕ, IfSome, IsNone, ◌↔◌};
+
+use std::marker::Model;
+
+/// The priority of a message: 0 to 3, and 0 is the best.
+#[derive(Clone, Copy, Debug, PartialEq, Eq)]
+pub struct Priority {
+    number: u8,
+}
+
+impl Model for Priority {
+    ghost Value = { ℕ };
+
+    ghost view = { λ p. p.number };
+
+    ghost invariant = { λ p. p.number ≤ 3 };
+
+    ghost inverse = { λ n. record { number = n } };
+}
+
+impl Priority {
+    /// The priority of this number, or `None` where there is none.
+    pub fn new(n: u8) -> Option<Priority>
+        ensures none { IsNone result ↔ (3 < n) }
+        ensures value { IfSome result (λ p. p ≡ n) }
+    {
+        if n > 3 {
+            return None;
+        }
+        Some(Priority { number: n })
+    }
+
+    pub fn number(self) -> u8
+        ensures value { result ≡ self }
+        ensures range { result ≤ 3 }
+    {
+        self.number
+    }
+}
