@@ -32,9 +32,13 @@ pub record IsFrame (frame : List ℕ) (src dst : ℕ) (payload : List ℕ) : Typ
   pub length_fits : payload_length_of frame ≤ length frame - frame_header_size
   pub content : payload ≡ payload_of frame
 
+-- the header for a payload of this length, with reserved and flags 0
+abbrev pub header : ℕ → ℕ → ℕ → List ℕ
+header src dst n = little_bytes 4 src ++ (little_bytes 4 dst ++ (little_bytes 4 0 ++ (little_bytes 2 n ++ little_bytes 2 0)))
+
 -- the frame with reserved and flags 0 and nothing after the payload
 abbrev pub made : ℕ → ℕ → List ℕ → List ℕ
-made src dst payload = little_bytes 4 src ++ (little_bytes 4 dst ++ (little_bytes 4 0 ++ (little_bytes 2 (length payload) ++ (little_bytes 2 0 ++ payload))))
+made src dst payload = header src dst (length payload) ++ payload
 
 -- the faults of a frame before its payload is looked at, in their order
 abbrev pub frame_faults : List ℕ → List (FaultRow FrameFault)
