@@ -8,3 +8,4 @@ pub mod Letter
 pub mod LetterFaults
 pub mod Announcement
 pub mod Fault
+pub mod Text

@@ -1,0 +1,86 @@
+-- Which texts are scenarios, and of which board: a text is the scenario whose canonical text it is.
+-- Source: docs/FORMATS.md, "Scenario files": one domain line, and then lines of the calls create, msg_send with priority
+-- 1, and msg_recv, by nodes of that domain, without labels and tries.
+use Rattle.std.specs.Prelude.{◌≡◌, ℕ, ◌<◌, ◌≤◌, ◌^◌, List, [], ◌∷◌, ◌++◌, length, codes, decimal, None}
+use Rattle.std.specs.List.{flat_map, AllByRecursion}
+use Rattle.mc_base.specs.Text.{hex_text}
+use Rattle.mc_base.specs.declared.name.EndName.{EndName}
+use Rattle.board_model.specs.declared.scenario.DomainLine.{DomainLine}
+use Rattle.board_model.specs.declared.scenario.LinkLine.{LinkLine}
+use Rattle.board_model.specs.declared.scenario.Call.{Call}
+use Rattle.board_model.specs.declared.scenario.Call.TheVariants.{Create, MsgSend, MsgRecv}
+use Rattle.board_model.specs.declared.scenario.CallLine.{CallLine}
+use Rattle.board_model.specs.declared.scenario.Scenario.{Scenario}
+
+-- words with one space between them
+abbrev pub spaced : List (List ℕ) → List ℕ
+spaced [] = []
+spaced (w ∷ []) = w
+spaced (w ∷ v ∷ ws) = w ++ (32 ∷ spaced (v ∷ ws))
+
+-- the words of a line, and its newline
+abbrev pub line_of : List (List ℕ) → List ℕ
+line_of words = spaced words ++ (10 ∷ [])
+
+abbrev pub domain_text : DomainLine → List ℕ
+domain_text d = line_of (codes "domain" ∷ decimal d.domain ∷ codes "nodes" ∷ decimal d.nodes ∷ codes "pool" ∷ decimal d.pool ∷ [])
+
+abbrev pub link_text : LinkLine → List ℕ
+link_text l = line_of (codes "link" ∷ decimal l.driver ∷ decimal l.device ∷ codes "size" ∷ decimal l.size ∷ [])
+
+-- D:N:P
+abbrev pub name_text : EndName → List ℕ
+name_text n = decimal n.domain ++ (58 ∷ (decimal n.node ++ (58 ∷ decimal n.port)))
+
+-- the forms of the calls: the word, and the arguments in their order
+abbrev pub call_words : Call → List (List ℕ)
+call_words (Create port) = codes "create" ∷ decimal port ∷ []
+call_words (MsgSend port to priority bytes) = codes "msg_send" ∷ decimal port ∷ name_text to ∷ decimal priority ∷ hex_text bytes ∷ []
+call_words (MsgRecv port max) = codes "msg_recv" ∷ decimal port ∷ decimal max ∷ []
+
+-- D.N
+abbrev pub caller_text : CallLine → List ℕ
+caller_text c = decimal c.domain ++ (46 ∷ decimal c.node)
+
+abbrev pub call_text : CallLine → List ℕ
+call_text c = line_of (caller_text c ∷ call_words c.call)
+
+-- the canonical text of a scenario
+abbrev pub canonical : Scenario → List ℕ
+canonical s = flat_map domain_text s.domains ++ (flat_map link_text s.links ++ flat_map call_text s.calls)
+
+-- ranges of the arguments
+abbrev pub IsLawfulName : EndName → Type 0
+IsLawfulName n = (n.domain ≤ 7) × (n.node ≤ 15) × (n.port < 2 ^ 16)
+
+abbrev pub IsLawfulCall : Call → Type 0
+IsLawfulCall (Create port) = port < 2 ^ 16
+IsLawfulCall (MsgSend port to priority bytes) = (port < 2 ^ 16) × IsLawfulName to × (priority ≡ 1) × (length bytes ≤ 9000) × AllByRecursion (λ b. b < 256) bytes
+IsLawfulCall (MsgRecv port max) = (port < 2 ^ 16) × (max ≤ 9000)
+
+pub record IsLawfulLine (domain : ℕ) (c : CallLine) : Type 0 where
+  pub told_domain : c.domain ≡ domain
+  pub node_fits : c.node ≤ 15
+  pub no_label : c.label ≡ None
+  pub no_tries : c.tries ≡ None
+  pub call_fits : IsLawfulCall c.call
+
+pub record IsLawfulDomain (d : DomainLine) : Type 0 where
+  pub domain_fits : d.domain ≤ 7
+  pub some_nodes : 1 ≤ d.nodes
+  pub nodes_fit : d.nodes ≤ 16
+  pub some_pool : 1 ≤ d.pool
+  pub pool_fits : d.pool ≤ 256
+
+-- a board of one domain with the calls that there are
+pub record IsLawful (s : Scenario) : Type 0 where
+  pub domain : DomainLine
+  pub one_domain : s.domains ≡ domain ∷ []
+  pub no_links : s.links ≡ []
+  pub domain_lawful : IsLawfulDomain domain
+  pub lines_lawful : AllByRecursion (IsLawfulLine domain.domain) s.calls
+
+-- the text is a scenario of the grammar, and tells this board
+pub record IsScenario (text : List ℕ) (s : Scenario) : Type 0 where
+  pub lawful : IsLawful s
+  pub spelled : text ≡ canonical s

@@ -1,0 +1,137 @@
+-- The text of a report.
+-- Source: docs/FORMATS.md, "Report".
+use Rattle.std.specs.Prelude.{ℕ, List, [], ◌∷◌, ◌++◌, map, length, codes, decimal, nat_lt, if◌then◌else◌}
+use Rattle.std.specs.List.{flat_map}
+use Rattle.mc_base.specs.Text.{hex_text}
+use Rattle.mc_base.specs.declared.refusal.Refusal.{Refusal}
+use Rattle.mc_base.specs.declared.refusal.Refusal.TheVariants as refusal
+use Rattle.mc_base.specs.declared.fate.Fate.{Fate}
+use Rattle.mc_base.specs.declared.fate.Fate.TheVariants as fate
+use Rattle.board_model.specs.declared.totals.Totals.{Totals}
+use Rattle.board_model.specs.declared.totals.LanePlaces.{LanePlaces}
+use Rattle.board_model.specs.declared.scenario.DomainLine.{DomainLine}
+use Rattle.board_model.specs.declared.scenario.Scenario.{Scenario}
+use Rattle.board_model.specs.Scenario.{rising, lanes}
+use Rattle.board_model.specs.Grammar.{line_of, canonical}
+use Rattle.board_model.specs.Journal.{PlainAnswer, refuses, agrees, tells, gives, Line, idle_line, turn_line, back_line, put_line, see_line, take_line, call_line, joined}
+use Rattle.board_model.specs.Board.{DomainJournal}
+use Rattle.board_model.specs.Messages.{totals}
+use Rattle.board_model.specs.Places.{places_of}
+
+-- the words of refusal
+abbrev pub refusal_text : Refusal → List ℕ
+refusal_text refusal.NodeInvalid = codes "node_invalid"
+refusal_text refusal.ExistsAlready = codes "exists_already"
+refusal_text refusal.EndpLimit = codes "endp_limit"
+refusal_text refusal.AddressSpent = codes "address_spent"
+refusal_text refusal.EndpInvalid = codes "endp_invalid"
+refusal_text refusal.PeerInvalid = codes "peer_invalid"
+refusal_text refusal.OnChannel = codes "on_channel"
+refusal_text refusal.ChanConnected = codes "chan_connected"
+refusal_text refusal.EndpBusy = codes "endp_busy"
+refusal_text refusal.ChanLimit = codes "chan_limit"
+refusal_text refusal.RequestLimit = codes "request_limit"
+refusal_text refusal.NotConnected = codes "not_connected"
+refusal_text refusal.ChanDirection = codes "chan_direction"
+refusal_text refusal.ChanType = codes "chan_type"
+refusal_text refusal.ChanClosed = codes "chan_closed"
+refusal_text refusal.AlreadyOpen = codes "already_open"
+refusal_text refusal.NotOpen = codes "not_open"
+refusal_text refusal.MsgSize = codes "msg_size"
+refusal_text refusal.PktSize = codes "pkt_size"
+refusal_text refusal.NoBuffer = codes "no_buffer"
+refusal_text refusal.Empty = codes "empty"
+refusal_text refusal.SclSize = codes "scl_size"
+refusal_text refusal.BufInvalid = codes "buf_invalid"
+refusal_text refusal.RequestInvalid = codes "request_invalid"
+refusal_text refusal.Pending = codes "pending"
+refusal_text refusal.TooLate = codes "too_late"
+refusal_text refusal.Timeout = codes "timeout"
+refusal_text refusal.LinkInvalid = codes "link_invalid"
+refusal_text refusal.RawSound = codes "raw_sound"
+
+-- the words of take lines
+abbrev pub fate_text : Fate → List ℕ
+fate_text fate.FrameShort = codes "frame_short"
+fate_text fate.FrameLong = codes "frame_long"
+fate_text fate.HeaderLen = codes "header_len"
+fate_text fate.PayloadShort = codes "payload_short"
+fate_text fate.Magic = codes "magic"
+fate_text fate.Version = codes "version"
+fate_text fate.Kind = codes "kind"
+fate_text fate.Argument = codes "argument"
+fate_text fate.Channel = codes "channel"
+fate_text fate.Size = codes "size"
+fate_text fate.NsSize = codes "ns_size"
+fate_text fate.NsFlags = codes "ns_flags"
+fate_text fate.NsName = codes "ns_name"
+fate_text fate.ForeignName = codes "foreign_name"
+fate_text fate.NamesFull = codes "names_full"
+fate_text fate.UnknownName = codes "unknown_name"
+fate_text fate.RepliesFull = codes "replies_full"
+fate_text fate.Acted = codes "acted"
+fate_text fate.Owed = codes "owed"
+fate_text fate.NoEndpoint = codes "no_endpoint"
+fate_text fate.OnChannel = codes "on_channel"
+fate_text fate.Handed = codes "handed"
+fate_text fate.Queued = codes "queued"
+fate_text fate.Closed = codes "closed"
+fate_text fate.State = codes "state"
+
+-- the words of an answer. Where fewer bytes than the size were given, it is truncated
+abbrev pub answer_words : PlainAnswer → List (List ℕ)
+answer_words (refuses word) = refusal_text word ∷ []
+answer_words agrees = codes "ok" ∷ []
+answer_words (tells n) = codes "ok" ∷ decimal n ∷ []
+answer_words (gives size bytes) = (if nat_lt (length bytes) size then codes "truncated" else codes "ok") ∷ decimal size ∷ hex_text bytes ∷ []
+
+-- the words of a line of a journal
+abbrev pub line_words : Line → List (List ℕ)
+line_words (idle_line n) = codes "idle" ∷ decimal n ∷ []
+line_words turn_line = codes "turn" ∷ []
+line_words (back_line peer n) = codes "back" ∷ decimal peer ∷ decimal n ∷ []
+line_words (put_line peer frame) = codes "put" ∷ decimal peer ∷ hex_text frame ∷ []
+line_words (see_line peer n) = codes "see" ∷ decimal peer ∷ decimal n ∷ []
+line_words (take_line peer frame fate) = codes "take" ∷ decimal peer ∷ hex_text frame ∷ fate_text fate ∷ []
+line_words (call_line number answer) = codes "call" ∷ decimal number ∷ answer_words answer
+
+abbrev pub line_text : Line → List ℕ
+line_text l = line_of (line_words l)
+
+abbrev pub lines_text : List Line → List ℕ
+lines_text lines = flat_map line_text lines
+
+-- a journal under its domain
+abbrev pub journal_text : DomainLine → List Line → List ℕ
+journal_text d lines = line_of (codes "journal" ∷ decimal d.domain ∷ []) ++ lines_text lines
+
+abbrev pub journals_text : List DomainLine → List (List Line) → List ℕ
+journals_text [] journals = []
+journals_text (d ∷ ds) [] = []
+journals_text (d ∷ ds) (lines ∷ journals) = journal_text d lines ++ journals_text ds journals
+
+abbrev pub totals_words : Totals → List (List ℕ)
+totals_words t = codes "accepted" ∷ decimal t.accepted ∷ codes "taken" ∷ decimal t.taken ∷ codes "dropped" ∷ decimal t.dropped ∷ codes "queued" ∷ decimal t.queued ∷ codes "ring" ∷ decimal t.ring ∷ []
+
+abbrev pub messages_text : Totals → List ℕ
+messages_text t = line_of (codes "messages" ∷ totals_words t)
+
+abbrev pub places_text : LanePlaces → List ℕ
+places_text p = line_of (codes "lane" ∷ decimal p.from ∷ decimal p.to ∷ codes "free" ∷ decimal p.free ∷ codes "ring" ∷ decimal p.ring ∷ codes "queue" ∷ decimal p.queue ∷ codes "lent" ∷ decimal p.lent ∷ [])
+
+abbrev pub heading : List ℕ
+heading = codes "mcapi-report 1 serial\n"
+
+abbrev pub ending : List ℕ
+ending = codes "end\n"
+
+-- the report of a scenario with these journals, one for each domain in rising number, and these numbers
+abbrev pub report_of : Scenario → List (List Line) → Totals → List LanePlaces → List ℕ
+report_of s journals messages places = heading ++ (canonical s ++ (journals_text (rising s) journals ++ (messages_text messages ++ (flat_map places_text places ++ ending))))
+
+abbrev pub lines_of : DomainJournal → List Line
+lines_of j = joined j.entries
+
+-- the report of a board run of a scenario
+unfoldable pub report : Scenario → List DomainJournal → List ℕ
+report s js = report_of s (map lines_of js) (totals s js) (map (places_of s js) (lanes s))

@@ -1,0 +1,179 @@
+-- The state of a domain.
+-- Source: docs/PROFILE.md, "A domain". Lists, in the order in which their items came. Buffers and requests are told apart
+-- by their places in these lists.
+use Rattle.std.specs.Prelude.{ℕ, ◌+◌, Bool, ◌&&◌, List, [], ◌∷◌, ◌++◌, ◌==◌, map, count_by, position, slice_get, Option, None, Some, option_map, option_and_then, unwrap_or}
+use Rattle.std.specs.List.{flat_map}
+use Rattle.mc_base.specs.declared.name.Local.{Local}
+use Rattle.mc_base.specs.declared.name.EndName.{EndName}
+use Rattle.mc_base.specs.declared.channel.Kind.{Kind}
+use Rattle.mc_base.specs.declared.channel.Side.{Side}
+use Rattle.mc_base.specs.declared.channel.Reason.{Reason}
+use Rattle.mc_base.specs.declared.refusal.Refusal.{Refusal}
+use Rattle.board_model.specs.Scenario.{Neighbour}
+
+-- a message or packet that is held: who sent it, from which address, its priority and its content
+pub record Item : Type 0 where
+  pub peer : ℕ
+  pub source : ℕ
+  pub priority : ℕ
+  pub content : List ℕ
+
+-- the stages of a channel's end
+pub data Stage : Type 0 where
+  connecting : Stage
+  connected : Stage
+  opened : Stage
+  closed : Stage
+
+-- one end of a channel, which its sender's domain owns and numbered
+pub record ChannelEnd : Type 0 where
+  pub side : Side
+  pub kind : Kind
+  pub owner : ℕ
+  pub number : ℕ
+  pub peer : ℕ
+  pub peer_address : ℕ
+  pub stage : Stage
+  pub far_open : Bool
+  pub far_closed : Bool
+
+-- an endpoint: its name in its domain, its address, whether it is live, its queue, and its channel or none
+pub record Endpoint : Type 0 where
+  pub local : Local
+  pub address : ℕ
+  pub live : Bool
+  pub queue : List Item
+  pub channel : Option ChannelEnd
+
+-- what a request asks for
+pub data Asked : Type 0 where
+  name_of : EndName → Asked
+  channel_of : ℕ → Asked
+  message_at : Local → ℕ → Asked
+  packet_at : Local → Asked
+
+-- how a request is complete
+pub data Outcome : Type 0 where
+  has_address : ℕ → Outcome
+  is_accepted : Outcome
+  is_rejected : Reason → Outcome
+  has_item : Item → Outcome
+  has_ended : Refusal → Outcome
+
+-- a request that stands, pending or complete
+pub record Request : Type 0 where
+  pub serial : ℕ
+  pub asked : Asked
+  pub outcome : Option Outcome
+
+-- a packet that is lent
+pub record LentPacket : Type 0 where
+  pub serial : ℕ
+  pub item : Item
+
+-- a peer, the domain itself among them: the lane to it with its free buffers, the frames of the lane from it that were
+-- shown and not taken, what is owed to it, and the addresses known of its names
+pub record Peer : Type 0 where
+  pub number : ℕ
+  pub size : ℕ
+  pub free : ℕ
+  pub shown : ℕ
+  pub announcements : List (List ℕ)
+  pub replies : List (List ℕ)
+  pub known : List (EndName × ℕ)
+
+pub record DomainState : Type 0 where
+  pub number : ℕ
+  pub nodes : ℕ
+  pub endpoints : List Endpoint
+  pub peers : List Peer
+  pub requests : List Request
+  pub lent : List LentPacket
+  pub endpoints_given : ℕ
+  pub channels_given : ℕ
+  pub requests_given : ℕ
+  pub packets_lent : ℕ
+
+-- a peer at the opening: every buffer is free, and nothing is known or owed
+abbrev pub new_peer : Neighbour → Peer
+new_peer n = record { number = n.number; size = n.size; free = n.size; shown = 0; announcements = []; replies = []; known = [] }
+
+-- the state at the opening
+abbrev pub opening : ℕ → ℕ → List Neighbour → DomainState
+opening number nodes neighbours = record { number = number; nodes = nodes; endpoints = []; peers = map new_peer neighbours; requests = []; lent = []; endpoints_given = 0; channels_given = 0; requests_given = 0; packets_lent = 0 }
+
+-- ---- endpoints
+
+abbrev pub is_at : Local → Endpoint → Bool
+is_at local e = e.live && (e.local.node == local.node && e.local.port == local.port)
+
+abbrev pub has_live_address : ℕ → Endpoint → Bool
+has_live_address address e = e.live && e.address == address
+
+-- the place of the live endpoint of this name, and of this address
+abbrev pub place_at : DomainState → Local → Option ℕ
+place_at s local = position (is_at local) s.endpoints
+
+abbrev pub place_of_address : DomainState → ℕ → Option ℕ
+place_of_address s address = position (has_live_address address) s.endpoints
+
+abbrev pub endpoint_at : DomainState → Local → Option Endpoint
+endpoint_at s local = option_and_then (λ i. slice_get s.endpoints i) (place_at s local)
+
+-- the address of the live endpoint of this name
+abbrev pub address_at : DomainState → Local → Option ℕ
+address_at s local = option_map (λ e. e.address) (endpoint_at s local)
+
+-- its queue
+abbrev pub queue_in : Option Endpoint → List Item
+queue_in None = []
+queue_in (Some e) = e.queue
+
+abbrev pub queue_at : DomainState → Local → List Item
+queue_at s local = queue_in (endpoint_at s local)
+
+-- ---- peers
+
+abbrev pub is_numbered : ℕ → Peer → Bool
+is_numbered n p = p.number == n
+
+abbrev pub place_of_peer : DomainState → ℕ → Option ℕ
+place_of_peer s n = position (is_numbered n) s.peers
+
+abbrev pub peer_of : DomainState → ℕ → Option Peer
+peer_of s n = option_and_then (λ i. slice_get s.peers i) (place_of_peer s n)
+
+-- the free buffers of the lane to a peer
+abbrev pub free_to : DomainState → ℕ → ℕ
+free_to s n = unwrap_or (option_map (λ p. p.free) (peer_of s n)) 0
+
+-- what is owed to a peer: announcements first, and then replies, the oldest first
+abbrev pub owed_to : Peer → List (List ℕ)
+owed_to p = p.announcements ++ p.replies
+
+-- ---- held items
+
+abbrev pub is_from : ℕ → Item → Bool
+is_from n i = i.peer == n
+
+abbrev pub queued_items : DomainState → List Item
+queued_items s = flat_map (λ e. e.queue) s.endpoints
+
+-- the item that a complete request holds until it is tested off
+abbrev pub item_in : Option Outcome → List Item
+item_in (Some (has_item i)) = i ∷ []
+item_in other = []
+
+-- the lent items: packets, and those of complete requests
+abbrev pub lent_items : DomainState → List Item
+lent_items s = map (λ p. p.item) s.lent ++ flat_map (λ r. item_in r.outcome) s.requests
+
+-- the buffers of the lane from a peer that stand in queues, and that are lent
+abbrev pub queued_from : ℕ → DomainState → ℕ
+queued_from n s = count_by (is_from n) (queued_items s)
+
+abbrev pub lent_from : ℕ → DomainState → ℕ
+lent_from n s = count_by (is_from n) (lent_items s)
+
+abbrev pub held_from : ℕ → DomainState → ℕ
+held_from n s = queued_from n s + lent_from n s

@@ -1,0 +1,51 @@
+-- Turns: what a domain may do at its peers, one after the other, and the state that it leaves.
+-- Source: docs/PROFILE.md, "A turn". How much a look shows is left open, as far as the lane allows.
+use Rattle.std.specs.Prelude.{◌≡◌, ℕ, ◌+◌, ◌-◌, ◌≤◌, min, List, [], ◌∷◌, length, take, drop, map, Some}
+use Rattle.board_model.specs.Lists.{changed}
+use Rattle.board_model.specs.Journal.{Visit}
+use Rattle.board_model.specs.State.{DomainState, Peer, place_of_peer, peer_of, owed_to, held_from}
+use Rattle.board_model.specs.Dealing.{after_takes, HaveWords}
+
+-- the most owed frames that a turn puts to a peer, and the most frames that it takes from it
+abbrev pub turn_limit : ℕ
+turn_limit = 8
+
+-- the owed frames that a visit puts: the first ones, as many as there are buffers free after the look
+abbrev pub due_frames : Peer → ℕ → List (List ℕ)
+due_frames p back = take (min turn_limit (p.free + back)) (owed_to p)
+
+-- the peer after the looks and the owed frames; announcements are put before replies
+abbrev pub looked_at : Visit → Peer → Peer
+looked_at v p = record p { free = p.free + v.back - length v.owed; shown = v.see - length v.takes; announcements = drop (length v.owed) p.announcements; replies = drop (length v.owed - length p.announcements) p.replies }
+
+abbrev pub after_looks : DomainState → Visit → DomainState
+after_looks s v = record s { peers = changed (looked_at v) (place_of_peer s v.peer) s.peers }
+
+-- the state after a visit
+abbrev pub after_visit : DomainState → Visit → DomainState
+after_visit s v = after_takes (after_looks s v) v.peer v.takes
+
+-- the visit is one that the lanes allow, and does as it must with what the looks showed
+pub record IsVisit (s : DomainState) (v : Visit) : Type 0 where
+  pub at : Peer
+  pub known : peer_of s v.peer ≡ Some at
+  pub back_fits : v.back ≤ at.size - at.free
+  pub puts_due : v.owed ≡ due_frames at v.back
+  pub sees_shown : at.shown ≤ v.see
+  pub see_fits : v.see + held_from v.peer s ≤ at.size
+  pub takes_first : length v.takes ≡ min turn_limit v.see
+  pub words : HaveWords (after_looks s v) v.peer v.takes
+
+abbrev pub AreVisits : DomainState → List Visit → Type 0
+AreVisits s [] = Unit {0}
+AreVisits s (v ∷ vs) = IsVisit s v × AreVisits (after_visit s v) vs
+
+-- a turn visits each peer once, in rising number
+pub record IsTurn (s : DomainState) (visits : List Visit) : Type 0 where
+  pub each_peer : map (λ v. v.peer) visits ≡ map (λ p. p.number) s.peers
+  pub allowed : AreVisits s visits
+
+-- the state after a turn
+abbrev pub after_turn : DomainState → List Visit → DomainState
+after_turn s [] = s
+after_turn s (v ∷ vs) = after_turn (after_visit s v) vs

@@ -1,0 +1,14 @@
+//! What a board is and does: scenarios as plain types, and in `specs/` the definitions that everything is proved
+//! against. It has no code of its own beyond the types and the laws.
+//!
+//! `specs/` is to be read in this order: Scenario, Grammar, Journal, State, Choice, Dealing, Answer, Effect, Step, Run,
+//! Traffic, Board, Messages, Places, Serial, Report, Headline.
+#![tactic(auto)]
+
+mod scenario;
+mod seq;
+mod totals;
+
+pub use scenario::{Call, CallLine, DomainLine, Label, LinkLine, Scenario};
+pub use seq::Seq;
+pub use totals::{LanePlaces, Totals};
