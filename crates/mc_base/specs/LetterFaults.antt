@@ -1,9 +1,10 @@
 -- The faults of a payload that is to be a letter, in their order.
 -- Source: the payload header, version 1, of docs/FORMATS.md: what the table of letters allows for each kind.
-use Rattle.std.specs.Prelude.{ℕ, ◌-◌, Bool, false, not, ◌||◌, ◌&&◌, ◌==◌, nat_lt, nat_le, List, [], ◌∷◌, length, slice_index, Option, Some, None, is_some, if◌then◌else◌}
+use Rattle.std.specs.Prelude.{ℕ, Bool, false, not, ◌||◌, ◌&&◌, ◌==◌, nat_lt, nat_le, List, [], ◌∷◌, length, drop, slice_index, Option, Some, None, is_some, if◌then◌else◌}
 use Rattle.mc_base.specs.Limits.{item_size, letter_header_size}
 use Rattle.mc_base.specs.Bytes.{number_at}
 use Rattle.mc_base.specs.FaultRow.{FaultRow, row}
+use Rattle.mc_base.specs.Letter.{Fields, fields}
 use Rattle.mc_base.specs.declared.fault.LetterFault.{LetterFault}
 use Rattle.mc_base.specs.declared.fault.LetterFault.TheVariants.{PayloadShort, Magic, Version, Kind, Argument, Channel, Size}
 
@@ -63,18 +64,23 @@ abbrev pub allows : Option Form → (Form → Bool) → Bool
 allows None test = false
 allows (Some f) test = test f
 
--- the faults in their order. `frame` prints the place of each in a frame without more header
+-- the fields of a payload, where it is long enough to have them
+abbrev pub fields_in : List ℕ → Fields
+fields_in payload = fields (slice_index payload 2) (slice_index payload 3) (number_at 4 4 payload) (drop letter_header_size payload)
+
+-- the faults of the fields in their order, with the place of each in a frame without more header
+abbrev pub field_faults : Fields → List (FaultRow LetterFault)
+field_faults f =
+    row Kind (not (is_some (form_of f.kind))) 18
+    ∷ row Argument (not (allows (form_of f.kind) (λ form. form.argument f.argument))) 19
+    ∷ row Channel (not (allows (form_of f.kind) (λ form. form.channel f.channel))) 20
+    ∷ row Size (not (allows (form_of f.kind) (λ form. form.content f.argument (length f.content)))) 12
+    ∷ []
+
+-- the faults of a payload in their order: those before the fields, and then those of the fields
 abbrev pub letter_faults : List ℕ → List (FaultRow LetterFault)
 letter_faults payload =
-    let kind = slice_index payload 2 in
-    let argument = slice_index payload 3 in
-    let channel = number_at 4 4 payload in
-    let content = length payload - letter_header_size in
     row PayloadShort (nat_lt (length payload) letter_header_size) 12
     ∷ row Magic (not (slice_index payload 0 == 0x4d)) 16
     ∷ row Version (not (slice_index payload 1 == 1)) 17
-    ∷ row Kind (not (is_some (form_of kind))) 18
-    ∷ row Argument (not (allows (form_of kind) (λ f. f.argument argument))) 19
-    ∷ row Channel (not (allows (form_of kind) (λ f. f.channel channel))) 20
-    ∷ row Size (not (allows (form_of kind) (λ f. f.content argument content))) 12
-    ∷ []
+    ∷ field_faults (fields_in payload)
