@@ -1,0 +1,16 @@
+-- How a count of calls grows, where it is told.
+-- Source: docs/PROFILE.md, "The outside". A count is a u64, and stands still at the greatest one.
+use Rattle.std.specs.Prelude.{◌≡◌, ℕ, ◌+◌, ◌≤◌, ⊤, Option, None, Some}
+use Rattle.outer_io.specs.Faults.{one_more}
+
+-- one call was made
+abbrev pub CountsOne : Option ℕ → Option ℕ → Type 0
+CountsOne None new = ⊤
+CountsOne (Some before) None = ⊥
+CountsOne (Some before) (Some now) = now ≡ one_more before
+
+-- at most n calls were made
+abbrev pub CountsAtMost : Option ℕ → Option ℕ → ℕ → Type 0
+CountsAtMost None new n = ⊤
+CountsAtMost (Some before) None n = ⊥
+CountsAtMost (Some before) (Some now) n = now ≤ before + n

@@ -1,0 +1,42 @@
+ghost use Rattle.std.specs.Prelude.{◌≡◌, ◌≤◌, ◌<◌, ◌-◌, [], List, ℕ, Option, length, IfOk, IsOk, IsOkAnd};
+ghost use Rattle.std.specs.Io.KnownBytes.{WriteAppends};
+ghost use Rattle.outer_io.specs.Faults.{HasCause};
+ghost use Rattle.outer_io.specs.Writes.{Writes};
+
+use crate::Failed;
+
+/// Where bytes go.
+pub trait Sink {
+    /// The bytes that were written, where the sink tells them.
+    ghost written: { Self → Option (List ℕ) };
+
+    /// How often a write has failed.
+    ghost faults: { Self → ℕ };
+
+    /// So many bytes more are taken without a fault.
+    ghost takes: { Self → ℕ → Type 0 } = { λ _ _. ⊥ };
+
+    /// Appends the first bytes of `piece`, one at least, and says how many.
+    fn write(&mut self, piece: &[u8]) -> Result<usize, Failed>
+        requires { 0 < length piece.now }
+        ensures bound { IfOk result (λ n. (0 < n) × (n ≤ length piece.now)) }
+        ensures bytes { WriteAppends (written self.old) (written self.new) result piece.now }
+        ensures cause { HasCause (faults self.old) (faults self.new) result }
+        ensures room { (n : ℕ) → takes self.old n → length piece.now ≤ n → IsOkAnd result (λ k. takes self.new (n - k)) };
+}
+
+/// Appends the whole piece. `Failed` comes where a write failed: then the first bytes of the piece were appended, but not
+/// all. With an empty piece no write is made.
+pub fn write_all<K: Sink>(sink: &mut K, piece: &[u8]) -> Result<(), Failed>
+    ensures bytes { Writes (K.written sink.old) (K.written sink.new) result piece.now }
+    ensures cause { HasCause (K.faults sink.old) (K.faults sink.new) result }
+    ensures room { (n : ℕ) → K.takes sink.old n → length piece.now ≤ n → IsOk result × K.takes sink.new (n - length piece.now) }
+    ensures empty { piece.now ≡ [] → IsOk result × (sink.new ≡ sink.old) }
+{
+    let mut done = 0;
+    while done < piece.len() {
+        let (_, left) = piece.split_at(done);
+        done += sink.write(left)?;
+    }
+    Ok(())
+}
