@@ -1,0 +1,15 @@
+//! The RPMsg frame (`struct rpmsg_hdr` of Linux): read with its first fault, and written in its one spelling.
+//!
+//! No call takes memory, and none panics. `mc_base` defines what a frame is.
+#![tactic(auto)]
+
+mod laws;
+mod reading;
+mod writing;
+
+pub use laws::made_is_frame;
+pub use reading::{Frame, decode};
+pub use writing::{encode_into, write_header};
+
+#[cfg(test)]
+mod tests;
