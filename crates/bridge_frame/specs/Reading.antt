@@ -1,0 +1,24 @@
+-- What reading the fields of a letter gives.
+-- Source: the payload header, version 1, of docs/FORMATS.md.
+use Rattle.std.specs.Prelude.{◌≡◌, ◌<◌, ℕ, Result, Ok, Err, Some, None, List, []}
+use Rattle.mc_base.specs.FaultRow.{first_fault}
+use Rattle.mc_base.specs.Letter.{Fields, fields, fields_of, plain_letter, HasSpelling}
+use Rattle.mc_base.specs.LetterFaults.{field_faults}
+use Rattle.mc_base.specs.declared.letter.Letter.{Letter}
+use Rattle.mc_base.specs.declared.fault.LetterFault.{LetterFault}
+
+-- a letter of these fields, which have no fault
+pub record IsRead (f : Fields) (l : Letter) : Type 0 where
+  pub fields_are : fields_of (plain_letter l) ≡ f
+  pub lawful : HasSpelling (plain_letter l)
+  pub faultless : first_fault (field_faults f) ≡ None
+
+-- a letter of these fields, or their first fault
+abbrev pub IsReading : Fields → Result Letter LetterFault → Type 0
+IsReading f (Ok l) = IsRead f l
+IsReading f (Err e) = first_fault (field_faults f) ≡ Some e
+
+-- the channel of a letter with neither argument nor content, or the first fault, whichever kind without both it is
+abbrev pub IsBare : ℕ → ℕ → List ℕ → Result ℕ LetterFault → Type 0
+IsBare argument channel content (Ok c) = (c ≡ channel) × (argument ≡ 0) × (0 < channel) × (content ≡ [])
+IsBare argument channel content (Err e) = first_fault (field_faults (fields 3 argument channel content)) ≡ Some e

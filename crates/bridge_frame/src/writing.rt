@@ -1,0 +1,87 @@
+ghost use Rattle.std.specs.Prelude.{◌≡◌, ◌≤◌, ◌<◌, ◌+◌, ◌^◌, [], ◌++◌, length, drop};
+ghost use Rattle.mc_base.specs.Letter.{HasSpelling, bytes_of_bits, fields, plain_letter, scalar, spelled, spelling};
+
+use crate::{MAGIC, VERSION};
+use byteorder::{ByteOrder, LittleEndian};
+use mc_base::{Bits, Kind, LETTER_HEADER_SIZE, Letter, Reason};
+
+/// Writes the one spelling of a letter, and answers its length. The rest of `out` stays.
+pub fn write_letter(letter: &Letter<'_>, out: &mut [u8]) -> usize
+    requires lawful { HasSpelling (plain_letter letter.now) }
+    requires room { 496 ≤ length out.old }
+    ensures written { let text = spelling (plain_letter letter.now) in out.new ≡ text ++ drop (length text) out.old }
+    ensures len { result ≡ length (spelling (plain_letter letter.now)) }
+{
+    match *letter {
+        Letter::Msg { priority, bytes } => write_fields(1, priority.number(), 0, bytes, out),
+        Letter::Connect { channel, kind } => {
+            let number = match kind {
+                Kind::Packet => 0,
+                Kind::Scalar => 1,
+            };
+            write_fields(2, number, channel, &[], out)
+        }
+        Letter::Accept { channel } => write_fields(3, 0, channel, &[], out),
+        Letter::Reject { channel, reason } => {
+            let number = match reason {
+                Reason::NoEndpoint => 1,
+                Reason::Connected => 2,
+                Reason::Busy => 3,
+            };
+            write_fields(4, number, channel, &[], out)
+        }
+        Letter::RecvOpen { channel } => write_fields(5, 0, channel, &[], out),
+        Letter::SendOpen { channel } => write_fields(6, 0, channel, &[], out),
+        Letter::Packet { channel, bytes } => write_fields(7, 0, channel, bytes, out),
+        Letter::Scalar {
+            channel,
+            bits,
+            value,
+        } => write_scalar(channel, bits, value, out),
+        Letter::SendClose { channel } => write_fields(9, 0, channel, &[], out),
+        Letter::RecvClose { channel } => write_fields(10, 0, channel, &[], out),
+    }
+}
+
+/// Writes the header of a letter. The rest of `out` stays.
+fn write_header(kind: u8, argument: u8, channel: u32, out: &mut [u8])
+    requires { 8 ≤ length out.old }
+    ensures { out.new ≡ spelled (fields kind argument channel []) ++ drop 8 out.old }
+{
+    out[0] = MAGIC;
+    out[1] = VERSION;
+    out[2] = kind;
+    out[3] = argument;
+    LittleEndian::write_u32(&mut out[4..], channel);
+}
+
+/// Writes a letter of these fields, and answers its length. The rest of `out` stays.
+fn write_fields(kind: u8, argument: u8, channel: u32, content: &[u8], out: &mut [u8]) -> usize
+    requires { 8 + length content.now ≤ length out.old }
+    ensures written { let text = spelled (fields kind argument channel content.now) in
+        out.new ≡ text ++ drop (length text) out.old }
+    ensures len { result ≡ length (spelled (fields kind argument channel content.now)) }
+{
+    write_header(kind, argument, channel, out);
+    let end = LETTER_HEADER_SIZE + content.len();
+    out[LETTER_HEADER_SIZE..end].copy_from_slice(content);
+    end
+}
+
+/// Writes a scalar, and answers the length of the letter. The rest of `out` stays.
+fn write_scalar(channel: u32, bits: Bits, value: u64, out: &mut [u8]) -> usize
+    requires fits { value < 256 ^ bytes_of_bits bits }
+    requires room { 16 ≤ length out.old }
+    ensures written { let text = spelling (scalar channel bits value) in out.new ≡ text ++ drop (length text) out.old }
+    ensures len { result ≡ 8 + bytes_of_bits bits }
+{
+    let width: u8 = match bits {
+        Bits::B8 => 1,
+        Bits::B16 => 2,
+        Bits::B32 => 4,
+        Bits::B64 => 8,
+    };
+    write_header(8, width, channel, out);
+    LittleEndian::write_uint(&mut out[LETTER_HEADER_SIZE..], value, usize::from(width));
+    LETTER_HEADER_SIZE + usize::from(width)
+}
