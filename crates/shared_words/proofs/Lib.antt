@@ -1,0 +1,11 @@
+pub mod CountLemmas
+pub mod WayLemmas
+pub mod WordLemmas
+pub mod Sides
+pub mod ViewLemmas
+pub mod Fronts
+pub mod Stores
+pub mod Steps
+pub mod HalfLemmas
+pub mod Beginning
+pub mod Ending

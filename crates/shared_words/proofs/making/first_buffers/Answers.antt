@@ -1,0 +1,13 @@
+use Rattle.std.proofs.Common.{◌≡◌, ◌∙◌, ap, sym, ◌++◌, ◌∷◌, [], map, List}
+use mathlib.Core.List.{map-append}
+use Rattle.mc_base.specs.Stored.{Stored}
+use Rattle.shared_words.specs.Slots.{numbers_from}
+use Rattle.shared_words.specs.Start.{new_buffer}
+use Rattle.shared_words.proofs.Beginning.{numbers-more}
+use Rattle.shared_words.proofs.making.first_buffers.Goals as goal
+
+pub loop-id-preserved : goal.loop-id-preserved
+loop-id-preserved c = let x : Stored = c.in-Ok.buffer in let k = c.loop-id.id in
+    let new : x ≡ new_buffer k = λ i. record { number = c.in-Ok.ensures.number i; bytes = c.in-Ok.ensures.zeros i } in
+    c.in_ok-push.ensures.items ∙ (ap (λ (l : List Stored). l ++ x ∷ []) c.loop-id.invariant ∙ (ap (λ (b : Stored). map new_buffer (numbers_from 0 k) ++ b ∷ []) new
+    ∙ (sym (map-append new_buffer (numbers_from 0 k) (k ∷ [])) ∙ ap (map new_buffer) (sym (numbers-more k)))))
