@@ -1,0 +1,90 @@
+//! The ring itself.
+ghost use Rattle.std.specs.Prelude.{◌≡◌, ◌≤◌, ◌<◌, ◌↔◌, map, IfOk, IsErrOf};
+ghost use Rattle.mc_base.specs.Limits.{buffer_size};
+ghost use Rattle.shared_words.specs.declared.view.Role.TheVariants as role;
+ghost use Rattle.shared_words.specs.Shape.{IsRingSize};
+ghost use Rattle.shared_words.specs.Slots.{numbers_from};
+ghost use Rattle.shared_words.specs.Start.{new_buffer};
+ghost use Rattle.shared_words.specs.Shown.{size_of};
+ghost use Rattle.split_ring.specs.Ends.{new_end, AreHeld, IsSound};
+
+use crate::counts::Counts;
+use crate::device::Device;
+use crate::driver::Driver;
+use crate::room::Room;
+use mc_base::Buffer;
+use shared_words::{RingFault, RingTable};
+use std::alloc::Global;
+use std::marker::Model;
+
+/// A split virtqueue. Its two halves lend it to each call, so threads can share it.
+#[derive(Drop)]
+pub struct Ring {
+    pub(crate) table: RingTable,
+    pub(crate) queue: u8,
+    pub(crate) size: u32,
+    pub(crate) room: Room,
+}
+
+impl Model for Ring {
+    ghost use Rattle.std.specs.Prelude.{◌≡◌};
+    ghost use Rattle.shared_words.specs.Shape.{IsRingSize};
+    ghost use Rattle.shared_words.specs.Shown.{TableShown, size_of};
+    ghost use Rattle.split_ring.specs.Room.{HasRoom};
+
+    ghost Value = { TableShown };
+
+    ghost view = { λ r. r.table };
+
+    ghost invariant = { λ r. (r.queue ≡ r.table.queue) × (r.size ≡ size_of r.table.ring) × IsRingSize r.size × HasRoom r.room r.size };
+}
+
+impl Ring {
+    /// A ring with its two halves and its buffers, 0 to `size` less 1 and all zeros, which the driver holds.
+    ///
+    /// Refused: `Queue` where the queue is over 1, and then `Size` where the size is no power of two from 2 to 256.
+    pub fn new(
+        alloc: Global,
+        queue: u8,
+        size: u32,
+    ) -> Result<(Ring, Driver, Device, Vec<Buffer>), RingFault>
+        ensures queue_refused { IsErrOf result RingFault.Queue ↔ (1 < queue) }
+        ensures size_refused { IsErrOf result RingFault.Size ↔ ((queue ≤ 1) × (IsRingSize size → ⊥)) }
+        ensures ring { IfOk result (λ r. (r.0.queue ≡ queue) × (size_of r.0.ring ≡ size) × IsRingSize size) }
+        ensures halves { IfOk result (λ r. (r.1 ≡ new_end r.0.ring) × (r.2 ≡ new_end r.0.ring)) }
+        ensures sound { IfOk result (λ r. IsSound role.Driver r.1 × IsSound role.Device r.2) }
+        ensures buffers { IfOk result (λ r. r.3.items ≡ map new_buffer (numbers_from 0 size)) }
+        ensures held { IfOk result (λ r. AreHeld role.Driver r.1 r.3.items) }
+    {
+        let (table, driver, device, buffers) = match RingTable::new(alloc, queue, size) {
+            Err(fault) => return Err(fault),
+            Ok(parts) => parts,
+        };
+        let Ok(room) = Room::new(alloc, size) else {
+            return Err(RingFault::NoMemory);
+        };
+        let Ok(all) = Vec::from_elem(alloc, true, size as usize) else {
+            return Err(RingFault::NoMemory);
+        };
+        let Ok(none) = Vec::from_elem(alloc, false, size as usize) else {
+            return Err(RingFault::NoMemory);
+        };
+        let ring = Ring {
+            table,
+            queue,
+            size,
+            room,
+        };
+        let driver = Driver {
+            half: driver,
+            counts: Counts::none(),
+            held: all,
+        };
+        let device = Device {
+            half: device,
+            counts: Counts::none(),
+            held: none,
+        };
+        Ok((ring, driver, device, buffers))
+    }
+}
