@@ -1,0 +1,14 @@
+use Rattle.std.proofs.Common.{◌≡◌}
+use Rattle.shared_words.specs.declared.view.Role.TheVariants as role
+use Rattle.split_ring.specs.Ends.{AreHeld, IsSound}
+use Rattle.ring_bench.proofs.batch.rounds_of.Given as goal
+
+abbrev pub invariant-loop : goal.invariant-loop
+invariant-loop l = record {
+  driver : l.driver.ring ≡ l.on.ring;
+  device : l.device.ring ≡ l.on.ring;
+  free : AreHeld role.Driver l.driver l.free.items;
+  held : AreHeld role.Device l.device l.held.items;
+  driver_sound : IsSound role.Driver l.driver;
+  device_sound : IsSound role.Device l.device;
+}

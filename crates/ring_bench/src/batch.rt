@@ -1,0 +1,152 @@
+//! All buffers are fetched, and then given back in order or in reverse.
+ghost use Rattle.std.specs.Prelude.{◌≡◌, OnOk};
+ghost use Rattle.shared_words.specs.declared.view.Role.TheVariants as role;
+ghost use Rattle.split_ring.specs.Ends.{AreHeld, IsSound};
+
+use mc_base::Buffer;
+use split_ring::{Closed, Device, Driver, Ring};
+use std::alloc::{AllocError, Global};
+use std::collections::VecDeque;
+
+fn offer_all(on: &Ring, driver: &mut Driver, free: &mut VecDeque<Buffer>)
+    requires ring { driver.old.ring ≡ on.now.ring }
+    requires held { AreHeld role.Driver driver.old free.old.items }
+    requires sound { IsSound role.Driver driver.old }
+    ensures ring { driver.new.ring ≡ on.now.ring }
+    ensures held { AreHeld role.Driver driver.new free.new.items }
+    ensures sound { IsSound role.Driver driver.new }
+{
+    while let Some(buffer) = free.pop_front() {
+        driver.offer(on, buffer, 64);
+    }
+}
+
+fn fetch_all(on: &Ring, device: &mut Device, held: &mut VecDeque<Buffer>) -> Result<(), AllocError>
+    requires ring { device.old.ring ≡ on.now.ring }
+    requires held { AreHeld role.Device device.old held.old.items }
+    requires sound { IsSound role.Device device.old }
+    ensures ring { device.new.ring ≡ on.now.ring }
+    ensures held { OnOk result (AreHeld role.Device device.new held.new.items) }
+    ensures sound { IsSound role.Device device.new }
+{
+    for _ in 0..u64::MAX {
+        match device.fetch(on) {
+            None => return Ok(()),
+            Some((buffer, _)) => {
+                if held.push_back(buffer).is_err() {
+                    return Err(AllocError);
+                }
+            }
+        }
+    }
+    Ok(())
+}
+
+fn give_all(on: &Ring, device: &mut Device, held: &mut VecDeque<Buffer>)
+    requires ring { device.old.ring ≡ on.now.ring }
+    requires held { AreHeld role.Device device.old held.old.items }
+    requires sound { IsSound role.Device device.old }
+    ensures ring { device.new.ring ≡ on.now.ring }
+    ensures held { AreHeld role.Device device.new held.new.items }
+    ensures sound { IsSound role.Device device.new }
+{
+    while let Some(buffer) = held.pop_front() {
+        device.give(on, buffer, 0);
+    }
+}
+
+fn give_all_back(on: &Ring, device: &mut Device, held: &mut VecDeque<Buffer>)
+    requires ring { device.old.ring ≡ on.now.ring }
+    requires held { AreHeld role.Device device.old held.old.items }
+    requires sound { IsSound role.Device device.old }
+    ensures ring { device.new.ring ≡ on.now.ring }
+    ensures held { AreHeld role.Device device.new held.new.items }
+    ensures sound { IsSound role.Device device.new }
+{
+    while let Some(buffer) = held.pop_back() {
+        device.give(on, buffer, 0);
+    }
+}
+
+fn reclaim_all(
+    on: &Ring,
+    driver: &mut Driver,
+    free: &mut VecDeque<Buffer>,
+) -> Result<(), AllocError>
+    requires ring { driver.old.ring ≡ on.now.ring }
+    requires held { AreHeld role.Driver driver.old free.old.items }
+    requires sound { IsSound role.Driver driver.old }
+    ensures ring { driver.new.ring ≡ on.now.ring }
+    ensures held { OnOk result (AreHeld role.Driver driver.new free.new.items) }
+    ensures sound { IsSound role.Driver driver.new }
+{
+    for _ in 0..u64::MAX {
+        match driver.reclaim(on) {
+            None => return Ok(()),
+            Some((buffer, _)) => {
+                if free.push_back(buffer).is_err() {
+                    return Err(AllocError);
+                }
+            }
+        }
+    }
+    Ok(())
+}
+
+fn rounds_of(
+    alloc: Global,
+    on: &Ring,
+    driver: &mut Driver,
+    device: &mut Device,
+    free: &mut VecDeque<Buffer>,
+    rounds: u32,
+    is_reverse: bool,
+) -> Result<(), AllocError>
+    requires rings { (driver.old.ring ≡ on.now.ring) × (device.old.ring ≡ on.now.ring) }
+    requires free { AreHeld role.Driver driver.old free.old.items }
+    requires sound { IsSound role.Driver driver.old × IsSound role.Device device.old }
+    ensures rings { (driver.new.ring ≡ on.now.ring) × (device.new.ring ≡ on.now.ring) }
+{
+    let mut held = VecDeque::new(alloc);
+    for _ in 0..rounds {
+        offer_all(on, driver, free);
+        fetch_all(on, device, &mut held)?;
+        if is_reverse {
+            give_all_back(on, device, &mut held);
+        } else {
+            give_all(on, device, &mut held);
+        }
+        reclaim_all(on, driver, free)?;
+    }
+    Ok(())
+}
+
+/// Rounds of all buffers.
+pub fn run(
+    alloc: Global,
+    ring: Ring,
+    mut driver: Driver,
+    mut device: Device,
+    mut buffers: Vec<Buffer>,
+    rounds: u32,
+    is_reverse: bool,
+) -> Result<Closed, AllocError>
+    requires rings { (driver.ring ≡ ring.ring) × (device.ring ≡ ring.ring) }
+    requires held { AreHeld role.Driver driver buffers.items }
+    requires sound { IsSound role.Driver driver × IsSound role.Device device }
+{
+    while let Some(buffer) = buffers.pop() {
+        driver.offer(&ring, buffer, 64);
+    }
+    let mut free = VecDeque::new(alloc);
+    rounds_of(
+        alloc,
+        &ring,
+        &mut driver,
+        &mut device,
+        &mut free,
+        rounds,
+        is_reverse,
+    )?;
+    Ok(ring.finish(driver, device))
+}

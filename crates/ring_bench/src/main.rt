@@ -1,0 +1,45 @@
+//! Moves buffers over a ring, so that `bench/ring.sh` can time it. It prints what it did, and no time.
+//!
+//! Words: `one`, `two`, `order` or `reverse`, the size of the ring, and the number of rounds.
+#![tactic(auto)]
+
+mod batch;
+mod one;
+mod two;
+
+use split_ring::Ring;
+use std::{env, io};
+
+fn number(word: Option<&String>) -> u32 {
+    match word {
+        Some(word) => word.parse().unwrap_or(0),
+        None => 0,
+    }
+}
+
+fn main(rt: HostRuntime) -> io::Result<()> {
+    let alloc = rt.alloc();
+    let mut words = Vec::new(alloc);
+    for word in env::args(&rt)? {
+        words.push(word)?;
+    }
+    let size = number(words.get(2));
+    let rounds = number(words.get(3));
+    let Ok((ring, driver, device, buffers)) = Ring::new(alloc, 1, size) else {
+        println!(rt; "no ring of {size}")?;
+        return Ok(());
+    };
+    let mode = match words.get(1) {
+        Some(word) => word.as_str(),
+        None => "one",
+    };
+    let closed = match mode {
+        "two" => two::run(&rt, ring, driver, device, buffers, rounds),
+        "order" => batch::run(alloc, ring, driver, device, buffers, rounds, false)?,
+        "reverse" => batch::run(alloc, ring, driver, device, buffers, rounds, true)?,
+        _ => one::run(ring, driver, device, buffers, rounds),
+    };
+    let looks = closed.driver_saw();
+    println!(rt; "{mode} {size} {rounds} reclaimed {looks}")?;
+    Ok(())
+}
