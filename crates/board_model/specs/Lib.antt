@@ -14,7 +14,10 @@ pub mod Traffic
 pub mod Board
 pub mod Channels
 pub mod Messages
+pub mod Tallies
 pub mod Places
 pub mod Serial
 pub mod Report
 pub mod Headline
+pub mod Laws
+pub mod MessageLaws

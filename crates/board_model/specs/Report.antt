@@ -126,7 +126,7 @@ abbrev pub ending : List ℕ
 ending = codes "end\n"
 
 -- the report of a scenario with these journals, one for each domain in rising number, and these numbers
-abbrev pub report_of : Scenario → List (List Line) → Totals → List LanePlaces → List ℕ
+unfoldable pub report_of : Scenario → List (List Line) → Totals → List LanePlaces → List ℕ
 report_of s journals messages places = heading ++ (canonical s ++ (journals_text (rising s) journals ++ (messages_text messages ++ (flat_map places_text places ++ ending))))
 
 abbrev pub lines_of : DomainJournal → List Line

@@ -2,9 +2,10 @@
 //! against. It has no code of its own beyond the types and the laws.
 //!
 //! `specs/` is to be read in this order: Scenario, Grammar, Journal, State, Choice, Dealing, Answer, Effect, Step, Run,
-//! Traffic, Board, Messages, Places, Serial, Report, Headline.
+//! Traffic, Board, Channels, Messages, Places, Serial, Report, Headline, Laws.
 #![tactic(auto)]
 
+pub mod laws;
 mod scenario;
 mod seq;
 mod totals;

@@ -1,0 +1,67 @@
+-- The best item of a queue: what a map of its items keeps, and how many pass a test with it and without it.
+use Rattle.std.proofs.Common.{◌≡◌, ℕ, ◌+◌, Bool, true, false, cond, List, [], ◌∷◌, map, Option, Some, None, refl, sym, ap, ◌∙◌, arith}
+use Rattle.std.specs.Prelude.{find, count_by, option_map, option_to_list, ◌==◌}
+use Rattle.std.proofs.lemmas.List.Sums.{sum_by-cons}
+use Rattle.board_model.specs.Choice.{least, best, without_best}
+use Rattle.board_model.proofs.MessageLists.{without_first, best_is, without_best_is}
+
+-- ---- where there is no best
+
+none_here : {A : Type 0} (b : Bool) (x : A) (o : Option A) (xs ys : List A) → (o ≡ None → ys ≡ xs) → cond b (Some x) o ≡ None → cond b xs (x ∷ ys) ≡ x ∷ xs
+none_here true x o xs ys same none = absurd cc
+none_here false x o xs ys same none = ap (λ zs. x ∷ zs) (same none)
+
+without_first-none : {A : Type 0} (p : A → Bool) (xs : List A) → find p xs ≡ None → without_first p xs ≡ xs
+without_first-none p [] none = refl
+without_first-none p (x ∷ xs) none = none_here (p x) x (find p xs) xs (without_first p xs) (λ e. without_first-none p xs e) none
+
+pub without_best-none : {A : Type 0} (priority : A → ℕ) (q : List A) → best priority q ≡ None → without_best priority q ≡ q
+without_best-none priority q none =
+    without_best_is priority q ∙ without_first-none (λ x. priority x == least priority q) q (sym (best_is priority q) ∙ none)
+
+-- ---- counts
+
+pub count-cons : {A : Type 0} (test : A → Bool) (x : A) (xs : List A) → count_by test (x ∷ xs) ≡ cond (test x) 1 0 + count_by test xs
+count-cons test x xs = sum_by-cons (λ y. cond (test y) 1 0) x xs
+
+count_here : {A : Type 0} (test : A → Bool) (b : Bool) (x : A) (o : Option A) (xs ys : List A) → count_by test (option_to_list o) + count_by test ys ≡ count_by test xs → count_by test (option_to_list (cond b (Some x) o)) + count_by test (cond b xs (x ∷ ys)) ≡ count_by test (x ∷ xs)
+count_here test true x o xs ys h = omega (arith, count-cons test x xs, count-cons test x [])
+count_here test false x o xs ys h = omega (arith, count-cons test x xs, count-cons test x ys)
+
+count-first : {A : Type 0} (test p : A → Bool) (xs : List A) → count_by test (option_to_list (find p xs)) + count_by test (without_first p xs) ≡ count_by test xs
+count-first test p [] = refl
+count-first test p (x ∷ xs) = count_here test (p x) x (find p xs) xs (without_first p xs) (count-first test p xs)
+
+pub count-best : {A : Type 0} (test : A → Bool) (priority : A → ℕ) (q : List A) → count_by test (option_to_list (best priority q)) + count_by test (without_best priority q) ≡ count_by test q
+count-best test priority q = rw (best_is priority q, without_best_is priority q) (count-first test (λ x. priority x == least priority q) q)
+
+-- ---- under a map that keeps the priority
+
+module _ {A B : Type 0} (g : A → B) (priority : A → ℕ) (outer : B → ℕ) (same : (x : A) → outer (g x) ≡ priority x) where
+  least-map : (q : List A) → least outer (map g q) ≡ least priority q
+  least-map [] = refl
+  least-map (x ∷ xs) = rw (same x, least-map xs) refl
+
+  find_map_here : (b c : Bool) (x : A) (o : Option A) (r : Option B) → b ≡ c → r ≡ option_map g o → cond b (Some (g x)) r ≡ option_map g (cond c (Some x) o)
+  find_map_here b true x o r e f = rw e refl
+  find_map_here b false x o r e f = rw e f
+
+  find-map : (n : ℕ) (q : List A) → find (λ y. outer y == n) (map g q) ≡ option_map g (find (λ x. priority x == n) q)
+  find-map n [] = refl
+  find-map n (x ∷ xs) = find_map_here (outer (g x) == n) (priority x == n) x (find (λ z. priority z == n) xs) (find (λ y. outer y == n) (map g xs)) (ap (λ m. m == n) (same x)) (find-map n xs)
+
+  without_map_here : (b c : Bool) (x : A) (xs ys : List A) (zs : List B) → b ≡ c → zs ≡ map g ys → cond b (map g xs) (g x ∷ zs) ≡ map g (cond c xs (x ∷ ys))
+  without_map_here b true x xs ys zs e f = rw e refl
+  without_map_here b false x xs ys zs e f = rw e (ap (λ us. g x ∷ us) f)
+
+  without-map : (n : ℕ) (q : List A) → without_first (λ y. outer y == n) (map g q) ≡ map g (without_first (λ x. priority x == n) q)
+  without-map n [] = refl
+  without-map n (x ∷ xs) = without_map_here (outer (g x) == n) (priority x == n) x xs (without_first (λ z. priority z == n) xs) (without_first (λ y. outer y == n) (map g xs)) (ap (λ m. m == n) (same x)) (without-map n xs)
+
+  pub best-map : (q : List A) → best outer (map g q) ≡ option_map g (best priority q)
+  best-map q =
+      best_is outer (map g q) ∙ (ap (λ n. find (λ y. outer y == n) (map g q)) (least-map q) ∙ (find-map (least priority q) q ∙ ap (option_map g) (sym (best_is priority q))))
+
+  pub without_best-map : (q : List A) → without_best outer (map g q) ≡ map g (without_best priority q)
+  without_best-map q =
+      without_best_is outer (map g q) ∙ (ap (λ n. without_first (λ y. outer y == n) (map g q)) (least-map q) ∙ (without-map (least priority q) q ∙ ap (map g) (sym (without_best_is priority q))))

@@ -1,0 +1,143 @@
+-- What stands at the addresses of a domain after a call, and what a receive takes of it.
+use Rattle.std.proofs.Common.{◌≡◌, ℕ, ◌+◌, Bool, true, false, ◌&&◌, cond, List, [], ◌∷◌, ◌++◌, Option, Some, None, refl, sym, ap, ◌∙◌, arith}
+use Rattle.std.specs.Prelude.{find, option_map, option_and_then, ◌==◌, length, take, if◌then◌else◌}
+use Rattle.std.proofs.lemmas.Bool.{and_parts, eqb-true, cond_both}
+use Rattle.mc_base.specs.declared.name.Local.{Local}
+use Rattle.mc_base.specs.declared.refusal.Refusal.{Refusal}
+use Rattle.board_model.specs.declared.scenario.Call.{Call}
+use Rattle.board_model.specs.declared.scenario.Call.TheVariants.{Create, MsgSend, MsgRecv}
+use Rattle.board_model.specs.Lists.{changed}
+use Rattle.board_model.specs.State.{DomainState, Item, Endpoint, is_at, place_at, endpoint_at, queue_in, queue_at, address_at}
+use Rattle.board_model.specs.Choice.{best, without_best}
+use Rattle.board_model.specs.Answer.{local, refusal, success, given, answer_by, answer, unless_refused}
+use Rattle.board_model.specs.Effect.{new_endpoint, received, success_effect, effect}
+use Rattle.board_model.specs.Messages.{Message, queued_message, queued_at, receives_by, is_address, Standing, best_at, TakesBestBy}
+use Rattle.board_model.proofs.MessageLists.{changed_first, changed-position, get-position}
+use Rattle.board_model.proofs.MessageBest.{without_best-none, best-map}
+use Rattle.board_model.proofs.MessageQueues.{messages_at, less_at, at-created, at-received, at-found, Rise, rise-changed, rise-created}
+use Rattle.board_model.proofs.MessageTakes.{Stands}
+
+-- ---- the endpoint of a name
+
+pub live-named : (at : Local) (e : Endpoint) → is_at at e ≡ true → e.live ≡ true
+live-named at e h = (and_parts e.live (e.local.node == at.node && e.local.port == at.port) h).0
+
+pub endpoint-found : (s : DomainState) (at : Local) → endpoint_at s at ≡ find (is_at at) s.endpoints
+endpoint-found s at = get-position (is_at at) s.endpoints
+
+-- ---- a receive
+
+-- the address at which a receive takes a message
+abbrev pub took : Option Endpoint → Option ℕ
+took o = option_and_then (λ i. option_map (λ e. e.address) o) (best (λ i. i.priority) (queue_in o))
+
+receives_given : (s : DomainState) (node port max : ℕ) (i : Option Item) → receives_by s node (MsgRecv port max) (given max i) ≡ option_and_then (λ j. address_at s (local node port)) i
+receives_given s node port max None = refl
+receives_given s node port max (Some i) = refl
+
+pub receives-took : (s : DomainState) (node port max : ℕ) → receives_by s node (MsgRecv port max) (success s node (MsgRecv port max)) ≡ took (endpoint_at s (local node port))
+receives-took s node port max = receives_given s node port max (best (λ i. i.priority) (queue_at s (local node port)))
+
+-- what stands where a message was taken at an address
+abbrev pub left_at : Standing → Option ℕ → Standing
+left_at q o a = if is_address o a then without_best (λ m. m.priority) (q a) else q a
+
+pub best-queued : (d : ℕ) (f : Endpoint) → best (λ m. m.priority) (queued_at d f) ≡ option_map (queued_message d f.address) (best (λ i. i.priority) f.queue)
+best-queued d f = best-map (queued_message d f.address) (λ i. i.priority) (λ m. m.priority) (λ i. refl) f.queue
+
+none_less : (d : ℕ) (f : Endpoint) (ms : List Message) (b : ℕ) → best (λ i. i.priority) f.queue ≡ None → (f.address ≡ b → ms ≡ queued_at d f) → less_at ms f.address b ≡ ms
+none_less d f ms b none at =
+    cond_both (f.address == b) (without_best (λ m. m.priority) ms) ms (λ ns. ns ≡ ms)
+    (λ here. let is : ms ≡ queued_at d f = at (eqb-true f.address b here) in
+    without_best-none (λ m. m.priority) ms (ap (best (λ m. m.priority)) is ∙ (best-queued d f ∙ ap (option_map (queued_message d f.address)) none)))
+    (λ other. refl)
+
+less_left : (d : ℕ) (f : Endpoint) (q : Standing) (b : ℕ) (i : Option Item) → best (λ j. j.priority) f.queue ≡ i → (f.address ≡ b → q b ≡ queued_at d f) → less_at (q b) f.address b ≡ left_at q (option_and_then (λ j. Some f.address) i) b
+less_left d f q b None none at = none_less d f (q b) b none at
+less_left d f q b (Some i) some at = refl
+
+changed_none_here : (b : Bool) (e : Endpoint) (es ys : List Endpoint) (o : Option Endpoint) → (o ≡ None → ys ≡ es) → cond b (Some e) o ≡ None → cond b (received e ∷ es) (e ∷ ys) ≡ e ∷ es
+changed_none_here true e es ys o same none = absurd cc
+changed_none_here false e es ys o same none = ap (λ zs. e ∷ zs) (same none)
+
+pub changed-none : (p : Endpoint → Bool) (es : List Endpoint) → find p es ≡ None → changed_first p received es ≡ es
+changed-none p [] none = refl
+changed-none p (e ∷ es) none = changed_none_here (p e) e es (changed_first p received es) (find p es) (λ h. changed-none p es h) none
+
+left_found : (d : ℕ) (p : Endpoint → Bool) (only_live : (e : Endpoint) → p e ≡ true → e.live ≡ true) (hi : ℕ) (es : List Endpoint) (o : Option Endpoint) (b : ℕ) → Rise 1024 es hi → find p es ≡ o →
+    messages_at d (changed_first p received es) b ≡ left_at (messages_at d es) (took o) b
+left_found d p only_live hi es None b rise found = ap (λ zs. messages_at d zs b) (changed-none p es found)
+left_found d p only_live hi es (Some f) b rise found =
+    at-received d p only_live 1024 hi es f b rise found
+    ∙ less_left d f (messages_at d es) b (best (λ i. i.priority) f.queue) refl
+    (λ is. ap (messages_at d es) (sym is) ∙ at-found d p only_live 1024 hi es f rise found)
+
+left_same : (q r : Standing) (o : Option ℕ) (a : ℕ) → q a ≡ r a → left_at q o a ≡ left_at r o a
+left_same q r o a e = ap (λ ms. if is_address o a then without_best (λ m. m.priority) ms else ms) e
+
+stands_received : (d : ℕ) (s : DomainState) (node port max : ℕ) (q : Standing) → Stands d s q →
+    Stands d (success_effect s node (MsgRecv port max)) (left_at q (receives_by s node (MsgRecv port max) (success s node (MsgRecv port max))))
+stands_received d s node port max q stands =
+    let place : changed received (place_at s (local node port)) s.endpoints ≡ changed_first (is_at (local node port)) received s.endpoints
+    = changed-position (is_at (local node port)) received s.endpoints in
+    let at : receives_by s node (MsgRecv port max) (success s node (MsgRecv port max)) ≡ took (find (is_at (local node port)) s.endpoints)
+    = receives-took s node port max ∙ ap took (endpoint-found s (local node port)) in
+    record {
+      queued = λ a. ap (λ o. left_at q o a) at
+          ∙ (left_same q (messages_at d s.endpoints) (took (find (is_at (local node port)) s.endpoints)) a (stands.queued a)
+          ∙ (sym (left_found d (is_at (local node port)) (live-named (local node port)) (1024 + s.endpoints_given) s.endpoints (find (is_at (local node port)) s.endpoints) a stands.rise refl)
+          ∙ ap (λ es. messages_at d es a) (sym place)));
+      rise = rw place (rise-changed (is_at (local node port)) received (λ e. refl) 1024 (1024 + s.endpoints_given) s.endpoints stands.rise);
+    }
+
+-- ---- each call
+
+stands_created : (d : ℕ) (s : DomainState) (at : Local) (q : Standing) → Stands d s q → Stands d (record s { endpoints = s.endpoints ++ new_endpoint s at ∷ []; endpoints_given = s.endpoints_given + 1 }) q
+stands_created d s at q stands =
+    let top : 1024 + (s.endpoints_given + 1) ≡ 1024 + s.endpoints_given + 1 = omega arith in
+    record {
+      queued = λ a. stands.queued a ∙ sym (at-created d s.endpoints (new_endpoint s at) a refl);
+      rise = rw top (rise-created 1024 (1024 + s.endpoints_given) s.endpoints (new_endpoint s at) refl stands.rise);
+    }
+
+stands_success : (d : ℕ) (s : DomainState) (node : ℕ) (call : Call) (q : Standing) (o : Option Refusal) → Stands d s q →
+    Stands d (unless_refused o s (success_effect s node call)) (left_at q (receives_by s node call (answer_by o (success s node call))))
+stands_success d s node (Create port) q (Some w) stands = stands
+stands_success d s node (MsgSend port to priority bytes) q (Some w) stands = stands
+stands_success d s node (MsgRecv port max) q (Some w) stands = stands
+stands_success d s node (Create port) q None stands = stands_created d s (local node port) q stands
+stands_success d s node (MsgSend port to priority bytes) q None stands = record { queued = stands.queued; rise = stands.rise }
+stands_success d s node (MsgRecv port max) q None stands = stands_received d s node port max q stands
+
+pub stands_call : (d : ℕ) (s : DomainState) (node : ℕ) (call : Call) (q : Standing) → Stands d s q → Stands d (effect s node call) (left_at q (receives_by s node call (answer s node call)))
+stands_call d s node call q stands = stands_success d s node call q (refusal s node call) stands
+
+-- ---- what a receive takes
+
+best_found : (d : ℕ) (s : DomainState) (q : Standing) (at : Local) (f : Endpoint) → Stands d s q → find (is_at at) s.endpoints ≡ Some f → best (λ m. m.priority) (q f.address) ≡ best (λ m. m.priority) (queued_at d f)
+best_found d s q at f stands found =
+    ap (best (λ m. m.priority)) (stands.queued f.address ∙ at-found d (is_at at) (live-named at) 1024 (1024 + s.endpoints_given) s.endpoints f stands.rise found)
+
+best_named : (d : ℕ) (s : DomainState) (q : Standing) (at : Local) (o : Option Endpoint) (i : Item) → Stands d s q → find (is_at at) s.endpoints ≡ o → best (λ j. j.priority) (queue_in o) ≡ Some i →
+    (m : Message) × (best_at (option_map (λ e. e.address) o) q ≡ Some m) × (m.content ≡ i.content)
+best_named d s q at None i stands found some = absurd cc
+best_named d s q at (Some f) i stands found some =
+    (queued_message d f.address i, best_found d s q at f stands found ∙ (best-queued d f ∙ ap (option_map (queued_message d f.address)) some), refl)
+
+pub takes_given : (d : ℕ) (s : DomainState) (q : Standing) (node port max : ℕ) (i : Option Item) → Stands d s q → best (λ j. j.priority) (queue_at s (local node port)) ≡ i → TakesBestBy s q node (MsgRecv port max) (given max i)
+takes_given d s q node port max None stands is = tt
+takes_given d s q node port max (Some i) stands is =
+    let found = endpoint-found s (local node port) in
+    let m = best_named d s q (local node port) (endpoint_at s (local node port)) i stands (sym found) is in
+    (m.0, m.1, record { whole = ap length (sym m.2); first = ap (take max) (sym m.2) })
+
+takes_success : (d : ℕ) (s : DomainState) (q : Standing) (node : ℕ) (call : Call) (o : Option Refusal) → Stands d s q → TakesBestBy s q node call (answer_by o (success s node call))
+takes_success d s q node (Create port) (Some w) stands = tt
+takes_success d s q node (MsgSend port to priority bytes) (Some w) stands = tt
+takes_success d s q node (MsgRecv port max) (Some w) stands = tt
+takes_success d s q node (Create port) None stands = tt
+takes_success d s q node (MsgSend port to priority bytes) None stands = tt
+takes_success d s q node (MsgRecv port max) None stands = takes_given d s q node port max (best (λ i. i.priority) (queue_at s (local node port))) stands refl
+
+pub takes_call : (d : ℕ) (s : DomainState) (q : Standing) (node : ℕ) (call : Call) → Stands d s q → TakesBestBy s q node call (answer s node call)
+takes_call d s q node call stands = takes_success d s q node call (refusal s node call) stands

@@ -1,0 +1,149 @@
+-- How many messages in all queues of a domain pass a test, through frames and calls.
+use Rattle.std.proofs.Common.{◌≡◌, ℕ, ◌+◌, Bool, true, false, cond, List, [], ◌∷◌, ◌++◌, map, Option, Some, refl, sym, ap, ◌∙◌, arith, inl, inr}
+use Rattle.std.specs.Prelude.{filter, find, count_by, option_map, option_to_list, ◌==◌, is_some}
+use Rattle.std.specs.List.{flat_map}
+use Rattle.std.proofs.lemmas.List.{map-append}
+use Rattle.std.proofs.lemmas.List.Sums.{sum_by-append}
+use Rattle.std.proofs.lemmas.Bool.{cond_both, and_parts, eqb-true, cases_Bool}
+use Rattle.mc_base.specs.Frame.{destination_of}
+use Rattle.board_model.specs.Journal.{Taken, Visit}
+use Rattle.board_model.specs.State.{DomainState, Item, Endpoint, has_live_address, place_of_address}
+use Rattle.board_model.specs.Choice.{best}
+use Rattle.board_model.specs.Dealing.{queued_last, with_item, item_of, row_for, after_frame, after_takes, HaveWords}
+use Rattle.board_model.specs.Turn.{after_looks, after_visit, IsVisit, AreVisits, after_turn}
+use Rattle.board_model.specs.Effect.{received}
+use Rattle.board_model.specs.Messages.{Message, message_in, carries_message, messages_in, queued_message, queued_at, drops, dropped_at}
+use Rattle.board_model.proofs.MessageLists.{changed_first, changed-position, some-position}
+use Rattle.board_model.proofs.MessageBest.{count-best}
+use Rattle.board_model.proofs.MessageQueues.{received-at}
+use Rattle.board_model.proofs.MessageFrames.{frame_case}
+use Rattle.board_model.proofs.MessageTakes.{messages_in-append, tested-append}
+
+pub count-append : {A : Type 0} (test : A → Bool) (xs ys : List A) → count_by test (xs ++ ys) ≡ count_by test xs + count_by test ys
+count-append test xs ys = sum_by-append (λ x. cond (test x) 1 0) xs ys
+
+-- the messages of the frames that are taken from a peer, and of those that are dropped
+abbrev pub carried_of : ℕ → ℕ → List Taken → List Message
+carried_of d peer ts = messages_in peer d (map (λ t. t.frame) ts)
+
+abbrev pub dropped_of : ℕ → ℕ → List Taken → List Message
+dropped_of d peer ts = messages_in peer d (map (λ t. t.frame) (filter (λ t. drops t.fate) ts))
+
+-- the messages of the frames that a visit takes
+abbrev pub carried_at : ℕ → Visit → List Message
+carried_at d v = carried_of d v.peer v.takes
+
+module _ (test : Message → Bool) (d : ℕ) where
+  -- how many in all queues pass the test
+  abbrev pub queued_count : List Endpoint → ℕ
+  queued_count es = count_by test (flat_map (queued_at d) es)
+
+  queued-cons : (e : Endpoint) (es : List Endpoint) → queued_count (e ∷ es) ≡ count_by test (queued_at d e) + queued_count es
+  queued-cons e es = count-append test (queued_at d e) (flat_map (queued_at d) es)
+
+  -- ---- one message more
+
+  last_count : (item : Item) (e : Endpoint) (a : ℕ) → has_live_address a e ≡ true → count_by test (queued_at d (queued_last item e)) ≡ count_by test (queued_at d e) + count_by test (queued_message d a item ∷ [])
+  last_count item e a here =
+      let address : e.address ≡ a = eqb-true e.address a (and_parts e.live (e.address == a) here).1 in
+      rw (← address) (ap (count_by test) (map-append (queued_message d e.address) e.queue (item ∷ [])) ∙ count-append test (queued_at d e) (queued_message d e.address item ∷ []))
+
+  find_past : (b : Bool) (e : Endpoint) (o : Option Endpoint) → b ≡ false → is_some (cond b (Some e) o) ≡ true → is_some o ≡ true
+  find_past true e o f h = absurd cc
+  find_past false e o f h = h
+
+  more_count : (item : Item) (es : List Endpoint) (a : ℕ) → is_some (find (has_live_address a) es) ≡ true →
+      queued_count (changed_first (has_live_address a) (queued_last item) es) ≡ queued_count es + count_by test (queued_message d a item ∷ [])
+  more_count item [] a found = absurd cc
+  more_count item (e ∷ es) a found =
+      cond_both (has_live_address a e) (queued_last item e ∷ es) (e ∷ changed_first (has_live_address a) (queued_last item) es)
+      (λ zs. queued_count zs ≡ queued_count (e ∷ es) + count_by test (queued_message d a item ∷ []))
+      (λ here. omega (arith, last_count item e a here, queued-cons (queued_last item e) es, queued-cons e es))
+      (λ other. omega (arith, more_count item es a (find_past (has_live_address a e) e (find (has_live_address a) es) other found), queued-cons e (changed_first (has_live_address a) (queued_last item) es), queued-cons e es))
+
+  with_item_count : (s : DomainState) (a : ℕ) (item : Item) → is_some (place_of_address s a) ≡ true → queued_count (with_item s a item).endpoints ≡ queued_count s.endpoints + count_by test (queued_message d a item ∷ [])
+  with_item_count s a item found =
+      ap queued_count (changed-position (has_live_address a) (queued_last item) s.endpoints)
+      ∙ more_count item s.endpoints a (sym (some-position (has_live_address a) s.endpoints) ∙ found)
+
+  -- ---- one message less
+
+  best_count : (e : Endpoint) → count_by test (option_to_list (best (λ m. m.priority) (queued_at d e))) + count_by test (queued_at d (received e)) ≡ count_by test (queued_at d e)
+  best_count e = rw (received-at d e) (count-best test (λ m. m.priority) (queued_at d e))
+
+  less_here : (b : Bool) (e f : Endpoint) (es ys : List Endpoint) (o : Option Endpoint) →
+      (o ≡ Some f → count_by test (option_to_list (best (λ m. m.priority) (queued_at d f))) + queued_count ys ≡ queued_count es) → cond b (Some e) o ≡ Some f →
+      count_by test (option_to_list (best (λ m. m.priority) (queued_at d f))) + queued_count (cond b (received e ∷ es) (e ∷ ys)) ≡ queued_count (e ∷ es)
+  less_here true e f es ys o rest found =
+      let same : e ≡ f = cc in
+      rw (← same) (omega (arith, best_count e, queued-cons (received e) es, queued-cons e es))
+  less_here false e f es ys o rest found = omega (arith, rest found, queued-cons e ys, queued-cons e es)
+
+  pub less_count : (p : Endpoint → Bool) (es : List Endpoint) (f : Endpoint) → find p es ≡ Some f →
+      count_by test (option_to_list (best (λ m. m.priority) (queued_at d f))) + queued_count (changed_first p received es) ≡ queued_count es
+  less_count p [] f found = absurd cc
+  less_count p (e ∷ es) f found = less_here (p e) e f es (changed_first p received es) (find p es) (λ h. less_count p es f h) found
+
+  -- ---- frames
+
+  drop_one : (peer : ℕ) (t : Taken) → (carries_message t.frame ≡ true → drops t.fate ≡ true) → dropped_of d peer (t ∷ []) ≡ carried_of d peer (t ∷ [])
+  drop_one peer t h = elim (cases_Bool (carries_message t.frame)) [
+    | inl carries ↦ rw (h carries) refl
+    | inr not_one ↦ elim (cases_Bool (drops t.fate)) [
+      | inl drop ↦ rw drop refl
+      | inr keep ↦ rw (keep, not_one) refl
+    ]
+  ]
+
+  drop_none : (peer : ℕ) (t : Taken) → drops t.fate ≡ false → dropped_of d peer (t ∷ []) ≡ []
+  drop_none peer t h = rw h refl
+
+  carry_one : (peer : ℕ) (t : Taken) → carries_message t.frame ≡ true → carried_of d peer (t ∷ []) ≡ message_in peer d t.frame ∷ []
+  carry_one peer t h = rw h refl
+
+  frame_count : (peer : ℕ) (s : DomainState) (t : Taken) → option_map (λ r. r.word) (row_for s peer t.frame) ≡ Some t.fate →
+      count_by test (dropped_of d peer (t ∷ [])) + queued_count (after_frame s peer t.frame).endpoints ≡ count_by test (carried_of d peer (t ∷ [])) + queued_count s.endpoints
+  frame_count peer s t word =
+      elim (frame_case s peer t word) [
+        | inl stays ↦
+            let state : queued_count (after_frame s peer t.frame).endpoints ≡ queued_count s.endpoints = ap (λ (a : DomainState). queued_count a.endpoints) stays.state in
+            let drop : count_by test (dropped_of d peer (t ∷ [])) ≡ count_by test (carried_of d peer (t ∷ [])) = ap (count_by test) (drop_one peer t stays.dropped) in
+            omega arith
+        | inr goes ↦
+            let state : queued_count (after_frame s peer t.frame).endpoints ≡ queued_count s.endpoints + count_by test (message_in peer d t.frame ∷ [])
+            = ap (λ (a : DomainState). queued_count a.endpoints) goes.state ∙ with_item_count s (destination_of t.frame) (item_of peer t.frame) goes.found in
+            let drop : count_by test (dropped_of d peer (t ∷ [])) ≡ 0 = ap (count_by test) (drop_none peer t goes.not_dropped) in
+            let carry : count_by test (carried_of d peer (t ∷ [])) ≡ count_by test (message_in peer d t.frame ∷ []) = ap (count_by test) (carry_one peer t goes.carried) in
+            omega arith
+      ]
+
+  takes_count : (peer : ℕ) (s : DomainState) (ts : List Taken) → HaveWords s peer ts →
+      count_by test (dropped_of d peer ts) + queued_count (after_takes s peer ts).endpoints ≡ count_by test (carried_of d peer ts) + queued_count s.endpoints
+  takes_count peer s [] words = refl
+  takes_count peer s (t ∷ ts) words =
+      let rest : count_by test (dropped_of d peer ts) + queued_count (after_takes (after_frame s peer t.frame) peer ts).endpoints ≡ count_by test (carried_of d peer ts) + queued_count (after_frame s peer t.frame).endpoints
+      = takes_count peer (after_frame s peer t.frame) ts words.1 in
+      let one : count_by test (dropped_of d peer (t ∷ [])) + queued_count (after_frame s peer t.frame).endpoints ≡ count_by test (carried_of d peer (t ∷ [])) + queued_count s.endpoints
+      = frame_count peer s t words.0 in
+      let drops_here : count_by test (dropped_of d peer (t ∷ ts)) ≡ count_by test (dropped_of d peer (t ∷ [])) + count_by test (dropped_of d peer ts)
+      = ap (count_by test) (tested-append (λ u. drops u.fate) peer d (t ∷ []) ts) ∙ count-append test (dropped_of d peer (t ∷ [])) (dropped_of d peer ts) in
+      let carries_here : count_by test (carried_of d peer (t ∷ ts)) ≡ count_by test (carried_of d peer (t ∷ [])) + count_by test (carried_of d peer ts)
+      = ap (count_by test) (messages_in-append peer d (t.frame ∷ []) (map (λ u. u.frame) ts)) ∙ count-append test (carried_of d peer (t ∷ [])) (carried_of d peer ts) in
+      omega arith
+
+  -- ---- turns
+
+  visit_count : (s : DomainState) (v : Visit) → IsVisit s v →
+      count_by test (dropped_at d v) + queued_count (after_visit s v).endpoints ≡ count_by test (carried_at d v) + queued_count s.endpoints
+  visit_count s v is = takes_count v.peer (after_looks s v) v.takes is.words
+
+  pub turn_count : (s : DomainState) (vs : List Visit) → AreVisits s vs →
+      count_by test (flat_map (dropped_at d) vs) + queued_count (after_turn s vs).endpoints ≡ count_by test (flat_map (carried_at d) vs) + queued_count s.endpoints
+  turn_count s [] are = refl
+  turn_count s (v ∷ vs) are =
+      let rest : count_by test (flat_map (dropped_at d) vs) + queued_count (after_turn (after_visit s v) vs).endpoints ≡ count_by test (flat_map (carried_at d) vs) + queued_count (after_visit s v).endpoints
+      = turn_count (after_visit s v) vs are.1 in
+      let one : count_by test (dropped_at d v) + queued_count (after_visit s v).endpoints ≡ count_by test (carried_at d v) + queued_count s.endpoints = visit_count s v are.0 in
+      let drops_here : count_by test (flat_map (dropped_at d) (v ∷ vs)) ≡ count_by test (dropped_at d v) + count_by test (flat_map (dropped_at d) vs) = count-append test (dropped_at d v) (flat_map (dropped_at d) vs) in
+      let carries_here : count_by test (flat_map (carried_at d) (v ∷ vs)) ≡ count_by test (carried_at d v) + count_by test (flat_map (carried_at d) vs) = count-append test (carried_at d v) (flat_map (carried_at d) vs) in
+      omega arith

@@ -1,0 +1,126 @@
+-- A domain alone, in the serial run: what holds before each turn and each call.
+use Rattle.std.proofs.Common.{◌≡◌, ℕ, ◌+◌, ◌-◌, ◌≤◌, min, Bool, true, List, [], ◌∷◌, ◌++◌, length, map, take, drop, Some, count_by, refl, sym, ap, ◌∙◌, subst, arith, length-take, length-drop, append-nil}
+use Rattle.std.specs.List.{AllByRecursion}
+use Rattle.std.proofs.lemmas.List.{length-map}
+use Rattle.std.proofs.lemmas.List.Sums.{count_by-le-length}
+use Rattle.mc_base.specs.declared.fate.Fate.TheVariants.{State}
+use Rattle.board_model.specs.Lists.{changed}
+use Rattle.board_model.specs.Journal.{Visit, Taken, taken}
+use Rattle.board_model.specs.State.{DomainState, Item, Peer, is_from, queued_items, lent_items, queued_from, lent_from, place_of_peer, peer_of}
+use Rattle.board_model.specs.Dealing.{HaveWords}
+use Rattle.board_model.specs.Turn.{turn_limit, looked_at, after_looks, after_visit, IsVisit}
+use Rattle.board_model.specs.Serial.{Alone, dealt, due_to, own_due, own_frames, own_visit, returned_at_once, after_own_turn}
+use Rattle.board_model.proofs.ListsCounts.{count-every}
+use Rattle.board_model.proofs.LaneStates.{peer_of_own}
+use Rattle.board_model.proofs.LaneTakes.{takes_keep, takes_count, takes_addresses, addresses}
+use Rattle.board_model.proofs.LaneRuns.{Quiet, due_none, looked_quiet, visit_peers, from_peer}
+use Rattle.board_model.proofs.SerialFrames.{IsOwnAddress, AreLetters, letters-take, letters-drop, dealt_words, length-dealt}
+
+-- the domain has this number and this many buffers, each at one place; it holds nothing but its own frames and items
+pub record Standing (n size : ℕ) (a : Alone) : Type 0 where
+  pub at : Peer
+  pub one : a.state.peers ≡ at ∷ []
+  pub quiet : Quiet n at
+  pub number : a.state.number ≡ n
+  pub sized : at.size ≡ size
+  pub places : at.free + length a.ring + a.returned + length (queued_items a.state) ≡ size
+  pub unlent : lent_items a.state ≡ []
+  pub own : queued_from n a.state ≡ length (queued_items a.state)
+  pub shown : at.shown ≤ length a.ring
+  pub letters : AreLetters a.ring
+  pub addressed : AllByRecursion IsOwnAddress (addresses a.state)
+
+-- ---- its turn
+
+pub own_peer : (n size : ℕ) (a : Alone) (h : Standing n size a) → peer_of a.state a.state.number ≡ Some h.at
+own_peer n size a h = peer_of_own a.state h.at a.state.number h.one (h.quiet.number ∙ sym h.number)
+
+pub own_due_none : (n size : ℕ) (a : Alone) → Standing n size a → own_due a ≡ []
+own_due_none n size a h = ap (λ o. due_to o a.returned) (own_peer n size a h) ∙ due_none n h.at a.returned h.quiet
+
+pub own_frames_are : (n size : ℕ) (a : Alone) → Standing n size a → own_frames a ≡ a.ring
+own_frames_are n size a h = ap (λ (d : List (List ℕ)). a.ring ++ d) (own_due_none n size a h) ∙ append-nil a.ring
+
+-- the frames that its turn takes
+abbrev pub own_taken : Alone → List (List ℕ)
+own_taken a = take (min turn_limit (length (own_frames a))) (own_frames a)
+
+-- the visit, before the frames are dealt with
+abbrev pub own_looks : Alone → Visit
+own_looks a = record { peer = a.state.number; back = a.returned; owed = own_due a; see = length (own_frames a); takes = map (λ f. taken f State) (own_taken a) }
+
+pub own_takes : (a : Alone) → (own_visit a).takes ≡ dealt (after_looks a.state (own_looks a)) a.state.number (own_taken a)
+own_takes a = refl
+
+-- a look depends on how many frames are taken, and not on what becomes of them
+looks_by : (s : DomainState) (v : Visit) (ts us : List Taken) → length ts ≡ length us → after_looks s (record v { takes = ts }) ≡ after_looks s (record v { takes = us })
+looks_by s v ts us e = ap (λ k. record s { peers = changed (looked_by v k) (place_of_peer s v.peer) s.peers }) e
+  where
+    looked_by : Visit → ℕ → Peer → Peer
+    looked_by v k p = record p { free = p.free + v.back - length v.owed; shown = v.see - k; announcements = drop (length v.owed) p.announcements; replies = drop (length v.owed - length p.announcements) p.replies }
+
+pub own_looks_same : (a : Alone) → after_looks a.state (own_visit a) ≡ after_looks a.state (own_looks a)
+own_looks_same a = looks_by a.state (own_looks a) (own_visit a).takes (own_looks a).takes (length-dealt (after_looks a.state (own_looks a)) a.state.number (own_taken a) ∙ sym (length-map (own_taken a) (λ f. taken f State)))
+
+pub own_letters : (n size : ℕ) (a : Alone) → Standing n size a → AreLetters (own_frames a)
+own_letters n size a h = subst AreLetters (sym (own_frames_are n size a h)) h.letters
+
+pub own_words : (n size : ℕ) (a : Alone) → Standing n size a → HaveWords (after_looks a.state (own_visit a)) a.state.number (own_visit a).takes
+own_words n size a h =
+    subst (λ st. HaveWords st a.state.number (own_visit a).takes) (sym (own_looks_same a))
+    (dealt_words (after_looks a.state (own_looks a)) a.state.number (own_taken a) (letters-take (min turn_limit (length (own_frames a))) (own_frames a) (own_letters n size a h)))
+
+pub own_takes_many : (a : Alone) → length (own_visit a).takes ≡ min turn_limit (length (own_frames a))
+own_takes_many a =
+    let e = length-dealt (after_looks a.state (own_looks a)) a.state.number (own_taken a) in
+    let t = length-take (min turn_limit (length (own_frames a))) (own_frames a) in
+    omega arith
+
+lent_none : (n : ℕ) (s : DomainState) → lent_items s ≡ [] → lent_from n s ≡ 0
+lent_none n s e = ap (count_by (is_from n)) e
+
+pub own_visit_is : (n size : ℕ) (a : Alone) → Standing n size a → IsVisit a.state (own_visit a)
+own_visit_is n size a h =
+    let frames = ap length (own_frames_are n size a h) in
+    record {
+      at = h.at;
+      known = own_peer n size a h;
+      back_fits = omega (arith, h.places, h.sized);
+      puts_due = ap (λ o. due_to o a.returned) (own_peer n size a h);
+      sees_shown = omega (arith, h.shown, frames);
+      see_fits = omega (arith, h.places, h.sized, frames, lent_none a.state.number a.state h.unlent, count_by-le-length (is_from a.state.number) (queued_items a.state));
+      takes_first = own_takes_many a;
+      words = own_words n size a h;
+    }
+
+-- every item of the queues is counted
+abbrev pub any_item : Item → Bool
+any_item i = true
+
+turn_queued : (n size : ℕ) (a : Alone) → Standing n size a → length (queued_items (after_visit a.state (own_visit a))) + returned_at_once (own_visit a).takes ≡ length (queued_items a.state) + length (own_visit a).takes
+turn_queued n size a h =
+    omega (arith, takes_count any_item (after_looks a.state (own_visit a)) a.state.number (λ f. refl) (own_visit a).takes (own_words n size a h), count-every (queued_items (after_visit a.state (own_visit a))), count-every (queued_items a.state))
+
+turn_own : (n size : ℕ) (a : Alone) → Standing n size a → queued_from n (after_visit a.state (own_visit a)) + returned_at_once (own_visit a).takes ≡ queued_from n a.state + length (own_visit a).takes
+turn_own n size a h = takes_count (is_from n) (after_looks a.state (own_visit a)) a.state.number (from_peer n a.state.number h.number) (own_visit a).takes (own_words n size a h)
+
+pub standing_turn : (n size : ℕ) (a : Alone) → Standing n size a → Standing n size (after_own_turn a)
+standing_turn n size a h =
+    let v = own_visit a in
+    let frames = ap length (own_frames_are n size a h) in
+    let owes = ap length (own_due_none n size a h) in
+    let many = own_takes_many a in
+    let left = length-drop (length v.takes) (own_frames a) in
+    record {
+      at = looked_at v h.at;
+      one = visit_peers a.state v h.at h.one (h.quiet.number ∙ sym h.number);
+      quiet = looked_quiet n h.at v h.quiet;
+      number = takes_keep (λ t. t.number) (after_looks a.state v) v.peer v.takes (λ t es. refl) ∙ h.number;
+      sized = h.sized;
+      places = omega (arith, h.places, turn_queued n size a h, frames, owes, many, left);
+      unlent = takes_keep (λ t. lent_items t) (after_looks a.state v) v.peer v.takes (λ t es. refl) ∙ h.unlent;
+      own = omega (arith, h.own, turn_queued n size a h, turn_own n size a h);
+      shown = omega (arith, left);
+      letters = letters-drop (length v.takes) (own_frames a) (own_letters n size a h);
+      addressed = subst (AllByRecursion IsOwnAddress) (sym (takes_addresses (after_looks a.state v) v.peer v.takes)) h.addressed;
+    }

@@ -1,0 +1,101 @@
+-- The entries of the serial run are steps of the domain, and lead to the state that the serial run tells.
+use Rattle.std.proofs.Common.{◌≡◌, ℕ, zero, suc, ◌+◌, List, [], ◌∷◌, ◌++◌, length, map, drop, Some, None, slice_get, refl, sym, ap, ◌∙◌, subst, arith, append_assoc, append-nil}
+use Rattle.board_model.specs.declared.scenario.CallLine.{CallLine}
+use Rattle.board_model.specs.Journal.{PlainEntry, called}
+use Rattle.board_model.specs.State.{DomainState}
+use Rattle.board_model.specs.Turn.{IsTurn}
+use Rattle.board_model.specs.Answer.{answer, puts}
+use Rattle.board_model.specs.Effect.{effect}
+use Rattle.board_model.specs.Step.{RunState, effect_of_line, after}
+use Rattle.board_model.specs.Run.{Leads, after_all}
+use Rattle.board_model.specs.Serial.{Alone, own_turn, after_own_turn, put_entry, line_entries, after_line, entries_from, after_lines}
+use Rattle.board_model.proofs.SerialStates.{Standing, own_visit_is, standing_turn}
+use Rattle.board_model.proofs.SerialCalls.{standing_call}
+
+-- ---- runs
+
+pub leads-append : (script : List CallLine) (old mid new : RunState) (es fs : List PlainEntry) → Leads script old es mid → Leads script mid fs new → Leads script old (es ++ fs) new
+leads-append script old mid new [] fs h l = subst (λ (x : RunState). Leads script x fs new) h l
+leads-append script old mid new (e ∷ es) fs h l = (h.0, h.1, leads-append script h.0 mid new es fs h.2 l)
+
+-- entries lead to one state
+pub leads_to : (script : List CallLine) (old new : RunState) (es : List PlainEntry) → Leads script old es new → new ≡ after_all script old es
+leads_to script old new [] h = h
+leads_to script old new (e ∷ es) h = leads_to script h.0 new es h.2 ∙ ap (λ (x : RunState). after_all script x es) h.1.leads
+
+pub after_all-append : (script : List CallLine) (r : RunState) (es fs : List PlainEntry) → after_all script r (es ++ fs) ≡ after_all script (after_all script r es) fs
+after_all-append script r [] fs = refl
+after_all-append script r (e ∷ es) fs = after_all-append script (after script r e) es fs
+
+-- ---- a line
+
+-- the run between two lines
+abbrev pub between : Alone → ℕ → RunState
+between a k = record { state = a.state; lines_called = k; put_since_turn = None }
+
+-- the run after a turn and some frames
+abbrev pub turned_with : DomainState → ℕ → List (ℕ × List ℕ) → RunState
+turned_with s k ps = record { state = s; lines_called = k; put_since_turn = Some ps }
+
+leads_puts : (script : List CallLine) (s : DomainState) (k : ℕ) (acc ps : List (ℕ × List ℕ)) → Leads script (turned_with s k acc) (map put_entry ps) (turned_with s k (acc ++ ps))
+leads_puts script s k acc [] = ap (turned_with s k) (append-nil acc)
+leads_puts script s k acc (p ∷ ps) =
+    let later = leads_puts script s k (acc ++ p ∷ []) ps in
+    (turned_with s k (acc ++ p ∷ []), record { allowed = refl; leads = refl }, subst (λ (x : List (ℕ × List ℕ)). Leads script (turned_with s k (acc ++ p ∷ [])) (map put_entry ps) (turned_with s k x)) (append_assoc acc (p ∷ []) ps) later)
+
+own_turn_is : (n size : ℕ) (a : Alone) (h : Standing n size a) → IsTurn a.state (own_turn a)
+own_turn_is n size a h = record {
+  each_peer = ap (λ (m : ℕ). m ∷ []) (h.number ∙ sym h.quiet.number) ∙ sym (ap (map (λ p. p.number)) h.one);
+  allowed = (own_visit_is n size a h, tt);
+}
+
+leads_call : (script : List CallLine) (b : Alone) (k : ℕ) (line : CallLine) → slice_get script k ≡ Some line → Leads script (turned_with b.state k (puts b.state line.node line.call)) (called (k + 1) (answer b.state line.node line.call) ∷ []) (record { state = effect b.state line.node line.call; lines_called = k + 1; put_since_turn = None })
+leads_call script b k line here =
+    let new : RunState = record { state = effect b.state line.node line.call; lines_called = k + 1; put_since_turn = None } in
+    let same : new ≡ after script (turned_with b.state k (puts b.state line.node line.call)) (called (k + 1) (answer b.state line.node line.call)) = ap (λ o. ended (effect_of_line o b.state)) (sym here) in
+    (new, record { allowed = (line, here, refl, refl, refl); leads = same }, refl)
+  where
+    ended : DomainState → RunState
+    ended s = record { state = s; lines_called = k + 1; put_since_turn = None }
+
+-- the entries of a line
+pub leads_line : (n size : ℕ) (script : List CallLine) (a : Alone) (k : ℕ) (line : CallLine) → Standing n size a → slice_get script k ≡ Some line → Leads script (between a k) (line_entries a (k + 1) line) (between (after_line a line) (k + 1))
+leads_line n size script a k line h here =
+    let b = after_own_turn a in
+    let ps = puts b.state line.node line.call in
+    let last = leads_call script b k line here in
+    let rest = leads-append script (turned_with b.state k []) (turned_with b.state k ps) (between (after_line a line) (k + 1)) (map put_entry ps) (called (k + 1) (answer b.state line.node line.call) ∷ []) (leads_puts script b.state k [] ps) last in
+    (turned_with b.state k [], record { allowed = (tt, own_turn_is n size a h); leads = refl }, rest)
+
+pub standing_line : (n size : ℕ) (a : Alone) (line : CallLine) → Standing n size a → Standing n size (after_line a line)
+standing_line n size a line h = standing_call n size (after_own_turn a) (standing_turn n size a h) line.node line.call
+
+-- ---- all lines
+
+pub next_of : (script : List CallLine) (k : ℕ) (line : CallLine) (ls : List CallLine) → drop k script ≡ line ∷ ls → slice_get script k ≡ Some line
+next_of [] zero line ls e = absurd cc
+next_of [] (suc k) line ls e = absurd cc
+next_of (x ∷ xs) zero line ls e = cc
+next_of (x ∷ xs) (suc k) line ls e = next_of xs k line ls e
+
+drop-suc : (script : List CallLine) (k : ℕ) (line : CallLine) (ls : List CallLine) → drop k script ≡ line ∷ ls → drop (suc k) script ≡ ls
+drop-suc [] zero line ls e = absurd cc
+drop-suc [] (suc k) line ls e = absurd cc
+drop-suc (x ∷ xs) zero line ls e = cc
+drop-suc (x ∷ xs) (suc k) line ls e = drop-suc xs k line ls e
+
+pub later_of : (script : List CallLine) (k : ℕ) (line : CallLine) (ls : List CallLine) → drop k script ≡ line ∷ ls → drop (k + 1) script ≡ ls
+later_of script k line ls e =
+    let same : k + 1 ≡ suc k = omega arith in
+    ap (λ (j : ℕ). drop j script) same ∙ drop-suc script k line ls e
+
+pub leads_lines : (n size : ℕ) (script : List CallLine) (a : Alone) (k : ℕ) (ls : List CallLine) → Standing n size a → drop k script ≡ ls → Leads script (between a k) (entries_from a (k + 1) ls) (between (after_lines a ls) (k + length ls))
+leads_lines n size script a k [] h e =
+    let same : k + 0 ≡ k = omega arith in
+    ap (between a) same
+leads_lines n size script a k (line ∷ ls) h e =
+    let one = leads_line n size script a k line h (next_of script k line ls e) in
+    let rest = leads_lines n size script (after_line a line) (k + 1) ls (standing_line n size a line h) (later_of script k line ls e) in
+    let same : k + 1 + length ls ≡ k + length (line ∷ ls) = omega arith in
+    let all = leads-append script (between a k) (between (after_line a line) (k + 1)) (between (after_lines a (line ∷ ls)) (k + 1 + length ls)) (line_entries a (k + 1) line) (entries_from (after_line a line) (k + 1 + 1) ls) one rest in
+    subst (λ (j : ℕ). Leads script (between a k) (entries_from a (k + 1) (line ∷ ls)) (between (after_lines a (line ∷ ls)) j)) same all

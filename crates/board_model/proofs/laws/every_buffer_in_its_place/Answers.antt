@@ -1,0 +1,5 @@
+use Rattle.board_model.proofs.PlaceCounts.{every_buffer}
+use Rattle.board_model.proofs.laws.every_buffer_in_its_place.Goals as goal
+
+pub returns : goal.returns
+returns c = every_buffer

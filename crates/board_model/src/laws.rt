@@ -1,0 +1,28 @@
+//! What is proved of the definitions themselves. Each function has no code: its contract is the law.
+ghost use Rattle.board_model.specs.Laws.{PlaceLaw, SerialIsBoardRun, HeadlineLaw};
+ghost use Rattle.board_model.specs.MessageLaws.{ReceivesTakeTheBest, NoMessageIsLost};
+
+/// At the end of every run of a board, each buffer of each lane is at exactly one place.
+pub fn every_buffer_in_its_place()
+    ensures { PlaceLaw }
+{}
+
+/// Each message receive takes the oldest message of the best priority queued.
+pub fn receives_take_the_best()
+    ensures { ReceivesTakeTheBest }
+{}
+
+/// Each message that was accepted was taken or dropped, or is queued or in the ring.
+pub fn no_message_is_lost()
+    ensures { NoMessageIsLost }
+{}
+
+/// The headline holds of every run of a board.
+pub fn headline()
+    ensures { HeadlineLaw }
+{}
+
+/// The serial run is a run of the board, and runs every script whole.
+pub fn serial_run_is_a_board_run()
+    ensures { SerialIsBoardRun }
+{}
