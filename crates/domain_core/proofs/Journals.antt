@@ -1,0 +1,97 @@
+-- Entries that are kept stand for the same lines when more is kept behind them.
+use Rattle.std.proofs.Common.{◌≡◌, ℕ, ◌+◌, ◌-◌, ◌≤◌, List, [], ◌∷◌, ◌++◌, length, take, drop, map, Option, Some, None, refl, sym, ap, ◌∙◌, arith}
+use Rattle.std.specs.List.{AllByRecursion}
+use Rattle.std.specs.Prelude.{slice_get, slice_set}
+use Rattle.std.proofs.lemmas.List.{take-append-le, drop-append-le, length-drop, length-map, map-set, map_push}
+use Rattle.board_model.specs.Journal.{Line, put_line, take_line, call_line, gives, joinable, noted_idle, with_idle}
+use Rattle.domain_core.specs.declared.journal.kept.Piece.{Piece}
+use Rattle.domain_core.specs.declared.journal.kept.Kept.{Kept}
+use Rattle.domain_core.specs.declared.journal.kept.Kept.TheVariants as kept
+use Rattle.domain_core.specs.declared.journal.entry.Entry.{Entry}
+use Rattle.domain_core.specs.declared.journal.entry.Entry.TheVariants as entry
+use Rattle.domain_core.specs.Kept.{AreWithin, IsWithin, kept_line, piece_of}
+use Rattle.domain_core.specs.Entry.{IsNotIdle, line_of_entry, noted_entry}
+
+-- ---- bytes behind the others
+
+piece_of-append : (bytes more : List ℕ) (p : Piece) → p.start + p.len ≤ length bytes → piece_of (bytes ++ more) p ≡ piece_of bytes p
+piece_of-append bytes more p within =
+    let starts : p.start ≤ length bytes = omega arith in
+    let fits : p.len ≤ length (drop p.start bytes) = omega (arith, length-drop p.start bytes) in
+    ap (λ (xs : List ℕ). take p.len xs) (drop-append-le p.start bytes more starts) ∙ take-append-le p.len (drop p.start bytes) more fits
+
+kept_line-append : (bytes more : List ℕ) (k : Kept) → IsWithin (length bytes) k → kept_line (bytes ++ more) k ≡ kept_line bytes k
+kept_line-append bytes more kept.Turn within = refl
+kept_line-append bytes more (kept.Back peer n) within = refl
+kept_line-append bytes more (kept.Put peer p) within = ap (λ (xs : List ℕ). put_line peer xs) (piece_of-append bytes more p within)
+kept_line-append bytes more (kept.See peer n) within = refl
+kept_line-append bytes more (kept.Take peer p fate) within = ap (λ (xs : List ℕ). take_line peer xs fate) (piece_of-append bytes more p within)
+kept_line-append bytes more (kept.Idle n) within = refl
+kept_line-append bytes more (kept.Refused k word) within = refl
+kept_line-append bytes more (kept.Agreed k) within = refl
+kept_line-append bytes more (kept.Number k n) within = refl
+kept_line-append bytes more (kept.Bytes k size p) within = ap (λ (xs : List ℕ). call_line k (gives size xs)) (piece_of-append bytes more p within)
+
+lines-append : (bytes more : List ℕ) (ks : List Kept) → AreWithin bytes ks → map (kept_line (bytes ++ more)) ks ≡ map (kept_line bytes) ks
+lines-append bytes more [] within = refl
+lines-append bytes more (k ∷ ks) within =
+    let one = kept_line-append bytes more k within.0 in
+    let rest = lines-append bytes more ks within.1 in
+    cc
+
+IsWithin-more : (m n : ℕ) (k : Kept) → m ≤ n → IsWithin m k → IsWithin n k
+IsWithin-more m n kept.Turn le within = tt
+IsWithin-more m n (kept.Back peer count) le within = tt
+IsWithin-more m n (kept.Put peer p) le within = omega arith
+IsWithin-more m n (kept.See peer count) le within = tt
+IsWithin-more m n (kept.Take peer p fate) le within = omega arith
+IsWithin-more m n (kept.Idle count) le within = tt
+IsWithin-more m n (kept.Refused k word) le within = tt
+IsWithin-more m n (kept.Agreed k) le within = tt
+IsWithin-more m n (kept.Number k count) le within = tt
+IsWithin-more m n (kept.Bytes k size p) le within = omega arith
+
+pub AreWithin-push : (m n : ℕ) (ks : List Kept) (k : Kept) → m ≤ n → AllByRecursion (IsWithin m) ks → IsWithin n k → AllByRecursion (IsWithin n) (ks ++ k ∷ [])
+AreWithin-push m n [] k le within last = (last, tt)
+AreWithin-push m n (j ∷ ks) k le within last = (IsWithin-more m n j le within.0, AreWithin-push m n ks k le within.1 last)
+
+-- ---- idle turns
+
+pub idle-joins : (bytes : List ℕ) (ks : List Kept) (n i : ℕ) → i ≡ length ks - 1 → Some n ≡ joinable (slice_get (map (kept_line bytes) ks) (length ks - 1)) → map (kept_line bytes) (slice_set ks i (kept.Idle (n + 1))) ≡ noted_idle (map (kept_line bytes) ks)
+idle-joins bytes ks n i at e =
+    let len = length-map ks (kept_line bytes) in
+    let e' : Some n ≡ joinable (slice_get (map (kept_line bytes) ks) (length (map (kept_line bytes) ks) - 1)) = rw len e in
+    map-set (kept_line bytes) ks i (kept.Idle (n + 1)) ∙ rw (at, ← len) (ap (λ (o : Option ℕ). with_idle o (map (kept_line bytes) ks)) e')
+
+pub idle-begins : (bytes : List ℕ) (ks : List Kept) → None ≡ joinable (slice_get (map (kept_line bytes) ks) (length ks - 1)) → map (kept_line bytes) (ks ++ kept.Idle 1 ∷ []) ≡ noted_idle (map (kept_line bytes) ks)
+idle-begins bytes ks e =
+    let len = length-map ks (kept_line bytes) in
+    let e' : None ≡ joinable (slice_get (map (kept_line bytes) ks) (length (map (kept_line bytes) ks) - 1)) = rw len e in
+    map_push (kept_line bytes) ks (kept.Idle 1) ∙ ap (λ (o : Option ℕ). with_idle o (map (kept_line bytes) ks)) e'
+
+-- ---- any other entry
+
+noted_entry-appends : (lines : List Line) (e : Entry) → IsNotIdle e → noted_entry lines (line_of_entry e) ≡ lines ++ line_of_entry e ∷ []
+noted_entry-appends lines entry.Turn other = refl
+noted_entry-appends lines (entry.Back peer n) other = refl
+noted_entry-appends lines (entry.Put peer frame) other = refl
+noted_entry-appends lines (entry.See peer n) other = refl
+noted_entry-appends lines (entry.Take peer frame fate) other = refl
+noted_entry-appends lines (entry.Idle n) other = absurd other
+noted_entry-appends lines (entry.Called k a) other = refl
+
+pub IsNotIdle-from : (e : Entry) → ((n : ℕ) → e ≡ entry.Idle n → ⊥) → IsNotIdle e
+IsNotIdle-from entry.Turn h = tt
+IsNotIdle-from (entry.Back peer n) h = tt
+IsNotIdle-from (entry.Put peer frame) h = tt
+IsNotIdle-from (entry.See peer n) h = tt
+IsNotIdle-from (entry.Take peer frame fate) h = tt
+IsNotIdle-from (entry.Idle n) h = h n refl
+IsNotIdle-from (entry.Called k a) h = tt
+
+pub lines-push : (old new more : List ℕ) (ks : List Kept) (k : Kept) (e : Entry) → IsNotIdle e → AreWithin old ks → new ≡ old ++ more → kept_line new k ≡ line_of_entry e → map (kept_line new) (ks ++ k ∷ []) ≡ noted_entry (map (kept_line old) ks) (line_of_entry e)
+lines-push old new more ks k e other within grown line =
+    let pushed = map_push (kept_line new) ks k in
+    let front : map (kept_line new) ks ≡ map (kept_line old) ks = rw grown (lines-append old more ks within) in
+    let appended = noted_entry-appends (map (kept_line old) ks) e other in
+    pushed ∙ rw (front, line) (sym appended)

@@ -1,0 +1,49 @@
+-- The line that an entry of the code is, and what noting it does.
+-- Source: docs/FORMATS.md, "Journal text".
+use Rattle.std.specs.Prelude.{◌≡◌, ℕ, List, [], ◌∷◌, ◌++◌, length}
+use Rattle.board_model.specs.Journal.{Line, PlainAnswer, idle_line, turn_line, back_line, put_line, see_line, take_line, call_line, refuses, agrees, tells, gives, noted_idle}
+use Rattle.domain_core.specs.declared.journal.entry.Answer.{Answer}
+use Rattle.domain_core.specs.declared.journal.entry.Answer.TheVariants as answer
+use Rattle.domain_core.specs.declared.journal.entry.Entry.{Entry}
+use Rattle.domain_core.specs.declared.journal.entry.Entry.TheVariants as entry
+
+abbrev pub plain_answer : Answer → PlainAnswer
+plain_answer (answer.Refused word) = refuses word
+plain_answer answer.Ok = agrees
+plain_answer (answer.Number n) = tells n
+plain_answer (answer.Bytes size bytes) = gives size bytes.now
+
+abbrev pub line_of_entry : Entry → Line
+line_of_entry entry.Turn = turn_line
+line_of_entry (entry.Back peer n) = back_line peer n
+line_of_entry (entry.Put peer frame) = put_line peer frame.now
+line_of_entry (entry.See peer n) = see_line peer n
+line_of_entry (entry.Take peer frame fate) = take_line peer frame.now fate
+line_of_entry (entry.Idle n) = idle_line n
+line_of_entry (entry.Called k a) = call_line k (plain_answer a)
+
+-- how many bytes an entry carries
+abbrev pub bytes_in_answer : Answer → ℕ
+bytes_in_answer (answer.Bytes size bytes) = length bytes.now
+bytes_in_answer other = 0
+
+abbrev pub bytes_in : Entry → ℕ
+bytes_in (entry.Put peer frame) = length frame.now
+bytes_in (entry.Take peer frame fate) = length frame.now
+bytes_in (entry.Called k a) = bytes_in_answer a
+bytes_in other = 0
+
+-- an idle turn is noted by itself
+abbrev pub IsNotable : Entry → Type 0
+IsNotable (entry.Idle n) = n ≡ 1
+IsNotable other = Unit {0}
+
+-- the lines with one more; an idle turn is joined
+abbrev pub noted_entry : List Line → Line → List Line
+noted_entry lines (idle_line n) = noted_idle lines
+noted_entry lines line = lines ++ line ∷ []
+
+-- any entry but idle turns
+abbrev pub IsNotIdle : Entry → Type 0
+IsNotIdle (entry.Idle n) = ⊥
+IsNotIdle other = Unit {0}

@@ -1,0 +1,45 @@
+-- The lane from a domain to itself, which is its pool.
+-- Source: docs/PROFILE.md, "Lanes".
+use Rattle.std.specs.Prelude.{ℕ, ◌+◌, ◌-◌, true, ◌≡◌, List, [], ◌∷◌, ◌++◌, length, drop}
+use Rattle.std.specs.List.{AllByRecursion}
+use Rattle.board_model.specs.Dealing.{is_letter}
+
+-- its size, the free buffers, the frames put and not taken, the buffers given back and not shown, and how many frames
+-- were shown and not taken
+pub record Lane : Type 0 where
+  pub size : ℕ
+  pub free : ℕ
+  pub ring : List (List ℕ)
+  pub returned : ℕ
+  pub shown : ℕ
+
+-- every buffer is free
+abbrev pub opening_lane : ℕ → Lane
+opening_lane size = record { size = size; free = size; ring = []; returned = 0; shown = 0 }
+
+-- a look at the buffers: all that were given back are free
+abbrev pub looked_back : Lane → Lane
+looked_back l = record l { free = l.free + l.returned; returned = 0 }
+
+-- a look at the frames shows them all
+abbrev pub looked_ahead : Lane → Lane
+looked_ahead l = record l { shown = length l.ring }
+
+abbrev pub with_first_taken : Lane → Lane
+with_first_taken l = record l { ring = drop 1 l.ring; shown = l.shown - 1 }
+
+abbrev pub with_one_used : Lane → Lane
+with_one_used l = record l { free = l.free - 1 }
+
+abbrev pub with_frame : Lane → List ℕ → Lane
+with_frame l frame = record l { ring = l.ring ++ frame ∷ [] }
+
+abbrev pub with_returned : Lane → ℕ → Lane
+with_returned l n = record l { returned = l.returned + n }
+
+-- a frame for an endpoint, and not for the name service
+abbrev pub IsForEndpoint : List ℕ → Type 0
+IsForEndpoint frame = is_letter frame ≡ true
+
+abbrev pub AreForEndpoints : List (List ℕ) → Type 0
+AreForEndpoints frames = AllByRecursion IsForEndpoint frames

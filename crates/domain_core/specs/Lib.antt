@@ -1,0 +1,11 @@
+pub mod Written
+pub mod Kept
+pub mod Entry
+pub mod Lane
+pub mod InLane
+pub mod Held
+pub mod InTable
+pub mod Dealt
+pub mod Turned
+pub mod Alone
+pub mod Calls

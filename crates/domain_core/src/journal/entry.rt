@@ -1,0 +1,49 @@
+use mc_base::{Fate, Refusal};
+
+/// The answer of a call.
+#[derive(Clone, Copy, Debug)]
+pub enum Answer<'a> {
+    Refused(Refusal),
+    Ok,
+    /// `Ok` with one number.
+    Number(u64),
+    /// The size of a message, and those of its bytes that were given.
+    Bytes { size: u32, bytes: &'a [u8] },
+}
+
+/// A line of a journal. A peer is told by its domain's number.
+#[derive(Clone, Copy, Debug)]
+pub enum Entry<'a> {
+    /// A turn that was not idle. What it did follows.
+    Turn,
+    /// Buffers that came back from a peer.
+    Back {
+        peer: u8,
+        count: u32,
+    },
+    /// A frame that was put to a peer.
+    Put {
+        peer: u8,
+        frame: &'a [u8],
+    },
+    /// Frames of a peer that a look showed.
+    See {
+        peer: u8,
+        count: u32,
+    },
+    /// A frame that was taken from a peer, and what became of it.
+    Take {
+        peer: u8,
+        frame: &'a [u8],
+        fate: Fate,
+    },
+    /// Turns in a row in which nothing happened.
+    Idle {
+        turns: u64,
+    },
+    /// A call, by the number of its line, and its answer.
+    Called {
+        number: u32,
+        answer: Answer<'a>,
+    },
+}

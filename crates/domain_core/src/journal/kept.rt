@@ -1,0 +1,158 @@
+//! The entries as the journal keeps them: each of one size, with its bytes in an array that all share.
+
+ghost use Rattle.std.specs.Prelude.{◌≡◌, ◌≤◌, ◌<◌, ◌+◌, ◌-◌, ◌^◌, ◌++◌, ℕ, List, IfSome, length, map, slice_get, vec_len, vec_capacity};
+ghost use Rattle.std.specs.List.{AllByRecursion};
+ghost use Rattle.board_model.specs.Journal.{joinable, noted_idle};
+ghost use Rattle.domain_core.specs.Entry.{line_of_entry, bytes_in, IsNotIdle};
+ghost use Rattle.domain_core.specs.Kept.{IsWithin, kept_line, piece_of};
+
+use super::entry::{Answer, Entry};
+use mc_base::{Fate, Refusal};
+
+/// Where the bytes of an entry lie.
+#[derive(Clone, Copy, Debug)]
+pub struct Piece {
+    start: usize,
+    len: usize,
+}
+
+/// An entry that is kept.
+#[derive(Clone, Copy, Debug)]
+pub enum Kept {
+    Turn,
+    Back(u8, u32),
+    Put(u8, Piece),
+    See(u8, u32),
+    Take(u8, Piece, Fate),
+    Idle(u64),
+    Refused(u32, Refusal),
+    Agreed(u32),
+    Number(u32, u64),
+    Bytes(u32, u32, Piece),
+}
+
+/// Keeps an entry. Its bytes go behind the others, for which there is room.
+pub fn keep(bytes: &mut Vec<u8>, entry: Entry<'_>) -> Kept
+    requires room { vec_len bytes.old + bytes_in entry ≤ vec_capacity bytes.old }
+    ensures bytes { (more : List ℕ) × (bytes.new.items ≡ bytes.old.items ++ more) × (length more ≤ bytes_in entry.entry) }
+    ensures line { kept_line bytes.new.items result ≡ line_of_entry entry.entry }
+    ensures within { IsWithin (length bytes.new.items) result }
+    ensures capacity { vec_capacity bytes.old ≤ vec_capacity bytes.new }
+{
+    match entry {
+        Entry::Turn => Kept::Turn,
+        Entry::Back { peer, count } => Kept::Back(peer, count),
+        Entry::Put { peer, frame } => Kept::Put(peer, keep_bytes(bytes, frame)),
+        Entry::See { peer, count } => Kept::See(peer, count),
+        Entry::Take { peer, frame, fate } => Kept::Take(peer, keep_bytes(bytes, frame), fate),
+        Entry::Idle { turns } => Kept::Idle(turns),
+        Entry::Called { number, answer } => match answer {
+            Answer::Refused(word) => Kept::Refused(number, word),
+            Answer::Ok => Kept::Agreed(number),
+            Answer::Number(n) => Kept::Number(number, n),
+            Answer::Bytes { size, bytes: given } => Kept::Bytes(
+                number,
+                size,
+                keep_bytes(bytes, given),
+            ),
+        },
+    }
+}
+
+/// Appends bytes, for which there is room.
+fn keep_bytes(bytes: &mut Vec<u8>, more: &[u8]) -> Piece
+    requires { vec_len bytes.old + length more.now ≤ vec_capacity bytes.old }
+    ensures bytes { bytes.new.items ≡ bytes.old.items ++ more.now }
+    ensures start { result.start ≡ vec_len bytes.old }
+    ensures len { result.len ≡ length more.now }
+    ensures capacity { vec_capacity bytes.old ≤ vec_capacity bytes.new }
+{
+    let start = bytes.len();
+    bytes.extend_from_slice(more).unwrap();
+    Piece {
+        start,
+        len: more.len(),
+    }
+}
+
+/// The entry that is kept.
+pub fn entry_of(bytes: &[u8], kept: Kept) -> Entry<'_>
+    requires { IsWithin (length bytes.now) kept }
+    ensures { line_of_entry result ≡ kept_line bytes.now kept }
+{
+    match kept {
+        Kept::Turn => Entry::Turn,
+        Kept::Back(peer, count) => Entry::Back { peer, count },
+        Kept::Put(peer, piece) => Entry::Put {
+            peer,
+            frame: bytes_of(bytes, piece),
+        },
+        Kept::See(peer, count) => Entry::See { peer, count },
+        Kept::Take(peer, piece, fate) => Entry::Take {
+            peer,
+            frame: bytes_of(bytes, piece),
+            fate,
+        },
+        Kept::Idle(turns) => Entry::Idle { turns },
+        Kept::Refused(number, word) => Entry::Called {
+            number,
+            answer: Answer::Refused(word),
+        },
+        Kept::Agreed(number) => Entry::Called {
+            number,
+            answer: Answer::Ok,
+        },
+        Kept::Number(number, n) => Entry::Called {
+            number,
+            answer: Answer::Number(n),
+        },
+        Kept::Bytes(number, size, piece) => Entry::Called {
+            number,
+            answer: Answer::Bytes {
+                size,
+                bytes: bytes_of(bytes, piece),
+            },
+        },
+    }
+}
+
+fn bytes_of(bytes: &[u8], piece: Piece) -> &[u8]
+    requires { piece.start + piece.len ≤ length bytes.now }
+    ensures { result.now ≡ piece_of bytes.now piece }
+{
+    let (_, rest) = bytes.split_at(piece.start);
+    let (front, _) = rest.split_at(piece.len);
+    front
+}
+
+/// Keeps an idle turn. It joins those before it, up to the greatest count.
+pub fn keep_idle(entries: &mut Vec<Kept>)
+    requires { vec_len entries.old < vec_capacity entries.old }
+    ensures lines { (bytes : List ℕ) → map (kept_line bytes) entries.new.items ≡ noted_idle (map (kept_line bytes) entries.old.items) }
+    ensures within { (n : ℕ) → AllByRecursion (IsWithin n) entries.old.items → AllByRecursion (IsWithin n) entries.new.items }
+    ensures capacity { vec_capacity entries.old ≤ vec_capacity entries.new }
+    ensures one_more { vec_len entries.new ≤ vec_len entries.old + 1 }
+{
+    match turns_to_join(entries) {
+        Some(turns) => {
+            let last = entries.len() - 1;
+            entries[last] = Kept::Idle(turns + 1);
+        }
+        None => entries.push(Kept::Idle(1)).unwrap(),
+    }
+}
+
+/// The count of the last entry, where one more idle turn can join it.
+fn turns_to_join(entries: &[Kept]) -> Option<u64>
+    ensures value { (bytes : List ℕ) → result ≡ joinable (slice_get (map (kept_line bytes) entries.now) (length entries.now - 1)) }
+    ensures within { IfSome result (λ n. (0 < length entries.now) × (n < 2 ^ 64 - 1)) }
+{
+    let Some(Kept::Idle(turns)) = entries.last() else {
+        return None;
+    };
+    if *turns < u64::MAX {
+        Some(*turns)
+    } else {
+        None
+    }
+}

@@ -1,0 +1,21 @@
+//! One domain alone over its own lane, and the journal of what it does.
+//!
+//! A domain takes memory where it is opened, and a journal where room is reserved in it. No other call takes any.
+#![tactic(auto)]
+
+mod carried;
+mod dealing;
+mod domain;
+mod endpoints;
+mod journal;
+mod lane;
+mod messages;
+mod threads;
+mod turn;
+
+pub use domain::{Domain, Places};
+pub use journal::{Answer, Entry, Journal};
+pub use threads::may_cross_threads;
+
+#[cfg(test)]
+mod tests;
