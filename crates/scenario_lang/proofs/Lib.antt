@@ -1,0 +1,5 @@
+mod Options
+mod WordLemmas
+mod LineLemmas
+mod TextLemmas
+pub mod CanonicalLemmas

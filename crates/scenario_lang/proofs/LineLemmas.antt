@@ -1,0 +1,281 @@
+-- The lines of a file: what is spelled is read, and what is read is spelled so.
+use Rattle.std.proofs.Common.{◌≡◌, ℕ, ◌^◌, ◌<◌, ◌≤◌, true, List, [], ◌∷◌, ◌++◌, length, Option, Some, None, refl, sym, ap, ◌∙◌, append_assoc, arith, ◌⊎◌, inl, inr, lit<}
+use Rattle.std.proofs.lemmas.Bool.Decides.{nat_tests}
+use Rattle.std.specs.Prelude.{codes, decimal, ◌==◌}
+use Rattle.std.specs.List.{AllByRecursion}
+use Rattle.std.proofs.lemmas.Fmt.{decimal_digit}
+use Rattle.mc_base.specs.Text.{hex_text}
+use Rattle.mc_base.specs.declared.name.EndName.{EndName}
+use Rattle.board_model.specs.declared.scenario.DomainLine.{DomainLine}
+use Rattle.board_model.specs.declared.scenario.Call.{Call}
+use Rattle.board_model.specs.declared.scenario.Call.TheVariants.{Create, MsgSend, MsgRecv}
+use Rattle.board_model.specs.declared.scenario.CallLine.{CallLine}
+use Rattle.board_model.specs.Grammar.{spaced, domain_text, name_text, call_words, call_text, IsLawfulName, IsLawfulCall, IsLawfulLine, IsLawfulDomain}
+use Rattle.scenario_lang.specs.Words.{after_word}
+use Rattle.scenario_lang.specs.Lines.{domain_at, name_at, create_at, send_at, receive_at, or_else, call_at, own_at, line_at}
+use Rattle.scenario_lang.proofs.Options.{bind_some, if_some, some_is, carried}
+use Rattle.scenario_lang.proofs.WordLemmas.{after_word-spelled, number_at-decimal, number_at-spelled, positive_at-decimal, positive_at-spelled, bytes_at-hex, bytes_at-spelled}
+
+-- ---- what is spelled is read
+
+pub domain_at-text : (d : DomainLine) (rest : List ℕ) → IsLawfulDomain d → domain_at (domain_text d ++ rest) ≡ Some (d, rest)
+unfolding domain_at
+domain_at-text d rest h =
+    let text : domain_text d ++ rest ≡ codes "domain " ++ (decimal d.domain ++ 32 ∷ (codes "nodes " ++ (decimal d.nodes ++ 32 ∷ (codes "pool " ++ (decimal d.pool ++ 10 ∷ rest))))) = simp append_assoc in
+    ap domain_at text
+    ∙ rw (
+      number_at-decimal 7 d.domain 32 (codes "nodes " ++ (decimal d.nodes ++ 32 ∷ (codes "pool " ++ (decimal d.pool ++ 10 ∷ rest)))) h.domain_fits (omega arith) refl,
+      positive_at-decimal 16 d.nodes 32 (codes "pool " ++ (decimal d.pool ++ 10 ∷ rest)) h.some_nodes h.nodes_fit (omega arith) refl,
+      positive_at-decimal 256 d.pool 10 rest h.some_pool h.pool_fits (omega arith) refl,
+    ) refl
+
+name_at-text : (n : EndName) (rest : List ℕ) → IsLawfulName n → name_at (name_text n ++ 32 ∷ rest) ≡ Some (n, 32 ∷ rest)
+unfolding name_at
+name_at-text n rest h =
+    let text : name_text n ++ 32 ∷ rest ≡ decimal n.domain ++ 58 ∷ (decimal n.node ++ 58 ∷ (decimal n.port ++ 32 ∷ rest)) = simp append_assoc in
+    ap name_at text
+    ∙ rw (
+      number_at-decimal 7 n.domain 58 (decimal n.node ++ 58 ∷ (decimal n.port ++ 32 ∷ rest)) h.0 (omega arith) refl,
+      number_at-decimal 15 n.node 58 (decimal n.port ++ 32 ∷ rest) h.1 (omega arith) refl,
+      number_at-decimal 65535 n.port 32 rest (omega arith) (omega arith) refl,
+    ) refl
+
+create_at-text : (port : ℕ) (rest : List ℕ) → port < 2 ^ 16 → call_at (spaced (call_words (Create port)) ++ 10 ∷ rest) ≡ Some (Create port, 10 ∷ rest)
+unfolding call_at create_at
+create_at-text port rest h = rw (number_at-decimal 65535 port 10 rest (omega arith) (omega arith) refl) refl
+
+regroup_send : (port name priority bytes rest : List ℕ) → spaced (codes "msg_send" ∷ port ∷ name ∷ priority ∷ bytes ∷ []) ++ rest ≡ codes "msg_send " ++ (port ++ 32 ∷ (name ++ 32 ∷ (priority ++ 32 ∷ (bytes ++ rest))))
+regroup_send port name priority bytes rest = simp append_assoc
+
+send_at-text : (port : ℕ) (to : EndName) (bytes rest : List ℕ) → port < 2 ^ 16 → IsLawfulName to → length bytes ≤ 9000 → AllByRecursion (λ b. b < 256) bytes → call_at (spaced (call_words (MsgSend port to 1 bytes)) ++ 10 ∷ rest) ≡ Some (MsgSend port to 1 bytes, 10 ∷ rest)
+unfolding call_at send_at
+send_at-text port to bytes rest h name few small =
+    let one : decimal 1 ≡ 49 ∷ [] = decimal_digit 1 (lit< tt) in
+    let text = regroup_send (decimal port) (name_text to) (decimal 1) (hex_text bytes) (10 ∷ rest) ∙ ap (λ (o : List ℕ). codes "msg_send " ++ (decimal port ++ 32 ∷ (name_text to ++ 32 ∷ (o ++ 32 ∷ (hex_text bytes ++ 10 ∷ rest))))) one in
+    ap call_at text
+    ∙ rw (
+      number_at-decimal 65535 port 32 (name_text to ++ 32 ∷ (49 ∷ 32 ∷ (hex_text bytes ++ 10 ∷ rest))) (omega arith) (omega arith) refl,
+      name_at-text to (49 ∷ 32 ∷ (hex_text bytes ++ 10 ∷ rest)) name,
+      bytes_at-hex bytes rest small few,
+    ) refl
+
+receive_at-text : (port max : ℕ) (rest : List ℕ) → port < 2 ^ 16 → max ≤ 9000 → call_at (spaced (call_words (MsgRecv port max)) ++ 10 ∷ rest) ≡ Some (MsgRecv port max, 10 ∷ rest)
+unfolding call_at receive_at
+receive_at-text port max rest h small =
+    let text : spaced (call_words (MsgRecv port max)) ++ 10 ∷ rest ≡ codes "msg_recv " ++ (decimal port ++ 32 ∷ (decimal max ++ 10 ∷ rest)) = simp append_assoc in
+    ap call_at text
+    ∙ rw (number_at-decimal 65535 port 32 (decimal max ++ 10 ∷ rest) (omega arith) (omega arith) refl, number_at-decimal 9000 max 10 rest small (omega arith) refl) refl
+
+call_at-text : (c : Call) (rest : List ℕ) → IsLawfulCall c → call_at (spaced (call_words c) ++ 10 ∷ rest) ≡ Some (c, 10 ∷ rest)
+call_at-text (Create port) rest h = create_at-text port rest h
+call_at-text (MsgSend port to priority bytes) rest h =
+    let one : priority ≡ 1 = h.2 in
+    rw one (send_at-text port to bytes rest h.0 h.1 h.3 h.4)
+call_at-text (MsgRecv port max) rest h = receive_at-text port max rest h.0 h.1
+
+spaced_after : (w : List ℕ) (c : Call) → spaced (w ∷ call_words c) ≡ w ++ 32 ∷ spaced (call_words c)
+spaced_after w (Create port) = refl
+spaced_after w (MsgSend port to priority bytes) = refl
+spaced_after w (MsgRecv port max) = refl
+
+regroup_line : (domain node call rest : List ℕ) → (((domain ++ (46 ∷ node)) ++ 32 ∷ call) ++ (10 ∷ [])) ++ rest ≡ domain ++ 46 ∷ (node ++ 32 ∷ (call ++ 10 ∷ rest))
+regroup_line domain node call rest = simp append_assoc
+
+pub call_text-is : (c : CallLine) (rest : List ℕ) → call_text c ++ rest ≡ decimal c.domain ++ 46 ∷ (decimal c.node ++ 32 ∷ (spaced (call_words c.call) ++ 10 ∷ rest))
+call_text-is c rest =
+    ap (λ (ds : List ℕ). (ds ++ 10 ∷ []) ++ rest) (spaced_after (decimal c.domain ++ (46 ∷ decimal c.node)) c.call)
+    ∙ regroup_line (decimal c.domain) (decimal c.node) (spaced (call_words c.call)) rest
+
+own_at-text : (domain : ℕ) (rest : List ℕ) → domain ≤ 7 → own_at domain (decimal domain ++ 46 ∷ rest) ≡ Some (46 ∷ rest)
+unfolding own_at
+own_at-text domain rest small =
+    let same : (domain == domain) ≡ true = grind (arith, nat_tests) in
+    rw (number_at-decimal 7 domain 46 rest small (omega arith) refl, same) refl
+
+-- a line whose label and tries are not told
+plain_line : ℕ → ℕ → Call → CallLine
+plain_line domain node call = record { domain = domain; node = node; label = None; tries = None; call = call }
+
+line_is-plain : (domain : ℕ) (c : CallLine) → IsLawfulLine domain c → plain_line domain c.node c.call ≡ c
+unfolding plain_line
+line_is-plain domain c h = rw (← h.told_domain, ← h.no_label, ← h.no_tries) refl
+
+pub line_at-text : (domain : ℕ) (c : CallLine) (rest : List ℕ) → domain ≤ 7 → IsLawfulLine domain c → line_at domain (call_text c ++ rest) ≡ Some (c, rest)
+unfolding line_at plain_line
+line_at-text domain c rest small h =
+    let own : call_text c ++ rest ≡ decimal domain ++ 46 ∷ (decimal c.node ++ 32 ∷ (spaced (call_words c.call) ++ 10 ∷ rest)) = call_text-is c rest ∙ ap (λ (d : ℕ). decimal d ++ 46 ∷ (decimal c.node ++ 32 ∷ (spaced (call_words c.call) ++ 10 ∷ rest))) h.told_domain in
+    ap (line_at domain) own
+    ∙ rw (
+      own_at-text domain (decimal c.node ++ 32 ∷ (spaced (call_words c.call) ++ 10 ∷ rest)) small,
+      number_at-decimal 15 c.node 32 (spaced (call_words c.call) ++ 10 ∷ rest) h.node_fits (omega arith) refl,
+      call_at-text c.call rest h.call_fits,
+    ) (ap (λ (l : CallLine). Some (l, rest)) (line_is-plain domain c h))
+
+-- ---- what is read is spelled so
+
+pub record IsDomain (text : List ℕ) (d : DomainLine) (rest : List ℕ) : Type 0 where
+  pub spelled : text ≡ domain_text d ++ rest
+  pub lawful : IsLawfulDomain d
+
+regroup_domain : (d n p rest : List ℕ) → codes "domain " ++ (d ++ (codes " nodes " ++ (n ++ (codes " pool " ++ (p ++ (codes "\n" ++ rest)))))) ≡ (spaced (codes "domain" ∷ d ∷ codes "nodes" ∷ n ∷ codes "pool" ∷ p ∷ []) ++ (10 ∷ [])) ++ rest
+regroup_domain d n p rest = simp append_assoc
+
+pub domain_at-spelled : (text : List ℕ) (d : DomainLine) (rest : List ℕ) → domain_at text ≡ Some (d, rest) → IsDomain text d rest
+unfolding domain_at
+domain_at-spelled text d rest h =
+    let r0 = bind_some _ _ _ h in
+    let w0 = after_word-spelled (codes "domain ") text r0.0 r0.1 in
+    let a = bind_some _ _ _ r0.2 in
+    let domain = number_at-spelled 7 r0.0 a.0.0 a.0.1 (omega arith) a.1 in
+    let r1 = bind_some _ _ _ a.2 in
+    let w1 = after_word-spelled (codes " nodes ") a.0.1 r1.0 r1.1 in
+    let b = bind_some _ _ _ r1.2 in
+    let nodes = positive_at-spelled 16 r1.0 b.0.0 b.0.1 (omega arith) b.1 in
+    let r2 = bind_some _ _ _ b.2 in
+    let w2 = after_word-spelled (codes " pool ") b.0.1 r2.0 r2.1 in
+    let c = bind_some _ _ _ r2.2 in
+    let pool = positive_at-spelled 256 r2.0 c.0.0 c.0.1 (omega arith) c.1 in
+    let r3 = bind_some _ _ _ c.2 in
+    let w3 = after_word-spelled (codes "\n") c.0.1 r3.0 r3.1 in
+    let told : DomainLine = record { domain = a.0.0; nodes = b.0.0; pool = c.0.0 } in
+    let spelled : text ≡ domain_text told ++ r3.0 = w0 ∙ ap (λ (t : List ℕ). codes "domain " ++ t) (domain.spelled ∙ ap (λ (t : List ℕ). decimal a.0.0 ++ t) (w1 ∙ ap (λ (t : List ℕ). codes " nodes " ++ t) (nodes.spelled ∙ ap (λ (t : List ℕ). decimal b.0.0 ++ t) (w2 ∙ ap (λ (t : List ℕ). codes " pool " ++ t) (pool.spelled ∙ ap (λ (t : List ℕ). decimal c.0.0 ++ t) w3))))) ∙ regroup_domain (decimal a.0.0) (decimal b.0.0) (decimal c.0.0) r3.0 in
+    let all : IsDomain text told r3.0 = record { spelled = spelled; lawful = record { domain_fits = domain.within; some_nodes = nodes.some; nodes_fit = nodes.within; some_pool = pool.some; pool_fits = pool.within } } in
+    carried (IsDomain text) told d r3.0 rest r3.2 all
+
+pub record IsName (text : List ℕ) (n : EndName) (rest : List ℕ) : Type 0 where
+  pub spelled : text ≡ name_text n ++ rest
+  pub lawful : IsLawfulName n
+
+regroup_name : (d n p rest : List ℕ) → d ++ (codes ":" ++ (n ++ (codes ":" ++ (p ++ rest)))) ≡ (d ++ (58 ∷ (n ++ (58 ∷ p)))) ++ rest
+regroup_name d n p rest = simp append_assoc
+
+name_at-spelled : (text : List ℕ) (n : EndName) (rest : List ℕ) → name_at text ≡ Some (n, rest) → IsName text n rest
+unfolding name_at
+name_at-spelled text n rest h =
+    let a = bind_some _ _ _ h in
+    let domain = number_at-spelled 7 text a.0.0 a.0.1 (omega arith) a.1 in
+    let r0 = bind_some _ _ _ a.2 in
+    let w0 = after_word-spelled (codes ":") a.0.1 r0.0 r0.1 in
+    let b = bind_some _ _ _ r0.2 in
+    let node = number_at-spelled 15 r0.0 b.0.0 b.0.1 (omega arith) b.1 in
+    let r1 = bind_some _ _ _ b.2 in
+    let w1 = after_word-spelled (codes ":") b.0.1 r1.0 r1.1 in
+    let c = bind_some _ _ _ r1.2 in
+    let port = number_at-spelled 65535 r1.0 c.0.0 c.0.1 (omega arith) c.1 in
+    let told : EndName = record { domain = a.0.0; node = b.0.0; port = c.0.0 } in
+    let spelled : text ≡ name_text told ++ c.0.1 = domain.spelled ∙ ap (λ (t : List ℕ). decimal a.0.0 ++ t) (w0 ∙ ap (λ (t : List ℕ). codes ":" ++ t) (node.spelled ∙ ap (λ (t : List ℕ). decimal b.0.0 ++ t) (w1 ∙ ap (λ (t : List ℕ). codes ":" ++ t) port.spelled))) ∙ regroup_name (decimal a.0.0) (decimal b.0.0) (decimal c.0.0) c.0.1 in
+    let all : IsName text told c.0.1 = record { spelled = spelled; lawful = (domain.within, node.within, omega (arith, port.within)) } in
+    carried (IsName text) told n c.0.1 rest c.2 all
+
+-- a call, where the bytes begin after its word and the space that follows it
+record IsCall (word text : List ℕ) (c : Call) (rest : List ℕ) : Type 0 where
+  pub spelled : word ++ text ≡ spaced (call_words c) ++ rest
+  pub lawful : IsLawfulCall c
+
+regroup_create : (port rest : List ℕ) → codes "create " ++ (port ++ rest) ≡ spaced (codes "create" ∷ port ∷ []) ++ rest
+regroup_create port rest = simp append_assoc
+
+create_at-spelled : (text : List ℕ) (c : Call) (rest : List ℕ) → create_at text ≡ Some (c, rest) → IsCall (codes "create ") text c rest
+unfolding create_at
+create_at-spelled text c rest h =
+    let a = bind_some _ _ _ h in
+    let port = number_at-spelled 65535 text a.0.0 a.0.1 (omega arith) a.1 in
+    let all : IsCall (codes "create ") text (Create a.0.0) a.0.1 = record {
+      spelled = ap (λ (t : List ℕ). codes "create " ++ t) port.spelled ∙ regroup_create (decimal a.0.0) a.0.1;
+      lawful = omega (arith, port.within);
+    } in
+    carried (IsCall (codes "create ") text) (Create a.0.0) c a.0.1 rest a.2 all
+
+regroup_read_send : (port name priority bytes rest : List ℕ) → priority ≡ 49 ∷ [] → codes "msg_send " ++ (port ++ (codes " " ++ (name ++ (codes " 1 " ++ (bytes ++ rest))))) ≡ spaced (codes "msg_send" ∷ port ∷ name ∷ priority ∷ bytes ∷ []) ++ rest
+regroup_read_send port name priority bytes rest one = ap (λ (o : List ℕ). codes "msg_send " ++ (port ++ 32 ∷ (name ++ 32 ∷ (o ++ 32 ∷ (bytes ++ rest))))) (sym one) ∙ sym (regroup_send port name priority bytes rest)
+
+send_at-spelled : (text : List ℕ) (c : Call) (rest : List ℕ) → send_at text ≡ Some (c, rest) → IsCall (codes "msg_send ") text c rest
+unfolding send_at
+send_at-spelled text c rest h =
+    let a = bind_some _ _ _ h in
+    let port = number_at-spelled 65535 text a.0.0 a.0.1 (omega arith) a.1 in
+    let r0 = bind_some _ _ _ a.2 in
+    let w0 = after_word-spelled (codes " ") a.0.1 r0.0 r0.1 in
+    let b = bind_some _ _ _ r0.2 in
+    let to = name_at-spelled r0.0 b.0.0 b.0.1 b.1 in
+    let r1 = bind_some _ _ _ b.2 in
+    let w1 = after_word-spelled (codes " 1 ") b.0.1 r1.0 r1.1 in
+    let d = bind_some _ _ _ r1.2 in
+    let bytes = bytes_at-spelled r1.0 d.0.0 d.0.1 d.1 in
+    let told : Call = MsgSend a.0.0 b.0.0 1 d.0.0 in
+    let spelled : codes "msg_send " ++ text ≡ spaced (call_words told) ++ d.0.1 = ap (λ (t : List ℕ). codes "msg_send " ++ t) (port.spelled ∙ ap (λ (t : List ℕ). decimal a.0.0 ++ t) (w0 ∙ ap (λ (t : List ℕ). codes " " ++ t) (to.spelled ∙ ap (λ (t : List ℕ). name_text b.0.0 ++ t) (w1 ∙ ap (λ (t : List ℕ). codes " 1 " ++ t) bytes.spelled)))) ∙ regroup_read_send (decimal a.0.0) (name_text b.0.0) (decimal 1) (hex_text d.0.0) d.0.1 (decimal_digit 1 (lit< tt)) in
+    let all : IsCall (codes "msg_send ") text told d.0.1 = record { spelled = spelled; lawful = (omega (arith, port.within), to.lawful, refl, bytes.few, bytes.small) } in
+    carried (IsCall (codes "msg_send ") text) told c d.0.1 rest d.2 all
+
+regroup_receive : (port max rest : List ℕ) → codes "msg_recv " ++ (port ++ (codes " " ++ (max ++ rest))) ≡ spaced (codes "msg_recv" ∷ port ∷ max ∷ []) ++ rest
+regroup_receive port max rest = simp append_assoc
+
+receive_at-spelled : (text : List ℕ) (c : Call) (rest : List ℕ) → receive_at text ≡ Some (c, rest) → IsCall (codes "msg_recv ") text c rest
+unfolding receive_at
+receive_at-spelled text c rest h =
+    let a = bind_some _ _ _ h in
+    let port = number_at-spelled 65535 text a.0.0 a.0.1 (omega arith) a.1 in
+    let r0 = bind_some _ _ _ a.2 in
+    let w0 = after_word-spelled (codes " ") a.0.1 r0.0 r0.1 in
+    let b = bind_some _ _ _ r0.2 in
+    let max = number_at-spelled 9000 r0.0 b.0.0 b.0.1 (omega arith) b.1 in
+    let told : Call = MsgRecv a.0.0 b.0.0 in
+    let spelled : codes "msg_recv " ++ text ≡ spaced (call_words told) ++ b.0.1 = ap (λ (t : List ℕ). codes "msg_recv " ++ t) (port.spelled ∙ ap (λ (t : List ℕ). decimal a.0.0 ++ t) (w0 ∙ ap (λ (t : List ℕ). codes " " ++ t) max.spelled)) ∙ regroup_receive (decimal a.0.0) (decimal b.0.0) b.0.1 in
+    let all : IsCall (codes "msg_recv ") text told b.0.1 = record { spelled = spelled; lawful = (omega (arith, port.within), max.within) } in
+    carried (IsCall (codes "msg_recv ") text) told c b.0.1 rest b.2 all
+
+-- the first reader of two that gives a value
+or_else_some : {A B : Type 0} (o : Option A) (f : A → Option B) (other : Option B) (y : B) → or_else o f other ≡ Some y → ((x : A) × (o ≡ Some x) × (f x ≡ Some y)) ⊎ (other ≡ Some y)
+or_else_some None f other y h = inr h
+or_else_some (Some x) f other y h = inl (x, refl, h)
+
+with_word : (word text after : List ℕ) (c : Call) (rest : List ℕ) → after_word word text ≡ Some after → IsCall word after c rest → IsCall [] text c rest
+with_word word text after c rest front h = record { spelled = after_word-spelled word text after front ∙ h.spelled; lawful = h.lawful }
+
+call_at-spelled : (text : List ℕ) (c : Call) (rest : List ℕ) → call_at text ≡ Some (c, rest) → IsCall [] text c rest
+unfolding call_at
+call_at-spelled text c rest h = elim (or_else_some (after_word (codes "create ") text) create_at _ (c, rest) h) [
+  | inl create ↦ with_word (codes "create ") text create.0 c rest create.1 (create_at-spelled create.0 c rest create.2)
+  | inr others ↦ elim (or_else_some (after_word (codes "msg_send ") text) send_at _ (c, rest) others) [
+    | inl send ↦ with_word (codes "msg_send ") text send.0 c rest send.1 (send_at-spelled send.0 c rest send.2)
+    | inr last ↦ elim (or_else_some (after_word (codes "msg_recv ") text) receive_at None (c, rest) last) [
+      | inl receive ↦ with_word (codes "msg_recv ") text receive.0 c rest receive.1 (receive_at-spelled receive.0 c rest receive.2)
+      | inr nothing ↦ absurd cc
+    ]
+  ]
+]
+
+own_at-spelled : (domain : ℕ) (text rest : List ℕ) → own_at domain text ≡ Some rest → text ≡ decimal domain ++ rest
+unfolding own_at
+own_at-spelled domain text rest h =
+    let a = bind_some _ _ _ h in
+    let told = number_at-spelled 7 text a.0.0 a.0.1 (omega arith) a.1 in
+    let k = if_some (a.0.0 == domain) (Some a.0.1) rest a.2 in
+    let tested : (a.0.0 == domain) ≡ true = k.0 in
+    let own : a.0.0 ≡ domain = grind (arith, nat_tests) in
+    let after : a.0.1 ≡ rest = some_is a.0.1 rest k.1 in
+    told.spelled ∙ ap (λ (d : ℕ). decimal d ++ a.0.1) own ∙ ap (λ (t : List ℕ). decimal domain ++ t) after
+
+pub record IsLine (domain : ℕ) (text : List ℕ) (c : CallLine) (rest : List ℕ) : Type 0 where
+  pub spelled : text ≡ call_text c ++ rest
+  pub lawful : IsLawfulLine domain c
+
+pub line_at-spelled : (domain : ℕ) (text : List ℕ) (c : CallLine) (rest : List ℕ) → line_at domain text ≡ Some (c, rest) → IsLine domain text c rest
+unfolding line_at
+line_at-spelled domain text c rest h =
+    let a = bind_some _ _ _ h in
+    let own = own_at-spelled domain text a.0 a.1 in
+    let r0 = bind_some _ _ _ a.2 in
+    let w0 = after_word-spelled (codes ".") a.0 r0.0 r0.1 in
+    let b = bind_some _ _ _ r0.2 in
+    let node = number_at-spelled 15 r0.0 b.0.0 b.0.1 (omega arith) b.1 in
+    let r1 = bind_some _ _ _ b.2 in
+    let w1 = after_word-spelled (codes " ") b.0.1 r1.0 r1.1 in
+    let d = bind_some _ _ _ r1.2 in
+    let call = call_at-spelled r1.0 d.0.0 d.0.1 d.1 in
+    let r2 = bind_some _ _ _ d.2 in
+    let w2 = after_word-spelled (codes "\n") d.0.1 r2.0 r2.1 in
+    let told : CallLine = record { domain = domain; node = b.0.0; label = None; tries = None; call = d.0.0 } in
+    let spelled : text ≡ call_text told ++ r2.0 = own ∙ ap (λ (t : List ℕ). decimal domain ++ t) (w0 ∙ ap (λ (t : List ℕ). 46 ∷ t) (node.spelled ∙ ap (λ (t : List ℕ). decimal b.0.0 ++ t) (w1 ∙ ap (λ (t : List ℕ). 32 ∷ t) (call.spelled ∙ ap (λ (t : List ℕ). spaced (call_words d.0.0) ++ t) w2)))) ∙ sym (call_text-is told r2.0) in
+    let all : IsLine domain text told r2.0 = record { spelled = spelled; lawful = record { told_domain = refl; node_fits = node.within; no_label = refl; no_tries = refl; call_fits = call.lawful } } in
+    carried (IsLine domain text) told c r2.0 rest r2.2 all

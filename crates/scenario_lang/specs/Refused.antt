@@ -1,0 +1,27 @@
+-- What is said of a refusal alone, and not of want of memory.
+-- Source: docs/PROFILE.md: want of memory is the one answer that may come at any time.
+use Rattle.std.specs.Prelude.{ℕ, Result, Ok, Err}
+use Rattle.scenario_lang.specs.declared.fault.LineReason.{LineReason}
+use Rattle.scenario_lang.specs.declared.fault.LineFault.{LineFault}
+use Rattle.scenario_lang.specs.declared.fault.LineFault.TheVariants as line_fault
+use Rattle.scenario_lang.specs.declared.fault.ScenarioFault.{ScenarioFault}
+use Rattle.scenario_lang.specs.declared.fault.ScenarioFault.TheVariants as scenario_fault
+
+-- a fact of the line and the reason of a refusal
+abbrev pub IfRefused : {X : Type 0} → Result X ScenarioFault → (ℕ → LineReason → Type 0) → Type 0
+IfRefused (Ok x) P = Unit {0}
+IfRefused (Err scenario_fault.NoMemory) P = Unit {0}
+IfRefused (Err (scenario_fault.Refused line reason)) P = P line reason
+
+-- a fact where the text is refused
+abbrev pub OnRefused : {X : Type 0} → Result X ScenarioFault → Type 0 → Type 0
+OnRefused r P = IfRefused r (λ line reason. P)
+
+-- the same of a part of the text
+abbrev pub AtRefusal : LineFault → Type 0 → Type 0
+AtRefusal line_fault.NoMemory P = Unit {0}
+AtRefusal (line_fault.Refused reason) P = P
+
+abbrev pub OnStopped : {X : Type 0} → Result X LineFault → Type 0 → Type 0
+OnStopped (Ok x) P = Unit {0}
+OnStopped (Err e) P = AtRefusal e P

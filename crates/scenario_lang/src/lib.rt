@@ -1,0 +1,20 @@
+//! Scenario files: a text is read as the scenario that it tells, and a scenario is written as its text.
+//!
+//! What the grammar is stands in `board_model`: `IsScenario` says which texts tell which scenario, and `canonical` is the
+//! text of a scenario. `specs/` here says how the readers go over a text. That they find exactly the scenarios of the
+//! grammar is proved, and the contract of `read_scenario` says so without them.
+#![tactic(auto)]
+
+mod canonical;
+mod fault;
+mod reading;
+mod words;
+mod writing;
+
+pub use canonical::put_scenario;
+pub use fault::{LineReason, ScenarioFault};
+pub use reading::read_scenario;
+pub use writing::write_scenario;
+
+#[cfg(test)]
+mod tests;
