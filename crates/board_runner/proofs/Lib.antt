@@ -1,0 +1,4 @@
+pub mod CountLemmas
+pub mod ReportLemmas
+pub mod LineLemmas
+pub mod NumberLemmas

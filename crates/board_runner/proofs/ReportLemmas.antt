@@ -1,0 +1,27 @@
+-- The text of a call's line, piece by piece.
+use Rattle.std.proofs.Common.{◌≡◌, List, ℕ, [], ◌∷◌, ◌++◌, length, get_or, append_assoc, append-nil, ap, sym, ◌∙◌, arith}
+use Rattle.std.specs.Prelude.{codes, decimal}
+use Rattle.board_model.specs.declared.scenario.DomainLine.{DomainLine}
+use Rattle.board_model.specs.Scenario.{rising_from}
+use Rattle.board_model.specs.Journal.{PlainAnswer, refuses, agrees, tells, gives}
+use Rattle.board_model.specs.Grammar.{spaced, line_of}
+use Rattle.board_model.specs.Report.{answer_words, lines_text, journals_text}
+use Rattle.domain_core.specs.Written.{Written}
+use Rattle.board_runner.specs.Outcome.{lines_in}
+
+-- the number stands before the words of the answer
+pub line_of-answer : (number : List ℕ) (a : PlainAnswer) → line_of (codes "call" ∷ number ∷ answer_words a) ≡ codes "call " ++ (number ++ (codes " " ++ (spaced (answer_words a) ++ (10 ∷ []))))
+line_of-answer number (refuses word) = simp append_assoc
+line_of-answer number agrees = simp append_assoc
+line_of-answer number (tells n) = simp append_assoc
+line_of-answer number (gives size bytes) = simp append_assoc
+
+-- where there is one domain and one journal, they are the first ones
+pub one_journal : (domains : List DomainLine) (journals : List Written) (none : DomainLine) (j : Written) (d : DomainLine) → domains ≡ d ∷ [] → length journals ≡ length domains → j ≡ get_or journals 0 j
+    → journals_text (rising_from domains) (lines_in journals) ≡ line_of (codes "journal" ∷ decimal (get_or domains 0 none).domain ∷ []) ++ lines_text j.lines
+one_journal [] journals none j d one len is = absurd cc
+one_journal (x ∷ []) [] none j d one len is = absurd (omega arith)
+one_journal (x ∷ []) (y ∷ []) none j d one len is =
+    append-nil (line_of (codes "journal" ∷ decimal x.domain ∷ []) ++ lines_text y.lines) ∙ ap (λ (w : Written). line_of (codes "journal" ∷ decimal x.domain ∷ []) ++ lines_text w.lines) (sym is)
+one_journal (x ∷ []) (y ∷ z ∷ journals) none j d one len is = absurd (omega arith)
+one_journal (x ∷ w ∷ domains) journals none j d one len is = absurd cc

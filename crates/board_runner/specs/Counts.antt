@@ -1,0 +1,6 @@
+-- A test as a number to add up.
+-- Source: plain counting.
+use Rattle.std.specs.Prelude.{ℕ, Bool, if◌then◌else◌}
+
+abbrev pub one_if : Bool → ℕ
+one_if b = if b then 1 else 0

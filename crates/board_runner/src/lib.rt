@@ -1,0 +1,18 @@
+//! Runs a board by its scenario, and writes the report of the run.
+//!
+//! The serial run makes the calls in the file's order, and each look shows all that stands. The report goes to a sink
+//! piece by piece and takes no memory.
+#![tactic(auto)]
+
+mod counts;
+mod line;
+mod numbers;
+mod outcome;
+mod report;
+mod serial;
+#[cfg(test)]
+mod tests;
+
+pub use outcome::Outcome;
+pub use report::write_report;
+pub use serial::run_serial;

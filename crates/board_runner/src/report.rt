@@ -1,0 +1,112 @@
+ghost use Rattle.std.specs.Prelude.{◌≡◌, ◌≤◌, ◌++◌, ◌∷◌, [], ℕ, length, codes, decimal, IsOk};
+ghost use Rattle.std.specs.List.{flat_map};
+ghost use Rattle.outer_io.specs.Faults.{HasCause};
+ghost use Rattle.outer_io.specs.Writes.{Writes};
+ghost use Rattle.outer_io.specs.Puts.{Puts};
+ghost use Rattle.board_model.specs.Grammar.{IsLawful, line_of};
+ghost use Rattle.board_model.specs.Report.{report_of, lines_text, messages_text, places_text};
+ghost use Rattle.board_runner.specs.Outcome.{lines_in};
+
+mod entry;
+mod words;
+
+use crate::Outcome;
+use board_model::{LanePlaces, Scenario, Totals};
+use domain_core::Journal;
+use entry::put_entry;
+use outer_io::{Failed, Sink, Writer};
+use scenario_lang::put_scenario;
+
+/// Writes the report: the scenario, the journal of each domain, and what became of messages and buffers. It goes to the
+/// sink piece by piece and takes no memory. The outcome has one journal for each domain of the scenario. `Failed` comes
+/// where a write failed; a proper prefix of the report was written then.
+pub fn write_report<K: Sink>(
+    scenario: &Scenario,
+    outcome: &Outcome,
+    sink: &mut K,
+) -> Result<(), Failed>
+    requires lawful { IsLawful scenario.now }
+    requires one_each { length outcome.now.journals ≡ length scenario.now.domains }
+    ensures bytes { Writes (K.written sink.old) (K.written sink.new) result (report_of scenario.now (lines_in outcome.now.journals) outcome.now.messages outcome.now.places) }
+    ensures cause { HasCause (K.faults sink.old) (K.faults sink.new) result }
+    ensures room { (n : ℕ) → K.takes sink.old n → length (report_of scenario.now (lines_in outcome.now.journals) outcome.now.messages outcome.now.places) ≤ n → IsOk result }
+{
+    let mut out = Writer::new(sink);
+    put_report(&mut out, scenario, outcome);
+    out.finish()
+}
+
+fn put_report<K: Sink>(out: &mut Writer<'_, K>, scenario: &Scenario, outcome: &Outcome)
+    requires lawful { IsLawful scenario.now }
+    requires one_each { length outcome.now.journals ≡ length scenario.now.domains }
+    ensures { Puts K.Sink out.old out.new (report_of scenario.now (lines_in outcome.now.journals) outcome.now.messages outcome.now.places) }
+{
+    let domain = scenario.domains.as_slice()[0];
+    out.put(b"mcapi-report 1 serial\n");
+    put_scenario(out, scenario);
+    put_journal(out, domain.domain, &outcome.journals.as_slice()[0]);
+    put_messages(out, &outcome.messages);
+    put_lanes(out, outcome.places.as_slice());
+    out.put(b"end\n");
+}
+
+/// The journal of a domain.
+fn put_journal<K: Sink>(out: &mut Writer<'_, K>, domain: u8, journal: &Journal)
+    ensures { Puts K.Sink out.old out.new (line_of (codes "journal" ∷ decimal domain ∷ []) ++ lines_text journal.now.lines) }
+{
+    out.put(b"journal ");
+    out.put_number(domain as u64);
+    out.put(b"\n");
+    put_entries(out, journal);
+}
+
+fn put_entries<K: Sink>(out: &mut Writer<'_, K>, journal: &Journal)
+    ensures { Puts K.Sink out.old out.new (lines_text journal.now.lines) }
+{
+    for at in 0..journal.len() {
+        let entry = journal.entry(at).unwrap();
+        put_entry(out, entry);
+    }
+}
+
+fn put_messages<K: Sink>(out: &mut Writer<'_, K>, totals: &Totals)
+    ensures { Puts K.Sink out.old out.new (messages_text totals.now) }
+{
+    out.put(b"messages accepted ");
+    out.put_number(totals.accepted);
+    out.put(b" taken ");
+    out.put_number(totals.taken);
+    out.put(b" dropped ");
+    out.put_number(totals.dropped);
+    out.put(b" queued ");
+    out.put_number(totals.queued);
+    out.put(b" ring ");
+    out.put_number(totals.ring);
+    out.put(b"\n");
+}
+
+fn put_lanes<K: Sink>(out: &mut Writer<'_, K>, lanes: &[LanePlaces])
+    ensures { Puts K.Sink out.old out.new (flat_map places_text lanes.now) }
+{
+    for lane in lanes {
+        put_lane(out, lane);
+    }
+}
+
+fn put_lane<K: Sink>(out: &mut Writer<'_, K>, lane: &LanePlaces)
+    ensures { Puts K.Sink out.old out.new (places_text lane.now) }
+{
+    out.put(b"lane ");
+    out.put_number(lane.from as u64);
+    out.put(b" ");
+    out.put_number(lane.to as u64);
+    out.put(b" free ");
+    out.put_number(lane.free as u64);
+    out.put(b" ring ");
+    out.put_number(lane.ring as u64);
+    out.put(b" queue ");
+    out.put_number(lane.queue as u64);
+    out.put(b" lent ");
+    out.put_number(lane.lent as u64);
+    out.put(b"\n");
+}
