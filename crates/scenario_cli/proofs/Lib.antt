@@ -1,0 +1,4 @@
+pub mod Written
+pub mod Inputs
+pub mod TwoWords
+pub mod Statuses

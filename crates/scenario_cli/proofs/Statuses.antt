@@ -1,0 +1,17 @@
+-- The statuses that are left where one cannot come.
+use Rattle.std.proofs.Common.{◌≡◌, ◌≢◌, ℕ, ◌∷◌, [], inl, inr}
+use Rattle.scenario_cli.specs.Words.{IsOneOf}
+
+pub not_three : (n : ℕ) → IsOneOf (0 ∷ 3 ∷ 5 ∷ 6 ∷ []) n → n ≢ 3 → IsOneOf (0 ∷ 4 ∷ 5 ∷ 6 ∷ []) n
+not_three n (inl e) ne = inl e
+not_three n (inr (inl e)) ne = absurd (ne e)
+not_three n (inr (inr (inl e))) ne = inr (inr (inl e))
+not_three n (inr (inr (inr (inl e)))) ne = inr (inr (inr (inl e)))
+not_three n (inr (inr (inr (inr h)))) ne = absurd h
+
+pub not_zero : (n : ℕ) → IsOneOf (0 ∷ 3 ∷ 5 ∷ 6 ∷ []) n → n ≢ 0 → IsOneOf (3 ∷ 4 ∷ 5 ∷ 6 ∷ []) n
+not_zero n (inl e) ne = absurd (ne e)
+not_zero n (inr (inl e)) ne = inl e
+not_zero n (inr (inr (inl e))) ne = inr (inr (inl e))
+not_zero n (inr (inr (inr (inl e)))) ne = inr (inr (inr (inl e)))
+not_zero n (inr (inr (inr (inr h)))) ne = absurd h

@@ -1,0 +1,31 @@
+-- The status after a write, and what the write left.
+use Rattle.std.proofs.Common.{◌≡◌, ◌≢◌, ℕ, ◌≤◌, List, length, Option, Result, Ok, Err, sym, ap, ◌∙◌, subst}
+use Rattle.std.specs.Prelude.{OnOk, OnErr, IsOk}
+use Rattle.std.specs.Io.KnownBytes.{Appends}
+use Rattle.outer_io.specs.declared.Failed.{Failed}
+use Rattle.outer_io.specs.Writes.{Writes, AppendsPart}
+use Rattle.board_model.specs.declared.scenario.Scenario.{Scenario}
+use Rattle.board_model.specs.Serial.{serial}
+use Rattle.board_model.specs.Report.{report, report_of}
+use Rattle.board_runner.specs.declared.outcome.Outcome.{Outcome}
+use Rattle.board_runner.specs.Outcome.{IsOutcome, lines_in}
+
+-- no failure, so the whole text stands
+pub whole_text : (r : Result (Unit {0}) Failed) (status : ℕ) (old new : Option (List ℕ)) (text : List ℕ) → OnErr r (status ≡ 5) → Writes old new r text → status ≢ 5 → Appends old new text
+whole_text (Ok x) status old new text failed wrote ne = wrote
+whole_text (Err e) status old new text failed wrote ne = absurd (ne failed)
+
+-- a failure, so a proper prefix does
+pub part_text : (r : Result (Unit {0}) Failed) (status n : ℕ) (old new : Option (List ℕ)) (text : List ℕ) → OnOk r (status ≡ n) → n ≢ 5 → Writes old new r text → status ≡ 5 → AppendsPart old new text
+part_text (Ok x) status n old new text whole ne wrote is = absurd (ne (sym whole ∙ is))
+part_text (Err e) status n old new text whole ne wrote is = wrote
+
+-- with room there is no failure
+pub no_failure : (r : Result (Unit {0}) Failed) (status n : ℕ) → OnOk r (status ≡ n) → n ≢ 5 → IsOk r → status ≢ 5
+no_failure (Ok x) status n whole ne ok is = ne (sym whole ∙ is)
+no_failure (Err e) status n whole ne ok is = absurd cc
+
+-- the outcome of the serial run has its report
+pub report_of-outcome : (s : Scenario) (o : Outcome) → IsOutcome s o (serial s) → report_of s (lines_in o.journals) o.messages o.places ≡ report s (serial s)
+unfolding report
+report_of-outcome s o is = rw (is.journals, is.messages, is.places) (cc)

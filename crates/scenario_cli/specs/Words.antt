@@ -1,0 +1,29 @@
+-- The words of the program, its fixed texts and its limit.
+-- Source: README.md, "Forms and statuses".
+use Rattle.std.specs.Prelude.{◌≡◌, ◌⊎◌, ℕ, List, [], ◌∷◌, map, codes, string_bytes, String}
+use Rattle.std.specs.Global.{Global}
+
+-- the words as bytes
+abbrev pub words_of : List (String Global) → List (List ℕ)
+words_of words = map (λ w. string_bytes w) words
+
+-- the words of the one form that there is: run --serial
+abbrev pub IsSerialRun : List (List ℕ) → Type 0
+IsSerialRun words = words ≡ codes "run" ∷ codes "--serial" ∷ []
+
+-- what is written where the words are none of the forms
+abbrev pub usage_text : List ℕ
+usage_text = codes "usage: mcrun run | run --serial | check | frame | ring | load N\n"
+
+-- what is written where the input is no scenario
+abbrev pub refusal_text : List ℕ
+refusal_text = codes "refused 1 unbuilt\n"
+
+-- the most bytes of an input
+abbrev pub input_limit : ℕ
+input_limit = 8388608
+
+-- the status is one of these
+abbrev pub IsOneOf : List ℕ → ℕ → Type 0
+IsOneOf [] status = ⊥
+IsOneOf (s ∷ ss) status = (status ≡ s) ⊎ IsOneOf ss status

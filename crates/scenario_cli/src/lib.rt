@@ -1,0 +1,10 @@
+//! The program `mcrun` as a call: words and a source in, a sink and a status out.
+#![tactic(auto)]
+
+mod run;
+mod status;
+#[cfg(test)]
+mod tests;
+mod top;
+
+pub use top::mcrun;

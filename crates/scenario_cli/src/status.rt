@@ -1,0 +1,37 @@
+//! The statuses that the program ends with.
+
+ghost use Rattle.std.specs.Prelude.{◌≡◌, OnOk, OnErr};
+
+use outer_io::Failed;
+
+/// The input was read to its end, and the output is written whole.
+pub const DONE: u8 = 0;
+
+/// The words are none of the forms.
+pub const USAGE: u8 = 2;
+
+/// The scenario is outside the grammar.
+pub const REFUSED: u8 = 3;
+
+/// The source failed.
+pub const READ_FAILED: u8 = 4;
+
+/// The sink failed.
+pub const WRITE_FAILED: u8 = 5;
+
+/// Want of memory.
+pub const NO_MEMORY: u8 = 6;
+
+/// More bytes came than the limit.
+pub const TOO_LONG: u8 = 7;
+
+/// The status after a write that would have come with this one.
+pub fn after_write(written: Result<(), Failed>, status: u8) -> u8
+    ensures whole { OnOk written (result ≡ status) }
+    ensures failed { OnErr written (result ≡ 5) }
+{
+    match written {
+        Ok(()) => status,
+        Err(Failed) => WRITE_FAILED,
+    }
+}
