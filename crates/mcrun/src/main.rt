@@ -1,0 +1,41 @@
+//! The program `mcrun`: its words are the arguments, its input and output the standard streams, and it ends with the
+//! status that the top call answers.
+#![tactic(auto)]
+
+use outer_io::{StdSink, StdSource};
+use scenario_cli::mcrun;
+use std::alloc::Global;
+use std::process::ExitCode;
+use std::rt::Env;
+use std::{env, io};
+
+/// The status at want of memory for the words.
+const NO_MEMORY: u8 = 6;
+
+fn main(rt: HostRuntime) -> ExitCode {
+    let Some(words) = words(&rt, rt.alloc()) else {
+        return ExitCode::from(NO_MEMORY);
+    };
+    let mut input = StdSource::new(rt.reader());
+    let mut output = StdSink::new(io::writer(&rt));
+    ExitCode::from(mcrun(&rt, rt.alloc(), &words, &mut input, &mut output))
+}
+
+/// The words after the program's name, or `None` at want of memory. An argument that is no text is none of the words of
+/// any form, so then there are no words.
+fn words<R: Env + AllocGlobal>(rt: &R, alloc: Global) -> Option<Vec<String>> {
+    let mut words = Vec::new(alloc);
+    match env::args(rt) {
+        Ok(args) => {
+            for word in args.skip(1) {
+                words.push(word).ok()?;
+            }
+        }
+        Err(fault) => {
+            if fault.kind() == io::ErrorKind::OutOfMemory {
+                return None;
+            }
+        }
+    }
+    Some(words)
+}
