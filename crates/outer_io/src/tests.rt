@@ -182,7 +182,6 @@ fn put_line<K: Sink>(out: &mut Writer<'_, K>, n: u64, bytes: &[u8])
     out.put(b"\n");
 }
 
-#[tactic(auto, unfolding(crate::specs::Puts::Puts))]
 fn write_line<K: Sink>(sink: &mut K, n: u64, bytes: &[u8]) -> Result<(), Failed>
     ensures bytes { Writes (K.written sink.old) (K.written sink.new) result (codes "line " ++ decimal n ++ codes " " ++ hex_text bytes.now ++ codes "\n") }
     ensures cause { HasCause (K.faults sink.old) (K.faults sink.new) result }
@@ -204,7 +203,7 @@ fn writes_piece_by_piece(rt: HostRuntime) -> Result<(), Fail> {
         (1, 34, 34),
         (1, 25, 25),
         (99, 0, 0),
-        (99, 3, 26),
+        (10, 3, 30),
     ] {
         let mut sink = MemSink::new(alloc, [failing].to_vec(alloc)?, step, 99)
             .ok()
@@ -232,6 +231,26 @@ fn hexadecimal_in_long_and_short(rt: HostRuntime) -> Result<(), Fail> {
         sink.written().get(..22).ok_or("short")?,
         b"line 7 -\nline 8 -\nc5c5".as_slice()
     );
+    Ok(())
+}
+
+/// Pieces that fill what is gathered, and one that is longer than all that can be.
+#[test]
+fn gathers_more_than_fits(rt: HostRuntime) -> Result<(), Fail> {
+    let alloc = rt.alloc();
+    let mut sink = MemSink::new(alloc, Vec::new(alloc), 99, 20_000)
+        .ok()
+        .ok_or("memory")?;
+    let mut out = Writer::new(&mut sink);
+    out.put(b"ab");
+    out.put([7; 5000].as_slice());
+    for _ in 0..1000 {
+        out.put(b"0123456789");
+    }
+    assert_eq!(rt; out.finish(), Ok(()));
+    assert_eq!(rt; sink.written().len(), 2 + 5000 + 10_000);
+    assert!(rt; sink.written().starts_with(b"ab\x07\x07"));
+    assert!(rt; sink.written().ends_with(b"01234567890123456789"));
     Ok(())
 }
 
