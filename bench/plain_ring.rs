@@ -1,9 +1,11 @@
 //! A split virtqueue in plain Rust, with the same words and sequentially consistent steps as `split_ring`, for
 //! bench/ring.sh to compare with. It rests on no proof: its slots are cells that two threads reach.
 //!
-//! Words: `one`, `two`, `order` or `reverse`, the size of the ring, and the number of rounds.
+//! Words: a mode, the size of the ring, and the number of rounds. The modes `one`, `two`, `order` and `reverse` move
+//! buffers round; `make`, `offer` and `fetch` do a part of that with a new ring each round.
 use std::cell::UnsafeCell;
 use std::collections::VecDeque;
+use std::hint::black_box;
 use std::sync::atomic::{AtomicU64, Ordering::SeqCst};
 
 #[allow(dead_code)]
@@ -163,10 +165,38 @@ fn batch(ring: &Ring, driver: &mut Half, device: &mut Half, buffers: Vec<Buffer>
     }
 }
 
+// A longer part less a shorter one is one call alone.
+fn part(mode: &str, size: usize, rounds: u32) -> usize {
+    let mut fetched = 0;
+    for _ in 0..rounds {
+        let (ring, buffers) = black_box(Ring::new(size));
+        let (mut driver, mut device) = (Half::default(), Half::default());
+        let mut free: VecDeque<Buffer> = buffers.into();
+        let mut held = VecDeque::with_capacity(size);
+        if mode != "make" {
+            while let Some(buffer) = free.pop_front() {
+                ring.offer(&mut driver, buffer, 64);
+            }
+        }
+        if mode == "fetch" {
+            while let Some((buffer, _)) = ring.fetch(&mut device) {
+                held.push_back(buffer);
+            }
+        }
+        fetched += held.len();
+    }
+    fetched
+}
+
 fn main() {
     let words: Vec<String> = std::env::args().collect();
     let size = words[2].parse().unwrap();
     let rounds = words[3].parse().unwrap();
+    if ["make", "offer", "fetch"].contains(&words[1].as_str()) {
+        let fetched = part(&words[1], size, rounds);
+        println!("{} {} {} fetched {}", words[1], size, rounds, fetched);
+        return;
+    }
     let (ring, buffers) = Ring::new(size);
     let (mut driver, mut device) = (Half::default(), Half::default());
     match words[1].as_str() {

@@ -8,7 +8,7 @@ use split_ring::{Closed, Device, Driver, Ring};
 use std::alloc::{AllocError, Global};
 use std::collections::VecDeque;
 
-fn offer_all(on: &Ring, driver: &mut Driver, free: &mut VecDeque<Buffer>)
+pub(crate) fn offer_all(on: &Ring, driver: &mut Driver, free: &mut VecDeque<Buffer>)
     requires ring { driver.old.ring ≡ on.now.ring }
     requires held { AreHeld role.Driver driver.old free.old.items }
     requires sound { IsSound role.Driver driver.old }
@@ -21,7 +21,11 @@ fn offer_all(on: &Ring, driver: &mut Driver, free: &mut VecDeque<Buffer>)
     }
 }
 
-fn fetch_all(on: &Ring, device: &mut Device, held: &mut VecDeque<Buffer>) -> Result<(), AllocError>
+pub(crate) fn fetch_all(
+    on: &Ring,
+    device: &mut Device,
+    held: &mut VecDeque<Buffer>,
+) -> Result<(), AllocError>
     requires ring { device.old.ring ≡ on.now.ring }
     requires held { AreHeld role.Device device.old held.old.items }
     requires sound { IsSound role.Device device.old }
