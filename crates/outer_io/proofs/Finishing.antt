@@ -1,7 +1,7 @@
 -- A text put to a new writer that is finished then is written, or breaks off.
-use Rattle.std.proofs.Common.{◌≡◌, ◌≤◌, ℕ, ◌+◌, ◌-◌, Bool, true, false, List, [], ◌++◌, length, Option, Result, Ok, Err, IsOk, IsErr, refl, sym, ap, ◌∙◌, subst, arith, length-append, append-nil}
+use Rattle.std.proofs.Common.{◌≡◌, ◌≤◌, ℕ, Bool, true, false, List, [], ◌++◌, length, Result, Ok, Err, IsOk, refl, sym, ap, ◌∙◌, subst, arith}
 use Rattle.std.specs.Io.KnownBytes.{Appends}
-use Rattle.outer_io.specs.Faults.{Rose, HasCause}
+use Rattle.outer_io.specs.Faults.{HasCause}
 use Rattle.outer_io.specs.Writes.{Writes, AppendsPart}
 use Rattle.outer_io.specs.Puts.{Progress, Puts, IsFinished}
 use Rattle.outer_io.specs.declared.sink.Sink.{Ghosts}
