@@ -1,0 +1,105 @@
+//! A queue of messages as a list with room for all of them.
+
+ghost use Rattle.std.specs.Prelude.{◌≡◌, ◌≤◌, ◌<◌, ◌+◌, ◌==◌, ◌↔◌, [], IfOk, IfSome, IsNone, Some, length, option_map, option_to_list};
+ghost use Rattle.board_model.specs.Choice.{best, oldest};
+ghost use Rattle.message_queue.specs.Queue.{waiting, empty_queue, pushed, popped_best, popped_oldest};
+
+use crate::entry::Entry;
+use crate::taking::take_best;
+use mc_base::{NoMemory, Priority, Slot};
+use std::alloc::Global;
+use std::collections::VecDeque;
+use std::marker::Model;
+
+/// The messages that wait at one endpoint, each by the slot of its buffer and with its priority, the oldest first.
+///
+/// A channel's queue is one too; there each item has priority 0.
+#[derive(Debug, Drop)]
+pub struct MessageQueue {
+    room: u32,
+    entries: VecDeque<Entry>,
+}
+
+impl Model for MessageQueue {
+    ghost use Rattle.message_queue.specs.Queue.{Queue};
+
+    ghost Value = { Queue };
+
+    ghost use Rattle.message_queue.specs.InQueue.{queue_of, HasRoom};
+
+    ghost view = { queue_of };
+
+    ghost invariant = { HasRoom };
+}
+
+impl MessageQueue {
+    /// An empty queue with room for so many messages. The only refusal is want of memory.
+    pub fn new(alloc: Global, slots: u32) -> Result<MessageQueue, NoMemory>
+        ensures { IfOk result (λ q. q ≡ empty_queue slots) }
+    {
+        let Ok(entries) = VecDeque::with_capacity(alloc, slots as usize) else {
+            return Err(NoMemory);
+        };
+        Ok(MessageQueue {
+            room: slots,
+            entries,
+        })
+    }
+
+    /// Queues a message last. Fewer have to wait than the queue has room for.
+    pub fn push(&mut self, slot: Slot, priority: Priority)
+        requires room { length self.old.waiting < self.old.room }
+        ensures last { self.new ≡ pushed self.old (waiting slot priority) }
+    {
+        self.entries.push_back_reserved(Entry { slot, priority });
+    }
+
+    /// Takes the oldest message of the best priority. The rest stays in order. `None` exactly where none waits; nothing
+    /// changes then.
+    pub fn pop_best(&mut self) -> Option<(Slot, Priority)>
+        ensures none { IsNone result ↔ (self.old.waiting ≡ []) }
+        ensures best { IfSome result (λ r. best (λ w. w.priority) self.old.waiting ≡ Some (waiting r.0 r.1)) }
+        ensures rest { self.new ≡ popped_best self.old }
+        ensures unchanged { IsNone result → self.new ≡ self.old }
+        ensures one_less { length self.new.waiting + length (option_to_list result) ≡ length self.old.waiting }
+    {
+        let entry = take_best(&mut self.entries)?;
+        Some((entry.slot, entry.priority))
+    }
+
+    /// Takes the oldest message of any priority. `None` exactly where none waits; nothing changes then.
+    pub fn pop_oldest(&mut self) -> Option<Slot>
+        ensures none { IsNone result ↔ (self.old.waiting ≡ []) }
+        ensures oldest { result ≡ option_map (λ w. w.slot) (oldest self.old.waiting) }
+        ensures rest { self.new ≡ popped_oldest self.old }
+        ensures unchanged { IsNone result → self.new ≡ self.old }
+        ensures one_less { length self.new.waiting + length (option_to_list result) ≡ length self.old.waiting }
+    {
+        let entry = self.entries.pop_front()?;
+        Some(entry.slot)
+    }
+
+    /// The oldest message of any priority, which stays. `None` exactly where none waits.
+    pub fn front(&self) -> Option<Slot>
+        ensures none { IsNone result ↔ (self.now.waiting ≡ []) }
+        ensures oldest { result ≡ option_map (λ w. w.slot) (oldest self.now.waiting) }
+    {
+        let entry = self.entries.front()?;
+        Some(entry.slot)
+    }
+
+    /// How many messages wait. They are never more than the queue has room for.
+    pub fn len(&self) -> u32
+        ensures count { result ≡ length self.now.waiting }
+        ensures within { result ≤ self.now.room }
+    {
+        self.entries.len() as u32
+    }
+
+    /// Whether no message waits.
+    pub fn is_empty(&self) -> bool
+        ensures { result ≡ (length self.now.waiting == 0) }
+    {
+        self.entries.is_empty()
+    }
+}
