@@ -1,0 +1,20 @@
+//! The buffers that a domain took from its peers and keeps: whether each stands in a queue or is lent, and where its
+//! content lies.
+//!
+//! A book takes memory where it is made. No other call takes any.
+#![tactic(auto)]
+
+mod book;
+mod held;
+mod places;
+mod shelf;
+mod shelves;
+mod threads;
+
+pub use book::BufferBook;
+pub use mc_base::{BufInvalid, Buffer, NoMemory, PacketId, Slot};
+pub use places::Places;
+pub use threads::may_cross_threads;
+
+#[cfg(test)]
+mod tests;
