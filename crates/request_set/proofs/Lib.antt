@@ -1,0 +1,4 @@
+pub mod Keys
+pub mod Standings
+pub mod Insides
+pub mod Changes
