@@ -1,12 +1,13 @@
 //! What becomes of a frame that is taken.
 
-ghost use Rattle.std.specs.Prelude.{◌≡◌, ◌<◌, ◌+◌, true, false, length, option_to_list};
-ghost use Rattle.board_model.specs.Dealing.{is_letter, frame_word, letter_word, keeps_buffer};
+ghost use Rattle.std.specs.Prelude.{◌≡◌, ◌<◌, ◌+◌, true, length, option_to_list};
+ghost use Rattle.board_model.specs.Dealing.{is_letter};
 ghost use Rattle.domain_core.specs.Dealt.{IsVerdict, fate_of};
 
 use crate::endpoints::Endpoints;
+use crate::fates::{frame_fate, letter_fate};
 use bridge_frame::read_letter;
-use mc_base::{Fate, FrameFault, Letter, LetterFault, Priority};
+use mc_base::{Fate, Letter, Priority};
 use rpmsg_frame::decode;
 
 /// What is to be done with a frame.
@@ -58,31 +59,5 @@ pub fn judge(endpoints: &Endpoints, frame: &[u8]) -> Verdict
         source: frame.src,
         priority,
         size: bytes.len() as u32,
-    }
-}
-
-fn frame_fate(fault: FrameFault) -> Fate
-    ensures word { result ≡ frame_word fault }
-    ensures returned { keeps_buffer result ≡ false }
-{
-    match fault {
-        FrameFault::FrameShort => Fate::FrameShort,
-        FrameFault::FrameLong => Fate::FrameLong,
-        FrameFault::HeaderLen => Fate::HeaderLen,
-    }
-}
-
-fn letter_fate(fault: LetterFault) -> Fate
-    ensures word { result ≡ letter_word fault }
-    ensures returned { keeps_buffer result ≡ false }
-{
-    match fault {
-        LetterFault::PayloadShort => Fate::PayloadShort,
-        LetterFault::Magic => Fate::Magic,
-        LetterFault::Version => Fate::Version,
-        LetterFault::Kind => Fate::Kind,
-        LetterFault::Argument => Fate::Argument,
-        LetterFault::Channel => Fate::Channel,
-        LetterFault::Size => Fate::Size,
     }
 }

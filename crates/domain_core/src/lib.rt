@@ -7,6 +7,7 @@ mod carried;
 mod dealing;
 mod domain;
 mod endpoints;
+mod fates;
 mod journal;
 mod lane;
 mod messages;
@@ -14,6 +15,7 @@ mod threads;
 mod turn;
 
 pub use domain::{Domain, Places};
+pub use fates::fault_fate;
 pub use journal::{Answer, Entry, Journal};
 pub use threads::may_cross_threads;
 
