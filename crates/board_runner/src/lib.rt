@@ -14,5 +14,5 @@ mod serial;
 mod tests;
 
 pub use outcome::Outcome;
-pub use report::write_report;
+pub use report::{fault_word, write_report};
 pub use serial::run_serial;

@@ -1,7 +1,9 @@
 ghost use Rattle.std.specs.Prelude.{◌≡◌};
+ghost use Rattle.board_model.specs.Dealing.{fault_word as word_of_fault};
 ghost use Rattle.board_model.specs.Report.{refusal_text, fate_text};
 
-use mc_base::{Fate, Refusal};
+use domain_core::fault_fate;
+use mc_base::{Fate, Fault, Refusal};
 
 /// The word of a refusal.
 pub fn refusal_word(word: Refusal) -> &'static [u8]
@@ -71,4 +73,11 @@ pub fn fate_word(fate: Fate) -> &'static [u8]
         Fate::Closed => b"closed",
         Fate::State => b"state",
     }
+}
+
+/// The word for what is wrong with a frame, as it stands in a take line.
+pub fn fault_word(fault: Fault) -> &'static [u8]
+    ensures { result.now ≡ fate_text (word_of_fault fault) }
+{
+    fate_word(fault_fate(fault))
 }
