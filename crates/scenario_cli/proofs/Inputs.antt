@@ -1,32 +1,43 @@
 -- What was read, where the source tells its bytes.
 use Rattle.std.proofs.Common.{◌≡◌, ℕ, ◌≤◌, List, ◌++◌, [], length, Option, Some, None, sym, ap, ◌∙◌, append-nil, subst}
+use Rattle.std.specs.Prelude.{IfSome, IsSome}
 use Rattle.std.specs.Io.KnownBytes.{Consumes, IsAtEnd}
 use Rattle.board_model.specs.declared.scenario.Scenario.{Scenario}
 use Rattle.board_model.specs.Grammar.{IsScenario}
 use Rattle.board_model.proofs.SerialBoard.{serial_is_board_run}
 use Rattle.board_model.proofs.Headlines.{headline}
+use Rattle.scenario_cli.specs.declared.form.Form.{Form}
 use Rattle.scenario_cli.specs.Words.{input_limit}
-use Rattle.scenario_cli.specs.Due.{IsDue, IsNoScenario, IsSoundReport, IfScenario, IfNoScenario, DueFits}
+use Rattle.scenario_cli.specs.FrameText.{wrong_in}
+use Rattle.scenario_cli.specs.Due.{IsDue, IsNoScenario, IsSoundReport, IfScenario, IfNoScenario, IfSoundFrame, IfNoSoundFrame, DueFits}
 
 -- all that the source had was read
 pub all_read : (all rest text : List ℕ) → all ≡ text ++ rest → rest ≡ [] → all ≡ text
 all_read all rest text e empty = e ∙ ap (λ (r : List ℕ). text ++ r) empty ∙ append-nil text
 
 -- a fact of the text that was read is one of the bytes that the source had
+pub if_text : (old new : Option (List ℕ)) (text : List ℕ) (Q : List ℕ → Type 0) → Consumes old new text → IsAtEnd new → Q text → IfSome old Q
+if_text None new text Q read end h = tt
+if_text (Some all) None text Q read end h = absurd read
+if_text (Some all) (Some rest) text Q read end h = subst Q (sym (all_read all rest text read end)) h
+
 pub if_scenario : (old new : Option (List ℕ)) (text : List ℕ) (P : Type 0) → Consumes old new text → IsAtEnd new → ((s : Scenario) → IsScenario text s → P) → IfScenario old P
-if_scenario None new text P read end h = tt
-if_scenario (Some all) None text P read end h = absurd read
-if_scenario (Some all) (Some rest) text P read end h = λ fits s is. h s (subst (λ (t : List ℕ). IsScenario t s) (all_read all rest text read end) is)
+if_scenario old new text P read end h = if_text old new text (λ t. length t ≤ input_limit → (s : Scenario) → IsScenario t s → P) read end (λ fits. h)
 
 pub if_no_scenario : (old new : Option (List ℕ)) (text : List ℕ) (P : Type 0) → Consumes old new text → IsAtEnd new → (IsNoScenario text → P) → IfNoScenario old P
-if_no_scenario None new text P read end h = tt
-if_no_scenario (Some all) None text P read end h = absurd read
-if_no_scenario (Some all) (Some rest) text P read end h = λ fits no. h (subst IsNoScenario (all_read all rest text read end) no)
+if_no_scenario old new text P read end h = if_text old new text (λ t. length t ≤ input_limit → IsNoScenario t → P) read end (λ fits. h)
 
-pub due_fits : (old new : Option (List ℕ)) (text : List ℕ) (n : ℕ) → Consumes old new text → IsAtEnd new → DueFits old n → (due : List ℕ) → IsDue text due → length due ≤ n
-due_fits None new text n read end fits = absurd fits
-due_fits (Some all) None text n read end fits = absurd read
-due_fits (Some all) (Some rest) text n read end fits = λ due is. fits due (subst (λ (t : List ℕ). IsDue t due) (sym (all_read all rest text read end)) is)
+pub if_sound : (old new : Option (List ℕ)) (text : List ℕ) (P : Type 0) → Consumes old new text → IsAtEnd new → (wrong_in text ≡ None → P) → IfSoundFrame old P
+if_sound old new text P read end h = if_text old new text (λ t. length t ≤ input_limit → wrong_in t ≡ None → P) read end (λ fits. h)
+
+pub if_unsound : (old new : Option (List ℕ)) (text : List ℕ) (P : Type 0) → Consumes old new text → IsAtEnd new → (IsSome (wrong_in text) → P) → IfNoSoundFrame old P
+if_unsound old new text P read end h = if_text old new text (λ t. length t ≤ input_limit → IsSome (wrong_in t) → P) read end (λ fits. h)
+
+-- whatever is due for the text that was read has at most so many bytes
+pub due_fits : (form : Form) (old new : Option (List ℕ)) (text : List ℕ) (n : ℕ) → Consumes old new text → IsAtEnd new → DueFits form old n → (due : List ℕ) → IsDue form text due → length due ≤ n
+due_fits form None new text n read end fits = absurd fits
+due_fits form (Some all) None text n read end fits = absurd read
+due_fits form (Some all) (Some rest) text n read end fits = λ due is. fits due (subst (λ (t : List ℕ). IsDue form t due) (sym (all_read all rest text read end)) is)
 
 -- the headline holds of the journals of every serial run
 pub sound_report : (rest : Option (List ℕ)) → IsSoundReport rest

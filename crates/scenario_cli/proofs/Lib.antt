@@ -1,4 +1,7 @@
 pub mod Written
 pub mod Inputs
-pub mod TwoWords
+pub mod WordLemmas
 pub mod Statuses
+pub mod HexLemmas
+pub mod FaultPlaces
+pub mod FrameLines

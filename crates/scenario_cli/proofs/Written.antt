@@ -1,5 +1,5 @@
 -- The status after a write, and what the write left.
-use Rattle.std.proofs.Common.{◌≡◌, ◌≢◌, ℕ, ◌≤◌, List, length, Option, Result, Ok, Err, sym, ap, ◌∙◌, subst}
+use Rattle.std.proofs.Common.{◌≡◌, ◌≢◌, ℕ, List, Option, Result, Ok, Err, sym, ◌∙◌}
 use Rattle.std.specs.Prelude.{OnOk, OnErr, IsOk}
 use Rattle.std.specs.Io.KnownBytes.{Appends}
 use Rattle.outer_io.specs.declared.Failed.{Failed}
@@ -24,6 +24,11 @@ part_text (Err e) status n old new text whole ne wrote is = wrote
 pub no_failure : (r : Result (Unit {0}) Failed) (status n : ℕ) → OnOk r (status ≡ n) → n ≢ 5 → IsOk r → status ≢ 5
 no_failure (Ok x) status n whole ne ok is = ne (sym whole ∙ is)
 no_failure (Err e) status n whole ne ok is = absurd cc
+
+-- there are no other statuses
+pub no_other : (r : Result (Unit {0}) Failed) (status n m : ℕ) → OnOk r (status ≡ n) → OnErr r (status ≡ 5) → n ≢ m → 5 ≢ m → status ≢ m
+no_other (Ok x) status n m whole failed ne other is = ne (sym whole ∙ is)
+no_other (Err e) status n m whole failed ne other is = other (sym failed ∙ is)
 
 -- the outcome of the serial run has its report
 pub report_of-outcome : (s : Scenario) (o : Outcome) → IsOutcome s o (serial s) → report_of s (lines_in o.journals) o.messages o.places ≡ report s (serial s)

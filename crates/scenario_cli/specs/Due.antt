@@ -1,8 +1,7 @@
 -- What a status says of the input and the output.
 -- Source: README.md, "Forms and statuses". `rest` is what a source has to come, and `old` and `new` are what a sink holds
 -- before and after, each where it is told.
-use Rattle.std.specs.Prelude.{◌≡◌, ℕ, ◌<◌, ◌≤◌, List, length, Option, None, Some, IfSome}
-use Rattle.std.specs.List.{AllByRecursion}
+use Rattle.std.specs.Prelude.{◌≡◌, ℕ, ◌<◌, ◌≤◌, List, length, Option, None, Some, IfSome, IsSome}
 use Rattle.std.specs.Io.KnownBytes.{Appends}
 use Rattle.board_model.specs.declared.scenario.Scenario.{Scenario}
 use Rattle.board_model.specs.Grammar.{IsScenario}
@@ -11,7 +10,10 @@ use Rattle.board_model.specs.Serial.{serial}
 use Rattle.board_model.specs.Report.{report}
 use Rattle.board_model.specs.Headline.{Headline}
 use Rattle.outer_io.specs.Writes.{AppendsPart}
-use Rattle.scenario_cli.specs.Words.{IsSerialRun, usage_text, refusal_text, input_limit}
+use Rattle.scenario_cli.specs.declared.form.Form.{Form}
+use Rattle.scenario_cli.specs.declared.form.Form.TheVariants.{SerialRun, Frame}
+use Rattle.scenario_cli.specs.Words.{refusal_text, input_limit}
+use Rattle.scenario_cli.specs.FrameText.{TellsRight, TellsWrong, wrong_in}
 
 -- no scenario has this text
 abbrev pub IsNoScenario : List ℕ → Type 0
@@ -23,10 +25,20 @@ pub record IsReport (text output : List ℕ) : Type 0 where
   pub read : IsScenario text scenario
   pub written : output ≡ report scenario (serial scenario)
 
--- the output that is due for a text: the report of its scenario, or the refusal
-pub data IsDue (text output : List ℕ) : Type 0 where
-  reported : IsReport text output → IsDue text output
-  refused : IsNoScenario text → output ≡ refusal_text → IsDue text output
+-- the output that is due for a text of a run: the report of its scenario, or the refusal
+pub data IsRunDue (text output : List ℕ) : Type 0 where
+  reported : IsReport text output → IsRunDue text output
+  refused : IsNoScenario text → output ≡ refusal_text → IsRunDue text output
+
+-- the output that is due for a text that is to be a frame: what the frame says, or what is wrong
+pub data IsFrameDue (text output : List ℕ) : Type 0 where
+  right : TellsRight text output → IsFrameDue text output
+  wrong : TellsWrong text output → IsFrameDue text output
+
+-- the output that is due for a text, by the form
+abbrev pub IsDue : Form → List ℕ → List ℕ → Type 0
+IsDue SerialRun text output = IsRunDue text output
+IsDue Frame text output = IsFrameDue text output
 
 -- the whole report was written, of an input within the limit
 abbrev pub Reports : Option (List ℕ) → Option (List ℕ) → Option (List ℕ) → Type 0
@@ -36,9 +48,17 @@ Reports rest old new = IfSome rest (λ text. (length text ≤ input_limit) × ((
 abbrev pub Refuses : Option (List ℕ) → Option (List ℕ) → Option (List ℕ) → Type 0
 Refuses rest old new = IfSome rest (λ text. (length text ≤ input_limit) × IsNoScenario text × Appends old new refusal_text)
 
+-- what the frame says was written, of an input within the limit that is a sound frame
+abbrev pub IsRight : Option (List ℕ) → Option (List ℕ) → Option (List ℕ) → Type 0
+IsRight rest old new = IfSome rest (λ text. (length text ≤ input_limit) × ((output : List ℕ) × TellsRight text output × Appends old new output))
+
+-- what is wrong was written, of an input within the limit that is no sound frame
+abbrev pub IsWrong : Option (List ℕ) → Option (List ℕ) → Option (List ℕ) → Type 0
+IsWrong rest old new = IfSome rest (λ text. (length text ≤ input_limit) × ((output : List ℕ) × TellsWrong text output × Appends old new output))
+
 -- a proper prefix of the output that is due for the input was written
-abbrev pub BreaksOff : Option (List ℕ) → Option (List ℕ) → Option (List ℕ) → Type 0
-BreaksOff rest old new = IfSome rest (λ text. (length text ≤ input_limit) × ((output : List ℕ) × IsDue text output × AppendsPart old new output))
+abbrev pub BreaksOff : Form → Option (List ℕ) → Option (List ℕ) → Option (List ℕ) → Type 0
+BreaksOff form rest old new = IfSome rest (λ text. (length text ≤ input_limit) × ((output : List ℕ) × IsDue form text output × AppendsPart old new output))
 
 -- more bytes came than the limit
 abbrev pub IsTooLong : Option (List ℕ) → Type 0
@@ -60,10 +80,17 @@ IfScenario rest P = IfSome rest (λ text. length text ≤ input_limit → (s : S
 abbrev pub IfNoScenario : Option (List ℕ) → Type 0 → Type 0
 IfNoScenario rest P = IfSome rest (λ text. length text ≤ input_limit → IsNoScenario text → P)
 
+-- for an input within the limit: that is a sound frame, or that is none
+abbrev pub IfSoundFrame : Option (List ℕ) → Type 0 → Type 0
+IfSoundFrame rest P = IfSome rest (λ text. length text ≤ input_limit → wrong_in text ≡ None → P)
+
+abbrev pub IfNoSoundFrame : Option (List ℕ) → Type 0 → Type 0
+IfNoSoundFrame rest P = IfSome rest (λ text. length text ≤ input_limit → IsSome (wrong_in text) → P)
+
 abbrev pub IfTooLong : Option (List ℕ) → Type 0 → Type 0
 IfTooLong rest P = IfSome rest (λ text. input_limit < length text → P)
 
 -- whatever is due for the input has at most so many bytes
-abbrev pub DueFits : Option (List ℕ) → ℕ → Type 0
-DueFits None n = ⊥
-DueFits (Some text) n = (output : List ℕ) → IsDue text output → length output ≤ n
+abbrev pub DueFits : Form → Option (List ℕ) → ℕ → Type 0
+DueFits form None n = ⊥
+DueFits form (Some text) n = (output : List ℕ) → IsDue form text output → length output ≤ n

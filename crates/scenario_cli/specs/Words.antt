@@ -2,14 +2,23 @@
 -- Source: README.md, "Forms and statuses".
 use Rattle.std.specs.Prelude.{◌≡◌, ◌⊎◌, ℕ, List, [], ◌∷◌, map, codes, string_bytes, String}
 use Rattle.std.specs.Global.{Global}
+use Rattle.scenario_cli.specs.declared.form.Form.{Form}
+use Rattle.scenario_cli.specs.declared.form.Form.TheVariants.{SerialRun, Frame}
 
 -- the words as bytes
 abbrev pub words_of : List (String Global) → List (List ℕ)
 words_of words = map (λ w. string_bytes w) words
 
--- the words of the one form that there is: run --serial
-abbrev pub IsSerialRun : List (List ℕ) → Type 0
-IsSerialRun words = words ≡ codes "run" ∷ codes "--serial" ∷ []
+-- the words of each form
+abbrev pub form_words : Form → List (List ℕ)
+form_words SerialRun = codes "run" ∷ codes "--serial" ∷ []
+form_words Frame = codes "frame" ∷ []
+
+abbrev pub IsForm : Form → List (List ℕ) → Type 0
+IsForm form words = words ≡ form_words form
+
+abbrev pub IsNoForm : List (List ℕ) → Type 0
+IsNoForm words = (form : Form) → IsForm form words → ⊥
 
 -- what is written where the words are none of the forms
 abbrev pub usage_text : List ℕ

@@ -1,6 +1,9 @@
 //! The program `mcrun` as a call: words and a source in, a sink and a status out.
 #![tactic(auto)]
 
+mod form;
+mod frame;
+mod hex;
 mod run;
 mod status;
 #[cfg(test)]

@@ -7,7 +7,7 @@ ghost use Rattle.board_model.specs.Report.{report};
 ghost use Rattle.outer_io.specs.Faults.{Rose};
 ghost use Rattle.outer_io.specs.Writes.{AppendsPart};
 ghost use Rattle.scenario_cli.specs.Words.{IsOneOf, input_limit, refusal_text};
-ghost use Rattle.scenario_cli.specs.Due.{IsReport, IsDue, IsNoScenario};
+ghost use Rattle.scenario_cli.specs.Due.{IsReport, IsRunDue, IsNoScenario};
 
 use crate::status::{self, after_write};
 use board_model::Scenario;
@@ -23,13 +23,13 @@ pub fn run_text<K: Sink>(alloc: Global, text: &[u8], output: &mut K) -> u8
     ensures status { IsOneOf (0 ∷ 3 ∷ 5 ∷ 6 ∷ []) result }
     ensures reported { result ≡ 0 → (due : List ℕ) × IsReport text.now due × Appends (K.written output.old) (K.written output.new) due }
     ensures refused { result ≡ 3 → IsNoScenario text.now × Appends (K.written output.old) (K.written output.new) refusal_text }
-    ensures breaks_off { result ≡ 5 → (due : List ℕ) × IsDue text.now due × AppendsPart (K.written output.old) (K.written output.new) due }
+    ensures breaks_off { result ≡ 5 → (due : List ℕ) × IsRunDue text.now due × AppendsPart (K.written output.old) (K.written output.new) due }
     ensures failed { result ≡ 5 → Rose (K.faults output.old) (K.faults output.new) }
     ensures nothing { result ≡ 6 → output.new ≡ output.old }
     ensures faults { K.faults output.old ≤ K.faults output.new }
     ensures scenario { (told : Told) → IsScenario text.now told → result ≢ 3 }
     ensures no_scenario { IsNoScenario text.now → result ≢ 0 }
-    ensures room { (n : ℕ) → ((due : List ℕ) → IsDue text.now due → length due ≤ n) → K.takes output.old n → result ≢ 5 }
+    ensures room { (n : ℕ) → ((due : List ℕ) → IsRunDue text.now due → length due ≤ n) → K.takes output.old n → result ≢ 5 }
 {
     match read_scenario(alloc, text) {
         Ok(scenario) => run_scenario(alloc, &scenario, output),

@@ -7,6 +7,9 @@ use outer_io::Failed;
 /// The input was read to its end, and the output is written whole.
 pub const DONE: u8 = 0;
 
+/// What came is no sound frame.
+pub const WRONG: u8 = 1;
+
 /// The words are none of the forms.
 pub const USAGE: u8 = 2;
 

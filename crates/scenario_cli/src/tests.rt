@@ -4,6 +4,8 @@ use std::alloc::{AllocError, Global};
 use std::test::Fail;
 use std::thread::Threads;
 
+mod frame;
+
 /// Two endpoints and one message.
 const MESSAGE: &[u8] =
     b"domain 0 nodes 1 pool 2\n0.0 create 1\n0.0 create 2\n0.0 msg_send 1 0:0:2 1 6869\n0.0 msg_recv 2 488\n";
@@ -192,6 +194,11 @@ fn statuses_and_outputs(rt: HostRuntime) -> Result<(), Fail> {
         (with_words(["run"].as_slice()), 2, USAGE),
         (with_words(["--serial", "run"].as_slice()), 2, USAGE),
         (with_words(["run", "--serial", ""].as_slice()), 2, USAGE),
+        (with_words(["run", "frame"].as_slice()), 2, USAGE),
+        (with_words(["frame", "x"].as_slice()), 2, USAGE),
+        (with_words(["frame", "frame"].as_slice()), 2, USAGE),
+        (with_words(["Frame"].as_slice()), 2, USAGE),
+        (with_words(["--serial"].as_slice()), 2, USAGE),
     ];
     for (given, status, written) in cases {
         let (answer, output) = outcome_of(&rt, alloc, given)?;

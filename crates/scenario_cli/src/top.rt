@@ -1,10 +1,13 @@
-ghost use Rattle.std.specs.Prelude.{◌≡◌, ◌≢◌, ◌≤◌, ◌∷◌, [], ℕ, length, IsTrue, ◌↔◌};
+ghost use Rattle.std.specs.Prelude.{◌≡◌, ◌≢◌, ◌≤◌, ◌∷◌, [], ℕ, length};
 ghost use Rattle.std.specs.Io.KnownBytes.{Appends, Keeps, IsAtEnd};
 ghost use Rattle.outer_io.specs.Faults.{Rose};
 ghost use Rattle.outer_io.specs.Writes.{AppendsPart};
-ghost use Rattle.scenario_cli.specs.Words.{words_of, IsSerialRun, usage_text, IsOneOf};
-ghost use Rattle.scenario_cli.specs.Due.{Reports, Refuses, BreaksOff, IsTooLong, IsSoundReport, IfScenario, IfNoScenario, IfTooLong, DueFits};
+ghost use Rattle.scenario_cli.specs.declared.form.Form.TheVariants.{SerialRun, Frame};
+ghost use Rattle.scenario_cli.specs.Words.{words_of, IsForm, IsNoForm, usage_text, IsOneOf};
+ghost use Rattle.scenario_cli.specs.Due.{Reports, Refuses, IsRight, IsWrong, BreaksOff, IsTooLong, IsSoundReport, IfScenario, IfNoScenario, IfSoundFrame, IfNoSoundFrame, IfTooLong, DueFits};
 
+use crate::form::{Form, form_of};
+use crate::frame::tell_frame;
 use crate::run::run_text;
 use crate::status::{self, after_write};
 use outer_io::{ReadFault, Sink, Source, read_all, write_all};
@@ -19,10 +22,13 @@ const INPUT_LIMIT: usize = 8_388_608;
 
 /// Does what the words say with the input, writes the output, and answers the status to end with.
 ///
-/// The one form is `run --serial`: a scenario in, the report of its serial run out. The statuses are 0 where the report
-/// was written, 2 where the words are none of the forms and the usage was written, 3 where the input is no scenario and
-/// the refusal was written, 4 where the source failed, 5 where the sink failed, 6 at want of memory, and 7 where more
-/// than 8,388,608 bytes came. Words come first, then reading, the grammar, running, and writing.
+/// The form `run --serial` takes a scenario in, and the report of its serial run goes out. The form `frame` takes the
+/// hexadecimal text of a frame in, and what the frame says goes out, or its first fault and the place of it.
+///
+/// The statuses are 0 where the report was written or the frame is sound, 1 where the input is no sound frame, 2 where the
+/// words are none of the forms and the usage was written, 3 where the input is no scenario and the refusal was written,
+/// 4 where the source failed, 5 where the sink failed, 6 at want of memory, and 7 where more than 8,388,608 bytes came.
+/// Words come first, then reading, the grammar or the frame, running, and writing.
 pub fn mcrun<T: Threads + Sync, S: Source, K: Sink>(
     _rt: &T,
     alloc: Global,
@@ -31,63 +37,66 @@ pub fn mcrun<T: Threads + Sync, S: Source, K: Sink>(
     output: &mut K,
 ) -> u8
     // The statuses that there are.
-    ensures status { IsOneOf (0 ∷ 2 ∷ 3 ∷ 4 ∷ 5 ∷ 6 ∷ 7 ∷ []) result }
+    ensures status { IsOneOf (0 ∷ 1 ∷ 2 ∷ 3 ∷ 4 ∷ 5 ∷ 6 ∷ 7 ∷ []) result }
 
-    // 0: the report of the scenario that was read to its end, and what holds of its journals.
-    ensures reported { result ≡ 0 → Reports (S.rest input.old) (K.written output.old) (K.written output.new) }
-    ensures headline { result ≡ 0 → IsSoundReport (S.rest input.old) }
+    // 0 of a run: the report of the scenario that was read to its end, and what holds of its journals.
+    ensures reported { IsForm SerialRun (words_of words.now) → result ≡ 0 → Reports (S.rest input.old) (K.written output.old) (K.written output.new) }
+    ensures headline { IsForm SerialRun (words_of words.now) → result ≡ 0 → IsSoundReport (S.rest input.old) }
+
+    // 0 of a frame: what the sound frame says.
+    ensures right { IsForm Frame (words_of words.now) → result ≡ 0 → IsRight (S.rest input.old) (K.written output.old) (K.written output.new) }
+
+    // 1: exactly where the input is no sound frame. The first fault and its place.
+    ensures wrong { result ≡ 1 → IsWrong (S.rest input.old) (K.written output.old) (K.written output.new) }
+    ensures wrong_words { result ≡ 1 → IsForm Frame (words_of words.now) }
 
     // 2: exactly where the words are none of the forms. Nothing is read.
-    ensures usage_words { result ≡ 2 → IsSerialRun (words_of words.now) → ⊥ }
+    ensures usage_words { result ≡ 2 → IsNoForm (words_of words.now) }
     ensures usage { result ≡ 2 → Appends (K.written output.old) (K.written output.new) usage_text }
-    ensures no_form { (IsSerialRun (words_of words.now) → ⊥) → IsOneOf (2 ∷ 5 ∷ []) result }
-    ensures usage_breaks_off { (IsSerialRun (words_of words.now) → ⊥) → result ≡ 5 → AppendsPart (K.written output.old) (K.written output.new) usage_text }
-    ensures nothing_read { (IsSerialRun (words_of words.now) → ⊥) → input.new ≡ input.old }
+    ensures no_form { IsNoForm (words_of words.now) → IsOneOf (2 ∷ 5 ∷ []) result }
+    ensures usage_breaks_off { IsNoForm (words_of words.now) → result ≡ 5 → AppendsPart (K.written output.old) (K.written output.new) usage_text }
+    ensures nothing_read { IsNoForm (words_of words.now) → input.new ≡ input.old }
 
     // 3: exactly where the input is no scenario.
     ensures refused { result ≡ 3 → Refuses (S.rest input.old) (K.written output.old) (K.written output.new) }
+    ensures refused_words { result ≡ 3 → IsForm SerialRun (words_of words.now) }
 
     // 4 and 5: only where the count of faults rose in this call.
     ensures read_failed { result ≡ 4 → Rose (S.faults input.old) (S.faults input.new) }
     ensures write_failed { result ≡ 5 → Rose (K.faults output.old) (K.faults output.new) }
-    ensures breaks_off { IsSerialRun (words_of words.now) → result ≡ 5 → BreaksOff (S.rest input.old) (K.written output.old) (K.written output.new) }
+    ensures breaks_off { (form : Form) → IsForm form (words_of words.now) → result ≡ 5 → BreaksOff form (S.rest input.old) (K.written output.old) (K.written output.new) }
 
     // 7: exactly where more bytes came than the limit.
     ensures too_long { result ≡ 7 → IsTooLong (S.rest input.old) }
 
-    // At 4, 6 and 7 nothing was written; at 0 and 3 the input was read to its end.
+    // At 4, 6 and 7 nothing was written; at 0, 1 and 3 the input was read to its end.
     ensures nothing_written { IsOneOf (4 ∷ 6 ∷ 7 ∷ []) result → Keeps (K.written output.old) (K.written output.new) }
-    ensures read_to_end { IsOneOf (0 ∷ 3 ∷ []) result → IsAtEnd (S.rest input.new) }
+    ensures read_to_end { IsOneOf (0 ∷ 1 ∷ 3 ∷ []) result → IsAtEnd (S.rest input.new) }
 
     // The counts of faults never fall.
     ensures read_faults { S.faults input.old ≤ S.faults input.new }
     ensures write_faults { K.faults output.old ≤ K.faults output.new }
 
     // Completeness: what the status is where nothing fails and no memory is wanting.
-    ensures scenario { IsSerialRun (words_of words.now) → IfScenario (S.rest input.old) (IsOneOf (0 ∷ 4 ∷ 5 ∷ 6 ∷ []) result) }
-    ensures no_scenario { IsSerialRun (words_of words.now) → IfNoScenario (S.rest input.old) (IsOneOf (3 ∷ 4 ∷ 5 ∷ 6 ∷ []) result) }
-    ensures over_limit { IsSerialRun (words_of words.now) → IfTooLong (S.rest input.old) (IsOneOf (4 ∷ 6 ∷ 7 ∷ []) result) }
+    ensures scenario { IsForm SerialRun (words_of words.now) → IfScenario (S.rest input.old) (IsOneOf (0 ∷ 4 ∷ 5 ∷ 6 ∷ []) result) }
+    ensures no_scenario { IsForm SerialRun (words_of words.now) → IfNoScenario (S.rest input.old) (IsOneOf (3 ∷ 4 ∷ 5 ∷ 6 ∷ []) result) }
+    ensures sound_frame { IsForm Frame (words_of words.now) → IfSoundFrame (S.rest input.old) (IsOneOf (0 ∷ 4 ∷ 5 ∷ 6 ∷ []) result) }
+    ensures unsound_frame { IsForm Frame (words_of words.now) → IfNoSoundFrame (S.rest input.old) (IsOneOf (1 ∷ 4 ∷ 5 ∷ 6 ∷ []) result) }
+    ensures over_limit { (form : Form) → IsForm form (words_of words.now) → IfTooLong (S.rest input.old) (IsOneOf (4 ∷ 6 ∷ 7 ∷ []) result) }
     ensures sound_source { S.never_fails input.old → result ≢ 4 }
-    ensures sound_sink { (n : ℕ) → IsSerialRun (words_of words.now) → DueFits (S.rest input.old) n → K.takes output.old n → result ≢ 5 }
-    ensures sound_usage { (n : ℕ) → (IsSerialRun (words_of words.now) → ⊥) → length usage_text ≤ n → K.takes output.old n → result ≢ 5 }
+    ensures sound_sink { (form : Form) (n : ℕ) → IsForm form (words_of words.now) → DueFits form (S.rest input.old) n → K.takes output.old n → result ≢ 5 }
+    ensures sound_usage { (n : ℕ) → IsNoForm (words_of words.now) → length usage_text ≤ n → K.takes output.old n → result ≢ 5 }
 {
-    if !is_serial_run(words) {
+    let Some(form) = form_of(words) else {
         return after_write(write_all(output, USAGE), status::USAGE);
-    }
+    };
     match read_all(alloc, input, INPUT_LIMIT) {
-        Ok(text) => run_text(alloc, &text, output),
+        Ok(text) => match form {
+            Form::SerialRun => run_text(alloc, &text, output),
+            Form::Frame => tell_frame(alloc, &text, output),
+        },
         Err(ReadFault::Failed) => status::READ_FAILED,
         Err(ReadFault::TooLong) => status::TOO_LONG,
         Err(ReadFault::NoMemory) => status::NO_MEMORY,
-    }
-}
-
-/// Whether the words are `run --serial`.
-fn is_serial_run(words: &[String]) -> bool
-    ensures { IsTrue result ↔ IsSerialRun (words_of words.now) }
-{
-    match words {
-        [first, second] => first.as_str() == "run" && second.as_str() == "--serial",
-        _ => false,
     }
 }

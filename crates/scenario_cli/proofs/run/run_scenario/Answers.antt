@@ -1,5 +1,4 @@
-use Rattle.std.proofs.Common.{◌≡◌, ◌≢◌, ℕ, ◌≤◌, List, length, arith}
-use Rattle.outer_io.specs.Writes.{Writes}
+use Rattle.std.proofs.Common.{arith}
 use Rattle.scenario_cli.proofs.Written.{whole_text, part_text, no_failure, report_of-outcome}
 use Rattle.scenario_cli.proofs.run.run_scenario.Goals as goal
 

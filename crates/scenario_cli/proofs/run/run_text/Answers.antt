@@ -1,4 +1,4 @@
-use Rattle.std.proofs.Common.{◌≡◌, ◌≢◌, ℕ, ◌≤◌, List, length, arith, refl}
+use Rattle.std.proofs.Common.{arith, refl}
 use Rattle.board_model.specs.Serial.{serial}
 use Rattle.board_model.specs.Report.{report}
 use Rattle.scenario_cli.specs.Words.{refusal_text}

@@ -1,23 +1,79 @@
-use Rattle.std.proofs.Common.{◌≡◌, ◌≢◌, ℕ, ◌∷◌, [], inl, inr}
-use Rattle.board_model.specs.declared.scenario.Scenario.{Scenario}
-use Rattle.board_model.specs.Grammar.{IsScenario}
-use Rattle.scenario_cli.specs.Words.{IsOneOf}
-use Rattle.scenario_cli.specs.Due.{IsNoScenario}
-use Rattle.scenario_cli.proofs.Inputs.{if_scenario, if_no_scenario, due_fits, sound_report}
-use Rattle.scenario_cli.proofs.Statuses.{not_three, not_zero}
+use Rattle.std.proofs.Common.{◌≡◌, ◌≤◌, ◌<◌, ℕ, ◌∷◌, [], List, length, refl, arith}
+use Rattle.std.specs.Io.KnownBytes.{Appends}
+use Rattle.outer_io.specs.Writes.{AppendsPart}
+use Rattle.scenario_cli.specs.declared.form.Form.TheVariants.{SerialRun, Frame}
+use Rattle.scenario_cli.specs.Words.{IsOneOf, input_limit}
+use Rattle.scenario_cli.specs.FrameText.{TellsRight, TellsWrong}
+use Rattle.scenario_cli.specs.Due.{IsDue}
+use Rattle.scenario_cli.proofs.WordLemmas.{one_form}
+use Rattle.scenario_cli.proofs.Inputs.{if_text, if_scenario, if_no_scenario, if_sound, if_unsound, due_fits, sound_report}
+use Rattle.scenario_cli.proofs.Statuses.{not_three, not_zero, not_one, one_left}
 use Rattle.scenario_cli.proofs.top.mcrun.Goals as goal
 
-pub returns-in-Ok-clause-headline : goal.returns-in-Ok-clause-headline
-returns-in-Ok-clause-headline g c = λ is. sound_report (g.S.Source.rest c.args.input.now)
+pub returns-in_default-clause-scenario : goal.returns-in_default-clause-scenario
+returns-in_default-clause-scenario g c = λ form. absurd (c.in_default.ensures.none refl SerialRun form)
 
-pub returns-in-Ok-clause-scenario : goal.returns-in-Ok-clause-scenario
-returns-in-Ok-clause-scenario g c = λ form.
+pub returns-in_default-clause-no_scenario : goal.returns-in_default-clause-no_scenario
+returns-in_default-clause-no_scenario g c = λ form. absurd (c.in_default.ensures.none refl SerialRun form)
+
+pub returns-in_default-clause-sound_frame : goal.returns-in_default-clause-sound_frame
+returns-in_default-clause-sound_frame g c = λ form. absurd (c.in_default.ensures.none refl Frame form)
+
+pub returns-in_default-clause-unsound_frame : goal.returns-in_default-clause-unsound_frame
+returns-in_default-clause-unsound_frame g c = λ form. absurd (c.in_default.ensures.none refl Frame form)
+
+pub returns-in-SerialRun-clause-headline : goal.returns-in-SerialRun-clause-headline
+returns-in-SerialRun-clause-headline g c = λ form is. sound_report (g.S.Source.rest c.args.input.now)
+
+pub returns-in-SerialRun-clause-breaks_off : goal.returns-in-SerialRun-clause-breaks_off
+returns-in-SerialRun-clause-breaks_off g c = λ f form is.
+    let same : f ≡ SerialRun = one_form f SerialRun _ form (rw c.in-SerialRun.is at c.in-Some.ensures.form) in
+    let within : length c.deref.result.now ≤ 8388608 = rw (← c.deref.ensures.value) at c.in-Ok.ensures.within in
+    rw same (if_text _ _ _ (λ t. (length t ≤ input_limit) × ((output : List ℕ) × IsDue SerialRun t output × AppendsPart (g.K.Sink.written c.args.output.now) (g.K.Sink.written c.run_text.new.output) output)) (rw (← c.deref.ensures.value) at c.in-Ok.ensures.bytes) c.in-Ok.ensures.end (within, c.run_text.ensures.breaks_off is))
+
+pub returns-in-SerialRun-clause-scenario : goal.returns-in-SerialRun-clause-scenario
+returns-in-SerialRun-clause-scenario g c = λ form.
     if_scenario _ _ _ _ (rw (← c.deref.ensures.value) at c.in-Ok.ensures.bytes) c.in-Ok.ensures.end (λ s is. not_three c.run_text.result c.run_text.ensures.status (c.run_text.ensures.scenario s is))
 
-pub returns-in-Ok-clause-no_scenario : goal.returns-in-Ok-clause-no_scenario
-returns-in-Ok-clause-no_scenario g c = λ form.
-    if_no_scenario _ _ _ _ (rw (← c.deref.ensures.value) at c.in-Ok.ensures.bytes) c.in-Ok.ensures.end (λ no. not_zero c.run_text.result c.run_text.ensures.status (c.run_text.ensures.no_scenario no))
+pub returns-in-SerialRun-clause-no_scenario : goal.returns-in-SerialRun-clause-no_scenario
+returns-in-SerialRun-clause-no_scenario g c = λ form.
+    if_no_scenario _ _ _ _ (rw (← c.deref.ensures.value) at c.in-Ok.ensures.bytes) c.in-Ok.ensures.end (λ no_one. not_zero c.run_text.result c.run_text.ensures.status (c.run_text.ensures.no_scenario no_one))
+
+pub returns-in-SerialRun-clause-sound_sink : goal.returns-in-SerialRun-clause-sound_sink
+returns-in-SerialRun-clause-sound_sink g c = λ f n form fits takes.
+    let same : f ≡ SerialRun = one_form f SerialRun _ form (rw c.in-SerialRun.is at c.in-Some.ensures.form) in
+    c.run_text.ensures.room n (due_fits SerialRun _ _ _ n (rw (← c.deref.ensures.value) at c.in-Ok.ensures.bytes) c.in-Ok.ensures.end (rw same at fits)) takes
+
+pub returns-in-Ok-clause-right : goal.returns-in-Ok-clause-right
+returns-in-Ok-clause-right g c = λ form is.
+    let within : length c.deref-in-Frame.result.now ≤ 8388608 = rw (← c.deref-in-Frame.ensures.value) at c.in-Ok.ensures.within in
+    if_text _ _ _ (λ t. (length t ≤ input_limit) × ((output : List ℕ) × TellsRight t output × Appends (g.K.Sink.written c.args.output.now) (g.K.Sink.written c.tell_frame.new.output) output)) (rw (← c.deref-in-Frame.ensures.value) at c.in-Ok.ensures.bytes) c.in-Ok.ensures.end (within, c.tell_frame.ensures.right is)
+
+pub returns-in-Ok-clause-wrong : goal.returns-in-Ok-clause-wrong
+returns-in-Ok-clause-wrong g c = λ is.
+    let within : length c.deref-in-Frame.result.now ≤ 8388608 = rw (← c.deref-in-Frame.ensures.value) at c.in-Ok.ensures.within in
+    if_text _ _ _ (λ t. (length t ≤ input_limit) × ((output : List ℕ) × TellsWrong t output × Appends (g.K.Sink.written c.args.output.now) (g.K.Sink.written c.tell_frame.new.output) output)) (rw (← c.deref-in-Frame.ensures.value) at c.in-Ok.ensures.bytes) c.in-Ok.ensures.end (within, c.tell_frame.ensures.wrong is)
+
+pub returns-in-Ok-clause-breaks_off : goal.returns-in-Ok-clause-breaks_off
+returns-in-Ok-clause-breaks_off g c = λ f form is.
+    let same : f ≡ Frame = one_form f Frame _ form (rw c.in-Frame.is at c.in-Some.ensures.form) in
+    let within : length c.deref-in-Frame.result.now ≤ 8388608 = rw (← c.deref-in-Frame.ensures.value) at c.in-Ok.ensures.within in
+    rw same (if_text _ _ _ (λ t. (length t ≤ input_limit) × ((output : List ℕ) × IsDue Frame t output × AppendsPart (g.K.Sink.written c.args.output.now) (g.K.Sink.written c.tell_frame.new.output) output)) (rw (← c.deref-in-Frame.ensures.value) at c.in-Ok.ensures.bytes) c.in-Ok.ensures.end (within, c.tell_frame.ensures.breaks_off is))
+
+pub returns-in-Ok-clause-sound_frame : goal.returns-in-Ok-clause-sound_frame
+returns-in-Ok-clause-sound_frame g c = λ form.
+    if_sound _ _ _ _ (rw (← c.deref-in-Frame.ensures.value) at c.in-Ok.ensures.bytes) c.in-Ok.ensures.end (λ sound. not_one c.tell_frame.result c.tell_frame.ensures.status (c.tell_frame.ensures.sound sound))
+
+pub returns-in-Ok-clause-unsound_frame : goal.returns-in-Ok-clause-unsound_frame
+returns-in-Ok-clause-unsound_frame g c = λ form.
+    if_unsound _ _ _ _ (rw (← c.deref-in-Frame.ensures.value) at c.in-Ok.ensures.bytes) c.in-Ok.ensures.end (λ unsound. one_left c.tell_frame.result c.tell_frame.ensures.status (c.tell_frame.ensures.unsound unsound))
+
+pub returns-in-Ok-clause-over_limit : goal.returns-in-Ok-clause-over_limit
+returns-in-Ok-clause-over_limit g c = λ f form.
+    let within : length c.deref-in-Frame.result.now ≤ 8388608 = rw (← c.deref-in-Frame.ensures.value) at c.in-Ok.ensures.within in
+    if_text _ _ _ (λ t. input_limit < length t → IsOneOf (4 ∷ 6 ∷ 7 ∷ []) c.tell_frame.result) (rw (← c.deref-in-Frame.ensures.value) at c.in-Ok.ensures.bytes) c.in-Ok.ensures.end (λ over. absurd (omega (arith, within, over)))
 
 pub returns-in-Ok-clause-sound_sink : goal.returns-in-Ok-clause-sound_sink
-returns-in-Ok-clause-sound_sink g c = λ n form fits takes.
-    c.run_text.ensures.room n (due_fits _ _ _ n (rw (← c.deref.ensures.value) at c.in-Ok.ensures.bytes) c.in-Ok.ensures.end fits) takes
+returns-in-Ok-clause-sound_sink g c = λ f n form fits takes.
+    let same : f ≡ Frame = one_form f Frame _ form (rw c.in-Frame.is at c.in-Some.ensures.form) in
+    c.tell_frame.ensures.room n (due_fits Frame _ _ _ n (rw (← c.deref-in-Frame.ensures.value) at c.in-Ok.ensures.bytes) c.in-Ok.ensures.end (rw same at fits)) takes

@@ -1,0 +1,22 @@
+use Rattle.std.proofs.Common.{List, ℕ, ◌+◌, drop, get_or, subst, sym, refl}
+use Rattle.std.proofs.lemmas.List.{drop_more}
+use Rattle.scenario_cli.proofs.HexLemmas.{Reading, begins, after_digit, after_blank}
+use Rattle.scenario_cli.proofs.hex.read_hex.Goals.{in-Some+in_ok-high-in-Some, in-None}
+use Rattle.scenario_cli.proofs.hex.read_hex.Goals as goal
+
+pub loop-place-init : goal.loop-place-init
+loop-place-init c = rw c.in-Ok.ensures.items (begins c.args.text.now)
+
+pub loop-place-preserved : goal.loop-place-preserved
+loop-place-preserved c =
+    let text = c.args.text.now in
+    let place = c.loop-place.place in
+    let so_far = subst (λ (r : List ℕ). Reading text c.loop-place.bytes.items r place c.loop-place.high) (drop_more text place 0 c.loop-place-test.true) c.loop-place.invariant in
+    let rest = drop (place + 1) text in
+    elim c.match-digit_of.branch [
+      | in-Some+in_ok-high-in-Some w ↦
+          let read = w.in-Some.ensures.value in
+          rw (w.bytes-is, w.high-is) (after_digit text c.loop-place.bytes.items w.take_digit.new.bytes.items rest place (get_or text place 0) w.in-Some.digit c.loop-place.high w.in_ok-high-in-Some.high read.0 read.1 read.2 w.in_ok-high-in-Some.ensures.taken so_far)
+      | in-None w ↦
+          rw (w.bytes-is, w.high-is) (after_blank text c.loop-place.bytes.items rest place (get_or text place 0) c.loop-place.high (w.in-None.ensures.none refl) (sym w.if-is_blank.ensures) so_far)
+    ]
