@@ -1,0 +1,24 @@
+ghost use Rattle.std.specs.Prelude.{◌≡◌};
+ghost use Rattle.lane_end.specs.declared.fault.LaneFault.TheVariants.{NoMemory};
+
+use std::alloc::AllocError;
+use thiserror::Error;
+
+/// Why no lane was made.
+#[derive(Debug, Drop, Error)]
+pub enum LaneFault {
+    /// The size is not from 1 to 256.
+    #[error("the size is not from 1 to 256")]
+    Size,
+    /// Want of memory.
+    #[error("no memory")]
+    NoMemory,
+}
+
+impl From<AllocError> for LaneFault {
+    ghost from_gives = { λ _ e. e ≡ NoMemory };
+
+    fn from(_: AllocError) -> LaneFault {
+        LaneFault::NoMemory
+    }
+}
