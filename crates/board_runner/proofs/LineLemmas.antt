@@ -1,5 +1,5 @@
 -- A line's entries, noted one after the other.
-use Rattle.std.proofs.Common.{◌≡◌, ℕ, zero, suc, subst, ◌+◌, ◌≤◌, ◌<◌, List, [], ◌∷◌, ◌++◌, length, drop, get_or, refl, sym, ap, ◌∙◌, arith}
+use Rattle.std.proofs.Common.{◌≡◌, ℕ, zero, suc, subst, ◌+◌, ◌<◌, List, [], ◌∷◌, ◌++◌, length, drop, get_or, refl, sym, ap, ◌∙◌, arith}
 use Rattle.std.specs.Prelude.{Result, Ok, Err, OnOk}
 use Rattle.std.specs.List.{AllByRecursion}
 use Rattle.mc_base.specs.declared.refusal.NoMemory.{NoMemory}
@@ -10,6 +10,7 @@ use Rattle.board_model.specs.Grammar.{IsLawfulCall, IsLawfulLine}
 use Rattle.board_model.specs.Journal.{Line, call_line, PlainEntry, called, PlainAnswer, noted, noted_all}
 use Rattle.board_model.specs.Answer.{answer}
 use Rattle.board_model.specs.Serial.{Alone, after_own_turn, before_answer, line_entries, after_line, after_lines, entries_from}
+use Rattle.domain_core.specs.Written.{Written}
 use Rattle.domain_core.specs.Calls.{Calls}
 use Rattle.board_runner.specs.Lines.{RunsLine, AsksAtMost}
 
@@ -18,10 +19,11 @@ noted_all-append lines [] fs = refl
 noted_all-append lines (e ∷ es) fs = noted_all-append (noted lines e) es fs
 
 -- a call and the note of its answer
-pub runs : (number node : ℕ) (call : Call) (old new : Alone) (lines mid lines' : List Line) (answered : PlainAnswer) → Calls node call old new lines mid answered → lines' ≡ mid ++ call_line number answered ∷ [] → RunsLine number node call old new lines lines'
-runs number node call old new lines mid lines' answered made told = record {
+pub runs : (number node : ℕ) (call : Call) (old new : Alone) (lines : List Line) (before after : Written) (lines' : List Line) (answered : PlainAnswer) → Calls node call old new before after answered → before.lines ≡ lines → lines' ≡ after.lines ++ call_line number answered ∷ [] → RunsLine number node call old new lines lines'
+runs number node call old new lines before after lines' answered made same told = record {
   state = made.state;
-  told = told ∙ ap (λ (a : PlainAnswer). mid ++ call_line number a ∷ []) made.answer ∙ ap (λ (ls : List Line). ls ++ call_line number (answer (after_own_turn old).state node call) ∷ []) made.told
+  told = told ∙ ap (λ (a : PlainAnswer). after.lines ++ call_line number a ∷ []) made.answer
+      ∙ ap (λ (ls : List Line). ls ++ call_line number (answer (after_own_turn old).state node call) ∷ []) (made.told ∙ ap (λ (ls : List Line). noted_all ls (before_answer old node call)) same)
       ∙ sym (noted_all-append lines (before_answer old node call) (called number (answer (after_own_turn old).state node call) ∷ []));
 }
 

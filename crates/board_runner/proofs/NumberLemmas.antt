@@ -2,7 +2,7 @@
 use Rattle.std.proofs.lemmas.Bool.{eq-eqb}
 use Rattle.std.specs.Prelude.{filter, ◌==◌, Option, None, Some, IsNone, IsSome}
 use Rattle.std.specs.List.{AllByRecursion}
-use Rattle.std.proofs.Common.{◌≡◌, Bool, cond, ap₂, ℕ, ◌+◌, ◌-◌, ◌≤◌, List, [], ◌∷◌, ◌++◌, length, map, drop, count_by, eqb, get_or, refl, sym, ap, ◌∙◌, subst, arith, length-append}
+use Rattle.std.proofs.Common.{◌≡◌, Bool, cond, ap₂, ℕ, ◌+◌, ◌-◌, ◌≤◌, List, [], ◌∷◌, ◌++◌, length, map, count_by, eqb, get_or, refl, sym, ap, ◌∙◌, subst, arith, length-append}
 use Rattle.board_model.specs.declared.totals.Totals.{Totals}
 use Rattle.board_model.specs.declared.totals.LanePlaces.{LanePlaces}
 use Rattle.board_model.specs.declared.scenario.DomainLine.{DomainLine}
@@ -16,11 +16,9 @@ use Rattle.board_model.specs.Traffic.{put_to, taken_from}
 use Rattle.board_model.specs.Messages.{totals, accepted, messages_taken, messages_queued, messages_in_ring, dropped as messages_dropped}
 use Rattle.board_model.specs.Tallies.{is_put_line, is_take_line, is_drop_line, is_gives_line}
 use Rattle.board_model.specs.Places.{places_of}
-use Rattle.board_model.specs.Report.{lines_of}
 use Rattle.board_model.specs.Serial.{Alone, opened, entries_from, after_lines, serial}
-use Rattle.board_model.proofs.BoardsOne.{own_lane}
 use Rattle.board_model.proofs.SerialBoard.{serial_is_board_run, own_ring}
-use Rattle.board_model.proofs.SerialCounts.{serial_entries, serial_end, lawfully, lawful_lanes, serial_journal_is, serial_put_lines, serial_take_lines, serial_standing, serial_places, ring_of, serial_queued}
+use Rattle.board_model.proofs.SerialCounts.{serial_entries, serial_end, lawfully, lawful_lanes, serial_put_lines, serial_take_lines, serial_standing, serial_places, ring_of, serial_queued}
 use Rattle.board_model.proofs.MessageSends.{serial_tells}
 use Rattle.board_runner.specs.Outcome.{IsEnd}
 

@@ -7,13 +7,8 @@ ghost use Rattle.domain_core.specs.Entry.{plain_answer, bytes_in_answer};
 ghost use Rattle.board_runner.specs.Lines.{RunsLine, AsksAtMost};
 
 use board_model::{Call, CallLine};
-use domain_core::{Answer, Domain, Entry, Journal};
+use domain_core::{Answer, CALL_BYTES, CALL_ENTRIES, Domain, Entry, Journal};
 use mc_base::{EndName, Local, NoMemory, Priority};
-
-/// The room that a call needs in the journal.
-const CALL_ENTRIES: u32 = 160;
-
-const CALL_BYTES: u32 = 67_584;
 
 /// Makes the call of a line and notes its answer. What a receive gives goes through `room`.
 pub fn run_line(

@@ -1,3 +1,5 @@
+//! What a run leaves.
+
 use board_model::{LanePlaces, Seq, Totals};
 use domain_core::Journal;
 

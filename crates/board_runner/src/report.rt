@@ -1,3 +1,5 @@
+//! The text of a report, put piece by piece.
+
 ghost use Rattle.std.specs.Prelude.{◌≡◌, ◌≤◌, ◌++◌, ◌∷◌, [], ℕ, length, codes, decimal, IsOk};
 ghost use Rattle.std.specs.List.{flat_map};
 ghost use Rattle.outer_io.specs.Faults.{HasCause};

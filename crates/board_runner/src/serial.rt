@@ -1,3 +1,5 @@
+//! The serial run.
+
 ghost use Rattle.std.specs.Prelude.{◌≡◌, ◌+◌, ◌-◌, ◌<◌, ◌≤◌, ◌^◌, ◌∷◌, [], IfOk, OnOk, length};
 ghost use Rattle.std.specs.List.{AllByRecursion};
 ghost use Rattle.board_model.specs.Grammar.{IsLawful, IsLawfulLine};
@@ -16,7 +18,8 @@ use std::alloc::Global;
 /// The most bytes that a receive asks for.
 const MAX_ASKED: usize = 9000;
 
-/// Runs the calls of a lawful scenario in the file's order. Each look shows all that stands.
+/// Runs the calls of a lawful scenario in the file's order. Each look shows all that stands. Want of memory is the only
+/// refusal; it may come at any time.
 pub fn run_serial(alloc: Global, scenario: &Scenario) -> Result<Outcome, NoMemory>
     requires lawful { IsLawful scenario.now }
     requires few { length scenario.now.calls < 2 ^ 32 - 1 }

@@ -13,7 +13,7 @@ use Rattle.board_model.specs.State.{DomainState, Peer, Item, place_at, endpoint_
 use Rattle.board_model.specs.Answer.{answer, answer_by, puts, refusal, success, success_puts, unless_refused, has_channel, address_of, local, lacks_buffers}
 use Rattle.board_model.specs.Effect.{success_effect, success_returns, with_used, used_one, received}
 use Rattle.board_model.specs.Serial.{Alone, after_own_call, frame_put}
-use Rattle.domain_core.specs.Held.{Table, with_received_at}
+use Rattle.domain_core.specs.Table.{Table, with_received_at}
 use Rattle.domain_core.specs.Lane.{Lane, with_frame, with_one_used, with_returned}
 use Rattle.domain_core.specs.Alone.{state_of, alone}
 use Rattle.domain_core.proofs.Turning.{own-known, own-place}

@@ -21,7 +21,7 @@ use Rattle.board_model.specs.Lists.{changed, changed_at}
 use Rattle.board_model.specs.State.{DomainState, Endpoint, Item, place_of_address}
 use Rattle.board_model.specs.Dealing.{Row, row, fault_row, first_row, row_for, left_by, fault_word, is_letter, item_of, queued_last, priority_in, content_in, keeps_buffer}
 use Rattle.board_model.specs.Serial.{word_of}
-use Rattle.domain_core.specs.Held.{holding}
+use Rattle.domain_core.specs.Table.{holding}
 use Rattle.domain_core.specs.Dealt.{IsReturned, IsQueued, message}
 
 -- ---- first faults

@@ -15,7 +15,7 @@ use Rattle.board_model.specs.Dealing.{queued_last}
 use Rattle.board_model.specs.Effect.{received}
 use Rattle.domain_core.specs.declared.carried.Held.{Held}
 use Rattle.domain_core.specs.declared.endpoints.Endpoint.{Endpoint}
-use Rattle.domain_core.specs.Held.{items_in}
+use Rattle.domain_core.specs.Table.{items_in}
 use Rattle.domain_core.specs.InTable.{item_in, endpoint_of, endpoints_of, HaveRoom, HaveAddresses}
 
 -- ---- places

@@ -9,7 +9,7 @@ use Rattle.board_model.specs.Dealing.{keeps_buffer}
 use Rattle.board_model.specs.Serial.{returned_at_once}
 use Rattle.domain_core.specs.declared.dealing.Verdict.{Verdict}
 use Rattle.domain_core.specs.declared.dealing.Verdict.TheVariants as verdict
-use Rattle.domain_core.specs.Held.{Table, with_endpoints}
+use Rattle.domain_core.specs.Table.{Table, with_endpoints}
 use Rattle.domain_core.specs.Lane.{Lane}
 use Rattle.domain_core.specs.Dealt.{Scene, Takes, TakesFirst, IsVerdict, fate_of, word_at, endpoints_after, taken_at, endpoints_after_all}
 

@@ -15,7 +15,7 @@ use Rattle.board_model.specs.State.{DomainState, Peer, Endpoint, Item, place_of_
 use Rattle.board_model.specs.Dealing.{Row, row_for, left_by, after_frame, after_takes, HaveWords, is_letter, item_of, queued_last}
 use Rattle.board_model.specs.Turn.{IsTurn, IsVisit, after_turn, after_looks, looked_at, turn_limit}
 use Rattle.board_model.specs.Serial.{Alone, word_of, dealt, own_visit, own_turn, own_due, own_frames, visit_of, due_to, after_own_turn, returned_at_once}
-use Rattle.domain_core.specs.Held.{Table, holding, items_in}
+use Rattle.domain_core.specs.Table.{Table, holding, items_in}
 use Rattle.domain_core.specs.Lane.{Lane, AreForEndpoints}
 use Rattle.domain_core.specs.Dealt.{word_at, endpoints_after, taken_at, endpoints_after_all}
 use Rattle.domain_core.specs.Turned.{visit, count_taken, frames_taken, table_after, lane_after}

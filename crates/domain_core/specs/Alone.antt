@@ -4,7 +4,7 @@ use Rattle.std.specs.Prelude.{◌≡◌, ℕ, ◌+◌, ◌≤◌, [], ◌∷◌,
 use Rattle.board_model.specs.State.{DomainState, Peer}
 use Rattle.board_model.specs.Serial.{Alone}
 use Rattle.domain_core.specs.declared.domain.Domain.TheInside.{Inside}
-use Rattle.domain_core.specs.Held.{Table, items_in}
+use Rattle.domain_core.specs.Table.{Table, items_in}
 use Rattle.domain_core.specs.Lane.{Lane}
 
 -- the domain as its own peer

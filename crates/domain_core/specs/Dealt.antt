@@ -10,7 +10,7 @@ use Rattle.board_model.specs.Dealing.{row_for, after_frame, keeps_buffer, queued
 use Rattle.board_model.specs.Serial.{word_of, returned_at_once}
 use Rattle.domain_core.specs.declared.dealing.Verdict.{Verdict}
 use Rattle.domain_core.specs.declared.dealing.Verdict.TheVariants as verdict
-use Rattle.domain_core.specs.Held.{Table, holding, with_endpoints}
+use Rattle.domain_core.specs.Table.{Table, holding, with_endpoints}
 use Rattle.domain_core.specs.Lane.{Lane, with_first_taken, with_returned}
 
 -- the word of a frame from a peer, and the endpoints after it

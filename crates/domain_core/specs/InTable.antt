@@ -9,7 +9,7 @@ use Rattle.board_model.specs.State as state
 use Rattle.domain_core.specs.declared.carried.Held.{Held}
 use Rattle.domain_core.specs.declared.endpoints.Endpoint.{Endpoint}
 use Rattle.domain_core.specs.declared.endpoints.Endpoints.TheInside.{Inside}
-use Rattle.domain_core.specs.Held.{Table}
+use Rattle.domain_core.specs.Table.{Table}
 
 -- the message in a buffer, of this domain
 abbrev pub item_in : ℕ → Held → state.Item

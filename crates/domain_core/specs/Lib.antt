@@ -3,7 +3,7 @@ pub mod Kept
 pub mod Entry
 pub mod Lane
 pub mod InLane
-pub mod Held
+pub mod Table
 pub mod InTable
 pub mod Dealt
 pub mod Turned

@@ -5,7 +5,7 @@ use Rattle.board_model.specs.Journal.{Visit, noted, turned}
 use Rattle.board_model.specs.State.{Endpoint}
 use Rattle.board_model.specs.Turn.{turn_limit}
 use Rattle.board_model.specs.Serial.{returned_at_once}
-use Rattle.domain_core.specs.Held.{Table}
+use Rattle.domain_core.specs.Table.{Table}
 use Rattle.domain_core.specs.Lane.{Lane}
 use Rattle.domain_core.specs.Dealt.{Scene, taken_at, endpoints_after_all}
 

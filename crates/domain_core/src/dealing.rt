@@ -25,6 +25,7 @@ pub enum Verdict {
 }
 
 impl Verdict {
+    /// The word for what becomes of the frame.
     pub fn fate(&self) -> Fate
         ensures { result ≡ fate_of self.now }
     {

@@ -7,6 +7,7 @@ ghost use Rattle.board_model.specs.State.{lent_from, queued_from, queued_items};
 ghost use Rattle.board_model.specs.Turn.{IsTurn};
 ghost use Rattle.board_model.specs.Answer.{address_of, answer, puts};
 ghost use Rattle.board_model.specs.Serial.{opening_alone, own_turn, after_own_turn, after_own_call, put_entry};
+ghost use Rattle.domain_core.specs.Written.{call_entries, call_bytes};
 ghost use Rattle.domain_core.specs.Calls.{Calls, created, sent, received};
 
 use crate::endpoints::Endpoints;
@@ -18,6 +19,12 @@ use mc_base::{EndName, Got, ITEM_SIZE, Local, NoMemory, Priority, Refusal};
 use std::alloc::Global;
 use std::marker::Model;
 
+/// The room that a call needs in the journal: for so many entries.
+pub const CALL_ENTRIES: u32 = 160;
+
+/// The room that a call needs in the journal: for so many bytes in its entries.
+pub const CALL_BYTES: u32 = 67_584;
+
 /// How many buffers of the lane from a peer stand in queues, and how many are lent.
 #[derive(Clone, Copy, Debug, PartialEq, Eq)]
 pub struct Places {
@@ -28,7 +35,8 @@ pub struct Places {
 /// A domain alone over its own lane.
 ///
 /// Each call that takes a journal makes one turn first, notes it, and notes what it puts itself. It has the condition that
-/// 160 entries and 67,584 bytes are spare in the journal. A refused call changes nothing after its turn.
+/// there is room in the journal for `CALL_ENTRIES` entries of `CALL_BYTES` bytes together, and uses no more. Refusals are
+/// tested in the order told. A refused call changes nothing after its turn.
 #[derive(Debug, Drop)]
 pub struct Domain {
     number: u8,
@@ -51,7 +59,7 @@ impl Model for Domain {
 
 impl Domain {
     /// A domain with its number, 0 to 7, 1 to 16 nodes, and 1 to 256 buffers for the messages inside it. It makes room for
-    /// all that its calls need.
+    /// all that its calls need. Want of memory is the only refusal.
     pub fn open(alloc: Global, number: u8, nodes: u8, pool: u32) -> Result<Domain, NoMemory>
         requires number { number ≤ 7 }
         requires some_nodes { 1 ≤ nodes }
@@ -73,9 +81,9 @@ impl Domain {
     /// Refused with `NodeInvalid` where the domain has no such node, with `ExistsAlready` where the endpoint is live, and
     /// with `EndpLimit` where 64 records are in use.
     pub fn create(&mut self, journal: &mut Journal, at: Local) -> Result<u32, Refusal>
-        requires entry_room { 160 ≤ journal.old.entry_room }
-        requires byte_room { 67584 ≤ journal.old.byte_room }
-        ensures { Calls at.node (Create at.port) self.old self.new journal.old.lines journal.new.lines (created result) }
+        requires entry_room { call_entries ≤ journal.old.entry_room }
+        requires byte_room { call_bytes ≤ journal.old.byte_room }
+        ensures { Calls at.node (Create at.port) self.old self.new journal.old journal.new (created result) }
     {
         self.turn(journal);
         self.add_endpoint(at)
@@ -93,9 +101,9 @@ impl Domain {
         priority: Priority,
         bytes: &[u8],
     ) -> Result<(), Refusal>
-        requires entry_room { 160 ≤ journal.old.entry_room }
-        requires byte_room { 67584 ≤ journal.old.byte_room }
-        ensures { Calls from.node (MsgSend from.port to priority bytes.now) self.old self.new journal.old.lines journal.new.lines (sent result) }
+        requires entry_room { call_entries ≤ journal.old.entry_room }
+        requires byte_room { call_bytes ≤ journal.old.byte_room }
+        ensures { Calls from.node (MsgSend from.port to priority bytes.now) self.old self.new journal.old journal.new (sent result) }
     {
         self.turn(journal); // Buffers that came back are free from here on.
         self.put_message(journal, from, to, priority, bytes)
@@ -111,9 +119,9 @@ impl Domain {
         at: Local,
         out: &mut [u8],
     ) -> Result<Got, Refusal>
-        requires entry_room { 160 ≤ journal.old.entry_room }
-        requires byte_room { 67584 ≤ journal.old.byte_room }
-        ensures call { Calls at.node (MsgRecv at.port (length out.old)) self.old self.new journal.old.lines journal.new.lines (received result out.new) }
+        requires entry_room { call_entries ≤ journal.old.entry_room }
+        requires byte_room { call_bytes ≤ journal.old.byte_room }
+        ensures call { Calls at.node (MsgRecv at.port (length out.old)) self.old self.new journal.old journal.new (received result out.new) }
         ensures given { IfOk result (λ got. got.given ≤ length out.old) }
         ensures rest { IfOk result (λ got. drop got.given out.new ≡ drop got.given out.old) }
         ensures refused { OnErr result (out.new ≡ out.old) }
@@ -145,6 +153,7 @@ impl Domain {
         self.endpoints.queued() as u32
     }
 
+    /// Makes a turn, and notes it.
     fn turn(&mut self, journal: &mut Journal)
         requires entry_room { 11 ≤ journal.old.entry_room }
         requires byte_room { 4096 ≤ journal.old.byte_room }
@@ -157,6 +166,7 @@ impl Domain {
         make_turn(&mut self.endpoints, &mut self.lane, journal, self.number);
     }
 
+    /// `create` after its turn.
     fn add_endpoint(&mut self, at: Local) -> Result<u32, Refusal>
         ensures answer { created result ≡ answer self.old.state at.node (Create at.port) }
         ensures alone { self.new ≡ after_own_call self.old at.node (Create at.port) }
@@ -173,6 +183,7 @@ impl Domain {
         }
     }
 
+    /// `msg_send` after its turn.
     fn put_message(
         &mut self,
         journal: &mut Journal,
@@ -186,6 +197,8 @@ impl Domain {
         ensures answer { sent result ≡ answer self.old.state from.node (MsgSend from.port to priority bytes.now) }
         ensures alone { self.new ≡ after_own_call self.old from.node (MsgSend from.port to priority bytes.now) }
         ensures told { journal.new.lines ≡ noted_all journal.old.lines (map put_entry (puts self.old.state from.node (MsgSend from.port to priority bytes.now))) }
+        ensures entry_room { journal.old.entry_room ≤ journal.new.entry_room + 1 }
+        ensures byte_room { journal.old.byte_room ≤ journal.new.byte_room + 512 }
     {
         let Some(source) = self.endpoints.address_at(from) else {
             return Err(Refusal::EndpInvalid);
@@ -223,6 +236,7 @@ impl Domain {
         })
     }
 
+    /// `msg_recv` after its turn.
     fn take_message(&mut self, at: Local, out: &mut [u8]) -> Result<Got, Refusal>
         ensures answer { received result out.new ≡ answer self.old.state at.node (MsgRecv at.port (length out.old)) }
         ensures alone { self.new ≡ after_own_call self.old at.node (MsgRecv at.port (length out.old)) }

@@ -6,7 +6,7 @@ ghost use Rattle.std.specs.VecDeque.{deque_len, deque_capacity};
 ghost use Rattle.board_model.specs.State.{address_at, endpoint_at, place_at, place_of_address, queue_in, is_from};
 ghost use Rattle.board_model.specs.Answer.{has_channel};
 ghost use Rattle.board_model.specs.Choice.{best, best_place, least, without_best};
-ghost use Rattle.domain_core.specs.Held.{Table, opening_table, holding, items_in, with_endpoint, with_item_at, with_received_at};
+ghost use Rattle.domain_core.specs.Table.{Table, opening_table, holding, items_in, with_endpoint, with_item_at, with_received_at};
 ghost use Rattle.domain_core.specs.InTable.{item_in, IsSpare};
 
 use crate::carried::Held;
@@ -34,7 +34,7 @@ pub struct Endpoints {
 }
 
 impl Model for Endpoints {
-    ghost use Rattle.domain_core.specs.Held.{Table};
+    ghost use Rattle.domain_core.specs.Table.{Table};
 
     ghost Value = { Table };
 

@@ -33,7 +33,7 @@ impl Model for Journal {
 }
 
 impl Journal {
-    /// A journal without entries. It takes no memory before the first `reserve`.
+    /// A journal without entries. It takes no memory before the first `reserve`, so `NoMemory` never comes today.
     pub fn new(alloc: Global) -> Result<Journal, NoMemory>
         ensures { IfOk result (λ j. j.lines ≡ []) }
     {
@@ -44,7 +44,7 @@ impl Journal {
     }
 
     /// Makes room for as many more entries, which hold as many bytes together. What is kept stays, and so does the
-    /// room that there is. Where room is made, it at least doubles.
+    /// room that there is, also at want of memory, which is the only refusal. Where room is made, it at least doubles.
     pub fn reserve(&mut self, entries: u32, bytes: u32) -> Result<(), NoMemory>
         ensures lines { self.new.lines ≡ self.old.lines }
         ensures entry_room { OnOk result (entries ≤ self.new.entry_room) }
@@ -61,7 +61,10 @@ impl Journal {
         Ok(())
     }
 
-    /// Notes an entry. An idle turn is noted by itself, and joins the idle turns before it.
+    /// Notes an entry, and copies its bytes once. There has to be room for one entry more and for its bytes.
+    ///
+    /// An idle turn is noted by itself, as `Idle` with `turns` 1, and joins the idle turns of the last entry. A count that
+    /// stands at the greatest `u64` is not joined further.
     pub fn note(&mut self, entry: Entry<'_>)
         requires entry_room { 0 < self.old.entry_room }
         requires byte_room { bytes_in entry ≤ self.old.byte_room }

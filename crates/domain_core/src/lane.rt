@@ -1,6 +1,7 @@
 //! The lane from the domain to itself. Its buffers are the domain's pool.
 
-ghost use Rattle.std.specs.Prelude.{◌≡◌, ◌≤◌, ◌<◌, ◌+◌, ◌∷◌, IfOk, IsNone, ◌↔◌, length};
+ghost use Rattle.std.specs.Prelude.{◌≡◌, ◌≤◌, ◌<◌, ◌+◌, ◌∷◌, IfOk, IsNone, ◌↔◌, length, map};
+ghost use Rattle.std.specs.List.{range_with_len};
 ghost use Rattle.std.specs.VecDeque.{deque_len, deque_capacity};
 ghost use Rattle.domain_core.specs.Lane.{Lane, opening_lane, looked_back, looked_ahead, with_first_taken, with_one_used, with_frame, with_returned, AreForEndpoints};
 ghost use Rattle.domain_core.specs.InLane.{frame_in};
@@ -128,6 +129,7 @@ impl OwnLane {
 fn buffers(alloc: Global, count: u32) -> Result<VecDeque<Buffer>, NoMemory>
     requires { count ≤ 256 }
     ensures len { IfOk result (λ q. deque_len q ≡ count) }
+    ensures numbers { IfOk result (λ q. map (λ b. b.number) q.items ≡ range_with_len 0 count) }
     ensures capacity { IfOk result (λ q. count ≤ deque_capacity q) }
 {
     let Ok(mut buffers) = VecDeque::with_capacity(alloc, count as usize) else {

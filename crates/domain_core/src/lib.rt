@@ -14,7 +14,7 @@ mod messages;
 mod threads;
 mod turn;
 
-pub use domain::{Domain, Places};
+pub use domain::{CALL_BYTES, CALL_ENTRIES, Domain, Places};
 pub use fates::fault_fate;
 pub use journal::{Answer, Entry, Journal};
 pub use threads::may_cross_threads;

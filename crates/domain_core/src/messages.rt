@@ -14,7 +14,8 @@ use rpmsg_frame::{made_is_frame, write_header};
 /// Where the content lies in the buffer of a message.
 const CONTENT: usize = FRAME_HEADER_SIZE + LETTER_HEADER_SIZE;
 
-/// Writes a message into a buffer, with its headers. The destination is no address below those of endpoints.
+/// Writes a message of at most 488 bytes into a buffer, with its headers. The destination is an endpoint's address, which
+/// is 1024 or more.
 pub fn fill(
     buffer: Buffer,
     source: u32,

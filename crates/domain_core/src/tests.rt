@@ -52,7 +52,7 @@ fn made(
     journal: &mut Journal,
     call: Call,
 ) -> Result<Option<Result<u32, Refusal>>, NoMemory> {
-    journal.reserve(160, 67_584)?;
+    journal.reserve(CALL_ENTRIES, CALL_BYTES)?;
     match call {
         Call::Create { node, port } => Ok(Some(domain.create(journal, Local { node, port }))),
         Call::Send {

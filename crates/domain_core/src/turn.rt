@@ -3,7 +3,7 @@
 ghost use Rattle.std.specs.Prelude.{◌≡◌, ◌≤◌, ◌<◌, ◌+◌, ◌*◌, ◌++◌, ◌∷◌, [], length};
 ghost use Rattle.board_model.specs.Journal.{looked, back_line, see_line, turn_line, taken};
 ghost use Rattle.board_model.specs.Serial.{returned_at_once};
-ghost use Rattle.domain_core.specs.Held.{items_in, with_endpoints};
+ghost use Rattle.domain_core.specs.Table.{items_in, with_endpoints};
 ghost use Rattle.domain_core.specs.Lane.{with_returned, AreForEndpoints};
 ghost use Rattle.domain_core.specs.InLane.{frame_in};
 ghost use Rattle.domain_core.specs.Dealt.{IsVerdict, Takes, TakesFirst, scene, endpoints_after, fate_of};

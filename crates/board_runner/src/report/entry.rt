@@ -1,3 +1,5 @@
+//! The lines of a journal in a report.
+
 ghost use Rattle.std.specs.Prelude.{◌≡◌, ◌++◌, ◌∷◌, [], codes, decimal, length, nat_lt, if◌then◌else◌};
 ghost use Rattle.mc_base.specs.Text.{hex_text};
 ghost use Rattle.outer_io.specs.Puts.{Puts};

@@ -1,3 +1,5 @@
+//! The words of a report: of refusals, and of what became of frames.
+
 ghost use Rattle.std.specs.Prelude.{◌≡◌};
 ghost use Rattle.board_model.specs.Dealing.{fault_word as word_of_fault};
 ghost use Rattle.board_model.specs.Report.{refusal_text, fate_text};

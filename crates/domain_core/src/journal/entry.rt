@@ -1,3 +1,5 @@
+//! The entries of a journal, as they are noted and read.
+
 use mc_base::{Fate, Refusal};
 
 /// The answer of a call.

@@ -1,6 +1,5 @@
 use Rattle.std.proofs.Common.{◌≡◌, Some, Option, ap, sym, ◌∙◌, arith}
 use Rattle.std.specs.Prelude.{slice_get, option_map}
-use Rattle.board_model.specs.Journal.{Line}
 use Rattle.domain_core.specs.Entry.{line_of_entry}
 use Rattle.domain_core.specs.declared.journal.entry.Entry.{Entry}
 use Rattle.board_model.specs.Tallies.{is_put_line, is_take_line, is_gives_line, is_drop_line}

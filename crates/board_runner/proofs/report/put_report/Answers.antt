@@ -2,11 +2,9 @@ use Rattle.std.proofs.Common.{◌≡◌, ◌++◌, ◌∷◌, [], get_or, ap, sy
 use Rattle.std.specs.Prelude.{codes, decimal}
 use Rattle.board_model.specs.declared.scenario.DomainLine.{DomainLine}
 use Rattle.board_model.specs.Grammar.{line_of}
-use Rattle.board_model.specs.Scenario.{rising}
-use Rattle.board_model.specs.Report.{report_of, journals_text, lines_text}
+use Rattle.board_model.specs.Report.{report_of, lines_text}
 use Rattle.domain_core.specs.Written.{Written}
 use Rattle.outer_io.proofs.Writing.{puts_then}
-use Rattle.board_runner.specs.Outcome.{lines_in}
 use Rattle.board_runner.proofs.ReportLemmas.{one_journal}
 use Rattle.board_runner.proofs.report.put_report.Goals as goal
 

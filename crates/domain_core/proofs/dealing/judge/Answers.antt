@@ -4,7 +4,7 @@ use Rattle.mc_base.specs.LetterFaults.{letter_faults}
 use Rattle.mc_base.specs.Letter.{plain_letter}
 use Rattle.std.specs.Prelude.{slice_index, ◌==◌}
 use Rattle.board_model.specs.State.{place_of_address}
-use Rattle.domain_core.specs.Held.{holding}
+use Rattle.domain_core.specs.Table.{holding}
 use Rattle.domain_core.proofs.Frames.{letter-faulty, faultless, returned-faulty, returned-nobody, returned-other, other-letter, queued-message, none-from}
 use Rattle.domain_core.proofs.dealing.judge.Goals as goal
 

@@ -3,7 +3,7 @@ use Rattle.std.proofs.lemmas.List.{drop-take, take-take, length-take}
 use Rattle.board_model.specs.Lists.{changed_at}
 use Rattle.board_model.specs.State.{Endpoint}
 use Rattle.board_model.specs.Dealing.{queued_last}
-use Rattle.domain_core.specs.Held.{with_endpoints}
+use Rattle.domain_core.specs.Table.{with_endpoints}
 use Rattle.domain_core.specs.Dealt.{message}
 use Rattle.domain_core.proofs.turn.settle.Goals as goal
 

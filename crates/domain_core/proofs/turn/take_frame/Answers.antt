@@ -2,7 +2,7 @@ use Rattle.std.proofs.Common.{◌≡◌, ◌++◌, ◌∷◌, [], ◌∙◌, ap,
 use Rattle.mc_base.specs.declared.fate.Fate.{Fate}
 use Rattle.board_model.specs.Journal.{taken, take_line}
 use Rattle.board_model.specs.Serial.{returned_at_once}
-use Rattle.domain_core.specs.Held.{with_endpoints}
+use Rattle.domain_core.specs.Table.{with_endpoints}
 use Rattle.domain_core.specs.Lane.{Lane, with_returned, with_first_taken}
 use Rattle.domain_core.specs.InLane.{frame_in}
 use Rattle.domain_core.specs.Dealt.{IsVerdict, word_at, fate_of, endpoints_after}

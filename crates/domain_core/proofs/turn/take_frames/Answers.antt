@@ -1,5 +1,5 @@
 use Rattle.std.proofs.Common.{◌∙◌, ap, arith, length}
-use Rattle.domain_core.specs.Held.{Table}
+use Rattle.domain_core.specs.Table.{Table}
 use Rattle.domain_core.specs.Lane.{Lane}
 use Rattle.domain_core.proofs.Taking.{Takes-more}
 use Rattle.domain_core.proofs.turn.take_frames.Goals as goal

@@ -1,5 +1,5 @@
 use Rattle.std.proofs.Common.{◌≡◌, ◌≤◌, ◌+◌, ◌*◌, length}
-use Rattle.domain_core.specs.Held.{items_in}
+use Rattle.domain_core.specs.Table.{items_in}
 use Rattle.domain_core.specs.Dealt.{Takes, scene}
 use Rattle.domain_core.proofs.turn.take_frames.Given as goal
 

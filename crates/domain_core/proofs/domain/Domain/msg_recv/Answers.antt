@@ -1,4 +1,4 @@
-use Rattle.std.proofs.Common.{◌∙◌, ap, sym, refl, length, List, ℕ, map}
+use Rattle.std.proofs.Common.{arith, ◌∙◌, ap, sym, refl, length, List, ℕ, map}
 use Rattle.board_model.specs.declared.scenario.Call.{Call}
 use Rattle.board_model.specs.declared.scenario.Call.TheVariants.{MsgRecv}
 use Rattle.board_model.specs.Journal.{noted, noted_all, turned}
@@ -17,4 +17,6 @@ returns-clause-call c =
       answer = c.take_message.ensures.answer ∙ ap (λ (a : Alone). answer a.state node call) c.turn.ensures.alone;
       state = c.take_message.ensures.alone ∙ ap (λ (a : Alone). after_own_call a node call) c.turn.ensures.alone;
       told = c.turn.ensures.told ∙ ap (λ (ps : List (ℕ × List ℕ)). noted_all (noted c.args.journal.now.lines (turned (own_turn old))) (map put_entry ps)) (sym (puts-nothing (after_own_turn old).state node call refl));
+      entry_room = omega (arith, c.turn.ensures.entry_room);
+      byte_room = omega (arith, c.turn.ensures.byte_room);
     }

@@ -1,4 +1,4 @@
-use Rattle.std.proofs.Common.{◌∙◌, ap, List, map}
+use Rattle.std.proofs.Common.{arith, ◌∙◌, ap, List, map}
 use Rattle.board_model.specs.declared.scenario.Call.{Call}
 use Rattle.board_model.specs.declared.scenario.Call.TheVariants.{MsgSend}
 use Rattle.board_model.specs.Journal.{Line, noted_all}
@@ -18,4 +18,6 @@ returns c =
       told = c.put_message.ensures.told
           ∙ ap (λ (a : Alone). noted_all c.turn.new.journal.lines (map put_entry (puts a.state node call))) c.turn.ensures.alone
           ∙ ap (λ (ls : List Line). noted_all ls (map put_entry (puts (after_own_turn old).state node call))) c.turn.ensures.told;
+      entry_room = omega (arith, c.turn.ensures.entry_room, c.put_message.ensures.entry_room);
+      byte_room = omega (arith, c.turn.ensures.byte_room, c.put_message.ensures.byte_room);
     }

@@ -10,7 +10,7 @@ use Rattle.board_model.specs.Answer.{answer, refusal, local, given}
 use Rattle.board_model.specs.Effect.{received}
 use Rattle.board_model.specs.Serial.{Alone, after_own_call}
 use Rattle.domain_core.specs.declared.carried.Held.{Held}
-use Rattle.domain_core.specs.Held.{Table, items_in}
+use Rattle.domain_core.specs.Table.{Table, items_in}
 use Rattle.domain_core.specs.Lane.{Lane}
 use Rattle.domain_core.specs.InTable.{item_in}
 use Rattle.domain_core.specs.Alone.{IsSound, alone, alone_of}

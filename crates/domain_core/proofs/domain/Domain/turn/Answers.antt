@@ -3,7 +3,7 @@ use Rattle.std.proofs.lemmas.List.{length-drop}
 use Rattle.board_model.specs.Journal.{Visit, noted, turned}
 use Rattle.board_model.specs.Turn.{IsTurn}
 use Rattle.board_model.specs.Serial.{Alone, own_turn, after_own_turn}
-use Rattle.domain_core.specs.Held.{Table}
+use Rattle.domain_core.specs.Table.{Table}
 use Rattle.domain_core.specs.Lane.{Lane}
 use Rattle.domain_core.specs.Turned.{count_taken, frames_taken, table_after}
 use Rattle.domain_core.specs.Alone.{alone}

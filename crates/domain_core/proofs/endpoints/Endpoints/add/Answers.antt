@@ -2,7 +2,7 @@ use Rattle.std.proofs.Common.{rules, ◌≡◌, ◌<◌, ◌+◌, ◌++◌, ◌�
 use Rattle.std.proofs.lemmas.List.{map_push, length_push, length-map, nil_from_length}
 use Rattle.board_model.specs.State as state
 use Rattle.domain_core.specs.declared.endpoints.Endpoint.{Endpoint}
-use Rattle.domain_core.specs.Held.{Table, endpoint, with_endpoint}
+use Rattle.domain_core.specs.Table.{Table, endpoint, with_endpoint}
 use Rattle.domain_core.specs.InTable.{item_in, endpoint_of, endpoints_of, table_of, IsSpare}
 use Rattle.domain_core.proofs.Tables.{All-front}
 use Rattle.domain_core.proofs.endpoints.Endpoints.add.Goals as goal

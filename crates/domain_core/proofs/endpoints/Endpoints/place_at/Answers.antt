@@ -1,7 +1,7 @@
 use Rattle.std.proofs.Common.{◌∙◌, ap}
 use Rattle.board_model.specs.State.{is_at, place_at, endpoint_at}
 use Rattle.board_model.specs.Answer.{has_channel}
-use Rattle.domain_core.specs.Held.{Table, holding}
+use Rattle.domain_core.specs.Table.{Table, holding}
 use Rattle.domain_core.specs.InTable.{endpoint_of, endpoints_of}
 use Rattle.domain_core.proofs.Tables.{position-map, channels-none}
 use Rattle.domain_core.proofs.endpoints.Endpoints.place_at.Goals as goal

@@ -1,6 +1,6 @@
 use Rattle.std.proofs.Common.{◌∙◌, ap}
 use Rattle.board_model.specs.State.{has_live_address, place_of_address}
-use Rattle.domain_core.specs.Held.{Table, holding}
+use Rattle.domain_core.specs.Table.{Table, holding}
 use Rattle.domain_core.specs.InTable.{endpoint_of}
 use Rattle.domain_core.proofs.Tables.{position-map}
 use Rattle.domain_core.proofs.endpoints.Endpoints.place_of_address.Goals as goal

@@ -6,7 +6,7 @@ use Rattle.board_model.specs.State as state
 use Rattle.board_model.specs.Dealing.{queued_last}
 use Rattle.domain_core.specs.declared.carried.Held.{Held}
 use Rattle.domain_core.specs.declared.endpoints.Endpoint.{Endpoint}
-use Rattle.domain_core.specs.Held.{Table, items_in, with_item_at}
+use Rattle.domain_core.specs.Table.{Table, items_in, with_item_at}
 use Rattle.domain_core.specs.InTable.{item_in, table_of, endpoint_of, endpoints_of}
 use Rattle.domain_core.proofs.Tables.{room-at, queue-within, changed-set, items-queued}
 use Rattle.domain_core.proofs.endpoints.Endpoints.queue_last.Goals as goal

@@ -1,7 +1,7 @@
 use Rattle.std.proofs.Common.{◌≡◌, ◌∙◌, ap, sym, subst, arith, length}
 use Rattle.std.specs.Prelude.{count_by}
 use Rattle.board_model.specs.State.{is_from}
-use Rattle.domain_core.specs.Held.{Table, items_in}
+use Rattle.domain_core.specs.Table.{Table, items_in}
 use Rattle.domain_core.proofs.Tables.{waiting-items, all-own}
 use Rattle.domain_core.proofs.endpoints.Endpoints.queued.Goals as goal
 

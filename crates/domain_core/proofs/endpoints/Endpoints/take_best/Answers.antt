@@ -7,7 +7,7 @@ use Rattle.board_model.specs.Choice.{best}
 use Rattle.board_model.specs.Effect.{received}
 use Rattle.domain_core.specs.declared.carried.Held.{Held}
 use Rattle.domain_core.specs.declared.endpoints.Endpoint.{Endpoint}
-use Rattle.domain_core.specs.Held.{Table, items_in, with_received_at}
+use Rattle.domain_core.specs.Table.{Table, items_in, with_received_at}
 use Rattle.domain_core.specs.InTable.{item_in, table_of, endpoint_of, endpoints_of}
 use Rattle.domain_core.proofs.Tables.{changed-set, best-there, empty-there, without_best-map, items-with}
 use Rattle.domain_core.proofs.endpoints.Endpoints.take_best.Goals as goal
