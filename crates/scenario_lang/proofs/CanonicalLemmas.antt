@@ -1,6 +1,5 @@
 -- The text of a line, piece by piece.
-use Rattle.std.proofs.Common.{◌≡◌, List, ℕ, [], ◌∷◌, ◌++◌, append_assoc, refl}
-use Rattle.mc_base.specs.declared.name.EndName.{EndName}
+use Rattle.std.proofs.Common.{◌≡◌, List, ℕ, [], ◌∷◌, ◌++◌, append_assoc}
 use Rattle.board_model.specs.declared.scenario.Call.{Call}
 use Rattle.board_model.specs.declared.scenario.Call.TheVariants.{Create, MsgSend, MsgRecv}
 use Rattle.board_model.specs.Grammar.{spaced, line_of, call_words}

@@ -1,3 +1,5 @@
+//! The canonical text of a scenario, put piece by piece.
+
 ghost use Rattle.std.specs.Prelude.{◌≡◌, ◌++◌, ◌∷◌, [], codes, decimal};
 ghost use Rattle.std.specs.List.{flat_map};
 ghost use Rattle.mc_base.specs.Text.{hex_text};

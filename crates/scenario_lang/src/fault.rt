@@ -1,3 +1,5 @@
+//! Why a scenario file is not read.
+
 /// Why a line of a scenario file is refused.
 #[derive(Clone, Copy, Debug, PartialEq, Eq)]
 pub enum LineReason {

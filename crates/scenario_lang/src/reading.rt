@@ -1,7 +1,11 @@
+//! The lines of a scenario file, each read from the front of a text, and the whole file.
+
 ghost use Rattle.std.specs.Prelude.{◌≡◌, ◌<◌, ◌≤◌, ◌^◌, List, IfOk, IfErr, length};
 ghost use Rattle.board_model.specs.declared.scenario.Scenario.{Scenario as Told};
 ghost use Rattle.board_model.specs.declared.scenario.CallLine.{CallLine as Line};
 ghost use Rattle.board_model.specs.Grammar.{IsScenario};
+ghost use Rattle.scenario_lang.specs.declared.fault.LineFault.TheVariants.{Refused as refused};
+ghost use Rattle.scenario_lang.specs.declared.fault.LineReason.TheVariants.{Unbuilt as unbuilt};
 ghost use Rattle.scenario_lang.specs.Words.{Gives};
 ghost use Rattle.scenario_lang.specs.Lines.{domain_at, name_at, create_at, send_at, receive_at, call_at, own_at, line_at, AreLines};
 ghost use Rattle.scenario_lang.specs.Refused.{OnRefused, OnStopped, IfRefused};
@@ -17,7 +21,8 @@ const SHORTEST_LINE: usize = 13;
 
 #[tactic(auto, unfolding(crate::specs::Lines::domain_at))]
 fn domain_line(text: &[u8]) -> Result<(DomainLine, &[u8]), LineFault>
-    ensures { Gives (λ x. (x.0, x.1.now)) result (domain_at text.now) }
+    ensures read { Gives (λ x. (x.0, x.1.now)) result (domain_at text.now) }
+    ensures refused { IfErr result (λ e. e ≡ refused unbuilt) }
 {
     let rest = skip(b"domain ", text)?;
     let (domain, rest) = number(7, rest)?;
@@ -38,7 +43,8 @@ fn domain_line(text: &[u8]) -> Result<(DomainLine, &[u8]), LineFault>
 
 #[tactic(auto, unfolding(crate::specs::Lines::name_at))]
 fn name(text: &[u8]) -> Result<(EndName, &[u8]), LineFault>
-    ensures { Gives (λ x. (x.0, x.1.now)) result (name_at text.now) }
+    ensures read { Gives (λ x. (x.0, x.1.now)) result (name_at text.now) }
+    ensures refused { IfErr result (λ e. e ≡ refused unbuilt) }
 {
     let (domain, rest) = number(7, text)?;
     let rest = skip(b":", rest)?;
@@ -57,7 +63,8 @@ fn name(text: &[u8]) -> Result<(EndName, &[u8]), LineFault>
 
 #[tactic(auto, unfolding(crate::specs::Lines::create_at))]
 fn create(text: &[u8]) -> Result<(Call, &[u8]), LineFault>
-    ensures { Gives (λ x. (x.0, x.1.now)) result (create_at text.now) }
+    ensures read { Gives (λ x. (x.0, x.1.now)) result (create_at text.now) }
+    ensures refused { IfErr result (λ e. e ≡ refused unbuilt) }
 {
     let (port, rest) = number(65_535, text)?;
     Ok((Call::Create { port: port as u16 }, rest))
@@ -86,7 +93,8 @@ fn send(alloc: Global, text: &[u8]) -> Result<(Call, &[u8]), LineFault>
 
 #[tactic(auto, unfolding(crate::specs::Lines::receive_at))]
 fn receive(text: &[u8]) -> Result<(Call, &[u8]), LineFault>
-    ensures { Gives (λ x. (x.0, x.1.now)) result (receive_at text.now) }
+    ensures read { Gives (λ x. (x.0, x.1.now)) result (receive_at text.now) }
+    ensures refused { IfErr result (λ e. e ≡ refused unbuilt) }
 {
     let (port, rest) = number(65_535, text)?;
     let rest = skip(b" ", rest)?;
@@ -119,7 +127,8 @@ fn call(alloc: Global, text: &[u8]) -> Result<(Call, &[u8]), LineFault>
 /// What follows the number of this domain.
 #[tactic(auto, unfolding(crate::specs::Lines::own_at))]
 fn own(domain: u8, text: &[u8]) -> Result<&[u8], LineFault>
-    ensures { Gives (λ x. x.now) result (own_at domain text.now) }
+    ensures read { Gives (λ x. x.now) result (own_at domain text.now) }
+    ensures refused { IfErr result (λ e. e ≡ refused unbuilt) }
 {
     let (told, rest) = number(7, text)?;
     if told != u32::from(domain) {
@@ -196,7 +205,8 @@ fn board(alloc: Global, text: &[u8]) -> Result<Scenario, LineFault>
 /// Reads a scenario file of the small grammar: one domain line, and lines of the calls `create`, `msg_send` with priority
 /// 1 and `msg_recv` by nodes of that domain, each spelled as the canonical text has it and ended by a newline.
 ///
-/// Any other text is refused at line 1 as `Unbuilt`.
+/// Any other text is refused at line 1 as `Unbuilt`. Want of memory may come at any time. The text has fewer than
+/// 4,294,967,295 bytes, so that its lines can be numbered in a `u32`.
 pub fn read_scenario(alloc: Global, text: &[u8]) -> Result<Scenario, ScenarioFault>
     requires { length text.now < 4_294_967_295 }
     ensures found { IfOk result (λ s. IsScenario text.now s) }

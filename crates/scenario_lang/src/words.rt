@@ -1,3 +1,5 @@
+//! The words of a scenario file: fixed words, numbers and bytes, each read from the front of a text.
+
 ghost use Rattle.std.specs.Prelude.{◌≡◌, ◌≤◌, ◌<◌, Some, IfSome, IfOk, IfErr, option_map};
 ghost use Rattle.scenario_lang.specs.declared.fault.LineFault.TheVariants.{Refused as refused};
 ghost use Rattle.scenario_lang.specs.declared.fault.LineReason.TheVariants.{Unbuilt as unbuilt};
@@ -9,7 +11,7 @@ use std::alloc::Global;
 /// The most bytes that a message of a scenario file has.
 const MOST_BYTES: usize = 9000;
 
-/// What follows a word.
+/// What follows a word. Like all readers here that take no memory, it refuses, and never wants memory.
 pub fn skip<'a>(word: &[u8], text: &'a [u8]) -> Result<&'a [u8], LineFault>
     ensures read { Gives (λ x. x.now) result (after_word word.now text.now) }
     ensures refused { IfErr result (λ e. e ≡ refused unbuilt) }
@@ -23,6 +25,7 @@ pub fn skip<'a>(word: &[u8], text: &'a [u8]) -> Result<&'a [u8], LineFault>
 /// The number that digits write, and what follows them.
 fn digits(most: u32, text: &[u8]) -> Result<(u32, &[u8]), LineFault>
     ensures read { Gives (λ x. (x.0, x.1.now)) result (digits_at most 0 text.now) }
+    ensures refused { IfErr result (λ e. e ≡ refused unbuilt) }
     ensures within { IfOk result (λ x. x.0 ≤ most) }
 {
     let mut value = 0u32;
@@ -42,6 +45,7 @@ fn digits(most: u32, text: &[u8]) -> Result<(u32, &[u8]), LineFault>
 #[tactic(auto, unfolding(crate::specs::Words::number_at))]
 pub fn number(most: u32, text: &[u8]) -> Result<(u32, &[u8]), LineFault>
     ensures read { Gives (λ x. (x.0, x.1.now)) result (number_at most text.now) }
+    ensures refused { IfErr result (λ e. e ≡ refused unbuilt) }
     ensures within { IfOk result (λ x. x.0 ≤ most) }
 {
     match text {
@@ -55,6 +59,7 @@ pub fn number(most: u32, text: &[u8]) -> Result<(u32, &[u8]), LineFault>
 #[tactic(auto, unfolding(crate::specs::Words::positive_at))]
 pub fn positive(most: u32, text: &[u8]) -> Result<(u32, &[u8]), LineFault>
     ensures read { Gives (λ x. (x.0, x.1.now)) result (positive_at most text.now) }
+    ensures refused { IfErr result (λ e. e ≡ refused unbuilt) }
     ensures within { IfOk result (λ x. x.0 ≤ most) }
 {
     let (value, rest) = number(most, text)?;

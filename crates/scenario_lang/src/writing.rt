@@ -1,3 +1,5 @@
+//! A scenario as a text in memory.
+
 ghost use Rattle.std.specs.Prelude.{◌≡◌, IfOk};
 ghost use Rattle.board_model.specs.Grammar.{canonical};
 
@@ -30,7 +32,7 @@ impl Sink for TextSink {
     }
 }
 
-/// The canonical text of a scenario.
+/// The canonical text of a scenario. Want of memory is the only refusal.
 pub fn write_scenario(alloc: Global, scenario: &Scenario) -> Result<Vec<u8>, NoMemory>
     ensures { IfOk result (λ v. v.items ≡ canonical scenario.now) }
 {

@@ -11,19 +11,19 @@ use Rattle.scenario_lang.proofs.reading.board.Goals as goal
 pub returns-in_err-domain-clause-none : goal.returns-in_err-domain-clause-none
 returns-in_err-domain-clause-none c =
     let p = err_from_is_err_and c.from_residual.result c.from_residual.ensures.1 in
-    rw (p.1, p.2) (stopped_by c.in_err-domain.field-0.0 (domain_at c.args.text.now) ((told : Scenario) → IsScenario c.args.text.now told → ⊥) c.in_err-domain.ensures (λ stopped told h. not_domain c.args.text.now told stopped h))
+    rw (p.1, p.2) (stopped_by c.in_err-domain.field-0.0 (domain_at c.args.text.now) ((told : Scenario) → IsScenario c.args.text.now told → ⊥) c.in_err-domain.ensures.read (λ stopped told h. not_domain c.args.text.now told stopped h))
 
 pub call_lines-requires : goal.call_lines-requires
-call_lines-requires c = (domain_at-spelled c.args.text.now c.in_ok-domain.domain c.in_ok-domain.rest.now c.in_ok-domain.ensures).lawful.domain_fits
+call_lines-requires c = (domain_at-spelled c.args.text.now c.in_ok-domain.domain c.in_ok-domain.rest.now c.in_ok-domain.ensures.read).lawful.domain_fits
 
 pub returns-in_err-calls-clause-none : goal.returns-in_err-calls-clause-none
 returns-in_err-calls-clause-none c =
     let p = err_from_is_err_and c.from_residual-in_err-calls.result c.from_residual-in_err-calls.ensures.1 in
-    rw (p.1, p.2) (still_stopped c.in_err-calls.field-0.0 ((lines : List CallLine) → AreLines c.in_ok-domain.domain.domain c.in_ok-domain.rest.now lines → ⊥) ((told : Scenario) → IsScenario c.args.text.now told → ⊥) c.in_err-calls.ensures.none (λ stopped told h. not_rest c.args.text.now c.in_ok-domain.domain c.in_ok-domain.rest.now told c.in_ok-domain.ensures stopped h))
+    rw (p.1, p.2) (still_stopped c.in_err-calls.field-0.0 ((lines : List CallLine) → AreLines c.in_ok-domain.domain.domain c.in_ok-domain.rest.now lines → ⊥) ((told : Scenario) → IsScenario c.args.text.now told → ⊥) c.in_err-calls.ensures.none (λ stopped told h. not_rest c.args.text.now c.in_ok-domain.domain c.in_ok-domain.rest.now told c.in_ok-domain.ensures.read stopped h))
 
 pub returns-clause-found : goal.returns-clause-found
 returns-clause-found c =
     let domains : c.new.result ≡ c.in_ok-domain.domain ∷ [] = search rules in
     let links : c.new-3.result ≡ [] = search rules in
     let calls : c.new-4.result ≡ c.in_ok-calls.calls.items = search rules in
-    rw (domains, links, calls) (is_scenario c.args.text.now c.in_ok-domain.domain c.in_ok-domain.rest.now c.in_ok-calls.calls.items c.in_ok-domain.ensures c.in_ok-calls.ensures.found)
+    rw (domains, links, calls) (is_scenario c.args.text.now c.in_ok-domain.domain c.in_ok-domain.rest.now c.in_ok-calls.calls.items c.in_ok-domain.ensures.read c.in_ok-calls.ensures.found)
