@@ -5,18 +5,19 @@ use Rattle.std.proofs.lemmas.List.Sums.{sum_by-append}
 use Rattle.board_model.specs.declared.scenario.CallLine.{CallLine}
 use Rattle.board_model.specs.Lists.{changed}
 use Rattle.board_model.specs.Journal.{PlainEntry, turned, put, called, PlainAnswer, Visit, Taken}
-use Rattle.board_model.specs.State.{DomainState, Peer, is_from, lent_from, held_from, owed_to}
+use Rattle.board_model.specs.State.{DomainState, Peer, is_from, held_from, owed_to}
 use Rattle.board_model.specs.Dealing.{item_of, HaveWords, keeps_buffer}
 use Rattle.board_model.specs.Turn.{turn_limit, due_frames, looked_at, after_looks, after_visit, IsVisit, AreVisits}
+use Rattle.board_model.specs.DomainCall.{DomainCall}
 use Rattle.board_model.specs.Answer.{puts}
 use Rattle.board_model.specs.Effect.{effect, returns}
-use Rattle.board_model.specs.Step.{RunState, HasNoPuts, next_line, Allowed, effect_of_line, after}
+use Rattle.board_model.specs.Step.{RunState, HasNoPuts, next_line, call_at, Allowed, effect_of_line, after}
 use Rattle.board_model.specs.Traffic.{visits_to, puts_in, takes_in, put_to, takes_from, returned_by, given_in, given, backs_in, back_looks}
 use Rattle.board_model.specs.Run.{Leads}
 use Rattle.board_model.proofs.ListsCounts.{one_if, count-cons, count-append}
 use Rattle.board_model.proofs.LaneStates.{place_of_own, peer_of_own}
 use Rattle.board_model.proofs.LaneTakes.{takes_keep, takes_count}
-use Rattle.board_model.proofs.LaneCalls.{call_keeps, call_counts, goes_to, with_free, call_uses}
+use Rattle.board_model.proofs.LaneCalls.{call_counts, goes_to, with_free, call_uses}
 
 -- ---- a visit
 
@@ -59,15 +60,14 @@ pub looked_peers : (s : DomainState) (v : Visit) (at : Peer) → s.peers ≡ at 
 looked_peers s v at one same = ap₂ (λ o ps. changed (looked_at v) o ps) (place_of_own s at v.peer one same) one
 
 pub visit_peers : (s : DomainState) (v : Visit) (at : Peer) → s.peers ≡ at ∷ [] → at.number ≡ v.peer → (after_visit s v).peers ≡ looked_at v at ∷ []
-visit_peers s v at one same = takes_keep (λ t. t.peers) (after_looks s v) v.peer v.takes (λ t es. refl) ∙ looked_peers s v at one same
+visit_peers s v at one same = takes_keep (λ t. t.peers) (after_looks s v) v.peer v.takes (λ t es rs. refl) ∙ looked_peers s v at one same
 
 -- items taken from a peer are from it
 pub from_peer : (n peer : ℕ) → peer ≡ n → (f : List ℕ) → is_from n (item_of peer f) ≡ true
 from_peer n peer same f = eq-eqb peer n same
 
 pub visit_holds : (n : ℕ) (s : DomainState) (v : Visit) → v.peer ≡ n → HaveWords (after_looks s v) v.peer v.takes → held_from n (after_visit s v) + count_by (λ t. not (keeps_buffer t.fate)) v.takes ≡ held_from n s + length v.takes
-visit_holds n s v same words =
-    omega (arith, takes_count (is_from n) (after_looks s v) v.peer (from_peer n v.peer same) v.takes words, takes_keep (λ t. lent_from n t) (after_looks s v) v.peer v.takes (λ t es. refl))
+visit_holds n s v same words = takes_count (is_from n) (after_looks s v) v.peer (from_peer n v.peer same) v.takes words
 
 -- ---- the traffic of a turn with one visit
 
@@ -145,18 +145,18 @@ sums_put script n size p b t g r to frame turn h = record {
   holds = omega (arith, h.holds);
 }
 
-pub call_holds : (n : ℕ) (s : DomainState) (line : CallLine) → held_from n (effect s line.node line.call) + count_by (is_from n) (returns s line.node line.call) ≡ held_from n s
-call_holds n s line = omega (arith, call_counts (is_from n) s line.node line.call, call_keeps (λ t. lent_from n t) s line.node line.call (λ t ps es k. refl))
+pub call_holds : (n : ℕ) (s : DomainState) (node : ℕ) (call : DomainCall) → held_from n (effect s node call) + count_by (is_from n) (returns s node call) ≡ held_from n s
+call_holds n s node call = call_counts (is_from n) s node call
 
-sums_called : (script : List CallLine) (n size p b t g : ℕ) (r : RunState) (k : ℕ) (a : PlainAnswer) (line : CallLine) → next_line script r ≡ Some line → r.put_since_turn ≡ Some (puts r.state line.node line.call) → Sums n size p b t g r → Sums n size (p + length (puts_in n (called k a))) (b + sum (backs_in n (called k a))) (t + length (takes_in n (called k a))) (g + given_in script r n (called k a)) (after script r (called k a))
+sums_called : (script : List CallLine) (n size p b t g : ℕ) (r : RunState) (k : ℕ) (a : PlainAnswer) (line : CallLine) → next_line script r ≡ Some line → r.put_since_turn ≡ Some (puts r.state line.node (call_at r line)) → Sums n size p b t g r → Sums n size (p + length (puts_in n (called k a))) (b + sum (backs_in n (called k a))) (t + length (takes_in n (called k a))) (g + given_in script r n (called k a)) (after script r (called k a))
 sums_called script n size p b t g r k a line here waits h =
-    let u = call_uses r.state line.node line.call h.at n h.one h.quiet.number in
+    let u = call_uses r.state line.node (call_at r line) h.at n h.one h.quiet.number in
     record {
       at = with_free h.at u.left;
-      one = ap (λ o. (effect_of_line o r.state).peers) here ∙ u.one;
+      one = ap (λ o. (effect_of_line o r).peers) here ∙ u.one;
       quiet = record { number = h.quiet.number; silent = h.quiet.silent; answered = h.quiet.answered };
       frees = omega (arith, h.frees, u.frees, ap (waiting n) waits);
-      holds = omega (arith, h.holds, call_holds n r.state line, ap (λ o. held_from n (effect_of_line o r.state)) here, ap (λ o. count_by (is_from n) (returned_by o r.state)) here);
+      holds = omega (arith, h.holds, call_holds n r.state line.node (call_at r line), ap (λ o. held_from n (effect_of_line o r)) here, ap (λ o. count_by (is_from n) (returned_by o r)) here);
     }
 
 sums_after : (script : List CallLine) (n size p b t g : ℕ) (r : RunState) (e : PlainEntry) → Allowed script r e → Sums n size p b t g r → Sums n size (p + length (puts_in n e)) (b + sum (backs_in n e)) (t + length (takes_in n e)) (g + given_in script r n e) (after script r e)

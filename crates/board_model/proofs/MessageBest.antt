@@ -1,8 +1,11 @@
--- The best item of a queue: what a map of its items keeps, and how many pass a test with it and without it.
-use Rattle.std.proofs.Common.{◌≡◌, ℕ, ◌+◌, Bool, true, false, cond, List, [], ◌∷◌, map, Option, Some, None, refl, sym, ap, ◌∙◌, arith}
+-- The best item of a queue: what a map of its items keeps, how many pass a test with it and without it, and that there is
+-- one where the priorities are 0 to 3.
+use Rattle.std.proofs.Common.{◌≡◌, ℕ, ◌+◌, ◌≤◌, Bool, true, false, cond, List, [], ◌∷◌, map, Option, Some, None, refl, sym, ap, ◌∙◌, arith}
 use Rattle.std.specs.Prelude.{find, count_by, option_map, option_to_list, ◌==◌}
+use Rattle.std.specs.List.{AllByRecursion}
 use Rattle.std.proofs.lemmas.List.Sums.{sum_by-cons}
 use Rattle.board_model.specs.Choice.{least, best, without_best}
+use Rattle.board_model.proofs.MessageAlls.{none-passes}
 use Rattle.board_model.proofs.MessageLists.{without_first, best_is, without_best_is}
 
 -- ---- where there is no best
@@ -18,6 +21,21 @@ without_first-none p (x ∷ xs) none = none_here (p x) x (find p xs) xs (without
 pub without_best-none : {A : Type 0} (priority : A → ℕ) (q : List A) → best priority q ≡ None → without_best priority q ≡ q
 without_best-none priority q none =
     without_best_is priority q ∙ without_first-none (λ x. priority x == least priority q) q (sym (best_is priority q) ∙ none)
+
+-- ---- a queue without a best is empty
+
+module _ {A : Type 0} (priority : A → ℕ) where
+  none_least : (m : ℕ) (x : A) (xs : List A) → AllByRecursion (λ y. priority y ≤ 3) (x ∷ xs) → AllByRecursion (λ y. (priority y == m) ≡ false) (x ∷ xs) → m ≡ least priority (x ∷ xs) → ⊥
+  none_least m x [] fit fails is = let le : priority x ≤ 3 = fit.0 in grind (arith, fails.0)
+  none_least m x (y ∷ ys) fit fails is =
+      let differs : m ≡ priority x → ⊥ = λ same. grind (arith, fails.0) in
+      let rest : m ≡ least priority (y ∷ ys) = omega arith in
+      none_least m y ys fit.1 fails.1 rest
+
+  pub best-none : (q : List A) → AllByRecursion (λ x. priority x ≤ 3) q → best priority q ≡ None → q ≡ []
+  best-none [] fit none = refl
+  best-none (x ∷ xs) fit none =
+      absurd (none_least (least priority (x ∷ xs)) x xs fit (none-passes (λ y. priority y == least priority (x ∷ xs)) (x ∷ xs) (sym (best_is priority (x ∷ xs)) ∙ none)) refl)
 
 -- ---- counts
 

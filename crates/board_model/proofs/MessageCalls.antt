@@ -4,14 +4,14 @@ use Rattle.std.specs.Prelude.{find, option_map, option_and_then, ◌==◌, lengt
 use Rattle.std.proofs.lemmas.Bool.{and_parts, eqb-true, cond_both}
 use Rattle.mc_base.specs.declared.name.Local.{Local}
 use Rattle.mc_base.specs.declared.refusal.Refusal.{Refusal}
-use Rattle.board_model.specs.declared.scenario.Call.{Call}
-use Rattle.board_model.specs.declared.scenario.Call.TheVariants.{Create, MsgSend, MsgRecv}
+use Rattle.board_model.specs.DomainCall.{DomainCall, create_at, send_from, receive_at, request_at, available_at, test_of, cancel_of}
 use Rattle.board_model.specs.Lists.{changed}
 use Rattle.board_model.specs.State.{DomainState, Item, Endpoint, is_at, place_at, endpoint_at, queue_in, queue_at, address_at}
 use Rattle.board_model.specs.Choice.{best, without_best}
 use Rattle.board_model.specs.Answer.{local, refusal, success, given, answer_by, answer, unless_refused}
-use Rattle.board_model.specs.Effect.{new_endpoint, received, success_effect, effect}
-use Rattle.board_model.specs.Messages.{Message, queued_message, queued_at, receives_by, is_address, Standing, best_at, TakesBestBy}
+use Rattle.board_model.specs.Effect.{new_endpoint, received, with_received, success_effect, effect}
+use Rattle.board_model.specs.Messages.{Message, queued_message, queued_at}
+use Rattle.board_model.specs.Takings.{receives_by, is_address, Standing, best_at, TakesBestBy}
 use Rattle.board_model.proofs.MessageLists.{changed_first, changed-position, get-position}
 use Rattle.board_model.proofs.MessageBest.{without_best-none, best-map}
 use Rattle.board_model.proofs.MessageQueues.{messages_at, less_at, at-created, at-received, at-found, Rise, rise-changed, rise-created}
@@ -31,11 +31,11 @@ endpoint-found s at = get-position (is_at at) s.endpoints
 abbrev pub took : Option Endpoint → Option ℕ
 took o = option_and_then (λ i. option_map (λ e. e.address) o) (best (λ i. i.priority) (queue_in o))
 
-receives_given : (s : DomainState) (node port max : ℕ) (i : Option Item) → receives_by s node (MsgRecv port max) (given max i) ≡ option_and_then (λ j. address_at s (local node port)) i
+receives_given : (s : DomainState) (node port max : ℕ) (i : Option Item) → receives_by s node (receive_at port max) (given max i) ≡ option_and_then (λ j. address_at s (local node port)) i
 receives_given s node port max None = refl
 receives_given s node port max (Some i) = refl
 
-pub receives-took : (s : DomainState) (node port max : ℕ) → receives_by s node (MsgRecv port max) (success s node (MsgRecv port max)) ≡ took (endpoint_at s (local node port))
+pub receives-took : (s : DomainState) (node port max : ℕ) → receives_by s node (receive_at port max) (success s node (receive_at port max)) ≡ took (endpoint_at s (local node port))
 receives-took s node port max = receives_given s node port max (best (λ i. i.priority) (queue_at s (local node port)))
 
 -- what stands where a message was taken at an address
@@ -72,23 +72,40 @@ left_found d p only_live hi es (Some f) b rise found =
     ∙ less_left d f (messages_at d es) b (best (λ i. i.priority) f.queue) refl
     (λ is. ap (messages_at d es) (sym is) ∙ at-found d p only_live 1024 hi es f rise found)
 
+-- the address at which a request takes a message: the endpoint's own
+asked_found : (d : ℕ) (p : Endpoint → Bool) (only_live : (e : Endpoint) → p e ≡ true → e.live ≡ true) (hi : ℕ) (es : List Endpoint) (o : Option Endpoint) (b : ℕ) → Rise 1024 es hi → find p es ≡ o →
+    messages_at d (changed_first p received es) b ≡ left_at (messages_at d es) (option_map (λ e. e.address) o) b
+asked_found d p only_live hi es None b rise found = ap (λ zs. messages_at d zs b) (changed-none p es found)
+asked_found d p only_live hi es (Some f) b rise found = at-received d p only_live 1024 hi es f b rise found
+
 left_same : (q r : Standing) (o : Option ℕ) (a : ℕ) → q a ≡ r a → left_at q o a ≡ left_at r o a
 left_same q r o a e = ap (λ ms. if is_address o a then without_best (λ m. m.priority) ms else ms) e
 
-stands_received : (d : ℕ) (s : DomainState) (node port max : ℕ) (q : Standing) → Stands d s q →
-    Stands d (success_effect s node (MsgRecv port max)) (left_at q (receives_by s node (MsgRecv port max) (success s node (MsgRecv port max))))
-stands_received d s node port max q stands =
-    let place : changed received (place_at s (local node port)) s.endpoints ≡ changed_first (is_at (local node port)) received s.endpoints
-    = changed-position (is_at (local node port)) received s.endpoints in
-    let at : receives_by s node (MsgRecv port max) (success s node (MsgRecv port max)) ≡ took (find (is_at (local node port)) s.endpoints)
-    = receives-took s node port max ∙ ap took (endpoint-found s (local node port)) in
+-- what stands where the best is gone from the queue of the endpoint of a name
+stands_less : (d : ℕ) (s : DomainState) (at : Local) (q : Standing) (o : Option ℕ) →
+    ((b : ℕ) → messages_at d (changed_first (is_at at) received s.endpoints) b ≡ left_at (messages_at d s.endpoints) o b) → Stands d s q → Stands d (with_received s at) (left_at q o)
+stands_less d s at q o less stands =
+    let place : changed received (place_at s at) s.endpoints ≡ changed_first (is_at at) received s.endpoints = changed-position (is_at at) received s.endpoints in
     record {
-      queued = λ a. ap (λ o. left_at q o a) at
-          ∙ (left_same q (messages_at d s.endpoints) (took (find (is_at (local node port)) s.endpoints)) a (stands.queued a)
-          ∙ (sym (left_found d (is_at (local node port)) (live-named (local node port)) (1024 + s.endpoints_given) s.endpoints (find (is_at (local node port)) s.endpoints) a stands.rise refl)
-          ∙ ap (λ es. messages_at d es a) (sym place)));
-      rise = rw place (rise-changed (is_at (local node port)) received (λ e. refl) 1024 (1024 + s.endpoints_given) s.endpoints stands.rise);
+      queued = λ a. left_same q (messages_at d s.endpoints) o a (stands.queued a) ∙ (sym (less a) ∙ ap (λ es. messages_at d es a) (sym place));
+      rise = rw place (rise-changed (is_at at) received (λ e. refl) 1024 (1024 + s.endpoints_given) s.endpoints stands.rise);
     }
+
+stands_received : (d : ℕ) (s : DomainState) (node port max : ℕ) (q : Standing) → Stands d s q →
+    Stands d (success_effect s node (receive_at port max)) (left_at q (receives_by s node (receive_at port max) (success s node (receive_at port max))))
+stands_received d s node port max q stands =
+    let at : receives_by s node (receive_at port max) (success s node (receive_at port max)) ≡ took (find (is_at (local node port)) s.endpoints)
+    = receives-took s node port max ∙ ap took (endpoint-found s (local node port)) in
+    rw at (stands_less d s (local node port) q (took (find (is_at (local node port)) s.endpoints))
+    (λ b. left_found d (is_at (local node port)) (live-named (local node port)) (1024 + s.endpoints_given) s.endpoints (find (is_at (local node port)) s.endpoints) b stands.rise refl) stands)
+
+stands_asked : (d : ℕ) (s : DomainState) (node port max : ℕ) (q : Standing) → Stands d s q →
+    Stands d (success_effect s node (request_at port max)) (left_at q (address_at s (local node port)))
+stands_asked d s node port max q stands =
+    let less : Stands d (with_received s (local node port)) (left_at q (address_at s (local node port)))
+    = stands_less d s (local node port) q (address_at s (local node port))
+    (λ b. asked_found d (is_at (local node port)) (live-named (local node port)) (1024 + s.endpoints_given) s.endpoints (endpoint_at s (local node port)) b stands.rise (sym (endpoint-found s (local node port)))) stands in
+    record { queued = less.queued; rise = less.rise }
 
 -- ---- each call
 
@@ -100,16 +117,24 @@ stands_created d s at q stands =
       rise = rw top (rise-created 1024 (1024 + s.endpoints_given) s.endpoints (new_endpoint s at) refl stands.rise);
     }
 
-stands_success : (d : ℕ) (s : DomainState) (node : ℕ) (call : Call) (q : Standing) (o : Option Refusal) → Stands d s q →
+stands_success : (d : ℕ) (s : DomainState) (node : ℕ) (call : DomainCall) (q : Standing) (o : Option Refusal) → Stands d s q →
     Stands d (unless_refused o s (success_effect s node call)) (left_at q (receives_by s node call (answer_by o (success s node call))))
-stands_success d s node (Create port) q (Some w) stands = stands
-stands_success d s node (MsgSend port to priority bytes) q (Some w) stands = stands
-stands_success d s node (MsgRecv port max) q (Some w) stands = stands
-stands_success d s node (Create port) q None stands = stands_created d s (local node port) q stands
-stands_success d s node (MsgSend port to priority bytes) q None stands = record { queued = stands.queued; rise = stands.rise }
-stands_success d s node (MsgRecv port max) q None stands = stands_received d s node port max q stands
+stands_success d s node (create_at port) q (Some w) stands = stands
+stands_success d s node (send_from port to priority bytes) q (Some w) stands = stands
+stands_success d s node (receive_at port max) q (Some w) stands = stands
+stands_success d s node (request_at port max) q (Some w) stands = stands
+stands_success d s node (available_at port) q (Some w) stands = stands
+stands_success d s node (test_of request) q (Some w) stands = stands
+stands_success d s node (cancel_of request) q (Some w) stands = stands
+stands_success d s node (create_at port) q None stands = stands_created d s (local node port) q stands
+stands_success d s node (send_from port to priority bytes) q None stands = record { queued = stands.queued; rise = stands.rise }
+stands_success d s node (receive_at port max) q None stands = stands_received d s node port max q stands
+stands_success d s node (request_at port max) q None stands = stands_asked d s node port max q stands
+stands_success d s node (available_at port) q None stands = stands
+stands_success d s node (test_of request) q None stands = record { queued = stands.queued; rise = stands.rise }
+stands_success d s node (cancel_of request) q None stands = record { queued = stands.queued; rise = stands.rise }
 
-pub stands_call : (d : ℕ) (s : DomainState) (node : ℕ) (call : Call) (q : Standing) → Stands d s q → Stands d (effect s node call) (left_at q (receives_by s node call (answer s node call)))
+pub stands_call : (d : ℕ) (s : DomainState) (node : ℕ) (call : DomainCall) (q : Standing) → Stands d s q → Stands d (effect s node call) (left_at q (receives_by s node call (answer s node call)))
 stands_call d s node call q stands = stands_success d s node call q (refusal s node call) stands
 
 -- ---- what a receive takes
@@ -124,20 +149,22 @@ best_named d s q at None i stands found some = absurd cc
 best_named d s q at (Some f) i stands found some =
     (queued_message d f.address i, best_found d s q at f stands found ∙ (best-queued d f ∙ ap (option_map (queued_message d f.address)) some), refl)
 
-pub takes_given : (d : ℕ) (s : DomainState) (q : Standing) (node port max : ℕ) (i : Option Item) → Stands d s q → best (λ j. j.priority) (queue_at s (local node port)) ≡ i → TakesBestBy s q node (MsgRecv port max) (given max i)
+pub takes_given : (d : ℕ) (s : DomainState) (q : Standing) (node port max : ℕ) (i : Option Item) → Stands d s q → best (λ j. j.priority) (queue_at s (local node port)) ≡ i → TakesBestBy s q node (receive_at port max) (given max i)
 takes_given d s q node port max None stands is = tt
 takes_given d s q node port max (Some i) stands is =
     let found = endpoint-found s (local node port) in
     let m = best_named d s q (local node port) (endpoint_at s (local node port)) i stands (sym found) is in
     (m.0, m.1, record { whole = ap length (sym m.2); first = ap (take max) (sym m.2) })
 
-takes_success : (d : ℕ) (s : DomainState) (q : Standing) (node : ℕ) (call : Call) (o : Option Refusal) → Stands d s q → TakesBestBy s q node call (answer_by o (success s node call))
-takes_success d s q node (Create port) (Some w) stands = tt
-takes_success d s q node (MsgSend port to priority bytes) (Some w) stands = tt
-takes_success d s q node (MsgRecv port max) (Some w) stands = tt
-takes_success d s q node (Create port) None stands = tt
-takes_success d s q node (MsgSend port to priority bytes) None stands = tt
-takes_success d s q node (MsgRecv port max) None stands = takes_given d s q node port max (best (λ i. i.priority) (queue_at s (local node port))) stands refl
+takes_success : (d : ℕ) (s : DomainState) (q : Standing) (node : ℕ) (call : DomainCall) (o : Option Refusal) → Stands d s q → TakesBestBy s q node call (answer_by o (success s node call))
+takes_success d s q node (create_at port) o stands = tt
+takes_success d s q node (send_from port to priority bytes) o stands = tt
+takes_success d s q node (receive_at port max) (Some w) stands = tt
+takes_success d s q node (receive_at port max) None stands = takes_given d s q node port max (best (λ i. i.priority) (queue_at s (local node port))) stands refl
+takes_success d s q node (request_at port max) o stands = tt
+takes_success d s q node (available_at port) o stands = tt
+takes_success d s q node (test_of request) o stands = tt
+takes_success d s q node (cancel_of request) o stands = tt
 
-pub takes_call : (d : ℕ) (s : DomainState) (q : Standing) (node : ℕ) (call : Call) → Stands d s q → TakesBestBy s q node call (answer s node call)
+pub takes_call : (d : ℕ) (s : DomainState) (q : Standing) (node : ℕ) (call : DomainCall) → Stands d s q → TakesBestBy s q node call (answer s node call)
 takes_call d s q node call stands = takes_success d s q node call (refusal s node call) stands

@@ -1,34 +1,26 @@
--- On a board of one domain: how many messages were accepted, taken and dropped, and are queued and in the ring, as counts
--- of the entries and of the lines of its journal.
-use Rattle.std.proofs.Common.{◌≡◌, ℕ, suc, ◌+◌, Bool, true, false, ◌&&◌, cond, List, [], ◌∷◌, ◌++◌, map, length, Option, Some, None, refl, sym, ap, ◌∙◌, subst, arith}
-use Rattle.std.specs.Prelude.{count_by, filter, option_to_list, ◌==◌}
+-- On a board of one domain: how many messages were accepted and dropped, as counts of the frames that were put and taken;
+-- and what a visit tells, as counts of lines.
+use Rattle.std.proofs.Common.{◌≡◌, ℕ, suc, ◌+◌, Bool, true, false, ◌&&◌, cond, List, [], ◌∷◌, ◌++◌, map, length, refl, sym, ap, ◌∙◌, subst, arith}
+use Rattle.std.specs.Prelude.{count_by, filter, ◌==◌}
 use Rattle.std.specs.List.{AllByRecursion, flat_map}
 use Rattle.std.proofs.lemmas.List.{append-nil, length-append, length-map}
 use Rattle.std.proofs.lemmas.List.Sums.{length-filter}
 use Rattle.std.proofs.lemmas.Bool.{cond_both}
-use Rattle.mc_base.specs.declared.refusal.Refusal.{Refusal}
-use Rattle.board_model.specs.declared.scenario.Call.{Call}
-use Rattle.board_model.specs.declared.scenario.Call.TheVariants.{Create, MsgSend, MsgRecv}
 use Rattle.board_model.specs.declared.scenario.CallLine.{CallLine}
 use Rattle.board_model.specs.declared.scenario.Scenario.{Scenario}
 use Rattle.board_model.specs.Scenario.{script}
-use Rattle.board_model.specs.Journal.{PlainAnswer, PlainEntry, turned, put, called, Visit, Taken, Line, back_line, put_line, see_line, taken_line, call_line, looked, visit_lines}
-use Rattle.board_model.specs.State.{DomainState, Item, Endpoint, queue_at, queued_items}
-use Rattle.board_model.specs.Choice.{best}
-use Rattle.board_model.specs.Answer.{local, refusal, success, given, answer_by, answer}
-use Rattle.board_model.specs.Step.{RunState, Allowed, next_line, after}
+use Rattle.board_model.specs.Journal.{PlainEntry, turned, put, called, Visit, Taken, Line, back_line, put_line, see_line, taken_line, looked, visit_lines}
+use Rattle.board_model.specs.Step.{RunState, Allowed, after}
 use Rattle.board_model.specs.Traffic.{takes_in, put_to, takes_from}
-use Rattle.board_model.specs.Run.{start, left_by, IsDomainRun}
+use Rattle.board_model.specs.Run.{start, IsDomainRun}
 use Rattle.board_model.specs.Board.{DomainJournal}
-use Rattle.board_model.specs.Messages.{message_in, carries_message, messages_in, accepted_in, drops, dropped_at, dropped_in, receives_by, receives_at, Standing, none_standing, standing_after, best_at, taken_in, taken_along, taken_by, queued_message, queued_at, queued_by}
+use Rattle.board_model.specs.Messages.{message_in, carries_message, messages_in, accepted_in, drops, dropped_at, dropped_in}
 use Rattle.board_model.proofs.MessageBest.{count-cons}
-use Rattle.board_model.proofs.MessageTakes.{Stands, tested-append}
-use Rattle.board_model.proofs.MessageCalls.{takes_given}
-pub use Rattle.board_model.specs.Tallies.{is_put_line, is_take_line, is_drop_line, has_bytes, is_gives_line}
+use Rattle.board_model.proofs.MessageTakes.{tested-append}
+pub use Rattle.board_model.specs.Tallies.{is_put_line, is_take_line, is_drop_line}
 use Rattle.board_model.proofs.MessageSums.{count-append, dropped_of}
-use Rattle.board_model.proofs.MessageRuns.{AllAllowed, stands_entry, stands_start}
+use Rattle.board_model.proofs.MessageRuns.{AllAllowed}
 use Rattle.board_model.proofs.MessageLane.{OwnLane, own_entry, own_start, own_visits}
-use Rattle.board_model.proofs.MessageLines.{told}
 use Rattle.board_model.proofs.MessageKept.{takes_self, run_allowed, run_accepted}
 
 -- ---- lists
@@ -82,76 +74,6 @@ visit_lines_count test v no_back no_see =
       count-map test (put_line v.peer) v.owed,
       count-map test (taken_line v.peer) v.takes,
     )
-
--- ---- taken
-
-given_count : (d : ℕ) (s : DomainState) (q : Standing) (node port max k : ℕ) (i : Option Item) → Stands d s q → best (λ j. j.priority) (queue_at s (local node port)) ≡ i →
-    length (option_to_list (best_at (receives_by s node (MsgRecv port max) (given max i)) q)) ≡ count_by is_gives_line (call_line k (given max i) ∷ [])
-given_count d s q node port max k None stands is = refl
-given_count d s q node port max k (Some i) stands is =
-    let m = takes_given d s q node port max (Some i) stands is in
-    ap (λ o. length (option_to_list o)) m.1
-
-success_taken : (d : ℕ) (s : DomainState) (q : Standing) (node : ℕ) (call : Call) (k : ℕ) (o : Option Refusal) → Stands d s q →
-    length (option_to_list (best_at (receives_by s node call (answer_by o (success s node call))) q)) ≡ count_by is_gives_line (call_line k (answer_by o (success s node call)) ∷ [])
-success_taken d s q node (Create port) k (Some w) stands = refl
-success_taken d s q node (MsgSend port to priority bytes) k (Some w) stands = refl
-success_taken d s q node (MsgRecv port max) k (Some w) stands = refl
-success_taken d s q node (Create port) k None stands = refl
-success_taken d s q node (MsgSend port to priority bytes) k None stands = refl
-success_taken d s q node (MsgRecv port max) k None stands = given_count d s q node port max k (best (λ j. j.priority) (queue_at s (local node port))) stands refl
-
-line_taken : (d : ℕ) (s : DomainState) (q : Standing) (k : ℕ) (a : PlainAnswer) (line : CallLine) (o : Option CallLine) → o ≡ Some line → a ≡ answer s line.node line.call → Stands d s q →
-    length (option_to_list (best_at (receives_at o s a) q)) ≡ count_by is_gives_line (call_line k a ∷ [])
-line_taken d s q k a line o is says stands =
-    subst (λ (p : Option CallLine). length (option_to_list (best_at (receives_at p s a) q)) ≡ count_by is_gives_line (call_line k a ∷ [])) (sym is)
-    (subst (λ (b : PlainAnswer). length (option_to_list (best_at (receives_by s line.node line.call b) q)) ≡ count_by is_gives_line (call_line k b ∷ [])) (sym says)
-    (success_taken d s q line.node line.call k (refusal s line.node line.call) stands))
-
-visits_give_nothing : (vs : List Visit) → count_by is_gives_line (flat_map visit_lines vs) ≡ 0
-visits_give_nothing [] = refl
-visits_give_nothing (v ∷ vs) =
-    omega (
-      arith,
-      count-append is_gives_line (visit_lines v) (flat_map visit_lines vs),
-      visits_give_nothing vs,
-      visit_lines_count is_gives_line v (λ p n. refl) (λ p n. refl),
-      count-never (λ f. is_gives_line (put_line v.peer f)) (λ f. refl) v.owed,
-      count-never (λ t. is_gives_line (taken_line v.peer t)) (λ t. refl) v.takes,
-    )
-
-entry_taken : (lines : List CallLine) (d : ℕ) (r : RunState) (q : Standing) (e : PlainEntry) → Allowed lines r e → Stands d r.state q → length (taken_in lines r q e) ≡ count_by is_gives_line (told e)
-entry_taken lines d r q (turned visits) allowed stands = sym (visits_give_nothing visits)
-entry_taken lines d r q (put peer frame) allowed stands = refl
-entry_taken lines d r q (called k a) allowed stands = line_taken d r.state q k a allowed.0 (next_line lines r) allowed.1 allowed.3 stands
-
-taken_along_count : (lines : List CallLine) (d : ℕ) (r : RunState) (q : Standing) (es : List PlainEntry) → AllAllowed lines r es → Stands d r.state q → length (taken_along lines d r q es) ≡ count_by is_gives_line (flat_map told es)
-taken_along_count lines d r q [] allowed stands = refl
-taken_along_count lines d r q (e ∷ es) allowed stands =
-    omega (
-      arith,
-      length-append (taken_in lines r q e) (taken_along lines d (after lines r e) (standing_after lines d r q e) es),
-      entry_taken lines d r q e allowed.0 stands,
-      taken_along_count lines d (after lines r e) (standing_after lines d r q e) es allowed.1 (stands_entry lines d r q e allowed.0 stands),
-      count-append is_gives_line (told e) (flat_map told es),
-    )
-
-pub run_taken : (s : Scenario) (j : DomainJournal) → IsDomainRun s j.line j.entries → length (taken_by s j) ≡ count_by is_gives_line (flat_map told j.entries)
-run_taken s j run = taken_along_count (script s j.line.domain) j.line.domain (start s j.line) none_standing j.entries (run_allowed s j run) (stands_start s j.line)
-
--- the entries of receives that took a message
-abbrev pub is_gives : PlainEntry → Bool
-is_gives (called k a) = has_bytes a
-is_gives other = false
-
-gives_told : (e : PlainEntry) → count_by is_gives_line (told e) ≡ count_by is_gives (e ∷ [])
-gives_told (turned visits) = visits_give_nothing visits
-gives_told (put peer frame) = refl
-gives_told (called k a) = refl
-
-pub gives-lines : (es : List PlainEntry) → count_by is_gives_line (flat_map told es) ≡ count_by is_gives es
-gives-lines [] = refl
-gives-lines (e ∷ es) = omega (arith, count-append is_gives_line (told e) (flat_map told es), gives_told e, gives-lines es, count-append is_gives (e ∷ []) es)
 
 -- ---- dropped
 
@@ -216,12 +138,3 @@ length-accepted d (e ∷ es) = omega (arith, length-append (accepted_in d e) (fl
 
 pub run_put : (s : Scenario) (j : DomainJournal) → s.links ≡ [] → IsDomainRun s j.line j.entries → length (flat_map (accepted_in j.line.domain) j.entries) ≡ count_by carries_message (put_to j.line.domain j.entries)
 run_put s j links run = ap length (run_accepted s j links run) ∙ length-messages j.line.domain j.line.domain (put_to j.line.domain j.entries)
-
--- ---- queued
-
-queue_lengths : (d : ℕ) (es : List Endpoint) → length (flat_map (queued_at d) es) ≡ length (flat_map (λ e. e.queue) es)
-queue_lengths d [] = refl
-queue_lengths d (e ∷ es) = omega (arith, length-append (queued_at d e) (flat_map (queued_at d) es), length-append e.queue (flat_map (λ f. f.queue) es), length-map e.queue (queued_message d e.address), queue_lengths d es)
-
-pub run_queued : (s : Scenario) (j : DomainJournal) → length (queued_by s j) ≡ length (queued_items (left_by s j.line j.entries).state)
-run_queued s j = queue_lengths j.line.domain (left_by s j.line j.entries).state.endpoints

@@ -15,7 +15,8 @@ use Rattle.board_model.specs.Step.{RunState, Allowed, after}
 use Rattle.board_model.specs.Traffic.{visits_to, puts_in, takes_in, put_to, takes_from, taken_from}
 use Rattle.board_model.specs.Run.{start, left_by, IsDomainRun}
 use Rattle.board_model.specs.Board.{DomainJournal, journal_in, journal_of, LaneFits, IsBoardRun}
-use Rattle.board_model.specs.Messages.{Message, messages_in, accepted_in, accepted, dropped_in, dropped, taken_by, messages_taken, none_standing, queued_by, messages_queued, ring_messages, messages_in_ring}
+use Rattle.board_model.specs.Messages.{Message, messages_in, accepted_in, accepted, dropped_in, dropped, queued_by, messages_queued, ring_messages, messages_in_ring}
+use Rattle.board_model.specs.Takings.{taken_by, messages_taken, none_standing}
 use Rattle.board_model.specs.Headline.{NoMessageLost}
 use Rattle.board_model.proofs.MessageTakes.{messages_in-append}
 use Rattle.board_model.proofs.MessageSums.{count-append, carried_of, carried_at}

@@ -7,10 +7,9 @@ use Rattle.mc_base.specs.declared.refusal.Refusal.{Refusal}
 use Rattle.mc_base.specs.declared.refusal.Refusal.TheVariants.{EndpInvalid, OnChannel, PeerInvalid, MsgSize, NoBuffer}
 use Rattle.mc_base.specs.declared.name.EndName.{EndName}
 use Rattle.board_model.specs.declared.scenario.DomainLine.{DomainLine}
-use Rattle.board_model.specs.declared.scenario.Call.{Call}
-use Rattle.board_model.specs.declared.scenario.Call.TheVariants.{Create, MsgSend, MsgRecv}
 use Rattle.board_model.specs.declared.scenario.CallLine.{CallLine}
 use Rattle.board_model.specs.declared.scenario.Scenario.{Scenario}
+use Rattle.board_model.specs.DomainCall.{DomainCall, create_at, send_from, receive_at, request_at, available_at, test_of, cancel_of}
 use Rattle.board_model.specs.Lists.{changed, changed_at}
 use Rattle.board_model.specs.Scenario.{neighbour, neighbours, all_ranked, linked_by}
 use Rattle.board_model.specs.Journal.{PlainEntry, turned, put, called, Visit}
@@ -18,7 +17,7 @@ use Rattle.board_model.specs.State.{DomainState, Peer, is_numbered, place_of_pee
 use Rattle.board_model.specs.Turn.{looked_at, after_looks, after_visit, due_frames, turn_limit, IsVisit, AreVisits, IsTurn, after_turn}
 use Rattle.board_model.specs.Answer.{holds, refusal, success_puts, unless_refused}
 use Rattle.board_model.specs.Effect.{used_one, success_effect}
-use Rattle.board_model.specs.Step.{RunState, HasNoPuts, Allowed, next_line, effect_of_line, after}
+use Rattle.board_model.specs.Step.{RunState, HasNoPuts, Allowed, next_line, call_at, effect_of_line, after}
 use Rattle.board_model.specs.Run.{start, after_all}
 use Rattle.board_model.proofs.MessageLists.{get-position}
 use Rattle.board_model.proofs.MessageAlls.{none-passes}
@@ -71,7 +70,7 @@ own_same : (d : ℕ) (s t : DomainState) → t.peers ≡ s.peers → OwnLane d s
 own_same d s t e own = record { numbers = ap (map (λ p. p.number)) e ∙ own.numbers; owes_nothing = rw e own.owes_nothing }
 
 own_visit : (d : ℕ) (s : DomainState) (v : Visit) → IsVisit s v → OwnLane d s → OwnLane d (after_visit s v)
-own_visit d s v is own = own_same d (after_looks s v) (after_visit s v) (takes-keep (λ a. a.peers) (λ a es. refl) (after_looks s v) v.peer v.takes is.words) (own_looks d s v own)
+own_visit d s v is own = own_same d (after_looks s v) (after_visit s v) (takes-keep (λ a. a.peers) (λ a es rs. refl) (after_looks s v) v.peer v.takes is.words) (own_looks d s v own)
 
 own_turn : (d : ℕ) (s : DomainState) (vs : List Visit) → AreVisits s vs → OwnLane d s → OwnLane d (after_turn s vs)
 own_turn d s [] are own = own
@@ -79,20 +78,24 @@ own_turn d s (v ∷ vs) are own = own_turn d (after_visit s v) vs are.1 (own_vis
 
 -- ---- calls
 
-own_success : (d : ℕ) (s : DomainState) (node : ℕ) (call : Call) (o : Option Refusal) → OwnLane d s → OwnLane d (unless_refused o s (success_effect s node call))
+own_success : (d : ℕ) (s : DomainState) (node : ℕ) (call : DomainCall) (o : Option Refusal) → OwnLane d s → OwnLane d (unless_refused o s (success_effect s node call))
 own_success d s node call (Some w) own = own
-own_success d s node (Create port) None own = record { numbers = own.numbers; owes_nothing = own.owes_nothing }
-own_success d s node (MsgSend port to priority bytes) None own = own-changed d s used_one (place_of_peer s to.domain) (λ p. refl) (λ p nothing. nothing) own
-own_success d s node (MsgRecv port max) None own = record { numbers = own.numbers; owes_nothing = own.owes_nothing }
+own_success d s node (create_at port) None own = record { numbers = own.numbers; owes_nothing = own.owes_nothing }
+own_success d s node (send_from port to priority bytes) None own = own-changed d s used_one (place_of_peer s to.domain) (λ p. refl) (λ p nothing. nothing) own
+own_success d s node (receive_at port max) None own = record { numbers = own.numbers; owes_nothing = own.owes_nothing }
+own_success d s node (request_at port max) None own = record { numbers = own.numbers; owes_nothing = own.owes_nothing }
+own_success d s node (available_at port) None own = own
+own_success d s node (test_of request) None own = record { numbers = own.numbers; owes_nothing = own.owes_nothing }
+own_success d s node (cancel_of request) None own = record { numbers = own.numbers; owes_nothing = own.owes_nothing }
 
-own_line : (d : ℕ) (s : DomainState) (o : Option CallLine) → OwnLane d s → OwnLane d (effect_of_line o s)
-own_line d s None own = own
-own_line d s (Some line) own = own_success d s line.node line.call (refusal s line.node line.call) own
+own_line : (d : ℕ) (r : RunState) (o : Option CallLine) → OwnLane d r.state → OwnLane d (effect_of_line o r)
+own_line d r None own = own
+own_line d r (Some line) own = own_success d r.state line.node (call_at r line) (refusal r.state line.node (call_at r line)) own
 
 pub own_entry : (lines : List CallLine) (d : ℕ) (r : RunState) (e : PlainEntry) → Allowed lines r e → OwnLane d r.state → OwnLane d (after lines r e).state
 own_entry lines d r (turned visits) allowed own = own_turn d r.state visits allowed.1.allowed own
 own_entry lines d r (put peer frame) allowed own = own
-own_entry lines d r (called k a) allowed own = own_line d r.state (next_line lines r) own
+own_entry lines d r (called k a) allowed own = own_line d r (next_line lines r) own
 
 pub alone : (s : Scenario) (d : DomainLine) → s.links ≡ [] → neighbours s d ≡ neighbour d.domain d.pool ∷ []
 alone s d e = ap (λ ls. all_ranked (neighbour d.domain d.pool ∷ flat_map (linked_by d.domain) ls)) e
@@ -160,27 +163,31 @@ some_free None h = absurd cc
 some_free (Some p) h = refl
 
 -- the words that do not hold where a send succeeds
-pub record CanSend (s : DomainState) (node : ℕ) (call : Call) : Type 0 where
+pub record CanSend (s : DomainState) (node : ℕ) (call : DomainCall) : Type 0 where
   pub has_peer : holds s node call PeerInvalid ≡ false
   pub fits_size : holds s node call MsgSize ≡ false
   pub has_buffer : holds s node call NoBuffer ≡ false
 
-pub can_send : (s : DomainState) (node port : ℕ) (to : EndName) (priority : ℕ) (bytes : List ℕ) → refusal s node (MsgSend port to priority bytes) ≡ None → CanSend s node (MsgSend port to priority bytes)
+pub can_send : (s : DomainState) (node port : ℕ) (to : EndName) (priority : ℕ) (bytes : List ℕ) → refusal s node (send_from port to priority bytes) ≡ None → CanSend s node (send_from port to priority bytes)
 can_send s node port to priority bytes h =
-    let call : Call = MsgSend port to priority bytes in
+    let call : DomainCall = send_from port to priority bytes in
     let words = none-passes (holds s node call) (EndpInvalid ∷ OnChannel ∷ PeerInvalid ∷ MsgSize ∷ NoBuffer ∷ []) h in
     record { has_peer = words.1.1.0; fits_size = words.1.1.1.0; has_buffer = words.1.1.1.1.0 }
 
-pub send_to_self : (d : ℕ) (s : DomainState) (node port : ℕ) (to : EndName) (priority : ℕ) (bytes : List ℕ) → refusal s node (MsgSend port to priority bytes) ≡ None → OwnLane d s → to.domain ≡ d
+pub send_to_self : (d : ℕ) (s : DomainState) (node port : ℕ) (to : EndName) (priority : ℕ) (bytes : List ℕ) → refusal s node (send_from port to priority bytes) ≡ None → OwnLane d s → to.domain ≡ d
 send_to_self d s node port to priority bytes h own =
     let free : nat_lt (free_to s to.domain) 1 ≡ false = (can_send s node port to priority bytes h).has_buffer in
     some_peer d to.domain s.peers own.numbers (ap (λ o. is_some o) (sym (get-position (is_numbered to.domain) s.peers)) ∙ some_free (peer_of s to.domain) free)
 
-puts_to_self : (d : ℕ) (s : DomainState) (node : ℕ) (call : Call) (o : Option Refusal) → o ≡ refusal s node call → OwnLane d s → AllByRecursion (λ p. p.0 ≡ d) (unless_refused o [] (success_puts s node call))
+puts_to_self : (d : ℕ) (s : DomainState) (node : ℕ) (call : DomainCall) (o : Option Refusal) → o ≡ refusal s node call → OwnLane d s → AllByRecursion (λ p. p.0 ≡ d) (unless_refused o [] (success_puts s node call))
 puts_to_self d s node call (Some w) is own = tt
-puts_to_self d s node (Create port) None is own = tt
-puts_to_self d s node (MsgSend port to priority bytes) None is own = (send_to_self d s node port to priority bytes (sym is) own, tt)
-puts_to_self d s node (MsgRecv port max) None is own = tt
+puts_to_self d s node (create_at port) None is own = tt
+puts_to_self d s node (send_from port to priority bytes) None is own = (send_to_self d s node port to priority bytes (sym is) own, tt)
+puts_to_self d s node (receive_at port max) None is own = tt
+puts_to_self d s node (request_at port max) None is own = tt
+puts_to_self d s node (available_at port) None is own = tt
+puts_to_self d s node (test_of request) None is own = tt
+puts_to_self d s node (cancel_of request) None is own = tt
 
 no_puts : (d : ℕ) (o : Option (List (ℕ × List ℕ))) → HasNoPuts o → PendingTo d o
 no_puts d None none = tt
@@ -208,4 +215,4 @@ puts_go lines d r (put peer frame ∷ es) allowed settled own =
 puts_go lines d r (called k a ∷ es) allowed settled own =
     let rest = puts_go lines d (after lines r (called k a)) es allowed.1 settled (own_entry lines d r (called k a) allowed.0 own) in
     let line : CallLine = allowed.0.0 in
-    (rw (allowed.0.4) (puts_to_self d r.state line.node line.call (refusal r.state line.node line.call) refl own), (tt, rest.1))
+    (rw (allowed.0.4) (puts_to_self d r.state line.node (call_at r line) (refusal r.state line.node (call_at r line)) refl own), (tt, rest.1))

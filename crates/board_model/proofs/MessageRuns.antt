@@ -1,4 +1,5 @@
--- Along every run of a domain the messages that stand are those in the queues, and each receive takes the best of them.
+-- Along every run of a domain the messages that stand are those in the queues, where a receive waits the queue is empty, and
+-- each receive takes the best of what stands.
 use Rattle.std.proofs.Common.{◌≡◌, ℕ, List, [], ◌∷◌, Option, Some, refl, sym, subst, arith}
 use Rattle.std.specs.List.{AllByRecursion}
 use Rattle.board_model.specs.declared.scenario.DomainLine.{DomainLine}
@@ -6,14 +7,15 @@ use Rattle.board_model.specs.declared.scenario.CallLine.{CallLine}
 use Rattle.board_model.specs.declared.scenario.Scenario.{Scenario}
 use Rattle.board_model.specs.Scenario.{script}
 use Rattle.board_model.specs.Journal.{PlainEntry, turned, put, called, PlainAnswer}
-use Rattle.board_model.specs.State.{DomainState}
 use Rattle.board_model.specs.Answer.{answer}
 use Rattle.board_model.specs.Effect.{effect}
-use Rattle.board_model.specs.Step.{RunState, Allowed, next_line, effect_of_line, after}
+use Rattle.board_model.specs.Step.{RunState, Allowed, next_line, call_at, effect_of_line, after}
 use Rattle.board_model.specs.Run.{start, Leads, left_by, IsDomainRun}
 use Rattle.board_model.specs.Board.{DomainJournal, IsBoardRun}
-use Rattle.board_model.specs.Messages.{receives_by, receives_at, Standing, none_standing, standing_after, TakesBestAt, TakesBest, EachTakesBest, ReceivesBest}
+use Rattle.board_model.specs.Takings.{receives_by, receives_in, Standing, none_standing, standing_after, TakesBestAt, TakesBest, EachTakesBest, ReceivesBest}
 use Rattle.board_model.proofs.MessageTakes.{Stands, stands_turn}
+use Rattle.board_model.proofs.MessageWaits.{Quiet, quiet_turn, quiet_call}
+use Rattle.board_model.proofs.MessageHands.{hands_visits}
 use Rattle.board_model.proofs.MessageCalls.{left_at, stands_call, takes_call}
 
 -- each entry is allowed where it stands
@@ -28,42 +30,55 @@ allowed_all lines r to (e ∷ es) leads =
 
 -- ---- a step
 
-stands_line : (d : ℕ) (s : DomainState) (q : Standing) (a : PlainAnswer) (line : CallLine) (o : Option CallLine) → o ≡ Some line → a ≡ answer s line.node line.call → Stands d s q →
-    Stands d (effect_of_line o s) (left_at q (receives_at o s a))
-stands_line d s q a line o is told stands =
-    subst (λ (p : Option CallLine). Stands d (effect_of_line p s) (left_at q (receives_at p s a))) (sym is)
-    (subst (λ (b : PlainAnswer). Stands d (effect s line.node line.call) (left_at q (receives_by s line.node line.call b))) (sym told)
-    (stands_call d s line.node line.call q stands))
+stands_line : (d : ℕ) (r : RunState) (q : Standing) (a : PlainAnswer) (line : CallLine) (o : Option CallLine) → o ≡ Some line → a ≡ answer r.state line.node (call_at r line) → Stands d r.state q →
+    Stands d (effect_of_line o r) (left_at q (receives_in o r a))
+stands_line d r q a line o is told stands =
+    subst (λ (p : Option CallLine). Stands d (effect_of_line p r) (left_at q (receives_in p r a))) (sym is)
+    (subst (λ (b : PlainAnswer). Stands d (effect r.state line.node (call_at r line)) (left_at q (receives_by r.state line.node (call_at r line) b))) (sym told)
+    (stands_call d r.state line.node (call_at r line) q stands))
 
 pub stands_entry : (lines : List CallLine) (d : ℕ) (r : RunState) (q : Standing) (e : PlainEntry) → Allowed lines r e → Stands d r.state q → Stands d (after lines r e).state (standing_after lines d r q e)
 stands_entry lines d r q (turned visits) allowed stands = stands_turn d r.state visits q allowed.1.allowed stands
 stands_entry lines d r q (put peer frame) allowed stands = stands
-stands_entry lines d r q (called k a) allowed stands = stands_line d r.state q a allowed.0 (next_line lines r) allowed.1 allowed.3 stands
+stands_entry lines d r q (called k a) allowed stands = stands_line d r q a allowed.0 (next_line lines r) allowed.1 allowed.3 stands
 
-takes_line : (d : ℕ) (s : DomainState) (q : Standing) (a : PlainAnswer) (line : CallLine) (o : Option CallLine) → o ≡ Some line → a ≡ answer s line.node line.call → Stands d s q → TakesBestAt o s q a
-takes_line d s q a line o is told stands =
-    subst (λ (p : Option CallLine). TakesBestAt p s q a) (sym is)
-    (subst (λ (b : PlainAnswer). TakesBestAt (Some line) s q b) (sym told) (takes_call d s q line.node line.call stands))
+quiet_line : (r : RunState) (line : CallLine) (o : Option CallLine) → o ≡ Some line → Quiet r.state → Quiet (effect_of_line o r)
+quiet_line r line o is quiet = subst (λ (p : Option CallLine). Quiet (effect_of_line p r)) (sym is) (quiet_call r.state line.node (call_at r line) quiet)
 
-takes_entry : (lines : List CallLine) (d : ℕ) (r : RunState) (q : Standing) (e : PlainEntry) → Allowed lines r e → Stands d r.state q → TakesBest lines r q e
-takes_entry lines d r q (turned visits) allowed stands = tt
-takes_entry lines d r q (put peer frame) allowed stands = tt
-takes_entry lines d r q (called k a) allowed stands = takes_line d r.state q a allowed.0 (next_line lines r) allowed.1 allowed.3 stands
+pub quiet_entry : (lines : List CallLine) (r : RunState) (e : PlainEntry) → Allowed lines r e → Quiet r.state → Quiet (after lines r e).state
+quiet_entry lines r (turned visits) allowed quiet = quiet_turn r.state visits allowed.1.allowed quiet
+quiet_entry lines r (put peer frame) allowed quiet = quiet
+quiet_entry lines r (called k a) allowed quiet = quiet_line r allowed.0 (next_line lines r) allowed.1 quiet
+
+takes_line : (d : ℕ) (r : RunState) (q : Standing) (a : PlainAnswer) (line : CallLine) (o : Option CallLine) → o ≡ Some line → a ≡ answer r.state line.node (call_at r line) → Stands d r.state q → TakesBestAt o r q a
+takes_line d r q a line o is told stands =
+    subst (λ (p : Option CallLine). TakesBestAt p r q a) (sym is)
+    (subst (λ (b : PlainAnswer). TakesBestAt (Some line) r q b) (sym told) (takes_call d r.state q line.node (call_at r line) stands))
+
+takes_entry : (lines : List CallLine) (d : ℕ) (r : RunState) (q : Standing) (e : PlainEntry) → Allowed lines r e → Stands d r.state q → Quiet r.state → TakesBest lines d r q e
+takes_entry lines d r q (turned visits) allowed stands quiet = hands_visits d r.state visits q allowed.1.allowed stands quiet
+takes_entry lines d r q (put peer frame) allowed stands quiet = tt
+takes_entry lines d r q (called k a) allowed stands quiet = takes_line d r q a allowed.0 (next_line lines r) allowed.1 allowed.3 stands
 
 -- ---- a run
 
-takes_best : (lines : List CallLine) (d : ℕ) (r : RunState) (q : Standing) (es : List PlainEntry) → AllAllowed lines r es → Stands d r.state q → EachTakesBest lines d r q es
-takes_best lines d r q [] allowed stands = tt
-takes_best lines d r q (e ∷ es) allowed stands =
-    (takes_entry lines d r q e allowed.0 stands, takes_best lines d (after lines r e) (standing_after lines d r q e) es allowed.1 (stands_entry lines d r q e allowed.0 stands))
+takes_best : (lines : List CallLine) (d : ℕ) (r : RunState) (q : Standing) (es : List PlainEntry) → AllAllowed lines r es → Stands d r.state q → Quiet r.state → EachTakesBest lines d r q es
+takes_best lines d r q [] allowed stands quiet = tt
+takes_best lines d r q (e ∷ es) allowed stands quiet = (
+  takes_entry lines d r q e allowed.0 stands quiet,
+  takes_best lines d (after lines r e) (standing_after lines d r q e) es allowed.1 (stands_entry lines d r q e allowed.0 stands) (quiet_entry lines r e allowed.0 quiet),
+)
 
 pub stands_start : (s : Scenario) (d : DomainLine) → Stands d.domain (start s d).state none_standing
 stands_start s d = record { queued = λ a. refl; rise = omega arith }
 
+pub quiet_start : (s : Scenario) (d : DomainLine) → Quiet (start s d).state
+quiet_start s d = record { apart = tt; ranked = tt; free = tt }
+
 pub run_takes_best : (s : Scenario) (j : DomainJournal) → IsDomainRun s j.line j.entries → ReceivesBest s j
 run_takes_best s j run =
     takes_best (script s j.line.domain) j.line.domain (start s j.line) none_standing j.entries
-    (allowed_all (script s j.line.domain) (start s j.line) (left_by s j.line j.entries) j.entries run.steps) (stands_start s j.line)
+    (allowed_all (script s j.line.domain) (start s j.line) (left_by s j.line j.entries) j.entries run.steps) (stands_start s j.line) (quiet_start s j.line)
 
 each_takes_best : (s : Scenario) (js : List DomainJournal) → AllByRecursion (λ j. IsDomainRun s j.line j.entries) js → AllByRecursion (ReceivesBest s) js
 each_takes_best s [] runs = tt

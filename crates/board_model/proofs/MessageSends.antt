@@ -8,21 +8,24 @@ use Rattle.mc_base.specs.declared.name.EndName.{EndName}
 use Rattle.mc_base.specs.declared.refusal.Refusal.{Refusal}
 use Rattle.mc_base.specs.declared.refusal.Refusal.TheVariants.{NodeInvalid, ExistsAlready, EndpLimit, AddressSpent}
 use Rattle.board_model.specs.declared.scenario.Call.{Call}
-use Rattle.board_model.specs.declared.scenario.Call.TheVariants.{Create, MsgSend, MsgRecv}
+use Rattle.board_model.specs.declared.scenario.Call.TheVariants.{Create, MsgSend, MsgRecv, MsgRecvI, MsgAvailable, Test, Cancel}
 use Rattle.board_model.specs.declared.scenario.CallLine.{CallLine}
 use Rattle.board_model.specs.declared.scenario.Scenario.{Scenario}
 use Rattle.board_model.specs.Scenario.{script}
-use Rattle.board_model.specs.Grammar.{IsLawfulCall, IsLawfulLine, IsLawful}
+use Rattle.board_model.specs.Grammar.{IsLawfulCall, AreLawfulLines, told_after, IsLawful}
 use Rattle.board_model.specs.Journal.{PlainEntry, turned, put, called, Visit, joined}
+use Rattle.board_model.specs.DomainCall.{DomainCall, create_at, send_from, receive_at, request_at, available_at, test_of, cancel_of}
+use Rattle.board_model.specs.Labels.{Labelled, call_of}
 use Rattle.board_model.specs.State.{DomainState, Endpoint, is_at, endpoint_at, address_at, peer_of}
 use Rattle.board_model.specs.Turn.{after_looks, after_visit, IsVisit, AreVisits, after_turn}
 use Rattle.board_model.specs.Answer.{local, known_address, address_of, holds, refusal, success_puts, unless_refused}
 use Rattle.board_model.specs.Effect.{success_effect}
-use Rattle.board_model.specs.Step.{RunState, HasNoPuts, Allowed, next_line, effect_of_line, after}
+use Rattle.board_model.specs.Step.{RunState, HasNoPuts, Allowed, next_line, call_at, effect_of_line, after}
 use Rattle.board_model.specs.Traffic.{puts_in, put_to}
 use Rattle.board_model.specs.Run.{start, after_all, IsDomainRun}
 use Rattle.board_model.specs.Board.{DomainJournal, IsBoardRun}
-use Rattle.board_model.specs.Messages.{carries_message, Standing, none_standing, standing_after}
+use Rattle.board_model.specs.Messages.{carries_message}
+use Rattle.board_model.specs.Takings.{Standing, none_standing, standing_after}
 use Rattle.board_model.specs.Serial.{serial, serial_journal}
 use Rattle.board_model.proofs.MessageAlls.{none-passes, all-at, all-filter, all-append, all-parts}
 use Rattle.board_model.proofs.MessageQueues.{Rise, found-within}
@@ -43,9 +46,9 @@ record Made (d : ℕ) (s : DomainState) : Type 0 where
 
 made_visit : (d : ℕ) (s : DomainState) (v : Visit) → IsVisit s v → Made d s → Made d (after_visit s v)
 made_visit d s v is made =
-    let given : (after_visit s v).endpoints_given ≡ s.endpoints_given = takes-keep (λ a. a.endpoints_given) (λ a es. refl) (after_looks s v) v.peer v.takes is.words in
+    let given : (after_visit s v).endpoints_given ≡ s.endpoints_given = takes-keep (λ a. a.endpoints_given) (λ a es rs. refl) (after_looks s v) v.peer v.takes is.words in
     record {
-      number = takes-keep (λ a. a.number) (λ a es. refl) (after_looks s v) v.peer v.takes is.words ∙ made.number;
+      number = takes-keep (λ a. a.number) (λ a es rs. refl) (after_looks s v) v.peer v.takes is.words ∙ made.number;
       few = rw given made.few;
     }
 
@@ -53,25 +56,29 @@ made_turn : (d : ℕ) (s : DomainState) (vs : List Visit) → AreVisits s vs →
 made_turn d s [] are made = made
 made_turn d s (v ∷ vs) are made = made_turn d (after_visit s v) vs are.1 (made_visit d s v are.0 made)
 
-can_create : (s : DomainState) (node port : ℕ) → refusal s node (Create port) ≡ None → s.endpoints_given < 60000
+can_create : (s : DomainState) (node port : ℕ) → refusal s node (create_at port) ≡ None → s.endpoints_given < 60000
 can_create s node port h =
-    let words = none-passes (holds s node (Create port)) (NodeInvalid ∷ ExistsAlready ∷ EndpLimit ∷ AddressSpent ∷ []) h in
+    let words = none-passes (holds s node (create_at port)) (NodeInvalid ∷ ExistsAlready ∷ EndpLimit ∷ AddressSpent ∷ []) h in
     leb-false 60000 s.endpoints_given words.1.1.1.0
 
-made_success : (d : ℕ) (s : DomainState) (node : ℕ) (call : Call) (o : Option Refusal) → o ≡ refusal s node call → Made d s → Made d (unless_refused o s (success_effect s node call))
+made_success : (d : ℕ) (s : DomainState) (node : ℕ) (call : DomainCall) (o : Option Refusal) → o ≡ refusal s node call → Made d s → Made d (unless_refused o s (success_effect s node call))
 made_success d s node call (Some w) is made = made
-made_success d s node (Create port) None is made = let less : s.endpoints_given < 60000 = can_create s node port (sym is) in record { number = made.number; few = omega arith }
-made_success d s node (MsgSend port to priority bytes) None is made = record { number = made.number; few = made.few }
-made_success d s node (MsgRecv port max) None is made = record { number = made.number; few = made.few }
+made_success d s node (create_at port) None is made = let less : s.endpoints_given < 60000 = can_create s node port (sym is) in record { number = made.number; few = omega arith }
+made_success d s node (send_from port to priority bytes) None is made = record { number = made.number; few = made.few }
+made_success d s node (receive_at port max) None is made = record { number = made.number; few = made.few }
+made_success d s node (request_at port max) None is made = record { number = made.number; few = made.few }
+made_success d s node (available_at port) None is made = made
+made_success d s node (test_of request) None is made = record { number = made.number; few = made.few }
+made_success d s node (cancel_of request) None is made = record { number = made.number; few = made.few }
 
-made_line : (d : ℕ) (s : DomainState) (o : Option CallLine) → Made d s → Made d (effect_of_line o s)
-made_line d s None made = made
-made_line d s (Some line) made = made_success d s line.node line.call (refusal s line.node line.call) refl made
+made_line : (d : ℕ) (r : RunState) (o : Option CallLine) → Made d r.state → Made d (effect_of_line o r)
+made_line d r None made = made
+made_line d r (Some line) made = made_success d r.state line.node (call_at r line) (refusal r.state line.node (call_at r line)) refl made
 
 made_entry : (lines : List CallLine) (d : ℕ) (r : RunState) (e : PlainEntry) → Allowed lines r e → Made d r.state → Made d (after lines r e).state
 made_entry lines d r (turned visits) allowed made = made_turn d r.state visits allowed.1.allowed made
 made_entry lines d r (put peer frame) allowed made = made
-made_entry lines d r (called k a) allowed made = made_line d r.state (next_line lines r) made
+made_entry lines d r (called k a) allowed made = made_line d r (next_line lines r) made
 
 -- ---- a send
 
@@ -101,19 +108,23 @@ send_address d s q to own made stands some =
 abbrev Carries : ℕ × List ℕ → Type 0
 Carries p = carries_message p.1 ≡ true
 
-send_carries : (d : ℕ) (s : DomainState) (q : Standing) (node port : ℕ) (to : EndName) (priority : ℕ) (bytes : List ℕ) → refusal s node (MsgSend port to priority bytes) ≡ None → priority ≡ 1 → OwnLane d s → Made d s → Stands d s q →
-    AllByRecursion Carries (success_puts s node (MsgSend port to priority bytes))
-send_carries d s q node port to priority bytes h one own made stands =
-    let can : CanSend s node (MsgSend port to priority bytes) = can_send s node port to priority bytes h in
+send_carries : (d : ℕ) (s : DomainState) (q : Standing) (node port : ℕ) (to : EndName) (priority : ℕ) (bytes : List ℕ) → refusal s node (send_from port to priority bytes) ≡ None → priority ≤ 3 → OwnLane d s → Made d s → Stands d s q →
+    AllByRecursion Carries (success_puts s node (send_from port to priority bytes))
+send_carries d s q node port to priority bytes h fits own made stands =
+    let can : CanSend s node (send_from port to priority bytes) = can_send s node port to priority bytes h in
     let at : IsAddress (unwrap_or (address_of s to) 0) = send_address d s q to (send_to_self d s node port to priority bytes h own) made stands (not-false (is_some (address_of s to)) can.has_peer) in
-    (made_carries (unwrap_or (address_at s (local node port)) 0) (unwrap_or (address_of s to) 0) priority bytes at.above at.below (omega arith) (ltb-false 488 (length bytes) can.fits_size), tt)
+    (made_carries (unwrap_or (address_at s (local node port)) 0) (unwrap_or (address_of s to) 0) priority bytes at.above at.below fits (ltb-false 488 (length bytes) can.fits_size), tt)
 
-puts_carry : (d : ℕ) (s : DomainState) (q : Standing) (node : ℕ) (call : Call) (o : Option Refusal) → o ≡ refusal s node call → IsLawfulCall call → OwnLane d s → Made d s → Stands d s q →
-    AllByRecursion Carries (unless_refused o [] (success_puts s node call))
-puts_carry d s q node call (Some w) is lawful own made stands = tt
-puts_carry d s q node (Create port) None is lawful own made stands = tt
-puts_carry d s q node (MsgSend port to priority bytes) None is lawful own made stands = send_carries d s q node port to priority bytes (sym is) lawful.2 own made stands
-puts_carry d s q node (MsgRecv port max) None is lawful own made stands = tt
+puts_carry : (d : ℕ) (s : DomainState) (q : Standing) (labels : List Labelled) (node : ℕ) (call : Call) (o : Option Refusal) → o ≡ refusal s node (call_of labels s call) → IsLawfulCall call → OwnLane d s → Made d s → Stands d s q →
+    AllByRecursion Carries (unless_refused o [] (success_puts s node (call_of labels s call)))
+puts_carry d s q labels node call (Some w) is lawful own made stands = tt
+puts_carry d s q labels node (Create port) None is lawful own made stands = tt
+puts_carry d s q labels node (MsgSend port to priority bytes) None is lawful own made stands = send_carries d s q node port to priority bytes (sym is) lawful.2 own made stands
+puts_carry d s q labels node (MsgRecv port max) None is lawful own made stands = tt
+puts_carry d s q labels node (MsgRecvI port max) None is lawful own made stands = tt
+puts_carry d s q labels node (MsgAvailable port) None is lawful own made stands = tt
+puts_carry d s q labels node (Test label) None is lawful own made stands = tt
+puts_carry d s q labels node (Cancel label) None is lawful own made stands = tt
 
 -- ---- a run
 
@@ -159,7 +170,7 @@ each_carries lines d r q (called k a ∷ es) lawful allowed settled sound =
     let rest = each_carries lines d (after lines r (called k a)) (standing_after lines d r q (called k a)) es lawful allowed.1 settled (sound_entry lines d r q (called k a) allowed.0 sound) in
     let line : CallLine = allowed.0.0 in
     let call : IsLawfulCall line.call = all-at (λ c. IsLawfulCall c.call) lines r.lines_called line lawful allowed.0.1 in
-    (rw (allowed.0.4) (puts_carry d r.state q line.node line.call (refusal r.state line.node line.call) refl call sound.own sound.made sound.stands), (tt, rest.1))
+    (rw (allowed.0.4) (puts_carry d r.state q r.labels line.node line.call (refusal r.state line.node (call_at r line)) refl call sound.own sound.made sound.stands), (tt, rest.1))
 
 -- ---- what is put on the lane
 
@@ -178,9 +189,9 @@ carry_all lines d r [] allowed own it = tt
 carry_all lines d r (e ∷ es) allowed own it =
     all-append (λ f. carries_message f ≡ true) (puts_in d e) (put_to d es) (carry_entry lines d r e allowed.0 own it.0) (carry_all lines d (after lines r e) es allowed.1 (own_entry lines d r e allowed.0 own) it.1)
 
-lawful_calls : (d : ℕ) (cs : List CallLine) → AllByRecursion (IsLawfulLine d) cs → LawfulLines cs
-lawful_calls d [] all = tt
-lawful_calls d (c ∷ cs) all = (all.0.call_fits, lawful_calls d cs all.1)
+lawful_calls : (d : ℕ) (told : List (List ℕ)) (cs : List CallLine) → AreLawfulLines d told cs → LawfulLines cs
+lawful_calls d told [] all = tt
+lawful_calls d told (c ∷ cs) all = (all.0.call_fits, lawful_calls d (told_after told c) cs all.1)
 
 -- each put of a run carries a message
 run_puts_carry : (s : Scenario) (j : DomainJournal) → s.links ≡ [] → LawfulLines s.calls → IsDomainRun s j.line j.entries → AllByRecursion PutCarries j.entries
@@ -191,7 +202,7 @@ run_puts_carry s j links lawful run =
     each.1
 
 pub puts_of_lawful : (s : Scenario) (j : DomainJournal) → IsLawful s → IsBoardRun s (j ∷ []) → AllByRecursion PutCarries j.entries
-puts_of_lawful s j lawful run = run_puts_carry s j lawful.no_links (lawful_calls lawful.domain.domain s.calls lawful.lines_lawful) run.domain_runs.0
+puts_of_lawful s j lawful run = run_puts_carry s j lawful.no_links (lawful_calls lawful.domain.domain [] s.calls lawful.lines_lawful) run.domain_runs.0
 
 -- ---- a board of one domain
 

@@ -1,4 +1,5 @@
--- How many messages in all queues of a domain pass a test, through frames and calls.
+-- How many messages in all queues of a domain pass a test, through frames and calls, and what of the frames is taken at once
+-- by receives that waited.
 use Rattle.std.proofs.Common.{◌≡◌, ℕ, ◌+◌, Bool, true, false, cond, List, [], ◌∷◌, ◌++◌, map, Option, Some, refl, sym, ap, ◌∙◌, arith, inl, inr}
 use Rattle.std.specs.Prelude.{filter, find, count_by, option_map, option_to_list, ◌==◌, is_some}
 use Rattle.std.specs.List.{flat_map}
@@ -7,12 +8,13 @@ use Rattle.std.proofs.lemmas.List.Sums.{sum_by-append}
 use Rattle.std.proofs.lemmas.Bool.{cond_both, and_parts, eqb-true, cases_Bool}
 use Rattle.mc_base.specs.Frame.{destination_of}
 use Rattle.board_model.specs.Journal.{Taken, Visit}
-use Rattle.board_model.specs.State.{DomainState, Item, Endpoint, has_live_address, place_of_address}
+use Rattle.board_model.specs.State.{DomainState, Item, Endpoint, has_live_address, place_of_address, place_waiting_for}
 use Rattle.board_model.specs.Choice.{best}
 use Rattle.board_model.specs.Dealing.{queued_last, with_item, item_of, row_for, after_frame, after_takes, HaveWords}
 use Rattle.board_model.specs.Turn.{after_looks, after_visit, IsVisit, AreVisits, after_turn}
 use Rattle.board_model.specs.Effect.{received}
 use Rattle.board_model.specs.Messages.{Message, message_in, carries_message, messages_in, queued_message, queued_at, drops, dropped_at}
+use Rattle.board_model.specs.Takings.{Taking, taking, is_handed, serial_at, handed_now, handed_in, handed_along}
 use Rattle.board_model.proofs.MessageLists.{changed_first, changed-position, some-position}
 use Rattle.board_model.proofs.MessageBest.{count-best}
 use Rattle.board_model.proofs.MessageQueues.{received-at}
@@ -22,16 +24,61 @@ use Rattle.board_model.proofs.MessageTakes.{messages_in-append, tested-append}
 pub count-append : {A : Type 0} (test : A → Bool) (xs ys : List A) → count_by test (xs ++ ys) ≡ count_by test xs + count_by test ys
 count-append test xs ys = sum_by-append (λ x. cond (test x) 1 0) xs ys
 
--- the messages of the frames that are taken from a peer, and of those that are dropped
+-- the messages of the frames that are taken from a peer, of those of a kind, of those that are dropped, and of those that
+-- are handed to receives that waited
 abbrev pub carried_of : ℕ → ℕ → List Taken → List Message
 carried_of d peer ts = messages_in peer d (map (λ t. t.frame) ts)
 
-abbrev pub dropped_of : ℕ → ℕ → List Taken → List Message
-dropped_of d peer ts = messages_in peer d (map (λ t. t.frame) (filter (λ t. drops t.fate) ts))
+abbrev pub kind_of : (Taken → Bool) → ℕ → ℕ → List Taken → List Message
+kind_of kind d peer ts = messages_in peer d (map (λ t. t.frame) (filter kind ts))
 
--- the messages of the frames that a visit takes
+abbrev pub dropped_of : ℕ → ℕ → List Taken → List Message
+dropped_of d peer ts = kind_of (λ t. drops t.fate) d peer ts
+
+abbrev pub handed_of : ℕ → ℕ → List Taken → List Message
+handed_of d peer ts = kind_of is_handed d peer ts
+
+-- the messages of the frames that a visit takes, and of those that it hands to receives
 abbrev pub carried_at : ℕ → Visit → List Message
 carried_at d v = carried_of d v.peer v.takes
+
+abbrev pub handed_at : ℕ → Visit → List Message
+handed_at d v = handed_of d v.peer v.takes
+
+-- ---- takings by frames
+
+abbrev pub messages_of : List Taking → List Message
+messages_of ts = map (λ t. t.message) ts
+
+pub messages-append : (ts us : List Taking) → messages_of (ts ++ us) ≡ messages_of ts ++ messages_of us
+messages-append ts us = map-append (λ (t : Taking). t.message) ts us
+
+pub messages-taking : (request : Option ℕ) (ms : List Message) → messages_of (map (taking request) ms) ≡ ms
+messages-taking request [] = refl
+messages-taking request (m ∷ ms) = ap (λ ns. m ∷ ns) (messages-taking request ms)
+
+handed_if : (b : Bool) (d peer : ℕ) (request : Option ℕ) (t : Taken) →
+    messages_of (cond b (map (taking request) (carried_of d peer (t ∷ []))) []) ≡ messages_in peer d (map (λ (u : Taken). u.frame) (cond b (t ∷ []) []))
+handed_if true d peer request t = messages-taking request (carried_of d peer (t ∷ []))
+handed_if false d peer request t = refl
+
+handed_one : (d : ℕ) (s : DomainState) (peer : ℕ) (t : Taken) → messages_of (handed_now d s peer t) ≡ handed_of d peer (t ∷ [])
+handed_one d s peer t = handed_if (is_handed t) d peer (serial_at s (place_waiting_for s (destination_of t.frame))) t
+
+handed-messages : (d : ℕ) (s : DomainState) (peer : ℕ) (ts : List Taken) → messages_of (handed_in d s peer ts) ≡ handed_of d peer ts
+handed-messages d s peer [] = refl
+handed-messages d s peer (t ∷ ts) =
+    messages-append (handed_now d s peer t) (handed_in d (after_frame s peer t.frame) peer ts)
+    ∙ (ap (λ ms. ms ++ messages_of (handed_in d (after_frame s peer t.frame) peer ts)) (handed_one d s peer t)
+    ∙ (ap (λ ms. handed_of d peer (t ∷ []) ++ ms) (handed-messages d (after_frame s peer t.frame) peer ts)
+    ∙ sym (tested-append is_handed peer d (t ∷ []) ts)))
+
+pub turn-messages : (d : ℕ) (s : DomainState) (vs : List Visit) → messages_of (handed_along d s vs) ≡ flat_map (handed_at d) vs
+turn-messages d s [] = refl
+turn-messages d s (v ∷ vs) =
+    messages-append (handed_in d (after_looks s v) v.peer v.takes) (handed_along d (after_visit s v) vs)
+    ∙ (ap (λ ms. ms ++ messages_of (handed_along d (after_visit s v) vs)) (handed-messages d (after_looks s v) v.peer v.takes)
+    ∙ ap (λ ms. handed_at d v ++ ms) (turn-messages d (after_visit s v) vs))
 
 module _ (test : Message → Bool) (d : ℕ) where
   -- how many in all queues pass the test
@@ -86,6 +133,13 @@ module _ (test : Message → Bool) (d : ℕ) where
 
   -- ---- frames
 
+  -- the message of a frame of a kind, and of one of another
+  kept_one : (kind : Taken → Bool) (peer : ℕ) (t : Taken) → kind t ≡ true → kind_of kind d peer (t ∷ []) ≡ carried_of d peer (t ∷ [])
+  kept_one kind peer t h = rw h refl
+
+  kept_none : (kind : Taken → Bool) (peer : ℕ) (t : Taken) → kind t ≡ false → kind_of kind d peer (t ∷ []) ≡ []
+  kept_none kind peer t h = rw h refl
+
   drop_one : (peer : ℕ) (t : Taken) → (carries_message t.frame ≡ true → drops t.fate ≡ true) → dropped_of d peer (t ∷ []) ≡ carried_of d peer (t ∷ [])
   drop_one peer t h = elim (cases_Bool (carries_message t.frame)) [
     | inl carries ↦ rw (h carries) refl
@@ -95,38 +149,46 @@ module _ (test : Message → Bool) (d : ℕ) where
     ]
   ]
 
-  drop_none : (peer : ℕ) (t : Taken) → drops t.fate ≡ false → dropped_of d peer (t ∷ []) ≡ []
-  drop_none peer t h = rw h refl
-
   carry_one : (peer : ℕ) (t : Taken) → carries_message t.frame ≡ true → carried_of d peer (t ∷ []) ≡ message_in peer d t.frame ∷ []
   carry_one peer t h = rw h refl
 
   frame_count : (peer : ℕ) (s : DomainState) (t : Taken) → option_map (λ r. r.word) (row_for s peer t.frame) ≡ Some t.fate →
-      count_by test (dropped_of d peer (t ∷ [])) + queued_count (after_frame s peer t.frame).endpoints ≡ count_by test (carried_of d peer (t ∷ [])) + queued_count s.endpoints
+      count_by test (handed_of d peer (t ∷ [])) + count_by test (dropped_of d peer (t ∷ [])) + queued_count (after_frame s peer t.frame).endpoints ≡ count_by test (carried_of d peer (t ∷ [])) + queued_count s.endpoints
   frame_count peer s t word =
       elim (frame_case s peer t word) [
         | inl stays ↦
             let state : queued_count (after_frame s peer t.frame).endpoints ≡ queued_count s.endpoints = ap (λ (a : DomainState). queued_count a.endpoints) stays.state in
             let drop : count_by test (dropped_of d peer (t ∷ [])) ≡ count_by test (carried_of d peer (t ∷ [])) = ap (count_by test) (drop_one peer t stays.dropped) in
+            let hand : count_by test (handed_of d peer (t ∷ [])) ≡ 0 = ap (count_by test) (kept_none is_handed peer t stays.not_handed) in
             omega arith
-        | inr goes ↦
+        | inr (inl comes) ↦
+            let state : queued_count (after_frame s peer t.frame).endpoints ≡ queued_count s.endpoints = ap (λ (a : DomainState). queued_count a.endpoints) comes.state in
+            let drop : count_by test (dropped_of d peer (t ∷ [])) ≡ 0 = ap (count_by test) (kept_none (λ u. drops u.fate) peer t comes.not_dropped) in
+            let hand : count_by test (handed_of d peer (t ∷ [])) ≡ count_by test (carried_of d peer (t ∷ [])) = ap (count_by test) (kept_one is_handed peer t comes.is_handed) in
+            omega arith
+        | inr (inr goes) ↦
             let state : queued_count (after_frame s peer t.frame).endpoints ≡ queued_count s.endpoints + count_by test (message_in peer d t.frame ∷ [])
             = ap (λ (a : DomainState). queued_count a.endpoints) goes.state ∙ with_item_count s (destination_of t.frame) (item_of peer t.frame) goes.found in
-            let drop : count_by test (dropped_of d peer (t ∷ [])) ≡ 0 = ap (count_by test) (drop_none peer t goes.not_dropped) in
+            let drop : count_by test (dropped_of d peer (t ∷ [])) ≡ 0 = ap (count_by test) (kept_none (λ u. drops u.fate) peer t goes.not_dropped) in
+            let hand : count_by test (handed_of d peer (t ∷ [])) ≡ 0 = ap (count_by test) (kept_none is_handed peer t goes.not_handed) in
             let carry : count_by test (carried_of d peer (t ∷ [])) ≡ count_by test (message_in peer d t.frame ∷ []) = ap (count_by test) (carry_one peer t goes.carried) in
             omega arith
       ]
 
+  -- the messages of a kind, frame by frame
+  kind_count : (kind : Taken → Bool) (peer : ℕ) (t : Taken) (ts : List Taken) → count_by test (kind_of kind d peer (t ∷ ts)) ≡ count_by test (kind_of kind d peer (t ∷ [])) + count_by test (kind_of kind d peer ts)
+  kind_count kind peer t ts = ap (count_by test) (tested-append kind peer d (t ∷ []) ts) ∙ count-append test (kind_of kind d peer (t ∷ [])) (kind_of kind d peer ts)
+
   takes_count : (peer : ℕ) (s : DomainState) (ts : List Taken) → HaveWords s peer ts →
-      count_by test (dropped_of d peer ts) + queued_count (after_takes s peer ts).endpoints ≡ count_by test (carried_of d peer ts) + queued_count s.endpoints
+      count_by test (handed_of d peer ts) + count_by test (dropped_of d peer ts) + queued_count (after_takes s peer ts).endpoints ≡ count_by test (carried_of d peer ts) + queued_count s.endpoints
   takes_count peer s [] words = refl
   takes_count peer s (t ∷ ts) words =
-      let rest : count_by test (dropped_of d peer ts) + queued_count (after_takes (after_frame s peer t.frame) peer ts).endpoints ≡ count_by test (carried_of d peer ts) + queued_count (after_frame s peer t.frame).endpoints
+      let rest : count_by test (handed_of d peer ts) + count_by test (dropped_of d peer ts) + queued_count (after_takes (after_frame s peer t.frame) peer ts).endpoints ≡ count_by test (carried_of d peer ts) + queued_count (after_frame s peer t.frame).endpoints
       = takes_count peer (after_frame s peer t.frame) ts words.1 in
-      let one : count_by test (dropped_of d peer (t ∷ [])) + queued_count (after_frame s peer t.frame).endpoints ≡ count_by test (carried_of d peer (t ∷ [])) + queued_count s.endpoints
+      let one : count_by test (handed_of d peer (t ∷ [])) + count_by test (dropped_of d peer (t ∷ [])) + queued_count (after_frame s peer t.frame).endpoints ≡ count_by test (carried_of d peer (t ∷ [])) + queued_count s.endpoints
       = frame_count peer s t words.0 in
-      let drops_here : count_by test (dropped_of d peer (t ∷ ts)) ≡ count_by test (dropped_of d peer (t ∷ [])) + count_by test (dropped_of d peer ts)
-      = ap (count_by test) (tested-append (λ u. drops u.fate) peer d (t ∷ []) ts) ∙ count-append test (dropped_of d peer (t ∷ [])) (dropped_of d peer ts) in
+      let hands_here : count_by test (handed_of d peer (t ∷ ts)) ≡ count_by test (handed_of d peer (t ∷ [])) + count_by test (handed_of d peer ts) = kind_count is_handed peer t ts in
+      let drops_here : count_by test (dropped_of d peer (t ∷ ts)) ≡ count_by test (dropped_of d peer (t ∷ [])) + count_by test (dropped_of d peer ts) = kind_count (λ u. drops u.fate) peer t ts in
       let carries_here : count_by test (carried_of d peer (t ∷ ts)) ≡ count_by test (carried_of d peer (t ∷ [])) + count_by test (carried_of d peer ts)
       = ap (count_by test) (messages_in-append peer d (t.frame ∷ []) (map (λ u. u.frame) ts)) ∙ count-append test (carried_of d peer (t ∷ [])) (carried_of d peer ts) in
       omega arith
@@ -134,16 +196,22 @@ module _ (test : Message → Bool) (d : ℕ) where
   -- ---- turns
 
   visit_count : (s : DomainState) (v : Visit) → IsVisit s v →
-      count_by test (dropped_at d v) + queued_count (after_visit s v).endpoints ≡ count_by test (carried_at d v) + queued_count s.endpoints
+      count_by test (handed_at d v) + count_by test (dropped_at d v) + queued_count (after_visit s v).endpoints ≡ count_by test (carried_at d v) + queued_count s.endpoints
   visit_count s v is = takes_count v.peer (after_looks s v) v.takes is.words
 
-  pub turn_count : (s : DomainState) (vs : List Visit) → AreVisits s vs →
-      count_by test (flat_map (dropped_at d) vs) + queued_count (after_turn s vs).endpoints ≡ count_by test (flat_map (carried_at d) vs) + queued_count s.endpoints
-  turn_count s [] are = refl
-  turn_count s (v ∷ vs) are =
-      let rest : count_by test (flat_map (dropped_at d) vs) + queued_count (after_turn (after_visit s v) vs).endpoints ≡ count_by test (flat_map (carried_at d) vs) + queued_count (after_visit s v).endpoints
-      = turn_count (after_visit s v) vs are.1 in
-      let one : count_by test (dropped_at d v) + queued_count (after_visit s v).endpoints ≡ count_by test (carried_at d v) + queued_count s.endpoints = visit_count s v are.0 in
+  visits_count : (s : DomainState) (vs : List Visit) → AreVisits s vs →
+      count_by test (flat_map (handed_at d) vs) + count_by test (flat_map (dropped_at d) vs) + queued_count (after_turn s vs).endpoints ≡ count_by test (flat_map (carried_at d) vs) + queued_count s.endpoints
+  visits_count s [] are = refl
+  visits_count s (v ∷ vs) are =
+      let rest : count_by test (flat_map (handed_at d) vs) + count_by test (flat_map (dropped_at d) vs) + queued_count (after_turn (after_visit s v) vs).endpoints ≡ count_by test (flat_map (carried_at d) vs) + queued_count (after_visit s v).endpoints
+      = visits_count (after_visit s v) vs are.1 in
+      let one : count_by test (handed_at d v) + count_by test (dropped_at d v) + queued_count (after_visit s v).endpoints ≡ count_by test (carried_at d v) + queued_count s.endpoints = visit_count s v are.0 in
+      let hands_here : count_by test (flat_map (handed_at d) (v ∷ vs)) ≡ count_by test (handed_at d v) + count_by test (flat_map (handed_at d) vs) = count-append test (handed_at d v) (flat_map (handed_at d) vs) in
       let drops_here : count_by test (flat_map (dropped_at d) (v ∷ vs)) ≡ count_by test (dropped_at d v) + count_by test (flat_map (dropped_at d) vs) = count-append test (dropped_at d v) (flat_map (dropped_at d) vs) in
       let carries_here : count_by test (flat_map (carried_at d) (v ∷ vs)) ≡ count_by test (carried_at d v) + count_by test (flat_map (carried_at d) vs) = count-append test (carried_at d v) (flat_map (carried_at d) vs) in
       omega arith
+
+  -- what a turn hands to receives, drops and leaves in queues is what it takes and what was queued
+  pub turn_count : (s : DomainState) (vs : List Visit) → AreVisits s vs →
+      count_by test (messages_of (handed_along d s vs)) + count_by test (flat_map (dropped_at d) vs) + queued_count (after_turn s vs).endpoints ≡ count_by test (flat_map (carried_at d) vs) + queued_count s.endpoints
+  turn_count s vs are = omega (arith, visits_count s vs are, ap (count_by test) (turn-messages d s vs))

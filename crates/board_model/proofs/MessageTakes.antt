@@ -8,9 +8,10 @@ use Rattle.mc_base.specs.Frame.{destination_of}
 use Rattle.board_model.specs.Lists.{changed}
 use Rattle.board_model.specs.Journal.{Taken, Visit}
 use Rattle.board_model.specs.State.{DomainState, has_live_address, place_of_address}
-use Rattle.board_model.specs.Dealing.{queued_last, with_item, item_of, row_for, after_frame, after_takes, HaveWords}
+use Rattle.board_model.specs.Dealing.{queued_last, with_item, with_handed, item_of, row_for, after_frame, after_takes, HaveWords}
 use Rattle.board_model.specs.Turn.{after_looks, after_visit, IsVisit, AreVisits, after_turn}
-use Rattle.board_model.specs.Messages.{Message, message_in, carries_message, messages_in, is_queued, is_to, came_at, Standing}
+use Rattle.board_model.specs.Messages.{Message, message_in, carries_message, messages_in}
+use Rattle.board_model.specs.Takings.{Standing, is_queued, is_to, came_at}
 use Rattle.board_model.proofs.MessageLists.{changed_first, changed-position, some-position}
 use Rattle.board_model.proofs.MessageQueues.{messages_at, only_at, at-queued, Rise, rise-changed}
 use Rattle.board_model.proofs.MessageFrames.{queues, frame_case}
@@ -72,12 +73,13 @@ queue_one d peer s t q found stands =
 added_none : (q : Standing) (ms : List Message) (a : ℕ) → ms ≡ [] → added q ms a ≡ q a
 added_none q ms a e = rw e (append-nil (q a))
 
-stands_frame : (d peer : ℕ) (s : DomainState) (t : Taken) (q : Standing) → option_map (λ r. r.word) (row_for s peer t.frame) ≡ Some t.fate → Stands d s q →
+pub stands_frame : (d peer : ℕ) (s : DomainState) (t : Taken) (q : Standing) → option_map (λ r. r.word) (row_for s peer t.frame) ≡ Some t.fate → Stands d s q →
     Stands d (after_frame s peer t.frame) (added q (came d peer (t ∷ [])))
 stands_frame d peer s t q word stands =
     elim (frame_case s peer t word) [
       | inl stays ↦ stands_same d s (after_frame s peer t.frame) q (added q (came d peer (t ∷ []))) stays.state (λ a. added_none q (came d peer (t ∷ [])) a (came_none d peer t stays.not_queued)) stands
-      | inr goes ↦ stands_same d (with_item s (destination_of t.frame) (item_of peer t.frame)) (after_frame s peer t.frame) (added q (message_in peer d t.frame ∷ [])) (added q (came d peer (t ∷ []))) goes.state
+      | inr (inl goes) ↦ stands_same d (with_handed s (destination_of t.frame) (item_of peer t.frame)) (after_frame s peer t.frame) q (added q (came d peer (t ∷ []))) goes.state (λ a. added_none q (came d peer (t ∷ [])) a (came_none d peer t goes.not_queued)) (record { queued = stands.queued; rise = stands.rise })
+      | inr (inr goes) ↦ stands_same d (with_item s (destination_of t.frame) (item_of peer t.frame)) (after_frame s peer t.frame) (added q (message_in peer d t.frame ∷ [])) (added q (came d peer (t ∷ []))) goes.state
           (λ a. ap (λ ms. added q ms a) (came_one d peer t goes.is_queued goes.carried))
           (queue_one d peer s t q goes.found stands)
     ]

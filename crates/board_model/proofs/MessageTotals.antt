@@ -1,5 +1,5 @@
 -- On a board of one domain where every frame put carries a message, the lines of the journal tell how many messages were
--- accepted, taken and dropped, and are in the ring.
+-- accepted and dropped, and are in the ring. Those that were taken are the rest.
 use Rattle.std.proofs.Common.{◌≡◌, ℕ, ◌+◌, ◌-◌, Bool, true, false, ◌&&◌, cond, List, [], ◌∷◌, ◌++◌, map, length, refl, sym, ap, ◌∙◌, subst, arith}
 use Rattle.std.specs.Prelude.{count_by, ◌==◌}
 use Rattle.std.specs.List.{AllByRecursion, flat_map}
@@ -14,10 +14,10 @@ use Rattle.board_model.specs.Grammar.{IsLawful}
 use Rattle.board_model.specs.Journal.{PlainEntry, turned, put, called, Visit, Taken, Line, back_line, put_line, see_line, taken_line, visit_lines, joined}
 use Rattle.board_model.specs.Step.{RunState, Allowed, after}
 use Rattle.board_model.specs.Traffic.{puts_in, takes_in, put_to, takes_from, taken_from}
-use Rattle.board_model.specs.State.{queued_items}
-use Rattle.board_model.specs.Run.{start, left_by, IsDomainRun}
+use Rattle.board_model.specs.Run.{start, IsDomainRun}
 use Rattle.board_model.specs.Board.{DomainJournal, IsBoardRun}
-use Rattle.board_model.specs.Messages.{carries_message, drops, accepted_in, accepted, dropped_in, dropped, taken_by, messages_taken, queued_by, messages_queued, messages_in_ring}
+use Rattle.board_model.specs.Messages.{carries_message, drops, accepted_in, accepted, dropped_in, dropped, messages_queued, messages_in_ring}
+use Rattle.board_model.specs.Takings.{messages_taken}
 use Rattle.board_model.specs.Serial.{serial, serial_journal}
 use Rattle.board_model.proofs.MessageAlls.{all-parts}
 use Rattle.board_model.proofs.MessageBest.{count-cons}
@@ -26,7 +26,7 @@ use Rattle.board_model.proofs.MessageRuns.{AllAllowed}
 use Rattle.board_model.proofs.MessageLane.{OwnLane, own_entry, own_start, own_visits, PutTo}
 use Rattle.board_model.proofs.MessageLines.{told, joined-count}
 use Rattle.board_model.proofs.MessageKept.{takes_self, puts_self, run_allowed, run_puts, rest_of, parts_of, OneJournal, one_of, own_prefix, ring_one, no_message_lost}
-use Rattle.board_model.proofs.MessageCounts.{is_put_line, is_take_line, is_drop_line, is_gives_line, count-always, count-never, visit_lines_count, length-messages, run_taken, is_gives, gives-lines, run_put, puts_message, length-accepted, run_dropped, is_dropped, run_queued}
+use Rattle.board_model.proofs.MessageCounts.{is_put_line, is_take_line, is_drop_line, count-always, count-never, visit_lines_count, length-messages, run_put, run_dropped, is_dropped}
 
 always : {A : Type 0} (xs : List A) → AllByRecursion (λ x. true ≡ true) xs
 always [] = tt
@@ -111,10 +111,9 @@ all_dropped (t ∷ ts) all =
     ∙ (drop_here (drops t.fate) (carries_message t.frame) (count_by is_dropped ts) (count_by (λ u. drops u.fate) ts) all.0 (all_dropped ts all.1)
     ∙ sym (count-cons (λ u. drops u.fate) t ts))
 
--- the lines of the one journal of a board tell how many messages were accepted, taken and dropped, and are in the ring
+-- the lines of the one journal of a board tell how many messages were accepted and dropped, and are in the ring
 pub record LinesTell (s : Scenario) (js : List DomainJournal) (lines : List Line) : Type 0 where
   pub accepts : length (accepted js) ≡ count_by is_put_line lines
-  pub takes : length (messages_taken s js) ≡ count_by is_gives_line lines
   pub drops_some : length (dropped js) ≡ count_by is_drop_line lines
   pub in_ring : length (messages_in_ring s js) ≡ count_by is_put_line lines - count_by is_take_line lines
 
@@ -134,52 +133,18 @@ one_tells s j one links run first carry =
     = ap length (ring_one s j one links) ∙ (length-messages d d (rest_of d es) ∙ count-always carries_message (rest_of d es) parts.1) in
     record {
       accepts = ap length (append-nil (flat_map (accepted_in d) es)) ∙ (run_put s j links run ∙ (count-always carries_message (put_to d es) carry ∙ sym puts_lines));
-      takes = ap length (append-nil (taken_by s j)) ∙ (run_taken s j run ∙ sym (joined-count is_gives_line (λ n. refl) refl es));
       drops_some = ap length (append-nil (flat_map (dropped_in d) es))
           ∙ (run_dropped s j links run ∙ (all_dropped (takes_from d es) parts.0 ∙ (sym tells.drops_some ∙ sym (joined-count is_drop_line (λ n. refl) refl es))));
       in_ring = omega (arith, ring, rests, puts_lines, takes_lines);
     }
 
--- ---- one journal, whatever its frames carry
-
--- the entries of the one journal of a board tell the numbers of messages
-pub record EntriesTell (s : Scenario) (js : List DomainJournal) (j : DomainJournal) : Type 0 where
-  pub accepts : length (accepted js) ≡ count_by puts_message j.entries
-  pub takes : length (messages_taken s js) ≡ count_by is_gives j.entries
-  pub drops_some : length (dropped js) ≡ count_by is_dropped (takes_from j.line.domain j.entries)
-  pub queues : length (messages_queued s js) ≡ length (queued_items (left_by s j.line j.entries).state)
-  pub in_ring : length (messages_in_ring s js) ≡ count_by carries_message (rest_of j.line.domain j.entries)
-
-one_entries : (s : Scenario) (j : DomainJournal) → s.domains ≡ j.line ∷ [] → s.links ≡ [] → IsDomainRun s j.line j.entries → EntriesTell s (j ∷ []) j
-one_entries s j one links run =
-    let d : ℕ = j.line.domain in
-    let es : List PlainEntry = j.entries in
-    record {
-      accepts = ap length (append-nil (flat_map (accepted_in d) es)) ∙ length-accepted d es;
-      takes = ap length (append-nil (taken_by s j)) ∙ (run_taken s j run ∙ gives-lines es);
-      drops_some = ap length (append-nil (flat_map (dropped_in d) es)) ∙ run_dropped s j links run;
-      queues = ap length (append-nil (queued_by s j)) ∙ run_queued s j;
-      in_ring = ap length (ring_one s j one links) ∙ length-messages d d (rest_of d es);
-    }
-
 -- ---- a board of one domain, and its serial run
-
--- its one journal tells the numbers of messages
-pub entries_tell : (s : Scenario) (js : List DomainJournal) → IsLawful s → IsBoardRun s js → (j : DomainJournal) × (js ≡ j ∷ []) × EntriesTell s js j
-entries_tell s js lawful run =
-    let one : OneJournal s js = one_of s js lawful run in
-    (one.journal, one.all, subst (λ (ks : List DomainJournal). EntriesTell s ks one.journal) (sym one.all) (one_entries s one.journal one.domain one.links one.run))
 
 pub serial_is : (s : Scenario) (d : DomainLine) → s.domains ≡ d ∷ [] → serial s ≡ serial_journal s d ∷ []
 serial_is s d one = ap (λ ds. map (serial_journal s) (rising_from ds)) one
 
 same_journal : (j k : DomainJournal) (js : List DomainJournal) → js ≡ j ∷ [] → js ≡ k ∷ [] → j ≡ k
 same_journal j k js e f = cc
-
-pub serial_entries_tell : (s : Scenario) (lawful : IsLawful s) → IsBoardRun s (serial s) → EntriesTell s (serial s) (serial_journal s lawful.domain)
-serial_entries_tell s lawful run =
-    let tells = entries_tell s (serial s) lawful run in
-    subst (λ (j : DomainJournal). EntriesTell s (serial s) j) (same_journal tells.0 (serial_journal s lawful.domain) (serial s) tells.1 (serial_is s lawful.domain lawful.one_domain)) tells.2
 
 -- where every frame put carries a message, its lines do
 pub lines_tell : (s : Scenario) (js : List DomainJournal) (j : DomainJournal) → IsLawful s → IsBoardRun s js → js ≡ j ∷ [] → AllCarry (put_to j.line.domain j.entries) → LinesTell s js (joined j.entries)
@@ -194,3 +159,7 @@ lines_tell s js j lawful run is carry =
 pub numbers_add : (s : Scenario) (js : List DomainJournal) → IsLawful s → IsBoardRun s js → length (accepted js) ≡ length (messages_taken s js) + length (dropped js) + length (messages_queued s js) + length (messages_in_ring s js)
 numbers_add s js lawful run =
     omega (arith, no_message_lost s js lawful run (λ m. true), count-all (accepted js), count-all (messages_taken s js), count-all (dropped js), count-all (messages_queued s js), count-all (messages_in_ring s js))
+
+-- so those that were taken are the rest
+pub taken_rest : (s : Scenario) (js : List DomainJournal) → IsLawful s → IsBoardRun s js → length (messages_taken s js) ≡ length (accepted js) - length (dropped js) - length (messages_queued s js) - length (messages_in_ring s js)
+taken_rest s js lawful run = omega (arith, numbers_add s js lawful run)

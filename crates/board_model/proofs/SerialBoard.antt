@@ -12,7 +12,7 @@ use Rattle.board_model.specs.Step.{RunState, HasNoPuts}
 use Rattle.board_model.specs.Traffic.{put_to, taken_from, given, back_looks}
 use Rattle.board_model.specs.Run.{start, Leads, left_by, IsDomainRun}
 use Rattle.board_model.specs.Board.{SeesAtMost, LaneFits, IsBoardRun, AreWhole}
-use Rattle.board_model.specs.Serial.{Alone, opened, entries_from, after_lines, serial}
+use Rattle.board_model.specs.Serial.{Running, opened, entries_from, after_lines, serial}
 use Rattle.board_model.proofs.BoardsOne.{board_of, is_board, own_lane, journal, journal_one, given_one}
 use Rattle.board_model.proofs.SerialStates.{Standing}
 use Rattle.board_model.proofs.SerialSteps.{between, leads_to, leads_lines}
@@ -25,10 +25,10 @@ own_script d calls = script (board_of d calls) d.domain
 abbrev pub own_entries : DomainLine → List CallLine → List PlainEntry
 own_entries d calls = entries_from (opened d) 1 (own_script d calls)
 
-abbrev pub own_end : DomainLine → List CallLine → Alone
+abbrev pub own_end : DomainLine → List CallLine → Running
 own_end d calls = after_lines (opened d) (own_script d calls)
 
-pub standing_opened : (d : DomainLine) → Standing d.domain d.pool (opened d)
+pub standing_opened : (d : DomainLine) → Standing d.domain d.pool (opened d).alone
 standing_opened d = record {
   at = new_peer (neighbour d.domain d.pool);
   one = refl;
@@ -36,7 +36,6 @@ standing_opened d = record {
   number = refl;
   sized = refl;
   places = omega arith;
-  unlent = refl;
   own = refl;
   shown = omega arith;
   letters = tt;
@@ -62,10 +61,10 @@ own_run d calls =
     }
 
 -- what is put is what is taken and the ring that is left
-pub own_ring : (d : DomainLine) (calls : List CallLine) → put_to d.domain (own_entries d calls) ≡ taken_from d.domain (own_entries d calls) ++ (own_end d calls).ring
+pub own_ring : (d : DomainLine) (calls : List CallLine) → put_to d.domain (own_entries d calls) ≡ taken_from d.domain (own_entries d calls) ++ (own_end d calls).alone.ring
 own_ring d calls = ring_lines d.domain d.pool (opened d) 1 (own_script d calls) (standing_opened d)
 
-own_backs : (d : DomainLine) (calls : List CallLine) → 0 + given (own_script d calls) (start (board_of d calls) d) d.domain (own_entries d calls) ≡ sum (back_looks d.domain (own_entries d calls)) + (own_end d calls).returned
+own_backs : (d : DomainLine) (calls : List CallLine) → 0 + given (own_script d calls) (start (board_of d calls) d) d.domain (own_entries d calls) ≡ sum (back_looks d.domain (own_entries d calls)) + (own_end d calls).alone.returned
 own_backs d calls = backs_lines d.domain d.pool (own_script d calls) (opened d) 0 (own_script d calls) (standing_opened d) refl
 
 own_sees : (d : DomainLine) (calls : List CallLine) → SeesAtMost d.domain (length (put_to d.domain (own_entries d calls))) 0 (own_entries d calls)
@@ -77,7 +76,7 @@ own_fits d calls =
     let es = own_entries d calls in
     let here = sym (journal_one d es) in
     record {
-      taken_first = subst (λ (x : List PlainEntry). IsPrefix (taken_from n x) (put_to n x)) here ((own_end d calls).ring, own_ring d calls);
+      taken_first = subst (λ (x : List PlainEntry). IsPrefix (taken_from n x) (put_to n x)) here ((own_end d calls).alone.ring, own_ring d calls);
       sees = subst (λ (x : List PlainEntry). SeesAtMost n (length (put_to n x)) 0 x) here (own_sees d calls);
       backs = omega (arith, own_backs d calls, given_one (board_of d calls) d es n, ap (λ (x : List PlainEntry). sum (back_looks n x)) here);
     }

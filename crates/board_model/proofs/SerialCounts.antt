@@ -19,7 +19,7 @@ use Rattle.board_model.specs.Run.{left_by}
 use Rattle.board_model.specs.Places.{places_of}
 use Rattle.board_model.specs.Messages.{queued_message, queued_at, queued_by, messages_queued}
 use Rattle.board_model.specs.Answer.{answer, puts}
-use Rattle.board_model.specs.Serial.{Alone, after_own_turn, opened, line_entries, after_line, entries_from, after_lines, serial}
+use Rattle.board_model.specs.Serial.{Alone, Running, after_own_turn, own_call, opened, line_entries, after_line, entries_from, after_lines, serial}
 pub use Rattle.board_model.specs.Tallies.{is_put_line, is_take_line}
 use Rattle.board_model.proofs.ListsJoined.{entry_lines, sum-joined}
 use Rattle.board_model.proofs.LaneCalls.{goes_to, call_uses}
@@ -128,20 +128,20 @@ only_rest : (n : ℕ) (ps : List (ℕ × List ℕ)) (j : ℕ) (x : PlainAnswer) 
 only_rest n [] j x h = (tt, tt)
 only_rest n (p ∷ ps) j x h = (eqb-true p.0 n h.0, only_rest n ps j x h.1)
 
-only_line : (n size : ℕ) (a : Alone) (j : ℕ) (line : CallLine) → Standing n size a → AllByRecursion (IsOnlyWith n) (line_entries a j line)
-only_line n size a j line h =
-    let b = after_own_turn a in
-    let hb = standing_turn n size a h in
-    let u = call_uses b.state line.node line.call hb.at n hb.one hb.quiet.number in
-    ((h.number, tt), only_rest n (puts b.state line.node line.call) j (answer b.state line.node line.call) u.all)
+only_line : (n size : ℕ) (r : Running) (j : ℕ) (line : CallLine) → Standing n size r.alone → AllByRecursion (IsOnlyWith n) (line_entries r j line)
+only_line n size r j line h =
+    let s = (after_own_turn r.alone).state in
+    let hb = standing_turn n size r.alone h in
+    let u = call_uses s line.node (own_call r line) hb.at n hb.one hb.quiet.number in
+    ((h.number, tt), only_rest n (puts s line.node (own_call r line)) j (answer s line.node (own_call r line)) u.all)
 
-pub only_lines : (n size : ℕ) (a : Alone) (j : ℕ) (ls : List CallLine) → Standing n size a → AllByRecursion (IsOnlyWith n) (entries_from a j ls)
-only_lines n size a j [] h = tt
-only_lines n size a j (line ∷ ls) h = only-append n (line_entries a j line) (entries_from (after_line a line) (j + 1) ls) (only_line n size a j line h) (only_lines n size (after_line a line) (j + 1) ls (standing_line n size a line h))
+pub only_lines : (n size : ℕ) (r : Running) (j : ℕ) (ls : List CallLine) → Standing n size r.alone → AllByRecursion (IsOnlyWith n) (entries_from r j ls)
+only_lines n size r j [] h = tt
+only_lines n size r j (line ∷ ls) h = only-append n (line_entries r j line) (entries_from (after_line r line) (j + 1) ls) (only_line n size r j line h) (only_lines n size (after_line r line) (j + 1) ls (standing_line n size r line h))
 
-pub standing_lines : (n size : ℕ) (a : Alone) (ls : List CallLine) → Standing n size a → Standing n size (after_lines a ls)
-standing_lines n size a [] h = h
-standing_lines n size a (line ∷ ls) h = standing_lines n size (after_line a line) ls (standing_line n size a line h)
+pub standing_lines : (n size : ℕ) (r : Running) (ls : List CallLine) → Standing n size r.alone → Standing n size (after_lines r ls).alone
+standing_lines n size r [] h = h
+standing_lines n size r (line ∷ ls) h = standing_lines n size (after_line r line) ls (standing_line n size r line h)
 
 -- ---- for a lawful scenario
 
@@ -149,8 +149,11 @@ standing_lines n size a (line ∷ ls) h = standing_lines n size (after_line a li
 abbrev pub serial_entries : Scenario → DomainLine → List PlainEntry
 serial_entries s d = entries_from (opened d) 1 (script s d.domain)
 
+abbrev pub serial_last : Scenario → DomainLine → Running
+serial_last s d = after_lines (opened d) (script s d.domain)
+
 abbrev pub serial_end : Scenario → DomainLine → Alone
-serial_end s d = after_lines (opened d) (script s d.domain)
+serial_end s d = (serial_last s d).alone
 
 -- what holds of a board of one domain holds of a lawful scenario
 pub lawfully : (P : Scenario → DomainLine → Type 0) → ((d : DomainLine) (calls : List CallLine) → P (board_of d calls) d) → (s : Scenario) (h : IsLawful s) → P s h.domain
@@ -179,13 +182,13 @@ pub serial_standing : (s : Scenario) (h : IsLawful s) → Standing h.domain.doma
 serial_standing s h = standing_lines h.domain.domain h.domain.pool (opened h.domain) (script s h.domain.domain) (standing_opened h.domain)
 
 -- the state that the serial run leaves
-pub serial_left : (s : Scenario) (h : IsLawful s) → left_by s h.domain (serial_entries s h.domain) ≡ between (serial_end s h.domain) (length (script s h.domain.domain))
-serial_left = lawfully (λ s d. left_by s d (serial_entries s d) ≡ between (serial_end s d) (length (script s d.domain))) own_left
+pub serial_left : (s : Scenario) (h : IsLawful s) → left_by s h.domain (serial_entries s h.domain) ≡ between (serial_last s h.domain) (length (script s h.domain.domain))
+serial_left = lawfully (λ s d. left_by s d (serial_entries s d) ≡ between (serial_last s d) (length (script s d.domain))) own_left
 
 -- the ring that is left is what was put and not taken
 pub serial_ring : (s : Scenario) (h : IsLawful s) → (serial_end s h.domain).ring ≡ drop (length (taken_from h.domain.domain (serial_entries s h.domain))) (put_to h.domain.domain (serial_entries s h.domain))
 serial_ring = lawfully (λ s d. (serial_end s d).ring ≡ drop (length (taken_from d.domain (serial_entries s d))) (put_to d.domain (serial_entries s d)))
-    (λ d calls. let es = own_entries d calls in sym (ap (drop (length (taken_from d.domain es))) (own_ring d calls) ∙ drop_at (taken_from d.domain es) (own_end d calls).ring (length (taken_from d.domain es)) refl))
+    (λ d calls. let es = own_entries d calls in sym (ap (drop (length (taken_from d.domain es))) (own_ring d calls) ∙ drop_at (taken_from d.domain es) (own_end d calls).alone.ring (length (taken_from d.domain es)) refl))
 
 -- ---- the places of the lane
 
@@ -209,7 +212,7 @@ own_places d calls =
     let es = own_entries d calls in
     let n = d.domain in
     let p = places_of s (serial s) (own_lane d) in
-    let st = (own_end d calls).state in
+    let st = (own_end d calls).alone.state in
     let at = are_at d calls es in
     let all : p.free + p.ring + p.queue + p.lent ≡ d.pool = place_one d calls es (serial_one d calls).0 in
     let queue : p.queue ≡ queued_from n st = at.queue ∙ ap (λ (r : RunState). queued_from n r.state) (own_left d calls) in
@@ -228,10 +231,10 @@ length-queued n [] = refl
 length-queued n (e ∷ es) =
     omega (arith, length-append (queued_at n e) (flat_map (queued_at n) es), length-append e.queue (flat_map (λ x. x.queue) es), length-map e.queue (queued_message n e.address), length-queued n es)
 
-own_queued : (d : DomainLine) (calls : List CallLine) → length (messages_queued (board_of d calls) (serial (board_of d calls))) ≡ length (queued_items (own_end d calls).state)
+own_queued : (d : DomainLine) (calls : List CallLine) → length (messages_queued (board_of d calls) (serial (board_of d calls))) ≡ length (queued_items (own_end d calls).alone.state)
 own_queued d calls =
     let one = ap length (append-nil (queued_by (board_of d calls) (journal d (own_entries d calls)))) in
-    one ∙ ap (λ (r : RunState). length (flat_map (queued_at d.domain) r.state.endpoints)) (own_left d calls) ∙ length-queued d.domain (own_end d calls).state.endpoints
+    one ∙ ap (λ (r : RunState). length (flat_map (queued_at d.domain) r.state.endpoints)) (own_left d calls) ∙ length-queued d.domain (own_end d calls).alone.state.endpoints
 
 pub serial_queued : (s : Scenario) (h : IsLawful s) → length (messages_queued s (serial s)) ≡ length (queued_items (serial_end s h.domain).state)
 serial_queued = lawfully (λ s d. length (messages_queued s (serial s)) ≡ length (queued_items (serial_end s d).state)) own_queued

@@ -8,7 +8,7 @@ use Rattle.byteorder.specs.Numbers.{little_number-reads_back, length-bytes_low_f
 use Rattle.mc_base.specs.Frame.{made, destination_of, payload_of}
 use Rattle.mc_base.specs.Fault.{fault}
 use Rattle.mc_base.specs.declared.fault.Fault.{Fault}
-use Rattle.board_model.specs.State.{DomainState, Item, place_of_address}
+use Rattle.board_model.specs.State.{DomainState, Item, place_of_address, place_waiting_for}
 use Rattle.board_model.specs.Dealing.{is_letter, item_of, row_for, after_frame, HaveWords}
 use Rattle.board_model.specs.Serial.{word_of, dealt}
 use Rattle.board_model.proofs.LaneTakes.{row_by}
@@ -52,16 +52,17 @@ letters-append (x ∷ xs) ys h l = (h.0, letters-append xs ys h.1 l)
 
 -- ---- rows
 
-row_there : (s : DomainState) (item : Item) (o : Option Fault) (letter kind : Bool) (place : Option ℕ) → letter ≡ true → option_map (λ r. r.word) (row_by s item o letter kind place) ≡ Some (word_of (row_by s item o letter kind place))
-row_there s item (Some x) letter kind place h = refl
-row_there s item None false kind place h = absurd cc
-row_there s item None true kind None h = refl
-row_there s item None true true (Some i) h = refl
-row_there s item None true false (Some i) h = refl
+row_there : (s : DomainState) (item : Item) (o : Option Fault) (letter kind : Bool) (place waiting : Option ℕ) → letter ≡ true → option_map (λ r. r.word) (row_by s item o letter kind place waiting) ≡ Some (word_of (row_by s item o letter kind place waiting))
+row_there s item (Some x) letter kind place waiting h = refl
+row_there s item None false kind place waiting h = absurd cc
+row_there s item None true kind None waiting h = refl
+row_there s item None true true (Some i) None h = refl
+row_there s item None true true (Some i) (Some j) h = refl
+row_there s item None true false (Some i) waiting h = refl
 
 -- a row applies to a letter
 pub letter_row : (s : DomainState) (peer : ℕ) (frame : List ℕ) → is_letter frame ≡ true → option_map (λ r. r.word) (row_for s peer frame) ≡ Some (word_of (row_for s peer frame))
-letter_row s peer frame h = row_there s (item_of peer frame) (fault frame) (is_letter frame) (slice_index (payload_of frame) 2 == 1) (place_of_address s (destination_of frame)) h
+letter_row s peer frame h = row_there s (item_of peer frame) (fault frame) (is_letter frame) (slice_index (payload_of frame) 2 == 1) (place_of_address s (destination_of frame)) (place_waiting_for s (destination_of frame)) h
 
 pub dealt_words : (s : DomainState) (peer : ℕ) (frames : List (List ℕ)) → AreLetters frames → HaveWords s peer (dealt s peer frames)
 dealt_words s peer [] h = tt

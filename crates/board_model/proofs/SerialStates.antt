@@ -1,20 +1,24 @@
 -- A domain alone, in the serial run: what holds before each turn and each call.
-use Rattle.std.proofs.Common.{◌≡◌, ℕ, ◌+◌, ◌-◌, ◌≤◌, min, Bool, true, List, [], ◌∷◌, ◌++◌, length, map, take, drop, Some, count_by, refl, sym, ap, ◌∙◌, subst, arith, length-take, length-drop, append-nil}
+use Rattle.std.proofs.Common.{◌≡◌, ℕ, ◌+◌, ◌-◌, ◌≤◌, min, Bool, true, List, [], ◌∷◌, ◌++◌, length, map, take, drop, Some, refl, sym, ap, ◌∙◌, subst, arith, length-take, length-drop, append-nil}
 use Rattle.std.specs.List.{AllByRecursion}
 use Rattle.std.proofs.lemmas.List.{length-map}
 use Rattle.std.proofs.lemmas.List.Sums.{count_by-le-length}
 use Rattle.mc_base.specs.declared.fate.Fate.TheVariants.{State}
 use Rattle.board_model.specs.Lists.{changed}
 use Rattle.board_model.specs.Journal.{Visit, Taken, taken}
-use Rattle.board_model.specs.State.{DomainState, Item, Peer, is_from, queued_items, lent_items, queued_from, lent_from, place_of_peer, peer_of}
+use Rattle.board_model.specs.State.{DomainState, Item, Peer, is_from, queued_items, lent_items, queued_from, lent_from, held_from, place_of_peer, peer_of}
 use Rattle.board_model.specs.Dealing.{HaveWords}
 use Rattle.board_model.specs.Turn.{turn_limit, looked_at, after_looks, after_visit, IsVisit}
 use Rattle.board_model.specs.Serial.{Alone, dealt, due_to, own_due, own_frames, own_visit, returned_at_once, after_own_turn}
 use Rattle.board_model.proofs.ListsCounts.{count-every}
 use Rattle.board_model.proofs.LaneStates.{peer_of_own}
-use Rattle.board_model.proofs.LaneTakes.{takes_keep, takes_count, takes_addresses, addresses}
+use Rattle.board_model.proofs.LaneTakes.{takes_keep, takes_count, takes_addresses, addresses, held}
 use Rattle.board_model.proofs.LaneRuns.{Quiet, due_none, looked_quiet, visit_peers, from_peer}
 use Rattle.board_model.proofs.SerialFrames.{IsOwnAddress, AreLetters, letters-take, letters-drop, dealt_words, length-dealt}
+
+-- every item is counted
+abbrev pub any_item : Item → Bool
+any_item i = true
 
 -- the domain has this number and this many buffers, each at one place; it holds nothing but its own frames and items
 pub record Standing (n size : ℕ) (a : Alone) : Type 0 where
@@ -23,9 +27,8 @@ pub record Standing (n size : ℕ) (a : Alone) : Type 0 where
   pub quiet : Quiet n at
   pub number : a.state.number ≡ n
   pub sized : at.size ≡ size
-  pub places : at.free + length a.ring + a.returned + length (queued_items a.state) ≡ size
-  pub unlent : lent_items a.state ≡ []
-  pub own : queued_from n a.state ≡ length (queued_items a.state)
+  pub places : at.free + length a.ring + a.returned + held any_item a.state ≡ size
+  pub own : held_from n a.state ≡ held any_item a.state
   pub shown : at.shown ≤ length a.ring
   pub letters : AreLetters a.ring
   pub addressed : AllByRecursion IsOwnAddress (addresses a.state)
@@ -76,8 +79,15 @@ own_takes_many a =
     let t = length-take (min turn_limit (length (own_frames a))) (own_frames a) in
     omega arith
 
-lent_none : (n : ℕ) (s : DomainState) → lent_items s ≡ [] → lent_from n s ≡ 0
-lent_none n s e = ap (count_by (is_from n)) e
+-- all that is queued and all that is lent is its own
+pub own_held : (n size : ℕ) (a : Alone) → Standing n size a → (queued_from n a.state ≡ length (queued_items a.state)) × (lent_from n a.state ≡ length (lent_items a.state))
+own_held n size a h =
+    let queued = count_by-le-length (is_from n) (queued_items a.state) in
+    let lent = count_by-le-length (is_from n) (lent_items a.state) in
+    let all_queued = count-every (queued_items a.state) in
+    let all_lent = count-every (lent_items a.state) in
+    let own = h.own in
+    (omega arith, omega arith)
 
 pub own_visit_is : (n size : ℕ) (a : Alone) → Standing n size a → IsVisit a.state (own_visit a)
 own_visit_is n size a h =
@@ -88,20 +98,15 @@ own_visit_is n size a h =
       back_fits = omega (arith, h.places, h.sized);
       puts_due = ap (λ o. due_to o a.returned) (own_peer n size a h);
       sees_shown = omega (arith, h.shown, frames);
-      see_fits = omega (arith, h.places, h.sized, frames, lent_none a.state.number a.state h.unlent, count_by-le-length (is_from a.state.number) (queued_items a.state));
+      see_fits = omega (arith, h.places, h.sized, frames, h.own, ap (λ (m : ℕ). held_from m a.state) h.number);
       takes_first = own_takes_many a;
       words = own_words n size a h;
     }
 
--- every item of the queues is counted
-abbrev pub any_item : Item → Bool
-any_item i = true
+turn_held : (n size : ℕ) (a : Alone) → Standing n size a → held any_item (after_visit a.state (own_visit a)) + returned_at_once (own_visit a).takes ≡ held any_item a.state + length (own_visit a).takes
+turn_held n size a h = takes_count any_item (after_looks a.state (own_visit a)) a.state.number (λ f. refl) (own_visit a).takes (own_words n size a h)
 
-turn_queued : (n size : ℕ) (a : Alone) → Standing n size a → length (queued_items (after_visit a.state (own_visit a))) + returned_at_once (own_visit a).takes ≡ length (queued_items a.state) + length (own_visit a).takes
-turn_queued n size a h =
-    omega (arith, takes_count any_item (after_looks a.state (own_visit a)) a.state.number (λ f. refl) (own_visit a).takes (own_words n size a h), count-every (queued_items (after_visit a.state (own_visit a))), count-every (queued_items a.state))
-
-turn_own : (n size : ℕ) (a : Alone) → Standing n size a → queued_from n (after_visit a.state (own_visit a)) + returned_at_once (own_visit a).takes ≡ queued_from n a.state + length (own_visit a).takes
+turn_own : (n size : ℕ) (a : Alone) → Standing n size a → held_from n (after_visit a.state (own_visit a)) + returned_at_once (own_visit a).takes ≡ held_from n a.state + length (own_visit a).takes
 turn_own n size a h = takes_count (is_from n) (after_looks a.state (own_visit a)) a.state.number (from_peer n a.state.number h.number) (own_visit a).takes (own_words n size a h)
 
 pub standing_turn : (n size : ℕ) (a : Alone) → Standing n size a → Standing n size (after_own_turn a)
@@ -115,11 +120,10 @@ standing_turn n size a h =
       at = looked_at v h.at;
       one = visit_peers a.state v h.at h.one (h.quiet.number ∙ sym h.number);
       quiet = looked_quiet n h.at v h.quiet;
-      number = takes_keep (λ t. t.number) (after_looks a.state v) v.peer v.takes (λ t es. refl) ∙ h.number;
+      number = takes_keep (λ t. t.number) (after_looks a.state v) v.peer v.takes (λ t es rs. refl) ∙ h.number;
       sized = h.sized;
-      places = omega (arith, h.places, turn_queued n size a h, frames, owes, many, left);
-      unlent = takes_keep (λ t. lent_items t) (after_looks a.state v) v.peer v.takes (λ t es. refl) ∙ h.unlent;
-      own = omega (arith, h.own, turn_queued n size a h, turn_own n size a h);
+      places = omega (arith, h.places, turn_held n size a h, frames, owes, many, left);
+      own = omega (arith, h.own, turn_held n size a h, turn_own n size a h);
       shown = omega (arith, left);
       letters = letters-drop (length v.takes) (own_frames a) (own_letters n size a h);
       addressed = subst (AllByRecursion IsOwnAddress) (sym (takes_addresses (after_looks a.state v) v.peer v.takes)) h.addressed;

@@ -4,11 +4,11 @@ use Rattle.board_model.specs.declared.scenario.CallLine.{CallLine}
 use Rattle.board_model.specs.Journal.{PlainEntry, called}
 use Rattle.board_model.specs.State.{DomainState}
 use Rattle.board_model.specs.Turn.{IsTurn}
+use Rattle.board_model.specs.Labels.{Labelled}
 use Rattle.board_model.specs.Answer.{answer, puts}
-use Rattle.board_model.specs.Effect.{effect}
-use Rattle.board_model.specs.Step.{RunState, effect_of_line, after}
+use Rattle.board_model.specs.Step.{RunState, effect_of_line, labels_of_line, after}
 use Rattle.board_model.specs.Run.{Leads, after_all}
-use Rattle.board_model.specs.Serial.{Alone, own_turn, after_own_turn, put_entry, line_entries, after_line, entries_from, after_lines}
+use Rattle.board_model.specs.Serial.{Alone, Running, own_turn, after_own_turn, own_call, put_entry, line_entries, after_line, entries_from, after_lines}
 use Rattle.board_model.proofs.SerialStates.{Standing, own_visit_is, standing_turn}
 use Rattle.board_model.proofs.SerialCalls.{standing_call}
 
@@ -30,18 +30,18 @@ after_all-append script r (e ∷ es) fs = after_all-append script (after script 
 -- ---- a line
 
 -- the run between two lines
-abbrev pub between : Alone → ℕ → RunState
-between a k = record { state = a.state; lines_called = k; put_since_turn = None }
+abbrev pub between : Running → ℕ → RunState
+between r k = record { state = r.alone.state; lines_called = k; labels = r.labels; put_since_turn = None }
 
 -- the run after a turn and some frames
-abbrev pub turned_with : DomainState → ℕ → List (ℕ × List ℕ) → RunState
-turned_with s k ps = record { state = s; lines_called = k; put_since_turn = Some ps }
+abbrev pub turned_with : DomainState → List Labelled → ℕ → List (ℕ × List ℕ) → RunState
+turned_with s labels k ps = record { state = s; lines_called = k; labels = labels; put_since_turn = Some ps }
 
-leads_puts : (script : List CallLine) (s : DomainState) (k : ℕ) (acc ps : List (ℕ × List ℕ)) → Leads script (turned_with s k acc) (map put_entry ps) (turned_with s k (acc ++ ps))
-leads_puts script s k acc [] = ap (turned_with s k) (append-nil acc)
-leads_puts script s k acc (p ∷ ps) =
-    let later = leads_puts script s k (acc ++ p ∷ []) ps in
-    (turned_with s k (acc ++ p ∷ []), record { allowed = refl; leads = refl }, subst (λ (x : List (ℕ × List ℕ)). Leads script (turned_with s k (acc ++ p ∷ [])) (map put_entry ps) (turned_with s k x)) (append_assoc acc (p ∷ []) ps) later)
+leads_puts : (script : List CallLine) (s : DomainState) (labels : List Labelled) (k : ℕ) (acc ps : List (ℕ × List ℕ)) → Leads script (turned_with s labels k acc) (map put_entry ps) (turned_with s labels k (acc ++ ps))
+leads_puts script s labels k acc [] = ap (turned_with s labels k) (append-nil acc)
+leads_puts script s labels k acc (p ∷ ps) =
+    let later = leads_puts script s labels k (acc ++ p ∷ []) ps in
+    (turned_with s labels k (acc ++ p ∷ []), record { allowed = refl; leads = refl }, subst (λ (x : List (ℕ × List ℕ)). Leads script (turned_with s labels k (acc ++ p ∷ [])) (map put_entry ps) (turned_with s labels k x)) (append_assoc acc (p ∷ []) ps) later)
 
 own_turn_is : (n size : ℕ) (a : Alone) (h : Standing n size a) → IsTurn a.state (own_turn a)
 own_turn_is n size a h = record {
@@ -49,26 +49,29 @@ own_turn_is n size a h = record {
   allowed = (own_visit_is n size a h, tt);
 }
 
-leads_call : (script : List CallLine) (b : Alone) (k : ℕ) (line : CallLine) → slice_get script k ≡ Some line → Leads script (turned_with b.state k (puts b.state line.node line.call)) (called (k + 1) (answer b.state line.node line.call) ∷ []) (record { state = effect b.state line.node line.call; lines_called = k + 1; put_since_turn = None })
-leads_call script b k line here =
-    let new : RunState = record { state = effect b.state line.node line.call; lines_called = k + 1; put_since_turn = None } in
-    let same : new ≡ after script (turned_with b.state k (puts b.state line.node line.call)) (called (k + 1) (answer b.state line.node line.call)) = ap (λ o. ended (effect_of_line o b.state)) (sym here) in
+leads_call : (script : List CallLine) (r : Running) (k : ℕ) (line : CallLine) → slice_get script k ≡ Some line →
+    (let s = (after_own_turn r.alone).state in Leads script (turned_with s r.labels k (puts s line.node (own_call r line))) (called (k + 1) (answer s line.node (own_call r line)) ∷ []) (between (after_line r line) (k + 1)))
+leads_call script r k line here =
+    let s = (after_own_turn r.alone).state in
+    let old = turned_with s r.labels k (puts s line.node (own_call r line)) in
+    let new = between (after_line r line) (k + 1) in
+    let same : new ≡ after script old (called (k + 1) (answer s line.node (own_call r line))) = ap (λ o. ended (effect_of_line o old) (labels_of_line o old)) (sym here) in
     (new, record { allowed = (line, here, refl, refl, refl); leads = same }, refl)
   where
-    ended : DomainState → RunState
-    ended s = record { state = s; lines_called = k + 1; put_since_turn = None }
+    ended : DomainState → List Labelled → RunState
+    ended s labels = record { state = s; lines_called = k + 1; labels = labels; put_since_turn = None }
 
 -- the entries of a line
-pub leads_line : (n size : ℕ) (script : List CallLine) (a : Alone) (k : ℕ) (line : CallLine) → Standing n size a → slice_get script k ≡ Some line → Leads script (between a k) (line_entries a (k + 1) line) (between (after_line a line) (k + 1))
-leads_line n size script a k line h here =
-    let b = after_own_turn a in
-    let ps = puts b.state line.node line.call in
-    let last = leads_call script b k line here in
-    let rest = leads-append script (turned_with b.state k []) (turned_with b.state k ps) (between (after_line a line) (k + 1)) (map put_entry ps) (called (k + 1) (answer b.state line.node line.call) ∷ []) (leads_puts script b.state k [] ps) last in
-    (turned_with b.state k [], record { allowed = (tt, own_turn_is n size a h); leads = refl }, rest)
+pub leads_line : (n size : ℕ) (script : List CallLine) (r : Running) (k : ℕ) (line : CallLine) → Standing n size r.alone → slice_get script k ≡ Some line → Leads script (between r k) (line_entries r (k + 1) line) (between (after_line r line) (k + 1))
+leads_line n size script r k line h here =
+    let s = (after_own_turn r.alone).state in
+    let ps = puts s line.node (own_call r line) in
+    let last = leads_call script r k line here in
+    let rest = leads-append script (turned_with s r.labels k []) (turned_with s r.labels k ps) (between (after_line r line) (k + 1)) (map put_entry ps) (called (k + 1) (answer s line.node (own_call r line)) ∷ []) (leads_puts script s r.labels k [] ps) last in
+    (turned_with s r.labels k [], record { allowed = (tt, own_turn_is n size r.alone h); leads = refl }, rest)
 
-pub standing_line : (n size : ℕ) (a : Alone) (line : CallLine) → Standing n size a → Standing n size (after_line a line)
-standing_line n size a line h = standing_call n size (after_own_turn a) (standing_turn n size a h) line.node line.call
+pub standing_line : (n size : ℕ) (r : Running) (line : CallLine) → Standing n size r.alone → Standing n size (after_line r line).alone
+standing_line n size r line h = standing_call n size (after_own_turn r.alone) (standing_turn n size r.alone h) line.node (own_call r line)
 
 -- ---- all lines
 
@@ -89,13 +92,13 @@ later_of script k line ls e =
     let same : k + 1 ≡ suc k = omega arith in
     ap (λ (j : ℕ). drop j script) same ∙ drop-suc script k line ls e
 
-pub leads_lines : (n size : ℕ) (script : List CallLine) (a : Alone) (k : ℕ) (ls : List CallLine) → Standing n size a → drop k script ≡ ls → Leads script (between a k) (entries_from a (k + 1) ls) (between (after_lines a ls) (k + length ls))
-leads_lines n size script a k [] h e =
+pub leads_lines : (n size : ℕ) (script : List CallLine) (r : Running) (k : ℕ) (ls : List CallLine) → Standing n size r.alone → drop k script ≡ ls → Leads script (between r k) (entries_from r (k + 1) ls) (between (after_lines r ls) (k + length ls))
+leads_lines n size script r k [] h e =
     let same : k + 0 ≡ k = omega arith in
-    ap (between a) same
-leads_lines n size script a k (line ∷ ls) h e =
-    let one = leads_line n size script a k line h (next_of script k line ls e) in
-    let rest = leads_lines n size script (after_line a line) (k + 1) ls (standing_line n size a line h) (later_of script k line ls e) in
+    ap (between r) same
+leads_lines n size script r k (line ∷ ls) h e =
+    let one = leads_line n size script r k line h (next_of script k line ls e) in
+    let rest = leads_lines n size script (after_line r line) (k + 1) ls (standing_line n size r line h) (later_of script k line ls e) in
     let same : k + 1 + length ls ≡ k + length (line ∷ ls) = omega arith in
-    let all = leads-append script (between a k) (between (after_line a line) (k + 1)) (between (after_lines a (line ∷ ls)) (k + 1 + length ls)) (line_entries a (k + 1) line) (entries_from (after_line a line) (k + 1 + 1) ls) one rest in
-    subst (λ (j : ℕ). Leads script (between a k) (entries_from a (k + 1) (line ∷ ls)) (between (after_lines a (line ∷ ls)) j)) same all
+    let all = leads-append script (between r k) (between (after_line r line) (k + 1)) (between (after_lines r (line ∷ ls)) (k + 1 + length ls)) (line_entries r (k + 1) line) (entries_from (after_line r line) (k + 1 + 1) ls) one rest in
+    subst (λ (j : ℕ). Leads script (between r k) (entries_from r (k + 1) (line ∷ ls)) (between (after_lines r (line ∷ ls)) j)) same all

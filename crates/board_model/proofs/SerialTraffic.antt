@@ -9,12 +9,14 @@ use Rattle.board_model.specs.Journal.{PlainEntry, turned, called, PlainAnswer, V
 use Rattle.board_model.specs.State.{DomainState, is_from}
 use Rattle.board_model.specs.Dealing.{keeps_buffer}
 use Rattle.board_model.specs.Turn.{turn_limit, after_looks}
+use Rattle.board_model.specs.Labels.{Labelled, call_of}
 use Rattle.board_model.specs.Answer.{answer, puts}
+use Rattle.board_model.specs.Effect.{returns}
 use Rattle.board_model.specs.Step.{RunState, after}
 use Rattle.board_model.specs.Traffic.{visits_to, puts_in, takes_in, put_to, takes_from, taken_from, returned_by, given, backs_in, back_looks}
 use Rattle.board_model.specs.Run.{after_all}
 use Rattle.board_model.specs.Board.{SeeAtMost, SeesAtMost}
-use Rattle.board_model.specs.Serial.{Alone, own_frames, own_visit, own_turn, after_own_turn, frame_put, put_entry, line_entries, after_line, entries_from, after_lines}
+use Rattle.board_model.specs.Serial.{Running, own_frames, own_visit, own_turn, after_own_turn, own_call, frame_put, put_entry, line_entries, after_line, entries_from, after_lines}
 use Rattle.board_model.proofs.LaneCalls.{goes_to, call_uses}
 use Rattle.board_model.proofs.LaneRuns.{visits_one, turn_puts, turn_takes, turn_backs}
 use Rattle.board_model.proofs.SerialFrames.{frames-dealt}
@@ -39,9 +41,9 @@ backs_rest : (n : ℕ) (ps : List (ℕ × List ℕ)) (j : ℕ) (x : PlainAnswer)
 backs_rest n [] j x = refl
 backs_rest n (p ∷ ps) j x = backs_rest n ps j x
 
-given_rest : (script : List CallLine) (s : DomainState) (k n : ℕ) (acc ps : List (ℕ × List ℕ)) (j : ℕ) (x : PlainAnswer) → given script (turned_with s k acc) n (after_turn_of ps j x) ≡ count_by (is_from n) (returned_by (slice_get script k) s)
-given_rest script s k n acc [] j x = omega arith
-given_rest script s k n acc (p ∷ ps) j x = omega (arith, given_rest script s k n (acc ++ p ∷ []) ps j x)
+given_rest : (script : List CallLine) (s : DomainState) (labels : List Labelled) (k n : ℕ) (line : CallLine) → slice_get script k ≡ Some line → (acc ps : List (ℕ × List ℕ)) (j : ℕ) (x : PlainAnswer) → given script (turned_with s labels k acc) n (after_turn_of ps j x) ≡ count_by (is_from n) (returns s line.node (call_of labels s line.call))
+given_rest script s labels k n line here acc [] j x = omega (arith, ap (λ o. count_by (is_from n) (returned_by o (turned_with s labels k acc))) here)
+given_rest script s labels k n line here acc (p ∷ ps) j x = omega (arith, given_rest script s labels k n line here (acc ++ p ∷ []) ps j x)
 
 sees_rest : (n total t : ℕ) (ps : List (ℕ × List ℕ)) (j : ℕ) (x : PlainAnswer) (fs : List PlainEntry) → SeesAtMost n total t fs → SeesAtMost n total t (after_turn_of ps j x ++ fs)
 sees_rest n total t [] j x fs h = h
@@ -49,45 +51,44 @@ sees_rest n total t (p ∷ ps) j x fs h = sees_rest n total t ps j x fs h
 
 -- ---- a line
 
-pub line_puts : (n size : ℕ) (a : Alone) (j : ℕ) (line : CallLine) → Standing n size a → put_to n (line_entries a j line) ≡ map frame_put (puts (after_own_turn a).state line.node line.call)
-line_puts n size a j line h =
-    let b = after_own_turn a in
-    let hb = standing_turn n size a h in
-    let u = call_uses b.state line.node line.call hb.at n hb.one hb.quiet.number in
-    ap₂ (λ (xs ys : List (List ℕ)). xs ++ ys) (turn_puts n (own_visit a) h.number ∙ own_due_none n size a h) (puts_rest n (puts b.state line.node line.call) j (answer b.state line.node line.call) u.all)
+pub line_puts : (n size : ℕ) (r : Running) (j : ℕ) (line : CallLine) → Standing n size r.alone → put_to n (line_entries r j line) ≡ map frame_put (puts (after_own_turn r.alone).state line.node (own_call r line))
+line_puts n size r j line h =
+    let b = after_own_turn r.alone in
+    let hb = standing_turn n size r.alone h in
+    let u = call_uses b.state line.node (own_call r line) hb.at n hb.one hb.quiet.number in
+    ap₂ (λ (xs ys : List (List ℕ)). xs ++ ys) (turn_puts n (own_visit r.alone) h.number ∙ own_due_none n size r.alone h) (puts_rest n (puts b.state line.node (own_call r line)) j (answer b.state line.node (own_call r line)) u.all)
 
-pub line_takes : (n size : ℕ) (a : Alone) (j : ℕ) (line : CallLine) → Standing n size a → takes_from n (line_entries a j line) ≡ (own_visit a).takes
-line_takes n size a j line h =
-    let b = after_own_turn a in
-    ap₂ (λ (xs ys : List Taken). xs ++ ys) (turn_takes n (own_visit a) h.number) (takes_rest n (puts b.state line.node line.call) j (answer b.state line.node line.call)) ∙ append-nil (own_visit a).takes
+pub line_takes : (n size : ℕ) (r : Running) (j : ℕ) (line : CallLine) → Standing n size r.alone → takes_from n (line_entries r j line) ≡ (own_visit r.alone).takes
+line_takes n size r j line h =
+    let b = after_own_turn r.alone in
+    ap₂ (λ (xs ys : List Taken). xs ++ ys) (turn_takes n (own_visit r.alone) h.number) (takes_rest n (puts b.state line.node (own_call r line)) j (answer b.state line.node (own_call r line))) ∙ append-nil (own_visit r.alone).takes
 
-pub line_taken : (n size : ℕ) (a : Alone) (j : ℕ) (line : CallLine) → Standing n size a → taken_from n (line_entries a j line) ≡ own_taken a
-line_taken n size a j line h = ap (map (λ (t : Taken). t.frame)) (line_takes n size a j line h) ∙ frames-dealt (after_looks a.state (own_looks a)) a.state.number (own_taken a)
+pub line_taken : (n size : ℕ) (r : Running) (j : ℕ) (line : CallLine) → Standing n size r.alone → taken_from n (line_entries r j line) ≡ own_taken r.alone
+line_taken n size r j line h = ap (map (λ (t : Taken). t.frame)) (line_takes n size r j line h) ∙ frames-dealt (after_looks r.alone.state (own_looks r.alone)) r.alone.state.number (own_taken r.alone)
 
-pub line_backs : (n size : ℕ) (a : Alone) (j : ℕ) (line : CallLine) → Standing n size a → back_looks n (line_entries a j line) ≡ a.returned ∷ []
-line_backs n size a j line h =
-    let b = after_own_turn a in
-    ap₂ (λ (xs ys : List ℕ). xs ++ ys) (turn_backs n (own_visit a) h.number) (backs_rest n (puts b.state line.node line.call) j (answer b.state line.node line.call))
+pub line_backs : (n size : ℕ) (r : Running) (j : ℕ) (line : CallLine) → Standing n size r.alone → back_looks n (line_entries r j line) ≡ r.alone.returned ∷ []
+line_backs n size r j line h =
+    let b = after_own_turn r.alone in
+    ap₂ (λ (xs ys : List ℕ). xs ++ ys) (turn_backs n (own_visit r.alone) h.number) (backs_rest n (puts b.state line.node (own_call r line)) j (answer b.state line.node (own_call r line)))
 
-pub line_given : (n size : ℕ) (script : List CallLine) (a : Alone) (k j : ℕ) (line : CallLine) → Standing n size a → slice_get script k ≡ Some line → given script (between a k) n (line_entries a j line) ≡ (after_line a line).returned
-line_given n size script a k j line h here =
-    let b = after_own_turn a in
-    let turn = ap (count_by (λ (t : Taken). not (keeps_buffer t.fate))) (turn_takes n (own_visit a) h.number) in
-    let rest = given_rest script b.state k n [] (puts b.state line.node line.call) j (answer b.state line.node line.call) in
-    let back = ap (λ o. count_by (is_from n) (returned_by o b.state)) here in
-    let own = (call_own n size b (standing_turn n size a h) line.node line.call).1 in
+pub line_given : (n size : ℕ) (script : List CallLine) (r : Running) (k j : ℕ) (line : CallLine) → Standing n size r.alone → slice_get script k ≡ Some line → given script (between r k) n (line_entries r j line) ≡ (after_line r line).alone.returned
+line_given n size script r k j line h here =
+    let b = after_own_turn r.alone in
+    let turn = ap (count_by (λ (t : Taken). not (keeps_buffer t.fate))) (turn_takes n (own_visit r.alone) h.number) in
+    let rest = given_rest script b.state r.labels k n line here [] (puts b.state line.node (own_call r line)) j (answer b.state line.node (own_call r line)) in
+    let own = (call_own n size b (standing_turn n size r.alone h) line.node (own_call r line)).1 in
     omega arith
 
 line_ring_by : (m : ℕ) (ring frames puts : List (List ℕ)) → frames ≡ ring → ring ++ puts ≡ take m frames ++ (drop m frames ++ puts)
 line_ring_by m ring frames puts e = ap (λ (x : List (List ℕ)). x ++ puts) (sym e ∙ sym (take-append-drop m frames)) ∙ append_assoc (take m frames) (drop m frames) puts
 
-pub line_ring : (n size : ℕ) (a : Alone) (j : ℕ) (line : CallLine) → Standing n size a → a.ring ++ put_to n (line_entries a j line) ≡ taken_from n (line_entries a j line) ++ (after_line a line).ring
-line_ring n size a j line h =
-    let ps = map frame_put (puts (after_own_turn a).state line.node line.call) in
-    let m = min turn_limit (length (own_frames a)) in
-    ap (λ (x : List (List ℕ)). a.ring ++ x) (line_puts n size a j line h)
-    ∙ line_ring_by m a.ring (own_frames a) ps (own_frames_are n size a h)
-    ∙ ap₂ (λ (x : List (List ℕ)) (i : ℕ). x ++ (drop i (own_frames a) ++ ps)) (sym (line_taken n size a j line h)) (sym (own_takes_many a))
+pub line_ring : (n size : ℕ) (r : Running) (j : ℕ) (line : CallLine) → Standing n size r.alone → r.alone.ring ++ put_to n (line_entries r j line) ≡ taken_from n (line_entries r j line) ++ (after_line r line).alone.ring
+line_ring n size r j line h =
+    let ps = map frame_put (puts (after_own_turn r.alone).state line.node (own_call r line)) in
+    let m = min turn_limit (length (own_frames r.alone)) in
+    ap (λ (x : List (List ℕ)). r.alone.ring ++ x) (line_puts n size r j line h)
+    ∙ line_ring_by m r.alone.ring (own_frames r.alone) ps (own_frames_are n size r.alone h)
+    ∙ ap₂ (λ (x : List (List ℕ)) (i : ℕ). x ++ (drop i (own_frames r.alone) ++ ps)) (sym (line_taken n size r j line h)) (sym (own_takes_many r.alone))
 
 -- ---- all lines
 
@@ -99,54 +100,54 @@ rings_joined r p q t u c z e f =
     sym (append_assoc r p q) ∙ ap (λ x. x ++ q) e ∙ append_assoc t c q ∙ ap (λ x. t ++ x) f ∙ sym (append_assoc t u z)
 
 -- what is put after the ring is what is taken before the ring that is left
-pub ring_lines : (n size : ℕ) (a : Alone) (j : ℕ) (ls : List CallLine) → Standing n size a → a.ring ++ put_to n (entries_from a j ls) ≡ taken_from n (entries_from a j ls) ++ (after_lines a ls).ring
-ring_lines n size a j [] h = append-nil a.ring
-ring_lines n size a j (line ∷ ls) h =
-    let one = line_entries a j line in
-    let rest = entries_from (after_line a line) (j + 1) ls in
-    let c = after_line a line in
-    ap (λ (x : List (List ℕ)). a.ring ++ x) (flat_map-append (puts_in n) one rest)
-    ∙ rings_joined a.ring (put_to n one) (put_to n rest) (taken_from n one) (taken_from n rest) c.ring (after_lines c ls).ring (line_ring n size a j line h) (ring_lines n size c (j + 1) ls (standing_line n size a line h))
-    ∙ ap (λ (x : List (List ℕ)). x ++ (after_lines c ls).ring) (sym (taken_from-append n one rest))
+pub ring_lines : (n size : ℕ) (r : Running) (j : ℕ) (ls : List CallLine) → Standing n size r.alone → r.alone.ring ++ put_to n (entries_from r j ls) ≡ taken_from n (entries_from r j ls) ++ (after_lines r ls).alone.ring
+ring_lines n size r j [] h = append-nil r.alone.ring
+ring_lines n size r j (line ∷ ls) h =
+    let one = line_entries r j line in
+    let rest = entries_from (after_line r line) (j + 1) ls in
+    let c = after_line r line in
+    ap (λ (x : List (List ℕ)). r.alone.ring ++ x) (flat_map-append (puts_in n) one rest)
+    ∙ rings_joined r.alone.ring (put_to n one) (put_to n rest) (taken_from n one) (taken_from n rest) c.alone.ring (after_lines c ls).alone.ring (line_ring n size r j line h) (ring_lines n size c (j + 1) ls (standing_line n size r line h))
+    ∙ ap (λ (x : List (List ℕ)). x ++ (after_lines c ls).alone.ring) (sym (taken_from-append n one rest))
 
 given-append : (script : List CallLine) (r : RunState) (n : ℕ) (es fs : List PlainEntry) → given script r n (es ++ fs) ≡ given script r n es + given script (after_all script r es) n fs
 given-append script r n [] fs = omega arith
 given-append script r n (e ∷ es) fs = omega (arith, given-append script (after script r e) n es fs)
 
 -- the buffers that come back are those given back, but for the last ones
-pub backs_lines : (n size : ℕ) (script : List CallLine) (a : Alone) (k : ℕ) (ls : List CallLine) → Standing n size a → drop k script ≡ ls → a.returned + given script (between a k) n (entries_from a (k + 1) ls) ≡ sum (back_looks n (entries_from a (k + 1) ls)) + (after_lines a ls).returned
-backs_lines n size script a k [] h e = omega arith
-backs_lines n size script a k (line ∷ ls) h e =
-    let one = line_entries a (k + 1) line in
-    let c = after_line a line in
+pub backs_lines : (n size : ℕ) (script : List CallLine) (r : Running) (k : ℕ) (ls : List CallLine) → Standing n size r.alone → drop k script ≡ ls → r.alone.returned + given script (between r k) n (entries_from r (k + 1) ls) ≡ sum (back_looks n (entries_from r (k + 1) ls)) + (after_lines r ls).alone.returned
+backs_lines n size script r k [] h e = omega arith
+backs_lines n size script r k (line ∷ ls) h e =
+    let one = line_entries r (k + 1) line in
+    let c = after_line r line in
     let rest = entries_from c (k + 1 + 1) ls in
     let here = next_of script k line ls e in
-    let ih = backs_lines n size script c (k + 1) ls (standing_line n size a line h) (later_of script k line ls e) in
-    let all = given-append script (between a k) n one rest in
-    let mid = ap (λ (r : RunState). given script r n rest) (leads_to script (between a k) (between c (k + 1)) one (leads_line n size script a k line h here)) in
-    let first = line_given n size script a k (k + 1) line h here in
+    let ih = backs_lines n size script c (k + 1) ls (standing_line n size r line h) (later_of script k line ls e) in
+    let all = given-append script (between r k) n one rest in
+    let mid = ap (λ (x : RunState). given script x n rest) (leads_to script (between r k) (between c (k + 1)) one (leads_line n size script r k line h here)) in
+    let first = line_given n size script r k (k + 1) line h here in
     let looks = ap sum (flat_map-append (backs_in n) one rest) ∙ sum_by-append (λ x. x) (back_looks n one) (back_looks n rest) in
-    let look = ap sum (line_backs n size a (k + 1) line h) in
+    let look = ap sum (line_backs n size r (k + 1) line h) in
     omega arith
 
 -- each look shows at most what is put in all, less what was taken before
-pub sees_lines : (n size total : ℕ) (a : Alone) (t j : ℕ) (ls : List CallLine) → Standing n size a → t + length a.ring + length (put_to n (entries_from a j ls)) ≤ total → SeesAtMost n total t (entries_from a j ls)
-sees_lines n size total a t j [] h fits = tt
-sees_lines n size total a t j (line ∷ ls) h fits =
-    let v = own_visit a in
-    let b = after_own_turn a in
-    let c = after_line a line in
-    let one = line_entries a j line in
+pub sees_lines : (n size total : ℕ) (r : Running) (t j : ℕ) (ls : List CallLine) → Standing n size r.alone → t + length r.alone.ring + length (put_to n (entries_from r j ls)) ≤ total → SeesAtMost n total t (entries_from r j ls)
+sees_lines n size total r t j [] h fits = tt
+sees_lines n size total r t j (line ∷ ls) h fits =
+    let v = own_visit r.alone in
+    let b = after_own_turn r.alone in
+    let c = after_line r line in
+    let one = line_entries r j line in
     let rest = entries_from c (j + 1) ls in
-    let ps = puts b.state line.node line.call in
-    let seen = ap length (own_frames_are n size a h) in
-    let many = own_takes_many a in
-    let takes : length (takes_in n (turned (own_turn a))) ≡ length v.takes = ap length (turn_takes n v h.number) in
-    let left = length-drop (length v.takes) (own_frames a) in
-    let rings = length-append (drop (length v.takes) (own_frames a)) (map frame_put ps) in
-    let puts_now = ap length (line_puts n size a j line h) in
+    let ps = puts b.state line.node (own_call r line) in
+    let seen = ap length (own_frames_are n size r.alone h) in
+    let many = own_takes_many r.alone in
+    let takes : length (takes_in n (turned (own_turn r.alone))) ≡ length v.takes = ap length (turn_takes n v h.number) in
+    let left = length-drop (length v.takes) (own_frames r.alone) in
+    let rings = length-append (drop (length v.takes) (own_frames r.alone)) (map frame_put ps) in
+    let puts_now = ap length (line_puts n size r j line h) in
     let puts_all = ap length (flat_map-append (puts_in n) one rest) ∙ length-append (put_to n one) (put_to n rest) in
     let within : (v.see + t ≤ total) × Unit {0} = (omega arith, tt) in
-    let see : SeeAtMost total t (visits_to n (own_turn a)) = subst (λ (vs : List Visit). SeeAtMost total t vs) (sym (visits_one n v h.number)) within in
-    let later = sees_lines n size total c (t + length (takes_in n (turned (own_turn a)))) (j + 1) ls (standing_line n size a line h) (omega arith) in
-    (see, sees_rest n total (t + length (takes_in n (turned (own_turn a)))) ps j (answer b.state line.node line.call) rest later)
+    let see : SeeAtMost total t (visits_to n (own_turn r.alone)) = subst (λ (vs : List Visit). SeeAtMost total t vs) (sym (visits_one n v h.number)) within in
+    let later = sees_lines n size total c (t + length (takes_in n (turned (own_turn r.alone)))) (j + 1) ls (standing_line n size r line h) (omega arith) in
+    (see, sees_rest n total (t + length (takes_in n (turned (own_turn r.alone)))) ps j (answer b.state line.node (own_call r line)) rest later)

@@ -7,23 +7,27 @@ use Rattle.mc_base.specs.Letter.{spelling, msg}
 use Rattle.mc_base.specs.declared.name.Local.{Local}
 use Rattle.mc_base.specs.declared.name.EndName.{EndName}
 use Rattle.mc_base.specs.declared.refusal.Refusal.{Refusal}
-use Rattle.mc_base.specs.declared.refusal.Refusal.TheVariants.{NodeInvalid, ExistsAlready, EndpLimit, AddressSpent, EndpInvalid, PeerInvalid, OnChannel, MsgSize, NoBuffer, Empty}
-use Rattle.board_model.specs.declared.scenario.Call.{Call}
-use Rattle.board_model.specs.declared.scenario.Call.TheVariants.{Create, MsgSend, MsgRecv}
-use Rattle.board_model.specs.Journal.{PlainAnswer, refuses, agrees, tells, gives}
-use Rattle.board_model.specs.State.{DomainState, Item, Endpoint, Peer, place_at, endpoint_at, address_at, queue_at, peer_of, free_to}
+use Rattle.mc_base.specs.declared.refusal.Refusal.TheVariants.{NodeInvalid, ExistsAlready, EndpLimit, AddressSpent, EndpInvalid, PeerInvalid, OnChannel, MsgSize, NoBuffer, Empty, RequestLimit, RequestInvalid, Pending, TooLate}
+use Rattle.board_model.specs.DomainCall.{DomainCall, create_at, send_from, receive_at, request_at, available_at, test_of, cancel_of}
+use Rattle.board_model.specs.Journal.{PlainResult, found_at, was_accepted, was_rejected, brought, ended_by, PlainAnswer, refuses, agrees, tells, gives, completes}
+use Rattle.board_model.specs.State.{DomainState, Item, Endpoint, Peer, Asked, message_at, Outcome, has_address, is_accepted, is_rejected, has_item, has_ended, Request, request_at_place, place_at, endpoint_at, address_at, queue_at, peer_of, free_to}
 use Rattle.board_model.specs.Choice.{best}
 
 -- E
 abbrev pub local : ℕ → ℕ → Local
 local node port = record { node = node; port = port }
 
-abbrev pub port_of : Call → ℕ
-port_of (Create port) = port
-port_of (MsgSend port to priority bytes) = port
-port_of (MsgRecv port max) = port
+-- the port of E. A call on a request is made at none
+abbrev pub port_of : DomainCall → ℕ
+port_of (create_at port) = port
+port_of (send_from port to priority bytes) = port
+port_of (receive_at port max) = port
+port_of (request_at port max) = port
+port_of (available_at port) = port
+port_of (test_of request) = 0
+port_of (cancel_of request) = 0
 
-abbrev pub here : ℕ → Call → Local
+abbrev pub here : ℕ → DomainCall → Local
 here node call = local node (port_of call)
 
 -- the address that is known for a name of another domain
@@ -43,17 +47,27 @@ abbrev pub has_channel : Option Endpoint → Bool
 has_channel None = false
 has_channel (Some e) = is_some e.channel
 
-abbrev pub named : DomainState → Call → Option ℕ
-named s (MsgSend port to priority bytes) = address_of s to
+abbrev pub named : DomainState → DomainCall → Option ℕ
+named s (send_from port to priority bytes) = address_of s to
 named s other = None
 
-abbrev pub content_size : Call → ℕ
-content_size (MsgSend port to priority bytes) = length bytes
+-- the request that a call names, where it stands, and whether it is complete
+abbrev pub request_named : DomainState → DomainCall → Option Request
+request_named s (test_of request) = request_at_place s request
+request_named s (cancel_of request) = request_at_place s request
+request_named s other = None
+
+abbrev pub is_complete : Option Request → Bool
+is_complete None = false
+is_complete (Some r) = is_some r.outcome
+
+abbrev pub content_size : DomainCall → ℕ
+content_size (send_from port to priority bytes) = length bytes
 content_size other = 0
 
 -- the frames that success puts, each with its peer
-abbrev pub success_puts : DomainState → ℕ → Call → List (ℕ × List ℕ)
-success_puts s node (MsgSend port to priority bytes) = (to.domain, made (unwrap_or (address_at s (local node port)) 0) (unwrap_or (address_of s to) 0) (spelling (msg priority bytes))) ∷ []
+abbrev pub success_puts : DomainState → ℕ → DomainCall → List (ℕ × List ℕ)
+success_puts s node (send_from port to priority bytes) = (to.domain, made (unwrap_or (address_at s (local node port)) 0) (unwrap_or (address_of s to) 0) (spelling (msg priority bytes))) ∷ []
 success_puts s node other = []
 
 -- whether the lane to a peer has fewer buffers free than these frames need
@@ -62,7 +76,7 @@ lacks_buffers s [] = false
 lacks_buffers s (p ∷ ps) = nat_lt (free_to s p.0) (length (p ∷ ps))
 
 -- the conditions of the words
-abbrev pub holds : DomainState → ℕ → Call → Refusal → Bool
+abbrev pub holds : DomainState → ℕ → DomainCall → Refusal → Bool
 holds s node call NodeInvalid = nat_le s.nodes node
 holds s node call ExistsAlready = is_some (place_at s (here node call))
 holds s node call EndpLimit = nat_le 64 (length s.endpoints)
@@ -73,16 +87,24 @@ holds s node call OnChannel = has_channel (endpoint_at s (here node call))
 holds s node call MsgSize = nat_lt item_size (content_size call)
 holds s node call NoBuffer = lacks_buffers s (success_puts s node call)
 holds s node call Empty = length (queue_at s (here node call)) == 0
+holds s node call RequestLimit = nat_le 64 (length s.requests)
+holds s node call RequestInvalid = not (is_some (request_named s call))
+holds s node call Pending = not (is_complete (request_named s call))
+holds s node call TooLate = is_complete (request_named s call)
 holds s node call other = false
 
 -- the words of a call, in their order
-abbrev pub words_of : Call → List Refusal
-words_of (Create port) = NodeInvalid ∷ ExistsAlready ∷ EndpLimit ∷ AddressSpent ∷ []
-words_of (MsgSend port to priority bytes) = EndpInvalid ∷ OnChannel ∷ PeerInvalid ∷ MsgSize ∷ NoBuffer ∷ []
-words_of (MsgRecv port max) = EndpInvalid ∷ OnChannel ∷ Empty ∷ []
+abbrev pub words_of : DomainCall → List Refusal
+words_of (create_at port) = NodeInvalid ∷ ExistsAlready ∷ EndpLimit ∷ AddressSpent ∷ []
+words_of (send_from port to priority bytes) = EndpInvalid ∷ OnChannel ∷ PeerInvalid ∷ MsgSize ∷ NoBuffer ∷ []
+words_of (receive_at port max) = EndpInvalid ∷ OnChannel ∷ Empty ∷ []
+words_of (request_at port max) = EndpInvalid ∷ OnChannel ∷ RequestLimit ∷ []
+words_of (available_at port) = EndpInvalid ∷ OnChannel ∷ []
+words_of (test_of request) = RequestInvalid ∷ Pending ∷ []
+words_of (cancel_of request) = RequestInvalid ∷ TooLate ∷ []
 
 -- the first word that holds
-abbrev pub refusal : DomainState → ℕ → Call → Option Refusal
+abbrev pub refusal : DomainState → ℕ → DomainCall → Option Refusal
 refusal s node call = find (holds s node call) (words_of call)
 
 -- at most so many first bytes of the item that is taken
@@ -90,18 +112,40 @@ abbrev pub given : ℕ → Option Item → PlainAnswer
 given max None = refuses Empty
 given max (Some i) = gives (length i.content) (take max i.content)
 
+-- the bytes of an item that a receive gives: as many as it asks for, and all of a packet
+abbrev pub given_to : Asked → List ℕ → List ℕ
+given_to (message_at at max) bytes = take max bytes
+given_to other bytes = bytes
+
+-- how a request was complete
+abbrev pub result_by : Asked → Option Outcome → PlainResult
+result_by asked None = ended_by Pending
+result_by asked (Some (has_address address)) = found_at address
+result_by asked (Some is_accepted) = was_accepted
+result_by asked (Some (is_rejected reason)) = was_rejected reason
+result_by asked (Some (has_item i)) = brought (length i.content) (given_to asked i.content)
+result_by asked (Some (has_ended word)) = ended_by word
+
+abbrev pub result_of : Option Request → PlainResult
+result_of None = ended_by RequestInvalid
+result_of (Some r) = result_by r.asked r.outcome
+
 -- the answer of success
-abbrev pub success : DomainState → ℕ → Call → PlainAnswer
-success s node (Create port) = tells (1024 + s.endpoints_given)
-success s node (MsgSend port to priority bytes) = agrees
-success s node (MsgRecv port max) = given max (best (λ i. i.priority) (queue_at s (local node port)))
+abbrev pub success : DomainState → ℕ → DomainCall → PlainAnswer
+success s node (create_at port) = tells (1024 + s.endpoints_given)
+success s node (send_from port to priority bytes) = agrees
+success s node (receive_at port max) = given max (best (λ i. i.priority) (queue_at s (local node port)))
+success s node (request_at port max) = tells s.requests_given
+success s node (available_at port) = tells (length (queue_at s (local node port)))
+success s node (test_of request) = completes (result_of (request_at_place s request))
+success s node (cancel_of request) = agrees
 
 abbrev pub answer_by : Option Refusal → PlainAnswer → PlainAnswer
 answer_by (Some word) success = refuses word
 answer_by None success = success
 
 -- the answer of a call
-abbrev pub answer : DomainState → ℕ → Call → PlainAnswer
+abbrev pub answer : DomainState → ℕ → DomainCall → PlainAnswer
 answer s node call = answer_by (refusal s node call) (success s node call)
 
 abbrev pub unless_refused : {A : Type 0} → Option Refusal → A → A → A
@@ -109,5 +153,5 @@ unless_refused (Some word) refused done = refused
 unless_refused None refused done = done
 
 -- the frames that a call puts: those of success, and none at a refusal
-abbrev pub puts : DomainState → ℕ → Call → List (ℕ × List ℕ)
+abbrev pub puts : DomainState → ℕ → DomainCall → List (ℕ × List ℕ)
 puts s node call = unless_refused (refusal s node call) [] (success_puts s node call)

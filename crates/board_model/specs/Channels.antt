@@ -12,10 +12,3 @@ items_taken s js sender channel = []
 
 abbrev pub items_left : Scenario → List DomainJournal → ℕ → ℕ → List (List ℕ)
 items_left s js sender channel = []
-
--- the serials of the requests that were cancelled, and of those that took something
-abbrev pub cancelled : Scenario → List DomainJournal → ℕ → List ℕ
-cancelled s js d = []
-
-abbrev pub took_something : Scenario → List DomainJournal → ℕ → List ℕ
-took_something s js d = []

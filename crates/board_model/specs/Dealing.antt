@@ -18,7 +18,7 @@ use Rattle.mc_base.specs.declared.fate.Fate.{Fate}
 use Rattle.mc_base.specs.declared.fate.Fate.TheVariants as fate
 use Rattle.board_model.specs.Lists.{changed}
 use Rattle.board_model.specs.Journal.{Taken}
-use Rattle.board_model.specs.State.{Item, Endpoint, DomainState, place_of_address}
+use Rattle.board_model.specs.State.{Item, Endpoint, Request, has_item, DomainState, place_of_address, place_waiting_for}
 
 -- the words of the faults
 abbrev pub frame_word : FrameFault → Fate
@@ -70,6 +70,14 @@ queued_last item e = record e { queue = e.queue ++ item ∷ [] }
 abbrev pub with_item : DomainState → ℕ → Item → DomainState
 with_item s address item = record s { endpoints = changed (queued_last item) (place_of_address s address) s.endpoints }
 
+-- a pending receive is complete with the item
+abbrev pub complete_with : Item → Request → Request
+complete_with item r = record r { outcome = Some (has_item item) }
+
+-- the oldest receive that waits at the endpoint with this address is complete
+abbrev pub with_handed : DomainState → ℕ → Item → DomainState
+with_handed s address item = record s { requests = changed (complete_with item) (place_waiting_for s address) s.requests }
+
 -- a row: whether it applies, its word, and the state that it leaves
 pub record Row : Type 0 where
   pub applies : Bool
@@ -87,6 +95,7 @@ abbrev pub rows : DomainState → ℕ → List ℕ → List Row
 rows s peer frame =
     fault_row s (fault frame)
     ∷ row (is_letter frame && not (is_some (place_of_address s (destination_of frame)))) fate.NoEndpoint s
+    ∷ row (is_message frame && is_some (place_waiting_for s (destination_of frame))) fate.Handed (with_handed s (destination_of frame) (item_of peer frame))
     ∷ row (is_message frame) fate.Queued (with_item s (destination_of frame) (item_of peer frame))
     ∷ row (is_letter frame) fate.State s
     ∷ []

@@ -1,11 +1,10 @@
 -- What a call changes. A refused call changes nothing.
 -- Source: docs/PROFILE.md, "Calls".
-use Rattle.std.specs.Prelude.{ℕ, ◌+◌, ◌-◌, true, List, [], ◌∷◌, ◌++◌, None, option_to_list}
+use Rattle.std.specs.Prelude.{ℕ, ◌+◌, ◌-◌, ◌%◌, ◌^◌, true, List, [], ◌∷◌, ◌++◌, Option, None, Some, option_map, option_to_list}
 use Rattle.mc_base.specs.declared.name.Local.{Local}
-use Rattle.board_model.specs.declared.scenario.Call.{Call}
-use Rattle.board_model.specs.declared.scenario.Call.TheVariants.{Create, MsgSend, MsgRecv}
-use Rattle.board_model.specs.Lists.{changed}
-use Rattle.board_model.specs.State.{DomainState, Endpoint, Item, Peer, place_at, queue_at, place_of_peer}
+use Rattle.board_model.specs.DomainCall.{DomainCall, create_at, send_from, receive_at, request_at, available_at, test_of, cancel_of}
+use Rattle.board_model.specs.Lists.{changed, without}
+use Rattle.board_model.specs.State.{DomainState, Endpoint, Item, Peer, Asked, message_at, Outcome, has_item, Request, request_at_place, item_in, place_at, queue_at, place_of_peer}
 use Rattle.board_model.specs.Choice.{best, without_best}
 use Rattle.board_model.specs.Answer.{local, refusal, unless_refused}
 
@@ -24,20 +23,41 @@ with_used s peer = record s { peers = changed used_one (place_of_peer s peer) s.
 abbrev pub received : Endpoint → Endpoint
 received e = record e { queue = without_best (λ i. i.priority) e.queue }
 
+abbrev pub with_received : DomainState → Local → DomainState
+with_received s at = record s { endpoints = changed received (place_at s at) s.endpoints }
+
+-- a new request. Its serial is the number of requests that were given before, modulo 2^64
+abbrev pub with_request : DomainState → Asked → Option Outcome → DomainState
+with_request s asked outcome = record s { requests = s.requests ++ record { serial = s.requests_given; asked = asked; outcome = outcome } ∷ []; requests_given = (s.requests_given + 1) % 2 ^ 64 }
+
+-- the oldest item of the best priority of E's queue
+abbrev pub best_queued : DomainState → Local → Option Item
+best_queued s at = best (λ i. i.priority) (queue_at s at)
+
 -- the effect of success
-abbrev pub success_effect : DomainState → ℕ → Call → DomainState
-success_effect s node (Create port) = record s { endpoints = s.endpoints ++ new_endpoint s (local node port) ∷ []; endpoints_given = s.endpoints_given + 1 }
-success_effect s node (MsgSend port to priority bytes) = with_used s to.domain
-success_effect s node (MsgRecv port max) = record s { endpoints = changed received (place_at s (local node port)) s.endpoints }
+abbrev pub success_effect : DomainState → ℕ → DomainCall → DomainState
+success_effect s node (create_at port) = record s { endpoints = s.endpoints ++ new_endpoint s (local node port) ∷ []; endpoints_given = s.endpoints_given + 1 }
+success_effect s node (send_from port to priority bytes) = with_used s to.domain
+success_effect s node (receive_at port max) = with_received s (local node port)
+success_effect s node (request_at port max) = with_request (with_received s (local node port)) (message_at (local node port) max) (option_map has_item (best_queued s (local node port)))
+success_effect s node (available_at port) = s
+success_effect s node (test_of request) = record s { requests = without request s.requests }
+success_effect s node (cancel_of request) = record s { requests = without request s.requests }
 
 -- the effect of a call
-abbrev pub effect : DomainState → ℕ → Call → DomainState
+abbrev pub effect : DomainState → ℕ → DomainCall → DomainState
 effect s node call = unless_refused (refusal s node call) s (success_effect s node call)
 
+-- the item that a request holds
+abbrev pub held_by : Option Request → List Item
+held_by None = []
+held_by (Some r) = item_in r.outcome
+
 -- the items whose buffers success gives back, in that order
-abbrev pub success_returns : DomainState → ℕ → Call → List Item
-success_returns s node (MsgRecv port max) = option_to_list (best (λ i. i.priority) (queue_at s (local node port)))
+abbrev pub success_returns : DomainState → ℕ → DomainCall → List Item
+success_returns s node (receive_at port max) = option_to_list (best_queued s (local node port))
+success_returns s node (test_of request) = held_by (request_at_place s request)
 success_returns s node other = []
 
-abbrev pub returns : DomainState → ℕ → Call → List Item
+abbrev pub returns : DomainState → ℕ → DomainCall → List Item
 returns s node call = unless_refused (refusal s node call) [] (success_returns s node call)

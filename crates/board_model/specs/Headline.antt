@@ -2,14 +2,15 @@
 -- Source: docs/PROMISES.md: each channel's receiver took a prefix of what its sender had accepted, item for item; each
 -- message receive took the oldest of the best priority queued; a cancelled receive took nothing; taken and left together
 -- are exactly what was accepted; and every buffer is free, in the ring, queued or lent.
-use Rattle.std.specs.Prelude.{◌≡◌, ℕ, ◌+◌, Bool, ◌++◌, List, Contains, count_by}
+use Rattle.std.specs.Prelude.{◌≡◌, ℕ, ◌+◌, Bool, ◌++◌, List, count_by}
 use Rattle.std.specs.List.{AllByRecursion}
 use Rattle.board_model.specs.declared.scenario.Scenario.{Scenario}
 use Rattle.board_model.specs.Lists.{IsPrefix}
 use Rattle.board_model.specs.Scenario.{lanes}
 use Rattle.board_model.specs.Board.{DomainJournal}
-use Rattle.board_model.specs.Channels.{items_accepted, items_taken, items_left, cancelled, took_something}
-use Rattle.board_model.specs.Messages.{Message, ReceivesBest, accepted, messages_taken, dropped, messages_queued, messages_in_ring}
+use Rattle.board_model.specs.Channels.{items_accepted, items_taken, items_left}
+use Rattle.board_model.specs.Messages.{Message, accepted, dropped, messages_queued, messages_in_ring}
+use Rattle.board_model.specs.Takings.{messages_taken, ReceivesBest, CancelledTookNothing}
 use Rattle.board_model.specs.Places.{EveryBuffer}
 
 -- each message that was accepted was taken or dropped, or is queued or in the ring, each as often: as many of the ones as
@@ -20,7 +21,7 @@ NoMessageLost s js = (test : Message → Bool) → count_by test (accepted js) �
 pub record Headline (s : Scenario) (js : List DomainJournal) : Type 0 where
   pub channel_prefix : (sender channel : ℕ) → IsPrefix (items_taken s js sender channel) (items_accepted s js sender channel)
   pub best_first : AllByRecursion (ReceivesBest s) js
-  pub cancelled_nothing : (d request : ℕ) → Contains (cancelled s js d) request → Contains (took_something s js d) request → ⊥
+  pub cancelled_nothing : AllByRecursion (CancelledTookNothing s) js
   pub items_kept : (sender channel : ℕ) → items_accepted s js sender channel ≡ items_taken s js sender channel ++ items_left s js sender channel
   pub messages_kept : NoMessageLost s js
   pub buffers_kept : AllByRecursion (EveryBuffer s js) (lanes s)

@@ -3,15 +3,27 @@
 -- that showed nothing, and tell idle turns in a row by one line.
 use Rattle.std.specs.Prelude.{ℕ, ◌+◌, ◌-◌, ◌^◌, nat_lt, Bool, ◌&&◌, List, [], ◌∷◌, ◌++◌, length, ◌==◌, if◌then◌else◌, map, Option, Some, None, slice_get, slice_set}
 use Rattle.std.specs.List.{flat_map, list_all}
+use Rattle.mc_base.specs.declared.channel.Reason.{Reason}
 use Rattle.mc_base.specs.declared.refusal.Refusal.{Refusal}
 use Rattle.mc_base.specs.declared.fate.Fate.{Fate}
 
--- the answer of a call: a word of refusal; ok; ok with a number; or ok with a size and the bytes that were given
+-- how a request was complete: with an address; accepted or rejected; with the size of a message or packet and the bytes that
+-- were given; or with a word
+pub data PlainResult : Type 0 where
+  found_at : ℕ → PlainResult
+  was_accepted : PlainResult
+  was_rejected : Reason → PlainResult
+  brought : ℕ → List ℕ → PlainResult
+  ended_by : Refusal → PlainResult
+
+-- the answer of a call: a word of refusal; ok; ok with a number; ok with a size and the bytes that were given; or done, with
+-- how the request was complete
 pub data PlainAnswer : Type 0 where
   refuses : Refusal → PlainAnswer
   agrees : PlainAnswer
   tells : ℕ → PlainAnswer
   gives : ℕ → List ℕ → PlainAnswer
+  completes : PlainResult → PlainAnswer
 
 -- a frame that was taken, with the word for what became of it
 pub record Taken : Type 0 where

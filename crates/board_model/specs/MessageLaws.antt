@@ -5,7 +5,7 @@ use Rattle.std.specs.List.{AllByRecursion}
 use Rattle.board_model.specs.declared.scenario.Scenario.{Scenario}
 use Rattle.board_model.specs.Grammar.{IsLawful}
 use Rattle.board_model.specs.Board.{DomainJournal, IsBoardRun}
-use Rattle.board_model.specs.Messages.{ReceivesBest}
+use Rattle.board_model.specs.Takings.{ReceivesBest, CancelledTookNothing}
 use Rattle.board_model.specs.Headline.{NoMessageLost}
 
 -- each message receive takes the oldest of the best priority queued, and tells it
@@ -15,3 +15,7 @@ ReceivesTakeTheBest = (s : Scenario) (js : List DomainJournal) → IsLawful s �
 -- each message that was accepted was taken or dropped, or is queued or in the ring, each as often
 abbrev pub NoMessageIsLost : Type 0
 NoMessageIsLost = (s : Scenario) (js : List DomainJournal) → IsLawful s → IsBoardRun s js → NoMessageLost s js
+
+-- a request that was cancelled took nothing
+abbrev pub CancelledRequestsTookNothing : Type 0
+CancelledRequestsTookNothing = (s : Scenario) (js : List DomainJournal) → IsLawful s → IsBoardRun s js → AllByRecursion (CancelledTookNothing s) js

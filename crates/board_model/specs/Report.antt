@@ -3,6 +3,8 @@
 use Rattle.std.specs.Prelude.{ℕ, List, [], ◌∷◌, ◌++◌, map, length, codes, decimal, nat_lt, if◌then◌else◌}
 use Rattle.std.specs.List.{flat_map}
 use Rattle.mc_base.specs.Text.{hex_text}
+use Rattle.mc_base.specs.declared.channel.Reason.{Reason}
+use Rattle.mc_base.specs.declared.channel.Reason.TheVariants.{NoEndpoint, Connected, Busy}
 use Rattle.mc_base.specs.declared.refusal.Refusal.{Refusal}
 use Rattle.mc_base.specs.declared.refusal.Refusal.TheVariants as refusal
 use Rattle.mc_base.specs.declared.fate.Fate.{Fate}
@@ -13,9 +15,9 @@ use Rattle.board_model.specs.declared.scenario.DomainLine.{DomainLine}
 use Rattle.board_model.specs.declared.scenario.Scenario.{Scenario}
 use Rattle.board_model.specs.Scenario.{rising, lanes}
 use Rattle.board_model.specs.Grammar.{line_of, canonical}
-use Rattle.board_model.specs.Journal.{PlainAnswer, refuses, agrees, tells, gives, Line, idle_line, turn_line, back_line, put_line, see_line, take_line, call_line, joined}
+use Rattle.board_model.specs.Journal.{PlainResult, found_at, was_accepted, was_rejected, brought, ended_by, PlainAnswer, refuses, agrees, tells, gives, completes, Line, idle_line, turn_line, back_line, put_line, see_line, take_line, call_line, joined}
 use Rattle.board_model.specs.Board.{DomainJournal}
-use Rattle.board_model.specs.Messages.{totals}
+use Rattle.board_model.specs.Totals.{totals}
 use Rattle.board_model.specs.Places.{places_of}
 
 -- the words of refusal
@@ -78,12 +80,27 @@ fate_text fate.Queued = codes "queued"
 fate_text fate.Closed = codes "closed"
 fate_text fate.State = codes "state"
 
+-- the reasons for which a connection was rejected
+abbrev pub reason_text : Reason → List ℕ
+reason_text NoEndpoint = codes "no_endpoint"
+reason_text Connected = codes "connected"
+reason_text Busy = codes "busy"
+
+-- the words of how a request was complete. Where fewer bytes than the size were given, it is truncated
+abbrev pub result_words : PlainResult → List (List ℕ)
+result_words (found_at address) = decimal address ∷ []
+result_words was_accepted = codes "accepted" ∷ []
+result_words (was_rejected reason) = codes "rejected" ∷ reason_text reason ∷ []
+result_words (brought size bytes) = if nat_lt (length bytes) size then codes "truncated" ∷ decimal size ∷ hex_text bytes ∷ [] else decimal size ∷ hex_text bytes ∷ []
+result_words (ended_by word) = refusal_text word ∷ []
+
 -- the words of an answer. Where fewer bytes than the size were given, it is truncated
 abbrev pub answer_words : PlainAnswer → List (List ℕ)
 answer_words (refuses word) = refusal_text word ∷ []
 answer_words agrees = codes "ok" ∷ []
 answer_words (tells n) = codes "ok" ∷ decimal n ∷ []
 answer_words (gives size bytes) = (if nat_lt (length bytes) size then codes "truncated" else codes "ok") ∷ decimal size ∷ hex_text bytes ∷ []
+answer_words (completes result) = codes "done" ∷ result_words result
 
 -- the words of a line of a journal
 abbrev pub line_words : Line → List (List ℕ)

@@ -1,7 +1,7 @@
 -- What a scenario tells: its domains in rising number, who has a lane to whom, and the script of each domain.
 -- Source: docs/FORMATS.md, "Scenario files". A lane carries frames one way. There is one in each direction of a link, and
 -- one from each domain to itself, with the buffers of its pool.
-use Rattle.std.specs.Prelude.{ℕ, List, [], ◌∷◌, ◌==◌, nat_lt, filter, map, if◌then◌else◌}
+use Rattle.std.specs.Prelude.{ℕ, List, [], ◌∷◌, ◌==◌, nat_lt, filter, map, if◌then◌else◌, Option, option_map}
 use Rattle.std.specs.List.{flat_map}
 use Rattle.board_model.specs.declared.scenario.DomainLine.{DomainLine}
 use Rattle.board_model.specs.declared.scenario.LinkLine.{LinkLine}
@@ -11,6 +11,10 @@ use Rattle.board_model.specs.declared.scenario.Scenario.{Scenario}
 -- the call lines of a domain, in the file's order. They are numbered from 1
 abbrev pub script : Scenario → ℕ → List CallLine
 script s d = filter (λ c. c.domain == d) s.calls
+
+-- the label of a line
+abbrev pub label_in : CallLine → Option (List ℕ)
+label_in c = option_map (λ l. l.items) c.label
 
 -- a domain that another has a lane to, and the buffers of that lane
 pub record Neighbour : Type 0 where

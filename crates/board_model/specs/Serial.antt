@@ -4,7 +4,8 @@ use Rattle.std.specs.Prelude.{ℕ, ◌+◌, min, not, List, [], ◌∷◌, ◌++
 use Rattle.mc_base.specs.declared.fate.Fate.{Fate}
 use Rattle.mc_base.specs.declared.fate.Fate.TheVariants.{State}
 use Rattle.board_model.specs.declared.scenario.DomainLine.{DomainLine}
-use Rattle.board_model.specs.declared.scenario.Call.{Call}
+use Rattle.board_model.specs.DomainCall.{DomainCall}
+use Rattle.board_model.specs.Labels.{Labelled, call_of, labels_after}
 use Rattle.board_model.specs.declared.scenario.CallLine.{CallLine}
 use Rattle.board_model.specs.declared.scenario.Scenario.{Scenario}
 use Rattle.board_model.specs.Scenario.{script, neighbour, rising}
@@ -70,33 +71,42 @@ abbrev pub frame_put : ℕ × List ℕ → List ℕ
 frame_put p = p.1
 
 -- a call, after its turn
-abbrev pub after_own_call : Alone → ℕ → Call → Alone
+abbrev pub after_own_call : Alone → ℕ → DomainCall → Alone
 after_own_call a node call = record { state = effect a.state node call; ring = a.ring ++ map frame_put (puts a.state node call); returned = a.returned + length (returns a.state node call) }
 
 abbrev pub put_entry : ℕ × List ℕ → PlainEntry
 put_entry p = put p.0 p.1
 
 -- the entries of a line: its turn, the frames that its call puts, and its answer
-abbrev pub before_answer : Alone → ℕ → Call → List PlainEntry
+abbrev pub before_answer : Alone → ℕ → DomainCall → List PlainEntry
 before_answer a node call = turned (own_turn a) ∷ map put_entry (puts (after_own_turn a).state node call)
 
-abbrev pub line_entries : Alone → ℕ → CallLine → List PlainEntry
-line_entries a k line = before_answer a line.node line.call ++ called k (answer (after_own_turn a).state line.node line.call) ∷ []
+-- a domain that runs its script, with the labels of the requests that were given
+pub record Running : Type 0 where
+  pub alone : Alone
+  pub labels : List Labelled
 
-abbrev pub after_line : Alone → CallLine → Alone
-after_line a line = after_own_call (after_own_turn a) line.node line.call
+-- the call of a line, as the domain knows it after the line's turn
+abbrev pub own_call : Running → CallLine → DomainCall
+own_call r line = call_of r.labels (after_own_turn r.alone).state line.call
+
+abbrev pub line_entries : Running → ℕ → CallLine → List PlainEntry
+line_entries r k line = before_answer r.alone line.node (own_call r line) ++ called k (answer (after_own_turn r.alone).state line.node (own_call r line)) ∷ []
+
+abbrev pub after_line : Running → CallLine → Running
+after_line r line = record { alone = after_own_call (after_own_turn r.alone) line.node (own_call r line); labels = labels_after r.labels (after_own_turn r.alone).state line }
 
 -- the lines from number k on
-abbrev pub entries_from : Alone → ℕ → List CallLine → List PlainEntry
-entries_from a k [] = []
-entries_from a k (line ∷ ls) = line_entries a k line ++ entries_from (after_line a line) (k + 1) ls
+abbrev pub entries_from : Running → ℕ → List CallLine → List PlainEntry
+entries_from r k [] = []
+entries_from r k (line ∷ ls) = line_entries r k line ++ entries_from (after_line r line) (k + 1) ls
 
-abbrev pub after_lines : Alone → List CallLine → Alone
-after_lines a [] = a
-after_lines a (line ∷ ls) = after_lines (after_line a line) ls
+abbrev pub after_lines : Running → List CallLine → Running
+after_lines r [] = r
+after_lines r (line ∷ ls) = after_lines (after_line r line) ls
 
-abbrev pub opened : DomainLine → Alone
-opened d = opening_alone d.domain d.nodes d.pool
+abbrev pub opened : DomainLine → Running
+opened d = record { alone = opening_alone d.domain d.nodes d.pool; labels = [] }
 
 abbrev pub serial_journal : Scenario → DomainLine → DomainJournal
 serial_journal s d = record { line = d; entries = entries_from (opened d) 1 (script s d.domain) }

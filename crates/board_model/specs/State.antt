@@ -1,7 +1,7 @@
 -- The state of a domain.
 -- Source: docs/PROFILE.md, "A domain". Lists, in the order in which their items came. Buffers and requests are told apart
 -- by their places in these lists.
-use Rattle.std.specs.Prelude.{ℕ, ◌+◌, Bool, ◌&&◌, List, [], ◌∷◌, ◌++◌, ◌==◌, map, count_by, position, slice_get, Option, None, Some, option_map, option_and_then, unwrap_or}
+use Rattle.std.specs.Prelude.{ℕ, ◌+◌, Bool, false, ◌&&◌, List, [], ◌∷◌, ◌++◌, ◌==◌, map, count_by, position, slice_get, Option, None, Some, option_map, option_and_then, unwrap_or, is_none}
 use Rattle.std.specs.List.{flat_map}
 use Rattle.mc_base.specs.declared.name.Local.{Local}
 use Rattle.mc_base.specs.declared.name.EndName.{EndName}
@@ -131,6 +131,40 @@ queue_in (Some e) = e.queue
 
 abbrev pub queue_at : DomainState → Local → List Item
 queue_at s local = queue_in (endpoint_at s local)
+
+-- ---- requests
+
+-- the request at a place
+abbrev pub request_at_place : DomainState → Option ℕ → Option Request
+request_at_place s place = option_and_then (λ i. slice_get s.requests i) place
+
+-- the place of the request of this serial
+abbrev pub has_serial : ℕ → Request → Bool
+has_serial serial r = r.serial == serial
+
+abbrev pub place_of_request : DomainState → ℕ → Option ℕ
+place_of_request s serial = position (has_serial serial) s.requests
+
+-- a receive at the endpoint of this name
+abbrev pub receives_at : Local → Asked → Bool
+receives_at local (message_at at max) = at.node == local.node && at.port == local.port
+receives_at local (packet_at at) = at.node == local.node && at.port == local.port
+receives_at local other = false
+
+-- one that is pending
+abbrev pub waits_at : Local → Request → Bool
+waits_at local r = is_none r.outcome && receives_at local r.asked
+
+-- the place of the oldest of them
+abbrev pub place_of_waiting : DomainState → Local → Option ℕ
+place_of_waiting s local = position (waits_at local) s.requests
+
+-- of the oldest that waits at the live endpoint with this address
+abbrev pub local_of_address : DomainState → ℕ → Option Local
+local_of_address s address = option_map (λ e. e.local) (option_and_then (λ i. slice_get s.endpoints i) (place_of_address s address))
+
+abbrev pub place_waiting_for : DomainState → ℕ → Option ℕ
+place_waiting_for s address = option_and_then (place_of_waiting s) (local_of_address s address)
 
 -- ---- peers
 

@@ -1,7 +1,7 @@
--- The lines of a journal that a runner counts: frames put and taken, messages dropped, and calls that gave bytes.
+-- The lines of a journal that a runner counts: frames put and taken, and messages dropped.
 -- Source: docs/FORMATS.md, "Journal text".
 use Rattle.std.specs.Prelude.{Bool, true, false}
-use Rattle.board_model.specs.Journal.{PlainAnswer, gives, Line, put_line, take_line, call_line}
+use Rattle.board_model.specs.Journal.{Line, put_line, take_line}
 use Rattle.board_model.specs.Messages.{drops}
 
 abbrev pub is_put_line : Line → Bool
@@ -15,11 +15,3 @@ is_take_line other = false
 abbrev pub is_drop_line : Line → Bool
 is_drop_line (take_line peer frame fate) = drops fate
 is_drop_line other = false
-
-abbrev pub has_bytes : PlainAnswer → Bool
-has_bytes (gives size bytes) = true
-has_bytes other = false
-
-abbrev pub is_gives_line : Line → Bool
-is_gives_line (call_line number answer) = has_bytes answer
-is_gives_line other = false

@@ -4,10 +4,10 @@ use Rattle.std.specs.Prelude.{ℕ, ◌+◌, List, [], ◌∷◌, ◌==◌, map, 
 use Rattle.std.specs.List.{flat_map}
 use Rattle.board_model.specs.declared.scenario.CallLine.{CallLine}
 use Rattle.board_model.specs.Journal.{PlainEntry, turned, put, called, Visit, Taken}
-use Rattle.board_model.specs.State.{DomainState, Item, is_from}
+use Rattle.board_model.specs.State.{Item, is_from}
 use Rattle.board_model.specs.Dealing.{keeps_buffer}
 use Rattle.board_model.specs.Effect.{returns}
-use Rattle.board_model.specs.Step.{RunState, next_line, after}
+use Rattle.board_model.specs.Step.{RunState, next_line, call_at, after}
 
 -- the visits to a peer
 abbrev pub visits_to : ℕ → List Visit → List Visit
@@ -35,14 +35,14 @@ abbrev pub taken_from : ℕ → List PlainEntry → List (List ℕ)
 taken_from peer entries = map (λ t. t.frame) (takes_from peer entries)
 
 -- how many buffers an entry gives back to a peer: those of frames that do not stay, and those of what a call drops or takes
-abbrev pub returned_by : Option CallLine → DomainState → List Item
-returned_by None s = []
-returned_by (Some line) s = returns s line.node line.call
+abbrev pub returned_by : Option CallLine → RunState → List Item
+returned_by None r = []
+returned_by (Some line) r = returns r.state line.node (call_at r line)
 
 abbrev pub given_in : List CallLine → RunState → ℕ → PlainEntry → ℕ
 given_in script r peer (turned visits) = count_by (λ t. not (keeps_buffer t.fate)) (takes_in peer (turned visits))
 given_in script r peer (put to frame) = 0
-given_in script r peer (called k a) = count_by (is_from peer) (returned_by (next_line script r) r.state)
+given_in script r peer (called k a) = count_by (is_from peer) (returned_by (next_line script r) r)
 
 -- how many buffers a run gives back to a peer
 abbrev pub given : List CallLine → RunState → ℕ → List PlainEntry → ℕ

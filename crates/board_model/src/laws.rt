@@ -1,6 +1,6 @@
 //! What is proved of the definitions themselves. Each function has no code: its contract is the law.
 ghost use Rattle.board_model.specs.Laws.{PlaceLaw, SerialIsBoardRun, HeadlineLaw};
-ghost use Rattle.board_model.specs.MessageLaws.{ReceivesTakeTheBest, NoMessageIsLost};
+ghost use Rattle.board_model.specs.MessageLaws.{ReceivesTakeTheBest, NoMessageIsLost, CancelledRequestsTookNothing};
 
 /// At the end of every run of a board, each buffer of each lane is at exactly one place.
 pub fn every_buffer_in_its_place()
@@ -15,6 +15,11 @@ pub fn receives_take_the_best()
 /// Each message that was accepted was taken or dropped, or is queued or in the ring.
 pub fn no_message_is_lost()
     ensures { NoMessageIsLost }
+{}
+
+/// A request that was cancelled took nothing.
+pub fn cancelled_requests_took_nothing()
+    ensures { CancelledRequestsTookNothing }
 {}
 
 /// The headline holds of every run of a board.

@@ -40,6 +40,23 @@ pub enum Call {
         port: u16,
         max: u32,
     },
+    /// Requests a message, which comes now or later, and of which at most `max` bytes are given.
+    MsgRecvI {
+        port: u16,
+        max: u32,
+    },
+    /// Tells how many messages wait.
+    MsgAvailable {
+        port: u16,
+    },
+    /// Asks whether a request is complete, and ends it if it is.
+    Test {
+        label: Label,
+    },
+    /// Ends a request that is pending.
+    Cancel {
+        label: Label,
+    },
 }
 
 /// A line that makes a call at a node of a domain. It may carry a label, and may be tried more than once.

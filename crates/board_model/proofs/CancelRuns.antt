@@ -1,0 +1,276 @@
+-- Along every run of a domain a request that was cancelled took nothing.
+use Rattle.std.proofs.Common.{◌≡◌, ℕ, ◌+◌, ◌<◌, ◌≤◌, ◌%◌, ◌^◌, Bool, true, false, not, ◌&&◌, List, [], ◌∷◌, ◌++◌, length, Option, Some, None, map, count_by, option_map, option_to_list, refl, sym, ap, ◌∙◌, subst, inl, inr, arith, mod-eq_of_lt}
+use Rattle.std.specs.Prelude.{is_some, is_none, ◌==◌}
+use Rattle.std.proofs.lemmas.Bool.Decides.{eqb_tells}
+use Rattle.std.proofs.lemmas.Option.{slice_get_within}
+use Rattle.mc_base.specs.declared.name.Local.{Local}
+use Rattle.mc_base.specs.declared.refusal.Refusal.{Refusal}
+use Rattle.board_model.specs.DomainCall.{DomainCall, create_at, send_from, receive_at, request_at, available_at, test_of, cancel_of}
+use Rattle.board_model.specs.Lists.{without}
+use Rattle.board_model.specs.declared.scenario.CallLine.{CallLine}
+use Rattle.board_model.specs.Journal.{PlainEntry, turned, put, called, PlainAnswer, refuses, Taken, Visit}
+use Rattle.board_model.specs.State.{Item, Asked, message_at, Request, Outcome, has_item, has_serial, DomainState, request_at_place, address_at, queue_at}
+use Rattle.board_model.specs.Choice.{best}
+use Rattle.board_model.specs.Answer.{local, refusal, answer, answer_by, success, given, unless_refused, is_complete, holds, words_of}
+use Rattle.board_model.specs.Effect.{effect, success_effect, best_queued}
+use Rattle.board_model.specs.Dealing.{after_frame, after_takes, HaveWords}
+use Rattle.board_model.specs.Turn.{after_looks, after_visit, AreVisits, after_turn}
+use Rattle.board_model.specs.Step.{RunState, next_line, call_at, effect_of_line, after, Allowed}
+use Rattle.board_model.specs.Run.{after_all}
+use Rattle.board_model.specs.Messages.{Message}
+use Rattle.board_model.specs.Takings.{Standing, standing_after, receives_by, receives_in, best_at, Taking, taking, request_by, request_in, takings_in, takings_along, cancels_by, cancels_at, cancelled_in, cancelled_along}
+use Rattle.board_model.proofs.ListsCounts.{one_if, count-cons, count-append, count-without, find-none}
+use Rattle.board_model.proofs.MessageRuns.{AllAllowed}
+use Rattle.board_model.proofs.RequestCounts.{times, standing_of, pending_as, pending_of, pending-stands, one_at_most, other_none}
+use Rattle.board_model.proofs.CancelFrames.{Tally, Once, once_same, serials_in, with_takings, takings_two, frame_given, turn_once}
+
+-- where nothing is queued at an endpoint, nothing stands there
+abbrev pub BestTells : DomainState → Standing → Type 0
+BestTells s q = (at : Local) → best_queued s at ≡ None → best_at (address_at s at) q ≡ None
+
+abbrev pub with_gone : Tally → List ℕ → Tally
+with_gone gone ns n = gone n + times n ns
+
+-- the takings of a call, and the serial that it cancels
+abbrev pub takings_of : DomainState → ℕ → DomainCall → PlainAnswer → Standing → List Taking
+takings_of s node call a q = map (taking (request_by call a)) (option_to_list (best_at (receives_by s node call a) q))
+
+abbrev pub cancelled_of : DomainState → DomainCall → PlainAnswer → List ℕ
+cancelled_of s call a = option_to_list (cancels_by s call a)
+
+-- what a call makes of the tallies
+abbrev pub CallOnce : DomainState → DomainState → ℕ → DomainCall → PlainAnswer → Standing → Tally → Tally → Type 0
+CallOnce s after node call a q took gone = Once after (with_takings took (takings_of s node call a q)) (with_gone gone (cancelled_of s call a))
+
+-- no request changes, none takes and none is cancelled
+call_same : (s after : DomainState) (node : ℕ) (call : DomainCall) (a : PlainAnswer) (q : Standing) (took gone : Tally) → after.requests ≡ s.requests → after.requests_given ≡ s.requests_given →
+    ((n : ℕ) → times n (serials_in (takings_of s node call a q)) ≡ 0) → cancelled_of s call a ≡ [] → Once s took gone → CallOnce s after node call a q took gone
+call_same s after node call a q took gone rs given none nothing once =
+    once_same s after took (with_takings took (takings_of s node call a q)) gone (with_gone gone (cancelled_of s call a)) rs given (λ n. omega (arith, none n)) (λ n. omega (arith, ap (times n) nothing)) once
+
+unrequested : (n : ℕ) (o : Option Message) → times n (serials_in (map (taking None) (option_to_list o))) ≡ 0
+unrequested n None = refl
+unrequested n (Some m) = refl
+
+requested : (n g : ℕ) (o : Option Message) → times n (serials_in (map (taking (Some g)) (option_to_list o))) ≤ one_if (g == n)
+requested n g None = omega arith
+requested n g (Some m) = omega (arith, count-cons (λ k. k == n) g [])
+
+-- ---- a new request
+
+new_one : (n g stand pend t c : ℕ) → pend ≤ stand → (g ≤ n → stand + t + c ≡ 0) → pend + t + c ≤ 1 → pend + one_if (g == n) + t + c ≤ 1
+new_one n g stand pend t c fewer below one = elim (eqb_tells g n) [
+  | inl same ↦ omega (arith, below (omega (arith, same.1)), fewer, one_at_most (g == n))
+  | inr differ ↦ omega (arith, one, ap one_if differ.0)
+]
+
+-- a request that is added, and is complete just where it takes
+request_once : (s : DomainState) (g : ℕ) (rs : List Request) (r : Request) (took gone : Tally) (ts : List Taking) → s.requests_given ≡ g → s.requests ≡ rs → r.serial ≡ g →
+    ((n : ℕ) → one_if (pending_as n r) + times n (serials_in ts) ≤ one_if (g == n)) → (after : DomainState) → after.requests ≡ rs ++ r ∷ [] → after.requests_given ≡ g + 1 → Once s took gone →
+    Once after (with_takings took ts) gone
+request_once s g rs r took gone ts given was serial takes after now next once =
+    let pending : (n : ℕ) → pending_of n after.requests ≡ pending_of n s.requests + one_if (pending_as n r) = λ n.
+    omega (arith, ap (pending_of n) now, ap (pending_of n) was, count-append (pending_as n) rs (r ∷ []), count-cons (pending_as n) r []) in
+    let standing : (n : ℕ) → standing_of n after.requests ≡ standing_of n s.requests + one_if (g == n) = λ n.
+    omega (arith, ap (standing_of n) now, ap (standing_of n) was, count-append (has_serial n) rs (r ∷ []), count-cons (has_serial n) r [], ap (λ (m : ℕ). one_if (m == n)) serial) in
+    let below : (n : ℕ) → g ≤ n → standing_of n s.requests + took n + gone n ≡ 0 = λ n least. once.below n (omega (arith, given, least)) in
+    record {
+      one = λ n. omega (arith, new_one n g (standing_of n s.requests) (pending_of n s.requests) (took n) (gone n) (pending-stands n s.requests) (below n) (once.one n), pending n, takes n);
+      apart = λ n. omega (arith, new_one n g (standing_of n s.requests) (standing_of n s.requests) 0 (gone n) (omega arith) (λ least. omega (arith, below n least)) (omega (arith, once.apart n)), standing n);
+      below = λ n least.
+          let over : g ≡ n → ⊥ = λ e. omega (arith, least, next, e) in
+          omega (arith, below n (omega (arith, least, next)), standing n, other_none g n over, takes n);
+    }
+
+-- ---- a request that ends
+
+-- it was complete: nothing else changes
+ended_once : (s : DomainState) (p : Option ℕ) (r : Request) (took gone gone' : Tally) → request_at_place s p ≡ Some r → (after : DomainState) → after.requests ≡ without p s.requests → after.requests_given ≡ s.requests_given →
+    ((n : ℕ) → gone' n ≡ gone n + one_if (pending_as n r)) → Once s took gone → Once after took gone'
+ended_once s p r took gone gone' at after now given more once =
+    let pending : (n : ℕ) → pending_of n after.requests + one_if (pending_as n r) ≡ pending_of n s.requests = λ n.
+    omega (arith, ap (pending_of n) now, count-without (pending_as n) p s.requests, ap (λ (o : Option Request). count_by (pending_as n) (option_to_list o)) at, count-cons (pending_as n) r []) in
+    let standing : (n : ℕ) → standing_of n after.requests + one_if (has_serial n r) ≡ standing_of n s.requests = λ n.
+    omega (arith, ap (standing_of n) now, count-without (has_serial n) p s.requests, ap (λ (o : Option Request). count_by (has_serial n) (option_to_list o)) at, count-cons (has_serial n) r []) in
+    let within : (n : ℕ) → one_if (pending_as n r) ≤ one_if (has_serial n r) = λ n. omega (arith, pending-stands n (r ∷ []), count-cons (pending_as n) r [], count-cons (has_serial n) r []) in
+    record {
+      one = λ n. omega (arith, once.one n, pending n, more n);
+      apart = λ n. omega (arith, once.apart n, standing n, more n, within n);
+      below = λ n least. omega (arith, once.below n (omega (arith, given, least)), standing n, more n, within n);
+    }
+
+-- ---- calls
+
+-- a call that is refused
+refused_once : (s : DomainState) (node : ℕ) (call : DomainCall) (w : Refusal) (q : Standing) (took gone : Tally) → Once s took gone → CallOnce s s node call (refuses w) q took gone
+refused_once s node (create_at port) w q took gone once = call_same s s node (create_at port) (refuses w) q took gone refl refl (λ n. refl) refl once
+refused_once s node (send_from port to priority bytes) w q took gone once = call_same s s node (send_from port to priority bytes) (refuses w) q took gone refl refl (λ n. refl) refl once
+refused_once s node (receive_at port max) w q took gone once = call_same s s node (receive_at port max) (refuses w) q took gone refl refl (λ n. refl) refl once
+refused_once s node (request_at port max) w q took gone once = call_same s s node (request_at port max) (refuses w) q took gone refl refl (λ n. refl) refl once
+refused_once s node (available_at port) w q took gone once = call_same s s node (available_at port) (refuses w) q took gone refl refl (λ n. refl) refl once
+refused_once s node (test_of p) w q took gone once = call_same s s node (test_of p) (refuses w) q took gone refl refl (λ n. refl) refl once
+refused_once s node (cancel_of p) w q took gone once = call_same s s node (cancel_of p) (refuses w) q took gone refl refl (λ n. refl) refl once
+
+-- a receive takes by no request
+given_none : (s : DomainState) (node port max n : ℕ) (i : Option Item) (q : Standing) → times n (serials_in (takings_of s node (receive_at port max) (given max i) q)) ≡ 0
+given_none s node port max n None q = refl
+given_none s node port max n (Some i) q = unrequested n (best_at (address_at s (local node port)) q)
+
+-- a request takes at once just where something is queued
+takes_or_waits : (n g : ℕ) (asked : Asked) (i : Option Item) (m : Option Message) → (i ≡ None → m ≡ None) →
+    one_if (pending_as n (record { serial = g; asked = asked; outcome = option_map has_item i })) + times n (serials_in (map (taking (Some g)) (option_to_list m))) ≤ one_if (g == n)
+takes_or_waits n g asked None m none = rw (none refl) (omega arith)
+takes_or_waits n g asked (Some i) m none = omega (arith, requested n g m)
+
+requested_once : (s : DomainState) (node port max : ℕ) (q : Standing) (took gone : Tally) → s.requests_given + 1 < 2 ^ 64 → BestTells s q → Once s took gone →
+    CallOnce s (success_effect s node (request_at port max)) node (request_at port max) (success s node (request_at port max)) q took gone
+requested_once s node port max q took gone small tells once =
+    let at = local node port in
+    let asked = message_at at max in
+    let next : (s.requests_given + 1) % 2 ^ 64 ≡ s.requests_given + 1 = mod-eq_of_lt small in
+    let one = request_once s s.requests_given s.requests (record { serial = s.requests_given; asked = asked; outcome = option_map has_item (best_queued s at) }) took gone
+    (takings_of s node (request_at port max) (success s node (request_at port max)) q) refl refl refl
+    (λ n. takes_or_waits n s.requests_given asked (best_queued s at) (best_at (address_at s at) q) (tells at)) (success_effect s node (request_at port max)) refl next once in
+    once_same (success_effect s node (request_at port max)) (success_effect s node (request_at port max)) _ _ gone (with_gone gone []) refl refl (λ n. refl) (λ n. omega arith) one
+
+-- the request that a call names, where no word holds
+not_true : (b : Bool) → not b ≡ false → b ≡ true
+not_true true e = refl
+not_true false e = absurd cc
+
+stands_there : (o : Option Request) → is_some o ≡ true → (r : Request) × (o ≡ Some r)
+stands_there None e = absurd cc
+stands_there (Some r) e = (r, refl)
+
+tested_once : (s : DomainState) (node : ℕ) (p : Option ℕ) (q : Standing) (took gone : Tally) → refusal s node (test_of p) ≡ None → Once s took gone →
+    CallOnce s (success_effect s node (test_of p)) node (test_of p) (success s node (test_of p)) q took gone
+tested_once s node p q took gone none once =
+    let words = find-none (holds s node (test_of p)) (words_of (test_of p)) none in
+    let r = stands_there (request_at_place s p) (not_true _ words.0) in
+    let complete : is_some r.0.outcome ≡ true = ap is_complete (sym r.1) ∙ not_true _ words.1.0 in
+    let done = ended_once s p r.0 took gone gone r.1 (success_effect s node (test_of p)) refl refl (λ n. omega (arith, ap one_if (complete_none r.0 n complete))) once in
+    once_same (success_effect s node (test_of p)) (success_effect s node (test_of p)) took _ gone _ refl refl (λ n. omega arith) (λ n. omega arith) done
+  where
+    complete_none : (r : Request) (n : ℕ) → is_some r.outcome ≡ true → pending_as n r ≡ false
+    complete_none r n e = go r.outcome e
+      where
+        go : (o : Option Outcome) → is_some o ≡ true → (is_none o && r.serial == n) ≡ false
+        go None e = absurd cc
+        go (Some o) e = refl
+
+cancel_once : (s : DomainState) (node : ℕ) (p : Option ℕ) (q : Standing) (took gone : Tally) → refusal s node (cancel_of p) ≡ None → Once s took gone →
+    CallOnce s (success_effect s node (cancel_of p)) node (cancel_of p) (success s node (cancel_of p)) q took gone
+cancel_once s node p q took gone none once =
+    let words = find-none (holds s node (cancel_of p)) (words_of (cancel_of p)) none in
+    let r = stands_there (request_at_place s p) (not_true _ words.0) in
+    let pending : is_some r.0.outcome ≡ false = ap is_complete (sym r.1) ∙ words.1.0 in
+    let serial : cancelled_of s (cancel_of p) (success s node (cancel_of p)) ≡ r.0.serial ∷ [] = ap (λ (o : Option Request). option_to_list (option_map (λ (x : Request). x.serial) o)) r.1 in
+    let done = ended_once s p r.0 took gone (with_gone gone (cancelled_of s (cancel_of p) (success s node (cancel_of p)))) r.1 (success_effect s node (cancel_of p)) refl refl
+    (λ n. omega (arith, ap (times n) serial, count-cons (λ m. m == n) r.0.serial [], ap one_if (pending_is r.0 n pending))) once in
+    once_same (success_effect s node (cancel_of p)) (success_effect s node (cancel_of p)) took _ _ _ refl refl (λ n. omega arith) (λ n. refl) done
+  where
+    pending_is : (r : Request) (n : ℕ) → is_some r.outcome ≡ false → pending_as n r ≡ (r.serial == n)
+    pending_is r n e = go r.outcome e
+      where
+        go : (o : Option Outcome) → is_some o ≡ false → (is_none o && r.serial == n) ≡ (r.serial == n)
+        go None e = refl
+        go (Some o) e = absurd cc
+
+success_once : (s : DomainState) (node : ℕ) (call : DomainCall) (q : Standing) (took gone : Tally) → refusal s node call ≡ None → s.requests_given + 1 < 2 ^ 64 → BestTells s q → Once s took gone →
+    CallOnce s (success_effect s node call) node call (success s node call) q took gone
+success_once s node (create_at port) q took gone none small tells once = call_same s (success_effect s node (create_at port)) node (create_at port) (success s node (create_at port)) q took gone refl refl (λ n. refl) refl once
+success_once s node (send_from port to priority bytes) q took gone none small tells once = call_same s (success_effect s node (send_from port to priority bytes)) node (send_from port to priority bytes) (success s node (send_from port to priority bytes)) q took gone refl refl (λ n. refl) refl once
+success_once s node (receive_at port max) q took gone none small tells once =
+    call_same s (success_effect s node (receive_at port max)) node (receive_at port max) (success s node (receive_at port max)) q took gone refl refl (λ n. given_none s node port max n (best (λ i. i.priority) (queue_at s (local node port))) q) (nothing_given (best (λ i. i.priority) (queue_at s (local node port)))) once
+  where
+    nothing_given : (i : Option Item) → cancelled_of s (receive_at port max) (given max i) ≡ []
+    nothing_given None = refl
+    nothing_given (Some i) = refl
+success_once s node (request_at port max) q took gone none small tells once = requested_once s node port max q took gone small tells once
+success_once s node (available_at port) q took gone none small tells once = call_same s (success_effect s node (available_at port)) node (available_at port) (success s node (available_at port)) q took gone refl refl (λ n. refl) refl once
+success_once s node (test_of p) q took gone none small tells once = tested_once s node p q took gone none once
+success_once s node (cancel_of p) q took gone none small tells once = cancel_once s node p q took gone none once
+
+pub call_once : (s : DomainState) (node : ℕ) (call : DomainCall) (q : Standing) (took gone : Tally) → s.requests_given + 1 < 2 ^ 64 → BestTells s q → Once s took gone →
+    CallOnce s (effect s node call) node call (answer s node call) q took gone
+call_once s node call q took gone small tells once = go (refusal s node call) refl
+  where
+    go : (o : Option Refusal) → refusal s node call ≡ o → CallOnce s (unless_refused o s (success_effect s node call)) node call (answer_by o (success s node call)) q took gone
+    go (Some w) e = refused_once s node call w q took gone once
+    go None e = success_once s node call q took gone e small tells once
+
+-- ---- entries
+
+-- how many requests were given is at most how many lines were called
+abbrev pub FewGiven : List CallLine → RunState → Type 0
+FewGiven lines r = (r.state.requests_given ≤ r.lines_called) × (length lines < 2 ^ 32)
+
+takes_given : (s : DomainState) (peer : ℕ) (ts : List Taken) → HaveWords s peer ts → (after_takes s peer ts).requests_given ≡ s.requests_given
+takes_given s peer [] words = refl
+takes_given s peer (t ∷ ts) words = takes_given (after_frame s peer t.frame) peer ts words.1 ∙ frame_given s peer t words.0
+
+turn_given : (s : DomainState) (vs : List Visit) → AreVisits s vs → (after_turn s vs).requests_given ≡ s.requests_given
+turn_given s [] are = refl
+turn_given s (v ∷ vs) are = turn_given (after_visit s v) vs are.1 ∙ takes_given (after_looks s v) v.peer v.takes are.0.words
+
+success_given : (s : DomainState) (node : ℕ) (call : DomainCall) → s.requests_given + 1 < 2 ^ 64 → (success_effect s node call).requests_given ≤ s.requests_given + 1
+success_given s node (create_at port) small = omega arith
+success_given s node (send_from port to priority bytes) small = omega arith
+success_given s node (receive_at port max) small = omega arith
+success_given s node (request_at port max) small = let next : (s.requests_given + 1) % 2 ^ 64 ≡ s.requests_given + 1 = mod-eq_of_lt small in omega (arith, next)
+success_given s node (available_at port) small = omega arith
+success_given s node (test_of p) small = omega arith
+success_given s node (cancel_of p) small = omega arith
+
+call_given : (s : DomainState) (node : ℕ) (call : DomainCall) → s.requests_given + 1 < 2 ^ 64 → (effect s node call).requests_given ≤ s.requests_given + 1
+call_given s node call small = go (refusal s node call)
+  where
+    go : (o : Option Refusal) → (unless_refused o s (success_effect s node call)).requests_given ≤ s.requests_given + 1
+    go (Some w) = omega arith
+    go None = success_given s node call small
+
+-- a line is there, so few requests were given
+few_small : (lines : List CallLine) (r : RunState) (line : CallLine) → next_line lines r ≡ Some line → FewGiven lines r → r.state.requests_given + 1 < 2 ^ 64
+few_small lines r line is few = let within = slice_get_within lines r.lines_called line is in omega (arith, few.0, few.1, within)
+
+line_given : (lines : List CallLine) (r : RunState) (line : CallLine) (o : Option CallLine) → o ≡ Some line → r.state.requests_given + 1 < 2 ^ 64 → (effect_of_line o r).requests_given ≤ r.state.requests_given + 1
+line_given lines r line o is small = rw is (call_given r.state line.node (call_at r line) small)
+
+pub few_entry : (lines : List CallLine) (r : RunState) (e : PlainEntry) → Allowed lines r e → FewGiven lines r → FewGiven lines (after lines r e)
+few_entry lines r (turned visits) allowed few = (omega (arith, few.0, turn_given r.state visits allowed.1.allowed), few.1)
+few_entry lines r (put peer frame) allowed few = few
+few_entry lines r (called k a) allowed few =
+    (omega (arith, few.0, line_given lines r allowed.0 (next_line lines r) allowed.1 (few_small lines r allowed.0 allowed.1 few)), few.1)
+
+line_once : (r : RunState) (q : Standing) (a : PlainAnswer) (line : CallLine) (o : Option CallLine) (took gone : Tally) → o ≡ Some line → a ≡ answer r.state line.node (call_at r line) → r.state.requests_given + 1 < 2 ^ 64 → BestTells r.state q → Once r.state took gone →
+    Once (effect_of_line o r) (with_takings took (map (taking (request_in o r a)) (option_to_list (best_at (receives_in o r a) q)))) (with_gone gone (option_to_list (cancels_at o r a)))
+line_once r q a line o took gone is told small tells once =
+    subst (λ (p : Option CallLine). Once (effect_of_line p r) (with_takings took (map (taking (request_in p r a)) (option_to_list (best_at (receives_in p r a) q)))) (with_gone gone (option_to_list (cancels_at p r a)))) (sym is)
+    (subst (λ (b : PlainAnswer). CallOnce r.state (effect r.state line.node (call_at r line)) line.node (call_at r line) b q took gone) (sym told)
+    (call_once r.state line.node (call_at r line) q took gone small tells once))
+
+entry_once : (lines : List CallLine) (d : ℕ) (r : RunState) (q : Standing) (e : PlainEntry) (took gone : Tally) → Allowed lines r e → FewGiven lines r → BestTells r.state q → Once r.state took gone →
+    Once (after lines r e).state (with_takings took (takings_in lines d r q e)) (with_gone gone (cancelled_in lines r e))
+entry_once lines d r q (turned visits) took gone allowed few tells once =
+    once_same (after_turn r.state visits) (after_turn r.state visits) _ _ gone _ refl refl (λ n. refl) (λ n. omega arith) (turn_once d r.state visits took gone allowed.1.allowed once)
+entry_once lines d r q (put peer frame) took gone allowed few tells once = once_same r.state r.state took _ gone _ refl refl (λ n. omega arith) (λ n. omega arith) once
+entry_once lines d r q (called k a) took gone allowed few tells once = line_once r q a allowed.0 (next_line lines r) took gone allowed.1 allowed.3 (few_small lines r allowed.0 allowed.1 few) tells once
+
+-- ---- a run
+
+abbrev pub AllTell : List CallLine → ℕ → RunState → Standing → List PlainEntry → Type 0
+AllTell lines d r q [] = Unit {0}
+AllTell lines d r q (e ∷ es) = BestTells r.state q × AllTell lines d (after lines r e) (standing_after lines d r q e) es
+
+gone_two : (n : ℕ) (gone : Tally) (xs ys : List ℕ) → with_gone gone (xs ++ ys) n ≡ with_gone (with_gone gone xs) ys n
+gone_two n gone xs ys = omega (arith, count-append (λ m. m == n) xs ys)
+
+pub run_once : (lines : List CallLine) (d : ℕ) (r : RunState) (q : Standing) (es : List PlainEntry) (took gone : Tally) → AllAllowed lines r es → AllTell lines d r q es → FewGiven lines r → Once r.state took gone →
+    Once (after_all lines r es).state (with_takings took (takings_along lines d r q es)) (with_gone gone (cancelled_along lines r es))
+run_once lines d r q [] took gone allowed tell few once = once_same r.state r.state took _ gone _ refl refl (λ n. omega arith) (λ n. omega arith) once
+run_once lines d r q (e ∷ es) took gone allowed tell few once =
+    let now = entry_once lines d r q e took gone allowed.0 few tell.0 once in
+    let next = run_once lines d (after lines r e) (standing_after lines d r q e) es (with_takings took (takings_in lines d r q e)) (with_gone gone (cancelled_in lines r e)) allowed.1 tell.1 (few_entry lines r e allowed.0 few) now in
+    once_same (after_all lines r (e ∷ es)).state (after_all lines r (e ∷ es)).state _ _ _ _ refl refl
+    (λ n. takings_two n took (takings_in lines d r q e) (takings_along lines d (after lines r e) (standing_after lines d r q e) es))
+    (λ n. gone_two n gone (cancelled_in lines r e) (cancelled_along lines (after lines r e) es)) next

@@ -1,0 +1,14 @@
+-- Calls as a domain knows them: requests are named by their places among those that stand, and no label is left.
+-- Source: docs/PROFILE.md, "Calls".
+use Rattle.std.specs.Prelude.{ℕ, List, Option}
+use Rattle.mc_base.specs.declared.name.EndName.{EndName}
+
+-- the port at which a call is made comes first; a request that does not stand is none
+pub data DomainCall : Type 0 where
+  create_at : ℕ → DomainCall
+  send_from : ℕ → EndName → ℕ → List ℕ → DomainCall
+  receive_at : ℕ → ℕ → DomainCall
+  request_at : ℕ → ℕ → DomainCall
+  available_at : ℕ → DomainCall
+  test_of : Option ℕ → DomainCall
+  cancel_of : Option ℕ → DomainCall
