@@ -5,6 +5,7 @@ use std::test::Fail;
 use std::thread::Threads;
 
 mod frame;
+mod payloads;
 
 /// Two endpoints and one message.
 const MESSAGE: &[u8] =
