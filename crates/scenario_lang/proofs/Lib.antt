@@ -1,4 +1,5 @@
 mod Options
+mod ToldLemmas
 mod WordLemmas
 mod LineLemmas
 mod TextLemmas

@@ -1,6 +1,6 @@
 -- What follows where a chain of readers gives a value.
 use Rattle.std.proofs.Common.{◌≡◌, Bool, true, false, Option, Some, None, refl, ap, subst, ℕ, List, ◌⊎◌, inl, inr}
-use Rattle.std.specs.Prelude.{if◌then◌else◌}
+use Rattle.std.specs.Prelude.{◌&&◌, if◌then◌else◌}
 use Rattle.scenario_lang.specs.Words.{◌>>=◌}
 
 pub cases_bool : (t : Bool) → (t ≡ true) ⊎ (t ≡ false)
@@ -36,3 +36,7 @@ some_pair {A = A} {B = B} a c b d h =
 -- a fact of what was read, where it is told by another name
 pub carried : {A : Type 0} (P : A → List ℕ → Type 0) (x y : A) (r s : List ℕ) → ◌≡◌ {A = Option (A × List ℕ)} (Some (x, r)) (Some (y, s)) → P x r → P y s
 carried P x y r s h all = let e = some_pair x y r s h in subst (λ z. P z s) e.0 (subst (P x) e.1 all)
+
+pub both_hold : (a b : Bool) → (a && b) ≡ true → (a ≡ true) × (b ≡ true)
+both_hold true b h = (refl, h)
+both_hold false b h = absurd cc

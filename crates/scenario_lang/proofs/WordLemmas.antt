@@ -1,13 +1,15 @@
 -- The words of a file: what is spelled is read, and what is read is spelled so.
-use Rattle.std.proofs.Common.{◌≡◌, ◌≢◌, ℕ, zero, suc, ◌+◌, ◌-◌, ◌*◌, ◌/◌, ◌%◌, ◌^◌, ◌<◌, ◌≤◌, true, false, List, [], ◌∷◌, ◌++◌, length, Option, Some, None, refl, sym, ap, ◌∙◌, append_assoc, arith, inl, inr, lit<, subst}
+use Rattle.std.proofs.Common.{◌≡◌, ◌≢◌, ℕ, zero, suc, ◌+◌, ◌-◌, ◌*◌, ◌/◌, ◌%◌, ◌^◌, ◌<◌, ◌≤◌, true, false, List, [], ◌∷◌, ◌++◌, length, Option, Some, None, refl, sym, ap, ◌∙◌, append_assoc, arith, inl, inr, lit<, subst, length-append}
 use Rattle.std.proofs.lemmas.Bool.{cases_lt}
 use Rattle.std.proofs.lemmas.Bool.Decides.{nat_tests}
 use Rattle.std.specs.Prelude.{decimal, nat_le, nat_lt, ◌==◌, ◌&&◌, if◌then◌else◌}
-use Rattle.std.specs.List.{flat_map, AllByRecursion}
+use Rattle.std.specs.List.{flat_map, list_all, AllByRecursion}
+use Rattle.std.proofs.lemmas.List.{append-nil}
 use Rattle.std.proofs.lemmas.Fmt.{decimal_by_steps, decimal_digit, decimal_step}
 use Rattle.mc_base.specs.Text.{hex_digit, hex_byte, hex_text}
-use Rattle.scenario_lang.specs.Words.{◌>>=◌, after_word, is_digit, digits_at, number_at, unless_zero, positive_at, hex_value, byte_value, pairs_at, within_limit, bytes_at}
-use Rattle.scenario_lang.proofs.Options.{cases_bool, cases_option, bind_some, if_some, some_is, some_pair}
+use Rattle.board_model.specs.Grammar.{is_letter_byte, is_label_byte, IsLabel}
+use Rattle.scenario_lang.specs.Words.{◌>>=◌, after_word, is_digit, digits_at, number_at, unless_zero, positive_at, hex_value, byte_value, pairs_at, within_limit, bytes_at, tail_at, label_at}
+use Rattle.scenario_lang.proofs.Options.{cases_bool, cases_option, bind_some, if_some, both_hold, some_is, some_pair}
 
 -- ---- fixed words
 
@@ -332,3 +334,82 @@ bytes_at-spelled (c ∷ cs) bs rest h = elim (cases_bool (c == 45)) [
         few = omega (arith, ap (λ (xs : List ℕ). length xs) e0);
       }
 ]
+
+-- a number begins with a byte that is no sign
+pub record IsNoSign (ds : List ℕ) : Type 0 where
+  pub first : ℕ
+  pub others : List ℕ
+  pub front : ds ≡ first ∷ others
+  pub no_sign : (61 == first) ≡ false
+
+pub decimal-no_sign : (n : ℕ) → n < 2 ^ 64 → IsNoSign (decimal n)
+decimal-no_sign n small =
+    let s = decimal_starts n small in
+    let high : s.first ≤ 57 = s.high in
+    record { first = s.first; others = s.others; front = s.front; no_sign = grind (arith, nat_tests) }
+
+-- ---- labels
+
+tail_at-text : (front bs : List ℕ) (c : ℕ) (rest : List ℕ) → list_all is_label_byte bs ≡ true → length front + length bs ≤ 16 → is_label_byte c ≡ false → tail_at front (bs ++ c ∷ rest) ≡ Some (front ++ bs, c ∷ rest)
+tail_at-text front [] c rest all few other = rw other (ap (λ (ds : List ℕ). Some (ds, c ∷ rest)) (sym (append-nil front)))
+tail_at-text front (b ∷ bs) c rest all few other =
+    let k = both_hold (is_label_byte b) (list_all is_label_byte bs) all in
+    let room : nat_lt (length front) 16 ≡ true = grind arith in
+    let more : tail_at (front ++ b ∷ []) (bs ++ c ∷ rest) ≡ Some ((front ++ b ∷ []) ++ bs, c ∷ rest) = tail_at-text (front ++ b ∷ []) bs c rest k.1 (omega (arith, length-append front (b ∷ []))) other in
+    rw (k.0, room) (more ∙ ap (λ (ds : List ℕ). Some (ds, c ∷ rest)) (append_assoc front (b ∷ []) bs))
+
+-- a label before a byte that no label has
+pub label_at-text : (l : List ℕ) (c : ℕ) (rest : List ℕ) → IsLabel l → is_label_byte c ≡ false → label_at (l ++ c ∷ rest) ≡ Some (l, c ∷ rest)
+label_at-text [] c rest h other = absurd h
+label_at-text (b ∷ bs) c rest h other =
+    let letter : is_letter_byte b ≡ true = h.0 in
+    rw letter (tail_at-text (b ∷ []) bs c rest h.2 (omega (arith, h.1)) other)
+
+record IsTail (front text l rest : List ℕ) : Type 0 where
+  pub added : List ℕ
+  pub whole : l ≡ front ++ added
+  pub spelled : text ≡ added ++ rest
+  pub all : list_all is_label_byte added ≡ true
+  pub few : length l ≤ 16
+
+-- a label that was read, and the rest
+abbrev some_label : List ℕ × List ℕ → Option (List ℕ × List ℕ)
+some_label read = Some read
+
+no_tail : (front text l rest : List ℕ) → length front ≤ 16 → some_label (front, text) ≡ some_label (l, rest) → IsTail front text l rest
+no_tail front text l rest fits h =
+    let e = some_pair front l text rest h in
+    record { added = []; whole = sym e.0 ∙ sym (append-nil front); spelled = e.1; all = refl; few = omega (arith, fits, ap (λ (ds : List ℕ). length ds) e.0) }
+
+tail_at-spelled : (front text l rest : List ℕ) → length front ≤ 16 → tail_at front text ≡ Some (l, rest) → IsTail front text l rest
+tail_at-spelled front [] l rest fits h = no_tail front [] l rest fits h
+tail_at-spelled front (b ∷ bs) l rest fits h = elim (cases_bool (is_label_byte b)) [
+  | inl here ↦
+      let step : (if nat_lt (length front) 16 then tail_at (front ++ b ∷ []) bs else None) ≡ Some (l, rest) = rw here at h in
+      let k = if_some (nat_lt (length front) 16) (tail_at (front ++ b ∷ []) bs) (l, rest) step in
+      let tested : nat_lt (length front) 16 ≡ true = k.0 in
+      let room : length front < 16 = grind (arith, nat_tests) in
+      let r = tail_at-spelled (front ++ b ∷ []) bs l rest (omega (arith, room, length-append front (b ∷ []))) k.1 in
+      record {
+        added = b ∷ r.added;
+        whole = r.whole ∙ append_assoc front (b ∷ []) r.added;
+        spelled = ap (λ (ds : List ℕ). b ∷ ds) r.spelled;
+        all = rw (here, r.all) refl;
+        few = r.few;
+      }
+  | inr other ↦
+      let stop : some_label (front, b ∷ bs) ≡ some_label (l, rest) = rw other at h in
+      no_tail front (b ∷ bs) l rest fits stop
+]
+
+pub record IsLabelled (text l rest : List ℕ) : Type 0 where
+  pub spelled : text ≡ l ++ rest
+  pub lawful : IsLabel l
+
+pub label_at-spelled : (text l rest : List ℕ) → label_at text ≡ Some (l, rest) → IsLabelled text l rest
+label_at-spelled [] l rest h = absurd cc
+label_at-spelled (b ∷ bs) l rest h =
+    let k = if_some (is_letter_byte b) (tail_at (b ∷ []) bs) (l, rest) h in
+    let r = tail_at-spelled (b ∷ []) bs l rest (omega arith) k.1 in
+    let few : length r.added ≤ 15 = omega (arith, r.few, ap (λ (ds : List ℕ). length ds) r.whole) in
+    rw r.whole (record { spelled = ap (λ (ds : List ℕ). b ∷ ds) r.spelled; lawful = (k.0, few, r.all) })

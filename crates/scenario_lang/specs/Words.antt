@@ -1,8 +1,9 @@
 -- The words of a scenario file, each read from the front of the bytes: what it says, and the rest, or None where the bytes
 -- do not begin with such a word.
 -- Source: docs/FORMATS.md, "Scenario files": numbers are decimal without leading zeros. Bytes are hexadecimal in lower
--- case, 9,000 at most, or a dash for none.
-use Rattle.std.specs.Prelude.{◌≡◌, ℕ, ◌+◌, ◌-◌, ◌*◌, Bool, ◌&&◌, List, [], ◌∷◌, length, Option, None, Some, Result, Ok, Err, nat_le, ◌==◌, if◌then◌else◌}
+-- case, 9,000 at most, or a dash for none. A label is a letter a to z, and then up to 15 of a to z, digits and _.
+use Rattle.std.specs.Prelude.{◌≡◌, ℕ, ◌+◌, ◌-◌, ◌*◌, Bool, ◌&&◌, List, [], ◌∷◌, ◌++◌, length, Option, None, Some, Result, Ok, Err, nat_le, nat_lt, ◌==◌, if◌then◌else◌}
+use Rattle.board_model.specs.Grammar.{is_letter_byte, is_label_byte}
 use Rattle.scenario_lang.specs.declared.fault.LineFault.{LineFault}
 use Rattle.scenario_lang.specs.declared.fault.LineFault.TheVariants.{Refused, NoMemory}
 
@@ -73,3 +74,12 @@ within_limit read = if nat_le 1 (length read.0) && nat_le (length read.0) 9000 t
 abbrev pub bytes_at : List ℕ → Option (List ℕ × List ℕ)
 bytes_at [] = None
 bytes_at (b ∷ bs) = if b == 45 then Some ([], bs) else within_limit (pairs_at (b ∷ bs))
+
+-- the label that was begun, with the bytes that follow it, as long as it has 16 at most
+abbrev pub tail_at : List ℕ → List ℕ → Option (List ℕ × List ℕ)
+tail_at front [] = Some (front, [])
+tail_at front (b ∷ bs) = if is_label_byte b then (if nat_lt (length front) 16 then tail_at (front ++ b ∷ []) bs else None) else Some (front, b ∷ bs)
+
+abbrev pub label_at : List ℕ → Option (List ℕ × List ℕ)
+label_at [] = None
+label_at (b ∷ bs) = if is_letter_byte b then tail_at (b ∷ []) bs else None

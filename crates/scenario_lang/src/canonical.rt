@@ -4,6 +4,8 @@ ghost use Rattle.std.specs.Prelude.{◌≡◌, ◌++◌, ◌∷◌, [], codes, d
 ghost use Rattle.std.specs.List.{flat_map};
 ghost use Rattle.mc_base.specs.Text.{hex_text};
 ghost use Rattle.outer_io.specs.Puts.{Puts};
+ghost use Rattle.board_model.specs.Scenario.{label_in};
+ghost use Rattle.scenario_lang.specs.Lines.{label_front};
 ghost use Rattle.board_model.specs.Grammar.{canonical, domain_text, link_text, call_text, call_words, caller_text, name_text, spaced, line_of};
 
 use board_model::{Call, CallLine, DomainLine, LinkLine, Scenario};
@@ -72,6 +74,7 @@ fn put_call_line<K: Sink>(out: &mut Writer<'_, K>, line: &CallLine)
 {
     put_caller(out, line.domain, line.node);
     out.put(b" ");
+    put_label(out, line);
     put_call(out, &line.call);
     out.put(b"\n");
 }
@@ -82,6 +85,16 @@ fn put_caller<K: Sink>(out: &mut Writer<'_, K>, domain: u8, node: u8)
     out.put_number(domain as u64);
     out.put(b".");
     out.put_number(node as u64);
+}
+
+/// Puts the label of a line, where it has one, and the sign after it.
+fn put_label<K: Sink>(out: &mut Writer<'_, K>, line: &CallLine)
+    ensures { Puts K.Sink out.old out.new (label_front (label_in line.now)) }
+{
+    if let Some(label) = &line.label {
+        out.put(label.as_slice());
+        out.put(b" = ");
+    }
 }
 
 fn put_call<K: Sink>(out: &mut Writer<'_, K>, call: &Call)
@@ -96,6 +109,10 @@ fn put_call<K: Sink>(out: &mut Writer<'_, K>, call: &Call)
             bytes,
         } => put_send(out, *port, *to, *priority, bytes.as_slice()),
         Call::MsgRecv { port, max } => put_receive(out, *port, *max),
+        Call::MsgRecvI { port, max } => put_request(out, *port, *max),
+        Call::MsgAvailable { port } => put_available(out, *port),
+        Call::Test { label } => put_test(out, label.as_slice()),
+        Call::Cancel { label } => put_cancel(out, label.as_slice()),
     }
 }
 
@@ -142,4 +159,34 @@ fn put_receive<K: Sink>(out: &mut Writer<'_, K>, port: u16, max: u32)
     out.put_number(port as u64);
     out.put(b" ");
     out.put_number(max as u64);
+}
+
+fn put_request<K: Sink>(out: &mut Writer<'_, K>, port: u16, max: u32)
+    ensures { Puts K.Sink out.old out.new (spaced (codes "msg_recv_i" ∷ decimal port ∷ decimal max ∷ [])) }
+{
+    out.put(b"msg_recv_i ");
+    out.put_number(port as u64);
+    out.put(b" ");
+    out.put_number(max as u64);
+}
+
+fn put_available<K: Sink>(out: &mut Writer<'_, K>, port: u16)
+    ensures { Puts K.Sink out.old out.new (spaced (codes "msg_available" ∷ decimal port ∷ [])) }
+{
+    out.put(b"msg_available ");
+    out.put_number(port as u64);
+}
+
+fn put_test<K: Sink>(out: &mut Writer<'_, K>, label: &[u8])
+    ensures { Puts K.Sink out.old out.new (spaced (codes "test" ∷ label.now ∷ [])) }
+{
+    out.put(b"test ");
+    out.put(label);
+}
+
+fn put_cancel<K: Sink>(out: &mut Writer<'_, K>, label: &[u8])
+    ensures { Puts K.Sink out.old out.new (spaced (codes "cancel" ∷ label.now ∷ [])) }
+{
+    out.put(b"cancel ");
+    out.put(label);
 }

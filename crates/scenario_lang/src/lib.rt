@@ -8,6 +8,7 @@
 mod canonical;
 mod fault;
 mod reading;
+mod told;
 mod words;
 mod writing;
 

@@ -7,17 +7,21 @@ ghost use Rattle.board_model.specs.Grammar.{IsScenario};
 ghost use Rattle.scenario_lang.specs.declared.fault.LineFault.TheVariants.{Refused as refused};
 ghost use Rattle.scenario_lang.specs.declared.fault.LineReason.TheVariants.{Unbuilt as unbuilt};
 ghost use Rattle.scenario_lang.specs.Words.{Gives};
-ghost use Rattle.scenario_lang.specs.Lines.{domain_at, name_at, create_at, send_at, receive_at, call_at, own_at, line_at, AreLines};
+ghost use Rattle.scenario_lang.specs.Lines.{domain_at, name_at, create_at, send_at, receive_at, request_at, available_at, test_at, cancel_at, query_at, call_at, named_at, labelled_at, plain_at, labelled_call_at, own_at, line_at, AreLines};
 ghost use Rattle.scenario_lang.specs.Refused.{OnRefused, OnStopped, IfRefused};
 
 use crate::fault::{LineFault, LineReason, ScenarioFault};
-use crate::words::{bytes, number, positive, skip};
-use board_model::{Call, CallLine, DomainLine, Scenario, Seq};
+use crate::told::tell_in_order;
+use crate::words::{bytes, label, number, positive, skip};
+use board_model::{Call, CallLine, DomainLine, Label, Scenario, Seq};
 use mc_base::{EndName, Priority};
 use std::alloc::Global;
 
+/// The most bytes of a message that a receive asks for.
+const MOST_ASKED: u32 = 9000;
+
 /// How many bytes the shortest line of a call has, with its newline.
-const SHORTEST_LINE: usize = 13;
+const SHORTEST_LINE: usize = 11;
 
 #[tactic(auto, unfolding(crate::specs::Lines::domain_at))]
 fn domain_line(text: &[u8]) -> Result<(DomainLine, &[u8]), LineFault>
@@ -77,9 +81,11 @@ fn send(alloc: Global, text: &[u8]) -> Result<(Call, &[u8]), LineFault>
     let (port, rest) = number(65_535, text)?;
     let rest = skip(b" ", rest)?;
     let (to, rest) = name(rest)?;
-    let rest = skip(b" 1 ", rest)?;
+    let rest = skip(b" ", rest)?;
+    let (priority, rest) = number(3, rest)?;
+    let rest = skip(b" ", rest)?;
     let (content, rest) = bytes(alloc, rest)?;
-    let priority = Priority::new(1).unwrap();
+    let priority = Priority::new(priority as u8).unwrap();
     Ok((
         Call::MsgSend {
             port: port as u16,
@@ -98,7 +104,7 @@ fn receive(text: &[u8]) -> Result<(Call, &[u8]), LineFault>
 {
     let (port, rest) = number(65_535, text)?;
     let rest = skip(b" ", rest)?;
-    let (max, rest) = number(9000, rest)?;
+    let (max, rest) = number(MOST_ASKED, rest)?;
     Ok((
         Call::MsgRecv {
             port: port as u16,
@@ -106,6 +112,66 @@ fn receive(text: &[u8]) -> Result<(Call, &[u8]), LineFault>
         },
         rest,
     ))
+}
+
+#[tactic(auto, unfolding(crate::specs::Lines::request_at))]
+fn request(text: &[u8]) -> Result<(Call, &[u8]), LineFault>
+    ensures read { Gives (λ x. (x.0, x.1.now)) result (request_at text.now) }
+    ensures refused { IfErr result (λ e. e ≡ refused unbuilt) }
+{
+    let (port, rest) = number(65_535, text)?;
+    let rest = skip(b" ", rest)?;
+    let (max, rest) = number(MOST_ASKED, rest)?;
+    Ok((
+        Call::MsgRecvI {
+            port: port as u16,
+            max,
+        },
+        rest,
+    ))
+}
+
+#[tactic(auto, unfolding(crate::specs::Lines::available_at))]
+fn available(text: &[u8]) -> Result<(Call, &[u8]), LineFault>
+    ensures read { Gives (λ x. (x.0, x.1.now)) result (available_at text.now) }
+    ensures refused { IfErr result (λ e. e ≡ refused unbuilt) }
+{
+    let (port, rest) = number(65_535, text)?;
+    Ok((Call::MsgAvailable { port: port as u16 }, rest))
+}
+
+#[tactic(auto, unfolding(crate::specs::Lines::test_at))]
+fn test(text: &[u8]) -> Result<(Call, &[u8]), LineFault>
+    ensures read { Gives (λ x. (x.0, x.1.now)) result (test_at text.now) }
+    ensures refused { IfErr result (λ e. e ≡ refused unbuilt) }
+{
+    let (label, rest) = label(text)?;
+    Ok((Call::Test { label }, rest))
+}
+
+#[tactic(auto, unfolding(crate::specs::Lines::cancel_at))]
+fn cancel(text: &[u8]) -> Result<(Call, &[u8]), LineFault>
+    ensures read { Gives (λ x. (x.0, x.1.now)) result (cancel_at text.now) }
+    ensures refused { IfErr result (λ e. e ≡ refused unbuilt) }
+{
+    let (label, rest) = label(text)?;
+    Ok((Call::Cancel { label }, rest))
+}
+
+fn query(text: &[u8]) -> Result<(Call, &[u8]), LineFault>
+    ensures read { Gives (λ x. (x.0, x.1.now)) result (query_at text.now) }
+    ensures refused { IfErr result (λ e. e ≡ refused unbuilt) }
+{
+    if let Ok(rest) = skip(b"msg_available ", text) {
+        return available(rest);
+    }
+    if let Ok(rest) = skip(b"test ", text) {
+        return test(rest);
+    }
+    if let Ok(rest) = skip(b"cancel ", text) {
+        return cancel(rest);
+    }
+    Err(LineFault::Refused(LineReason::Unbuilt))
 }
 
 #[tactic(auto, unfolding(crate::specs::Lines::call_at))]
@@ -121,7 +187,47 @@ fn call(alloc: Global, text: &[u8]) -> Result<(Call, &[u8]), LineFault>
     if let Ok(rest) = skip(b"msg_recv ", text) {
         return receive(rest);
     }
-    Err(LineFault::Refused(LineReason::Unbuilt))
+    query(text)
+}
+
+/// The label that a call is made under, and what follows the sign after it.
+#[tactic(auto, unfolding(crate::specs::Lines::named_at))]
+fn named(text: &[u8]) -> Result<(Label, &[u8]), LineFault>
+    ensures read { Gives (λ x. (x.0.items, x.1.now)) result (named_at text.now) }
+    ensures refused { IfErr result (λ e. e ≡ refused unbuilt) }
+{
+    let (label, rest) = label(text)?;
+    let rest = skip(b" = ", rest)?;
+    Ok((label, rest))
+}
+
+/// The call that is made under a label.
+#[tactic(auto, unfolding(crate::specs::Lines::labelled_at))]
+fn labelled(label: Label, text: &[u8]) -> Result<((Option<Label>, Call), &[u8]), LineFault>
+    ensures { Gives (λ x. (x.0, x.1.now)) result (labelled_at (label.items, text.now)) }
+{
+    let rest = skip(b"msg_recv_i ", text)?;
+    let (call, rest) = request(rest)?;
+    Ok(((Some(label), call), rest))
+}
+
+#[tactic(auto, unfolding(crate::specs::Lines::plain_at))]
+fn plain(alloc: Global, text: &[u8]) -> Result<((Option<Label>, Call), &[u8]), LineFault>
+    ensures { Gives (λ x. (x.0, x.1.now)) result (plain_at text.now) }
+{
+    let (call, rest) = call(alloc, text)?;
+    Ok(((None, call), rest))
+}
+
+/// A call, with its label where it has one.
+#[tactic(auto, unfolding(crate::specs::Lines::labelled_call_at))]
+fn labelled_call(alloc: Global, text: &[u8]) -> Result<((Option<Label>, Call), &[u8]), LineFault>
+    ensures { Gives (λ x. (x.0, x.1.now)) result (labelled_call_at text.now) }
+{
+    if let Ok((label, rest)) = named(text) {
+        return labelled(label, rest);
+    }
+    plain(alloc, text)
 }
 
 /// What follows the number of this domain.
@@ -145,13 +251,13 @@ fn call_line(alloc: Global, domain: u8, text: &[u8]) -> Result<(CallLine, &[u8])
     let rest = skip(b".", rest)?;
     let (node, rest) = number(15, rest)?;
     let rest = skip(b" ", rest)?;
-    let (call, rest) = call(alloc, rest)?;
+    let ((label, call), rest) = labelled_call(alloc, rest)?;
     let rest = skip(b"\n", rest)?;
     Ok((
         CallLine {
             domain,
             node: node as u8,
-            label: None,
+            label,
             tries: None,
             call,
         },
@@ -187,11 +293,13 @@ fn call_lines(alloc: Global, domain: u8, text: &[u8]) -> Result<Vec<CallLine>, L
 
 /// The board that a text tells.
 fn board(alloc: Global, text: &[u8]) -> Result<Scenario, LineFault>
+    requires { length text.now < 4_294_967_295 }
     ensures found { IfOk result (λ s. IsScenario text.now s) }
     ensures none { OnStopped result ((told : Told) → IsScenario text.now told → ⊥) }
 {
     let (domain, rest) = domain_line(text)?;
     let calls = call_lines(alloc, domain.domain, rest)?;
+    tell_in_order(alloc, &calls)?;
     let Ok(domains) = Vec::from_slice(alloc, &[domain]) else {
         return Err(LineFault::NoMemory);
     };
@@ -202,8 +310,10 @@ fn board(alloc: Global, text: &[u8]) -> Result<Scenario, LineFault>
     })
 }
 
-/// Reads a scenario file of the small grammar: one domain line, and lines of the calls `create`, `msg_send` with priority
-/// 1 and `msg_recv` by nodes of that domain, each spelled as the canonical text has it and ended by a newline.
+/// Reads a scenario file of the small grammar: one domain line, and lines of the calls `create`, `msg_send`, `msg_recv`,
+/// `msg_recv_i`, `msg_available`, `test` and `cancel` by nodes of that domain, each spelled as the canonical text has it and
+/// ended by a newline. A label stands before each `msg_recv_i` and before no other call. It is told once, and in a line
+/// above those that use it.
 ///
 /// Any other text is refused at line 1 as `Unbuilt`. Want of memory may come at any time. The text has fewer than
 /// 4,294,967,295 bytes, so that its lines can be numbered in a `u32`.

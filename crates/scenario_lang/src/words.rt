@@ -1,11 +1,13 @@
-//! The words of a scenario file: fixed words, numbers and bytes, each read from the front of a text.
+//! The words of a scenario file: fixed words, numbers, bytes and labels, each read from the front of a text.
 
 ghost use Rattle.std.specs.Prelude.{◌≡◌, ◌≤◌, ◌<◌, Some, IfSome, IfOk, IfErr, option_map};
 ghost use Rattle.scenario_lang.specs.declared.fault.LineFault.TheVariants.{Refused as refused};
 ghost use Rattle.scenario_lang.specs.declared.fault.LineReason.TheVariants.{Unbuilt as unbuilt};
-ghost use Rattle.scenario_lang.specs.Words.{Gives, after_word, digits_at, number_at, positive_at, hex_value, byte_value, pairs_at, within_limit, bytes_at};
+ghost use Rattle.board_model.specs.Grammar.{is_label_byte as is_of_label};
+ghost use Rattle.scenario_lang.specs.Words.{Gives, after_word, digits_at, number_at, positive_at, hex_value, byte_value, pairs_at, within_limit, bytes_at, label_at};
 
 use crate::fault::{LineFault, LineReason};
+use board_model::Label;
 use std::alloc::Global;
 
 /// The most bytes that a message of a scenario file has.
@@ -133,4 +135,34 @@ fn some_bytes(alloc: Global, text: &[u8]) -> Result<(Vec<u8>, &[u8]), LineFault>
         return Err(LineFault::Refused(LineReason::Unbuilt));
     }
     Ok((bytes, rest))
+}
+
+/// Whether a label may have this byte after its first.
+fn is_label_byte(byte: u8) -> bool
+    ensures { result ≡ is_of_label byte }
+{
+    matches!(byte, b'a'..=b'z' | b'0'..=b'9' | b'_')
+}
+
+/// A label, which is as long as it can be, and what follows it.
+pub fn label(text: &[u8]) -> Result<(Label, &[u8]), LineFault>
+    ensures read { Gives (λ x. (x.0.items, x.1.now)) result (label_at text.now) }
+    ensures refused { IfErr result (λ e. e ≡ refused unbuilt) }
+{
+    let [first @ b'a'..=b'z', after_first @ ..] = text else {
+        return Err(LineFault::Refused(LineReason::Unbuilt));
+    };
+    let mut label = Label::new();
+    label.push(*first);
+    let mut rest = after_first;
+    while let [byte, after @ ..] = rest {
+        if !is_label_byte(*byte) {
+            break;
+        }
+        if label.try_push(*byte).is_err() {
+            return Err(LineFault::Refused(LineReason::Unbuilt));
+        }
+        rest = after;
+    }
+    Ok((label, rest))
 }
