@@ -1,25 +1,28 @@
 -- The numbers of the outcome are those of the serial run.
 use Rattle.std.proofs.lemmas.Bool.{eq-eqb}
 use Rattle.std.specs.Prelude.{filter, ◌==◌, Option, None, Some, IsNone, IsSome}
-use Rattle.std.specs.List.{AllByRecursion}
-use Rattle.std.proofs.Common.{◌≡◌, Bool, cond, ap₂, ℕ, ◌+◌, ◌-◌, ◌≤◌, List, [], ◌∷◌, ◌++◌, length, map, count_by, eqb, get_or, refl, sym, ap, ◌∙◌, subst, arith, length-append}
+use Rattle.std.proofs.Common.{◌≡◌, Bool, cond, ap₂, ℕ, ◌+◌, ◌-◌, ◌≤◌, List, [], ◌∷◌, ◌++◌, length, map, count_by, get_or, refl, sym, ap, ◌∙◌, subst, arith, length-append}
 use Rattle.board_model.specs.declared.totals.Totals.{Totals}
 use Rattle.board_model.specs.declared.totals.LanePlaces.{LanePlaces}
 use Rattle.board_model.specs.declared.scenario.DomainLine.{DomainLine}
 use Rattle.board_model.specs.declared.scenario.Scenario.{Scenario}
 use Rattle.board_model.specs.Scenario.{script, lanes}
 use Rattle.board_model.specs.declared.scenario.CallLine.{CallLine}
-use Rattle.board_model.specs.Grammar.{IsLawful, IsLawfulLine}
+use Rattle.board_model.specs.Grammar.{IsLawful, AreLawfulLines, told_after}
 use Rattle.board_model.specs.Journal.{Line, joined, noted_all}
 use Rattle.board_model.specs.State.{queued_items, queued_from, lent_from}
 use Rattle.board_model.specs.Traffic.{put_to, taken_from}
-use Rattle.board_model.specs.Messages.{totals, accepted, messages_taken, messages_queued, messages_in_ring, dropped as messages_dropped}
-use Rattle.board_model.specs.Tallies.{is_put_line, is_take_line, is_drop_line, is_gives_line}
+use Rattle.board_model.specs.Totals.{totals}
+use Rattle.board_model.specs.Messages.{accepted, messages_queued, messages_in_ring, dropped as messages_dropped}
+use Rattle.board_model.specs.Takings.{messages_taken}
+use Rattle.board_model.specs.Tallies.{is_put_line, is_take_line, is_drop_line}
 use Rattle.board_model.specs.Places.{places_of}
-use Rattle.board_model.specs.Serial.{Alone, opened, entries_from, after_lines, serial}
+use Rattle.board_model.specs.Serial.{Alone, Running, opening_alone, opened, entries_from, after_lines, serial}
 use Rattle.board_model.proofs.SerialBoard.{serial_is_board_run, own_ring}
 use Rattle.board_model.proofs.SerialCounts.{serial_entries, serial_end, lawfully, lawful_lanes, serial_put_lines, serial_take_lines, serial_standing, serial_places, ring_of, serial_queued}
 use Rattle.board_model.proofs.MessageSends.{serial_tells}
+use Rattle.board_model.proofs.MessageTotals.{numbers_add}
+use Rattle.board_runner.specs.Held.{beginning}
 use Rattle.board_runner.specs.Outcome.{IsEnd}
 
 -- the one domain
@@ -29,7 +32,7 @@ same_domain ds d e p q = cc
 pub at_end : (s : Scenario) (h : IsLawful s) (a : Alone) (lines : List Line) → IsEnd s a lines → (a ≡ serial_end s h.domain) × (lines ≡ joined (serial_entries s h.domain))
 at_end s h a lines end =
     let same = same_domain s.domains end.domain h.domain end.one h.one_domain in (
-      end.state ∙ ap (λ (d : DomainLine). after_lines (opened d) (script s d.domain)) same,
+      end.state ∙ ap (λ (d : DomainLine). (after_lines (opened d) (script s d.domain)).alone) same,
       end.told ∙ ap (λ (d : DomainLine). joined (entries_from (opened d) 1 (script s d.domain))) same,
     )
 
@@ -43,8 +46,7 @@ pub record Frames (s : Scenario) (d : DomainLine) (a : Alone) (lines : List Line
   pub takes : count_by is_take_line lines ≡ length (taken_from d.domain (serial_entries s d))
   pub ring : length (put_to d.domain (serial_entries s d)) ≡ length (taken_from d.domain (serial_entries s d)) + length a.ring
   pub number : a.state.number ≡ d.domain
-  pub fits : length a.ring + queued_from d.domain a.state ≤ d.pool
-  pub unlent : lent_from d.domain a.state ≡ 0
+  pub fits : length a.ring + queued_from d.domain a.state + lent_from d.domain a.state ≤ d.pool
   pub small : d.pool ≤ 256
 
 pub frames : (s : Scenario) (h : IsLawful s) (a : Alone) (lines : List Line) → IsEnd s a lines → Frames s h.domain a lines
@@ -59,24 +61,42 @@ frames s h a lines end =
       ring = ap length (put_is s h) ∙ length-append (taken_from h.domain.domain (serial_entries s h.domain)) (serial_end s h.domain).ring;
       number = st.number;
       fits = omega (arith, st.places, st.own);
-      unlent = ap (λ is. count_by (λ i. eqb i.peer h.domain.domain) is) st.unlent;
       small = h.domain_lawful.pool_fits;
     }))
 
 -- ---- the totals and the places
 
-pub totals_are : (s : Scenario) (h : IsLawful s) (a : Alone) (lines : List Line) → IsEnd s a lines → (puts takes received dropped queued : ℕ)
-    → puts ≡ count_by is_put_line lines → takes ≡ count_by is_take_line lines → received ≡ count_by is_gives_line lines → dropped ≡ count_by is_drop_line lines → queued ≡ length (queued_items a.state)
-    → ◌≡◌ {A = Totals} (record { accepted = puts; taken = received; dropped = dropped; queued = queued; ring = puts - takes }) (totals s (serial s))
-totals_are s h a lines end puts takes received dropped queued e1 e2 e3 e4 e5 =
+-- the numbers of messages
+pub record Sums (s : Scenario) (puts takes dropped queued : ℕ) : Type 0 where
+  pub accepts : puts ≡ length (accepted (serial s))
+  pub drops_some : dropped ≡ length (messages_dropped (serial s))
+  pub queues : queued ≡ length (messages_queued s (serial s))
+  pub in_ring : puts - takes ≡ length (messages_in_ring s (serial s))
+  pub all : puts ≡ length (messages_taken s (serial s)) + dropped + queued + (puts - takes)
+
+pub sums : (s : Scenario) (h : IsLawful s) (a : Alone) (lines : List Line) → IsEnd s a lines → (puts takes dropped queued : ℕ)
+    → puts ≡ count_by is_put_line lines → takes ≡ count_by is_take_line lines → dropped ≡ count_by is_drop_line lines → queued ≡ length (queued_items a.state) → Sums s puts takes dropped queued
+sums s h a lines end puts takes dropped queued e1 e2 e3 e4 =
     let at = at_end s h a lines end in
-    let tells = serial_tells s h (serial_is_board_run s h).0 in
-    let a1 : puts ≡ length (accepted (serial s)) = e1 ∙ ap (count_by is_put_line) at.1 ∙ sym tells.accepts in
-    let a2 : received ≡ length (messages_taken s (serial s)) = e3 ∙ ap (count_by is_gives_line) at.1 ∙ sym tells.takes in
-    let a3 : dropped ≡ length (messages_dropped (serial s)) = e4 ∙ ap (count_by is_drop_line) at.1 ∙ sym tells.drops_some in
-    let a4 : queued ≡ length (messages_queued s (serial s)) = e5 ∙ ap (λ (x : Alone). length (queued_items x.state)) at.0 ∙ sym (serial_queued s h) in
-    let a5 : puts - takes ≡ length (messages_in_ring s (serial s)) =
+    let run = (serial_is_board_run s h).0 in
+    let tells = serial_tells s h run in
+    let accepts : puts ≡ length (accepted (serial s)) = e1 ∙ ap (count_by is_put_line) at.1 ∙ sym tells.accepts in
+    let drops_some : dropped ≡ length (messages_dropped (serial s)) = e3 ∙ ap (count_by is_drop_line) at.1 ∙ sym tells.drops_some in
+    let queues : queued ≡ length (messages_queued s (serial s)) = e4 ∙ ap (λ (x : Alone). length (queued_items x.state)) at.0 ∙ sym (serial_queued s h) in
+    let in_ring : puts - takes ≡ length (messages_in_ring s (serial s)) =
     ap (λ (n : ℕ). n - takes) e1 ∙ ap (λ (n : ℕ). count_by is_put_line lines - n) e2 ∙ ap (λ (ls : List Line). count_by is_put_line ls - count_by is_take_line ls) at.1 ∙ sym tells.in_ring in
+    let add = numbers_add s (serial s) h run in
+    record { accepts = accepts; drops_some = drops_some; queues = queues; in_ring = in_ring; all = omega (arith, accepts, drops_some, queues, in_ring, add) }
+
+pub totals_are : (s : Scenario) (puts takes dropped queued taken ring : ℕ) → Sums s puts takes dropped queued → ring ≡ puts - takes → taken ≡ puts - dropped - queued - ring
+    → ◌≡◌ {A = Totals} (record { accepted = puts; taken = taken; dropped = dropped; queued = queued; ring = ring }) (totals s (serial s))
+totals_are s puts takes dropped queued taken ring sum e1 e2 =
+    let all = sum.all in
+    let a1 = sum.accepts in
+    let a2 : taken ≡ length (messages_taken s (serial s)) = omega (arith, e1, e2, all) in
+    let a3 = sum.drops_some in
+    let a4 = sum.queues in
+    let a5 : ring ≡ length (messages_in_ring s (serial s)) = e1 ∙ sum.in_ring in
     cc
 
 first_domain : (ds : List DomainLine) (d none : DomainLine) → ds ≡ d ∷ [] → get_or ds 0 none ≡ d
@@ -104,19 +124,19 @@ places_are s h a lines end line ring queue lent e1 e2 e3 e4 =
     rw (e1, r, q, l) (ap (λ (p : LanePlaces). p ∷ []) (sym (serial_places s h)) ∙ sym (ap (map (places_of s (serial s))) (lawful_lanes s h)))
 
 -- every line of a lawful scenario is of its domain
-script_is : (d : ℕ) (calls : List CallLine) → AllByRecursion (IsLawfulLine d) calls → filter (λ c. c.domain == d) calls ≡ calls
-script_is d [] all = refl
-script_is d (c ∷ cs) all = ap₂ (λ (b : Bool) (ls : List CallLine). cond b (c ∷ ls) ls) (eq-eqb c.domain d all.0.told_domain) (script_is d cs all.1)
+script_is : (d : ℕ) (told : List (List ℕ)) (calls : List CallLine) → AreLawfulLines d told calls → filter (λ c. c.domain == d) calls ≡ calls
+script_is d told [] all = refl
+script_is d told (c ∷ cs) all = ap₂ (λ (b : Bool) (ls : List CallLine). cond b (c ∷ ls) ls) (eq-eqb c.domain d all.0.told_domain) (script_is d (told_after told c) cs all.1)
 
 -- the lines that were run from the opening on
-pub ran : (s : Scenario) (h : IsLawful s) (line : DomainLine) (a : Alone) (calls : List CallLine) (b : Alone) (lines lines' : List Line) → line ≡ h.domain → a ≡ opened line → calls ≡ s.calls → lines ≡ []
-    → b ≡ after_lines a calls → lines' ≡ noted_all lines (entries_from a 1 calls) → IsEnd s b lines'
+pub ran : (s : Scenario) (h : IsLawful s) (line : DomainLine) (a : Alone) (calls : List CallLine) (b : Alone) (lines lines' : List Line) → line ≡ h.domain → a ≡ opening_alone line.domain line.nodes line.pool → calls ≡ s.calls → lines ≡ []
+    → b ≡ (after_lines (beginning a) calls).alone → lines' ≡ noted_all lines (entries_from (beginning a) 1 calls) → IsEnd s b lines'
 ran s h line a calls b lines lines' at opens all empty state told =
-    let script_all : script s h.domain.domain ≡ calls = script_is h.domain.domain s.calls h.lines_lawful ∙ sym all in
-    let opening : a ≡ opened h.domain = opens ∙ ap opened at in
+    let script_all : script s h.domain.domain ≡ calls = script_is h.domain.domain [] s.calls h.lines_lawful ∙ sym all in
+    let opening : beginning a ≡ opened h.domain = ap beginning opens ∙ ap opened at in
     record {
       domain = h.domain;
       one = h.one_domain;
-      state = state ∙ ap (λ (x : Alone). after_lines x calls) opening ∙ sym (ap (after_lines (opened h.domain)) script_all);
-      told = told ∙ ap (λ (ls : List Line). noted_all ls (entries_from a 1 calls)) empty ∙ ap (λ (x : Alone). joined (entries_from x 1 calls)) opening ∙ sym (ap (λ (cs : List CallLine). joined (entries_from (opened h.domain) 1 cs)) script_all);
+      state = state ∙ ap (λ (x : Running). (after_lines x calls).alone) opening ∙ sym (ap (λ (cs : List CallLine). (after_lines (opened h.domain) cs).alone) script_all);
+      told = told ∙ ap (λ (ls : List Line). noted_all ls (entries_from (beginning a) 1 calls)) empty ∙ ap (λ (x : Running). joined (entries_from x 1 calls)) opening ∙ sym (ap (λ (cs : List CallLine). joined (entries_from (opened h.domain) 1 cs)) script_all);
     }

@@ -7,7 +7,7 @@ use Rattle.board_model.specs.Scenario.{script, lanes}
 use Rattle.board_model.specs.Journal.{Line, joined}
 use Rattle.board_model.specs.Serial.{Alone, opened, entries_from, after_lines}
 use Rattle.board_model.specs.Board.{DomainJournal}
-use Rattle.board_model.specs.Messages.{totals}
+use Rattle.board_model.specs.Totals.{totals}
 use Rattle.board_model.specs.Places.{places_of}
 use Rattle.board_model.specs.Report.{lines_of}
 use Rattle.domain_core.specs.Written.{Written}
@@ -27,5 +27,5 @@ pub record IsOutcome (s : Scenario) (o : Outcome) (js : List DomainJournal) : Ty
 pub record IsEnd (s : Scenario) (a : Alone) (lines : List Line) : Type 0 where
   pub domain : DomainLine
   pub one : s.domains ≡ domain ∷ []
-  pub state : a ≡ after_lines (opened domain) (script s domain.domain)
+  pub state : a ≡ (after_lines (opened domain) (script s domain.domain)).alone
   pub told : lines ≡ joined (entries_from (opened domain) 1 (script s domain.domain))

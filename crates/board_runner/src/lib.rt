@@ -4,7 +4,9 @@
 //! piece by piece and takes no memory.
 #![tactic(auto)]
 
+mod answers;
 mod counts;
+mod labels;
 mod line;
 mod numbers;
 mod outcome;

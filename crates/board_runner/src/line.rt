@@ -1,35 +1,67 @@
 //! The call of one line, and the note of its answer.
 
-ghost use Rattle.std.specs.Prelude.{◌≡◌, ◌≤◌, ◌<◌, ◌^◌, ◌++◌, ◌∷◌, [], OnOk, length};
-ghost use Rattle.board_model.specs.declared.scenario.Call.TheVariants.{Create, MsgSend, MsgRecv};
+ghost use Rattle.std.specs.Prelude.{◌≡◌, ◌<◌, ◌≤◌, ◌^◌, ◌++◌, ◌∷◌, [], IfOk, OnOk, length};
 ghost use Rattle.board_model.specs.Journal.{call_line};
 ghost use Rattle.domain_core.specs.Entry.{plain_answer, bytes_in_answer};
-ghost use Rattle.board_runner.specs.Lines.{RunsLine, AsksAtMost};
+ghost use Rattle.board_runner.specs.Held.{held};
+ghost use Rattle.board_runner.specs.Lines.{MakesCall, RunsLine, AsksAtMost, call_by};
 
+mod messages;
+mod requests;
+
+use crate::labels::{hold, id_of};
 use board_model::{Call, CallLine};
-use domain_core::{Answer, CALL_BYTES, CALL_ENTRIES, Domain, Entry, Journal};
-use mc_base::{EndName, Local, NoMemory, Priority};
+use domain_core::{Answer, Domain, Entry, Journal, Told};
+use mc_base::{Local, NoMemory, RequestId};
+use messages::{available, create, receive, send};
+use requests::{cancel, request, test};
+use std::collections::BTreeMap;
 
-/// Makes the call of a line and notes its answer. What a receive gives goes through `room`.
-pub fn run_line(
+/// The room that a call needs in the journal.
+const CALL_ENTRIES: u32 = 160;
+
+const CALL_BYTES: u32 = 67_584;
+
+/// Makes the call of a line and notes its answer. What is received goes through `room`. Where the call gives a request, its
+/// id is held for the label of the line.
+pub fn run_line<'a>(
     domain: &mut Domain,
+    ids: &mut BTreeMap<&'a [u8], RequestId>,
+    journal: &mut Journal,
+    number: u32,
+    line: &'a CallLine,
+    room: &mut [u8],
+) -> Result<(), NoMemory>
+    requires asks { AsksAtMost 9000 line.now.call }
+    requires room { length room.old ≡ 9000 }
+    ensures { OnOk result (RunsLine number line.now (held domain.old ids.old) (held domain.new ids.new) journal.old.lines journal.new.lines) }
+{
+    let given = make_call(domain, ids, journal, number, line, room)?;
+    hold(ids, line, given)
+}
+
+/// The request that the call gives, or `None`.
+fn make_call(
+    domain: &mut Domain,
+    ids: &BTreeMap<&[u8], RequestId>,
     journal: &mut Journal,
     number: u32,
     line: &CallLine,
     room: &mut [u8],
-) -> Result<(), NoMemory>
-    requires room { AsksAtMost (length room.old) line.now.call }
-    ensures { OnOk result (RunsLine number line.now.node line.now.call domain.old domain.new journal.old.lines journal.new.lines) }
+) -> Result<Option<RequestId>, NoMemory>
+    requires asks { AsksAtMost 9000 line.now.call }
+    requires room { length room.old ≡ 9000 }
+    ensures { IfOk result (λ given. MakesCall number line.now.node (call_by ids.now domain.old line.now.call) domain.old domain.new journal.old.lines journal.new.lines given) }
 {
     match &line.call {
-        Call::Create { port } => create(domain, journal, number, local(line.node, *port)),
+        Call::Create { port } => create(domain, journal, number, local(line, *port))?,
         Call::MsgSend {
             port,
             to,
             priority,
             bytes,
         } => {
-            let from = local(line.node, *port);
+            let from = local(line, *port);
             send(
                 domain,
                 journal,
@@ -38,72 +70,30 @@ pub fn run_line(
                 *to,
                 *priority,
                 bytes.as_slice(),
-            )
+            )?
         }
         Call::MsgRecv { port, max } => {
             let (out, _) = room.split_at_mut(*max as usize);
-            receive(domain, journal, number, local(line.node, *port), out)
+            receive(domain, journal, number, local(line, *port), out)?
         }
+        Call::MsgRecvI { port, max } => {
+            return request(domain, journal, number, local(line, *port), *max);
+        }
+        Call::MsgAvailable { port } => available(domain, journal, number, local(line, *port))?,
+        Call::Test { label } => test(domain, journal, number, id_of(ids, label), room)?,
+        Call::Cancel { label } => cancel(domain, journal, number, id_of(ids, label))?,
     }
+    Ok(None)
 }
 
-fn local(node: u8, port: u16) -> Local
-    ensures node { result.node ≡ node }
+/// The endpoint of a port at the line's node.
+fn local(line: &CallLine, port: u16) -> Local
+    ensures node { result.node ≡ line.now.node }
     ensures port { result.port ≡ port }
 {
-    Local { node, port }
-}
-
-fn create(
-    domain: &mut Domain,
-    journal: &mut Journal,
-    number: u32,
-    at: Local,
-) -> Result<(), NoMemory>
-    ensures { OnOk result (RunsLine number at.node (Create at.port) domain.old domain.new journal.old.lines journal.new.lines) }
-{
-    journal.reserve(CALL_ENTRIES, CALL_BYTES)?;
-    match domain.create(journal, at) {
-        Ok(address) => note_answer(journal, number, Answer::Number(address as u64)),
-        Err(word) => note_answer(journal, number, Answer::Refused(word)),
-    }
-}
-
-fn send(
-    domain: &mut Domain,
-    journal: &mut Journal,
-    number: u32,
-    from: Local,
-    to: EndName,
-    priority: Priority,
-    bytes: &[u8],
-) -> Result<(), NoMemory>
-    ensures { OnOk result (RunsLine number from.node (MsgSend from.port to priority bytes.now) domain.old domain.new journal.old.lines journal.new.lines) }
-{
-    journal.reserve(CALL_ENTRIES, CALL_BYTES)?;
-    match domain.msg_send(journal, from, to, priority, bytes) {
-        Ok(()) => note_answer(journal, number, Answer::Ok),
-        Err(word) => note_answer(journal, number, Answer::Refused(word)),
-    }
-}
-
-fn receive(
-    domain: &mut Domain,
-    journal: &mut Journal,
-    number: u32,
-    at: Local,
-    out: &mut [u8],
-) -> Result<(), NoMemory>
-    ensures { OnOk result (RunsLine number at.node (MsgRecv at.port (length out.old)) domain.old domain.new journal.old.lines journal.new.lines) }
-{
-    journal.reserve(CALL_ENTRIES, CALL_BYTES)?;
-    match domain.msg_recv(journal, at, out) {
-        Ok(got) => {
-            let (bytes, _) = out.split_at(got.given as usize);
-            let size = got.size;
-            note_answer(journal, number, Answer::Bytes { size, bytes })
-        }
-        Err(word) => note_answer(journal, number, Answer::Refused(word)),
+    Local {
+        node: line.node,
+        port,
     }
 }
 
@@ -122,7 +112,7 @@ fn bytes_of(answer: Answer<'_>) -> u32
     ensures { result ≡ bytes_in_answer answer.entry }
 {
     match answer {
-        Answer::Bytes { bytes, .. } => bytes.len() as u32,
+        Answer::Bytes { bytes, .. } | Answer::Done(Told::Bytes { bytes, .. }) => bytes.len() as u32,
         _ => 0,
     }
 }

@@ -3,7 +3,7 @@
 ghost use Rattle.std.specs.Prelude.{◌≡◌, ◌∷◌, [], IfOk, map};
 ghost use Rattle.board_model.specs.Scenario.{lanes};
 ghost use Rattle.board_model.specs.Grammar.{IsLawful};
-ghost use Rattle.board_model.specs.Messages.{totals};
+ghost use Rattle.board_model.specs.Totals.{totals};
 ghost use Rattle.board_model.specs.Places.{places_of as places_of_lane};
 ghost use Rattle.board_model.specs.Serial.{serial};
 ghost use Rattle.board_runner.specs.Outcome.{IsOutcome, IsEnd};
@@ -23,7 +23,7 @@ pub fn outcome_of(
     journal: Journal,
 ) -> Result<Outcome, NoMemory>
     requires lawful { IsLawful scenario.now }
-    requires end { IsEnd scenario.now domain.now journal.lines }
+    requires end { IsEnd scenario.now domain.now.alone journal.lines }
     ensures { IfOk result (λ o. IsOutcome scenario.now o (serial scenario.now)) }
 {
     let messages = messages_of(scenario, domain, &journal);
@@ -35,26 +35,29 @@ pub fn outcome_of(
     })
 }
 
-/// How many messages were accepted, taken and dropped, are queued and in the ring.
+/// How many messages were accepted, taken and dropped, are queued and in the ring. No message is lost, so those that were
+/// taken are the rest.
 fn messages_of(_scenario: &Scenario, domain: &Domain, journal: &Journal) -> Totals
     requires lawful { IsLawful _scenario.now }
-    requires end { IsEnd _scenario.now domain.now journal.now.lines }
+    requires end { IsEnd _scenario.now domain.now.alone journal.now.lines }
     ensures { result ≡ totals _scenario.now (serial _scenario.now) }
 {
     let counts = count(journal);
+    let queued = domain.messages_queued() as u64;
+    let ring = counts.puts - counts.takes;
     Totals {
         accepted: counts.puts,
-        taken: counts.received,
+        taken: counts.puts - counts.dropped - queued - ring,
         dropped: counts.dropped,
-        queued: domain.messages_queued() as u64,
-        ring: counts.puts - counts.takes,
+        queued,
+        ring,
     }
 }
 
 /// Where the buffers of the domain's lane to itself are. Those that are free are the rest.
 fn own_places(scenario: &Scenario, domain: &Domain, journal: &Journal) -> LanePlaces
     requires lawful { IsLawful scenario.now }
-    requires end { IsEnd scenario.now domain.now journal.now.lines }
+    requires end { IsEnd scenario.now domain.now.alone journal.now.lines }
     ensures { result ∷ [] ≡ map (places_of_lane scenario.now (serial scenario.now)) (lanes scenario.now) }
 {
     let line = scenario.domains.as_slice()[0];

@@ -4,12 +4,13 @@ ghost use Rattle.std.specs.Prelude.{◌≡◌, ◌++◌, ◌∷◌, [], codes, d
 ghost use Rattle.mc_base.specs.Text.{hex_text};
 ghost use Rattle.outer_io.specs.Puts.{Puts};
 ghost use Rattle.board_model.specs.Grammar.{spaced, line_of};
-ghost use Rattle.board_model.specs.Report.{line_text, answer_words, fate_text, refusal_text};
-ghost use Rattle.domain_core.specs.Entry.{line_of_entry, plain_answer};
+ghost use Rattle.board_model.specs.Journal.{brought};
+ghost use Rattle.board_model.specs.Report.{line_text, answer_words, result_words, reason_text, fate_text, refusal_text};
+ghost use Rattle.domain_core.specs.Entry.{line_of_entry, plain_answer, result_of_told};
 
-use crate::report::words::{fate_word, refusal_word};
-use domain_core::{Answer, Entry};
-use mc_base::Fate;
+use crate::report::words::{fate_word, reason_word, refusal_word};
+use domain_core::{Answer, Entry, Told};
+use mc_base::{Fate, Reason};
 use outer_io::{Sink, Writer};
 
 /// Puts the line of an entry.
@@ -86,7 +87,62 @@ fn put_answer<K: Sink>(out: &mut Writer<'_, K>, answer: Answer<'_>)
         Answer::Ok => out.put(b"ok"),
         Answer::Number(n) => put_ok_number(out, n),
         Answer::Bytes { size, bytes } => put_bytes(out, size, bytes),
+        Answer::Done(told) => put_done(out, told),
     }
+}
+
+/// How a request was complete.
+fn put_done<K: Sink>(out: &mut Writer<'_, K>, told: Told<'_>)
+    ensures { Puts K.Sink out.old out.new (spaced (codes "done" ∷ result_words (result_of_told told.entry))) }
+{
+    out.put(b"done ");
+    put_result(out, told);
+}
+
+fn put_result<K: Sink>(out: &mut Writer<'_, K>, told: Told<'_>)
+    ensures { Puts K.Sink out.old out.new (spaced (result_words (result_of_told told.entry))) }
+{
+    match told {
+        Told::Address(address) => out.put_number(address as u64),
+        Told::Accepted => out.put(b"accepted"),
+        Told::Rejected(reason) => put_rejected(out, reason),
+        Told::Bytes { size, bytes } => put_brought(out, size, bytes),
+        Told::Ended(word) => out.put(refusal_word(word)),
+    }
+}
+
+fn put_rejected<K: Sink>(out: &mut Writer<'_, K>, reason: Reason)
+    ensures { Puts K.Sink out.old out.new (spaced (codes "rejected" ∷ reason_text reason ∷ [])) }
+{
+    out.put(b"rejected ");
+    out.put(reason_word(reason));
+}
+
+/// A size and bytes: truncated where there are fewer bytes than the size.
+fn put_brought<K: Sink>(out: &mut Writer<'_, K>, size: u32, bytes: &[u8])
+    ensures { Puts K.Sink out.old out.new (spaced (result_words (brought size bytes.now))) }
+{
+    out.put(cut_word(size, bytes));
+    put_sized(out, size, bytes);
+}
+
+/// The word, with a blank, of bytes that are fewer than the size.
+fn cut_word(size: u32, bytes: &[u8]) -> &'static [u8]
+    ensures { result.now ≡ (if nat_lt (length bytes.now) size then codes "truncated " else []) }
+{
+    if bytes.len() < size as usize {
+        b"truncated "
+    } else {
+        b""
+    }
+}
+
+fn put_sized<K: Sink>(out: &mut Writer<'_, K>, size: u32, bytes: &[u8])
+    ensures { Puts K.Sink out.old out.new (spaced (decimal size ∷ hex_text bytes.now ∷ [])) }
+{
+    out.put_number(size as u64);
+    out.put(b" ");
+    out.put_hex(bytes);
 }
 
 fn put_ok_number<K: Sink>(out: &mut Writer<'_, K>, n: u64)
@@ -102,9 +158,7 @@ fn put_bytes<K: Sink>(out: &mut Writer<'_, K>, size: u32, bytes: &[u8])
 {
     out.put(bytes_word(size, bytes));
     out.put(b" ");
-    out.put_number(size as u64);
-    out.put(b" ");
-    out.put_hex(bytes);
+    put_sized(out, size, bytes);
 }
 
 fn bytes_word(size: u32, bytes: &[u8]) -> &'static [u8]

@@ -1,11 +1,11 @@
-//! The words of a report: of refusals, and of what became of frames.
+//! The words of a report: of refusals, of connections that were rejected, and of what became of frames.
 
 ghost use Rattle.std.specs.Prelude.{◌≡◌};
 ghost use Rattle.board_model.specs.Dealing.{fault_word as word_of_fault};
-ghost use Rattle.board_model.specs.Report.{refusal_text, fate_text};
+ghost use Rattle.board_model.specs.Report.{refusal_text, fate_text, reason_text};
 
 use domain_core::fault_fate;
-use mc_base::{Fate, Fault, Refusal};
+use mc_base::{Fate, Fault, Reason, Refusal};
 
 /// The word of a refusal.
 pub fn refusal_word(word: Refusal) -> &'static [u8]
@@ -41,6 +41,17 @@ pub fn refusal_word(word: Refusal) -> &'static [u8]
         Refusal::Timeout => b"timeout",
         Refusal::LinkInvalid => b"link_invalid",
         Refusal::RawSound => b"raw_sound",
+    }
+}
+
+/// Why a connection was rejected.
+pub fn reason_word(reason: Reason) -> &'static [u8]
+    ensures { result.now ≡ reason_text reason }
+{
+    match reason {
+        Reason::NoEndpoint => b"no_endpoint",
+        Reason::Connected => b"connected",
+        Reason::Busy => b"busy",
     }
 }
 

@@ -2,7 +2,7 @@ use Rattle.std.proofs.Common.{◌≡◌, Some, Option, ap, sym, ◌∙◌, arith
 use Rattle.std.specs.Prelude.{slice_get, option_map}
 use Rattle.domain_core.specs.Entry.{line_of_entry}
 use Rattle.domain_core.specs.declared.journal.entry.Entry.{Entry}
-use Rattle.board_model.specs.Tallies.{is_put_line, is_take_line, is_gives_line, is_drop_line}
+use Rattle.board_model.specs.Tallies.{is_put_line, is_take_line, is_drop_line}
 use Rattle.board_runner.proofs.CountLemmas.{one_more}
 use Rattle.board_runner.proofs.counts.count.Goals as goal
 
@@ -15,6 +15,5 @@ loop-at-preserved c =
     record {
       puts = omega (arith, one_more is_put_line lines at line here, c.with_entry-counts.ensures.puts, c.loop-at.invariant.puts);
       takes = omega (arith, one_more is_take_line lines at line here, c.with_entry-counts.ensures.takes, c.loop-at.invariant.takes);
-      received = omega (arith, one_more is_gives_line lines at line here, c.with_entry-counts.ensures.received, c.loop-at.invariant.received);
       dropped = omega (arith, one_more is_drop_line lines at line here, c.with_entry-counts.ensures.dropped, c.loop-at.invariant.dropped);
     }

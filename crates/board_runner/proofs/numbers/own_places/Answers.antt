@@ -31,16 +31,18 @@ overflow_sub-result-2 c =
     let f = frames _ c.requires.lawful _ _ c.requires.end in
     let line = line_is c.args.scenario.now.domains c.as_slice.result.now c.requires.lawful.domain c.as_slice.ensures c.requires.lawful.one_domain in
     let queue = rw c.unwrap-held.ensures at c.places.ensures.queue in
-    let at = ap (λ (d : DomainLine). queued_from d.domain c.args.domain.now.state) line in
+    let at = ap (λ (d : DomainLine). queued_from d.domain c.args.domain.now.alone.state) line in
     omega (arith, c.count-counts.ensures.puts, c.count-counts.ensures.takes, f.puts, f.takes, f.ring, f.fits, ap (λ (d : DomainLine). d.pool) line, queue, at)
 
 pub overflow_sub-result-3 : goal.overflow_sub-result-3
 overflow_sub-result-3 c =
     let f = frames _ c.requires.lawful _ _ c.requires.end in
     let line = line_is c.args.scenario.now.domains c.as_slice.result.now c.requires.lawful.domain c.as_slice.ensures c.requires.lawful.one_domain in
+    let queue = rw c.unwrap-held.ensures at c.places.ensures.queue in
     let lent = rw c.unwrap-held.ensures at c.places.ensures.lent in
-    let at = ap (λ (d : DomainLine). lent_from d.domain c.args.domain.now.state) line in
-    omega (arith, f.unlent, lent, at)
+    let queued_at = ap (λ (d : DomainLine). queued_from d.domain c.args.domain.now.alone.state) line in
+    let lent_at = ap (λ (d : DomainLine). lent_from d.domain c.args.domain.now.alone.state) line in
+    omega (arith, c.count-counts.ensures.puts, c.count-counts.ensures.takes, f.puts, f.takes, f.ring, f.fits, ap (λ (d : DomainLine). d.pool) line, queue, queued_at, lent, lent_at)
 
 pub returns : goal.returns
 returns c =
@@ -48,4 +50,4 @@ returns c =
     let queue = rw c.unwrap-held.ensures at c.places.ensures.queue in
     let lent = rw c.unwrap-held.ensures at c.places.ensures.lent in
     let n = c.count-counts.ensures in
-    places_are _ c.requires.lawful _ _ c.requires.end _ _ _ _ line (ap₂ (λ (x y : ℕ). x - y) n.puts n.takes) (queue ∙ ap (λ (d : DomainLine). queued_from d.domain c.args.domain.now.state) line) (lent ∙ ap (λ (d : DomainLine). lent_from d.domain c.args.domain.now.state) line)
+    places_are _ c.requires.lawful _ _ c.requires.end _ _ _ _ line (ap₂ (λ (x y : ℕ). x - y) n.puts n.takes) (queue ∙ ap (λ (d : DomainLine). queued_from d.domain c.args.domain.now.alone.state) line) (lent ∙ ap (λ (d : DomainLine). lent_from d.domain c.args.domain.now.alone.state) line)

@@ -4,4 +4,4 @@ use Rattle.board_runner.proofs.report.entry.put_bytes.Goals as goal
 pub returns : goal.returns
 returns g c =
     let word = rw c.bytes_word.ensures at c.put.ensures in
-    puts_then _ _ _ _ _ _ word (puts_then _ _ _ _ _ _ c.put-2.ensures (puts_then _ _ _ _ _ _ c.put_number.ensures (puts_then _ _ _ _ _ _ c.put-3.ensures c.put_hex.ensures)))
+    puts_then _ _ _ _ _ _ word (puts_then _ _ _ _ _ _ c.put-2.ensures c.put_sized.ensures)
