@@ -1,1 +1,3 @@
 pub mod Announcements
+pub mod NameLists
+pub mod NamePlaces

@@ -1,1 +1,4 @@
 pub mod Laws
+pub mod KnownNames
+pub mod NameLaws
+pub mod InKnownNames

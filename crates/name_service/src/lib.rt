@@ -1,19 +1,24 @@
 //! The name announcements of the RPMsg name service (`struct rpmsg_ns_msg` of Linux): read with their first fault, and
 //! written in their one spelling. `fault_of` tells the first fault of a whole frame, whatever its payload is to be.
+//! `KnownNames` holds the addresses that were learned of names.
 //!
-//! No call takes memory, and none panics. `mc_base` defines what an announcement is.
+//! No call takes memory but `KnownNames::new`, and none panics. `mc_base` defines what an announcement is.
 #![tactic(auto)]
 
 mod faults;
+mod known;
 mod laws;
 mod name;
 mod reading;
+mod threads;
 mod writing;
 
 pub use faults::fault_of;
-pub use laws::{announcements_read_back, no_payload_has_two_announcements};
+pub use known::KnownNames;
+pub use laws::{announcements_read_back, known_names_are_a_map, no_payload_has_two_announcements};
 pub use name::is_legal;
 pub use reading::read_ns;
+pub use threads::may_cross_threads;
 pub use writing::write_ns;
 
 #[cfg(test)]

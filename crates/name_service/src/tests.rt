@@ -1,3 +1,5 @@
+mod known_names;
+
 use super::*;
 use arrayvec::ArrayVec;
 use mc_base::{Fault, FrameFault, LetterFault, Ns, NsFault};
