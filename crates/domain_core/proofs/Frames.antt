@@ -1,10 +1,10 @@
 -- The table of what a domain does with a frame: which row a frame has.
 use Rattle.std.proofs.Common.{◌≡◌, ℕ, ◌+◌, ◌-◌, ◌<◌, ◌≤◌, Bool, true, false, cond, List, [], ◌∷◌, ◌++◌, length, Option, Some, None, refl, sym, ap, ◌∙◌, arith, take, drop, eqb}
-use Rattle.std.specs.Prelude.{option_map, is_some, not, ◌&&◌, ◌==◌, slice_index}
-use Rattle.std.proofs.lemmas.List.{append-nil, drop-take, drop-drop, length-take, length-drop}
+use Rattle.std.specs.Prelude.{option_map, position, is_some, not, ◌&&◌, ◌==◌, slice_index}
+use Rattle.std.proofs.lemmas.List.{append-nil, drop-take, drop-drop, get_or-drop, get_or-take, length-take, length-drop}
 use Rattle.mc_base.specs.FaultRow.{FaultRow, first, first_fault, widened}
 use Rattle.mc_base.specs.Fault.{fault, payload_faults}
-use Rattle.mc_base.specs.Frame.{frame_faults, payload_of, payload_length_of, destination_of, IsFrame}
+use Rattle.mc_base.specs.Frame.{frame_faults, source_of, payload_of, payload_length_of, destination_of, IsFrame}
 use Rattle.mc_base.specs.Letter.{spelling, plain_letter, IsLetter, msg}
 use Rattle.mc_base.specs.LetterFaults.{letter_faults}
 use Rattle.mc_base.specs.Announcement.{announcement_faults}
@@ -17,12 +17,16 @@ use Rattle.mc_base.specs.declared.fate.Fate.TheVariants as fate
 use Rattle.mc_base.specs.declared.letter.Letter.{Letter}
 use Rattle.mc_base.specs.declared.letter.Letter.TheVariants as letter
 use Rattle.std.specs.Borrow.{Bor}
-use Rattle.board_model.specs.Lists.{changed, changed_at}
-use Rattle.board_model.specs.State.{DomainState, Endpoint, Item, place_of_address}
-use Rattle.board_model.specs.Dealing.{Row, row, fault_row, first_row, row_for, left_by, fault_word, is_letter, item_of, queued_last, priority_in, content_in, keeps_buffer}
+use Rattle.board_model.specs.Lists.{changed}
+use Rattle.board_model.specs.State.{DomainState, Item, place_of_address, place_waiting_for}
+use Rattle.board_model.specs.Dealing.{Row, row, fault_row, first_row, row_for, left_by, fault_word, is_letter, item_of, queued_last, complete_with, priority_in, content_in, keeps_buffer}
 use Rattle.board_model.specs.Serial.{word_of}
-use Rattle.domain_core.specs.Table.{holding}
-use Rattle.domain_core.specs.Dealt.{IsReturned, IsQueued, message}
+use Rattle.mc_base.specs.declared.name.Local.{Local}
+use Rattle.mc_base.specs.declared.request.RequestId.{RequestId}
+use Rattle.request_set.specs.declared.ask.Ask.TheVariants.{Message}
+use Rattle.request_set.specs.Requests.{Requests, IsPending, is_id, request_of}
+use Rattle.domain_core.specs.Table.{Held, held_in, keeping}
+use Rattle.domain_core.specs.Dealt.{IsHanded, IsReturned, IsQueued, message, message_in}
 
 -- ---- first faults
 
@@ -60,43 +64,67 @@ faultless frame letter sound e =
 
 -- ---- the rows, by what they depend on
 
-abbrev pub row_by : DomainState → Option Fault → Bool → Option ℕ → Bool → Item → Option Row
-row_by s o letter place first_kind item =
-    first_row (fault_row s o ∷ row (letter && not (is_some place)) fate.NoEndpoint s ∷ row (letter && first_kind) fate.Queued (record s { endpoints = changed (queued_last item) place s.endpoints }) ∷ row letter fate.State s ∷ [])
+abbrev pub row_by : DomainState → Option Fault → Bool → Option ℕ → Bool → Option ℕ → Item → Option Row
+row_by s o letter place first_kind waiting item =
+    first_row (fault_row s o ∷ row (letter && not (is_some place)) fate.NoEndpoint s ∷ row ((letter && first_kind) && is_some waiting) fate.Handed (record s { requests = changed (complete_with item) waiting s.requests }) ∷ row (letter && first_kind) fate.Queued (record s { endpoints = changed (queued_last item) place s.endpoints }) ∷ row letter fate.State s ∷ [])
 
-pub row_by-faulty : (s : DomainState) (o : Option Fault) (f : Fault) (l : Bool) (p : Option ℕ) (k : Bool) (i : Item) → o ≡ Some f → row_by s o l p k i ≡ Some (row true (fault_word f) s)
-row_by-faulty s o f l p k i e = ap (λ (x : Option Fault). row_by s x l p k i) e
+pub row_is : (s : DomainState) (peer : ℕ) (frame : List ℕ) → row_for s peer frame ≡ row_by s (fault frame) (is_letter frame) (place_of_address s (destination_of frame)) (slice_index (payload_of frame) 2 == 1) (place_waiting_for s (destination_of frame)) (item_of peer frame)
+row_is s peer frame = refl
 
-pub row_by-nobody : (s : DomainState) (o : Option Fault) (l : Bool) (p : Option ℕ) (k : Bool) (i : Item) → o ≡ None → l ≡ true → p ≡ None → row_by s o l p k i ≡ Some (row true fate.NoEndpoint s)
-row_by-nobody s o l p k i e1 e2 e3 = ap (λ (x : Option Fault). row_by s x l p k i) e1 ∙ ap (λ (x : Bool). row_by s None x p k i) e2 ∙ ap (λ (x : Option ℕ). row_by s None true x k i) e3
+pub row_by-faulty : (s : DomainState) (o : Option Fault) (f : Fault) (l : Bool) (p : Option ℕ) (k : Bool) (w : Option ℕ) (i : Item) → o ≡ Some f → row_by s o l p k w i ≡ Some (row true (fault_word f) s)
+row_by-faulty s o f l p k w i e = ap (λ (x : Option Fault). row_by s x l p k w i) e
 
-pub row_by-message : (s : DomainState) (o : Option Fault) (l : Bool) (p : Option ℕ) (at : ℕ) (k : Bool) (i j : Item) → o ≡ None → l ≡ true → p ≡ Some at → k ≡ true → i ≡ j → row_by s o l p k i ≡ Some (row true fate.Queued (record s { endpoints = changed_at (queued_last j) at s.endpoints }))
-row_by-message s o l p at k i j e1 e2 e3 e4 e5 = ap (λ (x : Option Fault). row_by s x l p k i) e1 ∙ ap (λ (x : Bool). row_by s None x p k i) e2 ∙ ap (λ (x : Option ℕ). row_by s None true x k i) e3 ∙ ap (λ (x : Bool). row_by s None true (Some at) x i) e4 ∙ ap (λ (x : Item). row_by s None true (Some at) true x) e5
+pub row_by-nobody : (s : DomainState) (o : Option Fault) (l : Bool) (p : Option ℕ) (k : Bool) (w : Option ℕ) (i : Item) → o ≡ None → l ≡ true → p ≡ None → row_by s o l p k w i ≡ Some (row true fate.NoEndpoint s)
+row_by-nobody s o l p k w i e1 e2 e3 = ap (λ (x : Option Fault). row_by s x l p k w i) e1 ∙ ap (λ (x : Bool). row_by s None x p k w i) e2 ∙ ap (λ (x : Option ℕ). row_by s None true x k w i) e3
 
-pub row_by-other : (s : DomainState) (o : Option Fault) (l : Bool) (p : Option ℕ) (at : ℕ) (k : Bool) (i : Item) → o ≡ None → l ≡ true → p ≡ Some at → k ≡ false → row_by s o l p k i ≡ Some (row true fate.State s)
-row_by-other s o l p at k i e1 e2 e3 e4 = ap (λ (x : Option Fault). row_by s x l p k i) e1 ∙ ap (λ (x : Bool). row_by s None x p k i) e2 ∙ ap (λ (x : Option ℕ). row_by s None true x k i) e3 ∙ ap (λ (x : Bool). row_by s None true (Some at) x i) e4
+-- a message to a live endpoint
+pub row_by-message : (s : DomainState) (o : Option Fault) (l : Bool) (p : Option ℕ) (at : ℕ) (k : Bool) (w v : Option ℕ) (i j : Item) → o ≡ None → l ≡ true → p ≡ Some at → k ≡ true → w ≡ v → i ≡ j → row_by s o l p k w i ≡ row_by s None true (Some at) true v j
+row_by-message s o l p at k w v i j e1 e2 e3 e4 e5 e6 =
+    ap (λ (x : Option Fault). row_by s x l p k w i) e1 ∙ ap (λ (x : Bool). row_by s None x p k w i) e2 ∙ ap (λ (x : Option ℕ). row_by s None true x k w i) e3 ∙ ap (λ (x : Bool). row_by s None true (Some at) x w i) e4 ∙ ap (λ (x : Option ℕ). row_by s None true (Some at) true x i) e5 ∙ ap (λ (x : Item). row_by s None true (Some at) true v x) e6
+
+pub row_by-other : (s : DomainState) (o : Option Fault) (l : Bool) (p : Option ℕ) (at : ℕ) (k : Bool) (w : Option ℕ) (i : Item) → o ≡ None → l ≡ true → p ≡ Some at → k ≡ false → row_by s o l p k w i ≡ Some (row true fate.State s)
+row_by-other s o l p at k w i e1 e2 e3 e4 = ap (λ (x : Option Fault). row_by s x l p k w i) e1 ∙ ap (λ (x : Bool). row_by s None x p k w i) e2 ∙ ap (λ (x : Option ℕ). row_by s None true x k w i) e3 ∙ ap (λ (x : Bool). row_by s None true (Some at) x w i) e4
 
 -- ---- verdicts
 
-pub returned : (peer : ℕ) (es : List Endpoint) (frame : List ℕ) (f : Fate) → row_for (holding es) peer frame ≡ Some (row true f (holding es)) → keeps_buffer f ≡ false → IsReturned peer es frame f
-returned peer es frame f e back = record { word = ap word_of e; leaves = ap (λ (r : Option Row). (left_by (holding es) r).endpoints) e; returned = back }
+pub returned : (peer : ℕ) (h : Held) (frame : List ℕ) (f : Fate) → row_for (keeping h) peer frame ≡ Some (row true f (keeping h)) → keeps_buffer f ≡ false → IsReturned peer h frame f
+returned peer h frame f e back = record { word = ap word_of e; leaves = ap (λ (r : Option Row). held_in (left_by (keeping h) r)) e; returned = back }
 
-pub returned-faulty : (peer : ℕ) (es : List Endpoint) (frame : List ℕ) (f : Fault) (w : Fate) → fault frame ≡ Some f → w ≡ fault_word f → keeps_buffer w ≡ false → IsReturned peer es frame w
-returned-faulty peer es frame f w e is back =
-    returned peer es frame w (row_by-faulty (holding es) (fault frame) f (is_letter frame) (place_of_address (holding es) (destination_of frame)) (slice_index (payload_of frame) 2 == 1) (item_of peer frame) e ∙ ap (λ (x : Fate). Some (row true x (holding es))) (sym is)) back
+pub returned-faulty : (peer : ℕ) (h : Held) (frame : List ℕ) (f : Fault) (w : Fate) → fault frame ≡ Some f → w ≡ fault_word f → keeps_buffer w ≡ false → IsReturned peer h frame w
+returned-faulty peer h frame f w e is back =
+    returned peer h frame w (row_by-faulty (keeping h) (fault frame) f (is_letter frame) (place_of_address (keeping h) (destination_of frame)) (slice_index (payload_of frame) 2 == 1) (place_waiting_for (keeping h) (destination_of frame)) (item_of peer frame) e ∙ ap (λ (x : Fate). Some (row true x (keeping h))) (sym is)) back
 
-pub returned-nobody : (peer : ℕ) (es : List Endpoint) (frame : List ℕ) → fault frame ≡ None → is_letter frame ≡ true → place_of_address (holding es) (destination_of frame) ≡ None → IsReturned peer es frame fate.NoEndpoint
-returned-nobody peer es frame e1 e2 e3 =
-    returned peer es frame fate.NoEndpoint (row_by-nobody (holding es) (fault frame) (is_letter frame) (place_of_address (holding es) (destination_of frame)) (slice_index (payload_of frame) 2 == 1) (item_of peer frame) e1 e2 e3) refl
+pub returned-nobody : (peer : ℕ) (h : Held) (frame : List ℕ) → fault frame ≡ None → is_letter frame ≡ true → place_of_address (keeping h) (destination_of frame) ≡ None → IsReturned peer h frame fate.NoEndpoint
+returned-nobody peer h frame e1 e2 e3 =
+    returned peer h frame fate.NoEndpoint (row_by-nobody (keeping h) (fault frame) (is_letter frame) (place_of_address (keeping h) (destination_of frame)) (slice_index (payload_of frame) 2 == 1) (place_waiting_for (keeping h) (destination_of frame)) (item_of peer frame) e1 e2 e3) refl
 
-pub returned-other : (peer : ℕ) (es : List Endpoint) (frame : List ℕ) (at : ℕ) → fault frame ≡ None → is_letter frame ≡ true → place_of_address (holding es) (destination_of frame) ≡ Some at → (slice_index (payload_of frame) 2 == 1) ≡ false → IsReturned peer es frame fate.State
-returned-other peer es frame at e1 e2 e3 e4 =
-    returned peer es frame fate.State (row_by-other (holding es) (fault frame) (is_letter frame) (place_of_address (holding es) (destination_of frame)) at (slice_index (payload_of frame) 2 == 1) (item_of peer frame) e1 e2 e3 e4) refl
+pub returned-other : (peer : ℕ) (h : Held) (frame : List ℕ) (at : ℕ) → fault frame ≡ None → is_letter frame ≡ true → place_of_address (keeping h) (destination_of frame) ≡ Some at → (slice_index (payload_of frame) 2 == 1) ≡ false → IsReturned peer h frame fate.State
+returned-other peer h frame at e1 e2 e3 e4 =
+    returned peer h frame fate.State (row_by-other (keeping h) (fault frame) (is_letter frame) (place_of_address (keeping h) (destination_of frame)) at (slice_index (payload_of frame) 2 == 1) (place_waiting_for (keeping h) (destination_of frame)) (item_of peer frame) e1 e2 e3 e4) refl
 
-pub queued : (peer : ℕ) (es : List Endpoint) (frame : List ℕ) (at source priority size : ℕ) → fault frame ≡ None → is_letter frame ≡ true → place_of_address (holding es) (destination_of frame) ≡ Some at → (slice_index (payload_of frame) 2 == 1) ≡ true → item_of peer frame ≡ message peer source priority (take size (drop 24 frame)) → at < length es → size ≤ 488 → 24 + size ≤ length frame → IsQueued peer es frame at source priority size
-queued peer es frame at source priority size e1 e2 e3 e4 e5 lt fits content =
-    let e = row_by-message (holding es) (fault frame) (is_letter frame) (place_of_address (holding es) (destination_of frame)) at (slice_index (payload_of frame) 2 == 1) (item_of peer frame) (message peer source priority (take size (drop 24 frame))) e1 e2 e3 e4 e5 in
-    record { word = ap word_of e; leaves = ap (λ (r : Option Row). (left_by (holding es) r).endpoints) e; within = lt; size_fits = fits; content_fits = content }
+-- a message of a frame without faults, to the live endpoint at a place
+pub record IsMessage (peer : ℕ) (h : Held) (frame : List ℕ) (at priority size : ℕ) : Type 0 where
+  pub row : (v : Option ℕ) → place_waiting_for (keeping h) (destination_of frame) ≡ v → row_for (keeping h) peer frame ≡ row_by (keeping h) None true (Some at) true v (message_in peer frame size)
+  pub says : slice_index frame 19 ≡ priority
+  pub size_fits : size ≤ 488
+  pub content_fits : 24 + size ≤ length frame
+
+pub queued : (peer : ℕ) (h : Held) (frame : List ℕ) (at priority size : ℕ) → IsMessage peer h frame at priority size → place_waiting_for (keeping h) (destination_of frame) ≡ None → at < length h.endpoints → IsQueued peer h frame at priority size
+queued peer h frame at priority size m none lt =
+    let e = m.row None none in
+    record { word = ap word_of e; leaves = ap (λ (r : Option Row). held_in (left_by (keeping h) r)) e; says = m.says; within = lt; size_fits = m.size_fits; content_fits = m.content_fits }
+
+pub handed : (peer : ℕ) (h : Held) (q : Requests) (frame : List ℕ) (at priority size place : ℕ) (id : RequestId) (max : ℕ) → IsMessage peer h frame at priority size → place_waiting_for (keeping h) (destination_of frame) ≡ Some place → position (is_id id) q.standing ≡ Some place → IsPending q id → ((l : Local) × (option_map (λ r. r.ask) (request_of q id) ≡ Some (Message l max))) → IsHanded peer h q frame id max size
+handed peer h q frame at priority size place id max m some there pending asks =
+    let e = m.row (Some place) some in
+    record {
+      word = ap word_of e;
+      leaves = ap (λ (r : Option Row). held_in (left_by (keeping h) r)) e ∙ ap (λ (o : Option ℕ). record h { requests = changed (complete_with (message_in peer frame size)) o h.requests }) (sym there);
+      pending = pending;
+      asks = asks;
+      size_fits = m.size_fits;
+      content_fits = m.content_fits;
+    }
 
 -- ---- letters
 
@@ -128,15 +156,27 @@ content-lies frame k len fits has =
     let n : payload_length_of frame ≡ 8 + k = omega (arith, length-take (payload_length_of frame) (drop 16 frame), length-drop 16 frame) in
     (ap (λ (m : ℕ). drop 8 (take m (drop 16 frame))) n ∙ drop-take 8 k (drop 16 frame) ∙ ap (λ (xs : List ℕ). take k xs) (drop-drop 8 16 frame), omega arith)
 
+-- a letter's argument is byte 19 of its frame
+argument-lies : (frame : List ℕ) → 4 ≤ payload_length_of frame → slice_index (payload_of frame) 3 ≡ slice_index frame 19
+argument-lies frame long = get_or-take (payload_length_of frame) (drop 16 frame) 3 0 (omega arith) ∙ get_or-drop 16 frame 3 0
+
 -- a message of a sound frame
-pub queued-message : (peer : ℕ) (es : List Endpoint) (frame : List ℕ) (at src dst priority : ℕ) (payload content : List ℕ) → IsFrame frame src dst payload → is_letter frame ≡ true → first_fault (frame_faults frame) ≡ None → first_fault (letter_faults payload) ≡ None → IsLetter payload (msg priority content) → Some at ≡ place_of_address (holding es) dst → at < length es → IsQueued peer es frame at src priority (length content)
-queued-message peer es frame at src dst priority payload content f letter sound faultless' l place lt =
+pub is-message : (peer : ℕ) (h : Held) (frame : List ℕ) (at src dst priority : ℕ) (payload content : List ℕ) → IsFrame frame src dst payload → is_letter frame ≡ true → first_fault (frame_faults frame) ≡ None → first_fault (letter_faults payload) ≡ None → IsLetter payload (msg priority content) → Some at ≡ place_of_address (keeping h) dst → IsMessage peer h frame at priority (length content)
+is-message peer h frame at src dst priority payload content f letter sound faultless' l place =
     let payload' = f.content in
     let len : length (payload_of frame) ≡ 8 + length content = omega (arith, ap length (sym payload'), ap length l.bytes) in
+    let n : payload_length_of frame ≡ 8 + length content = let fits = f.length_fits in let has = f.has_header in omega (arith, len, length-take (payload_length_of frame) (drop 16 frame), length-drop 16 frame) in
     let lies = content-lies frame (length content) len f.length_fits f.has_header in
     let priority' : priority_in frame ≡ priority = ap (λ (p : List ℕ). slice_index p 3) (sym payload' ∙ l.bytes) in
-    let item : item_of peer frame ≡ message peer src priority (take (length content) (drop 24 frame))
-    = ap (λ (s : ℕ). message peer s (priority_in frame) (content_in frame)) (sym f.source) ∙ ap (λ (p : ℕ). message peer src p (content_in frame)) priority' ∙ ap (λ (c : List ℕ). message peer src priority c) lies.0 in
+    let argument : slice_index (payload_of frame) 3 ≡ slice_index frame 19 = argument-lies frame (omega (arith, n)) in
+    let item : item_of peer frame ≡ message_in peer frame (length content)
+    = ap (λ (p : ℕ). message peer (source_of frame) p (content_in frame)) argument ∙ ap (λ (c : List ℕ). message peer (source_of frame) (slice_index frame 19) c) lies.0 in
     let kind : (slice_index (payload_of frame) 2 == 1) ≡ true = ap (λ (p : List ℕ). slice_index p 2 == 1) (sym payload') ∙ message-kind payload priority content l in
     let none = faultless frame letter sound (ap (λ (p : List ℕ). first_fault (letter_faults p)) (sym payload') ∙ faultless') in
-    queued peer es frame at src priority (length content) none letter (ap (λ (d : ℕ). place_of_address (holding es) d) (sym f.destination) ∙ sym place) kind item lt l.lawful.1 lies.1
+    let there = ap (λ (d : ℕ). place_of_address (keeping h) d) (sym f.destination) ∙ sym place in
+    record {
+      row = λ v e. row_by-message (keeping h) (fault frame) (is_letter frame) (place_of_address (keeping h) (destination_of frame)) at (slice_index (payload_of frame) 2 == 1) (place_waiting_for (keeping h) (destination_of frame)) v (item_of peer frame) (message_in peer frame (length content)) none letter there kind e item;
+      says = sym argument ∙ priority';
+      size_fits = l.lawful.1;
+      content_fits = lies.1;
+    }

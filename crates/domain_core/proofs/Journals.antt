@@ -3,13 +3,15 @@ use Rattle.std.proofs.Common.{◌≡◌, ℕ, ◌+◌, ◌-◌, ◌≤◌, List,
 use Rattle.std.specs.List.{AllByRecursion}
 use Rattle.std.specs.Prelude.{slice_get, slice_set}
 use Rattle.std.proofs.lemmas.List.{take-append-le, drop-append-le, length-drop, length-map, map-set, map_push}
-use Rattle.board_model.specs.Journal.{Line, put_line, take_line, call_line, gives, joinable, noted_idle, with_idle}
+use Rattle.board_model.specs.Journal.{Line, PlainResult, brought, put_line, take_line, call_line, completes, gives, joinable, noted_idle, with_idle}
 use Rattle.domain_core.specs.declared.journal.kept.Piece.{Piece}
+use Rattle.domain_core.specs.declared.journal.kept.KeptResult.{KeptResult}
+use Rattle.domain_core.specs.declared.journal.kept.KeptResult.TheVariants as result
 use Rattle.domain_core.specs.declared.journal.kept.Kept.{Kept}
 use Rattle.domain_core.specs.declared.journal.kept.Kept.TheVariants as kept
 use Rattle.domain_core.specs.declared.journal.entry.Entry.{Entry}
 use Rattle.domain_core.specs.declared.journal.entry.Entry.TheVariants as entry
-use Rattle.domain_core.specs.Kept.{AreWithin, IsWithin, kept_line, piece_of}
+use Rattle.domain_core.specs.Kept.{AreWithin, IsResultWithin, IsWithin, kept_line, kept_result, piece_of}
 use Rattle.domain_core.specs.Entry.{IsNotIdle, line_of_entry, noted_entry}
 
 -- ---- bytes behind the others
@@ -19,6 +21,13 @@ piece_of-append bytes more p within =
     let starts : p.start ≤ length bytes = omega arith in
     let fits : p.len ≤ length (drop p.start bytes) = omega (arith, length-drop p.start bytes) in
     ap (λ (xs : List ℕ). take p.len xs) (drop-append-le p.start bytes more starts) ∙ take-append-le p.len (drop p.start bytes) more fits
+
+kept_result-append : (bytes more : List ℕ) (k : KeptResult) → IsResultWithin (length bytes) k → kept_result (bytes ++ more) k ≡ kept_result bytes k
+kept_result-append bytes more (result.Address address) within = refl
+kept_result-append bytes more result.Accepted within = refl
+kept_result-append bytes more (result.Rejected reason) within = refl
+kept_result-append bytes more (result.Bytes size p) within = ap (λ (xs : List ℕ). brought size xs) (piece_of-append bytes more p within)
+kept_result-append bytes more (result.Ended word) within = refl
 
 kept_line-append : (bytes more : List ℕ) (k : Kept) → IsWithin (length bytes) k → kept_line (bytes ++ more) k ≡ kept_line bytes k
 kept_line-append bytes more kept.Turn within = refl
@@ -31,6 +40,7 @@ kept_line-append bytes more (kept.Refused k word) within = refl
 kept_line-append bytes more (kept.Agreed k) within = refl
 kept_line-append bytes more (kept.Number k n) within = refl
 kept_line-append bytes more (kept.Bytes k size p) within = ap (λ (xs : List ℕ). call_line k (gives size xs)) (piece_of-append bytes more p within)
+kept_line-append bytes more (kept.Done k how) within = ap (λ (r : PlainResult). call_line k (completes r)) (kept_result-append bytes more how within)
 
 lines-append : (bytes more : List ℕ) (ks : List Kept) → AreWithin bytes ks → map (kept_line (bytes ++ more)) ks ≡ map (kept_line bytes) ks
 lines-append bytes more [] within = refl
@@ -38,6 +48,13 @@ lines-append bytes more (k ∷ ks) within =
     let one = kept_line-append bytes more k within.0 in
     let rest = lines-append bytes more ks within.1 in
     cc
+
+IsResultWithin-more : (m n : ℕ) (k : KeptResult) → m ≤ n → IsResultWithin m k → IsResultWithin n k
+IsResultWithin-more m n (result.Address address) le within = tt
+IsResultWithin-more m n result.Accepted le within = tt
+IsResultWithin-more m n (result.Rejected reason) le within = tt
+IsResultWithin-more m n (result.Bytes size p) le within = omega arith
+IsResultWithin-more m n (result.Ended word) le within = tt
 
 IsWithin-more : (m n : ℕ) (k : Kept) → m ≤ n → IsWithin m k → IsWithin n k
 IsWithin-more m n kept.Turn le within = tt
@@ -50,6 +67,7 @@ IsWithin-more m n (kept.Refused k word) le within = tt
 IsWithin-more m n (kept.Agreed k) le within = tt
 IsWithin-more m n (kept.Number k count) le within = tt
 IsWithin-more m n (kept.Bytes k size p) le within = omega arith
+IsWithin-more m n (kept.Done k how) le within = IsResultWithin-more m n how le within
 
 pub AreWithin-push : (m n : ℕ) (ks : List Kept) (k : Kept) → m ≤ n → AllByRecursion (IsWithin m) ks → IsWithin n k → AllByRecursion (IsWithin n) (ks ++ k ∷ [])
 AreWithin-push m n [] k le within last = (last, tt)

@@ -1,60 +1,85 @@
--- What frames that are taken mean for the endpoints, for the own lane and for the journal.
+-- What frames that are taken mean for what the domain holds, for the own lane and for the journal.
 -- Source: docs/PROFILE.md, "What a domain does with a taken frame".
-use Rattle.std.specs.Prelude.{◌≡◌, ℕ, ◌+◌, ◌-◌, ◌≤◌, ◌<◌, false, List, ◌∷◌, [], ◌++◌, length, take, drop, map}
+use Rattle.std.specs.Prelude.{◌≡◌, ℕ, ◌+◌, ◌-◌, ◌≤◌, ◌<◌, false, List, ◌∷◌, [], ◌++◌, length, take, drop, map, position, slice_index, Some, option_map}
+use Rattle.mc_base.specs.Frame.{source_of}
 use Rattle.mc_base.specs.declared.fate.Fate.{Fate}
-use Rattle.mc_base.specs.declared.fate.Fate.TheVariants.{Queued}
-use Rattle.board_model.specs.Lists.{changed_at}
+use Rattle.mc_base.specs.declared.fate.Fate.TheVariants.{Queued, Handed}
+use Rattle.mc_base.specs.declared.name.Local.{Local}
+use Rattle.mc_base.specs.declared.request.RequestId.{RequestId}
+use Rattle.board_model.specs.Lists.{changed, changed_at}
 use Rattle.board_model.specs.Journal.{Line, Taken, taken, taken_line, take_line}
-use Rattle.board_model.specs.State.{Endpoint, Item}
-use Rattle.board_model.specs.Dealing.{row_for, after_frame, keeps_buffer, queued_last}
+use Rattle.board_model.specs.State.{Item}
+use Rattle.board_model.specs.Dealing.{row_for, after_frame, keeps_buffer, queued_last, complete_with}
 use Rattle.board_model.specs.Serial.{word_of, returned_at_once}
 use Rattle.domain_core.specs.declared.dealing.Verdict.{Verdict}
 use Rattle.domain_core.specs.declared.dealing.Verdict.TheVariants as verdict
-use Rattle.domain_core.specs.Table.{Table, holding, with_endpoints}
+use Rattle.buffer_book.specs.Book.{Book}
+use Rattle.request_set.specs.declared.ask.Ask.TheVariants.{Message}
+use Rattle.request_set.specs.Requests.{Requests, IsPending, is_id, request_of}
+use Rattle.domain_core.specs.Table.{Held, Table, keeping, held_in, with_held}
+use Rattle.domain_core.specs.Records.{Records}
+use Rattle.domain_core.specs.InBook.{held_by}
 use Rattle.domain_core.specs.Lane.{Lane, with_first_taken, with_returned}
 
--- the word of a frame from a peer, and the endpoints after it
-abbrev pub word_at : ℕ → List Endpoint → List ℕ → Fate
-word_at peer es frame = word_of (row_for (holding es) peer frame)
+-- the word of a frame from a peer, and what is held after it
+abbrev pub word_at : ℕ → Held → List ℕ → Fate
+word_at peer h frame = word_of (row_for (keeping h) peer frame)
 
-abbrev pub endpoints_after : ℕ → List Endpoint → List ℕ → List Endpoint
-endpoints_after peer es frame = (after_frame (holding es) peer frame).endpoints
+abbrev pub held_after : ℕ → Held → List ℕ → Held
+held_after peer h frame = held_in (after_frame (keeping h) peer frame)
 
--- a verdict: the buffer is given back, and no endpoint changes
-pub record IsReturned (peer : ℕ) (es : List Endpoint) (frame : List ℕ) (fate : Fate) : Type 0 where
-  pub word : word_at peer es frame ≡ fate
-  pub leaves : endpoints_after peer es frame ≡ es
+-- a verdict: the buffer is given back, and nothing that is held changes
+pub record IsReturned (peer : ℕ) (h : Held) (frame : List ℕ) (fate : Fate) : Type 0 where
+  pub word : word_at peer h frame ≡ fate
+  pub leaves : held_after peer h frame ≡ h
   pub returned : keeps_buffer fate ≡ false
 
 abbrev pub message : ℕ → ℕ → ℕ → List ℕ → Item
 message peer source priority content = record { peer = peer; source = source; priority = priority; content = content }
 
--- a verdict: the message, which lies behind 24 bytes of headers, is last in the queue at a place
-pub record IsQueued (peer : ℕ) (es : List Endpoint) (frame : List ℕ) (place source priority size : ℕ) : Type 0 where
-  pub word : word_at peer es frame ≡ Queued
-  pub leaves : endpoints_after peer es frame ≡ changed_at (queued_last (message peer source priority (take size (drop 24 frame)))) place es
-  pub within : place < length es
+-- the message of a frame whose content of this size lies behind 24 bytes of headers; byte 19 is the letter's argument
+abbrev pub message_in : ℕ → List ℕ → ℕ → Item
+message_in peer frame size = message peer (source_of frame) (slice_index frame 19) (take size (drop 24 frame))
+
+-- a verdict: the message is last in the queue at a place
+pub record IsQueued (peer : ℕ) (h : Held) (frame : List ℕ) (place priority size : ℕ) : Type 0 where
+  pub word : word_at peer h frame ≡ Queued
+  pub leaves : held_after peer h frame ≡ record h { endpoints = changed_at (queued_last (message_in peer frame size)) place h.endpoints }
+  pub says : slice_index frame 19 ≡ priority
+  pub within : place < length h.endpoints
   pub size_fits : size ≤ 488
   pub content_fits : 24 + size ≤ length frame
 
-abbrev pub IsVerdict : ℕ → List Endpoint → List ℕ → Verdict → Type 0
-IsVerdict peer es frame (verdict.Queued place source priority size) = IsQueued peer es frame place source priority size
-IsVerdict peer es frame (verdict.Returned fate) = IsReturned peer es frame fate
+-- a verdict: a pending receive of so many bytes at most is complete with the message
+pub record IsHanded (peer : ℕ) (h : Held) (q : Requests) (frame : List ℕ) (id : RequestId) (max size : ℕ) : Type 0 where
+  pub word : word_at peer h frame ≡ Handed
+  pub leaves : held_after peer h frame ≡ record h { requests = changed (complete_with (message_in peer frame size)) (position (is_id id) q.standing) h.requests }
+  pub pending : IsPending q id
+  pub asks : (at : Local) × (option_map (λ r. r.ask) (request_of q id) ≡ Some (Message at max))
+  pub size_fits : size ≤ 488
+  pub content_fits : 24 + size ≤ length frame
+
+-- the verdict on a frame, by the book, the endpoints and the requests
+abbrev pub IsVerdict : ℕ → Book → Records → Requests → List ℕ → Verdict → Type 0
+IsVerdict peer b r q frame (verdict.Queued place priority size) = IsQueued peer (held_by b r q) frame place priority size
+IsVerdict peer b r q frame (verdict.Handed id max size) = IsHanded peer (held_by b r q) q frame id max size
+IsVerdict peer b r q frame (verdict.Returned fate) = IsReturned peer (held_by b r q) frame fate
 
 abbrev pub fate_of : Verdict → Fate
-fate_of (verdict.Queued place source priority size) = Queued
+fate_of (verdict.Queued place priority size) = Queued
+fate_of (verdict.Handed id max size) = Handed
 fate_of (verdict.Returned fate) = fate
 
--- frames one after the other: with their words, and the endpoints after them
-abbrev pub taken_at : ℕ → List Endpoint → List (List ℕ) → List Taken
-taken_at peer es [] = []
-taken_at peer es (f ∷ fs) = taken f (word_at peer es f) ∷ taken_at peer (endpoints_after peer es f) fs
+-- frames one after the other: with their words, and what is held after them
+abbrev pub taken_at : ℕ → Held → List (List ℕ) → List Taken
+taken_at peer h [] = []
+taken_at peer h (f ∷ fs) = taken f (word_at peer h f) ∷ taken_at peer (held_after peer h f) fs
 
-abbrev pub endpoints_after_all : ℕ → List Endpoint → List (List ℕ) → List Endpoint
-endpoints_after_all peer es [] = es
-endpoints_after_all peer es (f ∷ fs) = endpoints_after_all peer (endpoints_after peer es f) fs
+abbrev pub held_after_all : ℕ → Held → List (List ℕ) → Held
+held_after_all peer h [] = h
+held_after_all peer h (f ∷ fs) = held_after_all peer (held_after peer h f) fs
 
--- the endpoints, the own lane and the lines of the journal, while frames are taken
+-- what is held, the own lane and the lines of the journal, while frames are taken
 pub record Scene : Type 0 where
   pub table : Table
   pub lane : Lane
@@ -67,12 +92,12 @@ scene table lane lines = record { table = table; lane = lane; lines = lines }
 pub record TakesFirst (peer : ℕ) (old new : Scene) : Type 0 where
   pub frame : List ℕ
   pub first : old.lane.ring ≡ frame ∷ new.lane.ring
-  pub table : new.table ≡ with_endpoints old.table (endpoints_after peer old.table.endpoints frame)
-  pub lane : new.lane ≡ with_returned (with_first_taken old.lane) (returned_at_once (taken frame (word_at peer old.table.endpoints frame) ∷ []))
-  pub told : new.lines ≡ old.lines ++ take_line peer frame (word_at peer old.table.endpoints frame) ∷ []
+  pub table : new.table ≡ with_held old.table (held_after peer old.table.held frame)
+  pub lane : new.lane ≡ with_returned (with_first_taken old.lane) (returned_at_once (taken frame (word_at peer old.table.held frame) ∷ []))
+  pub told : new.lines ≡ old.lines ++ take_line peer frame (word_at peer old.table.held frame) ∷ []
 
 -- so many frames were taken
 pub record Takes (peer : ℕ) (count : ℕ) (old new : Scene) : Type 0 where
-  pub table : new.table ≡ with_endpoints old.table (endpoints_after_all peer old.table.endpoints (take count old.lane.ring))
-  pub lane : new.lane ≡ record old.lane { ring = drop count old.lane.ring; returned = old.lane.returned + returned_at_once (taken_at peer old.table.endpoints (take count old.lane.ring)); shown = old.lane.shown - count }
-  pub told : new.lines ≡ old.lines ++ map (taken_line peer) (taken_at peer old.table.endpoints (take count old.lane.ring))
+  pub table : new.table ≡ with_held old.table (held_after_all peer old.table.held (take count old.lane.ring))
+  pub lane : new.lane ≡ record old.lane { ring = drop count old.lane.ring; returned = old.lane.returned + returned_at_once (taken_at peer old.table.held (take count old.lane.ring)); shown = old.lane.shown - count }
+  pub told : new.lines ≡ old.lines ++ map (taken_line peer) (taken_at peer old.table.held (take count old.lane.ring))

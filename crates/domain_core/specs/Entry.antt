@@ -1,17 +1,27 @@
 -- The line that an entry of the code is, and what noting it does.
 -- Source: docs/FORMATS.md, "Journal text".
 use Rattle.std.specs.Prelude.{◌≡◌, ℕ, List, [], ◌∷◌, ◌++◌, length}
-use Rattle.board_model.specs.Journal.{Line, PlainAnswer, idle_line, turn_line, back_line, put_line, see_line, take_line, call_line, refuses, agrees, tells, gives, noted_idle}
+use Rattle.board_model.specs.Journal.{Line, PlainResult, found_at, was_accepted, was_rejected, brought, ended_by, PlainAnswer, idle_line, turn_line, back_line, put_line, see_line, take_line, call_line, refuses, agrees, tells, gives, completes, noted_idle}
 use Rattle.domain_core.specs.declared.journal.entry.Answer.{Answer}
 use Rattle.domain_core.specs.declared.journal.entry.Answer.TheVariants as answer
+use Rattle.domain_core.specs.declared.journal.entry.Told.{Told}
+use Rattle.domain_core.specs.declared.journal.entry.Told.TheVariants as told
 use Rattle.domain_core.specs.declared.journal.entry.Entry.{Entry}
 use Rattle.domain_core.specs.declared.journal.entry.Entry.TheVariants as entry
+
+abbrev pub result_of_told : Told → PlainResult
+result_of_told (told.Address address) = found_at address
+result_of_told told.Accepted = was_accepted
+result_of_told (told.Rejected reason) = was_rejected reason
+result_of_told (told.Bytes size bytes) = brought size bytes.now
+result_of_told (told.Ended word) = ended_by word
 
 abbrev pub plain_answer : Answer → PlainAnswer
 plain_answer (answer.Refused word) = refuses word
 plain_answer answer.Ok = agrees
 plain_answer (answer.Number n) = tells n
 plain_answer (answer.Bytes size bytes) = gives size bytes.now
+plain_answer (answer.Done result) = completes (result_of_told result)
 
 abbrev pub line_of_entry : Entry → Line
 line_of_entry entry.Turn = turn_line
@@ -23,8 +33,13 @@ line_of_entry (entry.Idle n) = idle_line n
 line_of_entry (entry.Called k a) = call_line k (plain_answer a)
 
 -- how many bytes an entry carries
+abbrev pub bytes_in_told : Told → ℕ
+bytes_in_told (told.Bytes size bytes) = length bytes.now
+bytes_in_told other = 0
+
 abbrev pub bytes_in_answer : Answer → ℕ
 bytes_in_answer (answer.Bytes size bytes) = length bytes.now
+bytes_in_answer (answer.Done result) = bytes_in_told result
 bytes_in_answer other = 0
 
 abbrev pub bytes_in : Entry → ℕ

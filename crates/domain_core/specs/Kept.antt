@@ -2,13 +2,22 @@
 -- Source: the journal's own layout, of which nothing shows outside.
 use Rattle.std.specs.Prelude.{ℕ, ◌+◌, ◌≤◌, List, length, take, drop}
 use Rattle.std.specs.List.{AllByRecursion}
-use Rattle.board_model.specs.Journal.{Line, idle_line, turn_line, back_line, put_line, see_line, take_line, call_line, refuses, agrees, tells, gives}
+use Rattle.board_model.specs.Journal.{Line, PlainResult, found_at, was_accepted, was_rejected, brought, ended_by, idle_line, turn_line, back_line, put_line, see_line, take_line, call_line, refuses, agrees, tells, gives, completes}
 use Rattle.domain_core.specs.declared.journal.kept.Piece.{Piece}
+use Rattle.domain_core.specs.declared.journal.kept.KeptResult.{KeptResult}
+use Rattle.domain_core.specs.declared.journal.kept.KeptResult.TheVariants as result
 use Rattle.domain_core.specs.declared.journal.kept.Kept.{Kept}
 use Rattle.domain_core.specs.declared.journal.kept.Kept.TheVariants as kept
 
 abbrev pub piece_of : List ℕ → Piece → List ℕ
 piece_of bytes p = take p.len (drop p.start bytes)
+
+abbrev pub kept_result : List ℕ → KeptResult → PlainResult
+kept_result bytes (result.Address address) = found_at address
+kept_result bytes result.Accepted = was_accepted
+kept_result bytes (result.Rejected reason) = was_rejected reason
+kept_result bytes (result.Bytes size p) = brought size (piece_of bytes p)
+kept_result bytes (result.Ended word) = ended_by word
 
 abbrev pub kept_line : List ℕ → Kept → Line
 kept_line bytes kept.Turn = turn_line
@@ -21,12 +30,18 @@ kept_line bytes (kept.Refused k word) = call_line k (refuses word)
 kept_line bytes (kept.Agreed k) = call_line k agrees
 kept_line bytes (kept.Number k n) = call_line k (tells n)
 kept_line bytes (kept.Bytes k size p) = call_line k (gives size (piece_of bytes p))
+kept_line bytes (kept.Done k how) = call_line k (completes (kept_result bytes how))
 
 -- its piece lies within so many bytes
+abbrev pub IsResultWithin : ℕ → KeptResult → Type 0
+IsResultWithin n (result.Bytes size p) = p.start + p.len ≤ n
+IsResultWithin n other = Unit {0}
+
 abbrev pub IsWithin : ℕ → Kept → Type 0
 IsWithin n (kept.Put peer p) = p.start + p.len ≤ n
 IsWithin n (kept.Take peer p fate) = p.start + p.len ≤ n
 IsWithin n (kept.Bytes k size p) = p.start + p.len ≤ n
+IsWithin n (kept.Done k how) = IsResultWithin n how
 IsWithin n other = Unit {0}
 
 abbrev pub AreWithin : List ℕ → List Kept → Type 0

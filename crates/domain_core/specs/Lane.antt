@@ -1,6 +1,6 @@
 -- The lane from a domain to itself, which is its pool.
 -- Source: docs/PROFILE.md, "Lanes".
-use Rattle.std.specs.Prelude.{ℕ, ◌+◌, ◌-◌, true, ◌≡◌, List, [], ◌∷◌, ◌++◌, length, drop}
+use Rattle.std.specs.Prelude.{ℕ, ◌+◌, ◌-◌, true, ◌≡◌, List, [], ◌∷◌, ◌++◌, drop}
 use Rattle.std.specs.List.{AllByRecursion}
 use Rattle.board_model.specs.Dealing.{is_letter}
 
@@ -12,18 +12,6 @@ pub record Lane : Type 0 where
   pub ring : List (List ℕ)
   pub returned : ℕ
   pub shown : ℕ
-
--- every buffer is free
-abbrev pub opening_lane : ℕ → Lane
-opening_lane size = record { size = size; free = size; ring = []; returned = 0; shown = 0 }
-
--- a look at the buffers: all that were given back are free
-abbrev pub looked_back : Lane → Lane
-looked_back l = record l { free = l.free + l.returned; returned = 0 }
-
--- a look at the frames shows them all
-abbrev pub looked_ahead : Lane → Lane
-looked_ahead l = record l { shown = length l.ring }
 
 abbrev pub with_first_taken : Lane → Lane
 with_first_taken l = record l { ring = drop 1 l.ring; shown = l.shown - 1 }

@@ -2,10 +2,16 @@ pub mod Written
 pub mod Kept
 pub mod Entry
 pub mod Lane
+pub mod Pool
 pub mod InLane
 pub mod Table
+pub mod Records
 pub mod InTable
+pub mod InBook
+pub mod InRequests
+pub mod InPlaces
 pub mod Dealt
 pub mod Turned
+pub mod DomainView
 pub mod Alone
 pub mod Calls

@@ -1,45 +1,46 @@
--- The endpoints of a domain, as a table of them is seen.
+-- The endpoints and requests of a domain, as its parts see them.
 -- Source: docs/PROFILE.md, "A domain".
-use Rattle.std.specs.Prelude.{ℕ, ◌+◌, true, List, [], ◌∷◌, ◌++◌, None}
+use Rattle.std.specs.Prelude.{ℕ, List, []}
 use Rattle.std.specs.List.{flat_map}
-use Rattle.mc_base.specs.declared.name.Local.{Local}
 use Rattle.board_model.specs.Lists.{changed_at}
-use Rattle.board_model.specs.State.{DomainState, Endpoint, Item}
-use Rattle.board_model.specs.Dealing.{queued_last}
+use Rattle.board_model.specs.State.{DomainState, Endpoint, Item, Request}
 use Rattle.board_model.specs.Effect.{received}
 
--- the domain's number, its endpoints, how many were created, and how many items each queue has room for
+-- what a frame that is taken may change
+pub record Held : Type 0 where
+  pub endpoints : List Endpoint
+  pub requests : List Request
+
+-- the domain's number, what it holds, how many endpoints were created, how many items each queue has room for, and how many
+-- requests were given, modulo 2^64
 pub record Table : Type 0 where
   pub number : ℕ
-  pub endpoints : List Endpoint
+  pub held : Held
   pub given : ℕ
   pub room : ℕ
-
-abbrev pub opening_table : ℕ → ℕ → Table
-opening_table number room = record { number = number; endpoints = []; given = 0; room = room }
+  pub requests_given : ℕ
 
 -- a domain of which only the endpoints matter
 abbrev pub holding : List Endpoint → DomainState
 holding es = record { number = 0; nodes = 0; endpoints = es; peers = []; requests = []; lent = []; endpoints_given = 0; channels_given = 0; requests_given = 0; packets_lent = 0 }
 
+-- a domain of which only the endpoints and the requests matter
+abbrev pub keeping : Held → DomainState
+keeping h = record (holding h.endpoints) { requests = h.requests }
+
+abbrev pub held_in : DomainState → Held
+held_in s = record { endpoints = s.endpoints; requests = s.requests }
+
 -- the items in the queues
 abbrev pub items_in : List Endpoint → List Item
 items_in es = flat_map (λ e. e.queue) es
 
-abbrev pub endpoint : Local → ℕ → Endpoint
-endpoint at address = record { local = at; address = address; live = true; queue = []; channel = None }
-
--- one more endpoint
-abbrev pub with_endpoint : Table → Local → Table
-with_endpoint t at = record t { endpoints = t.endpoints ++ endpoint at (1024 + t.given) ∷ []; given = t.given + 1 }
-
--- an item more, last in the queue of the endpoint at a place
-abbrev pub with_item_at : Table → ℕ → Item → Table
-with_item_at t i item = record t { endpoints = changed_at (queued_last item) i t.endpoints }
+abbrev pub with_held : Table → Held → Table
+with_held t h = record t { held = h }
 
 -- the item that is received at a place is gone
 abbrev pub with_received_at : Table → ℕ → Table
-with_received_at t i = record t { endpoints = changed_at received i t.endpoints }
+with_received_at t i = with_held t (record t.held { endpoints = changed_at received i t.held.endpoints })
 
-abbrev pub with_endpoints : Table → List Endpoint → Table
-with_endpoints t es = record t { endpoints = es }
+abbrev pub with_requests : Table → List Request → Table
+with_requests t rs = with_held t (record t.held { requests = rs })

@@ -1,13 +1,17 @@
 //! What becomes of a frame that is taken.
 
-ghost use Rattle.std.specs.Prelude.{◌≡◌, ◌<◌, ◌+◌, true, length, option_to_list};
+ghost use Rattle.std.specs.Prelude.{◌≡◌, ◌<◌, ◌+◌, ℕ, true, length, option_to_list};
+ghost use Rattle.buffer_book.specs.Book.{Book};
 ghost use Rattle.board_model.specs.Dealing.{is_letter};
+ghost use Rattle.domain_core.specs.InRequests.{AreReceives};
 ghost use Rattle.domain_core.specs.Dealt.{IsVerdict, fate_of};
 
 use crate::endpoints::Endpoints;
 use crate::fates::{frame_fate, letter_fate};
+use crate::requests::oldest_receive;
 use bridge_frame::read_letter;
-use mc_base::{Fate, Letter, Priority};
+use mc_base::{Fate, Letter, Priority, RequestId};
+use request_set::RequestSet;
 use rpmsg_frame::decode;
 
 /// What is to be done with a frame.
@@ -16,8 +20,13 @@ pub enum Verdict {
     /// Its message is last in the queue of the endpoint at a place.
     Queued {
         place: usize,
-        source: u32,
         priority: Priority,
+        size: u32,
+    },
+    /// The pending receive of this id, which is given so many bytes at most, is complete with its message.
+    Handed {
+        id: RequestId,
+        max: u32,
         size: u32,
     },
     /// Its buffer is given back at once.
@@ -31,15 +40,18 @@ impl Verdict {
     {
         match *self {
             Verdict::Queued { .. } => Fate::Queued,
+            Verdict::Handed { .. } => Fate::Handed,
             Verdict::Returned(fate) => fate,
         }
     }
 }
 
-/// The verdict on a frame to an endpoint. The frame may have any bytes.
-pub fn judge(endpoints: &Endpoints, frame: &[u8]) -> Verdict
-    requires { is_letter frame.now ≡ true }
-    ensures { IsVerdict endpoints.now.number endpoints.now.endpoints frame.now result }
+/// The verdict on a frame to an endpoint. The frame may have any bytes. From whom it came, and what waits in queues, does
+/// not matter.
+pub fn judge(endpoints: &Endpoints, requests: &RequestSet, frame: &[u8]) -> Verdict
+    requires letter { is_letter frame.now ≡ true }
+    requires receives { AreReceives requests.now }
+    ensures { (peer : ℕ) (b : Book) → IsVerdict peer b endpoints.now requests.now frame.now result }
 {
     let frame = match decode(frame) {
         Ok(frame) => frame,
@@ -55,10 +67,13 @@ pub fn judge(endpoints: &Endpoints, frame: &[u8]) -> Verdict
     let Letter::Msg { priority, bytes } = letter else {
         return Verdict::Returned(Fate::State);
     };
-    Verdict::Queued {
-        place,
-        source: frame.src,
-        priority,
-        size: bytes.len() as u32,
+    let size = bytes.len() as u32;
+    match oldest_receive(requests, endpoints.local_at(place)) {
+        Some((id, max)) => Verdict::Handed { id, max, size },
+        None => Verdict::Queued {
+            place,
+            priority,
+            size,
+        },
     }
 }

@@ -1,21 +1,30 @@
 //! A domain, and its calls.
 
-ghost use Rattle.std.specs.Prelude.{◌≡◌, ◌≤◌, ◌<◌, ◌+◌, [], IfOk, IfSome, IsNone, OnErr, ◌↔◌, ◌≢◌, IsSome, length, drop, map};
-ghost use Rattle.board_model.specs.declared.scenario.Call.TheVariants.{Create, MsgSend, MsgRecv};
+ghost use Rattle.std.specs.Prelude.{◌≡◌, ◌≤◌, ◌<◌, ◌+◌, [], IfOk, IfSome, IsNone, OnErr, ◌↔◌, ◌≢◌, IsSome, None, length, drop, map, ◌++◌, option_to_list};
+ghost use Rattle.std.specs.List.{AllByRecursion};
+ghost use Rattle.board_model.specs.DomainCall.{create_at, send_from, receive_at, request_at, available_at, test_of, cancel_of};
 ghost use Rattle.board_model.specs.Journal.{noted, noted_all, turned};
 ghost use Rattle.board_model.specs.State.{lent_from, queued_from, queued_items};
 ghost use Rattle.board_model.specs.Turn.{IsTurn};
 ghost use Rattle.board_model.specs.Answer.{address_of, answer, puts};
 ghost use Rattle.board_model.specs.Serial.{opening_alone, own_turn, after_own_turn, after_own_call, put_entry};
 ghost use Rattle.domain_core.specs.Written.{call_entries, call_bytes};
-ghost use Rattle.domain_core.specs.Calls.{Calls, created, sent, received};
+ghost use Rattle.board_model.specs.Lists.{without};
+ghost use Rattle.mc_base.specs.declared.request.Got.{Got};
+ghost use Rattle.mc_base.specs.declared.request.Done.TheVariants.{Message};
+ghost use Rattle.request_set.specs.Requests.{no_key};
+ghost use Rattle.domain_core.specs.DomainView.{place_of_id};
+ghost use Rattle.domain_core.specs.Calls.{Calls, created, sent, received, requested, given, available, tested, cancelled, place_ended};
 
 use crate::endpoints::Endpoints;
 use crate::journal::{Entry, Journal};
 use crate::lane::OwnLane;
-use crate::messages::{fill, give};
+use crate::messages::{fill, give, give_at_most};
+use crate::requests::{end_receive, messages_handed};
 use crate::turn::make_turn;
-use mc_base::{EndName, Got, ITEM_SIZE, Local, NoMemory, Priority, Refusal};
+use buffer_book::BufferBook;
+use mc_base::{Done, EndName, Got, ITEM_SIZE, Local, NoMemory, Priority, Refusal, RequestId};
+use request_set::{Ask, Complete, RequestSet};
 use std::alloc::Global;
 use std::marker::Model;
 
@@ -35,24 +44,26 @@ pub struct Places {
 /// A domain alone over its own lane.
 ///
 /// Each call that takes a journal makes one turn first, notes it, and notes what it puts itself. It has the condition that
-/// there is room in the journal for `CALL_ENTRIES` entries of `CALL_BYTES` bytes together, and uses no more. Refusals are
-/// tested in the order told. A refused call changes nothing after its turn.
+/// there is room in the journal for `CALL_ENTRIES` entries of `CALL_BYTES` bytes together. Refusals are tested in the order
+/// told. A refused call changes nothing after its turn.
 #[derive(Debug, Drop)]
 pub struct Domain {
     number: u8,
     nodes: u8,
     endpoints: Endpoints,
+    book: BufferBook,
     lane: OwnLane,
+    requests: RequestSet,
 }
 
 impl Model for Domain {
-    ghost use Rattle.board_model.specs.Serial.{Alone};
+    ghost use Rattle.domain_core.specs.DomainView.{DomainView};
 
-    ghost Value = { Alone };
+    ghost Value = { DomainView };
 
-    ghost use Rattle.domain_core.specs.Alone.{alone_of, IsSound};
+    ghost use Rattle.domain_core.specs.Alone.{view_of, IsSound};
 
-    ghost view = { alone_of };
+    ghost view = { view_of };
 
     ghost invariant = { IsSound };
 }
@@ -66,13 +77,16 @@ impl Domain {
         requires nodes { nodes ≤ 16 }
         requires some_pool { 1 ≤ pool }
         requires pool { pool ≤ 256 }
-        ensures { IfOk result (λ d. d ≡ opening_alone number nodes pool) }
+        ensures alone { IfOk result (λ d. d.alone ≡ opening_alone number nodes pool) }
+        ensures ids { IfOk result (λ d. d.ids ≡ []) }
     {
         Ok(Domain {
             number,
             nodes,
             endpoints: Endpoints::open(alloc, number, pool)?,
+            book: BufferBook::new(alloc, &[(number, pool)])?,
             lane: OwnLane::open(alloc, pool)?,
+            requests: RequestSet::new(alloc)?,
         })
     }
 
@@ -83,7 +97,7 @@ impl Domain {
     pub fn create(&mut self, journal: &mut Journal, at: Local) -> Result<u32, Refusal>
         requires entry_room { call_entries ≤ journal.old.entry_room }
         requires byte_room { call_bytes ≤ journal.old.byte_room }
-        ensures { Calls at.node (Create at.port) self.old self.new journal.old journal.new (created result) }
+        ensures { Calls at.node (create_at at.port) self.old self.new journal.old.lines journal.new.lines (created result) None }
     {
         self.turn(journal);
         self.add_endpoint(at)
@@ -103,7 +117,7 @@ impl Domain {
     ) -> Result<(), Refusal>
         requires entry_room { call_entries ≤ journal.old.entry_room }
         requires byte_room { call_bytes ≤ journal.old.byte_room }
-        ensures { Calls from.node (MsgSend from.port to priority bytes.now) self.old self.new journal.old journal.new (sent result) }
+        ensures { Calls from.node (send_from from.port to priority bytes.now) self.old self.new journal.old.lines journal.new.lines (sent result) None }
     {
         self.turn(journal); // Buffers that came back are free from here on.
         self.put_message(journal, from, to, priority, bytes)
@@ -121,7 +135,7 @@ impl Domain {
     ) -> Result<Got, Refusal>
         requires entry_room { call_entries ≤ journal.old.entry_room }
         requires byte_room { call_bytes ≤ journal.old.byte_room }
-        ensures call { Calls at.node (MsgRecv at.port (length out.old)) self.old self.new journal.old journal.new (received result out.new) }
+        ensures call { Calls at.node (receive_at at.port (length out.old)) self.old self.new journal.old.lines journal.new.lines (received result out.new) None }
         ensures given { IfOk result (λ got. got.given ≤ length out.old) }
         ensures rest { IfOk result (λ got. drop got.given out.new ≡ drop got.given out.old) }
         ensures refused { OnErr result (out.new ≡ out.old) }
@@ -130,25 +144,89 @@ impl Domain {
         self.take_message(at, out)
     }
 
+    /// Begins a receive of a message, of which so many bytes are given at most. Where a message waits, the oldest of the best
+    /// priority is the request's at once; else the request waits for the next that comes.
+    ///
+    /// Refused with `EndpInvalid` where the endpoint is not live, and with `RequestLimit` where 64 requests stand.
+    pub fn msg_recv_i(
+        &mut self,
+        journal: &mut Journal,
+        at: Local,
+        max: u32,
+    ) -> Result<RequestId, Refusal>
+        requires entry_room { call_entries ≤ journal.old.entry_room }
+        requires byte_room { call_bytes ≤ journal.old.byte_room }
+        ensures { Calls at.node (request_at at.port max) self.old self.new journal.old.lines journal.new.lines (requested result) (given result) }
+    {
+        self.turn(journal);
+        self.begin_receive(at, max)
+    }
+
+    /// How many messages wait at an endpoint.
+    ///
+    /// Refused with `EndpInvalid` where the endpoint is not live.
+    pub fn msg_available(&mut self, journal: &mut Journal, at: Local) -> Result<u32, Refusal>
+        requires entry_room { call_entries ≤ journal.old.entry_room }
+        requires byte_room { call_bytes ≤ journal.old.byte_room }
+        ensures { Calls at.node (available_at at.port) self.old self.new journal.old.lines journal.new.lines (available result) None }
+    {
+        self.turn(journal);
+        self.count_messages(at)
+    }
+
+    /// Ends a request that is complete, and answers how. The first bytes of its message, as many as it asked for, go to
+    /// `out`, which has room for any message; what lies behind them stays. The message's buffer is given back.
+    ///
+    /// Refused with `RequestInvalid` where no request that stands has the id, and with `Pending` where it is not complete.
+    /// `out` stays then.
+    pub fn test(
+        &mut self,
+        journal: &mut Journal,
+        id: RequestId,
+        out: &mut [u8],
+    ) -> Result<Done, Refusal>
+        requires entry_room { call_entries ≤ journal.old.entry_room }
+        requires byte_room { call_bytes ≤ journal.old.byte_room }
+        requires out { 488 ≤ length out.old }
+        ensures call { Calls 0 (test_of (place_of_id self.old id)) self.old self.new journal.old.lines journal.new.lines (tested result out.new) None }
+        ensures message { IfOk result (λ done. (got : Got) × (done ≡ Message got) × (got.given ≤ length out.old) × (drop got.given out.new ≡ drop got.given out.old)) }
+        ensures refused { OnErr result (out.new ≡ out.old) }
+    {
+        self.turn(journal);
+        self.end_request(id, out)
+    }
+
+    /// Ends a request that is pending.
+    ///
+    /// Refused with `RequestInvalid` where no request that stands has the id, and with `TooLate` where it is complete.
+    pub fn cancel(&mut self, journal: &mut Journal, id: RequestId) -> Result<(), Refusal>
+        requires entry_room { call_entries ≤ journal.old.entry_room }
+        requires byte_room { call_bytes ≤ journal.old.byte_room }
+        ensures { Calls 0 (cancel_of (place_of_id self.old id)) self.old self.new journal.old.lines journal.new.lines (cancelled result) None }
+    {
+        self.turn(journal);
+        self.end_pending(id)
+    }
+
     /// Where the buffers of the lane from a peer are held, or `None` where there is no such lane.
     pub fn places(&self, peer: u8) -> Option<Places>
-        ensures none { IsNone result ↔ (peer ≢ self.now.state.number) }
-        ensures queue { IfSome result (λ p. p.queue ≡ queued_from peer self.now.state) }
-        ensures lent { IfSome result (λ p. p.lent ≡ lent_from peer self.now.state) }
+        ensures none { IsNone result ↔ (peer ≢ self.now.alone.state.number) }
+        ensures queue { IfSome result (λ p. p.queue ≡ queued_from peer self.now.alone.state) }
+        ensures lent { IfSome result (λ p. p.lent ≡ lent_from peer self.now.alone.state) }
     {
         if peer != self.number {
             return None;
         }
         Some(Places {
             queue: self.messages_queued(),
-            lent: 0,
+            lent: messages_handed(&self.requests),
         })
     }
 
     /// How many messages are queued on all endpoints.
     pub fn messages_queued(&self) -> u32
-        ensures all { result ≡ length (queued_items self.now.state) }
-        ensures own { result ≡ queued_from self.now.state.number self.now.state }
+        ensures all { result ≡ length (queued_items self.now.alone.state) }
+        ensures own { result ≡ queued_from self.now.alone.state.number self.now.alone.state }
     {
         self.endpoints.queued() as u32
     }
@@ -157,19 +235,28 @@ impl Domain {
     fn turn(&mut self, journal: &mut Journal)
         requires entry_room { 11 ≤ journal.old.entry_room }
         requires byte_room { 4096 ≤ journal.old.byte_room }
-        ensures allowed { IsTurn self.old.state (own_turn self.old) }
-        ensures alone { self.new ≡ after_own_turn self.old }
-        ensures told { journal.new.lines ≡ noted journal.old.lines (turned (own_turn self.old)) }
+        ensures allowed { IsTurn self.old.alone.state (own_turn self.old.alone) }
+        ensures alone { self.new.alone ≡ after_own_turn self.old.alone }
+        ensures ids { self.new.ids ≡ self.old.ids }
+        ensures told { journal.new.lines ≡ noted journal.old.lines (turned (own_turn self.old.alone)) }
         ensures entry_room { journal.old.entry_room ≤ journal.new.entry_room + 11 }
         ensures byte_room { journal.old.byte_room ≤ journal.new.byte_room + 4096 }
     {
-        make_turn(&mut self.endpoints, &mut self.lane, journal, self.number);
+        make_turn(
+            &mut self.endpoints,
+            &mut self.book,
+            &mut self.requests,
+            &mut self.lane,
+            journal,
+            self.number,
+        );
     }
 
     /// `create` after its turn.
     fn add_endpoint(&mut self, at: Local) -> Result<u32, Refusal>
-        ensures answer { created result ≡ answer self.old.state at.node (Create at.port) }
-        ensures alone { self.new ≡ after_own_call self.old at.node (Create at.port) }
+        ensures answer { created result ≡ answer self.old.alone.state at.node (create_at at.port) }
+        ensures ids { self.new.ids ≡ self.old.ids }
+        ensures alone { self.new.alone ≡ after_own_call self.old.alone at.node (create_at at.port) }
     {
         if at.node >= self.nodes {
             return Err(Refusal::NodeInvalid);
@@ -194,11 +281,10 @@ impl Domain {
     ) -> Result<(), Refusal>
         requires entry_room { 1 ≤ journal.old.entry_room }
         requires byte_room { 512 ≤ journal.old.byte_room }
-        ensures answer { sent result ≡ answer self.old.state from.node (MsgSend from.port to priority bytes.now) }
-        ensures alone { self.new ≡ after_own_call self.old from.node (MsgSend from.port to priority bytes.now) }
-        ensures told { journal.new.lines ≡ noted_all journal.old.lines (map put_entry (puts self.old.state from.node (MsgSend from.port to priority bytes.now))) }
-        ensures entry_room { journal.old.entry_room ≤ journal.new.entry_room + 1 }
-        ensures byte_room { journal.old.byte_room ≤ journal.new.byte_room + 512 }
+        ensures answer { sent result ≡ answer self.old.alone.state from.node (send_from from.port to priority bytes.now) }
+        ensures ids { self.new.ids ≡ self.old.ids }
+        ensures alone { self.new.alone ≡ after_own_call self.old.alone from.node (send_from from.port to priority bytes.now) }
+        ensures told { journal.new.lines ≡ noted_all journal.old.lines (map put_entry (puts self.old.alone.state from.node (send_from from.port to priority bytes.now))) }
     {
         let Some(source) = self.endpoints.address_at(from) else {
             return Err(Refusal::EndpInvalid);
@@ -223,8 +309,8 @@ impl Domain {
 
     /// The address of an endpoint that is live in this domain. None is known of another domain.
     fn address_of(&self, name: EndName) -> Option<u32>
-        ensures address { result ≡ address_of self.now.state name }
-        ensures own { IsSome result → name.domain ≡ self.now.state.number }
+        ensures address { result ≡ address_of self.now.alone.state name }
+        ensures own { IsSome result → name.domain ≡ self.now.alone.state.number }
         ensures range { IfSome result (λ a. 1024 ≤ a) }
     {
         if name.domain != self.number {
@@ -238,8 +324,9 @@ impl Domain {
 
     /// `msg_recv` after its turn.
     fn take_message(&mut self, at: Local, out: &mut [u8]) -> Result<Got, Refusal>
-        ensures answer { received result out.new ≡ answer self.old.state at.node (MsgRecv at.port (length out.old)) }
-        ensures alone { self.new ≡ after_own_call self.old at.node (MsgRecv at.port (length out.old)) }
+        ensures answer { received result out.new ≡ answer self.old.alone.state at.node (receive_at at.port (length out.old)) }
+        ensures ids { self.new.ids ≡ self.old.ids }
+        ensures alone { self.new.alone ≡ after_own_call self.old.alone at.node (receive_at at.port (length out.old)) }
         ensures given { IfOk result (λ got. got.given ≤ length out.old) }
         ensures rest { IfOk result (λ got. drop got.given out.new ≡ drop got.given out.old) }
         ensures refused { OnErr result (out.new ≡ out.old) }
@@ -247,11 +334,61 @@ impl Domain {
         let Some(place) = self.endpoints.place_at(at) else {
             return Err(Refusal::EndpInvalid);
         };
-        let Some(held) = self.endpoints.take_best(place) else {
+        let Some((slot, _)) = self.endpoints.take_best(place) else {
             return Err(Refusal::Empty);
         };
-        let got = give(&held, out);
-        self.lane.give_back(held.buffer);
+        let got = give(self.book.bytes(slot), out);
+        self.lane.give_back(self.book.withdraw(slot));
         Ok(got)
+    }
+    fn begin_receive(&mut self, at: Local, max: u32) -> Result<RequestId, Refusal>
+        ensures answer { requested result ≡ answer self.old.alone.state at.node (request_at at.port max) }
+        ensures alone { self.new.alone ≡ after_own_call self.old.alone at.node (request_at at.port max) }
+        ensures ids { self.new.ids ≡ self.old.ids ++ option_to_list (given result) }
+        ensures fresh { IfOk result (λ id. (AllByRecursion (λ key. key ≢ id.key) (map (λ i. i.key) self.old.ids)) × (id.key ≢ no_key) × (id.serial ≡ self.old.alone.state.requests_given)) }
+    {
+        let Some(place) = self.endpoints.place_at(at) else {
+            return Err(Refusal::EndpInvalid);
+        };
+        let Ok(id) = self.requests.add(Ask::Message(at, max)) else {
+            return Err(Refusal::RequestLimit);
+        };
+        if let Some((slot, _)) = self.endpoints.take_best(place) {
+            self.requests.complete(id, Complete::Message(slot, max));
+        }
+        Ok(id)
+    }
+
+    fn count_messages(&self, at: Local) -> Result<u32, Refusal>
+        ensures answer { available result ≡ answer self.now.alone.state at.node (available_at at.port) }
+        ensures alone { self.now.alone ≡ after_own_call self.now.alone at.node (available_at at.port) }
+    {
+        let Some(place) = self.endpoints.place_at(at) else {
+            return Err(Refusal::EndpInvalid);
+        };
+        Ok(self.endpoints.queued_at(place))
+    }
+
+    fn end_request(&mut self, id: RequestId, out: &mut [u8]) -> Result<Done, Refusal>
+        requires { 488 ≤ length out.old }
+        ensures answer { tested result out.new ≡ answer self.old.alone.state 0 (test_of (place_of_id self.old id)) }
+        ensures alone { self.new.alone ≡ after_own_call self.old.alone 0 (test_of (place_of_id self.old id)) }
+        ensures ids { self.new.ids ≡ without (place_ended self.old.alone.state 0 (test_of (place_of_id self.old id))) self.old.ids }
+        ensures message { IfOk result (λ done. (got : Got) × (done ≡ Message got) × (got.given ≤ length out.old) × (drop got.given out.new ≡ drop got.given out.old)) }
+        ensures refused { OnErr result (out.new ≡ out.old) }
+    {
+        let (slot, max) = end_receive(&mut self.requests, id)?;
+        let got = give_at_most(self.book.bytes(slot), max, out);
+        self.lane.give_back(self.book.withdraw(slot));
+        Ok(Done::Message(got))
+    }
+
+    fn end_pending(&mut self, id: RequestId) -> Result<(), Refusal>
+        ensures answer { cancelled result ≡ answer self.old.alone.state 0 (cancel_of (place_of_id self.old id)) }
+        ensures alone { self.new.alone ≡ after_own_call self.old.alone 0 (cancel_of (place_of_id self.old id)) }
+        ensures ids { self.new.ids ≡ without (place_ended self.old.alone.state 0 (cancel_of (place_of_id self.old id))) self.old.ids }
+    {
+        self.requests.cancel(id)?;
+        Ok(())
     }
 }

@@ -6,7 +6,7 @@ ghost use Rattle.domain_core.specs.Entry.{line_of_entry, bytes_in, noted_entry, 
 mod entry;
 mod kept;
 
-pub use entry::{Answer, Entry};
+pub use entry::{Answer, Entry, Told};
 use kept::{Kept, entry_of, keep, keep_idle};
 use mc_base::NoMemory;
 use std::alloc::Global;

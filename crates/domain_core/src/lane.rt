@@ -1,10 +1,11 @@
 //! The lane from the domain to itself. Its buffers are the domain's pool.
 
-ghost use Rattle.std.specs.Prelude.{◌≡◌, ◌≤◌, ◌<◌, ◌+◌, ◌∷◌, IfOk, IsNone, ◌↔◌, length, map};
+ghost use Rattle.std.specs.Prelude.{◌≡◌, ◌≤◌, ◌<◌, ◌+◌, ◌∷◌, IfOk, IfSome, IsNone, ◌↔◌, length};
 ghost use Rattle.std.specs.List.{range_with_len};
-ghost use Rattle.std.specs.VecDeque.{deque_len, deque_capacity};
-ghost use Rattle.domain_core.specs.Lane.{Lane, opening_lane, looked_back, looked_ahead, with_first_taken, with_one_used, with_frame, with_returned, AreForEndpoints};
-ghost use Rattle.domain_core.specs.InLane.{frame_in};
+ghost use Rattle.std.specs.VecDeque.{deque_capacity};
+ghost use Rattle.domain_core.specs.Lane.{AreForEndpoints};
+ghost use Rattle.domain_core.specs.Pool.{lane_in, opening_pool, with_all_back, with_all_shown, with_first_frame_taken, with_first_used, with_given_back, with_put};
+ghost use Rattle.domain_core.specs.InLane.{framed_in, frame_in, numbers_in};
 
 use crate::carried::Carried;
 use mc_base::{Buffer, NoMemory};
@@ -34,13 +35,13 @@ pub struct OwnLane {
 }
 
 impl Model for OwnLane {
-    ghost use Rattle.domain_core.specs.Lane.{Lane};
+    ghost use Rattle.domain_core.specs.Pool.{Pool};
 
-    ghost Value = { Lane };
+    ghost Value = { Pool };
 
-    ghost use Rattle.domain_core.specs.InLane.{lane_of, HasRoom};
+    ghost use Rattle.domain_core.specs.InLane.{pool_of, HasRoom};
 
-    ghost view = { lane_of };
+    ghost view = { pool_of };
 
     ghost invariant = { HasRoom };
 }
@@ -49,7 +50,7 @@ impl OwnLane {
     /// A lane with all of its buffers free, and with room for them wherever they may stand.
     pub fn open(alloc: Global, size: u32) -> Result<OwnLane, NoMemory>
         requires { size ≤ 256 }
-        ensures { IfOk result (λ l. l ≡ opening_lane size) }
+        ensures { IfOk result (λ p. p ≡ opening_pool size) }
     {
         let room = size as usize;
         let Ok(ring) = VecDeque::with_capacity(alloc, room) else {
@@ -69,9 +70,9 @@ impl OwnLane {
 
     /// Looks at the buffers that came back. They are free now.
     pub fn look_back(&mut self) -> u32
-        requires { self.old.free + self.old.returned ≤ self.old.size }
-        ensures count { result ≡ self.old.returned }
-        ensures lane { self.new ≡ looked_back self.old }
+        requires { length self.old.free + length self.old.returned ≤ self.old.size }
+        ensures count { result ≡ length self.old.returned }
+        ensures pool { self.new ≡ with_all_back self.old }
     {
         let count = self.returned.len() as u32;
         self.free.append(&mut self.returned).unwrap();
@@ -82,8 +83,8 @@ impl OwnLane {
     pub fn look_ahead(&mut self) -> u32
         requires { length self.old.ring ≤ self.old.size }
         ensures count { result ≡ length self.old.ring }
-        ensures lane { self.new ≡ looked_ahead self.old }
-        ensures frames { AreForEndpoints self.old.ring }
+        ensures pool { self.new ≡ with_all_shown self.old }
+        ensures frames { AreForEndpoints (lane_in self.old).ring }
     {
         self.shown = self.ring.len() as u32;
         self.shown
@@ -93,8 +94,8 @@ impl OwnLane {
     pub fn take(&mut self) -> Carried
         requires shown { 0 < self.old.shown }
         requires came { self.old.shown ≤ length self.old.ring }
-        ensures frame { self.old.ring ≡ frame_in result ∷ self.new.ring }
-        ensures lane { self.new ≡ with_first_taken self.old }
+        ensures frame { self.old.ring ≡ framed_in result ∷ self.new.ring }
+        ensures pool { self.new ≡ with_first_frame_taken self.old }
     {
         self.shown -= 1;
         self.ring.pop_front().unwrap()
@@ -102,8 +103,9 @@ impl OwnLane {
 
     /// A free buffer, or `None` where none is free.
     pub fn use_free(&mut self) -> Option<Buffer>
-        ensures none { IsNone result ↔ (self.old.free ≡ 0) }
-        ensures lane { self.new ≡ with_one_used self.old }
+        ensures none { IsNone result ↔ (length self.old.free ≡ 0) }
+        ensures first { IfSome result (λ b. self.old.free ≡ b.number ∷ self.new.free) }
+        ensures pool { self.new ≡ with_first_used self.old }
     {
         self.free.pop_front()
     }
@@ -111,15 +113,15 @@ impl OwnLane {
     /// Puts a frame.
     pub fn put(&mut self, carried: Carried)
         requires { length self.old.ring < self.old.size }
-        ensures { self.new ≡ with_frame self.old (frame_in carried) }
+        ensures { self.new ≡ with_put self.old (framed_in carried) }
     {
         self.ring.push_back_reserved(carried);
     }
 
     /// Gives the buffer of a frame back. A later look shows it.
     pub fn give_back(&mut self, buffer: Buffer)
-        requires { self.old.returned < self.old.size }
-        ensures { self.new ≡ with_returned self.old 1 }
+        requires { length self.old.returned < self.old.size }
+        ensures { self.new ≡ with_given_back self.old buffer.number }
     {
         self.returned.push_back_reserved(buffer);
     }
@@ -128,8 +130,7 @@ impl OwnLane {
 /// As many buffers, numbered from 0.
 fn buffers(alloc: Global, count: u32) -> Result<VecDeque<Buffer>, NoMemory>
     requires { count ≤ 256 }
-    ensures len { IfOk result (λ q. deque_len q ≡ count) }
-    ensures numbers { IfOk result (λ q. map (λ b. b.number) q.items ≡ range_with_len 0 count) }
+    ensures numbers { IfOk result (λ q. numbers_in q.items ≡ range_with_len 0 count) }
     ensures capacity { IfOk result (λ q. count ≤ deque_capacity q) }
 {
     let Ok(mut buffers) = VecDeque::with_capacity(alloc, count as usize) else {

@@ -11,12 +11,13 @@ mod fates;
 mod journal;
 mod lane;
 mod messages;
+mod requests;
 mod threads;
 mod turn;
 
 pub use domain::{CALL_BYTES, CALL_ENTRIES, Domain, Places};
 pub use fates::fault_fate;
-pub use journal::{Answer, Entry, Journal};
+pub use journal::{Answer, Entry, Journal, Told};
 pub use threads::may_cross_threads;
 
 #[cfg(test)]

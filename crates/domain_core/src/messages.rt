@@ -1,18 +1,17 @@
 //! The content of messages, on its way into a buffer and out of one.
 
-ghost use Rattle.std.specs.Prelude.{◌≡◌, ◌≤◌, ◌++◌, ℕ, min, length, take, drop};
+ghost use Rattle.std.specs.Prelude.{◌≡◌, ◌≤◌, ◌++◌, min, length, take, drop};
 ghost use Rattle.mc_base.specs.Frame.{made};
 ghost use Rattle.mc_base.specs.Letter.{spelling, msg};
 ghost use Rattle.domain_core.specs.InLane.{frame_in};
-ghost use Rattle.domain_core.specs.InTable.{item_in};
 
-use crate::carried::{Carried, Held};
+use crate::carried::Carried;
 use bridge_frame::write_letter;
 use mc_base::{Buffer, FRAME_HEADER_SIZE, Got, LETTER_HEADER_SIZE, Letter, Priority};
 use rpmsg_frame::{made_is_frame, write_header};
 
 /// Where the content lies in the buffer of a message.
-const CONTENT: usize = FRAME_HEADER_SIZE + LETTER_HEADER_SIZE;
+pub const CONTENT: u32 = (FRAME_HEADER_SIZE + LETTER_HEADER_SIZE) as u32;
 
 /// Writes a message of at most 488 bytes into a buffer, with its headers. The destination is an endpoint's address, which
 /// is 1024 or more.
@@ -25,7 +24,8 @@ pub fn fill(
 ) -> Carried
     requires size { length bytes.now ≤ 488 }
     requires destination { 1024 ≤ destination }
-    ensures { frame_in result ≡ made source destination (spelling (msg priority bytes.now)) }
+    ensures frame { frame_in result ≡ made source destination (spelling (msg priority bytes.now)) }
+    ensures number { result.buffer.number ≡ buffer.number }
 {
     // So the destination of what is written reads back.
     made_is_frame();
@@ -58,18 +58,34 @@ fn write_payload(out: &mut [u8], priority: Priority, bytes: &[u8]) -> usize
 }
 
 /// Gives the first bytes of a message, as many as fit. The rest of `out` stays.
-pub fn give(held: &Held, out: &mut [u8]) -> Got
-    ensures size { (n : ℕ) → result.size ≡ length (item_in n held.now).content }
+pub fn give(content: &[u8], out: &mut [u8]) -> Got
+    requires { length content.now ≤ 488 }
+    ensures size { result.size ≡ length content.now }
     ensures given { result.given ≡ min (length out.old) result.size }
-    ensures bytes { (n : ℕ) → take result.given out.new ≡ take (length out.old) (item_in n held.now).content }
+    ensures bytes { take result.given out.new ≡ take (length out.old) content.now }
     ensures rest { drop result.given out.new ≡ drop result.given out.old }
 {
-    let (_, rest) = held.buffer.bytes().split_at(CONTENT);
-    let (content, _) = rest.split_at(held.size as usize);
     let given = content.len().min(out.len());
     out[..given].copy_from_slice(&content[..given]);
     Got {
-        size: held.size,
+        size: content.len() as u32,
         given: given as u32,
+    }
+}
+
+/// Gives the first bytes of a message, at most so many. There is room for them. The rest of `out` stays.
+pub fn give_at_most(content: &[u8], max: u32, out: &mut [u8]) -> Got
+    requires size { length content.now ≤ 488 }
+    requires room { 488 ≤ length out.old }
+    ensures size { result.size ≡ length content.now }
+    ensures given { result.given ≤ length out.old }
+    ensures bytes { take result.given out.new ≡ take max content.now }
+    ensures rest { drop result.given out.new ≡ drop result.given out.old }
+{
+    let size = content.len();
+    let first = &content[..size.min(max as usize)];
+    Got {
+        size: size as u32,
+        given: give(first, out).given,
     }
 }

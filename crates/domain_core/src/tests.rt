@@ -174,6 +174,35 @@ fn the_best_priority_comes_first(rt: HostRuntime) -> Result<(), Fail> {
 }
 
 #[test]
+fn each_message_keeps_its_own_bytes(rt: HostRuntime) -> Result<(), Fail> {
+    let rows = [
+        (create(0, 1), Ok(1024)),
+        (create(0, 2), Ok(1025)),
+        (send(1, 2, 1, 7, 3), Ok(0)),
+        (send(2, 1, 1, 9, 5), Ok(0)),
+        (receive(1, 488, 9), Ok(5)),
+        (send(2, 2, 0, 8, 4), Ok(0)),
+        (receive(1, 488, 0), Err(Refusal::Empty)),
+        (receive(2, 488, 8), Ok(4)),
+        (send(1, 1, 3, 6, 488), Ok(0)),
+        (receive(2, 488, 7), Ok(3)),
+        (receive(1, 488, 6), Ok(488)),
+        (receive(2, 488, 0), Err(Refusal::Empty)),
+    ];
+    let mut domain = Domain::open(rt.alloc(), 3, 1, 2)?;
+    let mut journal = Journal::new(rt.alloc())?;
+    for (call, due) in rows {
+        assert_eq!(rt;
+            made(&mut domain, &mut journal, call)?,
+            Some(due),
+            "{call:?}"
+        );
+    }
+    assert_eq!(rt; domain.messages_queued(), 0);
+    Ok(())
+}
+
+#[test]
 fn sixty_four_endpoints_at_once(rt: HostRuntime) -> Result<(), Fail> {
     let mut domain = Domain::open(rt.alloc(), 3, 1, 1)?;
     let mut journal = Journal::new(rt.alloc())?;

@@ -1,31 +1,48 @@
 //! A turn: the looks at the own lane, and what is done with the frames that they show.
 
-ghost use Rattle.std.specs.Prelude.{◌≡◌, ◌≤◌, ◌<◌, ◌+◌, ◌*◌, ◌++◌, ◌∷◌, [], length};
+ghost use Rattle.std.specs.Prelude.{◌≡◌, ◌≤◌, ◌<◌, ◌+◌, ◌*◌, ◌++◌, ◌∷◌, [], length, map};
 ghost use Rattle.board_model.specs.Journal.{looked, back_line, see_line, turn_line, taken};
 ghost use Rattle.board_model.specs.Serial.{returned_at_once};
-ghost use Rattle.domain_core.specs.Table.{items_in, with_endpoints};
+ghost use Rattle.domain_core.specs.Table.{with_held};
 ghost use Rattle.domain_core.specs.Lane.{with_returned, AreForEndpoints};
+ghost use Rattle.domain_core.specs.Pool.{lane_in};
 ghost use Rattle.domain_core.specs.InLane.{frame_in};
-ghost use Rattle.domain_core.specs.Dealt.{IsVerdict, Takes, TakesFirst, scene, endpoints_after, fate_of};
+ghost use Rattle.domain_core.specs.InBook.{held_by, table_in};
+ghost use Rattle.domain_core.specs.InRequests.{AreReceives};
+ghost use Rattle.domain_core.specs.InPlaces.{AreInPlaces, AreInPlacesBut};
+ghost use Rattle.domain_core.specs.Dealt.{IsVerdict, Takes, TakesFirst, scene, held_after, fate_of};
 ghost use Rattle.domain_core.specs.Turned.{MakesTurn};
 
-use crate::carried::{Carried, Held};
+use crate::carried::Carried;
 use crate::dealing::{Verdict, judge};
 use crate::endpoints::Endpoints;
 use crate::journal::{Entry, Journal};
 use crate::lane::OwnLane;
+use crate::messages::CONTENT;
+use buffer_book::BufferBook;
 use mc_base::TURN_FRAMES;
+use request_set::{Complete, RequestSet};
 
 /// Makes a turn. Both looks show all that stands, and the first frames are taken, at most 8.
-pub fn make_turn(endpoints: &mut Endpoints, lane: &mut OwnLane, journal: &mut Journal, peer: u8)
+pub fn make_turn(
+    endpoints: &mut Endpoints,
+    book: &mut BufferBook,
+    requests: &mut RequestSet,
+    lane: &mut OwnLane,
+    journal: &mut Journal,
+    peer: u8,
+)
     requires peer { peer ≡ endpoints.old.number }
-    requires places { length (items_in endpoints.old.endpoints) + length lane.old.ring + lane.old.returned + lane.old.free ≤ lane.old.size }
+    requires places { AreInPlaces endpoints.old requests.old book.old lane.old }
+    requires receives { AreReceives requests.old }
     requires room { lane.old.size ≤ endpoints.old.room }
     requires entry_room { 11 ≤ journal.old.entry_room }
     requires byte_room { 4096 ≤ journal.old.byte_room }
-    ensures turn { MakesTurn peer (scene endpoints.old lane.old journal.old.lines) (scene endpoints.new lane.new journal.new.lines) }
-    ensures places { length (items_in endpoints.new.endpoints) + length lane.new.ring + lane.new.returned + lane.new.free ≡ length (items_in endpoints.old.endpoints) + length lane.old.ring + lane.old.returned + lane.old.free }
-    ensures frames { AreForEndpoints lane.old.ring }
+    ensures turn { MakesTurn peer (scene (table_in book.old endpoints.old requests.old) (lane_in lane.old) journal.old.lines) (scene (table_in book.new endpoints.new requests.new) (lane_in lane.new) journal.new.lines) }
+    ensures receives { AreReceives requests.new }
+    ensures ids { map (λ r. r.id) requests.new.standing ≡ map (λ r. r.id) requests.old.standing }
+    ensures places { AreInPlaces endpoints.new requests.new book.new lane.new }
+    ensures frames { AreForEndpoints (lane_in lane.old).ring }
     ensures entry_room { journal.old.entry_room ≤ journal.new.entry_room + 11 }
     ensures byte_room { journal.old.byte_room ≤ journal.new.byte_room + 4096 }
 {
@@ -38,6 +55,8 @@ pub fn make_turn(endpoints: &mut Endpoints, lane: &mut OwnLane, journal: &mut Jo
     note_looks(journal, peer, back, see);
     take_frames(
         endpoints,
+        book,
+        requests,
         lane,
         journal,
         peer,
@@ -64,6 +83,8 @@ fn note_looks(journal: &mut Journal, peer: u8, back: u32, see: u32)
 /// Takes the oldest frames that were shown.
 fn take_frames(
     endpoints: &mut Endpoints,
+    book: &mut BufferBook,
+    requests: &mut RequestSet,
     lane: &mut OwnLane,
     journal: &mut Journal,
     peer: u8,
@@ -72,68 +93,91 @@ fn take_frames(
     requires peer { peer ≡ endpoints.old.number }
     requires count { count ≤ lane.old.shown }
     requires shown { lane.old.shown ≤ length lane.old.ring }
-    requires places { length (items_in endpoints.old.endpoints) + length lane.old.ring + lane.old.returned ≤ lane.old.size }
+    requires places { AreInPlaces endpoints.old requests.old book.old lane.old }
+    requires receives { AreReceives requests.old }
     requires room { lane.old.size ≤ endpoints.old.room }
     requires entry_room { count ≤ journal.old.entry_room }
     requires byte_room { 512 * count ≤ journal.old.byte_room }
-    ensures takes { Takes peer count (scene endpoints.old lane.old journal.old.lines) (scene endpoints.new lane.new journal.new.lines) }
-    ensures places { length (items_in endpoints.new.endpoints) + length lane.new.ring + lane.new.returned ≡ length (items_in endpoints.old.endpoints) + length lane.old.ring + lane.old.returned }
+    ensures takes { Takes peer count (scene (table_in book.old endpoints.old requests.old) (lane_in lane.old) journal.old.lines) (scene (table_in book.new endpoints.new requests.new) (lane_in lane.new) journal.new.lines) }
+    ensures receives { AreReceives requests.new }
+    ensures ids { map (λ r. r.id) requests.new.standing ≡ map (λ r. r.id) requests.old.standing }
+    ensures places { AreInPlaces endpoints.new requests.new book.new lane.new }
     ensures entry_room { journal.old.entry_room ≤ journal.new.entry_room + count }
     ensures byte_room { journal.old.byte_room ≤ journal.new.byte_room + 512 * count }
 {
     for _ in 0..count {
-        take_frame(endpoints, lane, journal, peer);
+        take_frame(endpoints, book, requests, lane, journal, peer);
     }
 }
 
 /// Takes the oldest frame that was shown.
-fn take_frame(endpoints: &mut Endpoints, lane: &mut OwnLane, journal: &mut Journal, peer: u8)
+fn take_frame(
+    endpoints: &mut Endpoints,
+    book: &mut BufferBook,
+    requests: &mut RequestSet,
+    lane: &mut OwnLane,
+    journal: &mut Journal,
+    peer: u8,
+)
     requires peer { peer ≡ endpoints.old.number }
     requires some { 0 < lane.old.shown }
     requires shown { lane.old.shown ≤ length lane.old.ring }
-    requires places { length (items_in endpoints.old.endpoints) + length lane.old.ring + lane.old.returned ≤ lane.old.size }
+    requires places { AreInPlaces endpoints.old requests.old book.old lane.old }
+    requires receives { AreReceives requests.old }
     requires room { lane.old.size ≤ endpoints.old.room }
     requires entry_room { 1 ≤ journal.old.entry_room }
     requires byte_room { 512 ≤ journal.old.byte_room }
-    ensures takes { TakesFirst peer (scene endpoints.old lane.old journal.old.lines) (scene endpoints.new lane.new journal.new.lines) }
-    ensures places { length (items_in endpoints.new.endpoints) + length lane.new.ring + lane.new.returned ≡ length (items_in endpoints.old.endpoints) + length lane.old.ring + lane.old.returned }
+    ensures takes { TakesFirst peer (scene (table_in book.old endpoints.old requests.old) (lane_in lane.old) journal.old.lines) (scene (table_in book.new endpoints.new requests.new) (lane_in lane.new) journal.new.lines) }
+    ensures receives { AreReceives requests.new }
+    ensures ids { map (λ r. r.id) requests.new.standing ≡ map (λ r. r.id) requests.old.standing }
+    ensures places { AreInPlaces endpoints.new requests.new book.new lane.new }
     ensures entry_room { journal.old.entry_room ≤ journal.new.entry_room + 1 }
     ensures byte_room { journal.old.byte_room ≤ journal.new.byte_room + 512 }
 {
     let carried = lane.take();
-    let verdict = judge(endpoints, carried.frame());
+    let verdict = judge(endpoints, requests, carried.frame());
     journal.note(Entry::Take {
         peer,
         frame: carried.frame(),
         fate: verdict.fate(),
     });
-    settle(endpoints, lane, carried, verdict);
+    settle(endpoints, book, requests, lane, peer, carried, verdict);
 }
 
-/// Queues the message of a frame, or gives its buffer back.
-fn settle(endpoints: &mut Endpoints, lane: &mut OwnLane, carried: Carried, verdict: Verdict)
-    requires verdict { IsVerdict endpoints.old.number endpoints.old.endpoints (frame_in carried) verdict }
-    requires queue_room { length (items_in endpoints.old.endpoints) < endpoints.old.room }
-    requires lane_room { lane.old.returned < lane.old.size }
-    ensures table { endpoints.new ≡ with_endpoints endpoints.old (endpoints_after endpoints.old.number endpoints.old.endpoints (frame_in carried)) }
-    ensures lane { lane.new ≡ with_returned lane.old (returned_at_once (taken (frame_in carried) (fate_of verdict) ∷ [])) }
-    ensures places { length (items_in endpoints.new.endpoints) + lane.new.returned ≡ length (items_in endpoints.old.endpoints) + lane.old.returned + 1 }
+/// Queues the message of a frame, hands it to the receive that waits, or gives its buffer back.
+fn settle(
+    endpoints: &mut Endpoints,
+    book: &mut BufferBook,
+    requests: &mut RequestSet,
+    lane: &mut OwnLane,
+    peer: u8,
+    carried: Carried,
+    verdict: Verdict,
+)
+    requires peer { peer ≡ endpoints.old.number }
+    requires verdict { IsVerdict peer book.old endpoints.old requests.old (frame_in carried) verdict }
+    requires places { AreInPlacesBut carried.buffer.number endpoints.old requests.old book.old lane.old }
+    requires receives { AreReceives requests.old }
+    requires room { lane.old.size ≤ endpoints.old.room }
+    ensures table { table_in book.new endpoints.new requests.new ≡ with_held (table_in book.old endpoints.old requests.old) (held_after peer (held_by book.old endpoints.old requests.old) (frame_in carried)) }
+    ensures lane { lane_in lane.new ≡ with_returned (lane_in lane.old) (returned_at_once (taken (frame_in carried) (fate_of verdict) ∷ [])) }
+    ensures receives { AreReceives requests.new }
+    ensures ids { map (λ r. r.id) requests.new.standing ≡ map (λ r. r.id) requests.old.standing }
+    ensures places { AreInPlaces endpoints.new requests.new book.new lane.new }
 {
     let Carried { buffer, .. } = carried;
     match verdict {
         Verdict::Queued {
             place,
-            source,
             priority,
             size,
         } => {
-            let held = Held {
-                buffer,
-                source,
-                priority,
-                size,
-            };
-            endpoints.queue_last(place, held);
+            let slot = book.enqueue(peer, buffer, CONTENT, size);
+            endpoints.queue_last(place, slot, priority);
+        }
+        Verdict::Handed { id, max, size } => {
+            let slot = book.enqueue(peer, buffer, CONTENT, size);
+            requests.complete(id, Complete::Message(slot, max));
         }
         Verdict::Returned(_) => lane.give_back(buffer),
     }

@@ -148,6 +148,13 @@ impl RequestSet {
         oldest_of(&self.slab, &self.order, local)
     }
 
+    /// What a request asks for, or `None` where no request that stands has the id.
+    pub fn asked(&self, id: RequestId) -> Option<Ask>
+        ensures { result ≡ option_map (λ r. r.ask) (request_of self.now id) }
+    {
+        Some(self.kept(id)?.ask)
+    }
+
     /// The request at a place, counted from 0 in the order in which they were given, and how it is complete, or
     /// `None` past the end.
     pub fn listed(&self, at: u32) -> Option<(RequestId, Ask, Option<Complete>)>

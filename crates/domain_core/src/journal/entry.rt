@@ -1,6 +1,21 @@
 //! The entries of a journal, as they are noted and read.
 
-use mc_base::{Fate, Refusal};
+use mc_base::{Fate, Reason, Refusal};
+
+/// How a request ended.
+#[derive(Clone, Copy, Debug)]
+pub enum Told<'a> {
+    /// The address of the endpoint that was looked up.
+    Address(u32),
+    /// The connection was accepted.
+    Accepted,
+    /// The connection was rejected.
+    Rejected(Reason),
+    /// The size of a message or packet, and those of its bytes that were given.
+    Bytes { size: u32, bytes: &'a [u8] },
+    /// The request ended with a word.
+    Ended(Refusal),
+}
 
 /// The answer of a call.
 #[derive(Clone, Copy, Debug)]
@@ -11,6 +26,8 @@ pub enum Answer<'a> {
     Number(u64),
     /// The size of a message, and those of its bytes that were given.
     Bytes { size: u32, bytes: &'a [u8] },
+    /// A request ended.
+    Done(Told<'a>),
 }
 
 /// A line of a journal. A peer is told by its domain's number.

@@ -3,17 +3,27 @@
 ghost use Rattle.std.specs.Prelude.{◌≡◌, ◌≤◌, ◌<◌, ◌+◌, ◌-◌, ◌^◌, ◌++◌, ℕ, List, IfSome, length, map, slice_get, vec_len, vec_capacity};
 ghost use Rattle.std.specs.List.{AllByRecursion};
 ghost use Rattle.board_model.specs.Journal.{joinable, noted_idle};
-ghost use Rattle.domain_core.specs.Entry.{line_of_entry, bytes_in, IsNotIdle};
-ghost use Rattle.domain_core.specs.Kept.{IsWithin, kept_line, piece_of};
+ghost use Rattle.domain_core.specs.Entry.{line_of_entry, bytes_in, bytes_in_told, result_of_told, IsNotIdle};
+ghost use Rattle.domain_core.specs.Kept.{IsResultWithin, IsWithin, kept_line, kept_result, piece_of};
 
-use super::entry::{Answer, Entry};
-use mc_base::{Fate, Refusal};
+use super::entry::{Answer, Entry, Told};
+use mc_base::{Fate, Reason, Refusal};
 
 /// Where the bytes of an entry lie.
 #[derive(Clone, Copy, Debug)]
 pub struct Piece {
     start: usize,
     len: usize,
+}
+
+/// How a request ended, as it is kept.
+#[derive(Clone, Copy, Debug)]
+pub enum KeptResult {
+    Address(u32),
+    Accepted,
+    Rejected(Reason),
+    Bytes(u32, Piece),
+    Ended(Refusal),
 }
 
 /// An entry that is kept.
@@ -29,6 +39,7 @@ pub enum Kept {
     Agreed(u32),
     Number(u32, u64),
     Bytes(u32, u32, Piece),
+    Done(u32, KeptResult),
 }
 
 /// Keeps an entry. Its bytes go behind the others, for which there is room.
@@ -55,7 +66,25 @@ pub fn keep(bytes: &mut Vec<u8>, entry: Entry<'_>) -> Kept
                 size,
                 keep_bytes(bytes, given),
             ),
+            Answer::Done(told) => Kept::Done(number, keep_result(bytes, told)),
         },
+    }
+}
+
+/// Keeps how a request ended.
+fn keep_result(bytes: &mut Vec<u8>, told: Told<'_>) -> KeptResult
+    requires room { vec_len bytes.old + bytes_in_told told ≤ vec_capacity bytes.old }
+    ensures bytes { (more : List ℕ) × (bytes.new.items ≡ bytes.old.items ++ more) × (length more ≤ bytes_in_told told.entry) }
+    ensures result { kept_result bytes.new.items result ≡ result_of_told told.entry }
+    ensures within { IsResultWithin (length bytes.new.items) result }
+    ensures capacity { vec_capacity bytes.old ≤ vec_capacity bytes.new }
+{
+    match told {
+        Told::Address(address) => KeptResult::Address(address),
+        Told::Accepted => KeptResult::Accepted,
+        Told::Rejected(reason) => KeptResult::Rejected(reason),
+        Told::Bytes { size, bytes: given } => KeptResult::Bytes(size, keep_bytes(bytes, given)),
+        Told::Ended(word) => KeptResult::Ended(word),
     }
 }
 
@@ -113,6 +142,27 @@ pub fn entry_of(bytes: &[u8], kept: Kept) -> Entry<'_>
                 bytes: bytes_of(bytes, piece),
             },
         },
+        Kept::Done(number, how) => Entry::Called {
+            number,
+            answer: Answer::Done(told_of(bytes, how)),
+        },
+    }
+}
+
+/// How a request ended, as it was kept.
+fn told_of(bytes: &[u8], kept: KeptResult) -> Told<'_>
+    requires { IsResultWithin (length bytes.now) kept }
+    ensures { result_of_told result ≡ kept_result bytes.now kept }
+{
+    match kept {
+        KeptResult::Address(address) => Told::Address(address),
+        KeptResult::Accepted => Told::Accepted,
+        KeptResult::Rejected(reason) => Told::Rejected(reason),
+        KeptResult::Bytes(size, piece) => Told::Bytes {
+            size,
+            bytes: bytes_of(bytes, piece),
+        },
+        KeptResult::Ended(word) => Told::Ended(word),
     }
 }
 

@@ -29,7 +29,7 @@ invariant_of-result c =
       for_endpoint = ap is_letter frame ∙ ap (λ (d : ℕ). not (eqb d 53)) (sym is.destination) ∙ not-reserved c.args.destination c.requires.destination;
     }
 
-pub returns : goal.returns
-returns c =
+pub returns-clause-frame : goal.returns-clause-frame
+returns-clause-frame c =
     let whole : length c.write-len.new.out ≡ 512 = omega (arith, c.bytes_mut.ensures.len, c.write-len.auto.out) in
     lent-back c.write-len.new.out c.args.buffer.bytes c.write-len.result whole c.write-len.ensures.len ∙ c.write-len.ensures.frame

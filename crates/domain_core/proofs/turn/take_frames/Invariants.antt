@@ -1,12 +1,18 @@
-use Rattle.std.proofs.Common.{◌≡◌, ◌≤◌, ◌+◌, ◌*◌, length}
-use Rattle.domain_core.specs.Table.{items_in}
+use Rattle.std.proofs.Common.{◌≡◌, ◌≤◌, ◌+◌, ◌*◌, length, map}
+use Rattle.request_set.specs.Requests.{Standing}
+use Rattle.domain_core.specs.Pool.{lane_in}
+use Rattle.domain_core.specs.InBook.{table_in}
+use Rattle.domain_core.specs.InRequests.{AreReceives}
+use Rattle.domain_core.specs.InPlaces.{AreInPlaces}
 use Rattle.domain_core.specs.Dealt.{Takes, scene}
 use Rattle.domain_core.proofs.turn.take_frames.Given as goal
 
 abbrev pub invariant-loop : goal.invariant-loop
 invariant-loop l = record {
-  takes : Takes l.peer l.counter (scene l.fn.endpoints l.fn.lane l.fn.journal.lines) (scene l.endpoints l.lane l.journal.lines);
-  places : length (items_in l.endpoints.endpoints) + length l.lane.ring + l.lane.returned ≡ length (items_in l.fn.endpoints.endpoints) + length l.fn.lane.ring + l.fn.lane.returned;
+  takes : Takes l.peer l.counter (scene (table_in l.fn.book l.fn.endpoints l.fn.requests) (lane_in l.fn.lane) l.fn.journal.lines) (scene (table_in l.book l.endpoints l.requests) (lane_in l.lane) l.journal.lines);
+  places : AreInPlaces l.endpoints l.requests l.book l.lane;
+  receives : AreReceives l.requests;
+  ids : map (λ (r : Standing). r.id) l.requests.standing ≡ map (λ (r : Standing). r.id) l.fn.requests.standing;
   number : l.endpoints.number ≡ l.fn.endpoints.number;
   room : l.endpoints.room ≡ l.fn.endpoints.room;
   size : l.lane.size ≡ l.fn.lane.size;

@@ -1,22 +1,22 @@
-use Rattle.std.proofs.Common.{arith, ◌∙◌, ap, sym, refl, length, List, ℕ, map}
-use Rattle.board_model.specs.declared.scenario.Call.{Call}
-use Rattle.board_model.specs.declared.scenario.Call.TheVariants.{MsgRecv}
+use Rattle.std.proofs.Common.{◌∙◌, ap, sym, refl, length, List, ℕ, map}
+use Rattle.board_model.specs.DomainCall.{DomainCall}
+use Rattle.board_model.specs.DomainCall.{receive_at}
 use Rattle.board_model.specs.Journal.{noted, noted_all, turned}
 use Rattle.board_model.specs.Answer.{answer}
 use Rattle.board_model.specs.Serial.{Alone, own_turn, after_own_turn, after_own_call, put_entry}
-use Rattle.domain_core.proofs.Calling.{puts-nothing}
+use Rattle.domain_core.proofs.Calling.{puts-nothing, same-ids}
 use Rattle.domain_core.proofs.domain.Domain.msg_recv.Goals as goal
 
 pub returns-clause-call : goal.returns-clause-call
 returns-clause-call c =
-    let call : Call = MsgRecv c.args.at.port (length c.args.out.now) in
+    let call : DomainCall = receive_at c.args.at.port (length c.args.out.now) in
     let node = c.args.at.node in
-    let old = c.args.self.now in
+    let old = c.args.self.now.alone in
     record {
       turn = c.turn.ensures.allowed;
       answer = c.take_message.ensures.answer ∙ ap (λ (a : Alone). answer a.state node call) c.turn.ensures.alone;
       state = c.take_message.ensures.alone ∙ ap (λ (a : Alone). after_own_call a node call) c.turn.ensures.alone;
       told = c.turn.ensures.told ∙ ap (λ (ps : List (ℕ × List ℕ)). noted_all (noted c.args.journal.now.lines (turned (own_turn old))) (map put_entry ps)) (sym (puts-nothing (after_own_turn old).state node call refl));
-      entry_room = omega (arith, c.turn.ensures.entry_room);
-      byte_room = omega (arith, c.turn.ensures.byte_room);
+      ids = same-ids (after_own_turn old).state node call c.args.self.now.ids c.take_message.new.self.ids refl (c.take_message.ensures.ids ∙ c.turn.ensures.ids);
+      fresh = tt;
     }

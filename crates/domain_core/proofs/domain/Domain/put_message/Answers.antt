@@ -1,19 +1,25 @@
-use Rattle.std.proofs.Common.{◌≡◌, ◌<◌, ◌≤◌, ◌∙◌, ◌∷◌, [], ◌++◌, ap, sym, refl, arith, length, List, ℕ, map, Some, None, Option, true, false, zero, suc}
+use Rattle.std.proofs.Common.{◌≡◌, ◌<◌, ◌≤◌, ◌∙◌, ◌∷◌, [], ◌++◌, ap, sym, refl, arith, length, List, ℕ, map, Some, None, Option, true, false, zero, suc, ◌+◌, drop, subst}
 use Rattle.std.specs.Prelude.{is_some, nat_lt, unwrap_or}
 use Rattle.mc_base.specs.Stored.{Stored}
 use Rattle.mc_base.specs.Frame.{made}
 use Rattle.mc_base.specs.Letter.{spelling, msg}
 use Rattle.mc_base.specs.declared.refusal.Refusal.TheVariants.{EndpInvalid, PeerInvalid, MsgSize, NoBuffer}
-use Rattle.board_model.specs.declared.scenario.Call.{Call}
-use Rattle.board_model.specs.declared.scenario.Call.TheVariants.{MsgSend}
+use Rattle.board_model.specs.DomainCall.{DomainCall}
+use Rattle.board_model.specs.DomainCall.{send_from}
 use Rattle.board_model.specs.Journal.{noted_all, put_line}
 use Rattle.board_model.specs.State.{address_at}
 use Rattle.board_model.specs.Answer.{answer, puts, refusal, address_of, local, lacks_buffers, success_puts}
-use Rattle.board_model.specs.Serial.{Alone, after_own_call, put_entry}
-use Rattle.domain_core.specs.InLane.{frame_in}
-use Rattle.domain_core.specs.Lane.{Lane, with_frame, with_one_used}
+use Rattle.board_model.specs.Serial.{after_own_call, put_entry}
+use Rattle.domain_core.specs.Lane.{with_frame, with_one_used}
+use Rattle.domain_core.specs.Pool.{Pool, lane_in, with_first_used, with_put}
+use Rattle.domain_core.specs.InLane.{frame_in, framed_in}
+use Rattle.domain_core.specs.InBook.{table_in}
+use Rattle.domain_core.specs.InPlaces.{AreInPlaces}
+use Rattle.domain_core.specs.DomainView.{DomainView}
 use Rattle.domain_core.specs.Alone.{alone_of}
+use Rattle.std.proofs.lemmas.List.{length_push}
 use Rattle.domain_core.proofs.Frames.{none-from}
+use Rattle.domain_core.proofs.Pools.{lane-sent, placed-sent}
 use Rattle.domain_core.proofs.Calling.{answer-refused, alone-refused, puts-refused, answer-done, alone-done, puts-done, send-is, own-free, alone-sent}
 use Rattle.domain_core.proofs.domain.Domain.put_message.Goals as goal
 
@@ -21,49 +27,49 @@ use Rattle.domain_core.proofs.domain.Domain.put_message.Goals as goal
 
 pub returns-in_default-clause-answer : goal.returns-in_default-clause-answer
 returns-in_default-clause-answer c =
-    let call : Call = MsgSend c.args.from.port c.args.to c.args.priority c.args.bytes.now in
+    let call : DomainCall = send_from c.args.from.port c.args.to c.args.priority c.args.bytes.now in
     let a = alone_of c.self.inside in
-    let e1 = sym c.address_at.ensures.live ∙ ap (λ (o : Option ℕ). is_some o) (none-from c.address_at.result c.in_default.not-Some) in
-    let e = send-is a.state c.args.from.node c.args.from.port c.args.to c.args.priority c.args.bytes.now _ _ _ _ e1 c.address_at.ensures.channel refl refl refl in
-    answer-refused a.state c.args.from.node call EndpInvalid e ∙ ap (λ (x : Alone). answer x.state c.args.from.node call) c.self.view_is
+    let e1 = sym (c.address_at.ensures.live c.self.inside.book) ∙ ap (λ (o : Option ℕ). is_some o) (none-from c.address_at.result c.in_default.not-Some) in
+    let e = send-is a.state c.args.from.node c.args.from.port c.args.to c.args.priority c.args.bytes.now _ _ _ _ e1 (c.address_at.ensures.channel c.self.inside.book) refl refl refl in
+    answer-refused a.state c.args.from.node call EndpInvalid e ∙ ap (λ (x : DomainView). answer x.alone.state c.args.from.node call) c.self.view_is
 
 pub returns-in_default-clause-alone : goal.returns-in_default-clause-alone
 returns-in_default-clause-alone c =
-    let call : Call = MsgSend c.args.from.port c.args.to c.args.priority c.args.bytes.now in
+    let call : DomainCall = send_from c.args.from.port c.args.to c.args.priority c.args.bytes.now in
     let a = alone_of c.self.inside in
-    let e1 = sym c.address_at.ensures.live ∙ ap (λ (o : Option ℕ). is_some o) (none-from c.address_at.result c.in_default.not-Some) in
-    let e = send-is a.state c.args.from.node c.args.from.port c.args.to c.args.priority c.args.bytes.now _ _ _ _ e1 c.address_at.ensures.channel refl refl refl in
-    sym c.self.view_is ∙ alone-refused a c.args.from.node call EndpInvalid e ∙ ap (λ (x : Alone). after_own_call x c.args.from.node call) c.self.view_is
+    let e1 = sym (c.address_at.ensures.live c.self.inside.book) ∙ ap (λ (o : Option ℕ). is_some o) (none-from c.address_at.result c.in_default.not-Some) in
+    let e = send-is a.state c.args.from.node c.args.from.port c.args.to c.args.priority c.args.bytes.now _ _ _ _ e1 (c.address_at.ensures.channel c.self.inside.book) refl refl refl in
+    ap (λ (x : DomainView). x.alone) (sym c.self.view_is) ∙ alone-refused a c.args.from.node call EndpInvalid e ∙ ap (λ (x : DomainView). after_own_call x.alone c.args.from.node call) c.self.view_is
 
 pub returns-in_default-clause-told : goal.returns-in_default-clause-told
 returns-in_default-clause-told c =
-    let call : Call = MsgSend c.args.from.port c.args.to c.args.priority c.args.bytes.now in
+    let call : DomainCall = send_from c.args.from.port c.args.to c.args.priority c.args.bytes.now in
     let a = alone_of c.self.inside in
-    let e1 = sym c.address_at.ensures.live ∙ ap (λ (o : Option ℕ). is_some o) (none-from c.address_at.result c.in_default.not-Some) in
-    let e = send-is a.state c.args.from.node c.args.from.port c.args.to c.args.priority c.args.bytes.now _ _ _ _ e1 c.address_at.ensures.channel refl refl refl in
-    ap (λ (ps : List (ℕ × List ℕ)). noted_all c.args.journal.now.lines (map put_entry ps)) (sym (puts-refused a.state c.args.from.node call EndpInvalid e) ∙ ap (λ (x : Alone). puts x.state c.args.from.node call) c.self.view_is)
+    let e1 = sym (c.address_at.ensures.live c.self.inside.book) ∙ ap (λ (o : Option ℕ). is_some o) (none-from c.address_at.result c.in_default.not-Some) in
+    let e = send-is a.state c.args.from.node c.args.from.port c.args.to c.args.priority c.args.bytes.now _ _ _ _ e1 (c.address_at.ensures.channel c.self.inside.book) refl refl refl in
+    ap (λ (ps : List (ℕ × List ℕ)). noted_all c.args.journal.now.lines (map put_entry ps)) (sym (puts-refused a.state c.args.from.node call EndpInvalid e) ∙ ap (λ (x : DomainView). puts x.alone.state c.args.from.node call) c.self.view_is)
 
 -- ---- the named endpoint is not known
 
 pub returns-in_default-address_of-clause-answer : goal.returns-in_default-address_of-clause-answer
 returns-in_default-address_of-clause-answer c =
-    let call : Call = MsgSend c.args.from.port c.args.to c.args.priority c.args.bytes.now in
+    let call : DomainCall = send_from c.args.from.port c.args.to c.args.priority c.args.bytes.now in
     let a = alone_of c.self.inside in
-    let e3 = ap (λ (x : Alone). is_some (address_of x.state c.args.to)) c.self.view_is ∙ ap (λ (o : Option ℕ). is_some o) (sym c.address_of.ensures.address ∙ none-from c.address_of.result c.in_default-address_of.not-Some) in
-    let e = send-is a.state c.args.from.node c.args.from.port c.args.to c.args.priority c.args.bytes.now _ _ _ _ (sym c.in-Some.ensures.live) c.in-Some.ensures.channel e3 refl refl in
-    answer-refused a.state c.args.from.node call PeerInvalid e ∙ ap (λ (x : Alone). answer x.state c.args.from.node call) c.self.view_is
+    let e3 = ap (λ (x : DomainView). is_some (address_of x.alone.state c.args.to)) c.self.view_is ∙ ap (λ (o : Option ℕ). is_some o) (sym c.address_of.ensures.address ∙ none-from c.address_of.result c.in_default-address_of.not-Some) in
+    let e = send-is a.state c.args.from.node c.args.from.port c.args.to c.args.priority c.args.bytes.now _ _ _ _ (sym (c.in-Some.ensures.live c.self.inside.book)) (c.in-Some.ensures.channel c.self.inside.book) e3 refl refl in
+    answer-refused a.state c.args.from.node call PeerInvalid e ∙ ap (λ (x : DomainView). answer x.alone.state c.args.from.node call) c.self.view_is
 
 -- ---- the message is too long
 
 pub returns-then-bytes-gt-ITEM_SIZE-clause-answer : goal.returns-then-bytes-gt-ITEM_SIZE-clause-answer
 returns-then-bytes-gt-ITEM_SIZE-clause-answer c =
-    let call : Call = MsgSend c.args.from.port c.args.to c.args.priority c.args.bytes.now in
+    let call : DomainCall = send_from c.args.from.port c.args.to c.args.priority c.args.bytes.now in
     let a = alone_of c.self.inside in
-    let e3 = ap (λ (x : Alone). is_some (address_of x.state c.args.to)) c.self.view_is ∙ ap (λ (o : Option ℕ). is_some o) (sym c.in-Some-address_of.ensures.address) in
+    let e3 = ap (λ (x : DomainView). is_some (address_of x.alone.state c.args.to)) c.self.view_is ∙ ap (λ (o : Option ℕ). is_some o) (sym c.in-Some-address_of.ensures.address) in
     let long : 488 < length c.args.bytes.now = omega (arith, c.if-bytes-gt-ITEM_SIZE.true) in
     let e4 : nat_lt 488 (length c.args.bytes.now) ≡ true = grind arith in
-    let e = send-is a.state c.args.from.node c.args.from.port c.args.to c.args.priority c.args.bytes.now _ _ _ _ (sym c.in-Some.ensures.live) c.in-Some.ensures.channel e3 e4 refl in
-    answer-refused a.state c.args.from.node call MsgSize e ∙ ap (λ (x : Alone). answer x.state c.args.from.node call) c.self.view_is
+    let e = send-is a.state c.args.from.node c.args.from.port c.args.to c.args.priority c.args.bytes.now _ _ _ _ (sym (c.in-Some.ensures.live c.self.inside.book)) (c.in-Some.ensures.channel c.self.inside.book) e3 e4 refl in
+    answer-refused a.state c.args.from.node call MsgSize e ∙ ap (λ (x : DomainView). answer x.alone.state c.args.from.node call) c.self.view_is
 
 -- ---- no buffer is free
 
@@ -85,64 +91,91 @@ short size le = grind arith
 
 pub returns-in_default-use_free-clause-answer : goal.returns-in_default-use_free-clause-answer
 returns-in_default-use_free-clause-answer c =
-    let call : Call = MsgSend c.args.from.port c.args.to c.args.priority c.args.bytes.now in
+    let call : DomainCall = send_from c.args.from.port c.args.to c.args.priority c.args.bytes.now in
     let a = alone_of c.self.inside in
     let n = c.self.inside.number in
-    let l = c.self.inside.lane in
-    let e3 = ap (λ (x : Alone). is_some (address_of x.state c.args.to)) c.self.view_is ∙ ap (λ (o : Option ℕ). is_some o) (sym c.in-Some-address_of.ensures.address) in
+    let l = lane_in c.self.inside.lane in
+    let e3 = ap (λ (x : DomainView). is_some (address_of x.alone.state c.args.to)) c.self.view_is ∙ ap (λ (o : Option ℕ). is_some o) (sym c.in-Some-address_of.ensures.address) in
     let e4 = short (length c.args.bytes.now) (omega (arith, c.if-bytes-gt-ITEM_SIZE.false)) in
-    let own : c.args.to.domain ≡ n = c.in-Some-address_of.ensures.own refl ∙ ap (λ (x : Alone). x.state.number) (sym c.self.view_is) in
+    let own : c.args.to.domain ≡ n = c.in-Some-address_of.ensures.own refl ∙ ap (λ (x : DomainView). x.alone.state.number) (sym c.self.view_is) in
     let none : l.free ≡ 0 = c.use_free.ensures.none.0 (ap (λ (o : Option Stored). is_some o) (none-from c.use_free.result c.in_default-use_free.not-Some)) in
-    let e5 : lacks_buffers a.state (success_puts a.state c.args.from.node call) ≡ true = ap (λ (k : ℕ). nat_lt k 1) (own-free n c.self.inside.nodes c.self.inside.endpoints l c.args.to.domain own) ∙ lacks l.free none in
-    let e = send-is a.state c.args.from.node c.args.from.port c.args.to c.args.priority c.args.bytes.now _ _ _ _ (sym c.in-Some.ensures.live) c.in-Some.ensures.channel e3 e4 e5 in
-    answer-refused a.state c.args.from.node call NoBuffer e ∙ ap (λ (x : Alone). answer x.state c.args.from.node call) c.self.view_is
+    let e5 : lacks_buffers a.state (success_puts a.state c.args.from.node call) ≡ true = ap (λ (k : ℕ). nat_lt k 1) (own-free n c.self.inside.nodes (table_in c.self.inside.book c.self.inside.endpoints c.self.inside.requests) l c.args.to.domain own) ∙ lacks l.free none in
+    let e = send-is a.state c.args.from.node c.args.from.port c.args.to c.args.priority c.args.bytes.now _ _ _ _ (sym (c.in-Some.ensures.live c.self.inside.book)) (c.in-Some.ensures.channel c.self.inside.book) e3 e4 e5 in
+    answer-refused a.state c.args.from.node call NoBuffer e ∙ ap (λ (x : DomainView). answer x.alone.state c.args.from.node call) c.self.view_is
 
 -- ---- the message is put
 
 -- no word holds
-unrefused : (c : goal.After-put) → refusal (alone_of c.self.inside).state c.args.from.node (MsgSend c.args.from.port c.args.to c.args.priority c.args.bytes.now) ≡ None
+unrefused : (c : goal.After-put) → refusal (alone_of c.self.inside).state c.args.from.node (send_from c.args.from.port c.args.to c.args.priority c.args.bytes.now) ≡ None
 unrefused c =
-    let call : Call = MsgSend c.args.from.port c.args.to c.args.priority c.args.bytes.now in
+    let call : DomainCall = send_from c.args.from.port c.args.to c.args.priority c.args.bytes.now in
     let a = alone_of c.self.inside in
     let n = c.self.inside.number in
-    let l = c.self.inside.lane in
-    let e3 = ap (λ (x : Alone). is_some (address_of x.state c.args.to)) c.self.view_is ∙ ap (λ (o : Option ℕ). is_some o) (sym c.in-Some-address_of.ensures.address) in
+    let l = lane_in c.self.inside.lane in
+    let e3 = ap (λ (x : DomainView). is_some (address_of x.alone.state c.args.to)) c.self.view_is ∙ ap (λ (o : Option ℕ). is_some o) (sym c.in-Some-address_of.ensures.address) in
     let e4 = short (length c.args.bytes.now) (omega (arith, c.if-bytes-gt-ITEM_SIZE.false)) in
-    let own : c.args.to.domain ≡ n = c.in-Some-address_of.ensures.own refl ∙ ap (λ (x : Alone). x.state.number) (sym c.self.view_is) in
+    let own : c.args.to.domain ≡ n = c.in-Some-address_of.ensures.own refl ∙ ap (λ (x : DomainView). x.alone.state.number) (sym c.self.view_is) in
     let some : 0 < l.free = some-free l.free (λ (none : l.free ≡ 0). absurd-some (c.in-Some-use_free.ensures.none.1 none)) in
-    let e5 : lacks_buffers a.state (success_puts a.state c.args.from.node call) ≡ false = ap (λ (k : ℕ). nat_lt k 1) (own-free n c.self.inside.nodes c.self.inside.endpoints l c.args.to.domain own) ∙ suffices l.free some in
-    send-is a.state c.args.from.node c.args.from.port c.args.to c.args.priority c.args.bytes.now _ _ _ _ (sym c.in-Some.ensures.live) c.in-Some.ensures.channel e3 e4 e5
+    let e5 : lacks_buffers a.state (success_puts a.state c.args.from.node call) ≡ false = ap (λ (k : ℕ). nat_lt k 1) (own-free n c.self.inside.nodes (table_in c.self.inside.book c.self.inside.endpoints c.self.inside.requests) l c.args.to.domain own) ∙ suffices l.free some in
+    send-is a.state c.args.from.node c.args.from.port c.args.to c.args.priority c.args.bytes.now _ _ _ _ (sym (c.in-Some.ensures.live c.self.inside.book)) (c.in-Some.ensures.channel c.self.inside.book) e3 e4 e5
 
 -- what is put is the frame of success
 put-frame : (c : goal.After-put) → frame_in c.fill-carried.result ≡ made (unwrap_or (address_at (alone_of c.self.inside).state (local c.args.from.node c.args.from.port)) 0) (unwrap_or (address_of (alone_of c.self.inside).state c.args.to) 0) (spelling (msg c.args.priority c.args.bytes.now))
 put-frame c =
     let text = spelling (msg c.args.priority c.args.bytes.now) in
-    let source : address_at (alone_of c.self.inside).state (local c.args.from.node c.args.from.port) ≡ Some c.in-Some.source = sym c.in-Some.ensures.address in
-    let destination : address_of (alone_of c.self.inside).state c.args.to ≡ Some c.in-Some-address_of.destination = ap (λ (x : Alone). address_of x.state c.args.to) c.self.view_is ∙ sym c.in-Some-address_of.ensures.address in
-    c.fill-carried.ensures
+    let source : address_at (alone_of c.self.inside).state (local c.args.from.node c.args.from.port) ≡ Some c.in-Some.source = sym (c.in-Some.ensures.address c.self.inside.book) in
+    let destination : address_of (alone_of c.self.inside).state c.args.to ≡ Some c.in-Some-address_of.destination = ap (λ (x : DomainView). address_of x.alone.state c.args.to) c.self.view_is ∙ sym c.in-Some-address_of.ensures.address in
+    c.fill-carried.ensures.frame
     ∙ ap (λ (o : Option ℕ). made (unwrap_or o 0) c.in-Some-address_of.destination text) (sym source)
     ∙ ap (λ (o : Option ℕ). made (unwrap_or (address_at (alone_of c.self.inside).state (local c.args.from.node c.args.from.port)) 0) (unwrap_or o 0) text) (sym destination)
 
+put-pool : (c : goal.After-put) → c.put.new.self ≡ with_put (with_first_used c.self.inside.lane) (framed_in c.fill-carried.result)
+put-pool c = c.put.ensures ∙ ap (λ (p : Pool). with_put p (framed_in c.fill-carried.result)) c.in-Some-use_free.ensures.pool
+
+pub invariant_of-self-2 : goal.invariant_of-self-2
+invariant_of-self-2 c =
+    let i = c.self.invariant in
+    let r = c.self.inside.endpoints in
+    let b = c.self.inside.book in
+    let p = c.self.inside.lane in
+    let f = framed_in c.fill-carried.result in
+    let first : p.free ≡ f.number ∷ drop 1 p.free
+    = c.in-Some-use_free.ensures.first ∙ ap (λ (n : ℕ). n ∷ c.use_free.new.self.free) (sym c.fill-carried.ensures.number) ∙ ap (λ (q : Pool). f.number ∷ q.free) c.in-Some-use_free.ensures.pool in
+    let size : c.put.new.self.size ≡ p.size = ap (λ (q : Pool). q.size) (put-pool c) in
+    let shown : c.put.new.self.shown ≡ p.shown = ap (λ (q : Pool). q.shown) (put-pool c) in
+    let ring : length c.put.new.self.ring ≡ length p.ring + 1 = ap (λ (q : Pool). length q.ring) (put-pool c) ∙ length_push p.ring f in
+    record {
+      places = subst (λ (x : Pool). AreInPlaces r c.self.inside.requests b x) (sym (put-pool c)) (placed-sent r c.self.inside.requests b p f first i.places);
+      receives = i.receives;
+      size = omega (arith, i.size, size);
+      room = omega (arith, i.room, size);
+      number = i.number;
+      shown = omega (arith, i.shown, shown, ring);
+      given = i.given;
+      few = i.few;
+    }
+
 pub returns-clause-answer : goal.returns-clause-answer
 returns-clause-answer c =
-    let call : Call = MsgSend c.args.from.port c.args.to c.args.priority c.args.bytes.now in
-    sym (answer-done (alone_of c.self.inside).state c.args.from.node call (unrefused c)) ∙ ap (λ (x : Alone). answer x.state c.args.from.node call) c.self.view_is
+    let call : DomainCall = send_from c.args.from.port c.args.to c.args.priority c.args.bytes.now in
+    sym (answer-done (alone_of c.self.inside).state c.args.from.node call (unrefused c)) ∙ ap (λ (x : DomainView). answer x.alone.state c.args.from.node call) c.self.view_is
 
 pub returns-clause-alone : goal.returns-clause-alone
 returns-clause-alone c =
-    let call : Call = MsgSend c.args.from.port c.args.to c.args.priority c.args.bytes.now in
+    let call : DomainCall = send_from c.args.from.port c.args.to c.args.priority c.args.bytes.now in
     let a = alone_of c.self.inside in
     let n = c.self.inside.number in
-    let own : c.args.to.domain ≡ n = c.in-Some-address_of.ensures.own refl ∙ ap (λ (x : Alone). x.state.number) (sym c.self.view_is) in
-    let lane = c.put.ensures ∙ ap (λ (l : Lane). with_frame l (frame_in c.fill-carried.result)) c.in-Some-use_free.ensures.lane ∙ ap (λ (f : List ℕ). with_frame (with_one_used c.self.inside.lane) f) (put-frame c) in
-    alone-sent n c.self.inside.nodes c.self.inside.endpoints c.self.inside.lane c.put.new.self c.args.to.domain _ own lane
+    let own : c.args.to.domain ≡ n = c.in-Some-address_of.ensures.own refl ∙ ap (λ (x : DomainView). x.alone.state.number) (sym c.self.view_is) in
+    let p = c.self.inside.lane in
+    let lane = ap lane_in (put-pool c) ∙ lane-sent p (framed_in c.fill-carried.result) ∙ ap (λ (f : List ℕ). with_frame (with_one_used (lane_in p)) f) (put-frame c) in
+    alone-sent n c.self.inside.nodes (table_in c.self.inside.book c.self.inside.endpoints c.self.inside.requests) (lane_in p) (lane_in c.put.new.self) c.args.to.domain _ own lane
     ∙ sym (alone-done a c.args.from.node call (unrefused c))
-    ∙ ap (λ (x : Alone). after_own_call x c.args.from.node call) c.self.view_is
+    ∙ ap (λ (x : DomainView). after_own_call x.alone c.args.from.node call) c.self.view_is
 
 pub returns-clause-told : goal.returns-clause-told
 returns-clause-told c =
-    let call : Call = MsgSend c.args.from.port c.args.to c.args.priority c.args.bytes.now in
+    let call : DomainCall = send_from c.args.from.port c.args.to c.args.priority c.args.bytes.now in
     let lines = c.args.journal.now.lines in
     c.note.ensures.lines
     ∙ ap (λ (f : List ℕ). lines ++ put_line c.args.to.domain f ∷ []) (c.frame.ensures.value ∙ put-frame c)
-    ∙ ap (λ (ps : List (ℕ × List ℕ)). noted_all lines (map put_entry ps)) (sym (puts-done (alone_of c.self.inside).state c.args.from.node call (unrefused c)) ∙ ap (λ (x : Alone). puts x.state c.args.from.node call) c.self.view_is)
+    ∙ ap (λ (ps : List (ℕ × List ℕ)). noted_all lines (map put_entry ps)) (sym (puts-done (alone_of c.self.inside).state c.args.from.node call (unrefused c)) ∙ ap (λ (x : DomainView). puts x.alone.state c.args.from.node call) c.self.view_is)

@@ -1,0 +1,140 @@
+-- What waits at endpoints: how much, and what the book of buffers says of it.
+use Rattle.std.proofs.Common.{◌≡◌, ℕ, zero, suc, ◌+◌, ◌<◌, ◌≤◌, Bool, true, false, cond, List, [], ◌∷◌, ◌++◌, length, map, Option, Some, refl, sym, ap, ◌∙◌, arith, length-append, eq-eqb}
+use Rattle.std.specs.Prelude.{count_by, option_map, option_to_list, slice_get, sum_by, ◌==◌}
+use Rattle.std.proofs.lemmas.Bool.{eqb-true}
+use Rattle.std.proofs.lemmas.List.{length-map, map-append, map_push}
+use Rattle.std.proofs.lemmas.List.Concat.{length-flat_map}
+use Rattle.std.proofs.lemmas.List.Sums.{sum_by_push}
+use Rattle.board_model.specs.Lists.{changed_at}
+use Rattle.board_model.specs.State as state
+use Rattle.board_model.specs.State.{Item, is_from, queue_in}
+use Rattle.board_model.specs.Choice.{best, without_best}
+use Rattle.board_model.specs.Dealing.{queued_last}
+use Rattle.board_model.specs.Effect.{received}
+use Rattle.board_model.proofs.ListsCounts.{count-append, count-cons, count-every}
+use Rattle.board_model.proofs.MessageBest.{best-map, count-best, without_best-map}
+use Rattle.mc_base.specs.declared.request.Slot.{Slot}
+use Rattle.buffer_book.specs.Book.{Book, Kept, with_place}
+use Rattle.message_queue.specs.Queue.{Waiting}
+use Rattle.domain_core.specs.declared.endpoints.Endpoint.{Endpoint}
+use Rattle.domain_core.specs.Table.{items_in}
+use Rattle.domain_core.specs.Records.{all_waiting, waiting_in, with_best_taken, with_waiting}
+use Rattle.domain_core.specs.InBook.{content_in, endpoint_in, endpoints_in, item_in, source_in}
+use Rattle.domain_core.specs.InPlaces.{is_same, one_if, times_waiting}
+use Rattle.domain_core.proofs.Books.{differ-back, itself, queued-there}
+use Rattle.domain_core.proofs.Placed.{no-one}
+
+-- ---- how much waits
+
+pub waiting-more : (test : Waiting → Bool) (w : Waiting) (es : List Endpoint) (i : ℕ) → i < length es → count_by test (all_waiting (changed_at (with_waiting w) i es)) ≡ count_by test (all_waiting es) + one_if (test w)
+waiting-more test w [] i lt = absurd (omega arith)
+waiting-more test w (e ∷ es) zero lt =
+    omega (arith, count-append test (e.queue.waiting ++ w ∷ []) (all_waiting es), count-append test e.queue.waiting (all_waiting es), sum_by_push (λ (x : Waiting). cond (test x) 1 0) e.queue.waiting w)
+waiting-more test w (e ∷ es) (suc i) lt =
+    omega (arith, waiting-more test w es i (omega arith), count-append test e.queue.waiting (all_waiting (changed_at (with_waiting w) i es)), count-append test e.queue.waiting (all_waiting es))
+
+best-one : (test : Waiting → Bool) (w : Waiting) (q : List Waiting) → best (λ (x : Waiting). x.priority) q ≡ Some w → count_by test (without_best (λ (x : Waiting). x.priority) q) + one_if (test w) ≡ count_by test q
+best-one test w q is =
+    let all = count-best test (λ (x : Waiting). x.priority) q in
+    let one : count_by test (option_to_list (best (λ (x : Waiting). x.priority) q)) ≡ one_if (test w) + count_by test [] = ap (λ (o : Option Waiting). count_by test (option_to_list o)) is ∙ count-cons test w [] in
+    omega (arith, all, one)
+
+pub waiting-less : (test : Waiting → Bool) (w : Waiting) (es : List Endpoint) (i : ℕ) → best (λ (x : Waiting). x.priority) (waiting_in (slice_get es i)) ≡ Some w → count_by test (all_waiting (changed_at with_best_taken i es)) + one_if (test w) ≡ count_by test (all_waiting es)
+waiting-less test w [] i is = absurd cc
+waiting-less test w (e ∷ es) zero is =
+    omega (arith, best-one test w e.queue.waiting is, count-append test (without_best (λ (x : Waiting). x.priority) e.queue.waiting) (all_waiting es), count-append test e.queue.waiting (all_waiting es))
+waiting-less test w (e ∷ es) (suc i) is =
+    omega (arith, waiting-less test w es i is, count-append test e.queue.waiting (all_waiting (changed_at with_best_taken i es)), count-append test e.queue.waiting (all_waiting es))
+
+pub length-more : (w : Waiting) (es : List Endpoint) (i : ℕ) → i < length es → length (all_waiting (changed_at (with_waiting w) i es)) ≡ length (all_waiting es) + 1
+length-more w es i lt = sym (count-every (all_waiting (changed_at (with_waiting w) i es))) ∙ waiting-more (λ (x : Waiting). true) w es i lt ∙ ap (λ (n : ℕ). n + 1) (count-every (all_waiting es))
+
+pub length-less : (w : Waiting) (es : List Endpoint) (i : ℕ) → best (λ (x : Waiting). x.priority) (waiting_in (slice_get es i)) ≡ Some w → length (all_waiting (changed_at with_best_taken i es)) + 1 ≡ length (all_waiting es)
+length-less w es i is = ap (λ (n : ℕ). n + 1) (sym (count-every (all_waiting (changed_at with_best_taken i es)))) ∙ waiting-less (λ (x : Waiting). true) w es i is ∙ count-every (all_waiting es)
+
+-- a new endpoint has nothing
+pub waiting-new : (es : List Endpoint) (e : Endpoint) → e.queue.waiting ≡ [] → all_waiting (es ++ e ∷ []) ≡ all_waiting es
+waiting-new [] e none = ap (λ (ws : List Waiting). ws ++ []) none
+waiting-new (x ∷ es) e none = ap (λ (ws : List Waiting). x.queue.waiting ++ ws) (waiting-new es e none)
+
+-- what waits at one endpoint is no more than all
+pub waiting-within : (es : List Endpoint) (i : ℕ) → length (waiting_in (slice_get es i)) ≤ length (all_waiting es)
+waiting-within [] i = omega arith
+waiting-within (e ∷ es) zero = omega (arith, length-append e.queue.waiting (all_waiting es))
+waiting-within (e ∷ es) (suc i) = omega (arith, waiting-within es i, length-append e.queue.waiting (all_waiting es))
+
+pub sum-waiting : (es : List Endpoint) → sum_by (λ (e : Endpoint). length e.queue.waiting) es ≡ length (all_waiting es)
+sum-waiting es = sym (length-flat_map (λ (e : Endpoint). e.queue.waiting) es)
+
+-- ---- what waits, by the book
+
+-- what waits in other buffers than the one that changed
+items-stay : (b : Book) (s : Slot) (k : Option Kept) (ws : List Waiting) → times_waiting s ws ≡ 0 → map (item_in (with_place b s k)) ws ≡ map (item_in b) ws
+items-stay b s k [] none = refl
+items-stay b s k (w ∷ ws) none =
+    let sum = count-cons (λ (x : Waiting). is_same x.slot s) w ws in
+    let here : one_if (is_same w.slot s) ≡ 0 = omega (arith, sum, none) in
+    let rest : times_waiting s ws ≡ 0 = omega (arith, sum, none) in
+    let differ = differ-back w.slot s (no-one (is_same w.slot s) here) in
+    let item : item_in (with_place b s k) w ≡ item_in b w = ap (λ (o : Option Kept). record { peer = w.slot.peer; source = source_in o; priority = w.priority; content = content_in o }) (queued-there b s k w.slot differ) in
+    ap (λ (x : Item). x ∷ map (item_in (with_place b s k)) ws) item ∙ ap (λ (xs : List Item). item_in b w ∷ xs) (items-stay b s k ws rest)
+
+pub endpoints-stay : (b : Book) (s : Slot) (k : Option Kept) (es : List Endpoint) → times_waiting s (all_waiting es) ≡ 0 → endpoints_in (with_place b s k) es ≡ endpoints_in b es
+endpoints-stay b s k [] none = refl
+endpoints-stay b s k (e ∷ es) none =
+    let sum = count-append (λ (x : Waiting). is_same x.slot s) e.queue.waiting (all_waiting es) in
+    let here : times_waiting s e.queue.waiting ≡ 0 = omega (arith, sum, none) in
+    let rest : times_waiting s (all_waiting es) ≡ 0 = omega (arith, sum, none) in
+    ap (λ (q : List Item). record (endpoint_in b e) { queue = q } ∷ endpoints_in (with_place b s k) es) (items-stay b s k e.queue.waiting here)
+    ∙ ap (λ (xs : List state.Endpoint). endpoint_in b e ∷ xs) (endpoints-stay b s k es rest)
+
+-- an item more, last at a place
+pub endpoints-more : (b : Book) (w : Waiting) (es : List Endpoint) (i : ℕ) → endpoints_in b (changed_at (with_waiting w) i es) ≡ changed_at (queued_last (item_in b w)) i (endpoints_in b es)
+endpoints-more b w [] i = refl
+endpoints-more b w (e ∷ es) zero = ap (λ (q : List Item). record (endpoint_in b e) { queue = q } ∷ endpoints_in b es) (map_push (item_in b) e.queue.waiting w)
+endpoints-more b w (e ∷ es) (suc i) = ap (λ (xs : List state.Endpoint). endpoint_in b e ∷ xs) (endpoints-more b w es i)
+
+-- the item that is received is gone
+pub endpoints-less : (b : Book) (es : List Endpoint) (i : ℕ) → endpoints_in b (changed_at with_best_taken i es) ≡ changed_at received i (endpoints_in b es)
+endpoints-less b [] i = refl
+endpoints-less b (e ∷ es) zero = ap (λ (q : List Item). record (endpoint_in b e) { queue = q } ∷ endpoints_in b es) (sym (without_best-map (item_in b) (λ (w : Waiting). w.priority) (λ (x : Item). x.priority) (λ w. refl) e.queue.waiting))
+endpoints-less b (e ∷ es) (suc i) = ap (λ (xs : List state.Endpoint). endpoint_in b e ∷ xs) (endpoints-less b es i)
+
+pub queue-there : (b : Book) (es : List Endpoint) (i : ℕ) → queue_in (slice_get (endpoints_in b es) i) ≡ map (item_in b) (waiting_in (slice_get es i))
+queue-there b [] i = refl
+queue-there b (e ∷ es) zero = refl
+queue-there b (e ∷ es) (suc i) = queue-there b es i
+
+-- the item that is received
+pub best-there : (b : Book) (es : List Endpoint) (i : ℕ) (w : Waiting) → best (λ (x : Waiting). x.priority) (waiting_in (slice_get es i)) ≡ Some w → best (λ (x : Item). x.priority) (queue_in (slice_get (endpoints_in b es) i)) ≡ Some (item_in b w)
+best-there b es i w is =
+    ap (best (λ (x : Item). x.priority)) (queue-there b es i)
+    ∙ best-map (item_in b) (λ (x : Waiting). x.priority) (λ (x : Item). x.priority) (λ x. refl) (waiting_in (slice_get es i))
+    ∙ ap (λ (o : Option Waiting). option_map (item_in b) o) is
+
+pub none-there : (b : Book) (es : List Endpoint) (i : ℕ) → waiting_in (slice_get es i) ≡ [] → length (queue_in (slice_get (endpoints_in b es) i)) ≡ 0
+none-there b es i none = ap length (queue-there b es i ∙ ap (map (item_in b)) none)
+
+-- ---- all items
+
+items-are : (b : Book) (es : List Endpoint) → items_in (endpoints_in b es) ≡ map (item_in b) (all_waiting es)
+items-are b [] = refl
+items-are b (e ∷ es) = ap (λ (xs : List Item). map (item_in b) e.queue.waiting ++ xs) (items-are b es) ∙ sym (map-append (item_in b) e.queue.waiting (all_waiting es))
+
+pub length-items : (b : Book) (es : List Endpoint) → length (items_in (endpoints_in b es)) ≡ length (all_waiting es)
+length-items b es = ap length (items-are b es) ∙ length-map (all_waiting es) (item_in b)
+
+own_waiting : (b : Book) (number : ℕ) (ws : List Waiting) → ((s : Slot) → (number == s.peer) ≡ false → times_waiting s ws ≡ 0) → count_by (is_from number) (map (item_in b) ws) ≡ length ws
+own_waiting b number [] strangers = refl
+own_waiting b number (w ∷ ws) strangers =
+    let sum = λ (s : Slot). count-cons (λ (x : Waiting). is_same x.slot s) w ws in
+    let rest = own_waiting b number ws (λ s stranger. let none = strangers s stranger in let part = sum s in omega (arith, none, part)) in
+    count-cons (is_from number) (item_in b w) (map (item_in b) ws) ∙ go (number == w.slot.peer) refl rest
+  where
+    go : (x : Bool) → (number == w.slot.peer) ≡ x → count_by (is_from number) (map (item_in b) ws) ≡ length ws → one_if (w.slot.peer == number) + count_by (is_from number) (map (item_in b) ws) ≡ suc (length ws)
+    go true own rest = ap (λ (y : Bool). one_if y + count_by (is_from number) (map (item_in b) ws)) (eq-eqb w.slot.peer number (sym (eqb-true number w.slot.peer own))) ∙ omega (arith, rest)
+    go false stranger rest = absurd (let none = strangers w.slot stranger in let part = count-cons (λ (x : Waiting). is_same x.slot w.slot) w ws in let own : one_if (is_same w.slot w.slot) ≡ 1 = ap one_if (itself w.slot) in omega (arith, none, part, own))
+
+-- all items are of the domain itself
+pub own-items : (b : Book) (number : ℕ) (es : List Endpoint) → ((s : Slot) → (number == s.peer) ≡ false → times_waiting s (all_waiting es) ≡ 0) → count_by (is_from number) (items_in (endpoints_in b es)) ≡ length (items_in (endpoints_in b es))
+own-items b number es strangers = ap (count_by (is_from number)) (items-are b es) ∙ own_waiting b number (all_waiting es) strangers ∙ sym (length-items b es)

@@ -1,0 +1,30 @@
+use Rattle.std.proofs.Common.{◌≡◌, ◌∙◌, ap, sym, refl, List, [], ◌++◌, ℕ, map}
+use Rattle.std.proofs.lemmas.List.{append-nil}
+use Rattle.board_model.specs.DomainCall.{DomainCall, cancel_of}
+use Rattle.board_model.specs.Journal.{noted, noted_all, turned}
+use Rattle.board_model.specs.Lists.{without}
+use Rattle.board_model.specs.Answer.{answer}
+use Rattle.board_model.specs.Serial.{own_turn, after_own_turn, after_own_call, put_entry}
+use Rattle.domain_core.specs.Calls.{place_ended}
+use Rattle.domain_core.specs.DomainView.{DomainView, place_of_id}
+use Rattle.domain_core.proofs.Calling.{puts-nothing}
+use Rattle.domain_core.proofs.Making.{view-is}
+use Rattle.domain_core.proofs.domain.Domain.cancel.Goals as goal
+
+pub returns : goal.returns
+returns c =
+    let old = c.args.self.now.alone in
+    let ids = c.args.self.now.ids in
+    let id = c.args.id in
+    let call : DomainCall = cancel_of (place_of_id c.args.self.now id) in
+    let mid : c.turn.new.self ≡ record { alone = after_own_turn old; ids = ids } = view-is c.turn.new.self (after_own_turn old) ids c.turn.ensures.alone c.turn.ensures.ids in
+    record {
+      turn = c.turn.ensures.allowed;
+      answer = c.end_pending.ensures.answer ∙ ap (λ (v : DomainView). answer v.alone.state 0 (cancel_of (place_of_id v id))) mid;
+      state = c.end_pending.ensures.alone ∙ ap (λ (v : DomainView). after_own_call v.alone 0 (cancel_of (place_of_id v id))) mid;
+      told = c.turn.ensures.told ∙ ap (λ (ps : List (ℕ × List ℕ)). noted_all (noted c.args.journal.now.lines (turned (own_turn old))) (map put_entry ps)) (sym (puts-nothing (after_own_turn old).state 0 call refl));
+      ids = c.end_pending.ensures.ids
+          ∙ ap (λ (v : DomainView). without (place_ended v.alone.state 0 (cancel_of (place_of_id v id))) v.ids) mid
+          ∙ sym (append-nil (without (place_ended (after_own_turn old).state 0 call) ids));
+      fresh = tt;
+    }

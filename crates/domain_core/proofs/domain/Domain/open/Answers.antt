@@ -1,0 +1,50 @@
+use Rattle.std.proofs.Common.{◌≡◌, ◌∙◌, ℕ, [], ◌∷◌, ap, sym, subst, arith, length, map}
+use Rattle.std.proofs.lemmas.List.FromFn.{length-range_with_len}
+use Rattle.buffer_book.specs.Book.{Book, opening_book}
+use Rattle.request_set.specs.Requests.{Requests, Standing, no_requests}
+use Rattle.domain_core.specs.InRequests.{AreReceives}
+use Rattle.domain_core.specs.Records.{Records, opening_records}
+use Rattle.domain_core.specs.Pool.{Pool, lane_in, opening_pool}
+use Rattle.domain_core.specs.InBook.{table_in}
+use Rattle.domain_core.specs.InPlaces.{AreInPlaces}
+use Rattle.domain_core.specs.Alone.{alone}
+use Rattle.domain_core.proofs.Opening.{placed-opening}
+use Rattle.domain_core.proofs.domain.Domain.open.Goals as goal
+
+pub invariant_of-result : goal.invariant_of-result
+invariant_of-result c =
+    let records = c.in_ok-open.ensures in
+    let book = c.in_ok-new.ensures in
+    let pool = c.in_ok-open-2.ensures in
+    let requests = c.in_ok-new-2.ensures in
+    let r' = opening_records c.args.number c.args.pool in
+    let b' = opening_book ((c.args.number, c.args.pool) ∷ []) in
+    let placed = placed-opening c.args.number c.args.pool c.args.pool in
+    let few : length c.in_ok-open.field-0.endpoints ≡ 0 = ap (λ (r : Records). length r.endpoints) records in
+    let size : c.in_ok-open-2.field-0.size ≡ c.args.pool = ap (λ (p : Pool). p.size) pool in
+    let none : AreReceives no_requests = record { each = tt; differ = tt; few = omega arith } in
+    record {
+      places = subst (λ (r : Records). AreInPlaces r c.in_ok-new-2.field-0 c.in_ok-new.field-0 c.in_ok-open-2.field-0) (sym records) (subst (λ (q : Requests). AreInPlaces r' q c.in_ok-new.field-0 c.in_ok-open-2.field-0) (sym requests) (subst (λ (b : Book). AreInPlaces r' no_requests b c.in_ok-open-2.field-0) (sym book) (subst (λ (p : Pool). AreInPlaces r' no_requests b' p) (sym pool) placed)));
+      receives = subst AreReceives (sym requests) none;
+      size = omega (arith, size, c.requires.pool);
+      room = omega (arith, size, ap (λ (r : Records). r.room) records);
+      number = ap (λ (r : Records). r.number) records;
+      shown = omega (arith, ap (λ (p : Pool). p.shown) pool);
+      given = ap (λ (r : Records). r.given) records ∙ sym few;
+      few = omega (arith, few);
+    }
+
+pub returns-clause-alone : goal.returns-clause-alone
+returns-clause-alone c =
+    let n = c.args.number in
+    let nodes = c.args.nodes in
+    let r' = opening_records n c.args.pool in
+    let b' = opening_book ((n, c.args.pool) ∷ []) in
+    ap (λ (r : Records). alone n nodes (table_in c.in_ok-new.field-0 r c.in_ok-new-2.field-0) (lane_in c.in_ok-open-2.field-0)) c.in_ok-open.ensures
+    ∙ ap (λ (q : Requests). alone n nodes (table_in c.in_ok-new.field-0 r' q) (lane_in c.in_ok-open-2.field-0)) c.in_ok-new-2.ensures
+    ∙ ap (λ (b : Book). alone n nodes (table_in b r' no_requests) (lane_in c.in_ok-open-2.field-0)) c.in_ok-new.ensures
+    ∙ ap (λ (p : Pool). alone n nodes (table_in b' r' no_requests) (lane_in p)) c.in_ok-open-2.ensures
+    ∙ ap (λ (free : ℕ). alone n nodes (table_in b' r' no_requests) (record (lane_in (opening_pool c.args.pool)) { free = free })) (length-range_with_len 0 c.args.pool)
+
+pub returns-clause-ids : goal.returns-clause-ids
+returns-clause-ids c = ap (λ (q : Requests). map (λ (r : Standing). r.id) q.standing) c.in_ok-new-2.ensures

@@ -1,0 +1,71 @@
+-- The endpoints and requests as the board's definitions see them: what waits or was handed is read in the book of buffers.
+-- Source: docs/PROFILE.md, "Messages" and "Requests". A message lies in the buffer of its frame, whose header names its
+-- source, and whose letter names its priority.
+use Rattle.std.specs.Prelude.{ℕ, true, List, [], map, slice_index, Option, None, Some, option_map}
+use Rattle.mc_base.specs.Frame.{source_of}
+use Rattle.mc_base.specs.declared.request.Slot.{Slot}
+use Rattle.board_model.specs.State as state
+use Rattle.buffer_book.specs.Book.{Book, Kept, content, queued_at}
+use Rattle.message_queue.specs.Queue.{Waiting, waiting}
+use Rattle.request_set.specs.declared.ask.Ask.{Ask}
+use Rattle.request_set.specs.declared.ask.Ask.TheVariants as ask
+use Rattle.request_set.specs.declared.ask.Complete.{Complete}
+use Rattle.request_set.specs.declared.ask.Complete.TheVariants as complete
+use Rattle.request_set.specs.Requests.{Standing, Requests}
+use Rattle.domain_core.specs.declared.endpoints.Endpoint.{Endpoint}
+use Rattle.domain_core.specs.Table.{Held, Table}
+use Rattle.domain_core.specs.Records.{Records}
+
+-- the address that a buffer's frame came from, its content, and its priority
+abbrev pub source_in : Option Kept → ℕ
+source_in None = 0
+source_in (Some k) = source_of k.buffer.bytes
+
+abbrev pub content_in : Option Kept → List ℕ
+content_in None = []
+content_in (Some k) = content k
+
+-- byte 19 of a frame is the argument of its letter
+abbrev pub priority_in : Option Kept → ℕ
+priority_in None = 0
+priority_in (Some k) = slice_index k.buffer.bytes 19
+
+-- what waits in a buffer
+abbrev pub item_in : Book → Waiting → state.Item
+item_in b w = record { peer = w.slot.peer; source = source_in (queued_at b w.slot); priority = w.priority; content = content_in (queued_at b w.slot) }
+
+-- what was handed in a buffer
+abbrev pub item_at : Book → Slot → state.Item
+item_at b slot = item_in b (waiting slot (priority_in (queued_at b slot)))
+
+abbrev pub endpoint_in : Book → Endpoint → state.Endpoint
+endpoint_in b e = record { local = e.local; address = e.address; live = true; queue = map (item_in b) e.queue.waiting; channel = None }
+
+abbrev pub endpoints_in : Book → List Endpoint → List state.Endpoint
+endpoints_in b es = map (endpoint_in b) es
+
+abbrev pub asked_in : Ask → state.Asked
+asked_in (ask.Lookup name) = state.name_of name
+asked_in (ask.Connect channel) = state.channel_of channel
+asked_in (ask.Message at max) = state.message_at at max
+asked_in (ask.Packet at) = state.packet_at at
+
+abbrev pub outcome_in : Book → Complete → state.Outcome
+outcome_in b (complete.Address address) = state.has_address address
+outcome_in b complete.Accepted = state.is_accepted
+outcome_in b (complete.Rejected reason) = state.is_rejected reason
+outcome_in b (complete.Message slot max) = state.has_item (item_at b slot)
+outcome_in b (complete.Packet slot) = state.has_item (item_at b slot)
+outcome_in b (complete.Ended word) = state.has_ended word
+
+abbrev pub request_in : Book → Standing → state.Request
+request_in b r = record { serial = r.id.serial; asked = asked_in r.ask; outcome = option_map (outcome_in b) r.complete }
+
+abbrev pub requests_in : Book → List Standing → List state.Request
+requests_in b rs = map (request_in b) rs
+
+abbrev pub held_by : Book → Records → Requests → Held
+held_by b r q = record { endpoints = endpoints_in b r.endpoints; requests = requests_in b q.standing }
+
+abbrev pub table_in : Book → Records → Requests → Table
+table_in b r q = record { number = r.number; held = held_by b r q; given = r.given; room = r.room; requests_given = q.given }

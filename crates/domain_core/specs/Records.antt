@@ -1,0 +1,48 @@
+-- The endpoints of a domain, as the table of them is seen: their names and addresses, and the buffers that wait there.
+-- Source: docs/PROFILE.md, "A domain". Of a buffer that waits stand its slot and its priority here; what it holds is told
+-- in the book of buffers.
+use Rattle.std.specs.Prelude.{ℕ, ◌+◌, List, [], ◌∷◌, ◌++◌, Option, None, Some}
+use Rattle.std.specs.List.{flat_map}
+use Rattle.mc_base.specs.declared.name.Local.{Local}
+use Rattle.message_queue.specs.Queue.{Waiting, empty_queue, pushed, popped_best}
+use Rattle.board_model.specs.Lists.{changed_at}
+use Rattle.domain_core.specs.declared.endpoints.Endpoint.{Endpoint}
+
+-- the domain's number, its endpoints, how many were created, and for how many buffers each queue has room
+pub record Records : Type 0 where
+  pub number : ℕ
+  pub endpoints : List Endpoint
+  pub given : ℕ
+  pub room : ℕ
+
+abbrev pub opening_records : ℕ → ℕ → Records
+opening_records number room = record { number = number; endpoints = []; given = 0; room = room }
+
+-- one more endpoint, at which nothing waits
+abbrev pub new_record : ℕ → Local → ℕ → Endpoint
+new_record room at address = record { local = at; address = address; queue = empty_queue room }
+
+abbrev pub with_record : Records → Local → Records
+with_record r at = record r { endpoints = r.endpoints ++ new_record r.room at (1024 + r.given) ∷ []; given = r.given + 1 }
+
+-- a buffer more, last at the endpoint at a place
+abbrev pub with_waiting : Waiting → Endpoint → Endpoint
+with_waiting w e = record e { queue = pushed e.queue w }
+
+abbrev pub with_waiting_at : Records → ℕ → Waiting → Records
+with_waiting_at r i w = record r { endpoints = changed_at (with_waiting w) i r.endpoints }
+
+-- the oldest of the best priority at a place is gone
+abbrev pub with_best_taken : Endpoint → Endpoint
+with_best_taken e = record e { queue = popped_best e.queue }
+
+abbrev pub with_best_taken_at : Records → ℕ → Records
+with_best_taken_at r i = record r { endpoints = changed_at with_best_taken i r.endpoints }
+
+-- what waits at an endpoint, and at all of them
+abbrev pub waiting_in : Option Endpoint → List Waiting
+waiting_in None = []
+waiting_in (Some e) = e.queue.waiting
+
+abbrev pub all_waiting : List Endpoint → List Waiting
+all_waiting es = flat_map (λ e. e.queue.waiting) es
