@@ -43,7 +43,6 @@ pub fn run_text<K: Sink>(alloc: Global, text: &[u8], output: &mut K) -> u8
 /// Runs a scenario and writes its report.
 fn run_scenario<K: Sink>(alloc: Global, scenario: &Scenario, output: &mut K) -> u8
     requires lawful { IsLawful scenario.now }
-    requires few { length scenario.now.calls < 2 ^ 32 - 1 }
     ensures status { IsOneOf (0 ∷ 5 ∷ 6 ∷ []) result }
     ensures reported { result ≡ 0 → Appends (K.written output.old) (K.written output.new) (report scenario.now (serial scenario.now)) }
     ensures breaks_off { result ≡ 5 → AppendsPart (K.written output.old) (K.written output.new) (report scenario.now (serial scenario.now)) }

@@ -6,6 +6,7 @@ use std::thread::Threads;
 
 mod frame;
 mod payloads;
+mod requests;
 
 /// Two endpoints and one message.
 const MESSAGE: &[u8] =
