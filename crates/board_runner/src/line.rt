@@ -11,16 +11,11 @@ mod requests;
 
 use crate::labels::{hold, id_of};
 use board_model::{Call, CallLine};
-use domain_core::{Answer, Domain, Entry, Journal, Told};
+use domain_core::{Answer, CALL_BYTES, CALL_ENTRIES, Domain, Entry, Journal, Told};
 use mc_base::{Local, NoMemory, RequestId};
 use messages::{available, create, receive, send};
 use requests::{cancel, request, test};
 use std::collections::BTreeMap;
-
-/// The room that a call needs in the journal.
-const CALL_ENTRIES: u32 = 160;
-
-const CALL_BYTES: u32 = 67_584;
 
 /// Makes the call of a line and notes its answer. What is received goes through `room`. Where the call gives a request, its
 /// id is held for the label of the line.
