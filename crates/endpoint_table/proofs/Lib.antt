@@ -1,0 +1,7 @@
+pub mod RecordLemmas
+pub mod EventLemmas
+pub mod DebtLemmas
+pub mod OrderLemmas
+pub mod NameLemmas
+pub mod TableLemmas
+pub mod SearchLemmas

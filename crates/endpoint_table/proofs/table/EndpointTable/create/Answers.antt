@@ -1,0 +1,40 @@
+use Rattle.std.proofs.Common.{rules, arith, ◌<◌, ◌+◌, ap, length, refl, true, subst, sym, ◌∙◌}
+use Rattle.std.specs.List.{AllByRecursion}
+use Rattle.std.specs.Vec.{with_items}
+use Rattle.endpoint_table.specs.declared.debts.Debt.{Debt}
+use Rattle.endpoint_table.specs.declared.record.Record.{Record}
+use Rattle.endpoint_table.specs.declared.announced.Announced.{Announced}
+use Rattle.endpoint_table.specs.declared.table.EndpointTable.TheInside.{Inside}
+use Rattle.endpoint_table.specs.Table.{Table, created, first_address}
+use Rattle.endpoint_table.specs.InTable.{one_more}
+use Rattle.endpoint_table.proofs.TableLemmas.{debts-fit, room-to-create, kept-created, view-created, written-items}
+use Rattle.endpoint_table.proofs.table.EndpointTable.create.Goals as goal
+
+pub announce-requires-clause-room : goal.announce-requires-clause-room
+announce-requires-clause-room c =
+    let few : length c.self.inside.records.items < 64 = search (rules, arith) in
+    let room = room-to-create c.self.inside c.self.invariant few in
+    omega (arith, room, c.self.invariant.event_room)
+
+pub announce-requires-clause-within : goal.announce-requires-clause-within
+announce-requires-clause-within c = subst (λ ds. AllByRecursion (λ (d : Debt). d.owed < 9223372036854775808) ds) (sym c.deref_mut.ensures.value) (debts-fit c.self.inside c.self.invariant)
+
+pub invariant_of-self : goal.invariant_of-self
+invariant_of-self c =
+    let old = c.self.inside in
+    let few : length old.records.items < 64 = search (rules, arith) in
+    let given : old.given < 60000 = search (rules, arith) in
+    let r : Record = record { local = c.args.local; address = first_address + old.given; live = true } in
+    let e : Announced = record { local = c.args.local; address = first_address + old.given; create = true } in
+    let debts = written-items old.debts c.announce.new.debts one_more (search rules) in
+    kept-created old _ r e c.self.invariant few given refl refl refl refl debts (search rules) (search rules) (search (rules, arith)) (search rules) refl
+
+pub returns-clause-created : goal.returns-clause-created
+returns-clause-created c =
+    let old = c.self.inside in
+    let r : Record = record { local = c.args.local; address = first_address + old.given; live = true } in
+    let e : Announced = record { local = c.args.local; address = first_address + old.given; create = true } in
+    let debts = written-items old.debts c.announce.new.debts one_more (search rules) in
+    let new : Inside = record { domain = old.domain; nodes = old.nodes; records = c.announce.new.records; events = c.announce.new.events; debts = with_items old.debts c.announce.new.debts; given = old.given + 1 } in
+    view-created old new c.args.local r e c.self.invariant refl refl debts (search rules) (search rules) refl refl refl
+    ∙ ap (λ (t : Table). created t c.args.local) c.self.view_is

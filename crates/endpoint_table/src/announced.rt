@@ -1,0 +1,9 @@
+use mc_base::Local;
+
+/// What a linked domain is told: that the endpoint is there from now on, or gone.
+#[derive(Clone, Copy, Debug)]
+pub struct Announced {
+    pub local: Local,
+    pub address: u32,
+    pub create: bool,
+}

@@ -1,0 +1,31 @@
+//! A record.
+
+ghost use Rattle.std.specs.Prelude.{◌≡◌};
+ghost use Rattle.endpoint_table.specs.Table.{ended, is_live_at};
+
+use mc_base::Local;
+
+/// An endpoint whose record is in use: its name in its domain, its address, and whether it is live.
+#[derive(Clone, Copy, Debug)]
+pub struct Record {
+    pub local: Local,
+    pub address: u32,
+    pub live: bool,
+}
+
+impl Record {
+    pub fn is_live_at(&self, local: Local) -> bool
+        ensures { result ≡ is_live_at local self.now }
+    {
+        self.live && self.local.node == local.node && self.local.port == local.port
+    }
+
+    /// Notes that the endpoint is live no more, where it has this address.
+    pub fn end(&mut self, address: u32)
+        ensures { self.new ≡ ended address self.old }
+    {
+        if self.address == address {
+            self.live = false;
+        }
+    }
+}
