@@ -3,8 +3,7 @@ use Rattle.scenario_lang.proofs.canonical.put_label.Goals as goal
 
 pub returns-in-Some : goal.returns-in-Some
 returns-in-Some g c =
-    let label = rw c.as_slice.ensures.value at c.put.ensures in
-    rw c.in-Some.is (puts_then _ _ _ _ _ _ label c.put-in-Some.ensures)
+    rw (c.in-Some.is, ← c.as_slice.ensures.value) (puts_then _ _ _ _ _ _ c.put.ensures c.put-in-Some.ensures)
 
 pub returns-in_default : goal.returns-in_default
 returns-in_default g c = rw c.in_default.is (puts_nothing g.K.Sink c.args.out.now)
