@@ -1,5 +1,5 @@
 -- The lines of a file: what is spelled is read, and what is read is spelled so.
-use Rattle.std.proofs.Common.{◌≡◌, ℕ, ◌^◌, ◌<◌, ◌≤◌, true, false, List, [], ◌∷◌, ◌++◌, length, Option, Some, None, refl, sym, ap, ◌∙◌, append_assoc, arith, ◌⊎◌, inl, inr}
+use Rattle.std.proofs.Common.{◌≡◌, ℕ, ◌^◌, ◌<◌, ◌≤◌, true, List, [], ◌∷◌, ◌++◌, length, Option, Some, None, refl, sym, ap, ◌∙◌, append_assoc, arith, ◌⊎◌, inl, inr}
 use Rattle.std.proofs.lemmas.Bool.Decides.{nat_tests}
 use Rattle.std.specs.Prelude.{codes, decimal, ◌==◌, option_map}
 use Rattle.arrayvec.specs.ArrayVec.{ArrayVec}
@@ -12,7 +12,7 @@ use Rattle.board_model.specs.declared.scenario.Call.TheVariants.{Create, MsgSend
 use Rattle.board_model.specs.declared.scenario.CallLine.{CallLine}
 use Rattle.board_model.specs.Scenario.{label_in}
 use Rattle.board_model.specs.Grammar.{spaced, domain_text, name_text, call_words, caller_text, call_text, IsLawfulName, IsLabel, IsLawfulCall, IsLawfulDomain}
-use Rattle.scenario_lang.specs.Words.{after_word, label_at}
+use Rattle.scenario_lang.specs.Words.{after_word}
 use Rattle.scenario_lang.specs.Lines.{domain_at, name_at, create_at, send_at, receive_at, request_at, available_at, test_at, cancel_at, query_at, label_of, label_front, or_else, call_at, named_at, labelled_at, plain_at, labelled_call_at, own_at, line_at, IsLabelledRight, IsFormedLine}
 use Rattle.scenario_lang.proofs.Options.{bind_some, if_some, some_is, carried}
 use Rattle.scenario_lang.proofs.WordLemmas.{after_word-spelled, number_at-decimal, number_at-spelled, positive_at-decimal, positive_at-spelled, bytes_at-hex, bytes_at-spelled, label_at-text, label_at-spelled, IsNoSign, decimal-no_sign}

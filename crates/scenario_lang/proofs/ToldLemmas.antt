@@ -1,5 +1,5 @@
 -- Labels that were told: sets of labels, and lines in order.
-use Rattle.std.proofs.Common.{◌≡◌, ℕ, ◌+◌, ◌<◌, length, drop, get_or, Bool, true, false, ◌&&◌, ◌||◌, not, cond, List, [], ◌∷◌, ◌++◌, map, Option, Some, None, refl, sym, ap, ◌∙◌, true≢false, Bor, Ordering, Less, Equal, Greater, ◌⊎◌, inl, inr}
+use Rattle.std.proofs.Common.{◌≡◌, ℕ, ◌+◌, ◌<◌, length, drop, get_or, Bool, true, false, ◌&&◌, ◌||◌, not, List, [], ◌∷◌, ◌++◌, map, Option, Some, None, refl, sym, ap, ◌∙◌, true≢false, Bor, Ordering, Less, Equal, Greater, ◌⊎◌, inl, inr}
 use Rattle.std.specs.Prelude.{Contains, option_to_list}
 use Rattle.std.specs.List.{list_any, AllByRecursion}
 use Rattle.std.specs.Ordering.{nat_cmp, is_eq}
@@ -18,7 +18,7 @@ use Rattle.board_model.specs.declared.scenario.CallLine.{CallLine}
 use Rattle.board_model.specs.Scenario.{label_in}
 use Rattle.board_model.specs.Grammar.{LabelFits, told_after, IsLawfulLine, AreLawfulLines}
 use Rattle.scenario_lang.specs.Lines.{IsLabelledRight, IsFormedLine}
-use Rattle.scenario_lang.specs.Told.{label_named, is_told, is_known, is_new, fits_told, in_order, labels_of, HaveSame}
+use Rattle.scenario_lang.specs.Told.{label_named, is_told, is_known, is_new, fits_told, in_order, HaveSame}
 use Rattle.scenario_lang.proofs.Options.{cases_bool, both_hold}
 
 -- ---- lists of labels
