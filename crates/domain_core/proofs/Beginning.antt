@@ -43,9 +43,9 @@ last-complete q id a how fresh =
     let r = new_standing id a None in
     let itself : is_id id r ≡ true = and_from _ _ (eq-eqb id.key id.key refl) (eq-eqb id.serial id.serial refl) in
     ap (λ (xs : List Standing). record { standing = xs; given = (q.given + 1) % 2 ^ 64 })
-        (map_push (completed id how) q.standing r
-        ∙ ap (λ (xs : List Standing). xs ++ completed id how r ∷ []) (others-stay id how q.standing (others-fresh id q.standing fresh))
-        ∙ ap (λ (x : Bool). q.standing ++ cond x (new_standing id a (Some how)) r ∷ []) itself)
+    (map_push (completed id how) q.standing r
+    ∙ ap (λ (xs : List Standing). xs ++ completed id how r ∷ []) (others-stay id how q.standing (others-fresh id q.standing fresh))
+    ∙ ap (λ (x : Bool). q.standing ++ cond x (new_standing id a (Some how)) r ∷ []) itself)
 
 pub last-ids : (q : Requests) (id : RequestId) (a : Ask) (o : Option Complete) → map (λ (r : Standing). r.id) (with_last q id a o).standing ≡ map (λ (r : Standing). r.id) q.standing ++ id ∷ []
 last-ids q id a o = map_push (λ (r : Standing). r.id) q.standing (new_standing id a o)
@@ -103,7 +103,7 @@ module _ (r : Records) (q : Requests) (b : Book) (p : Pool) (i : ℕ) (slot : Sl
   given-places =
       let hs = handed_slots (q.standing ++ new ∷ []) in
       moved-places r q b p i (waiting slot priority) places is (with_last q id (ask.Message at max) (Some (complete.Message slot max))) (λ t. more (λ (x : Slot). is_same x t))
-          (sym (count-every hs) ∙ more (λ (x : Slot). true) ∙ ap (λ (k : ℕ). k + 1) (count-every (handed_slots q.standing)))
+      (sym (count-every hs) ∙ more (λ (x : Slot). true) ∙ ap (λ (k : ℕ). k + 1) (count-every (handed_slots q.standing)))
 
   pub given-item : item_at b slot ≡ item_in b (waiting slot priority)
   given-item = ap (λ (n : ℕ). item_in b (waiting slot n)) (sym (received-priority r q b p i (waiting slot priority) places is))

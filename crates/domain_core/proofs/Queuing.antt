@@ -243,7 +243,7 @@ module _ (r : Records) (q : Requests) (b : Book) (p : Pool) (i : ℕ) (w : Waiti
   pub received-table : table_in (with_away b w.slot) (with_best_taken_at r i) q ≡ with_received_at (table_in b r q) i
   received-table =
       ap (λ (xs : List state.Endpoint). with_held (table_in b r q) (record { endpoints = xs; requests = requests_in (with_away b w.slot) q.standing }))
-          (endpoints-stay b w.slot None (changed_at with_best_taken i r.endpoints) left-waiting ∙ endpoints-less b r.endpoints i)
+      (endpoints-stay b w.slot None (changed_at with_best_taken i r.endpoints) left-waiting ∙ endpoints-less b r.endpoints i)
       ∙ ap (λ (xs : List state.Request). with_held (table_in b r q) (record { endpoints = changed_at received i (endpoints_in b r.endpoints); requests = xs })) (requests-stay b w.slot None q.standing left-handed)
 
   -- it goes from its queue to a request that is new

@@ -203,6 +203,7 @@ each-complete id at max slot rs differ asks each = subst (AllByRecursion IsRecei
   where
     how : Complete
     how = complete.Message slot max
+
     go : (xs : List Standing) → option_map (λ (r : Standing). r.ask) (find (is_id id) xs) ≡ Some (ask.Message at max) → AllByRecursion IsReceive xs → AllByRecursion IsReceive (changed_first (is_id id) (complete_now how) xs)
     go [] asks each = tt
     go (x ∷ xs) asks each =
@@ -216,15 +217,18 @@ handed-more test id slot max rs differ pending = ap (λ (xs : List Standing). co
   where
     how : Complete
     how = complete.Message slot max
+
     first : (o : Option Complete) (hs : List Slot) → is_none o ≡ true → count_by test (slot ∷ hs) ≡ count_by test (slots_in o ++ hs) + one_if (test slot)
     first None hs e = count-cons test slot hs ∙ omega arith
     first (Some h) hs e = absurd cc
+
     go : (xs : List Standing) → option_map (λ (r : Standing). is_none r.complete) (find (is_id id) xs) ≡ Some true → count_by test (handed_slots (changed_first (is_id id) (complete_now how) xs)) ≡ count_by test (handed_slots xs) + one_if (test slot)
     go [] e = absurd cc
     go (x ∷ xs) e =
-        elim (is_id id x) as (λ b. option_map (λ (r : Standing). is_none r.complete) (cond b (Some x) (find (is_id id) xs)) ≡ Some true → count_by test (handed_slots (cond b (complete_now how x ∷ xs) (x ∷ changed_first (is_id id) (complete_now how) xs))) ≡ count_by test (slots_in x.complete ++ handed_slots xs) + one_if (test slot))
-        [ true ↦ λ h. let none : is_none x.complete ≡ true = cc in first x.complete (handed_slots xs) none
-        | false ↦ λ h. omega (arith, go xs h, count-append test (slots_in x.complete) (handed_slots (changed_first (is_id id) (complete_now how) xs)), count-append test (slots_in x.complete) (handed_slots xs)) ] e
+        elim (is_id id x) as (λ b. option_map (λ (r : Standing). is_none r.complete) (cond b (Some x) (find (is_id id) xs)) ≡ Some true → count_by test (handed_slots (cond b (complete_now how x ∷ xs) (x ∷ changed_first (is_id id) (complete_now how) xs))) ≡ count_by test (slots_in x.complete ++ handed_slots xs) + one_if (test slot)) [
+          | true ↦ λ h. let none : is_none x.complete ≡ true = cc in first x.complete (handed_slots xs) none
+          | false ↦ λ h. omega (arith, go xs h, count-append test (slots_in x.complete) (handed_slots (changed_first (is_id id) (complete_now how) xs)), count-append test (slots_in x.complete) (handed_slots xs))
+        ] e
 
 -- what the request that ends held
 pub handed-less : (test : Slot → Bool) (id : RequestId) (o : Option Complete) (rs : List Standing) → AllDiffer (keys_in rs) → option_map (λ (r : Standing). r.complete) (find (is_id id) rs) ≡ Some o → count_by test (handed_slots (filter (λ (r : Standing). not (is_id id r)) rs)) + count_by test (slots_in o) ≡ count_by test (handed_slots rs)
@@ -233,9 +237,10 @@ handed-less test id o rs differ found = ap (λ (xs : List Standing). count_by te
     go : (xs : List Standing) → option_map (λ (r : Standing). r.complete) (find (is_id id) xs) ≡ Some o → count_by test (handed_slots (without_first (is_id id) xs)) + count_by test (slots_in o) ≡ count_by test (handed_slots xs)
     go [] e = absurd cc
     go (x ∷ xs) e =
-        elim (is_id id x) as (λ b. option_map (λ (r : Standing). r.complete) (cond b (Some x) (find (is_id id) xs)) ≡ Some o → count_by test (handed_slots (cond b xs (x ∷ without_first (is_id id) xs))) + count_by test (slots_in o) ≡ count_by test (slots_in x.complete ++ handed_slots xs))
-        [ true ↦ λ h. let same : x.complete ≡ o = cc in omega (arith, ap (λ (c : Option Complete). count_by test (slots_in c)) same, count-append test (slots_in x.complete) (handed_slots xs))
-        | false ↦ λ h. omega (arith, go xs h, count-append test (slots_in x.complete) (handed_slots (without_first (is_id id) xs)), count-append test (slots_in x.complete) (handed_slots xs)) ] e
+        elim (is_id id x) as (λ b. option_map (λ (r : Standing). r.complete) (cond b (Some x) (find (is_id id) xs)) ≡ Some o → count_by test (handed_slots (cond b xs (x ∷ without_first (is_id id) xs))) + count_by test (slots_in o) ≡ count_by test (slots_in x.complete ++ handed_slots xs)) [
+          | true ↦ λ h. let same : x.complete ≡ o = cc in omega (arith, ap (λ (c : Option Complete). count_by test (slots_in c)) same, count-append test (slots_in x.complete) (handed_slots xs))
+          | false ↦ λ h. omega (arith, go xs h, count-append test (slots_in x.complete) (handed_slots (without_first (is_id id) xs)), count-append test (slots_in x.complete) (handed_slots xs))
+        ] e
 
 pub handed-new : (test : Slot → Bool) (r : Standing) (rs : List Standing) → count_by test (handed_slots (rs ++ r ∷ [])) ≡ count_by test (handed_slots rs) + count_by test (slots_in r.complete)
 handed-new test r [] = count-append test (slots_in r.complete) [] ∙ omega arith
@@ -327,6 +332,7 @@ only-message q id how receives answer = go (request_of q id) refl answer
         let same : c ≡ how = cc in
         let told = message-complete r.ask c is in
         (told.0, told.1, sym same ∙ told.2)
+
     go : (o : Option Standing) → request_of q id ≡ o → tested (option_map (λ (r : Standing). r.complete) o) ≡ Ok how → (slot : Slot) × (max : ℕ) × (how ≡ complete.Message slot max)
     go None found e = absurd cc
     go (Some r) found e = by r r.complete (found-receives (is_id id) r q.standing receives.each found) e

@@ -341,6 +341,7 @@ impl Domain {
         self.lane.give_back(self.book.withdraw(slot));
         Ok(got)
     }
+
     fn begin_receive(&mut self, at: Local, max: u32) -> Result<RequestId, Refusal>
         ensures answer { requested result ≡ answer self.old.alone.state at.node (request_at at.port max) }
         ensures alone { self.new.alone ≡ after_own_call self.old.alone at.node (request_at at.port max) }

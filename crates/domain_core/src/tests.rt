@@ -1,6 +1,8 @@
 use super::*;
-use mc_base::{EndName, Fate, Local, NoMemory, Priority, Refusal};
+use mc_base::{EndName, Fate, Local, NoMemory, Priority, Reason, Refusal};
 use std::test::Fail;
+
+mod requests;
 
 /// A call at node 0 of domain 3, but for what it says. A message has the same byte throughout.
 #[derive(Clone, Copy, Debug)]
@@ -52,7 +54,7 @@ fn made(
     journal: &mut Journal,
     call: Call,
 ) -> Result<Option<Result<u32, Refusal>>, NoMemory> {
-    journal.reserve(CALL_ENTRIES, CALL_BYTES)?;
+    journal.reserve(160, 67_584)?;
     match call {
         Call::Create { node, port } => Ok(Some(domain.create(journal, Local { node, port }))),
         Call::Send {
@@ -226,8 +228,12 @@ fn told(entry: Entry<'_>) -> (u8, u64, u64, usize) {
         Entry::Put { peer, frame } => (b'p', u64::from(peer), 0, frame.len()),
         Entry::See { peer, count } => (b's', u64::from(peer), u64::from(count), 0),
         Entry::Take { peer, frame, fate } => {
-            let queued = u64::from(fate == Fate::Queued);
-            (b'q', u64::from(peer), queued, frame.len())
+            let word = match fate {
+                Fate::Queued => 1,
+                Fate::Handed => 2,
+                _ => 0,
+            };
+            (b'q', u64::from(peer), word, frame.len())
         }
         Entry::Idle { turns } => (b'i', 0, turns, 0),
         Entry::Called { number, answer } => match answer {
@@ -240,7 +246,20 @@ fn told(entry: Entry<'_>) -> (u8, u64, u64, usize) {
                 u64::from(size),
                 bytes.len(),
             ),
+            Answer::Done(how) => told_done(number, how),
         },
+    }
+}
+
+/// How a request ended as its kind, its line, its number and how many bytes it has.
+fn told_done(number: u32, how: Told<'_>) -> (u8, u64, u64, usize) {
+    let line = u64::from(number);
+    match how {
+        Told::Address(address) => (b'A', line, u64::from(address), 0),
+        Told::Accepted => (b'C', line, 0, 0),
+        Told::Rejected(_) => (b'R', line, 0, 0),
+        Told::Bytes { size, bytes } => (b'M', line, u64::from(size), bytes.len()),
+        Told::Ended(_) => (b'E', line, 0, 0),
     }
 }
 
@@ -285,12 +304,25 @@ fn answers_are_noted(rt: HostRuntime) -> Result<(), Fail> {
             size: 5,
             bytes: b"he",
         },
+        Answer::Done(Told::Address(1030)),
+        Answer::Done(Told::Accepted),
+        Answer::Done(Told::Rejected(Reason::Busy)),
+        Answer::Done(Told::Bytes {
+            size: 9,
+            bytes: b"hello",
+        }),
+        Answer::Done(Told::Ended(Refusal::ChanClosed)),
     ];
     let lines = [
         (b'r', 1, 0, 0),
         (b'o', 1, 0, 0),
         (b'n', 1, 1024, 0),
         (b'm', 1, 5, 2),
+        (b'A', 1, 1030, 0),
+        (b'C', 1, 0, 0),
+        (b'R', 1, 0, 0),
+        (b'M', 1, 9, 5),
+        (b'E', 1, 0, 0),
     ];
     let mut journal = Journal::new(rt.alloc())?;
     for answer in answers {
@@ -301,6 +333,6 @@ fn answers_are_noted(rt: HostRuntime) -> Result<(), Fail> {
         let entry = journal.entry(i).ok_or("entry")?;
         assert_eq!(rt; told(entry), line, "line {i}");
     }
-    assert!(rt; journal.entry(4).is_none());
+    assert!(rt; journal.entry(9).is_none());
     Ok(())
 }

@@ -15,7 +15,7 @@ loop-at-preserved c =
     let next = handed-next rs at c.requires.each in
     let one = held-listed (slice_get rs at) (c.in-Some.field-0-0, c.in-Some.field-0-1, c.in-Some.complete) c.in-Some.ensures.place in
     elim c.if-is_some.branch [
-      then-is_some w ↦ let is = ap one_if (sym c.is_some.ensures ∙ w.if-is_some.true) in record { count = omega (arith, w.count-is, before, next, one, is); bound = omega (arith, w.count-is, bound) }
+      | then-is_some w ↦ let is = ap one_if (sym c.is_some.ensures ∙ w.if-is_some.true) in record { count = omega (arith, w.count-is, before, next, one, is); bound = omega (arith, w.count-is, bound) }
       | else-is_some w ↦ let is = ap one_if (sym c.is_some.ensures ∙ w.if-is_some.false) in record { count = omega (arith, w.count-is, before, next, one, is); bound = omega (arith, w.count-is, bound) }
     ]
 

@@ -69,8 +69,8 @@ bytes-requires c =
     let i = c.self.invariant in
     let slot = c.in_ok-slot.slot in
     ended-queued d.endpoints d.requests (without_request d.requests c.args.id) d.book d.lane slot i.places
-        (λ t. tested-fewer d c.args.id i.receives slot c.in_ok-slot.max c.in_ok-slot.ensures.held (λ (x : Slot). is_same x t))
-        (tested-shorter d c.args.id i.receives slot c.in_ok-slot.max c.in_ok-slot.ensures.held)
+    (λ t. tested-fewer d c.args.id i.receives slot c.in_ok-slot.max c.in_ok-slot.ensures.held (λ (x : Slot). is_same x t))
+    (tested-shorter d c.args.id i.receives slot c.in_ok-slot.max c.in_ok-slot.ensures.held)
 
 held : (c : goal.After-give_back) → progress_of c.self.inside.requests c.args.id ≡ Some (Some (complete.Message c.in_ok-slot.slot c.in_ok-slot.max))
 held c = c.in_ok-slot.ensures.held
