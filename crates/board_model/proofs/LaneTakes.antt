@@ -17,7 +17,7 @@ use Rattle.mc_base.specs.declared.fate.Fate.{Fate}
 use Rattle.mc_base.specs.declared.fate.Fate.TheVariants as fate
 use Rattle.board_model.specs.Lists.{changed}
 use Rattle.board_model.specs.Journal.{Taken}
-use Rattle.board_model.specs.State.{DomainState, Endpoint, Item, Request, Outcome, item_in, queued_items, lent_items, place_of_address, has_live_address, local_of_address, waits_at, receives_at, place_of_waiting, place_waiting_for}
+use Rattle.board_model.specs.State.{DomainState, Endpoint, Item, Request, Outcome, item_in, queued_items, lent_items, place_of_address, has_address_of, local_of_address, waits_at, receives_at, place_of_waiting, place_waiting_for}
 use Rattle.board_model.specs.Dealing.{fault_word, frame_word, letter_word, ns_word, is_letter, item_of, queued_last, complete_with, Row, row, fault_row, first_row, row_for, left_by, after_frame, after_takes, HaveWords, keeps_buffer}
 use Rattle.board_model.proofs.ListsCounts.{one_if, count-cons, count-append, count-changed_at, position-tells, map-changed}
 
@@ -160,7 +160,7 @@ row_counts w s item counts None true false (Some i) waiting there waits f e = om
 pub frame_counts : (w : Item → Bool) (s : DomainState) (peer : ℕ) → ((f : List ℕ) → w (item_of peer f) ≡ true) → (frame : List ℕ) (f : Fate) → option_map (λ r. r.word) (row_for s peer frame) ≡ Some f → held w (after_frame s peer frame) + gives_back f ≡ held w s + 1
 frame_counts w s peer counts frame f e =
     row_counts w s (item_of peer frame) (counts frame) (fault frame) (is_letter frame) (slice_index (payload_of frame) 2 == 1) (place_of_address s (destination_of frame)) (place_waiting_for s (destination_of frame))
-    (λ i p. let t = position-tells (has_live_address (destination_of frame)) s.endpoints i p in (t.0, t.1)) (waiting_tells s (destination_of frame)) f e
+    (λ i p. let t = position-tells (has_address_of (destination_of frame)) s.endpoints i p in (t.0, t.1)) (waiting_tells s (destination_of frame)) f e
 
 pub takes_count : (w : Item → Bool) (s : DomainState) (peer : ℕ) → ((f : List ℕ) → w (item_of peer f) ≡ true) → (ts : List Taken) → HaveWords s peer ts → held w (after_takes s peer ts) + count_by (λ t. not (keeps_buffer t.fate)) ts ≡ held w s + length ts
 takes_count w s peer counts [] words = refl

@@ -5,7 +5,7 @@ use Rattle.std.proofs.lemmas.Bool.{and_parts}
 use Rattle.mc_base.specs.Frame.{destination_of}
 use Rattle.mc_base.specs.declared.fate.Fate.TheVariants.{Handed}
 use Rattle.board_model.specs.Journal.{Taken, Visit}
-use Rattle.board_model.specs.State.{DomainState, Endpoint, has_live_address, place_of_waiting, waits_at, place_waiting_for}
+use Rattle.board_model.specs.State.{DomainState, Endpoint, has_address_of, place_of_waiting, waits_at, place_waiting_for}
 use Rattle.board_model.specs.Dealing.{row_for, after_frame, after_takes, HaveWords}
 use Rattle.board_model.specs.Turn.{after_looks, after_visit, AreVisits}
 use Rattle.board_model.specs.Messages.{messages_in, queued_message, queued_at}
@@ -17,10 +17,10 @@ use Rattle.board_model.proofs.MessageTakes.{Stands, added, came, stands_same, st
 use Rattle.board_model.proofs.MessageWaits.{EmptyOrFree, NoneWaits, Quiet, waiting-found, waits-at-found, quiet_frame, quiet_looks, quiet_visit}
 
 -- what stands at an address is the queue of the first live endpoint that has it
-at_first : (d : ℕ) (es : List Endpoint) (a : ℕ) (e : Endpoint) → find (has_live_address a) es ≡ Some e → messages_at d es a ≡ queued_at d e
+at_first : (d : ℕ) (es : List Endpoint) (a : ℕ) (e : Endpoint) → find (has_address_of a) es ≡ Some e → messages_at d es a ≡ queued_at d e
 at_first d [] a e found = absurd cc
 at_first d (f ∷ fs) a e found =
-    elim (has_live_address a f) as (λ b. cond b (Some f) (find (has_live_address a) fs) ≡ Some e → cond b (queued_at d f) (messages_at d fs a) ≡ queued_at d e)
+    elim (has_address_of a f) as (λ b. cond b (Some f) (find (has_address_of a) fs) ≡ Some e → cond b (queued_at d f) (messages_at d fs a) ≡ queued_at d e)
     [ true ↦ λ some. let same : f ≡ e = cc in ap (queued_at d) same | false ↦ λ rest. at_first d fs a e rest ] found
 
 -- where a receive waits at an endpoint its queue is empty
@@ -34,11 +34,11 @@ found_waiting s (Some e) waits = (e, refl)
 
 none_stands : (d : ℕ) (s : DomainState) (q : Standing) (a : ℕ) → is_some (place_waiting_for s a) ≡ true → Stands d s q → Quiet s → q a ≡ []
 none_stands d s q a waits stands quiet =
-    let at = found_waiting s (find (has_live_address a) s.endpoints) (sym (ap is_some (waiting-found s a)) ∙ waits) in
+    let at = found_waiting s (find (has_address_of a) s.endpoints) (sym (ap is_some (waiting-found s a)) ∙ waits) in
     let e : Endpoint = at.0 in
-    let found : find (has_live_address a) s.endpoints ≡ Some e = at.1 in
-    let live : e.live ≡ true = (and_parts e.live (e.address == a) (found-passes (has_live_address a) s.endpoints e found)).0 in
-    let empty : e.queue ≡ [] = waits_empty s e (sym (waits-at-found s a e found) ∙ waits) (all-found (EmptyOrFree s.requests) (has_live_address a) s.endpoints e quiet.free found live) in
+    let found : find (has_address_of a) s.endpoints ≡ Some e = at.1 in
+    let live : e.live ≡ true = (and_parts e.live (e.address == a) (found-passes (has_address_of a) s.endpoints e found)).0 in
+    let empty : e.queue ≡ [] = waits_empty s e (sym (waits-at-found s a e found) ∙ waits) (all-found (EmptyOrFree s.requests) (has_address_of a) s.endpoints e quiet.free found live) in
     stands.queued a ∙ (at_first d s.endpoints a e found ∙ ap (map (queued_message d e.address)) empty)
 
 hands_word : (t : Taken) → t.fate ≡ Handed → hands t.fate ≡ true

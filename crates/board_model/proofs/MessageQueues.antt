@@ -3,7 +3,7 @@ use Rattle.std.proofs.Common.{◌≡◌, ℕ, ◌+◌, ◌≤◌, ◌<◌, Bool,
 use Rattle.std.specs.Prelude.{find, ◌==◌, is_some}
 use Rattle.std.proofs.lemmas.List.{append-nil, map-append}
 use Rattle.std.proofs.lemmas.Bool.{eqb-true, eqb-false, eq-eqb, cases_Bool, cond_both}
-use Rattle.board_model.specs.State.{Item, Endpoint, has_live_address}
+use Rattle.board_model.specs.State.{Item, Endpoint, has_address_of}
 use Rattle.board_model.specs.Dealing.{queued_last}
 use Rattle.board_model.specs.Choice.{without_best}
 use Rattle.board_model.specs.Effect.{received}
@@ -14,7 +14,7 @@ use Rattle.board_model.proofs.MessageBest.{without_best-map}
 -- the messages in the queue of the first live endpoint with an address
 abbrev pub messages_at : ℕ → List Endpoint → ℕ → List Message
 messages_at d [] a = []
-messages_at d (e ∷ es) a = cond (has_live_address a e) (queued_at d e) (messages_at d es a)
+messages_at d (e ∷ es) a = cond (has_address_of a e) (queued_at d e) (messages_at d es a)
 
 -- a message for an address, as a list that is empty at the others
 abbrev pub only_at : Message → ℕ → ℕ → List Message
@@ -22,23 +22,23 @@ only_at m a b = cond (a == b) (m ∷ []) []
 
 -- ---- one message more
 
-at_here : (d : ℕ) (item : Item) (e : Endpoint) (es : List Endpoint) (a b : ℕ) → has_live_address a e ≡ true → messages_at d (queued_last item e ∷ es) b ≡ messages_at d (e ∷ es) b ++ only_at (queued_message d a item) a b
+at_here : (d : ℕ) (item : Item) (e : Endpoint) (es : List Endpoint) (a b : ℕ) → has_address_of a e ≡ true → messages_at d (queued_last item e ∷ es) b ≡ messages_at d (e ∷ es) b ++ only_at (queued_message d a item) a b
 at_here d item e es a b here = grind (arith, append-nil, map-append, eqb-true, eqb-false, eq-eqb)
 
-at_other : (d : ℕ) (m : Message) (e : Endpoint) (es ys : List Endpoint) (a b : ℕ) → has_live_address a e ≡ false → messages_at d ys b ≡ messages_at d es b ++ only_at m a b → messages_at d (e ∷ ys) b ≡ messages_at d (e ∷ es) b ++ only_at m a b
+at_other : (d : ℕ) (m : Message) (e : Endpoint) (es ys : List Endpoint) (a b : ℕ) → has_address_of a e ≡ false → messages_at d ys b ≡ messages_at d es b ++ only_at m a b → messages_at d (e ∷ ys) b ≡ messages_at d (e ∷ es) b ++ only_at m a b
 at_other d m e es ys a b other rest = grind (arith, append-nil, eqb-true, eqb-false, eq-eqb)
 
 find_past : (b : Bool) (e : Endpoint) (o : Option Endpoint) → b ≡ false → is_some (cond b (Some e) o) ≡ true → is_some o ≡ true
 find_past true e o f h = absurd cc
 find_past false e o f h = h
 
-pub at-queued : (d : ℕ) (item : Item) (es : List Endpoint) (a b : ℕ) → is_some (find (has_live_address a) es) ≡ true → messages_at d (changed_first (has_live_address a) (queued_last item) es) b ≡ messages_at d es b ++ only_at (queued_message d a item) a b
+pub at-queued : (d : ℕ) (item : Item) (es : List Endpoint) (a b : ℕ) → is_some (find (has_address_of a) es) ≡ true → messages_at d (changed_first (has_address_of a) (queued_last item) es) b ≡ messages_at d es b ++ only_at (queued_message d a item) a b
 at-queued d item [] a b some = absurd cc
 at-queued d item (e ∷ es) a b some =
-    cond_both (has_live_address a e) (queued_last item e ∷ es) (e ∷ changed_first (has_live_address a) (queued_last item) es)
+    cond_both (has_address_of a e) (queued_last item e ∷ es) (e ∷ changed_first (has_address_of a) (queued_last item) es)
     (λ zs. messages_at d zs b ≡ messages_at d (e ∷ es) b ++ only_at (queued_message d a item) a b)
     (λ here. at_here d item e es a b here)
-    (λ other. at_other d (queued_message d a item) e es (changed_first (has_live_address a) (queued_last item) es) a b other (at-queued d item es a b (find_past (has_live_address a e) e (find (has_live_address a) es) other some)))
+    (λ other. at_other d (queued_message d a item) e es (changed_first (has_address_of a) (queued_last item) es) a b other (at-queued d item es a b (find_past (has_address_of a e) e (find (has_address_of a) es) other some)))
 
 -- ---- a new endpoint
 
@@ -47,7 +47,7 @@ at_new d e a none = grind arith
 
 pub at-created : (d : ℕ) (es : List Endpoint) (e : Endpoint) (a : ℕ) → e.queue ≡ [] → messages_at d (es ++ e ∷ []) a ≡ messages_at d es a
 at-created d [] e a none = at_new d e a none
-at-created d (x ∷ xs) e a none = ap (λ r. cond (has_live_address a x) (queued_at d x) r) (at-created d xs e a none)
+at-created d (x ∷ xs) e a none = ap (λ r. cond (has_address_of a x) (queued_at d x) r) (at-created d xs e a none)
 
 -- ---- the best message less
 

@@ -8,7 +8,7 @@ use Rattle.std.proofs.lemmas.List.Sums.{sum_by-append}
 use Rattle.std.proofs.lemmas.Bool.{cond_both, and_parts, eqb-true, cases_Bool}
 use Rattle.mc_base.specs.Frame.{destination_of}
 use Rattle.board_model.specs.Journal.{Taken, Visit}
-use Rattle.board_model.specs.State.{DomainState, Item, Endpoint, has_live_address, place_of_address, place_waiting_for}
+use Rattle.board_model.specs.State.{DomainState, Item, Endpoint, has_address_of, place_of_address, place_waiting_for}
 use Rattle.board_model.specs.Choice.{best}
 use Rattle.board_model.specs.Dealing.{queued_last, with_item, item_of, row_for, after_frame, after_takes, HaveWords}
 use Rattle.board_model.specs.Turn.{after_looks, after_visit, IsVisit, AreVisits, after_turn}
@@ -90,7 +90,7 @@ module _ (test : Message → Bool) (d : ℕ) where
 
   -- ---- one message more
 
-  last_count : (item : Item) (e : Endpoint) (a : ℕ) → has_live_address a e ≡ true → count_by test (queued_at d (queued_last item e)) ≡ count_by test (queued_at d e) + count_by test (queued_message d a item ∷ [])
+  last_count : (item : Item) (e : Endpoint) (a : ℕ) → has_address_of a e ≡ true → count_by test (queued_at d (queued_last item e)) ≡ count_by test (queued_at d e) + count_by test (queued_message d a item ∷ [])
   last_count item e a here =
       let address : e.address ≡ a = eqb-true e.address a (and_parts e.live (e.address == a) here).1 in
       rw (← address) (ap (count_by test) (map-append (queued_message d e.address) e.queue (item ∷ [])) ∙ count-append test (queued_at d e) (queued_message d e.address item ∷ []))
@@ -99,19 +99,19 @@ module _ (test : Message → Bool) (d : ℕ) where
   find_past true e o f h = absurd cc
   find_past false e o f h = h
 
-  more_count : (item : Item) (es : List Endpoint) (a : ℕ) → is_some (find (has_live_address a) es) ≡ true →
-      queued_count (changed_first (has_live_address a) (queued_last item) es) ≡ queued_count es + count_by test (queued_message d a item ∷ [])
+  more_count : (item : Item) (es : List Endpoint) (a : ℕ) → is_some (find (has_address_of a) es) ≡ true →
+      queued_count (changed_first (has_address_of a) (queued_last item) es) ≡ queued_count es + count_by test (queued_message d a item ∷ [])
   more_count item [] a found = absurd cc
   more_count item (e ∷ es) a found =
-      cond_both (has_live_address a e) (queued_last item e ∷ es) (e ∷ changed_first (has_live_address a) (queued_last item) es)
+      cond_both (has_address_of a e) (queued_last item e ∷ es) (e ∷ changed_first (has_address_of a) (queued_last item) es)
       (λ zs. queued_count zs ≡ queued_count (e ∷ es) + count_by test (queued_message d a item ∷ []))
       (λ here. omega (arith, last_count item e a here, queued-cons (queued_last item e) es, queued-cons e es))
-      (λ other. omega (arith, more_count item es a (find_past (has_live_address a e) e (find (has_live_address a) es) other found), queued-cons e (changed_first (has_live_address a) (queued_last item) es), queued-cons e es))
+      (λ other. omega (arith, more_count item es a (find_past (has_address_of a e) e (find (has_address_of a) es) other found), queued-cons e (changed_first (has_address_of a) (queued_last item) es), queued-cons e es))
 
   with_item_count : (s : DomainState) (a : ℕ) (item : Item) → is_some (place_of_address s a) ≡ true → queued_count (with_item s a item).endpoints ≡ queued_count s.endpoints + count_by test (queued_message d a item ∷ [])
   with_item_count s a item found =
-      ap queued_count (changed-position (has_live_address a) (queued_last item) s.endpoints)
-      ∙ more_count item s.endpoints a (sym (some-position (has_live_address a) s.endpoints) ∙ found)
+      ap queued_count (changed-position (has_address_of a) (queued_last item) s.endpoints)
+      ∙ more_count item s.endpoints a (sym (some-position (has_address_of a) s.endpoints) ∙ found)
 
   -- ---- one message less
 

@@ -7,7 +7,7 @@ use Rattle.std.proofs.lemmas.List.Elements.{filter-append}
 use Rattle.mc_base.specs.Frame.{destination_of}
 use Rattle.board_model.specs.Lists.{changed}
 use Rattle.board_model.specs.Journal.{Taken, Visit}
-use Rattle.board_model.specs.State.{DomainState, has_live_address, place_of_address}
+use Rattle.board_model.specs.State.{DomainState, has_address_of, place_of_address}
 use Rattle.board_model.specs.Dealing.{queued_last, with_item, with_handed, item_of, row_for, after_frame, after_takes, HaveWords}
 use Rattle.board_model.specs.Turn.{after_looks, after_visit, IsVisit, AreVisits, after_turn}
 use Rattle.board_model.specs.Messages.{Message, message_in, carries_message, messages_in}
@@ -62,12 +62,12 @@ came-cons d peer t ts = tested-append is_queued peer d (t ∷ []) ts
 queue_one : (d peer : ℕ) (s : DomainState) (t : Taken) (q : Standing) → is_some (place_of_address s (destination_of t.frame)) ≡ true → Stands d s q →
     Stands d (with_item s (destination_of t.frame) (item_of peer t.frame)) (added q (message_in peer d t.frame ∷ []))
 queue_one d peer s t q found stands =
-    let place : changed (queued_last (item_of peer t.frame)) (place_of_address s (destination_of t.frame)) s.endpoints ≡ changed_first (has_live_address (destination_of t.frame)) (queued_last (item_of peer t.frame)) s.endpoints
-    = changed-position (has_live_address (destination_of t.frame)) (queued_last (item_of peer t.frame)) s.endpoints in
-    let there : is_some (find (has_live_address (destination_of t.frame)) s.endpoints) ≡ true = sym (some-position (has_live_address (destination_of t.frame)) s.endpoints) ∙ found in
+    let place : changed (queued_last (item_of peer t.frame)) (place_of_address s (destination_of t.frame)) s.endpoints ≡ changed_first (has_address_of (destination_of t.frame)) (queued_last (item_of peer t.frame)) s.endpoints
+    = changed-position (has_address_of (destination_of t.frame)) (queued_last (item_of peer t.frame)) s.endpoints in
+    let there : is_some (find (has_address_of (destination_of t.frame)) s.endpoints) ≡ true = sym (some-position (has_address_of (destination_of t.frame)) s.endpoints) ∙ found in
     record {
       queued = λ a. ap (λ ms. ms ++ only_at (message_in peer d t.frame) (destination_of t.frame) a) (stands.queued a) ∙ (sym (at-queued d (item_of peer t.frame) s.endpoints (destination_of t.frame) a there) ∙ ap (λ es. messages_at d es a) (sym place));
-      rise = rw place (rise-changed (has_live_address (destination_of t.frame)) (queued_last (item_of peer t.frame)) (λ e. refl) 1024 (1024 + s.endpoints_given) s.endpoints stands.rise);
+      rise = rw place (rise-changed (has_address_of (destination_of t.frame)) (queued_last (item_of peer t.frame)) (λ e. refl) 1024 (1024 + s.endpoints_given) s.endpoints stands.rise);
     }
 
 added_none : (q : Standing) (ms : List Message) (a : ℕ) → ms ≡ [] → added q ms a ≡ q a

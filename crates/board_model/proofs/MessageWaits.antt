@@ -10,7 +10,7 @@ use Rattle.mc_base.specs.declared.refusal.Refusal.{Refusal}
 use Rattle.board_model.specs.DomainCall.{DomainCall, create_at, send_from, receive_at, request_at, available_at, test_of, cancel_of}
 use Rattle.board_model.specs.Lists.{changed, without}
 use Rattle.board_model.specs.Journal.{Taken, Visit}
-use Rattle.board_model.specs.State.{DomainState, Item, Endpoint, Outcome, has_item, Request, message_at, is_at, has_live_address, place_at, endpoint_at, queue_in, place_of_address, waits_at, receives_at, place_of_waiting, place_waiting_for}
+use Rattle.board_model.specs.State.{DomainState, Item, Endpoint, Outcome, has_item, Request, message_at, is_at, has_address_of, place_at, endpoint_at, queue_in, place_of_address, waits_at, receives_at, place_of_waiting, place_waiting_for}
 use Rattle.board_model.specs.Choice.{best, best_place, without_best}
 use Rattle.board_model.specs.Dealing.{queued_last, with_item, complete_with, with_handed, item_of, row_for, after_frame, after_takes, HaveWords}
 use Rattle.board_model.specs.Turn.{after_looks, after_visit, IsVisit, AreVisits, after_turn}
@@ -59,12 +59,12 @@ waiting_in s None = refl
 waiting_in s (Some e) = refl
 
 -- the oldest receive that waits at the endpoint with an address
-pub waiting-found : (s : DomainState) (address : ℕ) → place_waiting_for s address ≡ option_and_then (λ e. place_of_waiting s e.local) (find (has_live_address address) s.endpoints)
+pub waiting-found : (s : DomainState) (address : ℕ) → place_waiting_for s address ≡ option_and_then (λ e. place_of_waiting s e.local) (find (has_address_of address) s.endpoints)
 waiting-found s address =
-    ap (λ (o : Option Endpoint). option_and_then (place_of_waiting s) (option_map (λ e. e.local) o)) (get-position (has_live_address address) s.endpoints)
-    ∙ waiting_in s (find (has_live_address address) s.endpoints)
+    ap (λ (o : Option Endpoint). option_and_then (place_of_waiting s) (option_map (λ e. e.local) o)) (get-position (has_address_of address) s.endpoints)
+    ∙ waiting_in s (find (has_address_of address) s.endpoints)
 
-pub waits-at-found : (s : DomainState) (address : ℕ) (e : Endpoint) → find (has_live_address address) s.endpoints ≡ Some e → is_some (place_waiting_for s address) ≡ is_some (find (waits_at e.local) s.requests)
+pub waits-at-found : (s : DomainState) (address : ℕ) (e : Endpoint) → find (has_address_of address) s.endpoints ≡ Some e → is_some (place_waiting_for s address) ≡ is_some (find (waits_at e.local) s.requests)
 waits-at-found s address e found =
     ap is_some (waiting-found s address ∙ ap (option_and_then (λ f. place_of_waiting s f.local)) found) ∙ some-position (waits_at e.local) s.requests
 
@@ -79,14 +79,14 @@ handed_quiet s address item quiet =
 
 queued_quiet : (s : DomainState) (address : ℕ) (item : Item) → item.priority ≤ 3 → is_some (place_waiting_for s address) ≡ false → Quiet s → Quiet (with_item s address item)
 queued_quiet s address item rank none quiet =
-    let place : changed (queued_last item) (place_of_address s address) s.endpoints ≡ changed_first (has_live_address address) (queued_last item) s.endpoints
-    = changed-position (has_live_address address) (queued_last item) s.endpoints in
-    let apart : Apart (changed_first (has_live_address address) (queued_last item) s.endpoints) = apart-changed (has_live_address address) (queued_last item) (λ e. refl) (λ e. refl) s.endpoints quiet.apart in
-    let ranked : AllByRecursion Ranked (changed_first (has_live_address address) (queued_last item) s.endpoints)
-    = all-changed-first Ranked (has_live_address address) (queued_last item) s.endpoints quiet.ranked
+    let place : changed (queued_last item) (place_of_address s address) s.endpoints ≡ changed_first (has_address_of address) (queued_last item) s.endpoints
+    = changed-position (has_address_of address) (queued_last item) s.endpoints in
+    let apart : Apart (changed_first (has_address_of address) (queued_last item) s.endpoints) = apart-changed (has_address_of address) (queued_last item) (λ e. refl) (λ e. refl) s.endpoints quiet.apart in
+    let ranked : AllByRecursion Ranked (changed_first (has_address_of address) (queued_last item) s.endpoints)
+    = all-changed-first Ranked (has_address_of address) (queued_last item) s.endpoints quiet.ranked
     (λ e found rest. all-append (λ i. i.priority ≤ 3) e.queue (item ∷ []) rest (rank, tt)) in
-    let free : AllByRecursion (EmptyOrFree s.requests) (changed_first (has_live_address address) (queued_last item) s.endpoints)
-    = all-changed-first (EmptyOrFree s.requests) (has_live_address address) (queued_last item) s.endpoints quiet.free
+    let free : AllByRecursion (EmptyOrFree s.requests) (changed_first (has_address_of address) (queued_last item) s.endpoints)
+    = all-changed-first (EmptyOrFree s.requests) (has_address_of address) (queued_last item) s.endpoints quiet.free
     (λ e found rest live. inr (none-passes (waits_at e.local) s.requests (is_none_found (find (waits_at e.local) s.requests) (sym (waits-at-found s address e found) ∙ none)))) in
     record { apart = rw place apart; ranked = rw place ranked; free = rw place free }
 

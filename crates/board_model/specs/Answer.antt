@@ -2,13 +2,14 @@
 -- Source: docs/PROFILE.md, "Calls" and "Words of refusal". E is the endpoint of the line's domain, node and port.
 use Rattle.std.specs.Prelude.{ℕ, ◌+◌, Bool, false, not, ◌&&◌, List, [], ◌∷◌, length, take, nat_lt, nat_le, ◌==◌, find, Option, None, Some, is_some, option_map, unwrap_or, if◌then◌else◌}
 use Rattle.mc_base.specs.Limits.{item_size}
+use Rattle.mc_base.specs.NameMap.{address_in}
 use Rattle.mc_base.specs.Frame.{made}
 use Rattle.mc_base.specs.Letter.{spelling, msg}
 use Rattle.mc_base.specs.declared.name.Local.{Local}
 use Rattle.mc_base.specs.declared.name.EndName.{EndName}
 use Rattle.mc_base.specs.declared.refusal.Refusal.{Refusal}
-use Rattle.mc_base.specs.declared.refusal.Refusal.TheVariants.{NodeInvalid, ExistsAlready, EndpLimit, AddressSpent, EndpInvalid, PeerInvalid, OnChannel, MsgSize, NoBuffer, Empty, RequestLimit, RequestInvalid, Pending, TooLate}
-use Rattle.board_model.specs.DomainCall.{DomainCall, create_at, send_from, receive_at, request_at, available_at, test_of, cancel_of}
+use Rattle.mc_base.specs.declared.refusal.Refusal.TheVariants.{NodeInvalid, ExistsAlready, EndpLimit, AddressSpent, EndpInvalid, PeerInvalid, OnChannel, ChanConnected, MsgSize, NoBuffer, Empty, RequestLimit, RequestInvalid, Pending, TooLate}
+use Rattle.board_model.specs.DomainCall.{DomainCall, create_at, delete_at, lookup_of, send_from, receive_at, request_at, available_at, test_of, cancel_of, turn_alone}
 use Rattle.board_model.specs.Journal.{PlainResult, found_at, was_accepted, was_rejected, brought, ended_by, PlainAnswer, refuses, agrees, tells, gives, completes}
 use Rattle.board_model.specs.State.{DomainState, Item, Endpoint, Peer, Asked, message_at, Outcome, has_address, is_accepted, is_rejected, has_item, has_ended, Request, request_at_place, place_at, endpoint_at, address_at, queue_at, peer_of, free_to}
 use Rattle.board_model.specs.Choice.{best}
@@ -17,28 +18,28 @@ use Rattle.board_model.specs.Choice.{best}
 abbrev pub local : ℕ → ℕ → Local
 local node port = record { node = node; port = port }
 
--- the port of E. A call on a request is made at none
+-- the port of E. Calls on requests and names, and a turn, are made at none
 abbrev pub port_of : DomainCall → ℕ
 port_of (create_at port) = port
+port_of (delete_at port) = port
+port_of (lookup_of name) = 0
 port_of (send_from port to priority bytes) = port
 port_of (receive_at port max) = port
 port_of (request_at port max) = port
 port_of (available_at port) = port
 port_of (test_of request) = 0
 port_of (cancel_of request) = 0
+port_of turn_alone = 0
 
 abbrev pub here : ℕ → DomainCall → Local
 here node call = local node (port_of call)
 
 -- the address that is known for a name of another domain
-abbrev pub is_name : EndName → EndName × ℕ → Bool
-is_name n k = k.0.domain == n.domain && (k.0.node == n.node && k.0.port == n.port)
-
 abbrev pub known_address : EndName → Option Peer → Option ℕ
 known_address n None = None
-known_address n (Some p) = option_map (λ k. k.1) (find (is_name n) p.known)
+known_address n (Some p) = address_in n p.known
 
--- the address of the named endpoint: in this domain where it is live, in another where it is known from there
+-- the address of the named endpoint: in this domain that of the live one, in another the one that is known from there
 abbrev pub address_of : DomainState → EndName → Option ℕ
 address_of s n = if n.domain == s.number then address_at s (local n.node n.port) else known_address n (peer_of s n.domain)
 
@@ -79,11 +80,12 @@ lacks_buffers s (p ∷ ps) = nat_lt (free_to s p.0) (length (p ∷ ps))
 abbrev pub holds : DomainState → ℕ → DomainCall → Refusal → Bool
 holds s node call NodeInvalid = nat_le s.nodes node
 holds s node call ExistsAlready = is_some (place_at s (here node call))
-holds s node call EndpLimit = nat_le 64 (length s.endpoints)
+holds s node call EndpLimit = nat_le 64 (length s.endpoints + length s.ended)
 holds s node call AddressSpent = nat_le 60000 s.endpoints_given
 holds s node call EndpInvalid = not (is_some (place_at s (here node call)))
 holds s node call PeerInvalid = not (is_some (named s call))
 holds s node call OnChannel = has_channel (endpoint_at s (here node call))
+holds s node call ChanConnected = has_channel (endpoint_at s (here node call))
 holds s node call MsgSize = nat_lt item_size (content_size call)
 holds s node call NoBuffer = lacks_buffers s (success_puts s node call)
 holds s node call Empty = length (queue_at s (here node call)) == 0
@@ -96,12 +98,15 @@ holds s node call other = false
 -- the words of a call, in their order
 abbrev pub words_of : DomainCall → List Refusal
 words_of (create_at port) = NodeInvalid ∷ ExistsAlready ∷ EndpLimit ∷ AddressSpent ∷ []
+words_of (delete_at port) = EndpInvalid ∷ ChanConnected ∷ []
+words_of (lookup_of name) = RequestLimit ∷ []
 words_of (send_from port to priority bytes) = EndpInvalid ∷ OnChannel ∷ PeerInvalid ∷ MsgSize ∷ NoBuffer ∷ []
 words_of (receive_at port max) = EndpInvalid ∷ OnChannel ∷ Empty ∷ []
 words_of (request_at port max) = EndpInvalid ∷ OnChannel ∷ RequestLimit ∷ []
 words_of (available_at port) = EndpInvalid ∷ OnChannel ∷ []
 words_of (test_of request) = RequestInvalid ∷ Pending ∷ []
 words_of (cancel_of request) = RequestInvalid ∷ TooLate ∷ []
+words_of turn_alone = []
 
 -- the first word that holds
 abbrev pub refusal : DomainState → ℕ → DomainCall → Option Refusal
@@ -133,12 +138,15 @@ result_of (Some r) = result_by r.asked r.outcome
 -- the answer of success
 abbrev pub success : DomainState → ℕ → DomainCall → PlainAnswer
 success s node (create_at port) = tells (1024 + s.endpoints_given)
+success s node (delete_at port) = tells (length (queue_at s (local node port)))
+success s node (lookup_of name) = tells s.requests_given
 success s node (send_from port to priority bytes) = agrees
 success s node (receive_at port max) = given max (best (λ i. i.priority) (queue_at s (local node port)))
 success s node (request_at port max) = tells s.requests_given
 success s node (available_at port) = tells (length (queue_at s (local node port)))
 success s node (test_of request) = completes (result_of (request_at_place s request))
 success s node (cancel_of request) = agrees
+success s node turn_alone = agrees
 
 abbrev pub answer_by : Option Refusal → PlainAnswer → PlainAnswer
 answer_by (Some word) success = refuses word

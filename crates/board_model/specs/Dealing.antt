@@ -2,9 +2,13 @@
 -- Source: docs/PROFILE.md, "What a domain does with a taken frame": rows in their order, of which the first that applies
 -- counts. Each has a condition, a word, and the state that it leaves. Except for queued and handed the buffer is given
 -- back at once.
-use Rattle.std.specs.Prelude.{◌≡◌, ℕ, Bool, true, false, not, ◌&&◌, List, [], ◌∷◌, ◌++◌, ◌==◌, drop, slice_index, Option, Some, None, is_some, option_map, if◌then◌else◌}
+use Rattle.std.specs.Prelude.{◌≡◌, ℕ, Bool, true, false, not, ◌&&◌, nat_le, List, [], ◌∷◌, ◌++◌, ◌==◌, length, map, drop, slice_index, Option, Some, None, is_none, is_some, option_map, option_and_then, if◌then◌else◌}
 use Rattle.mc_base.specs.Limits.{name_service_address, letter_header_size}
+use Rattle.mc_base.specs.Bytes.{number_at}
 use Rattle.mc_base.specs.Frame.{source_of, destination_of, payload_of}
+use Rattle.mc_base.specs.Announcement.{name_in}
+use Rattle.mc_base.specs.FullName.{endpoint_named}
+use Rattle.mc_base.specs.NameMap.{names_limit, Names, learned, forgotten, address_in}
 use Rattle.mc_base.specs.Fault.{fault}
 use Rattle.mc_base.specs.declared.fault.Fault.{Fault}
 use Rattle.mc_base.specs.declared.fault.Fault.TheVariants as of
@@ -14,11 +18,12 @@ use Rattle.mc_base.specs.declared.fault.LetterFault.{LetterFault}
 use Rattle.mc_base.specs.declared.fault.LetterFault.TheVariants as letter_fault
 use Rattle.mc_base.specs.declared.fault.NsFault.{NsFault}
 use Rattle.mc_base.specs.declared.fault.NsFault.TheVariants as ns_fault
+use Rattle.mc_base.specs.declared.name.EndName.{EndName}
 use Rattle.mc_base.specs.declared.fate.Fate.{Fate}
 use Rattle.mc_base.specs.declared.fate.Fate.TheVariants as fate
 use Rattle.board_model.specs.Lists.{changed}
 use Rattle.board_model.specs.Journal.{Taken}
-use Rattle.board_model.specs.State.{Item, Endpoint, Request, has_item, DomainState, place_of_address, place_waiting_for}
+use Rattle.board_model.specs.State.{Item, Endpoint, Peer, Asked, name_of, Request, has_address, has_item, DomainState, place_of_address, place_waiting_for, place_of_peer, peer_of}
 
 -- the words of the faults
 abbrev pub frame_word : FrameFault → Fate
@@ -78,6 +83,76 @@ complete_with item r = record r { outcome = Some (has_item item) }
 abbrev pub with_handed : DomainState → ℕ → Item → DomainState
 with_handed s address item = record s { requests = changed (complete_with item) (place_waiting_for s address) s.requests }
 
+-- ---- announcements
+
+-- a frame to the name service's address is an announcement: it says whether the endpoint of a name is there, and its address
+abbrev pub is_announcement : List ℕ → Bool
+is_announcement frame = destination_of frame == name_service_address
+
+abbrev pub announced_address : List ℕ → ℕ
+announced_address frame = number_at 32 4 (payload_of frame)
+
+abbrev pub tells_creation : List ℕ → Bool
+tells_creation frame = number_at 36 4 (payload_of frame) == 0
+
+abbrev pub is_creation : List ℕ → Bool
+is_creation frame = is_announcement frame && tells_creation frame
+
+-- the endpoint of the peer whose name it has, or none where it is the name of no endpoint of the peer
+abbrev pub of_domain : ℕ → EndName → Option EndName
+of_domain peer n = if n.domain == peer then Some n else None
+
+abbrev pub announced_name : ℕ → List ℕ → Option EndName
+announced_name peer frame = option_and_then (of_domain peer) (endpoint_named (name_in (payload_of frame)))
+
+-- the names that are known of a peer
+abbrev pub names_of : Option Peer → Names
+names_of None = []
+names_of (Some p) = p.known
+
+abbrev pub known_from : DomainState → ℕ → Names
+known_from s peer = names_of (peer_of s peer)
+
+-- whether the name is known
+abbrev pub is_known : Names → Option EndName → Bool
+is_known names None = false
+is_known names (Some n) = is_some (address_in n names)
+
+-- the names that a peer announced are these
+abbrev pub knowing : Names → Peer → Peer
+knowing names p = record p { known = names }
+
+abbrev pub with_known : DomainState → ℕ → Names → DomainState
+with_known s peer names = record s { peers = changed (knowing names) (place_of_peer s peer) s.peers }
+
+-- a lookup of this name that is pending is complete with the address
+abbrev pub same_name : EndName → EndName → Bool
+same_name n m = m.domain == n.domain && (m.node == n.node && m.port == n.port)
+
+abbrev pub asks_for : EndName → Asked → Bool
+asks_for n (name_of m) = same_name n m
+asks_for n other = false
+
+abbrev pub looks_for : EndName → Request → Bool
+looks_for n r = is_none r.outcome && asks_for n r.asked
+
+abbrev pub found_for : EndName → ℕ → Request → Request
+found_for n address r = if looks_for n r then record r { outcome = Some (has_address address) } else r
+
+abbrev pub with_found : DomainState → EndName → ℕ → DomainState
+with_found s n address = record s { requests = map (found_for n address) s.requests }
+
+-- the endpoint is known to be there, with its address, and lookups of it are complete; or it is gone
+abbrev pub with_created : DomainState → ℕ → Option EndName → ℕ → DomainState
+with_created s peer None address = s
+with_created s peer (Some n) address = with_found (with_known s peer (learned n address (known_from s peer))) n address
+
+abbrev pub with_destroyed : DomainState → ℕ → Option EndName → DomainState
+with_destroyed s peer None = s
+with_destroyed s peer (Some n) = with_known s peer (forgotten n (known_from s peer))
+
+-- ---- rows
+
 -- a row: whether it applies, its word, and the state that it leaves
 pub record Row : Type 0 where
   pub applies : Bool
@@ -94,6 +169,11 @@ fault_row s (Some f) = row true (fault_word f) s
 abbrev pub rows : DomainState → ℕ → List ℕ → List Row
 rows s peer frame =
     fault_row s (fault frame)
+    ∷ row (is_announcement frame && is_none (announced_name peer frame)) fate.ForeignName s
+    ∷ row (is_creation frame && (not (is_known (known_from s peer) (announced_name peer frame)) && nat_le names_limit (length (known_from s peer)))) fate.NamesFull s
+    ∷ row (is_creation frame) fate.Acted (with_created s peer (announced_name peer frame) (announced_address frame))
+    ∷ row (is_announcement frame && not (is_known (known_from s peer) (announced_name peer frame))) fate.UnknownName s
+    ∷ row (is_announcement frame) fate.Acted (with_destroyed s peer (announced_name peer frame))
     ∷ row (is_letter frame && not (is_some (place_of_address s (destination_of frame)))) fate.NoEndpoint s
     ∷ row (is_message frame && is_some (place_waiting_for s (destination_of frame))) fate.Handed (with_handed s (destination_of frame) (item_of peer frame))
     ∷ row (is_message frame) fate.Queued (with_item s (destination_of frame) (item_of peer frame))

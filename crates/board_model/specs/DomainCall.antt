@@ -6,9 +6,12 @@ use Rattle.mc_base.specs.declared.name.EndName.{EndName}
 -- the port at which a call is made comes first; a request that does not stand is none
 pub data DomainCall : Type 0 where
   create_at : ℕ → DomainCall
+  delete_at : ℕ → DomainCall
+  lookup_of : EndName → DomainCall
   send_from : ℕ → EndName → ℕ → List ℕ → DomainCall
   receive_at : ℕ → ℕ → DomainCall
   request_at : ℕ → ℕ → DomainCall
   available_at : ℕ → DomainCall
   test_of : Option ℕ → DomainCall
   cancel_of : Option ℕ → DomainCall
+  turn_alone : DomainCall

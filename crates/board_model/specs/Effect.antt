@@ -1,16 +1,40 @@
 -- What a call changes. A refused call changes nothing.
 -- Source: docs/PROFILE.md, "Calls".
-use Rattle.std.specs.Prelude.{ℕ, ◌+◌, ◌-◌, ◌%◌, ◌^◌, true, List, [], ◌∷◌, ◌++◌, Option, None, Some, option_map, option_to_list}
+use Rattle.std.specs.Prelude.{ℕ, ◌+◌, ◌-◌, ◌%◌, ◌^◌, Bool, true, false, not, ◌==◌, List, [], ◌∷◌, ◌++◌, map, filter, Option, None, Some, option_map, option_to_list, unwrap_or, if◌then◌else◌}
+use Rattle.mc_base.specs.FullName.{end_name}
 use Rattle.mc_base.specs.declared.name.Local.{Local}
-use Rattle.board_model.specs.DomainCall.{DomainCall, create_at, send_from, receive_at, request_at, available_at, test_of, cancel_of}
+use Rattle.mc_base.specs.declared.name.EndName.{EndName}
+use Rattle.mc_base.specs.declared.refusal.Refusal.{Refusal}
+use Rattle.mc_base.specs.declared.refusal.Refusal.TheVariants.{EndpInvalid}
+use Rattle.board_model.specs.DomainCall.{DomainCall, create_at, delete_at, lookup_of, send_from, receive_at, request_at, available_at, test_of, cancel_of, turn_alone}
 use Rattle.board_model.specs.Lists.{changed, without}
-use Rattle.board_model.specs.State.{DomainState, Endpoint, Item, Peer, Asked, message_at, Outcome, has_item, Request, request_at_place, item_in, place_at, queue_at, place_of_peer}
+use Rattle.board_model.specs.State.{DomainState, Endpoint, Item, Announcement, Peer, Asked, name_of, message_at, Outcome, has_address, has_item, has_ended, Request, request_at_place, item_in, place_at, address_at, queue_at, place_of_peer, waits_at, is_owed_end}
 use Rattle.board_model.specs.Choice.{best, without_best}
-use Rattle.board_model.specs.Answer.{local, refusal, unless_refused}
+use Rattle.board_model.specs.Dealing.{with_found}
+use Rattle.board_model.specs.Turn.{with_peers}
+use Rattle.board_model.specs.Answer.{local, address_of, refusal, unless_refused}
 
 -- a new endpoint. Its address is 1024 and the number of endpoints that were created before
 abbrev pub new_endpoint : DomainState → Local → Endpoint
-new_endpoint s at = record { local = at; address = 1024 + s.endpoints_given; live = true; queue = []; channel = None }
+new_endpoint s at = record { local = at; address = 1024 + s.endpoints_given; queue = []; channel = None }
+
+-- each linked domain is owed an announcement, after those before it. Nothing is announced to the domain itself
+abbrev pub also_owed : ℕ → Announcement → Peer → Peer
+also_owed domain a p = if p.number == domain then p else record p { announcements = p.announcements ++ a ∷ [] }
+
+abbrev pub with_announced : DomainState → Announcement → DomainState
+with_announced s a = with_peers s (map (also_owed s.number a) s.peers)
+
+-- an endpoint is there: linked domains are to be told, and lookups of it are complete
+abbrev pub with_endpoint : DomainState → Local → DomainState
+with_endpoint s at = with_found (with_announced (record s { endpoints = s.endpoints ++ new_endpoint s at ∷ []; endpoints_given = s.endpoints_given + 1 }) (record { local = at; address = 1024 + s.endpoints_given; create = true })) (end_name s.number at) (1024 + s.endpoints_given)
+
+-- an endpoint is gone: receives that wait at it are complete with a word, and linked domains are to be told
+abbrev pub ended_by_word : Refusal → Local → Request → Request
+ended_by_word word at r = if waits_at at r then record r { outcome = Some (has_ended word) } else r
+
+abbrev pub without_endpoint : DomainState → Local → ℕ → DomainState
+without_endpoint s at address = with_announced (record s { endpoints = without (place_at s at) s.endpoints; ended = s.ended ++ address ∷ []; requests = map (ended_by_word EndpInvalid at) s.requests }) (record { local = at; address = address; create = false })
 
 -- one buffer of the lane to a peer is used
 abbrev pub used_one : Peer → Peer
@@ -36,13 +60,16 @@ best_queued s at = best (λ i. i.priority) (queue_at s at)
 
 -- the effect of success
 abbrev pub success_effect : DomainState → ℕ → DomainCall → DomainState
-success_effect s node (create_at port) = record s { endpoints = s.endpoints ++ new_endpoint s (local node port) ∷ []; endpoints_given = s.endpoints_given + 1 }
+success_effect s node (create_at port) = with_endpoint s (local node port)
+success_effect s node (delete_at port) = without_endpoint s (local node port) (unwrap_or (address_at s (local node port)) 0)
+success_effect s node (lookup_of name) = with_request s (name_of name) (option_map has_address (address_of s name))
 success_effect s node (send_from port to priority bytes) = with_used s to.domain
 success_effect s node (receive_at port max) = with_received s (local node port)
 success_effect s node (request_at port max) = with_request (with_received s (local node port)) (message_at (local node port) max) (option_map has_item (best_queued s (local node port)))
 success_effect s node (available_at port) = s
 success_effect s node (test_of request) = record s { requests = without request s.requests }
 success_effect s node (cancel_of request) = record s { requests = without request s.requests }
+success_effect s node turn_alone = s
 
 -- the effect of a call
 abbrev pub effect : DomainState → ℕ → DomainCall → DomainState
@@ -55,6 +82,7 @@ held_by (Some r) = item_in r.outcome
 
 -- the items whose buffers success gives back, in that order
 abbrev pub success_returns : DomainState → ℕ → DomainCall → List Item
+success_returns s node (delete_at port) = queue_at s (local node port)
 success_returns s node (receive_at port max) = option_to_list (best_queued s (local node port))
 success_returns s node (test_of request) = held_by (request_at_place s request)
 success_returns s node other = []

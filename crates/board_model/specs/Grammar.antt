@@ -8,7 +8,7 @@ use Rattle.mc_base.specs.declared.name.EndName.{EndName}
 use Rattle.board_model.specs.declared.scenario.DomainLine.{DomainLine}
 use Rattle.board_model.specs.declared.scenario.LinkLine.{LinkLine}
 use Rattle.board_model.specs.declared.scenario.Call.{Call}
-use Rattle.board_model.specs.declared.scenario.Call.TheVariants.{Create, MsgSend, MsgRecv, MsgRecvI, MsgAvailable, Test, Cancel}
+use Rattle.board_model.specs.declared.scenario.Call.TheVariants.{Create, Delete, Lookup, MsgSend, MsgRecv, MsgRecvI, MsgAvailable, Test, Cancel, Turn}
 use Rattle.board_model.specs.declared.scenario.CallLine.{CallLine}
 use Rattle.board_model.specs.declared.scenario.Scenario.{Scenario}
 use Rattle.board_model.specs.Scenario.{label_in}
@@ -36,12 +36,15 @@ name_text n = decimal n.domain ++ (58 ∷ (decimal n.node ++ (58 ∷ decimal n.p
 -- the forms of the calls: the word, and the arguments in their order
 abbrev pub call_words : Call → List (List ℕ)
 call_words (Create port) = codes "create" ∷ decimal port ∷ []
+call_words (Delete port) = codes "delete" ∷ decimal port ∷ []
+call_words (Lookup name) = codes "lookup" ∷ name_text name ∷ []
 call_words (MsgSend port to priority bytes) = codes "msg_send" ∷ decimal port ∷ name_text to ∷ decimal priority ∷ hex_text bytes ∷ []
 call_words (MsgRecv port max) = codes "msg_recv" ∷ decimal port ∷ decimal max ∷ []
 call_words (MsgRecvI port max) = codes "msg_recv_i" ∷ decimal port ∷ decimal max ∷ []
 call_words (MsgAvailable port) = codes "msg_available" ∷ decimal port ∷ []
 call_words (Test label) = codes "test" ∷ label.items ∷ []
 call_words (Cancel label) = codes "cancel" ∷ label.items ∷ []
+call_words Turn = codes "turn" ∷ []
 
 -- a label, and the sign that sets it apart
 abbrev pub label_words : Option (List ℕ) → List (List ℕ)
@@ -76,12 +79,15 @@ IsLabel (b ∷ bs) = IsTrue (is_letter_byte b) × (length bs ≤ 15) × IsTrue (
 
 abbrev pub IsLawfulCall : Call → Type 0
 IsLawfulCall (Create port) = port < 2 ^ 16
+IsLawfulCall (Delete port) = ⊥
+IsLawfulCall (Lookup name) = ⊥
 IsLawfulCall (MsgSend port to priority bytes) = (port < 2 ^ 16) × IsLawfulName to × (priority ≤ 3) × (length bytes ≤ 9000) × AllByRecursion (λ b. b < 256) bytes
 IsLawfulCall (MsgRecv port max) = (port < 2 ^ 16) × (max ≤ 9000)
 IsLawfulCall (MsgRecvI port max) = (port < 2 ^ 16) × (max ≤ 9000)
 IsLawfulCall (MsgAvailable port) = port < 2 ^ 16
 IsLawfulCall (Test label) = IsLabel label.items
 IsLawfulCall (Cancel label) = IsLabel label.items
+IsLawfulCall Turn = ⊥
 
 -- a call that gives a request is made under a label that was not told before, and no other call under any; a call on a
 -- request names a label that was told before

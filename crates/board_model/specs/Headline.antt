@@ -9,14 +9,15 @@ use Rattle.board_model.specs.Lists.{IsPrefix}
 use Rattle.board_model.specs.Scenario.{lanes}
 use Rattle.board_model.specs.Board.{DomainJournal}
 use Rattle.board_model.specs.Channels.{items_accepted, items_taken, items_left}
-use Rattle.board_model.specs.Messages.{Message, accepted, dropped, messages_queued, messages_in_ring}
+use Rattle.board_model.specs.Messages.{Message, accepted, messages_queued, messages_in_ring}
+use Rattle.board_model.specs.Drops.{dropped}
 use Rattle.board_model.specs.Takings.{messages_taken, ReceivesBest, CancelledTookNothing}
 use Rattle.board_model.specs.Places.{EveryBuffer}
 
 -- each message that was accepted was taken or dropped, or is queued or in the ring, each as often: as many of the ones as
 -- of the others pass any test
 abbrev pub NoMessageLost : Scenario → List DomainJournal → Type 0
-NoMessageLost s js = (test : Message → Bool) → count_by test (accepted js) ≡ count_by test (messages_taken s js) + count_by test (dropped js) + count_by test (messages_queued s js) + count_by test (messages_in_ring s js)
+NoMessageLost s js = (test : Message → Bool) → count_by test (accepted js) ≡ count_by test (messages_taken s js) + count_by test (dropped s js) + count_by test (messages_queued s js) + count_by test (messages_in_ring s js)
 
 pub record Headline (s : Scenario) (js : List DomainJournal) : Type 0 where
   pub channel_prefix : (sender channel : ℕ) → IsPrefix (items_taken s js sender channel) (items_accepted s js sender channel)

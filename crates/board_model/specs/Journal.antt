@@ -1,11 +1,12 @@
--- Journals: what a domain did, entry by entry, and the lines of a journal as it is written, with idle turns joined.
+-- Journals: what a domain did, entry by entry, and the lines of a journal as it is written, with idle turns and tries joined.
 -- Source: docs/FORMATS.md, "Journal text". A plain turn holds for each peer what it did there; the lines leave out looks
--- that showed nothing, and tell idle turns in a row by one line.
-use Rattle.std.specs.Prelude.{ℕ, ◌+◌, ◌-◌, ◌^◌, nat_lt, Bool, ◌&&◌, List, [], ◌∷◌, ◌++◌, length, ◌==◌, if◌then◌else◌, map, Option, Some, None, slice_get, slice_set}
+-- that showed nothing, and tell by one line idle turns in a row, and tries in a row that each followed one idle turn.
+use Rattle.std.specs.Prelude.{ℕ, ◌+◌, ◌-◌, ◌^◌, nat_lt, Bool, false, ◌&&◌, List, [], ◌∷◌, ◌++◌, length, ◌==◌, if◌then◌else◌, map, take, Option, Some, None, slice_get, slice_set}
 use Rattle.std.specs.List.{flat_map, list_all}
 use Rattle.mc_base.specs.declared.channel.Reason.{Reason}
 use Rattle.mc_base.specs.declared.refusal.Refusal.{Refusal}
 use Rattle.mc_base.specs.declared.fate.Fate.{Fate}
+use Rattle.board_model.specs.Words.{same_word}
 
 -- how a request was complete: with an address; accepted or rejected; with the size of a message or packet and the bytes that
 -- were given; or with a word
@@ -41,15 +42,19 @@ pub record Visit : Type 0 where
   pub see : ℕ
   pub takes : List Taken
 
--- an entry of a plain journal: a turn, a frame that a call puts to a peer, or a call with its line's number
+-- an entry of a plain journal: a turn, a frame that a call puts to a peer, a call that answered this word and is made again, or
+-- a call with its line's number
 pub data PlainEntry : Type 0 where
   turned : List Visit → PlainEntry
   put : ℕ → List ℕ → PlainEntry
+  again : Refusal → PlainEntry
   called : ℕ → PlainAnswer → PlainEntry
 
 -- a line of a written journal
 pub data Line : Type 0 where
   idle_line : ℕ → Line
+  again_line : Refusal → Line
+  spin_line : ℕ → Refusal → Line
   turn_line : Line
   back_line : ℕ → ℕ → Line
   put_line : ℕ → List ℕ → Line
@@ -85,10 +90,32 @@ with_idle (Some n) lines = slice_set lines (length lines - 1) (idle_line (n + 1)
 abbrev pub noted_idle : List Line → List Line
 noted_idle lines = with_idle (joinable (slice_get lines (length lines - 1))) lines
 
+-- the count of a line of tries with this word that another try can join
+abbrev pub spinning : Refusal → Option Line → Option ℕ
+spinning word (Some (spin_line n w)) = if same_word w word && nat_lt n (2 ^ 64 - 1) then Some n else None
+spinning word other = None
+
+abbrev pub with_spin : Refusal → Option ℕ → List Line → List Line
+with_spin word None lines = lines ++ spin_line 1 word ∷ []
+with_spin word (Some n) lines = slice_set lines (length lines - 1) (spin_line (n + 1) word)
+
+abbrev pub noted_spin : Refusal → List Line → List Line
+noted_spin word lines = with_spin word (spinning word (slice_get lines (length lines - 1))) lines
+
+-- a line of one idle turn
+abbrev pub is_one_idle : Option Line → Bool
+is_one_idle (Some (idle_line n)) = n == 1
+is_one_idle other = false
+
+-- a call that is made again after one idle turn takes that line away and is told with it
+abbrev pub noted_again : Refusal → List Line → List Line
+noted_again word lines = if is_one_idle (slice_get lines (length lines - 1)) then noted_spin word (take (length lines - 1) lines) else lines ++ again_line word ∷ []
+
 -- the lines with one entry more
 abbrev pub noted : List Line → PlainEntry → List Line
 noted lines (turned visits) = if list_all is_idle visits then noted_idle lines else lines ++ turn_line ∷ flat_map visit_lines visits
 noted lines (put peer frame) = lines ++ put_line peer frame ∷ []
+noted lines (again word) = noted_again word lines
 noted lines (called number answer) = lines ++ call_line number answer ∷ []
 
 abbrev pub noted_all : List Line → List PlainEntry → List Line

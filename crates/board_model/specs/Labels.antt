@@ -3,10 +3,10 @@
 use Rattle.std.specs.Prelude.{ℕ, List, [], ◌∷◌, ◌++◌, find, Option, Some, None, option_map, option_and_then}
 use Rattle.std.specs.Str.{bytes_eq}
 use Rattle.board_model.specs.declared.scenario.Call.{Call}
-use Rattle.board_model.specs.declared.scenario.Call.TheVariants.{Create, MsgSend, MsgRecv, MsgRecvI, MsgAvailable, Test, Cancel}
+use Rattle.board_model.specs.declared.scenario.Call.TheVariants.{Create, Delete, Lookup, MsgSend, MsgRecv, MsgRecvI, MsgAvailable, Test, Cancel, Turn}
 use Rattle.board_model.specs.declared.scenario.CallLine.{CallLine}
 use Rattle.board_model.specs.Scenario.{label_in}
-use Rattle.board_model.specs.DomainCall.{DomainCall, create_at, send_from, receive_at, request_at, available_at, test_of, cancel_of}
+use Rattle.board_model.specs.DomainCall.{DomainCall, create_at, delete_at, lookup_of, send_from, receive_at, request_at, available_at, test_of, cancel_of, turn_alone}
 use Rattle.board_model.specs.State.{DomainState, place_of_request}
 use Rattle.board_model.specs.Answer.{refusal, unless_refused}
 
@@ -26,15 +26,19 @@ place_of_label labels s label = option_and_then (place_of_request s) (serial_of 
 -- the call of a line, as the domain knows it
 abbrev pub call_of : List Labelled → DomainState → Call → DomainCall
 call_of labels s (Create port) = create_at port
+call_of labels s (Delete port) = delete_at port
+call_of labels s (Lookup name) = lookup_of name
 call_of labels s (MsgSend port to priority bytes) = send_from port to priority bytes
 call_of labels s (MsgRecv port max) = receive_at port max
 call_of labels s (MsgRecvI port max) = request_at port max
 call_of labels s (MsgAvailable port) = available_at port
 call_of labels s (Test label) = test_of (place_of_label labels s label.items)
 call_of labels s (Cancel label) = cancel_of (place_of_label labels s label.items)
+call_of labels s Turn = turn_alone
 
 -- the serial of the request that success gives
 abbrev pub success_request : DomainState → DomainCall → Option ℕ
+success_request s (lookup_of name) = Some s.requests_given
 success_request s (request_at port max) = Some s.requests_given
 success_request s other = None
 

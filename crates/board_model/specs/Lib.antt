@@ -1,6 +1,7 @@
 pub mod Lists
 pub mod Scenario
 pub mod Grammar
+pub mod Words
 pub mod Journal
 pub mod State
 pub mod Choice
@@ -17,6 +18,7 @@ pub mod Board
 pub mod Channels
 pub mod Messages
 pub mod Takings
+pub mod Drops
 pub mod Totals
 pub mod Tallies
 pub mod Places

@@ -1,15 +1,13 @@
--- The messages of a board, by the journals: those that were accepted, those that were dropped, those that are queued, and
--- those in the ring, that is, on their way. What receives took is told in `Takings`.
+-- The messages of a board, by the journals: those that were accepted, those that are queued, and those in the ring, that is, on
+-- their way. What receives took is told in `Takings`, and what was dropped in `Drops`.
 -- Source: docs/PROFILE.md, "Messages".
-use Rattle.std.specs.Prelude.{ℕ, Bool, true, false, ◌&&◌, List, [], ◌∷◌, length, drop, map, filter, is_none}
+use Rattle.std.specs.Prelude.{ℕ, Bool, ◌&&◌, List, [], ◌∷◌, length, drop, map, filter, is_none}
 use Rattle.std.specs.List.{flat_map}
 use Rattle.mc_base.specs.Frame.{source_of, destination_of}
 use Rattle.mc_base.specs.Fault.{fault}
-use Rattle.mc_base.specs.declared.fate.Fate.{Fate}
-use Rattle.mc_base.specs.declared.fate.Fate.TheVariants.{NoEndpoint, OnChannel}
 use Rattle.board_model.specs.declared.scenario.Scenario.{Scenario}
 use Rattle.board_model.specs.Scenario.{Lane, lanes}
-use Rattle.board_model.specs.Journal.{PlainEntry, turned, put, Visit}
+use Rattle.board_model.specs.Journal.{PlainEntry, put}
 use Rattle.board_model.specs.State.{Endpoint, Item}
 use Rattle.board_model.specs.Dealing.{is_message, priority_in, content_in}
 use Rattle.board_model.specs.Traffic.{put_to, taken_from}
@@ -50,23 +48,6 @@ accepted_in d other = []
 
 abbrev pub accepted : List DomainJournal → List Message
 accepted js = flat_map (λ j. flat_map (accepted_in j.line.domain) j.entries) js
-
--- ---- dropped
-
-abbrev pub drops : Fate → Bool
-drops NoEndpoint = true
-drops OnChannel = true
-drops other = false
-
-abbrev pub dropped_at : ℕ → Visit → List Message
-dropped_at d v = messages_in v.peer d (map (λ t. t.frame) (filter (λ t. drops t.fate) v.takes))
-
-abbrev pub dropped_in : ℕ → PlainEntry → List Message
-dropped_in d (turned visits) = flat_map (dropped_at d) visits
-dropped_in d other = []
-
-abbrev pub dropped : List DomainJournal → List Message
-dropped js = flat_map (λ j. flat_map (dropped_in j.line.domain) j.entries) js
 
 -- ---- queued, and in the ring
 

@@ -36,9 +36,9 @@ dealt s peer [] = []
 dealt s peer (f ∷ fs) = taken f (word_of (row_for s peer f)) ∷ dealt (after_frame s peer f) peer fs
 
 -- the owed frames that the look at the buffers lets a turn put
-abbrev pub due_to : Option Peer → ℕ → List (List ℕ)
-due_to None back = []
-due_to (Some p) back = due_frames p back
+abbrev pub due_to : ℕ → Option Peer → ℕ → List (List ℕ)
+due_to domain None back = []
+due_to domain (Some p) back = due_frames domain p back
 
 -- a visit to a peer whose looks show so many buffers and frames, of which these come first
 abbrev pub visit_of : DomainState → ℕ → ℕ → List (List ℕ) → ℕ → List (List ℕ) → Visit
@@ -47,7 +47,7 @@ visit_of s peer back owed see frames =
     record looks { takes = dealt (after_looks s looks) peer frames }
 
 abbrev pub own_due : Alone → List (List ℕ)
-own_due a = due_to (peer_of a.state a.state.number) a.returned
+own_due a = due_to a.state.number (peer_of a.state a.state.number) a.returned
 
 -- what is on the own lane when a turn looks at its frames
 abbrev pub own_frames : Alone → List (List ℕ)

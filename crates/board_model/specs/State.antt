@@ -1,8 +1,13 @@
 -- The state of a domain.
 -- Source: docs/PROFILE.md, "A domain". Lists, in the order in which their items came. Buffers and requests are told apart
 -- by their places in these lists.
-use Rattle.std.specs.Prelude.{ℕ, ◌+◌, Bool, false, ◌&&◌, List, [], ◌∷◌, ◌++◌, ◌==◌, map, count_by, position, slice_get, Option, None, Some, option_map, option_and_then, unwrap_or, is_none}
-use Rattle.std.specs.List.{flat_map}
+use Rattle.std.specs.Prelude.{ℕ, ◌+◌, Bool, false, not, ◌&&◌, List, [], ◌∷◌, ◌++◌, ◌==◌, map, count_by, position, slice_get, Option, None, Some, option_map, option_and_then, unwrap_or, is_none}
+use Rattle.std.specs.List.{flat_map, list_any}
+use Rattle.mc_base.specs.Limits.{name_service_address}
+use Rattle.mc_base.specs.Frame.{made}
+use Rattle.mc_base.specs.Announcement.{announcement}
+use Rattle.mc_base.specs.FullName.{end_name, full_name}
+use Rattle.mc_base.specs.NameMap.{Names}
 use Rattle.mc_base.specs.declared.name.Local.{Local}
 use Rattle.mc_base.specs.declared.name.EndName.{EndName}
 use Rattle.mc_base.specs.declared.channel.Kind.{Kind}
@@ -37,11 +42,10 @@ pub record ChannelEnd : Type 0 where
   pub far_open : Bool
   pub far_closed : Bool
 
--- an endpoint: its name in its domain, its address, whether it is live, its queue, and its channel or none
+-- a live endpoint: its name in its domain, its address, its queue, and its channel or none
 pub record Endpoint : Type 0 where
   pub local : Local
   pub address : ℕ
-  pub live : Bool
   pub queue : List Item
   pub channel : Option ChannelEnd
 
@@ -71,21 +75,30 @@ pub record LentPacket : Type 0 where
   pub serial : ℕ
   pub item : Item
 
+-- what a linked domain is to be told: that the endpoint of this name and address is there from now on (`create`), or gone
+pub record Announcement : Type 0 where
+  pub local : Local
+  pub address : ℕ
+  pub create : Bool
+
 -- a peer, the domain itself among them: the lane to it with its free buffers, the frames of the lane from it that were
--- shown and not taken, what is owed to it, and the addresses known of its names
+-- shown and not taken, the announcements and replies that are owed to it, and the addresses known of its names
 pub record Peer : Type 0 where
   pub number : ℕ
   pub size : ℕ
   pub free : ℕ
   pub shown : ℕ
-  pub announcements : List (List ℕ)
+  pub announcements : List Announcement
   pub replies : List (List ℕ)
-  pub known : List (EndName × ℕ)
+  pub known : Names
 
+-- `endpoints` are the live ones in the order of their creation, and `ended` the addresses of those that were deleted and of
+-- which some linked domain is still to be told so. A record is in use for each of both
 pub record DomainState : Type 0 where
   pub number : ℕ
   pub nodes : ℕ
   pub endpoints : List Endpoint
+  pub ended : List ℕ
   pub peers : List Peer
   pub requests : List Request
   pub lent : List LentPacket
@@ -100,27 +113,27 @@ new_peer n = record { number = n.number; size = n.size; free = n.size; shown = 0
 
 -- the state at the opening
 abbrev pub opening : ℕ → ℕ → List Neighbour → DomainState
-opening number nodes neighbours = record { number = number; nodes = nodes; endpoints = []; peers = map new_peer neighbours; requests = []; lent = []; endpoints_given = 0; channels_given = 0; requests_given = 0; packets_lent = 0 }
+opening number nodes neighbours = record { number = number; nodes = nodes; endpoints = []; ended = []; peers = map new_peer neighbours; requests = []; lent = []; endpoints_given = 0; channels_given = 0; requests_given = 0; packets_lent = 0 }
 
 -- ---- endpoints
 
 abbrev pub is_at : Local → Endpoint → Bool
-is_at local e = e.live && (e.local.node == local.node && e.local.port == local.port)
+is_at local e = e.local.node == local.node && e.local.port == local.port
 
-abbrev pub has_live_address : ℕ → Endpoint → Bool
-has_live_address address e = e.live && e.address == address
+abbrev pub has_address_of : ℕ → Endpoint → Bool
+has_address_of address e = e.address == address
 
--- the place of the live endpoint of this name, and of this address
+-- the place of the endpoint of this name, and of this address
 abbrev pub place_at : DomainState → Local → Option ℕ
 place_at s local = position (is_at local) s.endpoints
 
 abbrev pub place_of_address : DomainState → ℕ → Option ℕ
-place_of_address s address = position (has_live_address address) s.endpoints
+place_of_address s address = position (has_address_of address) s.endpoints
 
 abbrev pub endpoint_at : DomainState → Local → Option Endpoint
 endpoint_at s local = option_and_then (λ i. slice_get s.endpoints i) (place_at s local)
 
--- the address of the live endpoint of this name
+-- the address of the endpoint of this name
 abbrev pub address_at : DomainState → Local → Option ℕ
 address_at s local = option_map (λ e. e.address) (endpoint_at s local)
 
@@ -181,9 +194,20 @@ peer_of s n = option_and_then (λ i. slice_get s.peers i) (place_of_peer s n)
 abbrev pub free_to : DomainState → ℕ → ℕ
 free_to s n = unwrap_or (option_map (λ p. p.free) (peer_of s n)) 0
 
--- what is owed to a peer: announcements first, and then replies, the oldest first
-abbrev pub owed_to : Peer → List (List ℕ)
-owed_to p = p.announcements ++ p.replies
+-- the frame of an announcement by a domain: from the endpoint's address to the name service
+abbrev pub announcing : ℕ → Announcement → List ℕ
+announcing domain a = made a.address name_service_address (announcement (full_name (end_name domain a.local)) a.address a.create)
+
+-- the frames that a domain owes to a peer: announcements first, and then replies, the oldest first
+abbrev pub owed_to : ℕ → Peer → List (List ℕ)
+owed_to domain p = map (announcing domain) p.announcements ++ p.replies
+
+-- a peer is still to be told that the endpoint of this address is gone
+abbrev pub tells_gone : ℕ → Announcement → Bool
+tells_gone address a = not a.create && a.address == address
+
+abbrev pub is_owed_end : List Peer → ℕ → Bool
+is_owed_end peers address = list_any (λ p. list_any (tells_gone address) p.announcements) peers
 
 -- ---- held items
 

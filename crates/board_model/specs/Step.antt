@@ -1,9 +1,12 @@
 -- The steps of a domain that runs its script: which entry is allowed where, and the state that it leads to.
--- Source: docs/PROFILE.md, "Steps". A call comes after a turn, and after the frames that it puts, if it is a success that
--- puts any. Other turns may stand between two calls.
-use Rattle.std.specs.Prelude.{◌≡◌, ℕ, ◌+◌, List, [], ◌∷◌, ◌++◌, slice_get, Option, None, Some, option_map, IsSome}
+-- Source: docs/PROFILE.md, "Steps" and "Tries". A call comes after a turn, and after the frames that it puts, if it is a success
+-- that puts any. A line with tries makes its call again where it is refused with one of six words, until it was made as often as
+-- the line says. Other turns may stand between two calls.
+use Rattle.std.specs.Prelude.{◌≡◌, ℕ, ◌+◌, ◌<◌, Bool, true, false, not, ◌&&◌, nat_lt, List, [], ◌∷◌, ◌++◌, slice_get, Option, None, Some, option_map, IsSome, IsTrue}
 use Rattle.board_model.specs.declared.scenario.CallLine.{CallLine}
-use Rattle.board_model.specs.Journal.{PlainEntry, turned, put, called}
+use Rattle.mc_base.specs.declared.refusal.Refusal.{Refusal}
+use Rattle.mc_base.specs.declared.refusal.Refusal.TheVariants.{Empty, NoBuffer, NotConnected, NotOpen, ChanConnected, Pending}
+use Rattle.board_model.specs.Journal.{PlainEntry, turned, put, again, called, PlainAnswer, refuses}
 use Rattle.board_model.specs.State.{DomainState}
 use Rattle.board_model.specs.Turn.{IsTurn, after_turn}
 use Rattle.board_model.specs.DomainCall.{DomainCall}
@@ -11,11 +14,12 @@ use Rattle.board_model.specs.Labels.{Labelled, call_of, labels_after}
 use Rattle.board_model.specs.Answer.{answer, puts}
 use Rattle.board_model.specs.Effect.{effect}
 
--- a domain on its way through its script: how many lines were called, the labels of the requests that were given, and, where
--- a turn was made since, the frames that the next call put, each with its peer
+-- a domain on its way through its script: how many lines were called, how often the call of the next line was made already, the
+-- labels of the requests that were given, and, where a turn was made since, the frames that the next call put, each with its peer
 pub record RunState : Type 0 where
   pub state : DomainState
   pub lines_called : ℕ
+  pub calls_made : ℕ
   pub labels : List Labelled
   pub put_since_turn : Option (List (ℕ × List ℕ))
 
@@ -32,10 +36,34 @@ next_line script r = slice_get script r.lines_called
 abbrev pub call_at : RunState → CallLine → DomainCall
 call_at r line = call_of r.labels r.state line.call
 
+-- the words with which a call is made again
+abbrev pub is_tried_word : Refusal → Bool
+is_tried_word Empty = true
+is_tried_word NoBuffer = true
+is_tried_word NotConnected = true
+is_tried_word NotOpen = true
+is_tried_word ChanConnected = true
+is_tried_word Pending = true
+is_tried_word other = false
+
+abbrev pub is_tried : PlainAnswer → Bool
+is_tried (refuses word) = is_tried_word word
+is_tried other = false
+
+-- after one call more, a line may make its call once more
+abbrev pub may_try : Option ℕ → ℕ → Bool
+may_try None made = false
+may_try (Some tries) made = nat_lt (made + 1) tries
+
+-- the call that is answered so is made again
+abbrev pub tries_again : CallLine → RunState → PlainAnswer → Bool
+tries_again line r a = is_tried a && may_try line.tries r.calls_made
+
 abbrev pub Allowed : List CallLine → RunState → PlainEntry → Type 0
 Allowed script r (turned visits) = HasNoPuts r.put_since_turn × IsTurn r.state visits
 Allowed script r (put peer frame) = IsSome r.put_since_turn
-Allowed script r (called k a) = (line : CallLine) × (next_line script r ≡ Some line) × (k ≡ r.lines_called + 1) × (a ≡ answer r.state line.node (call_at r line)) × (r.put_since_turn ≡ Some (puts r.state line.node (call_at r line)))
+Allowed script r (again word) = (line : CallLine) × (next_line script r ≡ Some line) × (refuses word ≡ answer r.state line.node (call_at r line)) × (r.put_since_turn ≡ Some []) × (tries_again line r (refuses word) ≡ true)
+Allowed script r (called k a) = (line : CallLine) × (next_line script r ≡ Some line) × (k ≡ r.lines_called + 1) × (a ≡ answer r.state line.node (call_at r line)) × (r.put_since_turn ≡ Some (puts r.state line.node (call_at r line))) × (tries_again line r a ≡ false)
 
 abbrev pub effect_of_line : Option CallLine → RunState → DomainState
 effect_of_line None r = r.state
@@ -48,7 +76,8 @@ labels_of_line (Some line) r = labels_after r.labels r.state line
 abbrev pub after : List CallLine → RunState → PlainEntry → RunState
 after script r (turned visits) = record r { state = after_turn r.state visits; put_since_turn = Some [] }
 after script r (put peer frame) = record r { put_since_turn = option_map (λ ps. ps ++ (peer, frame) ∷ []) r.put_since_turn }
-after script r (called k a) = record { state = effect_of_line (next_line script r) r; lines_called = r.lines_called + 1; labels = labels_of_line (next_line script r) r; put_since_turn = None }
+after script r (again word) = record r { calls_made = r.calls_made + 1; put_since_turn = None }
+after script r (called k a) = record { state = effect_of_line (next_line script r) r; lines_called = r.lines_called + 1; calls_made = 0; labels = labels_of_line (next_line script r) r; put_since_turn = None }
 
 -- the entry leads from the one state to the other
 pub record Step (script : List CallLine) (old : RunState) (entry : PlainEntry) (new : RunState) : Type 0 where

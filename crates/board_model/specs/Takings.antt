@@ -8,9 +8,9 @@ use Rattle.mc_base.specs.declared.fate.Fate.TheVariants.{Queued, Handed}
 use Rattle.board_model.specs.declared.scenario.DomainLine.{DomainLine}
 use Rattle.board_model.specs.declared.scenario.CallLine.{CallLine}
 use Rattle.board_model.specs.declared.scenario.Scenario.{Scenario}
-use Rattle.board_model.specs.DomainCall.{DomainCall, receive_at, request_at, cancel_of}
+use Rattle.board_model.specs.DomainCall.{DomainCall, delete_at, receive_at, request_at, cancel_of}
 use Rattle.board_model.specs.Scenario.{script}
-use Rattle.board_model.specs.Journal.{PlainEntry, turned, put, called, PlainAnswer, agrees, tells, gives, Visit, Taken}
+use Rattle.board_model.specs.Journal.{PlainEntry, turned, put, again, called, PlainAnswer, agrees, tells, gives, Visit, Taken}
 use Rattle.board_model.specs.State.{DomainState, address_at, request_at_place, place_waiting_for}
 use Rattle.board_model.specs.Choice.{best, without_best}
 use Rattle.board_model.specs.Dealing.{after_frame}
@@ -21,7 +21,7 @@ use Rattle.board_model.specs.Run.{start}
 use Rattle.board_model.specs.Board.{DomainJournal}
 use Rattle.board_model.specs.Messages.{Message, messages_in}
 
--- ---- the messages that stand at an address: those that came there with the word queued and were not taken
+-- ---- the messages that stand at an address: those that came there with the word queued and were neither taken nor dropped
 
 abbrev pub Standing : Type 0
 Standing = ℕ → List Message
@@ -55,11 +55,23 @@ abbrev pub is_address : Option ℕ → ℕ → Bool
 is_address None address = false
 is_address (Some a) address = a == address
 
--- what comes stands last, and a call that receives takes the best of what stands
+-- the address of the endpoint that a call deletes, where it is a success: what stands there is dropped
+abbrev pub deletes_by : DomainState → ℕ → DomainCall → PlainAnswer → Option ℕ
+deletes_by s node (delete_at port) (tells count) = address_at s (local node port)
+deletes_by s node call a = None
+
+abbrev pub deletes_in : Option CallLine → RunState → PlainAnswer → Option ℕ
+deletes_in None r a = None
+deletes_in (Some line) r a = deletes_by r.state line.node (call_at r line) a
+
+-- what comes stands last, a call that receives takes the best of what stands, and a delete leaves nothing
 abbrev pub standing_after : List CallLine → ℕ → RunState → Standing → PlainEntry → Standing
 standing_after script d r q (turned visits) address = q address ++ came_to d address visits
 standing_after script d r q (put peer frame) address = q address
-standing_after script d r q (called k a) address = if is_address (receives_in (next_line script r) r a) address then without_best (λ m. m.priority) (q address) else q address
+standing_after script d r q (again word) address = q address
+standing_after script d r q (called k a) address =
+    if is_address (receives_in (next_line script r) r a) address then without_best (λ m. m.priority) (q address)
+    else (if is_address (deletes_in (next_line script r) r a) address then [] else q address)
 
 abbrev pub standing_from : List CallLine → ℕ → RunState → Standing → List PlainEntry → Standing
 standing_from script d r q [] = q
@@ -113,6 +125,7 @@ handed_along d s (v ∷ vs) = handed_in d (after_looks s v) v.peer v.takes ++ ha
 abbrev pub takings_in : List CallLine → ℕ → RunState → Standing → PlainEntry → List Taking
 takings_in script d r q (turned visits) = handed_along d r.state visits
 takings_in script d r q (put peer frame) = []
+takings_in script d r q (again word) = []
 takings_in script d r q (called k a) = map (taking (request_in (next_line script r) r a)) (option_to_list (best_at (receives_in (next_line script r) r a) q))
 
 abbrev pub takings_along : List CallLine → ℕ → RunState → Standing → List PlainEntry → List Taking
@@ -167,6 +180,7 @@ HandLast d q (v ∷ vs) = HandsLast d v.peer q v.takes × HandLast d (stand_afte
 abbrev pub TakesBest : List CallLine → ℕ → RunState → Standing → PlainEntry → Type 0
 TakesBest script d r q (turned visits) = HandLast d q visits
 TakesBest script d r q (put peer frame) = Unit {0}
+TakesBest script d r q (again word) = Unit {0}
 TakesBest script d r q (called k a) = TakesBestAt (next_line script r) r q a
 
 abbrev pub EachTakesBest : List CallLine → ℕ → RunState → Standing → List PlainEntry → Type 0
@@ -189,6 +203,7 @@ cancels_at None r a = None
 cancels_at (Some line) r a = cancels_by r.state (call_at r line) a
 
 abbrev pub cancelled_in : List CallLine → RunState → PlainEntry → List ℕ
+cancelled_in script r (again word) = []
 cancelled_in script r (called k a) = option_to_list (cancels_at (next_line script r) r a)
 cancelled_in script r other = []
 

@@ -2,7 +2,7 @@
 -- Source: docs/FORMATS.md, "Journal text".
 use Rattle.std.specs.Prelude.{Bool, true, false}
 use Rattle.board_model.specs.Journal.{Line, put_line, take_line}
-use Rattle.board_model.specs.Messages.{drops}
+use Rattle.board_model.specs.Drops.{drops}
 
 abbrev pub is_put_line : Line → Bool
 is_put_line (put_line peer frame) = true

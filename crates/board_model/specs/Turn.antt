@@ -1,9 +1,9 @@
 -- Turns: what a domain may do at its peers, one after the other, and the state that it leaves.
 -- Source: docs/PROFILE.md, "A turn". How much a look shows is left open, as far as the lane allows.
-use Rattle.std.specs.Prelude.{◌≡◌, ℕ, ◌+◌, ◌-◌, ◌≤◌, min, List, [], ◌∷◌, length, take, drop, map, Some}
+use Rattle.std.specs.Prelude.{◌≡◌, ℕ, ◌+◌, ◌-◌, ◌≤◌, min, List, [], ◌∷◌, length, take, drop, map, filter, Some}
 use Rattle.board_model.specs.Lists.{changed}
 use Rattle.board_model.specs.Journal.{Visit}
-use Rattle.board_model.specs.State.{DomainState, Peer, place_of_peer, peer_of, owed_to, held_from}
+use Rattle.board_model.specs.State.{DomainState, Peer, place_of_peer, peer_of, owed_to, is_owed_end, held_from}
 use Rattle.board_model.specs.Dealing.{after_takes, HaveWords}
 
 -- the most owed frames that a turn puts to a peer, and the most frames that it takes from it
@@ -11,15 +11,19 @@ abbrev pub turn_limit : ℕ
 turn_limit = 8
 
 -- the owed frames that a visit puts: the first ones, as many as there are buffers free after the look
-abbrev pub due_frames : Peer → ℕ → List (List ℕ)
-due_frames p back = take (min turn_limit (p.free + back)) (owed_to p)
+abbrev pub due_frames : ℕ → Peer → ℕ → List (List ℕ)
+due_frames domain p back = take (min turn_limit (p.free + back)) (owed_to domain p)
 
 -- the peer after the looks and the owed frames; announcements are put before replies
 abbrev pub looked_at : Visit → Peer → Peer
 looked_at v p = record p { free = p.free + v.back - length v.owed; shown = v.see - length v.takes; announcements = drop (length v.owed) p.announcements; replies = drop (length v.owed - length p.announcements) p.replies }
 
+-- the records of endpoints of which no linked domain is still to be told that they are gone are free
+abbrev pub with_peers : DomainState → List Peer → DomainState
+with_peers s peers = record s { peers = peers; ended = filter (is_owed_end peers) s.ended }
+
 abbrev pub after_looks : DomainState → Visit → DomainState
-after_looks s v = record s { peers = changed (looked_at v) (place_of_peer s v.peer) s.peers }
+after_looks s v = with_peers s (changed (looked_at v) (place_of_peer s v.peer) s.peers)
 
 -- the state after a visit
 abbrev pub after_visit : DomainState → Visit → DomainState
@@ -30,7 +34,7 @@ pub record IsVisit (s : DomainState) (v : Visit) : Type 0 where
   pub at : Peer
   pub known : peer_of s v.peer ≡ Some at
   pub back_fits : v.back ≤ at.size - at.free
-  pub puts_due : v.owed ≡ due_frames at v.back
+  pub puts_due : v.owed ≡ due_frames s.number at v.back
   pub sees_shown : at.shown ≤ v.see
   pub see_fits : v.see + held_from v.peer s ≤ at.size
   pub takes_first : length v.takes ≡ min turn_limit v.see

@@ -9,3 +9,5 @@ pub mod LetterFaults
 pub mod Announcement
 pub mod Fault
 pub mod Text
+pub mod NameMap
+pub mod FullName

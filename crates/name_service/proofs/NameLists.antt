@@ -5,7 +5,7 @@ use Rattle.std.specs.List.{AllByRecursion}
 use Rattle.std.proofs.lemmas.Bool.{cases_lt}
 use Rattle.std.proofs.lemmas.Bool.Decides.{nat_tests}
 use Rattle.mc_base.specs.declared.name.EndName.{EndName}
-use Rattle.name_service.specs.KnownNames.{Names, HasBounds, IsRising, IsNameMap, names_limit, rank, has_name, learned, forgotten, address_in}
+use Rattle.mc_base.specs.NameMap.{Names, HasBounds, IsRising, IsNameMap, names_limit, rank, has_name, learned, forgotten, address_in}
 use Rattle.name_service.specs.NameLaws.{RankTellsNames, AddressOfTheVeryName, LearnedHasItsAddress, LearnedLeavesOthers, ForgottenHasNone, ForgottenLeavesOthers, LearnedCounts, ForgottenCounts, OrderStays, OneListForEachMap, is_same}
 
 -- ---- names

@@ -13,7 +13,7 @@ use Rattle.std.proofs.lemmas.List.Edits.{length-insert}
 use Rattle.std.proofs.lemmas.List.Elements.{All-from_recursion, recursion_from_All}
 use Rattle.mc_base.specs.declared.name.EndName.{EndName}
 use Rattle.name_service.specs.declared.known.Known.{Known}
-use Rattle.name_service.specs.KnownNames.{Names, IsRising, IsNameMap, HasBounds, names_limit, rank, has_name, learned, forgotten, address_in}
+use Rattle.mc_base.specs.NameMap.{Names, IsRising, IsNameMap, HasBounds, names_limit, rank, has_name, learned, forgotten, address_in}
 use Rattle.name_service.specs.InKnownNames.{IsPlace, IsGap, names_in, pair_of}
 use Rattle.name_service.proofs.NameLists.{IsUnknown, find-unknown, forgotten-unknown, learned-here, learned-before, learned-after, unknown-above, map-learned, map-forgotten}
 

@@ -6,7 +6,7 @@ use Rattle.std.specs.Vec.{vec_capacity}
 use Rattle.mc_base.specs.declared.name.EndName.{EndName}
 use Rattle.name_service.specs.declared.known.Known.{Known}
 use Rattle.name_service.specs.declared.known.KnownNames.TheInside.{Inside}
-use Rattle.name_service.specs.KnownNames.{Names, IsNameMap, names_limit, rank}
+use Rattle.mc_base.specs.NameMap.{Names, IsNameMap, names_limit, rank}
 
 abbrev pub pair_of : Known → EndName × ℕ
 pair_of k = (k.name, k.addr)

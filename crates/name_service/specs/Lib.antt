@@ -1,4 +1,3 @@
 pub mod Laws
-pub mod KnownNames
 pub mod NameLaws
 pub mod InKnownNames

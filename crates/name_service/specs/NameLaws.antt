@@ -2,7 +2,7 @@
 -- Source: docs/PROFILE.md, "Names".
 use Rattle.std.specs.Prelude.{◌≡◌, ◌≢◌, ◌+◌, ℕ, ◌==◌, ◌&&◌, Bool, None, Some, is_some, length, find, option_map, if◌then◌else◌}
 use Rattle.mc_base.specs.declared.name.EndName.{EndName}
-use Rattle.name_service.specs.KnownNames.{Names, HasBounds, IsRising, IsNameMap, rank, learned, forgotten, address_in}
+use Rattle.mc_base.specs.NameMap.{Names, HasBounds, IsRising, IsNameMap, rank, learned, forgotten, address_in}
 
 -- names of one rank are one name, so the order tells names apart
 abbrev pub RankTellsNames : Type 0

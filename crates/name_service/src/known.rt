@@ -2,7 +2,7 @@
 
 ghost use Rattle.std.specs.Prelude.{◌≡◌, ◌≤◌, ◌↔◌, [], IsErr, IfOk, IfErr, OnOk, OnErr, None, is_some, length};
 ghost use Rattle.std.specs.Ordering.{nat_cmp};
-ghost use Rattle.name_service.specs.KnownNames.{IsNameMap, IsRising, names_limit, rank, learned, forgotten, address_in};
+ghost use Rattle.mc_base.specs.NameMap.{IsNameMap, IsRising, names_limit, rank, learned, forgotten, address_in};
 ghost use Rattle.name_service.specs.InKnownNames.{IsPlace, IsGap, names_in};
 
 use mc_base::{EndName, Full, NAMES_KNOWN, NoMemory};
@@ -25,7 +25,7 @@ pub struct KnownNames {
 }
 
 impl Model for KnownNames {
-    ghost use Rattle.name_service.specs.KnownNames.{Names};
+    ghost use Rattle.mc_base.specs.NameMap.{Names};
 
     ghost Value = { Names };
 

@@ -1,6 +1,6 @@
 use Rattle.std.proofs.Common.{arith}
 use Rattle.std.proofs.lemmas.Bool.Decides.{nat_tests}
-use Rattle.name_service.specs.KnownNames.{rank}
+use Rattle.mc_base.specs.NameMap.{rank}
 use Rattle.name_service.proofs.known.in_order.Goals as goal
 
 pub returns : goal.returns

@@ -1,7 +1,7 @@
 use Rattle.std.proofs.Common.{rules}
 use Rattle.std.specs.Ordering.{nat_cmp}
 use Rattle.std.proofs.lemmas.Fn.{always_returns_same}
-use Rattle.name_service.specs.KnownNames.{rank}
+use Rattle.mc_base.specs.NameMap.{rank}
 use Rattle.name_service.proofs.NamePlaces.{searched}
 use Rattle.name_service.proofs.known.place_of.Goals as goal
 

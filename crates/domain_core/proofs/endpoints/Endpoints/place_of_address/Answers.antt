@@ -1,5 +1,5 @@
 use Rattle.std.proofs.Common.{◌∙◌, ap}
-use Rattle.board_model.specs.State.{has_live_address, place_of_address}
+use Rattle.board_model.specs.State.{has_address_of, place_of_address}
 use Rattle.domain_core.specs.Table.{holding}
 use Rattle.domain_core.specs.Records.{Records}
 use Rattle.domain_core.specs.InBook.{endpoint_in, endpoints_in}
@@ -9,5 +9,5 @@ use Rattle.domain_core.proofs.endpoints.Endpoints.place_of_address.Goals as goal
 pub returns-clause-place : goal.returns-clause-place
 returns-clause-place c = λ b.
     c.place_with_address.ensures.place
-    ∙ rw c.deref.ensures.value (position-map (endpoint_in b) (has_live_address c.args.address) c.self.inside.records.items)
+    ∙ rw c.deref.ensures.value (position-map (endpoint_in b) (has_address_of c.args.address) c.self.inside.records.items)
     ∙ ap (λ (r : Records). place_of_address (holding (endpoints_in b r.endpoints)) c.args.address) c.self.view_is

@@ -1,5 +1,5 @@
 use Rattle.std.proofs.Common.{◌∙◌, sym, ap, Some}
-use Rattle.name_service.specs.KnownNames.{Names, address_in}
+use Rattle.mc_base.specs.NameMap.{Names, address_in}
 use Rattle.name_service.specs.InKnownNames.{IsPlace, IsGap, names_in}
 use Rattle.name_service.proofs.NamePlaces.{address-place, address-gap}
 use Rattle.name_service.proofs.known.KnownNames.find.Goals as goal

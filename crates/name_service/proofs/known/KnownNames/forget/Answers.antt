@@ -1,6 +1,6 @@
 use Rattle.std.proofs.Common.{◌∙◌, sym, ap, arith}
 use Rattle.std.specs.Prelude.{is_some}
-use Rattle.name_service.specs.KnownNames.{Names, address_in, forgotten}
+use Rattle.mc_base.specs.NameMap.{Names, address_in, forgotten}
 use Rattle.name_service.specs.InKnownNames.{IsPlace, IsGap, names_in}
 use Rattle.name_service.proofs.NamePlaces.{address-place, address-gap, remove-is-forgotten, forgotten-gap, map-remove}
 use Rattle.name_service.proofs.known.KnownNames.forget.Goals as goal

@@ -1,7 +1,7 @@
 use Rattle.std.proofs.Common.{◌≡◌, ◌<◌, ◌∙◌, sym, ap, arith, length, None}
 use Rattle.std.specs.List.{insert}
 use Rattle.std.proofs.lemmas.List.{length-map}
-use Rattle.name_service.specs.KnownNames.{Names, HasBounds, address_in, learned}
+use Rattle.mc_base.specs.NameMap.{Names, HasBounds, address_in, learned}
 use Rattle.name_service.specs.InKnownNames.{IsPlace, IsGap, names_in, pair_of}
 use Rattle.name_service.proofs.NamePlaces.{address-place, address-gap, set-is-learned, insert-is-learned, map-set, map-insert}
 use Rattle.name_service.proofs.known.KnownNames.learn.Goals as goal
