@@ -19,10 +19,12 @@ pub mod MessageFrames
 pub mod MessageHands
 pub mod MessageKept
 pub mod MessageLane
+pub mod MessageLawful
 pub mod MessageLines
 pub mod MessageLists
 pub mod MessageMade
 pub mod MessageNames
+pub mod MessageNoted
 pub mod MessageQueues
 pub mod MessageRanks
 pub mod MessageRuns

@@ -1,10 +1,10 @@
 -- What holds of every item of a list, through searches, filters, joins and changes.
-use Rattle.std.proofs.Common.{◌≡◌, ℕ, zero, suc, Bool, true, false, cond, List, [], ◌∷◌, ◌++◌, Option, Some, None, refl, subst}
+use Rattle.std.proofs.Common.{◌≡◌, ℕ, zero, suc, Bool, true, false, cond, List, [], ◌∷◌, ◌++◌, map, Option, Some, None, refl, subst}
 use Rattle.std.specs.Prelude.{find, filter, slice_get}
 use Rattle.std.specs.List.{AllByRecursion}
 use Rattle.std.proofs.lemmas.Bool.{cond_both}
 use Rattle.board_model.specs.Lists.{changed_at, changed, without_at, without}
-use Rattle.board_model.proofs.MessageLists.{changed_first}
+use Rattle.board_model.proofs.MessageLists.{changed_first, without_first}
 
 none_past : {A : Type 0} (P : Type 0) (b : Bool) (x : A) (o : Option A) → (o ≡ None → P) → cond b (Some x) o ≡ None → (b ≡ false) × P
 none_past P true x o rest none = absurd cc
@@ -87,3 +87,13 @@ all_without_at P (suc i) (x ∷ xs) all = (all.0, all_without_at P i xs all.1)
 pub all-without : {A : Type 0} (P : A → Type 0) (o : Option ℕ) (xs : List A) → AllByRecursion P xs → AllByRecursion P (without o xs)
 all-without P None xs all = all
 all-without P (Some i) xs all = all_without_at P i xs all
+
+-- the first that passes is left out
+pub all-without-first : {A : Type 0} (P : A → Type 0) (p : A → Bool) (xs : List A) → AllByRecursion P xs → AllByRecursion P (without_first p xs)
+all-without-first P p [] all = tt
+all-without-first P p (x ∷ xs) all =
+    cond_both (p x) xs (x ∷ without_first p xs) (λ ys. AllByRecursion P ys) (λ here. all.1) (λ other. (all.0, all-without-first P p xs all.1))
+
+pub all-map : {A B : Type 0} (P : A → Type 0) (Q : B → Type 0) (f : A → B) (keeps : (x : A) → P x → Q (f x)) (xs : List A) → AllByRecursion P xs → AllByRecursion Q (map f xs)
+all-map P Q f keeps [] all = tt
+all-map P Q f keeps (x ∷ xs) all = (keeps x all.0, all-map P Q f keeps xs all.1)

@@ -6,12 +6,12 @@ use Rattle.std.specs.List.{AllByRecursion, flat_map}
 use Rattle.std.proofs.lemmas.List.{append-nil, length-append}
 use Rattle.mc_base.specs.declared.refusal.Refusal.{Refusal}
 use Rattle.board_model.specs.declared.scenario.Call.{Call}
-use Rattle.board_model.specs.declared.scenario.Call.TheVariants.{Create, MsgSend, MsgRecv, MsgRecvI, MsgAvailable, Test, Cancel}
+use Rattle.board_model.specs.declared.scenario.Call.TheVariants.{Create, Delete, Lookup, MsgSend, MsgRecv, MsgRecvI, MsgAvailable, Test, Cancel, Turn}
 use Rattle.board_model.specs.declared.scenario.CallLine.{CallLine}
 use Rattle.board_model.specs.declared.scenario.Scenario.{Scenario}
 use Rattle.board_model.specs.Scenario.{script}
 use Rattle.board_model.specs.Grammar.{IsLawful}
-use Rattle.board_model.specs.Journal.{PlainAnswer, agrees, PlainEntry, turned, put, called}
+use Rattle.board_model.specs.Journal.{PlainAnswer, agrees, PlainEntry, turned, put, again, called}
 use Rattle.board_model.specs.State.{DomainState}
 use Rattle.board_model.specs.Labels.{Labelled, call_of}
 use Rattle.board_model.specs.Answer.{refusal, success, answer_by, answer, success_puts, puts, unless_refused}
@@ -52,19 +52,25 @@ is_put other = false
 puts_by_answer : (s : DomainState) (labels : List Labelled) (node : ℕ) (call : Call) (o : Option Refusal) →
     length (unless_refused o [] (success_puts s node (call_of labels s call))) ≡ cond (is_send call && has_agreed (answer_by o (success s node (call_of labels s call)))) 1 0
 puts_by_answer s labels node (Create port) (Some w) = refl
+puts_by_answer s labels node (Delete port) (Some w) = refl
+puts_by_answer s labels node (Lookup name) (Some w) = refl
 puts_by_answer s labels node (MsgSend port to priority bytes) (Some w) = refl
 puts_by_answer s labels node (MsgRecv port max) (Some w) = refl
 puts_by_answer s labels node (MsgRecvI port max) (Some w) = refl
 puts_by_answer s labels node (MsgAvailable port) (Some w) = refl
 puts_by_answer s labels node (Test label) (Some w) = refl
 puts_by_answer s labels node (Cancel label) (Some w) = refl
+puts_by_answer s labels node Turn (Some w) = refl
 puts_by_answer s labels node (Create port) None = refl
+puts_by_answer s labels node (Delete port) None = refl
+puts_by_answer s labels node (Lookup name) None = refl
 puts_by_answer s labels node (MsgSend port to priority bytes) None = refl
 puts_by_answer s labels node (MsgRecv port max) None = refl
 puts_by_answer s labels node (MsgRecvI port max) None = refl
 puts_by_answer s labels node (MsgAvailable port) None = refl
 puts_by_answer s labels node (Test label) None = refl
 puts_by_answer s labels node (Cancel label) None = refl
+puts_by_answer s labels node Turn None = refl
 
 call_puts : (lines : List CallLine) (r : RunState) (line : CallLine) (k : ℕ) (a : PlainAnswer) → next_line lines r ≡ Some line → k ≡ r.lines_called + 1 → a ≡ answer r.state line.node (call_at r line) →
     length (puts r.state line.node (call_at r line)) ≡ count_by (is_agreed lines) (called k a ∷ [])
@@ -101,6 +107,10 @@ puts_answered lines r (put peer frame ∷ es) allowed settled =
     let more : pending (option_map (λ ps. ps ++ (peer, frame) ∷ []) r.put_since_turn) ≡ pending r.put_since_turn + 1 = one_pending (peer, frame) r.put_since_turn allowed.0 in
     let rest : pending (option_map (λ ps. ps ++ (peer, frame) ∷ []) r.put_since_turn) + count_by is_put es ≡ count_by (is_agreed lines) es = puts_answered lines (after lines r (put peer frame)) es allowed.1 settled in
     omega (arith, count-append is_put (put peer frame ∷ []) es, count-append (is_agreed lines) (put peer frame ∷ []) es)
+puts_answered lines r (again word ∷ es) allowed settled =
+    let none : pending r.put_since_turn ≡ 0 = ap pending allowed.0.3 in
+    let rest : 0 + count_by is_put es ≡ count_by (is_agreed lines) es = puts_answered lines (after lines r (again word)) es allowed.1 settled in
+    omega (arith, count-append is_put (again word ∷ []) es, count-append (is_agreed lines) (again word ∷ []) es)
 puts_answered lines r (called k a ∷ es) allowed settled =
     let line : CallLine = allowed.0.0 in
     let here : pending r.put_since_turn ≡ count_by (is_agreed lines) (called k a ∷ []) = ap pending allowed.0.4 ∙ call_puts lines r line k a allowed.0.1 allowed.0.2 allowed.0.3 in
@@ -112,6 +122,7 @@ puts_answered lines r (called k a ∷ es) allowed settled =
 entry_carries : (e : PlainEntry) → PutCarries e → count_by puts_message (e ∷ []) ≡ count_by is_put (e ∷ [])
 entry_carries (turned visits) it = refl
 entry_carries (put peer frame) it = ap (λ (b : Bool). 0 + cond b 1 0) it
+entry_carries (again word) it = refl
 entry_carries (called k a) it = refl
 
 puts_all_carry : (es : List PlainEntry) → AllByRecursion PutCarries es → count_by puts_message es ≡ count_by is_put es

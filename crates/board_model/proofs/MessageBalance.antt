@@ -6,22 +6,24 @@ use Rattle.std.proofs.lemmas.List.Concat.{flat_map-append}
 use Rattle.mc_base.specs.declared.name.Local.{Local}
 use Rattle.mc_base.specs.declared.refusal.Refusal.{Refusal}
 use Rattle.board_model.specs.declared.scenario.CallLine.{CallLine}
-use Rattle.board_model.specs.DomainCall.{DomainCall, create_at, send_from, receive_at, request_at, available_at, test_of, cancel_of}
-use Rattle.board_model.specs.Lists.{changed}
-use Rattle.board_model.specs.Journal.{PlainEntry, turned, put, called, PlainAnswer}
+use Rattle.board_model.specs.DomainCall.{DomainCall, create_at, delete_at, lookup_of, send_from, receive_at, request_at, available_at, test_of, cancel_of, turn_alone}
+use Rattle.board_model.specs.Lists.{changed, without}
+use Rattle.board_model.specs.Journal.{PlainEntry, turned, put, again, called, PlainAnswer}
 use Rattle.board_model.specs.State.{DomainState, Item, Endpoint, is_at, place_at, endpoint_at, address_at, queue_in, queue_at}
 use Rattle.board_model.specs.Choice.{best}
 use Rattle.board_model.specs.Answer.{local, refusal, success, given, answer_by, answer, unless_refused}
 use Rattle.board_model.specs.Effect.{new_endpoint, received, with_received, success_effect, effect}
 use Rattle.board_model.specs.Step.{RunState, next_line, call_at, effect_of_line, after, Allowed}
 use Rattle.board_model.specs.Run.{after_all}
-use Rattle.board_model.specs.Messages.{Message, queued_message, queued_at, dropped_in}
-use Rattle.board_model.specs.Takings.{receives_by, receives_in, Standing, standing_after, best_at, request_in, takings_in, takings_along}
-use Rattle.board_model.proofs.MessageLists.{changed_first, changed-position}
+use Rattle.board_model.specs.Messages.{Message, queued_message, queued_at}
+use Rattle.board_model.specs.Drops.{all_at, dropped_in, dropped_along}
+use Rattle.board_model.specs.Takings.{receives_by, receives_in, deletes_by, deletes_in, Standing, standing_after, best_at, request_in, takings_in, takings_along}
+use Rattle.board_model.proofs.MessageLists.{changed_first, without_first, changed-position, without-position}
+use Rattle.board_model.proofs.MessageBest.{without_first-none}
 use Rattle.board_model.proofs.MessageQueues.{at-found}
 use Rattle.board_model.proofs.MessageTakes.{Stands}
-use Rattle.board_model.proofs.MessageCalls.{live-named, endpoint-found, best-queued, changed-none}
-use Rattle.board_model.proofs.MessageSums.{count-append, queued_count, less_count, carried_at, messages_of, messages-append, messages-taking, turn_count}
+use Rattle.board_model.proofs.MessageCalls.{endpoint-found, best-queued, changed-none, refused-none, given-none}
+use Rattle.board_model.proofs.MessageSums.{count-append, queued_count, less_count, gone_count, carried_at, messages_of, messages-append, messages-taking, turn_count}
 use Rattle.board_model.proofs.MessageRuns.{AllAllowed, stands_entry}
 
 -- the messages of the frames that an entry takes
@@ -38,7 +40,7 @@ taken_along lines d r q es = messages_of (takings_along lines d r q es)
 
 -- what stands at the address of an endpoint that is found
 found_stands : (d : ℕ) (s : DomainState) (q : Standing) (at : Local) (f : Endpoint) → Stands d s q → find (is_at at) s.endpoints ≡ Some f → q f.address ≡ queued_at d f
-found_stands d s q at f stands found = stands.queued f.address ∙ at-found d (is_at at) (live-named at) 1024 (1024 + s.endpoints_given) s.endpoints f stands.rise found
+found_stands d s q at f stands found = stands.queued f.address ∙ at-found d (is_at at) 1024 (1024 + s.endpoints_given) s.endpoints f stands.rise found
 
 none_best : (d : ℕ) (s : DomainState) (q : Standing) (at : Local) (o : Option Endpoint) → Stands d s q → find (is_at at) s.endpoints ≡ o → best (λ i. i.priority) (queue_in o) ≡ None → best_at (option_map (λ e. e.address) o) q ≡ None
 none_best d s q at None stands found none = refl
@@ -83,57 +85,84 @@ module _ (test : Message → Bool) (d : ℕ) where
       let none : queued_count test d (new_endpoint s at ∷ []) ≡ 0 = refl in
       omega arith
 
-  success_count : (s : DomainState) (node : ℕ) (call : DomainCall) (q : Standing) (o : Option Refusal) → Stands d s q →
-      count_by test (option_to_list (best_at (receives_by s node call (answer_by o (success s node call))) q)) + queued_count test d (unless_refused o s (success_effect s node call)).endpoints ≡ queued_count test d s.endpoints
-  success_count s node (create_at port) q (Some w) stands = omega arith
-  success_count s node (send_from port to priority bytes) q (Some w) stands = omega arith
-  success_count s node (receive_at port max) q (Some w) stands = omega arith
-  success_count s node (request_at port max) q (Some w) stands = omega arith
-  success_count s node (available_at port) q (Some w) stands = omega arith
-  success_count s node (test_of request) q (Some w) stands = omega arith
-  success_count s node (cancel_of request) q (Some w) stands = omega arith
+  -- what stands at the endpoint of a name is dropped
+  all_count : (s : DomainState) (q : Standing) (at : Local) (o : Option Endpoint) → Stands d s q → find (is_at at) s.endpoints ≡ o →
+      count_by test (all_at (option_map (λ e. e.address) o) q) + queued_count test d (without_first (is_at at) s.endpoints) ≡ queued_count test d s.endpoints
+  all_count s q at None stands found =
+      let same : queued_count test d (without_first (is_at at) s.endpoints) ≡ queued_count test d s.endpoints = ap (queued_count test d) (without_first-none (is_at at) s.endpoints found) in
+      omega arith
+  all_count s q at (Some f) stands found =
+      ap (λ ms. count_by test ms + queued_count test d (without_first (is_at at) s.endpoints)) (found_stands d s q at f stands found)
+      ∙ gone_count test d (is_at at) s.endpoints f found
+
+  deleted_count : (s : DomainState) (q : Standing) (at : Local) → Stands d s q →
+      count_by test (all_at (address_at s at) q) + queued_count test d (without (place_at s at) s.endpoints) ≡ queued_count test d s.endpoints
+  deleted_count s q at stands =
+      ap (λ o. count_by test (all_at (option_map (λ e. e.address) o) q) + queued_count test d (without (place_at s at) s.endpoints)) (endpoint-found s at)
+      ∙ (ap (λ es. count_by test (all_at (option_map (λ e. e.address) (find (is_at at) s.endpoints)) q) + queued_count test d es) (without-position (is_at at) s.endpoints)
+      ∙ all_count s q at (find (is_at at) s.endpoints) stands refl)
+
+  -- what a call takes and drops, and what stays in queues, was queued
+  abbrev Counts : DomainState → ℕ → DomainCall → Standing → PlainAnswer → DomainState → Type 0
+  Counts s node call q a after =
+      count_by test (option_to_list (best_at (receives_by s node call a) q)) + count_by test (all_at (deletes_by s node call a) q) + queued_count test d after.endpoints ≡ queued_count test d s.endpoints
+
+  success_count : (s : DomainState) (node : ℕ) (call : DomainCall) (q : Standing) (o : Option Refusal) → Stands d s q → Counts s node call q (answer_by o (success s node call)) (unless_refused o s (success_effect s node call))
+  success_count s node call q (Some w) stands = let none = refused-none s node call w in rw (none.0, none.1) (omega arith)
   success_count s node (create_at port) q None stands = omega (arith, created_count s (local node port))
+  success_count s node (delete_at port) q None stands = omega (arith, deleted_count s q (local node port) stands)
+  success_count s node (lookup_of name) q None stands = omega arith
   success_count s node (send_from port to priority bytes) q None stands = omega arith
-  success_count s node (receive_at port max) q None stands = received_count s q node port max (best (λ i. i.priority) (queue_at s (local node port))) stands refl
-  success_count s node (request_at port max) q None stands = named_count s q (local node port) stands
+  success_count s node (receive_at port max) q None stands =
+      let at : Local = local node port in
+      let i : Option Item = best (λ j. j.priority) (queue_at s at) in
+      let none : count_by test (all_at (deletes_by s node (receive_at port max) (given max i)) q) ≡ 0 = ap (λ o. count_by test (all_at o q)) (given-none s node port max i) in
+      omega (arith, received_count s q node port max i stands refl)
+  success_count s node (request_at port max) q None stands = omega (arith, named_count s q (local node port) stands)
   success_count s node (available_at port) q None stands = omega arith
   success_count s node (test_of request) q None stands = omega arith
   success_count s node (cancel_of request) q None stands = omega arith
+  success_count s node turn_alone q None stands = omega arith
 
-  call_count : (s : DomainState) (node : ℕ) (call : DomainCall) (q : Standing) → Stands d s q →
-      count_by test (option_to_list (best_at (receives_by s node call (answer s node call)) q)) + queued_count test d (effect s node call).endpoints ≡ queued_count test d s.endpoints
+  call_count : (s : DomainState) (node : ℕ) (call : DomainCall) (q : Standing) → Stands d s q → Counts s node call q (answer s node call) (effect s node call)
   call_count s node call q stands = success_count s node call q (refusal s node call) stands
 
-  line_count : (r : RunState) (q : Standing) (a : PlainAnswer) (line : CallLine) (o : Option CallLine) → o ≡ Some line → a ≡ answer r.state line.node (call_at r line) → Stands d r.state q →
-      count_by test (option_to_list (best_at (receives_in o r a) q)) + queued_count test d (effect_of_line o r).endpoints ≡ queued_count test d r.state.endpoints
+  abbrev LineCounts : RunState → Standing → PlainAnswer → Option CallLine → Type 0
+  LineCounts r q a o =
+      count_by test (option_to_list (best_at (receives_in o r a) q)) + count_by test (all_at (deletes_in o r a) q) + queued_count test d (effect_of_line o r).endpoints ≡ queued_count test d r.state.endpoints
+
+  line_count : (r : RunState) (q : Standing) (a : PlainAnswer) (line : CallLine) (o : Option CallLine) → o ≡ Some line → a ≡ answer r.state line.node (call_at r line) → Stands d r.state q → LineCounts r q a o
   line_count r q a line o is told stands =
-      subst (λ (p : Option CallLine). count_by test (option_to_list (best_at (receives_in p r a) q)) + queued_count test d (effect_of_line p r).endpoints ≡ queued_count test d r.state.endpoints) (sym is)
-      (subst (λ (b : PlainAnswer). count_by test (option_to_list (best_at (receives_by r.state line.node (call_at r line) b) q)) + queued_count test d (effect r.state line.node (call_at r line)).endpoints ≡ queued_count test d r.state.endpoints) (sym told)
+      subst (λ (p : Option CallLine). LineCounts r q a p) (sym is)
+      (subst (λ (b : PlainAnswer). Counts r.state line.node (call_at r line) q b (effect r.state line.node (call_at r line))) (sym told)
       (call_count r.state line.node (call_at r line) q stands))
 
   -- ---- entries
 
   entry_count : (lines : List CallLine) (r : RunState) (q : Standing) (e : PlainEntry) → Allowed lines r e → Stands d r.state q →
-      count_by test (taken_in lines d r q e) + count_by test (dropped_in d e) + queued_count test d (after lines r e).state.endpoints ≡ count_by test (carried_in d e) + queued_count test d r.state.endpoints
+      count_by test (taken_in lines d r q e) + count_by test (dropped_in lines d r q e) + queued_count test d (after lines r e).state.endpoints ≡ count_by test (carried_in d e) + queued_count test d r.state.endpoints
   entry_count lines r q (turned visits) allowed stands = turn_count test d r.state visits allowed.1.allowed
   entry_count lines r q (put peer frame) allowed stands = omega arith
+  entry_count lines r q (again word) allowed stands = omega arith
   entry_count lines r q (called k a) allowed stands =
       let taken : count_by test (taken_in lines d r q (called k a)) ≡ count_by test (option_to_list (best_at (receives_in (next_line lines r) r a) q))
       = ap (count_by test) (messages-taking (request_in (next_line lines r) r a) (option_to_list (best_at (receives_in (next_line lines r) r a) q))) in
       omega (arith, line_count r q a allowed.0 (next_line lines r) allowed.1 allowed.3 stands)
 
   pub run_count : (lines : List CallLine) (r : RunState) (q : Standing) (es : List PlainEntry) → AllAllowed lines r es → Stands d r.state q →
-      count_by test (taken_along lines d r q es) + count_by test (flat_map (dropped_in d) es) + queued_count test d (after_all lines r es).state.endpoints ≡ count_by test (flat_map (carried_in d) es) + queued_count test d r.state.endpoints
+      count_by test (taken_along lines d r q es) + count_by test (dropped_along lines d r q es) + queued_count test d (after_all lines r es).state.endpoints ≡ count_by test (flat_map (carried_in d) es) + queued_count test d r.state.endpoints
   run_count lines r q [] allowed stands = omega arith
   run_count lines r q (e ∷ es) allowed stands =
-      let one : count_by test (taken_in lines d r q e) + count_by test (dropped_in d e) + queued_count test d (after lines r e).state.endpoints ≡ count_by test (carried_in d e) + queued_count test d r.state.endpoints
+      let next : RunState = after lines r e in
+      let left : Standing = standing_after lines d r q e in
+      let one : count_by test (taken_in lines d r q e) + count_by test (dropped_in lines d r q e) + queued_count test d next.state.endpoints ≡ count_by test (carried_in d e) + queued_count test d r.state.endpoints
       = entry_count lines r q e allowed.0 stands in
-      let rest : count_by test (taken_along lines d (after lines r e) (standing_after lines d r q e) es) + count_by test (flat_map (dropped_in d) es) + queued_count test d (after_all lines (after lines r e) es).state.endpoints
-      ≡ count_by test (flat_map (carried_in d) es) + queued_count test d (after lines r e).state.endpoints
-      = run_count lines (after lines r e) (standing_after lines d r q e) es allowed.1 (stands_entry lines d r q e allowed.0 stands) in
-      let takes : count_by test (taken_along lines d r q (e ∷ es)) ≡ count_by test (taken_in lines d r q e) + count_by test (taken_along lines d (after lines r e) (standing_after lines d r q e) es)
-      = ap (count_by test) (messages-append (takings_in lines d r q e) (takings_along lines d (after lines r e) (standing_after lines d r q e) es))
-      ∙ count-append test (taken_in lines d r q e) (taken_along lines d (after lines r e) (standing_after lines d r q e) es) in
-      let drops : count_by test (flat_map (dropped_in d) (e ∷ es)) ≡ count_by test (dropped_in d e) + count_by test (flat_map (dropped_in d) es) = count-append test (dropped_in d e) (flat_map (dropped_in d) es) in
+      let rest : count_by test (taken_along lines d next left es) + count_by test (dropped_along lines d next left es) + queued_count test d (after_all lines next es).state.endpoints
+      ≡ count_by test (flat_map (carried_in d) es) + queued_count test d next.state.endpoints
+      = run_count lines next left es allowed.1 (stands_entry lines d r q e allowed.0 stands) in
+      let takes : count_by test (taken_along lines d r q (e ∷ es)) ≡ count_by test (taken_in lines d r q e) + count_by test (taken_along lines d next left es)
+      = ap (count_by test) (messages-append (takings_in lines d r q e) (takings_along lines d next left es)) ∙ count-append test (taken_in lines d r q e) (taken_along lines d next left es) in
+      let drops : count_by test (dropped_along lines d r q (e ∷ es)) ≡ count_by test (dropped_in lines d r q e) + count_by test (dropped_along lines d next left es)
+      = count-append test (dropped_in lines d r q e) (dropped_along lines d next left es) in
       let carries : count_by test (flat_map (carried_in d) (e ∷ es)) ≡ count_by test (carried_in d e) + count_by test (flat_map (carried_in d) es) = count-append test (carried_in d e) (flat_map (carried_in d) es) in
       omega arith

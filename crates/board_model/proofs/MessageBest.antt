@@ -14,7 +14,7 @@ none_here : {A : Type 0} (b : Bool) (x : A) (o : Option A) (xs ys : List A) → 
 none_here true x o xs ys same none = absurd cc
 none_here false x o xs ys same none = ap (λ zs. x ∷ zs) (same none)
 
-without_first-none : {A : Type 0} (p : A → Bool) (xs : List A) → find p xs ≡ None → without_first p xs ≡ xs
+pub without_first-none : {A : Type 0} (p : A → Bool) (xs : List A) → find p xs ≡ None → without_first p xs ≡ xs
 without_first-none p [] none = refl
 without_first-none p (x ∷ xs) none = none_here (p x) x (find p xs) xs (without_first p xs) (λ e. without_first-none p xs e) none
 

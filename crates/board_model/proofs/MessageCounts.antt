@@ -9,12 +9,17 @@ use Rattle.std.proofs.lemmas.Bool.{cond_both}
 use Rattle.board_model.specs.declared.scenario.CallLine.{CallLine}
 use Rattle.board_model.specs.declared.scenario.Scenario.{Scenario}
 use Rattle.board_model.specs.Scenario.{script}
-use Rattle.board_model.specs.Journal.{PlainEntry, turned, put, called, Visit, Taken, Line, back_line, put_line, see_line, taken_line, looked, visit_lines}
+use Rattle.board_model.specs.Journal.{PlainEntry, turned, put, again, called, Visit, Taken, Line, back_line, put_line, see_line, taken_line, looked, visit_lines}
 use Rattle.board_model.specs.Step.{RunState, Allowed, after}
 use Rattle.board_model.specs.Traffic.{takes_in, put_to, takes_from}
 use Rattle.board_model.specs.Run.{start, IsDomainRun}
 use Rattle.board_model.specs.Board.{DomainJournal}
-use Rattle.board_model.specs.Messages.{message_in, carries_message, messages_in, accepted_in, drops, dropped_at, dropped_in}
+use Rattle.board_model.specs.Messages.{message_in, carries_message, messages_in, accepted_in}
+use Rattle.board_model.specs.Takings.{Standing, none_standing, standing_after}
+use Rattle.board_model.specs.Drops.{drops, dropped_at, all_at, dropped_in, dropped_along, dropped_by}
+use Rattle.board_model.specs.Grammar.{IsLawfulCall}
+use Rattle.board_model.proofs.MessageAlls.{all-filter}
+use Rattle.board_model.proofs.MessageLawful.{LawfulLines, none-deleted}
 use Rattle.board_model.proofs.MessageBest.{count-cons}
 use Rattle.board_model.proofs.MessageTakes.{tested-append}
 pub use Rattle.board_model.specs.Tallies.{is_put_line, is_take_line, is_drop_line}
@@ -77,21 +82,25 @@ visit_lines_count test v no_back no_see =
 
 -- ---- dropped
 
-dropped_self : (d : ℕ) (v : Visit) → v.peer ≡ d → dropped_in d (turned (v ∷ [])) ≡ dropped_of d d (takes_in d (turned (v ∷ [])))
+-- the messages of frames alone: a lawful call drops none
+dropped_self : (d : ℕ) (v : Visit) → v.peer ≡ d → flat_map (dropped_at d) (v ∷ []) ≡ dropped_of d d (takes_in d (turned (v ∷ [])))
 dropped_self d v at = append-nil (dropped_at d v) ∙ (ap (λ n. dropped_of d n v.takes) at ∙ ap (dropped_of d d) (sym (takes_self d v at)))
 
-dropped_is : (lines : List CallLine) (d : ℕ) (r : RunState) (e : PlainEntry) → Allowed lines r e → OwnLane d r.state → dropped_in d e ≡ dropped_of d d (takes_in d e)
-dropped_is lines d r (turned visits) allowed own =
+dropped_is : (lines : List CallLine) (d : ℕ) (r : RunState) (q : Standing) (e : PlainEntry) → LawfulLines lines → Allowed lines r e → OwnLane d r.state → dropped_in lines d r q e ≡ dropped_of d d (takes_in d e)
+dropped_is lines d r q (turned visits) lawful allowed own =
     let one = own_visits d r.state visits allowed.1 own in
-    subst (λ (vs : List Visit). dropped_in d (turned vs) ≡ dropped_of d d (takes_in d (turned vs))) (sym one.1) (dropped_self d one.0 one.2)
-dropped_is lines d r (put peer frame) allowed own = refl
-dropped_is lines d r (called k a) allowed own = refl
+    subst (λ (vs : List Visit). flat_map (dropped_at d) vs ≡ dropped_of d d (takes_in d (turned vs))) (sym one.1) (dropped_self d one.0 one.2)
+dropped_is lines d r q (put peer frame) lawful allowed own = refl
+dropped_is lines d r q (again word) lawful allowed own = refl
+dropped_is lines d r q (called k a) lawful allowed own = ap (λ o. all_at o q) (none-deleted lines r a allowed.0 lawful allowed.1)
 
-dropped_all : (lines : List CallLine) (d : ℕ) (r : RunState) (es : List PlainEntry) → AllAllowed lines r es → OwnLane d r.state → flat_map (dropped_in d) es ≡ dropped_of d d (takes_from d es)
-dropped_all lines d r [] allowed own = refl
-dropped_all lines d r (e ∷ es) allowed own =
-    ap (λ ms. ms ++ flat_map (dropped_in d) es) (dropped_is lines d r e allowed.0 own)
-    ∙ (ap (λ ms. dropped_of d d (takes_in d e) ++ ms) (dropped_all lines d (after lines r e) es allowed.1 (own_entry lines d r e allowed.0 own))
+dropped_all : (lines : List CallLine) (d : ℕ) (r : RunState) (q : Standing) (es : List PlainEntry) → LawfulLines lines → AllAllowed lines r es → OwnLane d r.state → dropped_along lines d r q es ≡ dropped_of d d (takes_from d es)
+dropped_all lines d r q [] lawful allowed own = refl
+dropped_all lines d r q (e ∷ es) lawful allowed own =
+    let next : RunState = after lines r e in
+    let left : Standing = standing_after lines d r q e in
+    ap (λ ms. ms ++ dropped_along lines d next left es) (dropped_is lines d r q e lawful allowed.0 own)
+    ∙ (ap (λ ms. dropped_of d d (takes_in d e) ++ ms) (dropped_all lines d next left es lawful allowed.1 (own_entry lines d r e allowed.0 own))
     ∙ sym (tested-append (λ t. drops t.fate) d d (takes_in d e) (takes_from d es)))
 
 -- a taken frame that carried a message, which was dropped
@@ -115,9 +124,9 @@ length-dropped d peer ts =
     ∙ (count-map carries_message (λ (t : Taken). t.frame) (filter (λ (t : Taken). drops t.fate) ts)
     ∙ count-filter (λ (t : Taken). drops t.fate) (λ (t : Taken). carries_message t.frame) ts)
 
-pub run_dropped : (s : Scenario) (j : DomainJournal) → s.links ≡ [] → IsDomainRun s j.line j.entries → length (flat_map (dropped_in j.line.domain) j.entries) ≡ count_by is_dropped (takes_from j.line.domain j.entries)
-run_dropped s j links run =
-    ap length (dropped_all (script s j.line.domain) j.line.domain (start s j.line) j.entries (run_allowed s j run) (own_start s j.line links))
+pub run_dropped : (s : Scenario) (j : DomainJournal) → s.links ≡ [] → LawfulLines s.calls → IsDomainRun s j.line j.entries → length (dropped_by s j) ≡ count_by is_dropped (takes_from j.line.domain j.entries)
+run_dropped s j links lawful run =
+    ap length (dropped_all (script s j.line.domain) j.line.domain (start s j.line) none_standing j.entries (all-filter (λ c. IsLawfulCall c.call) (λ c. c.domain == j.line.domain) s.calls lawful) (run_allowed s j run) (own_start s j.line links))
     ∙ length-dropped j.line.domain j.line.domain (takes_from j.line.domain j.entries)
 
 -- ---- accepted, and in the ring
@@ -130,6 +139,7 @@ puts_message other = false
 entry_accepted : (d : ℕ) (e : PlainEntry) → length (accepted_in d e) ≡ count_by puts_message (e ∷ [])
 entry_accepted d (turned visits) = refl
 entry_accepted d (put peer frame) = length-messages d peer (frame ∷ [])
+entry_accepted d (again word) = refl
 entry_accepted d (called k a) = refl
 
 pub length-accepted : (d : ℕ) (es : List PlainEntry) → length (flat_map (accepted_in d) es) ≡ count_by puts_message es

@@ -1,7 +1,6 @@
 -- A message goes to a receive that waits only where none stands.
 use Rattle.std.proofs.Common.{◌≡◌, ℕ, Bool, true, false, cond, ◌⊎◌, List, [], ◌∷◌, ◌++◌, Option, Some, None, refl, sym, ap, ◌∙◌, inl, inr}
-use Rattle.std.specs.Prelude.{find, filter, map, option_map, option_and_then, is_some, ◌==◌}
-use Rattle.std.proofs.lemmas.Bool.{and_parts}
+use Rattle.std.specs.Prelude.{find, filter, map, option_map, option_and_then, is_some}
 use Rattle.mc_base.specs.Frame.{destination_of}
 use Rattle.mc_base.specs.declared.fate.Fate.TheVariants.{Handed}
 use Rattle.board_model.specs.Journal.{Taken, Visit}
@@ -10,13 +9,14 @@ use Rattle.board_model.specs.Dealing.{row_for, after_frame, after_takes, HaveWor
 use Rattle.board_model.specs.Turn.{after_looks, after_visit, AreVisits}
 use Rattle.board_model.specs.Messages.{messages_in, queued_message, queued_at}
 use Rattle.board_model.specs.Takings.{Standing, is_queued, is_to, stands_after, stand_after, HandsLast, HandLast}
-use Rattle.board_model.proofs.MessageAlls.{all-found, found-passes, none-found}
+use Rattle.board_model.proofs.MessageAlls.{all-found, none-found}
 use Rattle.board_model.proofs.MessageQueues.{messages_at}
 use Rattle.board_model.proofs.MessageFrames.{hands, frame_case}
 use Rattle.board_model.proofs.MessageTakes.{Stands, added, came, stands_same, stands_frame}
-use Rattle.board_model.proofs.MessageWaits.{EmptyOrFree, NoneWaits, Quiet, waiting-found, waits-at-found, quiet_frame, quiet_looks, quiet_visit}
+use Rattle.board_model.proofs.MessageNoted.{NoneWaits}
+use Rattle.board_model.proofs.MessageWaits.{EmptyOrFree, Quiet, waiting-found, waits-at-found, quiet_frame, quiet_looks, quiet_visit}
 
--- what stands at an address is the queue of the first live endpoint that has it
+-- what stands at an address is the queue of the first endpoint that has it
 at_first : (d : ℕ) (es : List Endpoint) (a : ℕ) (e : Endpoint) → find (has_address_of a) es ≡ Some e → messages_at d es a ≡ queued_at d e
 at_first d [] a e found = absurd cc
 at_first d (f ∷ fs) a e found =
@@ -37,8 +37,7 @@ none_stands d s q a waits stands quiet =
     let at = found_waiting s (find (has_address_of a) s.endpoints) (sym (ap is_some (waiting-found s a)) ∙ waits) in
     let e : Endpoint = at.0 in
     let found : find (has_address_of a) s.endpoints ≡ Some e = at.1 in
-    let live : e.live ≡ true = (and_parts e.live (e.address == a) (found-passes (has_address_of a) s.endpoints e found)).0 in
-    let empty : e.queue ≡ [] = waits_empty s e (sym (waits-at-found s a e found) ∙ waits) (all-found (EmptyOrFree s.requests) (has_address_of a) s.endpoints e quiet.free found live) in
+    let empty : e.queue ≡ [] = waits_empty s e (sym (waits-at-found s a e found) ∙ waits) (all-found (EmptyOrFree s.requests) (has_address_of a) s.endpoints e quiet.free found) in
     stands.queued a ∙ (at_first d s.endpoints a e found ∙ ap (map (queued_message d e.address)) empty)
 
 hands_word : (t : Taken) → t.fate ≡ Handed → hands t.fate ≡ true

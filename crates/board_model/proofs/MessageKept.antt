@@ -10,12 +10,13 @@ use Rattle.board_model.specs.declared.scenario.Scenario.{Scenario}
 use Rattle.board_model.specs.Lists.{IsPrefix}
 use Rattle.board_model.specs.Scenario.{script, Lane, lane_to, lanes, neighbour, neighbours, rising_from}
 use Rattle.board_model.specs.Grammar.{IsLawful}
-use Rattle.board_model.specs.Journal.{PlainEntry, turned, put, called, Visit, Taken}
+use Rattle.board_model.specs.Journal.{PlainEntry, turned, put, again, called, Visit, Taken}
 use Rattle.board_model.specs.Step.{RunState, Allowed, after}
 use Rattle.board_model.specs.Traffic.{visits_to, puts_in, takes_in, put_to, takes_from, taken_from}
 use Rattle.board_model.specs.Run.{start, left_by, IsDomainRun}
 use Rattle.board_model.specs.Board.{DomainJournal, journal_in, journal_of, LaneFits, IsBoardRun}
-use Rattle.board_model.specs.Messages.{Message, messages_in, accepted_in, accepted, dropped_in, dropped, queued_by, messages_queued, ring_messages, messages_in_ring}
+use Rattle.board_model.specs.Messages.{Message, messages_in, accepted_in, accepted, queued_by, messages_queued, ring_messages, messages_in_ring}
+use Rattle.board_model.specs.Drops.{dropped_by, dropped}
 use Rattle.board_model.specs.Takings.{taken_by, messages_taken, none_standing}
 use Rattle.board_model.specs.Headline.{NoMessageLost}
 use Rattle.board_model.proofs.MessageTakes.{messages_in-append}
@@ -47,6 +48,7 @@ carried_is lines d r (turned visits) allowed own =
     let one = own_visits d r.state visits allowed.1 own in
     subst (λ (vs : List Visit). carried_in d (turned vs) ≡ messages_in d d (frames_of (takes_in d (turned vs)))) (sym one.1) (carried_self d one.0 one.2)
 carried_is lines d r (put peer frame) allowed own = refl
+carried_is lines d r (again word) allowed own = refl
 carried_is lines d r (called k a) allowed own = refl
 
 accepted_self : (d peer : ℕ) (frame : List ℕ) → peer ≡ d → messages_in d peer (frame ∷ []) ≡ messages_in d d (cond (peer == d) (frame ∷ []) [])
@@ -58,6 +60,7 @@ accepted_is lines d r (turned visits) allowed own to =
     let one = own_visits d r.state visits allowed.1 own in
     ap (messages_in d d) (sym (subst (λ (vs : List Visit). puts_in d (turned vs) ≡ []) (sym one.1) (puts_self d one.0 one.2 one.3)))
 accepted_is lines d r (put peer frame) allowed own to = accepted_self d peer frame to
+accepted_is lines d r (again word) allowed own to = refl
 accepted_is lines d r (called k a) allowed own to = refl
 
 -- ---- a run
@@ -106,7 +109,7 @@ parts_of d es first =
 
 pub run_kept : (test : Message → Bool) (s : Scenario) (j : DomainJournal) → s.links ≡ [] → IsDomainRun s j.line j.entries → IsPrefix (taken_from j.line.domain j.entries) (put_to j.line.domain j.entries) →
     count_by test (flat_map (accepted_in j.line.domain) j.entries)
-    ≡ count_by test (taken_by s j) + count_by test (flat_map (dropped_in j.line.domain) j.entries) + count_by test (queued_by s j) + count_by test (messages_in j.line.domain j.line.domain (rest_of j.line.domain j.entries))
+    ≡ count_by test (taken_by s j) + count_by test (dropped_by s j) + count_by test (queued_by s j) + count_by test (messages_in j.line.domain j.line.domain (rest_of j.line.domain j.entries))
 run_kept test s j links run first =
     let d : ℕ = j.line.domain in
     let es : List PlainEntry = j.entries in
@@ -114,7 +117,7 @@ run_kept test s j links run first =
     = ap (count_by test) (run_accepted s j links run ∙ (ap (messages_in d d) (parts_of d es first) ∙ messages_in-append d d (taken_from d es) (rest_of d es)))
     ∙ count-append test (messages_in d d (taken_from d es)) (messages_in d d (rest_of d es)) in
     let carries : count_by test (flat_map (carried_in d) es) ≡ count_by test (messages_in d d (taken_from d es)) = ap (count_by test) (run_carried s j links run) in
-    let balance : count_by test (taken_by s j) + count_by test (flat_map (dropped_in d) es) + count_by test (queued_by s j) ≡ count_by test (flat_map (carried_in d) es) + 0
+    let balance : count_by test (taken_by s j) + count_by test (dropped_by s j) + count_by test (queued_by s j) ≡ count_by test (flat_map (carried_in d) es) + 0
     = run_count test d (script s d) (start s j.line) none_standing es (run_allowed s j run) (stands_start s j.line) in
     omega arith
 
@@ -167,7 +170,7 @@ kept_one s j one links run fits test =
     let d : ℕ = j.line.domain in
     let accepts : count_by test (accepted (j ∷ [])) ≡ count_by test (flat_map (accepted_in d) j.entries) = ap (count_by test) (append-nil (flat_map (accepted_in d) j.entries)) in
     let takes : count_by test (messages_taken s (j ∷ [])) ≡ count_by test (taken_by s j) = ap (count_by test) (append-nil (taken_by s j)) in
-    let drops : count_by test (dropped (j ∷ [])) ≡ count_by test (flat_map (dropped_in d) j.entries) = ap (count_by test) (append-nil (flat_map (dropped_in d) j.entries)) in
+    let drops : count_by test (dropped s (j ∷ [])) ≡ count_by test (dropped_by s j) = ap (count_by test) (append-nil (dropped_by s j)) in
     let queues : count_by test (messages_queued s (j ∷ [])) ≡ count_by test (queued_by s j) = ap (count_by test) (append-nil (queued_by s j)) in
     let ring : count_by test (messages_in_ring s (j ∷ [])) ≡ count_by test (messages_in d d (rest_of d j.entries)) = ap (count_by test) (ring_one s j one links) in
     accepts ∙ (run_kept test s j links run (own_prefix s j fits) ∙ omega arith)

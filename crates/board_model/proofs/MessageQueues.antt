@@ -8,10 +8,10 @@ use Rattle.board_model.specs.Dealing.{queued_last}
 use Rattle.board_model.specs.Choice.{without_best}
 use Rattle.board_model.specs.Effect.{received}
 use Rattle.board_model.specs.Messages.{Message, queued_message, queued_at}
-use Rattle.board_model.proofs.MessageLists.{changed_first}
+use Rattle.board_model.proofs.MessageLists.{changed_first, without_first}
 use Rattle.board_model.proofs.MessageBest.{without_best-map}
 
--- the messages in the queue of the first live endpoint with an address
+-- the messages in the queue of the first endpoint with an address
 abbrev pub messages_at : ℕ → List Endpoint → ℕ → List Message
 messages_at d [] a = []
 messages_at d (e ∷ es) a = cond (has_address_of a e) (queued_at d e) (messages_at d es a)
@@ -89,8 +89,8 @@ less_at q a b = cond (a == b) (without_best (λ m. m.priority) q) q
 pub received-at : (d : ℕ) (e : Endpoint) → queued_at d (received e) ≡ without_best (λ m. m.priority) (queued_at d e)
 received-at d e = sym (without_best-map (queued_message d e.address) (λ i. i.priority) (λ m. m.priority) (λ i. refl) e.queue)
 
-less_here : (d : ℕ) (e : Endpoint) (es : List Endpoint) (b : ℕ) → e.live ≡ true → messages_at d (received e ∷ es) b ≡ less_at (messages_at d (e ∷ es) b) e.address b
-less_here d e es b live = let taken = received-at d e in grind arith
+less_here : (d : ℕ) (e : Endpoint) (es : List Endpoint) (b : ℕ) → messages_at d (received e ∷ es) b ≡ less_at (messages_at d (e ∷ es) b) e.address b
+less_here d e es b = let taken = received-at d e in grind arith
 
 less_other : (d : ℕ) (e f : Endpoint) (es ys : List Endpoint) (b : ℕ) → e.address + 1 ≤ f.address → messages_at d ys b ≡ less_at (messages_at d es b) f.address b → messages_at d (e ∷ ys) b ≡ less_at (messages_at d (e ∷ es) b) f.address b
 less_other d e f es ys b above rest = grind (arith, eqb-true)
@@ -103,32 +103,80 @@ rest_found : (b : Bool) (e f : Endpoint) (o : Option Endpoint) → b ≡ false �
 rest_found true e f o not_it found = absurd cc
 rest_found false e f o not_it found = found
 
-pub at-received : (d : ℕ) (p : Endpoint → Bool) (only_live : (e : Endpoint) → p e ≡ true → e.live ≡ true) (lo hi : ℕ) (es : List Endpoint) (f : Endpoint) (b : ℕ) → Rise lo es hi → find p es ≡ Some f → messages_at d (changed_first p received es) b ≡ less_at (messages_at d es b) f.address b
-at-received d p only_live lo hi [] f b rise found = absurd cc
-at-received d p only_live lo hi (e ∷ es) f b rise found =
+pub at-received : (d : ℕ) (p : Endpoint → Bool) (lo hi : ℕ) (es : List Endpoint) (f : Endpoint) (b : ℕ) → Rise lo es hi → find p es ≡ Some f → messages_at d (changed_first p received es) b ≡ less_at (messages_at d es b) f.address b
+at-received d p lo hi [] f b rise found = absurd cc
+at-received d p lo hi (e ∷ es) f b rise found =
     cond_both (p e) (received e ∷ es) (e ∷ changed_first p received es)
     (λ zs. messages_at d zs b ≡ less_at (messages_at d (e ∷ es) b) f.address b)
-    (λ here. let same : e ≡ f = same_found (p e) e f (find p es) here found in rw (← same) (less_here d e es b (only_live e here)))
+    (λ here. let same : e ≡ f = same_found (p e) e f (find p es) here found in rw (← same) (less_here d e es b))
     (λ other. let rest : find p es ≡ Some f = rest_found (p e) e f (find p es) other found in
-    less_other d e f es (changed_first p received es) b (found_above p (e.address + 1) hi es f rise.1 rest) (at-received d p only_live (e.address + 1) hi es f b rise.1 rest))
+    less_other d e f es (changed_first p received es) b (found_above p (e.address + 1) hi es f rise.1 rest) (at-received d p (e.address + 1) hi es f b rise.1 rest))
 
 -- what stands at the address of the endpoint found
-found_first : (d : ℕ) (e : Endpoint) (es : List Endpoint) → e.live ≡ true → messages_at d (e ∷ es) e.address ≡ queued_at d e
-found_first d e es live = grind (arith, eq-eqb)
+found_first : (d : ℕ) (e : Endpoint) (es : List Endpoint) → messages_at d (e ∷ es) e.address ≡ queued_at d e
+found_first d e es = grind (arith, eq-eqb)
 
 not_first : (d : ℕ) (e f : Endpoint) (es : List Endpoint) → e.address + 1 ≤ f.address → messages_at d (e ∷ es) f.address ≡ messages_at d es f.address
 not_first d e f es above = grind (arith, eqb-true)
 
-pub at-found : (d : ℕ) (p : Endpoint → Bool) (only_live : (e : Endpoint) → p e ≡ true → e.live ≡ true) (lo hi : ℕ) (es : List Endpoint) (f : Endpoint) → Rise lo es hi → find p es ≡ Some f → messages_at d es f.address ≡ queued_at d f
-at-found d p only_live lo hi [] f rise found = absurd cc
-at-found d p only_live lo hi (e ∷ es) f rise found =
+pub at-found : (d : ℕ) (p : Endpoint → Bool) (lo hi : ℕ) (es : List Endpoint) (f : Endpoint) → Rise lo es hi → find p es ≡ Some f → messages_at d es f.address ≡ queued_at d f
+at-found d p lo hi [] f rise found = absurd cc
+at-found d p lo hi (e ∷ es) f rise found =
     elim (cases_Bool (p e)) [
-      | inl here ↦ let same : e ≡ f = same_found (p e) e f (find p es) here found in rw (← same) (found_first d e es (only_live e here))
+      | inl here ↦ let same : e ≡ f = same_found (p e) e f (find p es) here found in rw (← same) (found_first d e es)
       | inr other ↦ let rest : find p es ≡ Some f = rest_found (p e) e f (find p es) other found in
-          not_first d e f es (found_above p (e.address + 1) hi es f rise.1 rest) ∙ at-found d p only_live (e.address + 1) hi es f rise.1 rest
+          not_first d e f es (found_above p (e.address + 1) hi es f rise.1 rest) ∙ at-found d p (e.address + 1) hi es f rise.1 rest
     ]
 
+-- ---- an endpoint less
+
+-- what stands at an address, where the endpoint of another is gone
+abbrev pub none_at : List Message → ℕ → ℕ → List Message
+none_at q a b = cond (a == b) [] q
+
+-- nothing stands below the least address
+none_below : (d lo hi : ℕ) (es : List Endpoint) (b : ℕ) → Rise lo es hi → b < lo → messages_at d es b ≡ []
+none_below d lo hi [] b rise below = refl
+none_below d lo hi (e ∷ es) b rise below =
+    let at : lo ≤ e.address = rise.0 in
+    let next : b < e.address + 1 = omega arith in
+    not_first_at d e es b (omega arith) ∙ none_below d (e.address + 1) hi es b rise.1 next
+  where
+    not_first_at : (d : ℕ) (e : Endpoint) (es : List Endpoint) (b : ℕ) → b < e.address → messages_at d (e ∷ es) b ≡ messages_at d es b
+    not_first_at d e es b below = grind (arith, eqb-true)
+
+gone_here : (d hi : ℕ) (e : Endpoint) (es : List Endpoint) (b : ℕ) → Rise (e.address + 1) es hi → messages_at d es b ≡ none_at (messages_at d (e ∷ es) b) e.address b
+gone_here d hi e es b rise =
+    elim (cases_Bool (e.address == b)) [
+      | inl here ↦ let same : e.address ≡ b = eqb-true e.address b here in
+          none_below d (e.address + 1) hi es b rise (omega arith) ∙ sym (ap (λ c. cond c [] (messages_at d (e ∷ es) b)) here)
+      | inr other ↦ sym (ap (λ c. cond c [] (cond c (queued_at d e) (messages_at d es b))) other)
+    ]
+
+gone_other : (d : ℕ) (e f : Endpoint) (es ys : List Endpoint) (b : ℕ) → e.address + 1 ≤ f.address → messages_at d ys b ≡ none_at (messages_at d es b) f.address b → messages_at d (e ∷ ys) b ≡ none_at (messages_at d (e ∷ es) b) f.address b
+gone_other d e f es ys b above rest = grind (arith, eqb-true)
+
+pub at-gone : (d : ℕ) (p : Endpoint → Bool) (lo hi : ℕ) (es : List Endpoint) (f : Endpoint) (b : ℕ) → Rise lo es hi → find p es ≡ Some f → messages_at d (without_first p es) b ≡ none_at (messages_at d es b) f.address b
+at-gone d p lo hi [] f b rise found = absurd cc
+at-gone d p lo hi (e ∷ es) f b rise found =
+    cond_both (p e) es (e ∷ without_first p es)
+    (λ zs. messages_at d zs b ≡ none_at (messages_at d (e ∷ es) b) f.address b)
+    (λ here. let same : e ≡ f = same_found (p e) e f (find p es) here found in rw (← same) (gone_here d hi e es b rise.1))
+    (λ other. let rest : find p es ≡ Some f = rest_found (p e) e f (find p es) other found in
+    gone_other d e f es (without_first p es) b (found_above p (e.address + 1) hi es f rise.1 rest) (at-gone d p (e.address + 1) hi es f b rise.1 rest))
+
 -- ---- rising addresses stay
+
+rise_lower : (lo low hi : ℕ) (es : List Endpoint) → low ≤ lo → Rise lo es hi → Rise low es hi
+rise_lower lo low hi [] le rise = omega arith
+rise_lower lo low hi (e ∷ es) le rise = let here : lo ≤ e.address = rise.0 in (omega arith, rise.1)
+
+pub rise-gone : (p : Endpoint → Bool) (lo hi : ℕ) (es : List Endpoint) → Rise lo es hi → Rise lo (without_first p es) hi
+rise-gone p lo hi [] rise = rise
+rise-gone p lo hi (e ∷ es) rise =
+    cond_both (p e) es (e ∷ without_first p es) (λ zs. Rise lo zs hi)
+    (λ here. let at : lo ≤ e.address = rise.0 in rise_lower (e.address + 1) lo hi es (omega arith) rise.1)
+    (λ other. (rise.0, rise-gone p (e.address + 1) hi es rise.1))
 
 pub rise-changed : (p : Endpoint → Bool) (g : Endpoint → Endpoint) (same : (e : Endpoint) → (g e).address ≡ e.address) (lo hi : ℕ) (es : List Endpoint) → Rise lo es hi → Rise lo (changed_first p g es) hi
 rise-changed p g same lo hi [] rise = rise

@@ -6,17 +6,17 @@ use Rattle.board_model.specs.declared.scenario.DomainLine.{DomainLine}
 use Rattle.board_model.specs.declared.scenario.CallLine.{CallLine}
 use Rattle.board_model.specs.declared.scenario.Scenario.{Scenario}
 use Rattle.board_model.specs.Scenario.{script}
-use Rattle.board_model.specs.Journal.{PlainEntry, turned, put, called, PlainAnswer}
+use Rattle.board_model.specs.Journal.{PlainEntry, turned, put, again, called, PlainAnswer}
 use Rattle.board_model.specs.Answer.{answer}
 use Rattle.board_model.specs.Effect.{effect}
 use Rattle.board_model.specs.Step.{RunState, Allowed, next_line, call_at, effect_of_line, after}
 use Rattle.board_model.specs.Run.{start, Leads, left_by, IsDomainRun}
 use Rattle.board_model.specs.Board.{DomainJournal, IsBoardRun}
-use Rattle.board_model.specs.Takings.{receives_by, receives_in, Standing, none_standing, standing_after, TakesBestAt, TakesBest, EachTakesBest, ReceivesBest}
+use Rattle.board_model.specs.Takings.{receives_by, receives_in, deletes_by, deletes_in, Standing, none_standing, standing_after, TakesBestAt, TakesBest, EachTakesBest, ReceivesBest}
 use Rattle.board_model.proofs.MessageTakes.{Stands, stands_turn}
 use Rattle.board_model.proofs.MessageWaits.{Quiet, quiet_turn, quiet_call}
 use Rattle.board_model.proofs.MessageHands.{hands_visits}
-use Rattle.board_model.proofs.MessageCalls.{left_at, stands_call, takes_call}
+use Rattle.board_model.proofs.MessageCalls.{left_after, stands_call, takes_call}
 
 -- each entry is allowed where it stands
 abbrev pub AllAllowed : List CallLine → RunState → List PlainEntry → Type 0
@@ -31,15 +31,16 @@ allowed_all lines r to (e ∷ es) leads =
 -- ---- a step
 
 stands_line : (d : ℕ) (r : RunState) (q : Standing) (a : PlainAnswer) (line : CallLine) (o : Option CallLine) → o ≡ Some line → a ≡ answer r.state line.node (call_at r line) → Stands d r.state q →
-    Stands d (effect_of_line o r) (left_at q (receives_in o r a))
+    Stands d (effect_of_line o r) (left_after q (receives_in o r a) (deletes_in o r a))
 stands_line d r q a line o is told stands =
-    subst (λ (p : Option CallLine). Stands d (effect_of_line p r) (left_at q (receives_in p r a))) (sym is)
-    (subst (λ (b : PlainAnswer). Stands d (effect r.state line.node (call_at r line)) (left_at q (receives_by r.state line.node (call_at r line) b))) (sym told)
+    subst (λ (p : Option CallLine). Stands d (effect_of_line p r) (left_after q (receives_in p r a) (deletes_in p r a))) (sym is)
+    (subst (λ (b : PlainAnswer). Stands d (effect r.state line.node (call_at r line)) (left_after q (receives_by r.state line.node (call_at r line) b) (deletes_by r.state line.node (call_at r line) b))) (sym told)
     (stands_call d r.state line.node (call_at r line) q stands))
 
 pub stands_entry : (lines : List CallLine) (d : ℕ) (r : RunState) (q : Standing) (e : PlainEntry) → Allowed lines r e → Stands d r.state q → Stands d (after lines r e).state (standing_after lines d r q e)
 stands_entry lines d r q (turned visits) allowed stands = stands_turn d r.state visits q allowed.1.allowed stands
 stands_entry lines d r q (put peer frame) allowed stands = stands
+stands_entry lines d r q (again word) allowed stands = stands
 stands_entry lines d r q (called k a) allowed stands = stands_line d r q a allowed.0 (next_line lines r) allowed.1 allowed.3 stands
 
 quiet_line : (r : RunState) (line : CallLine) (o : Option CallLine) → o ≡ Some line → Quiet r.state → Quiet (effect_of_line o r)
@@ -48,6 +49,7 @@ quiet_line r line o is quiet = subst (λ (p : Option CallLine). Quiet (effect_of
 pub quiet_entry : (lines : List CallLine) (r : RunState) (e : PlainEntry) → Allowed lines r e → Quiet r.state → Quiet (after lines r e).state
 quiet_entry lines r (turned visits) allowed quiet = quiet_turn r.state visits allowed.1.allowed quiet
 quiet_entry lines r (put peer frame) allowed quiet = quiet
+quiet_entry lines r (again word) allowed quiet = quiet
 quiet_entry lines r (called k a) allowed quiet = quiet_line r allowed.0 (next_line lines r) allowed.1 quiet
 
 takes_line : (d : ℕ) (r : RunState) (q : Standing) (a : PlainAnswer) (line : CallLine) (o : Option CallLine) → o ≡ Some line → a ≡ answer r.state line.node (call_at r line) → Stands d r.state q → TakesBestAt o r q a
@@ -58,6 +60,7 @@ takes_line d r q a line o is told stands =
 takes_entry : (lines : List CallLine) (d : ℕ) (r : RunState) (q : Standing) (e : PlainEntry) → Allowed lines r e → Stands d r.state q → Quiet r.state → TakesBest lines d r q e
 takes_entry lines d r q (turned visits) allowed stands quiet = hands_visits d r.state visits q allowed.1.allowed stands quiet
 takes_entry lines d r q (put peer frame) allowed stands quiet = tt
+takes_entry lines d r q (again word) allowed stands quiet = tt
 takes_entry lines d r q (called k a) allowed stands quiet = takes_line d r q a allowed.0 (next_line lines r) allowed.1 allowed.3 stands
 
 -- ---- a run

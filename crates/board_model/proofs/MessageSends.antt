@@ -8,13 +8,13 @@ use Rattle.mc_base.specs.declared.name.EndName.{EndName}
 use Rattle.mc_base.specs.declared.refusal.Refusal.{Refusal}
 use Rattle.mc_base.specs.declared.refusal.Refusal.TheVariants.{NodeInvalid, ExistsAlready, EndpLimit, AddressSpent}
 use Rattle.board_model.specs.declared.scenario.Call.{Call}
-use Rattle.board_model.specs.declared.scenario.Call.TheVariants.{Create, MsgSend, MsgRecv, MsgRecvI, MsgAvailable, Test, Cancel}
+use Rattle.board_model.specs.declared.scenario.Call.TheVariants.{Create, Delete, Lookup, MsgSend, MsgRecv, MsgRecvI, MsgAvailable, Test, Cancel, Turn}
 use Rattle.board_model.specs.declared.scenario.CallLine.{CallLine}
 use Rattle.board_model.specs.declared.scenario.Scenario.{Scenario}
 use Rattle.board_model.specs.Scenario.{script}
-use Rattle.board_model.specs.Grammar.{IsLawfulCall, AreLawfulLines, told_after, IsLawful}
-use Rattle.board_model.specs.Journal.{PlainEntry, turned, put, called, Visit, joined}
-use Rattle.board_model.specs.DomainCall.{DomainCall, create_at, send_from, receive_at, request_at, available_at, test_of, cancel_of}
+use Rattle.board_model.specs.Grammar.{IsLawfulCall, IsLawful}
+use Rattle.board_model.specs.Journal.{PlainEntry, turned, put, again, called, Visit, joined}
+use Rattle.board_model.specs.DomainCall.{DomainCall, create_at, delete_at, lookup_of, send_from, receive_at, request_at, available_at, test_of, cancel_of, turn_alone}
 use Rattle.board_model.specs.Labels.{Labelled, call_of}
 use Rattle.board_model.specs.State.{DomainState, Endpoint, is_at, endpoint_at, address_at, peer_of}
 use Rattle.board_model.specs.Turn.{after_looks, after_visit, IsVisit, AreVisits, after_turn}
@@ -33,6 +33,7 @@ use Rattle.board_model.proofs.MessageFrames.{takes-keep}
 use Rattle.board_model.proofs.MessageTakes.{Stands}
 use Rattle.board_model.proofs.MessageCalls.{endpoint-found}
 use Rattle.board_model.proofs.MessageRuns.{AllAllowed, stands_entry, stands_start}
+use Rattle.board_model.proofs.MessageLawful.{LawfulLines, lawful_calls}
 use Rattle.board_model.proofs.MessageLane.{OwnLane, own_entry, own_start, own_visits, CanSend, can_send, send_to_self}
 use Rattle.board_model.proofs.MessageMade.{made_carries}
 use Rattle.board_model.proofs.MessageKept.{puts_self, run_allowed}
@@ -46,9 +47,9 @@ record Made (d : ℕ) (s : DomainState) : Type 0 where
 
 made_visit : (d : ℕ) (s : DomainState) (v : Visit) → IsVisit s v → Made d s → Made d (after_visit s v)
 made_visit d s v is made =
-    let given : (after_visit s v).endpoints_given ≡ s.endpoints_given = takes-keep (λ a. a.endpoints_given) (λ a es rs. refl) (after_looks s v) v.peer v.takes is.words in
+    let given : (after_visit s v).endpoints_given ≡ s.endpoints_given = takes-keep (λ a. a.endpoints_given) (λ a es ps rs. refl) (after_looks s v) v.peer v.takes is.words in
     record {
-      number = takes-keep (λ a. a.number) (λ a es rs. refl) (after_looks s v) v.peer v.takes is.words ∙ made.number;
+      number = takes-keep (λ a. a.number) (λ a es ps rs. refl) (after_looks s v) v.peer v.takes is.words ∙ made.number;
       few = rw given made.few;
     }
 
@@ -64,12 +65,15 @@ can_create s node port h =
 made_success : (d : ℕ) (s : DomainState) (node : ℕ) (call : DomainCall) (o : Option Refusal) → o ≡ refusal s node call → Made d s → Made d (unless_refused o s (success_effect s node call))
 made_success d s node call (Some w) is made = made
 made_success d s node (create_at port) None is made = let less : s.endpoints_given < 60000 = can_create s node port (sym is) in record { number = made.number; few = omega arith }
+made_success d s node (delete_at port) None is made = record { number = made.number; few = made.few }
+made_success d s node (lookup_of name) None is made = record { number = made.number; few = made.few }
 made_success d s node (send_from port to priority bytes) None is made = record { number = made.number; few = made.few }
 made_success d s node (receive_at port max) None is made = record { number = made.number; few = made.few }
 made_success d s node (request_at port max) None is made = record { number = made.number; few = made.few }
 made_success d s node (available_at port) None is made = made
 made_success d s node (test_of request) None is made = record { number = made.number; few = made.few }
 made_success d s node (cancel_of request) None is made = record { number = made.number; few = made.few }
+made_success d s node turn_alone None is made = made
 
 made_line : (d : ℕ) (r : RunState) (o : Option CallLine) → Made d r.state → Made d (effect_of_line o r)
 made_line d r None made = made
@@ -78,6 +82,7 @@ made_line d r (Some line) made = made_success d r.state line.node (call_at r lin
 made_entry : (lines : List CallLine) (d : ℕ) (r : RunState) (e : PlainEntry) → Allowed lines r e → Made d r.state → Made d (after lines r e).state
 made_entry lines d r (turned visits) allowed made = made_turn d r.state visits allowed.1.allowed made
 made_entry lines d r (put peer frame) allowed made = made
+made_entry lines d r (again word) allowed made = made
 made_entry lines d r (called k a) allowed made = made_line d r (next_line lines r) made
 
 -- ---- a send
@@ -119,12 +124,15 @@ puts_carry : (d : ℕ) (s : DomainState) (q : Standing) (labels : List Labelled)
     AllByRecursion Carries (unless_refused o [] (success_puts s node (call_of labels s call)))
 puts_carry d s q labels node call (Some w) is lawful own made stands = tt
 puts_carry d s q labels node (Create port) None is lawful own made stands = tt
+puts_carry d s q labels node (Delete port) None is lawful own made stands = tt
+puts_carry d s q labels node (Lookup name) None is lawful own made stands = tt
 puts_carry d s q labels node (MsgSend port to priority bytes) None is lawful own made stands = send_carries d s q node port to priority bytes (sym is) lawful.2 own made stands
 puts_carry d s q labels node (MsgRecv port max) None is lawful own made stands = tt
 puts_carry d s q labels node (MsgRecvI port max) None is lawful own made stands = tt
 puts_carry d s q labels node (MsgAvailable port) None is lawful own made stands = tt
 puts_carry d s q labels node (Test label) None is lawful own made stands = tt
 puts_carry d s q labels node (Cancel label) None is lawful own made stands = tt
+puts_carry d s q labels node Turn None is lawful own made stands = tt
 
 -- ---- a run
 
@@ -153,9 +161,6 @@ record Sound (d : ℕ) (s : DomainState) (q : Standing) : Type 0 where
 sound_entry : (lines : List CallLine) (d : ℕ) (r : RunState) (q : Standing) (e : PlainEntry) → Allowed lines r e → Sound d r.state q → Sound d (after lines r e).state (standing_after lines d r q e)
 sound_entry lines d r q e allowed sound = record { own = own_entry lines d r e allowed sound.own; made = made_entry lines d r e allowed sound.made; stands = stands_entry lines d r q e allowed sound.stands }
 
-abbrev LawfulLines : List CallLine → Type 0
-LawfulLines lines = AllByRecursion (λ c. IsLawfulCall c.call) lines
-
 each_carries : (lines : List CallLine) (d : ℕ) (r : RunState) (q : Standing) (es : List PlainEntry) → LawfulLines lines → AllAllowed lines r es → HasNoPuts (after_all lines r es).put_since_turn → Sound d r.state q →
     PendingCarry r.put_since_turn × AllByRecursion PutCarries es
 each_carries lines d r q [] lawful allowed settled sound = (no_puts r.put_since_turn settled, tt)
@@ -166,6 +171,9 @@ each_carries lines d r q (put peer frame ∷ es) lawful allowed settled sound =
     let rest = each_carries lines d (after lines r (put peer frame)) q es lawful allowed.1 settled sound in
     let here = one_more peer frame r.put_since_turn allowed.0 rest.0 in
     (here.0, (here.1, rest.1))
+each_carries lines d r q (again word ∷ es) lawful allowed settled sound =
+    let rest = each_carries lines d (after lines r (again word)) q es lawful allowed.1 settled sound in
+    (no_puts r.put_since_turn (rw (allowed.0.3) refl), (tt, rest.1))
 each_carries lines d r q (called k a ∷ es) lawful allowed settled sound =
     let rest = each_carries lines d (after lines r (called k a)) (standing_after lines d r q (called k a)) es lawful allowed.1 settled (sound_entry lines d r q (called k a) allowed.0 sound) in
     let line : CallLine = allowed.0.0 in
@@ -182,16 +190,13 @@ carry_entry lines d r (turned visits) allowed own it =
     let one = own_visits d r.state visits allowed.1 own in
     subst (λ (vs : List Visit). AllCarry (puts_in d (turned vs))) (sym one.1) (subst AllCarry (sym (puts_self d one.0 one.2 one.3)) tt)
 carry_entry lines d r (put peer frame) allowed own it = carry_self d peer frame it
+carry_entry lines d r (again word) allowed own it = tt
 carry_entry lines d r (called k a) allowed own it = tt
 
 carry_all : (lines : List CallLine) (d : ℕ) (r : RunState) (es : List PlainEntry) → AllAllowed lines r es → OwnLane d r.state → AllByRecursion PutCarries es → AllCarry (put_to d es)
 carry_all lines d r [] allowed own it = tt
 carry_all lines d r (e ∷ es) allowed own it =
     all-append (λ f. carries_message f ≡ true) (puts_in d e) (put_to d es) (carry_entry lines d r e allowed.0 own it.0) (carry_all lines d (after lines r e) es allowed.1 (own_entry lines d r e allowed.0 own) it.1)
-
-lawful_calls : (d : ℕ) (told : List (List ℕ)) (cs : List CallLine) → AreLawfulLines d told cs → LawfulLines cs
-lawful_calls d told [] all = tt
-lawful_calls d told (c ∷ cs) all = (all.0.call_fits, lawful_calls d (told_after told c) cs all.1)
 
 -- each put of a run carries a message
 run_puts_carry : (s : Scenario) (j : DomainJournal) → s.links ≡ [] → LawfulLines s.calls → IsDomainRun s j.line j.entries → AllByRecursion PutCarries j.entries

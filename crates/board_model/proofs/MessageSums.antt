@@ -1,11 +1,11 @@
 -- How many messages in all queues of a domain pass a test, through frames and calls, and what of the frames is taken at once
 -- by receives that waited.
 use Rattle.std.proofs.Common.{◌≡◌, ℕ, ◌+◌, Bool, true, false, cond, List, [], ◌∷◌, ◌++◌, map, Option, Some, refl, sym, ap, ◌∙◌, arith, inl, inr}
-use Rattle.std.specs.Prelude.{filter, find, count_by, option_map, option_to_list, ◌==◌, is_some}
+use Rattle.std.specs.Prelude.{filter, find, count_by, option_map, option_to_list, is_some}
 use Rattle.std.specs.List.{flat_map}
 use Rattle.std.proofs.lemmas.List.{map-append}
 use Rattle.std.proofs.lemmas.List.Sums.{sum_by-append}
-use Rattle.std.proofs.lemmas.Bool.{cond_both, and_parts, eqb-true, cases_Bool}
+use Rattle.std.proofs.lemmas.Bool.{cond_both, eqb-true, cases_Bool}
 use Rattle.mc_base.specs.Frame.{destination_of}
 use Rattle.board_model.specs.Journal.{Taken, Visit}
 use Rattle.board_model.specs.State.{DomainState, Item, Endpoint, has_address_of, place_of_address, place_waiting_for}
@@ -13,9 +13,10 @@ use Rattle.board_model.specs.Choice.{best}
 use Rattle.board_model.specs.Dealing.{queued_last, with_item, item_of, row_for, after_frame, after_takes, HaveWords}
 use Rattle.board_model.specs.Turn.{after_looks, after_visit, IsVisit, AreVisits, after_turn}
 use Rattle.board_model.specs.Effect.{received}
-use Rattle.board_model.specs.Messages.{Message, message_in, carries_message, messages_in, queued_message, queued_at, drops, dropped_at}
+use Rattle.board_model.specs.Messages.{Message, message_in, carries_message, messages_in, queued_message, queued_at}
+use Rattle.board_model.specs.Drops.{drops, dropped_at}
 use Rattle.board_model.specs.Takings.{Taking, taking, is_handed, serial_at, handed_now, handed_in, handed_along}
-use Rattle.board_model.proofs.MessageLists.{changed_first, changed-position, some-position}
+use Rattle.board_model.proofs.MessageLists.{changed_first, without_first, changed-position, some-position}
 use Rattle.board_model.proofs.MessageBest.{count-best}
 use Rattle.board_model.proofs.MessageQueues.{received-at}
 use Rattle.board_model.proofs.MessageFrames.{frame_case}
@@ -92,7 +93,7 @@ module _ (test : Message → Bool) (d : ℕ) where
 
   last_count : (item : Item) (e : Endpoint) (a : ℕ) → has_address_of a e ≡ true → count_by test (queued_at d (queued_last item e)) ≡ count_by test (queued_at d e) + count_by test (queued_message d a item ∷ [])
   last_count item e a here =
-      let address : e.address ≡ a = eqb-true e.address a (and_parts e.live (e.address == a) here).1 in
+      let address : e.address ≡ a = eqb-true e.address a here in
       rw (← address) (ap (count_by test) (map-append (queued_message d e.address) e.queue (item ∷ [])) ∙ count-append test (queued_at d e) (queued_message d e.address item ∷ []))
 
   find_past : (b : Bool) (e : Endpoint) (o : Option Endpoint) → b ≡ false → is_some (cond b (Some e) o) ≡ true → is_some o ≡ true
@@ -131,6 +132,18 @@ module _ (test : Message → Bool) (d : ℕ) where
   less_count p [] f found = absurd cc
   less_count p (e ∷ es) f found = less_here (p e) e f es (changed_first p received es) (find p es) (λ h. less_count p es f h) found
 
+  -- ---- an endpoint less
+
+  gone_here : (b : Bool) (e f : Endpoint) (es ys : List Endpoint) (o : Option Endpoint) →
+      (o ≡ Some f → count_by test (queued_at d f) + queued_count ys ≡ queued_count es) → cond b (Some e) o ≡ Some f →
+      count_by test (queued_at d f) + queued_count (cond b es (e ∷ ys)) ≡ queued_count (e ∷ es)
+  gone_here true e f es ys o rest found = let same : e ≡ f = cc in rw (← same) (omega (arith, queued-cons e es))
+  gone_here false e f es ys o rest found = omega (arith, rest found, queued-cons e ys, queued-cons e es)
+
+  pub gone_count : (p : Endpoint → Bool) (es : List Endpoint) (f : Endpoint) → find p es ≡ Some f → count_by test (queued_at d f) + queued_count (without_first p es) ≡ queued_count es
+  gone_count p [] f found = absurd cc
+  gone_count p (e ∷ es) f found = gone_here (p e) e f es (without_first p es) (find p es) (λ h. gone_count p es f h) found
+
   -- ---- frames
 
   -- the message of a frame of a kind, and of one of another
@@ -157,7 +170,7 @@ module _ (test : Message → Bool) (d : ℕ) where
   frame_count peer s t word =
       elim (frame_case s peer t word) [
         | inl stays ↦
-            let state : queued_count (after_frame s peer t.frame).endpoints ≡ queued_count s.endpoints = ap (λ (a : DomainState). queued_count a.endpoints) stays.state in
+            let state : queued_count (after_frame s peer t.frame).endpoints ≡ queued_count s.endpoints = ap (λ (a : DomainState). queued_count a.endpoints) stays.noted.state in
             let drop : count_by test (dropped_of d peer (t ∷ [])) ≡ count_by test (carried_of d peer (t ∷ [])) = ap (count_by test) (drop_one peer t stays.dropped) in
             let hand : count_by test (handed_of d peer (t ∷ [])) ≡ 0 = ap (count_by test) (kept_none is_handed peer t stays.not_handed) in
             omega arith

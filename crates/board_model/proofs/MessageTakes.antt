@@ -8,7 +8,7 @@ use Rattle.mc_base.specs.Frame.{destination_of}
 use Rattle.board_model.specs.Lists.{changed}
 use Rattle.board_model.specs.Journal.{Taken, Visit}
 use Rattle.board_model.specs.State.{DomainState, has_address_of, place_of_address}
-use Rattle.board_model.specs.Dealing.{queued_last, with_item, with_handed, item_of, row_for, after_frame, after_takes, HaveWords}
+use Rattle.board_model.specs.Dealing.{queued_last, with_item, with_handed, item_of, knowing, row_for, after_frame, after_takes, HaveWords}
 use Rattle.board_model.specs.Turn.{after_looks, after_visit, IsVisit, AreVisits, after_turn}
 use Rattle.board_model.specs.Messages.{Message, message_in, carries_message, messages_in}
 use Rattle.board_model.specs.Takings.{Standing, is_queued, is_to, came_at}
@@ -77,7 +77,8 @@ pub stands_frame : (d peer : ℕ) (s : DomainState) (t : Taken) (q : Standing) �
     Stands d (after_frame s peer t.frame) (added q (came d peer (t ∷ [])))
 stands_frame d peer s t q word stands =
     elim (frame_case s peer t word) [
-      | inl stays ↦ stands_same d s (after_frame s peer t.frame) q (added q (came d peer (t ∷ []))) stays.state (λ a. added_none q (came d peer (t ∷ [])) a (came_none d peer t stays.not_queued)) stands
+      | inl stays ↦ stands_same d (record s { peers = changed (knowing stays.noted.names) stays.noted.place s.peers; requests = stays.noted.requests }) (after_frame s peer t.frame) q (added q (came d peer (t ∷ []))) stays.noted.state
+          (λ a. added_none q (came d peer (t ∷ [])) a (came_none d peer t stays.not_queued)) (record { queued = stands.queued; rise = stands.rise })
       | inr (inl goes) ↦ stands_same d (with_handed s (destination_of t.frame) (item_of peer t.frame)) (after_frame s peer t.frame) q (added q (came d peer (t ∷ []))) goes.state (λ a. added_none q (came d peer (t ∷ [])) a (came_none d peer t goes.not_queued)) (record { queued = stands.queued; rise = stands.rise })
       | inr (inr goes) ↦ stands_same d (with_item s (destination_of t.frame) (item_of peer t.frame)) (after_frame s peer t.frame) (added q (message_in peer d t.frame ∷ [])) (added q (came d peer (t ∷ []))) goes.state
           (λ a. ap (λ ms. added q ms a) (came_one d peer t goes.is_queued goes.carried))

@@ -11,18 +11,20 @@ use Rattle.board_model.specs.declared.scenario.Scenario.{Scenario}
 use Rattle.board_model.specs.Lists.{IsPrefix}
 use Rattle.board_model.specs.Scenario.{script, rising_from}
 use Rattle.board_model.specs.Grammar.{IsLawful}
-use Rattle.board_model.specs.Journal.{PlainEntry, turned, put, called, Visit, Taken, Line, back_line, put_line, see_line, taken_line, visit_lines, joined}
+use Rattle.board_model.specs.Journal.{PlainEntry, turned, put, again, called, Visit, Taken, Line, back_line, put_line, see_line, taken_line, visit_lines, joined}
 use Rattle.board_model.specs.Step.{RunState, Allowed, after}
 use Rattle.board_model.specs.Traffic.{puts_in, takes_in, put_to, takes_from, taken_from}
 use Rattle.board_model.specs.Run.{start, IsDomainRun}
 use Rattle.board_model.specs.Board.{DomainJournal, IsBoardRun}
-use Rattle.board_model.specs.Messages.{carries_message, drops, accepted_in, accepted, dropped_in, dropped, messages_queued, messages_in_ring}
+use Rattle.board_model.specs.Messages.{carries_message, accepted_in, accepted, messages_queued, messages_in_ring}
+use Rattle.board_model.specs.Drops.{drops, dropped_by, dropped}
 use Rattle.board_model.specs.Takings.{messages_taken}
 use Rattle.board_model.specs.Serial.{serial, serial_journal}
 use Rattle.board_model.proofs.MessageAlls.{all-parts}
 use Rattle.board_model.proofs.MessageBest.{count-cons}
 use Rattle.board_model.proofs.MessageSums.{count-append}
 use Rattle.board_model.proofs.MessageRuns.{AllAllowed}
+use Rattle.board_model.proofs.MessageLawful.{LawfulLines, lawful_calls}
 use Rattle.board_model.proofs.MessageLane.{OwnLane, own_entry, own_start, own_visits, PutTo}
 use Rattle.board_model.proofs.MessageLines.{told, joined-count}
 use Rattle.board_model.proofs.MessageKept.{takes_self, puts_self, run_allowed, run_puts, rest_of, parts_of, OneJournal, one_of, own_prefix, ring_one, no_message_lost}
@@ -71,6 +73,7 @@ tells_entry lines d r (turned visits) allowed own to =
     let one = own_visits d r.state visits allowed.1 own in
     subst (λ (vs : List Visit). Tells d (turned vs)) (sym one.1) (record { puts = self_puts d one.0 one.2 one.3; takes = self_takes d one.0 one.2; drops_some = self_drops d one.0 one.2 })
 tells_entry lines d r (put peer frame) allowed own to = record { puts = sym (put_self d peer frame to); takes = refl; drops_some = refl }
+tells_entry lines d r (again word) allowed own to = record { puts = refl; takes = refl; drops_some = refl }
 tells_entry lines d r (called k a) allowed own to = record { puts = refl; takes = refl; drops_some = refl }
 
 -- and of a run
@@ -114,27 +117,27 @@ all_dropped (t ∷ ts) all =
 -- the lines of the one journal of a board tell how many messages were accepted and dropped, and are in the ring
 pub record LinesTell (s : Scenario) (js : List DomainJournal) (lines : List Line) : Type 0 where
   pub accepts : length (accepted js) ≡ count_by is_put_line lines
-  pub drops_some : length (dropped js) ≡ count_by is_drop_line lines
+  pub drops_some : length (dropped s js) ≡ count_by is_drop_line lines
   pub in_ring : length (messages_in_ring s js) ≡ count_by is_put_line lines - count_by is_take_line lines
 
-one_tells : (s : Scenario) (j : DomainJournal) → s.domains ≡ j.line ∷ [] → s.links ≡ [] → IsDomainRun s j.line j.entries → IsPrefix (taken_from j.line.domain j.entries) (put_to j.line.domain j.entries) →
+one_tells : (s : Scenario) (j : DomainJournal) → s.domains ≡ j.line ∷ [] → s.links ≡ [] → LawfulLines s.calls → IsDomainRun s j.line j.entries → IsPrefix (taken_from j.line.domain j.entries) (put_to j.line.domain j.entries) →
     AllCarry (put_to j.line.domain j.entries) → LinesTell s (j ∷ []) (joined j.entries)
-one_tells s j one links run first carry =
+one_tells s j one links lawful run first carry =
     let d : ℕ = j.line.domain in
     let es : List PlainEntry = j.entries in
     let tells : TellsAll d es = run_tells s j links run in
     let split : AllCarry (taken_from d es ++ rest_of d es) = subst AllCarry (parts_of d es first) carry in
     let parts = all-parts (λ f. carries_message f ≡ true) (taken_from d es) (rest_of d es) split in
-    let puts_lines : count_by is_put_line (joined es) ≡ length (put_to d es) = joined-count is_put_line (λ n. refl) refl es ∙ tells.puts in
+    let puts_lines : count_by is_put_line (joined es) ≡ length (put_to d es) = joined-count is_put_line (record { no_idle = λ n. refl; no_turn = refl; no_again = λ w. refl; no_spin = λ n w. refl }) es ∙ tells.puts in
     let takes_lines : count_by is_take_line (joined es) ≡ length (taken_from d es)
-    = joined-count is_take_line (λ n. refl) refl es ∙ (tells.takes ∙ sym (length-map (takes_from d es) (λ (t : Taken). t.frame))) in
+    = joined-count is_take_line (record { no_idle = λ n. refl; no_turn = refl; no_again = λ w. refl; no_spin = λ n w. refl }) es ∙ (tells.takes ∙ sym (length-map (takes_from d es) (λ (t : Taken). t.frame))) in
     let rests : length (rest_of d es) ≡ length (put_to d es) - length (taken_from d es) = length-drop (length (taken_from d es)) (put_to d es) in
     let ring : length (messages_in_ring s (j ∷ [])) ≡ length (rest_of d es)
     = ap length (ring_one s j one links) ∙ (length-messages d d (rest_of d es) ∙ count-always carries_message (rest_of d es) parts.1) in
     record {
       accepts = ap length (append-nil (flat_map (accepted_in d) es)) ∙ (run_put s j links run ∙ (count-always carries_message (put_to d es) carry ∙ sym puts_lines));
-      drops_some = ap length (append-nil (flat_map (dropped_in d) es))
-          ∙ (run_dropped s j links run ∙ (all_dropped (takes_from d es) parts.0 ∙ (sym tells.drops_some ∙ sym (joined-count is_drop_line (λ n. refl) refl es))));
+      drops_some = ap length (append-nil (dropped_by s j))
+          ∙ (run_dropped s j links lawful run ∙ (all_dropped (takes_from d es) parts.0 ∙ (sym tells.drops_some ∙ sym (joined-count is_drop_line (record { no_idle = λ n. refl; no_turn = refl; no_again = λ w. refl; no_spin = λ n w. refl }) es))));
       in_ring = omega (arith, ring, rests, puts_lines, takes_lines);
     }
 
@@ -152,14 +155,14 @@ lines_tell s js j lawful run is carry =
     let one : OneJournal s js = one_of s js lawful run in
     let same : j ≡ one.journal = same_journal j one.journal js is one.all in
     let carries : AllCarry (put_to one.journal.line.domain one.journal.entries) = subst (λ (k : DomainJournal). AllCarry (put_to k.line.domain k.entries)) same carry in
-    let tells : LinesTell s (one.journal ∷ []) (joined one.journal.entries) = one_tells s one.journal one.domain one.links one.run (own_prefix s one.journal one.fits) carries in
+    let tells : LinesTell s (one.journal ∷ []) (joined one.journal.entries) = one_tells s one.journal one.domain one.links (lawful_calls lawful.domain.domain [] s.calls lawful.lines_lawful) one.run (own_prefix s one.journal one.fits) carries in
     subst (λ (k : DomainJournal). LinesTell s js (joined k.entries)) (sym same) (subst (λ (ks : List DomainJournal). LinesTell s ks (joined one.journal.entries)) (sym one.all) tells)
 
 -- the numbers add up
-pub numbers_add : (s : Scenario) (js : List DomainJournal) → IsLawful s → IsBoardRun s js → length (accepted js) ≡ length (messages_taken s js) + length (dropped js) + length (messages_queued s js) + length (messages_in_ring s js)
+pub numbers_add : (s : Scenario) (js : List DomainJournal) → IsLawful s → IsBoardRun s js → length (accepted js) ≡ length (messages_taken s js) + length (dropped s js) + length (messages_queued s js) + length (messages_in_ring s js)
 numbers_add s js lawful run =
-    omega (arith, no_message_lost s js lawful run (λ m. true), count-all (accepted js), count-all (messages_taken s js), count-all (dropped js), count-all (messages_queued s js), count-all (messages_in_ring s js))
+    omega (arith, no_message_lost s js lawful run (λ m. true), count-all (accepted js), count-all (messages_taken s js), count-all (dropped s js), count-all (messages_queued s js), count-all (messages_in_ring s js))
 
 -- so those that were taken are the rest
-pub taken_rest : (s : Scenario) (js : List DomainJournal) → IsLawful s → IsBoardRun s js → length (messages_taken s js) ≡ length (accepted js) - length (dropped js) - length (messages_queued s js) - length (messages_in_ring s js)
+pub taken_rest : (s : Scenario) (js : List DomainJournal) → IsLawful s → IsBoardRun s js → length (messages_taken s js) ≡ length (accepted js) - length (dropped s js) - length (messages_queued s js) - length (messages_in_ring s js)
 taken_rest s js lawful run = omega (arith, numbers_add s js lawful run)
