@@ -23,6 +23,8 @@ pub mod Totals
 pub mod Tallies
 pub mod Places
 pub mod Serial
+pub mod Loads
+pub mod SerialRun
 pub mod Report
 pub mod Headline
 pub mod Laws
