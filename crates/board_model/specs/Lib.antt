@@ -2,6 +2,7 @@ pub mod Lists
 pub mod Scenario
 pub mod Grammar
 pub mod Words
+pub mod LinkedBoard
 pub mod Journal
 pub mod State
 pub mod Choice
