@@ -2,6 +2,7 @@ pub mod Lists
 pub mod Scenario
 pub mod Grammar
 pub mod Words
+pub mod LinkedBoard
 pub mod Journal
 pub mod State
 pub mod Choice
@@ -23,6 +24,8 @@ pub mod Totals
 pub mod Tallies
 pub mod Places
 pub mod Serial
+pub mod Loads
+pub mod SerialRun
 pub mod Report
 pub mod Headline
 pub mod Laws

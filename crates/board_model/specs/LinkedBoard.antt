@@ -1,0 +1,57 @@
+-- Boards of linked domains: what the lines of a scenario keep so that its domains, links and calls fit together.
+-- Source: docs/FORMATS.md, "Scenario files".
+use Rattle.std.specs.Prelude.{◌≡◌, ◌⊎◌, ℕ, ◌≤◌, ◌<◌, ◌^◌, List, [], ◌∷◌, map, length, Contains}
+use Rattle.std.specs.List.{AllByRecursion}
+use Rattle.board_model.specs.declared.scenario.LinkLine.{LinkLine}
+use Rattle.board_model.specs.declared.scenario.Call.{Call}
+use Rattle.board_model.specs.declared.scenario.Call.TheVariants.{Create, Delete, Lookup, MsgSend, MsgRecv, MsgRecvI, MsgAvailable, Test, Cancel, Turn}
+use Rattle.board_model.specs.declared.scenario.Scenario.{Scenario}
+use Rattle.board_model.specs.Grammar.{IsLawfulDomain, IsLawfulName}
+
+-- no number comes twice
+abbrev pub Differ : List ℕ → Type 0
+Differ [] = Unit {0}
+Differ (n ∷ ns) = AllByRecursion (λ m. m ≡ n → ⊥) ns × Differ ns
+
+-- a domain that is told
+abbrev pub IsTold : Scenario → ℕ → Type 0
+IsTold s d = Contains (map (λ l. l.domain) s.domains) d
+
+-- a link joins two domains that are told
+pub record Joins (s : Scenario) (l : LinkLine) : Type 0 where
+  pub driver_told : IsTold s l.driver
+  pub device_told : IsTold s l.device
+  pub two_domains : l.driver ≡ l.device → ⊥
+  pub some_buffers : 1 ≤ l.size
+  pub buffers_fit : l.size ≤ 256
+
+-- two links of one pair, whichever of the two is the driver
+abbrev pub IsSamePair : LinkLine → LinkLine → Type 0
+IsSamePair l m = ((l.driver ≡ m.driver) × (l.device ≡ m.device)) ⊎ ((l.driver ≡ m.device) × (l.device ≡ m.driver))
+
+abbrev pub PairsDiffer : List LinkLine → Type 0
+PairsDiffer [] = Unit {0}
+PairsDiffer (l ∷ ls) = AllByRecursion (λ m. IsSamePair l m → ⊥) ls × PairsDiffer ls
+
+-- the arguments of a call are in their ranges
+abbrev pub HasFitArguments : Call → Type 0
+HasFitArguments (Create port) = port < 2 ^ 16
+HasFitArguments (Delete port) = port < 2 ^ 16
+HasFitArguments (Lookup name) = IsLawfulName name
+HasFitArguments (MsgSend port to priority bytes) = (port < 2 ^ 16) × IsLawfulName to × (priority ≤ 3) × (length bytes ≤ 9000) × AllByRecursion (λ b. b < 256) bytes
+HasFitArguments (MsgRecv port max) = (port < 2 ^ 16) × (max ≤ 9000)
+HasFitArguments (MsgRecvI port max) = (port < 2 ^ 16) × (max ≤ 9000)
+HasFitArguments (MsgAvailable port) = port < 2 ^ 16
+HasFitArguments (Test label) = Unit {0}
+HasFitArguments (Cancel label) = Unit {0}
+HasFitArguments Turn = Unit {0}
+
+pub record IsLinkedBoard (s : Scenario) : Type 0 where
+  pub domains_lawful : AllByRecursion IsLawfulDomain s.domains
+  pub domains_differ : Differ (map (λ d. d.domain) s.domains)
+  pub links_join : AllByRecursion (Joins s) s.links
+  pub pairs_differ : PairsDiffer s.links
+  pub lines_told : AllByRecursion (λ c. IsTold s c.domain) s.calls
+  pub nodes_fit : AllByRecursion (λ c. c.node ≤ 15) s.calls
+  pub arguments_fit : AllByRecursion (λ c. HasFitArguments c.call) s.calls
+  pub lines_few : length s.calls < 2 ^ 32
