@@ -13,7 +13,9 @@ pub mod MessageAlls
 pub mod MessageAnswers
 pub mod MessageBalance
 pub mod MessageBest
+pub mod MessageBoard
 pub mod MessageCalls
+pub mod MessageCanSend
 pub mod MessageCounts
 pub mod MessageFrames
 pub mod MessageHands
@@ -21,10 +23,14 @@ pub mod MessageKept
 pub mod MessageLane
 pub mod MessageLawful
 pub mod MessageLines
+pub mod MessageLinked
 pub mod MessageLists
 pub mod MessageMade
 pub mod MessageNames
+pub mod MessageNeighbours
 pub mod MessageNoted
+pub mod MessageOnce
+pub mod MessagePuts
 pub mod MessageQueues
 pub mod MessageRanks
 pub mod MessageRuns
@@ -32,6 +38,7 @@ pub mod MessageSends
 pub mod MessageSums
 pub mod MessageTakes
 pub mod MessageTotals
+pub mod MessageTraffic
 pub mod MessageWaits
 pub mod PlaceCounts
 pub mod RequestCounts

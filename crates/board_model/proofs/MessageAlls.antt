@@ -1,7 +1,7 @@
 -- What holds of every item of a list, through searches, filters, joins and changes.
-use Rattle.std.proofs.Common.{◌≡◌, ℕ, zero, suc, Bool, true, false, cond, List, [], ◌∷◌, ◌++◌, map, Option, Some, None, refl, subst}
+use Rattle.std.proofs.Common.{◌≡◌, ℕ, zero, suc, Bool, true, false, cond, List, [], ◌∷◌, ◌++◌, map, take, drop, Option, Some, None, refl, subst}
 use Rattle.std.specs.Prelude.{find, filter, slice_get}
-use Rattle.std.specs.List.{AllByRecursion}
+use Rattle.std.specs.List.{AllByRecursion, flat_map}
 use Rattle.std.proofs.lemmas.Bool.{cond_both}
 use Rattle.board_model.specs.Lists.{changed_at, changed, without_at, without}
 use Rattle.board_model.proofs.MessageLists.{changed_first, without_first}
@@ -97,3 +97,21 @@ all-without-first P p (x ∷ xs) all =
 pub all-map : {A B : Type 0} (P : A → Type 0) (Q : B → Type 0) (f : A → B) (keeps : (x : A) → P x → Q (f x)) (xs : List A) → AllByRecursion P xs → AllByRecursion Q (map f xs)
 all-map P Q f keeps [] all = tt
 all-map P Q f keeps (x ∷ xs) all = (keeps x all.0, all-map P Q f keeps xs all.1)
+
+pub all-unmap : {A B : Type 0} (P : B → Type 0) (f : A → B) (xs : List A) → AllByRecursion P (map f xs) → AllByRecursion (λ x. P (f x)) xs
+all-unmap P f [] all = tt
+all-unmap P f (x ∷ xs) all = (all.0, all-unmap P f xs all.1)
+
+pub all-joined : {A B : Type 0} (P : B → Type 0) (f : A → List B) (xs : List A) → AllByRecursion (λ x. AllByRecursion P (f x)) xs → AllByRecursion P (flat_map f xs)
+all-joined P f [] all = tt
+all-joined P f (x ∷ xs) all = all-append P (f x) (flat_map f xs) all.0 (all-joined P f xs all.1)
+
+pub all-take : {A : Type 0} (P : A → Type 0) (n : ℕ) (xs : List A) → AllByRecursion P xs → AllByRecursion P (take n xs)
+all-take P zero xs all = tt
+all-take P (suc n) [] all = tt
+all-take P (suc n) (x ∷ xs) all = (all.0, all-take P n xs all.1)
+
+pub all-drop : {A : Type 0} (P : A → Type 0) (n : ℕ) (xs : List A) → AllByRecursion P xs → AllByRecursion P (drop n xs)
+all-drop P zero xs all = all
+all-drop P (suc n) [] all = tt
+all-drop P (suc n) (x ∷ xs) all = all-drop P n xs all.1

@@ -23,11 +23,11 @@ use Rattle.board_model.specs.Serial.{serial, serial_journal}
 use Rattle.board_model.proofs.MessageAlls.{all-parts}
 use Rattle.board_model.proofs.MessageBest.{count-cons}
 use Rattle.board_model.proofs.MessageSums.{count-append}
-use Rattle.board_model.proofs.MessageRuns.{AllAllowed}
+use Rattle.board_model.proofs.MessageRuns.{AllAllowed, run_allowed}
 use Rattle.board_model.proofs.MessageLawful.{LawfulLines, lawful_calls}
 use Rattle.board_model.proofs.MessageLane.{OwnLane, own_entry, own_start, own_visits, PutTo}
 use Rattle.board_model.proofs.MessageLines.{told, joined-count}
-use Rattle.board_model.proofs.MessageKept.{takes_self, puts_self, run_allowed, run_puts, rest_of, parts_of, OneJournal, one_of, own_prefix, ring_one, no_message_lost}
+use Rattle.board_model.proofs.MessageKept.{takes_self, puts_self, run_puts, rest_of, parts_of, OneJournal, one_of, own_prefix, ring_one, no_message_lost}
 use Rattle.board_model.proofs.MessageCounts.{is_put_line, is_take_line, is_drop_line, count-always, count-never, visit_lines_count, length-messages, run_put, run_dropped, is_dropped}
 
 always : {A : Type 0} (xs : List A) → AllByRecursion (λ x. true ≡ true) xs
