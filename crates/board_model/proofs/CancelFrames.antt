@@ -1,31 +1,25 @@
 -- Each serial of a domain is that of a pending request, or was taken by, or was cancelled: at most one of these, and at most
 -- once. What frames do to it.
-use Rattle.std.proofs.Common.{◌≡◌, ℕ, ◌+◌, ◌≤◌, Bool, true, false, not, ◌&&◌, ◌⊎◌, cond, List, [], ◌∷◌, ◌++◌, Option, Some, None, map, flat_map, slice_get, option_map, option_and_then, option_to_list, refl, sym, ap, ◌∙◌, subst, inl, inr, arith}
-use Rattle.std.specs.Prelude.{is_some, is_none, ◌==◌, slice_index}
+use Rattle.std.proofs.Common.{◌≡◌, ℕ, ◌+◌, ◌≤◌, Bool, true, false, ◌&&◌, cond, List, [], ◌∷◌, ◌++◌, Option, Some, None, map, flat_map, slice_get, option_map, option_and_then, option_to_list, refl, sym, ap, ◌∙◌, arith}
+use Rattle.std.specs.Prelude.{is_some, is_none, ◌==◌}
 use Rattle.std.proofs.lemmas.Bool.{and_parts}
 use Rattle.std.proofs.lemmas.List.Concat.{flat_map-append}
-use Rattle.mc_base.specs.Frame.{destination_of, payload_of}
-use Rattle.mc_base.specs.Fault.{fault}
+use Rattle.mc_base.specs.Frame.{destination_of}
 use Rattle.mc_base.specs.declared.name.Local.{Local}
-use Rattle.mc_base.specs.declared.fault.Fault.{Fault}
-use Rattle.mc_base.specs.declared.fault.Fault.TheVariants as of
-use Rattle.mc_base.specs.declared.fault.FrameFault.{FrameFault}
-use Rattle.mc_base.specs.declared.fault.FrameFault.TheVariants as frame_fault
-use Rattle.mc_base.specs.declared.fault.LetterFault.{LetterFault}
-use Rattle.mc_base.specs.declared.fault.LetterFault.TheVariants as letter_fault
-use Rattle.mc_base.specs.declared.fault.NsFault.{NsFault}
-use Rattle.mc_base.specs.declared.fault.NsFault.TheVariants as ns_fault
+use Rattle.mc_base.specs.declared.name.EndName.{EndName}
 use Rattle.mc_base.specs.declared.fate.Fate.{Fate}
 use Rattle.mc_base.specs.declared.fate.Fate.TheVariants as fate
 use Rattle.board_model.specs.Lists.{changed_at, changed}
 use Rattle.board_model.specs.Journal.{Taken, Visit}
-use Rattle.board_model.specs.State.{Request, has_serial, DomainState, waits_at, place_of_waiting, place_waiting_for, local_of_address, place_of_address}
-use Rattle.board_model.specs.Dealing.{frame_word, letter_word, ns_word, fault_word, is_letter, item_of, with_item, complete_with, with_handed, row, fault_row, first_row, row_for, left_by, after_frame, after_takes, HaveWords}
+use Rattle.board_model.specs.State.{Request, has_address, has_serial, DomainState, waits_at, place_of_waiting, place_waiting_for, local_of_address}
+use Rattle.board_model.specs.Dealing.{item_of, complete_with, with_handed, looks_for, found_for, with_created, with_destroyed, announced_name, announced_address, row_for, after_frame, after_takes, HaveWords, keeps_buffer}
 use Rattle.board_model.specs.Turn.{after_looks, after_visit, IsVisit, AreVisits, after_turn}
 use Rattle.board_model.specs.Messages.{message_in, carries_message, messages_in}
 use Rattle.board_model.specs.Takings.{Taking, taking, is_handed, serial_at, handed_now, handed_in, handed_along}
+use Rattle.board_model.specs.Serial.{word_of}
 use Rattle.board_model.proofs.ListsCounts.{one_if, count-cons, count-append, position-tells}
 use Rattle.board_model.proofs.RequestCounts.{times, standing_of, pending_as, pending_of, pending-stands, count-changed}
+use Rattle.board_model.proofs.LaneRows.{stays, learns, forgets, hands, queues, DealsWith, frame_deals, frame_word_is}
 
 -- how often each serial was taken by a request, and how often one was cancelled
 abbrev pub Tally : Type 0
@@ -50,74 +44,41 @@ once_same s after took took' gone gone' rs given t g once = record {
   below = λ n least. omega (arith, once.below n (omega (arith, given, least)), t n, g n, ap (standing_of n) rs);
 }
 
--- ---- the row of a frame
+-- ---- requests that may be complete with no item
 
-abbrev pub hands : Fate → Bool
-hands w = elim w [ fate.Handed ↦ true | _ ↦ false ]
+-- each request keeps its serial, and a complete one stays so
+pub record Completes (f : Request → Request) : Type 0 where
+  pub serial : (r : Request) → (f r).serial ≡ r.serial
+  pub fewer : (n : ℕ) (r : Request) → one_if (pending_as n (f r)) ≤ one_if (pending_as n r)
 
-frame_word-not : (f : FrameFault) → hands (frame_word f) ≡ false
-frame_word-not frame_fault.FrameShort = refl
-frame_word-not frame_fault.FrameLong = refl
-frame_word-not frame_fault.HeaderLen = refl
+pending-completed : (f : Request → Request) → Completes f → (n : ℕ) (rs : List Request) → pending_of n (map f rs) ≤ pending_of n rs
+pending-completed f completes n [] = omega arith
+pending-completed f completes n (r ∷ rs) =
+    omega (arith, completes.fewer n r, pending-completed f completes n rs, count-cons (pending_as n) (f r) (map f rs), count-cons (pending_as n) r rs)
 
-letter_word-not : (f : LetterFault) → hands (letter_word f) ≡ false
-letter_word-not letter_fault.PayloadShort = refl
-letter_word-not letter_fault.Magic = refl
-letter_word-not letter_fault.Version = refl
-letter_word-not letter_fault.Kind = refl
-letter_word-not letter_fault.Argument = refl
-letter_word-not letter_fault.Channel = refl
-letter_word-not letter_fault.Size = refl
+standing-completed : (f : Request → Request) → Completes f → (n : ℕ) (rs : List Request) → standing_of n (map f rs) ≡ standing_of n rs
+standing-completed f completes n [] = refl
+standing-completed f completes n (r ∷ rs) =
+    omega (arith, ap (λ (m : ℕ). one_if (m == n)) (completes.serial r), standing-completed f completes n rs, count-cons (has_serial n) (f r) (map f rs), count-cons (has_serial n) r rs)
 
-ns_word-not : (f : NsFault) → hands (ns_word f) ≡ false
-ns_word-not ns_fault.NsSize = refl
-ns_word-not ns_fault.NsFlags = refl
-ns_word-not ns_fault.NsName = refl
+pub once_completed : (f : Request → Request) → Completes f → (s after : DomainState) (took took' gone gone' : Tally) → after.requests ≡ map f s.requests → after.requests_given ≡ s.requests_given → ((n : ℕ) → took' n ≡ took n) → ((n : ℕ) → gone' n ≡ gone n) → Once s took gone → Once after took' gone'
+once_completed f completes s after took took' gone gone' rs given t g once = record {
+  one = λ n. omega (arith, once.one n, t n, g n, ap (pending_of n) rs, pending-completed f completes n s.requests);
+  apart = λ n. omega (arith, once.apart n, g n, ap (standing_of n) rs, standing-completed f completes n s.requests);
+  below = λ n least. omega (arith, once.below n (omega (arith, given, least)), t n, g n, ap (standing_of n) rs, standing-completed f completes n s.requests);
+}
 
-fault_word-not : (f : Fault) → hands (fault_word f) ≡ false
-fault_word-not (of.Frame f) = frame_word-not f
-fault_word-not (of.Letter f) = letter_word-not f
-fault_word-not (of.Ns f) = ns_word-not f
+-- a lookup that finds its name
+pub found_completes : (n : EndName) (address : ℕ) → Completes (found_for n address)
+found_completes n address = record { serial = λ r. serial r (looks_for n r); fewer = λ m r. fewer m r (looks_for n r) }
+  where
+    serial : (r : Request) (b : Bool) → (cond b (record r { outcome = Some (has_address address) }) r).serial ≡ r.serial
+    serial r true = refl
+    serial r false = refl
 
--- the oldest waiting receive is complete
-record Hands (handed after : DomainState) (word : Fate) (waits : Bool) : Type 0 where
-  state : after ≡ handed
-  hands_it : hands word ≡ true
-  waiting : waits ≡ true
-
--- no request changes
-record Leaves (s after : DomainState) (word : Fate) : Type 0 where
-  requests : after.requests ≡ s.requests
-  given : after.requests_given ≡ s.requests_given
-  no_hand : hands word ≡ false
-
-word_is : (w v : Fate) → Some w ≡ Some v → w ≡ v
-word_is w v e = cc
-
-leaves : (s : DomainState) (w v : Fate) → w ≡ v → hands w ≡ false → Leaves s s v
-leaves s w v e not = record { requests = refl; given = refl; no_hand = rw (← e) not }
-
-rows_case : (s handed queued : DomainState) (o : Option Fault) (letter kind there waits : Bool) (v : Fate) → queued.requests ≡ s.requests → queued.requests_given ≡ s.requests_given →
-    option_map (λ r. r.word) (first_row (fault_row s o ∷ row (letter && not there) fate.NoEndpoint s ∷ row ((letter && kind) && waits) fate.Handed handed ∷ row (letter && kind) fate.Queued queued ∷ row letter fate.State s ∷ [])) ≡ Some v →
-    Hands handed (left_by s (first_row (fault_row s o ∷ row (letter && not there) fate.NoEndpoint s ∷ row ((letter && kind) && waits) fate.Handed handed ∷ row (letter && kind) fate.Queued queued ∷ row letter fate.State s ∷ []))) v waits
-    ⊎ Leaves s (left_by s (first_row (fault_row s o ∷ row (letter && not there) fate.NoEndpoint s ∷ row ((letter && kind) && waits) fate.Handed handed ∷ row (letter && kind) fate.Queued queued ∷ row letter fate.State s ∷ []))) v
-rows_case s handed queued (Some f) letter kind there waits v rs given e = inr (leaves s (fault_word f) v (word_is (fault_word f) v e) (fault_word-not f))
-rows_case s handed queued None false kind there waits v rs given e = absurd cc
-rows_case s handed queued None true kind false waits v rs given e = inr (leaves s fate.NoEndpoint v (word_is fate.NoEndpoint v e) refl)
-rows_case s handed queued None true false true waits v rs given e = inr (leaves s fate.State v (word_is fate.State v e) refl)
-rows_case s handed queued None true true true true v rs given e =
-    let w : fate.Handed ≡ v = word_is fate.Handed v e in
-    inl (record { state = refl; hands_it = rw (← w) refl; waiting = refl })
-rows_case s handed queued None true true true false v rs given e =
-    let w : fate.Queued ≡ v = word_is fate.Queued v e in
-    inr (record { requests = rs; given = given; no_hand = rw (← w) refl })
-
-frame_case : (s : DomainState) (peer : ℕ) (t : Taken) → option_map (λ r. r.word) (row_for s peer t.frame) ≡ Some t.fate →
-    Hands (with_handed s (destination_of t.frame) (item_of peer t.frame)) (after_frame s peer t.frame) t.fate (is_some (place_waiting_for s (destination_of t.frame)))
-    ⊎ Leaves s (after_frame s peer t.frame) t.fate
-frame_case s peer t e =
-    rows_case s (with_handed s (destination_of t.frame) (item_of peer t.frame)) (with_item s (destination_of t.frame) (item_of peer t.frame)) (fault t.frame) (is_letter t.frame) (slice_index (payload_of t.frame) 2 == 1)
-    (is_some (place_of_address s (destination_of t.frame))) (is_some (place_waiting_for s (destination_of t.frame))) t.fate refl refl e
+    fewer : (m : ℕ) (r : Request) (b : Bool) → one_if (pending_as m (cond b (record r { outcome = Some (has_address address) }) r)) ≤ one_if (pending_as m r)
+    fewer m r true = omega arith
+    fewer m r false = omega arith
 
 -- ---- one frame
 
@@ -147,7 +108,15 @@ now_times n d peer s t i r place at = go (is_handed t)
     go true = rw serial (handed_times n r.serial peer d t.frame)
     go false = omega arith
 
-now_none : (n d peer : ℕ) (s : DomainState) (t : Taken) → hands t.fate ≡ false → times n (serials_in (handed_now d s peer t)) ≡ 0
+abbrev hands_it : Fate → Bool
+hands_it w = elim w [ fate.Handed ↦ true | _ ↦ false ]
+
+-- a buffer that is given back was not handed
+given_not : (w : Fate) → keeps_buffer w ≡ false → hands_it w ≡ false
+given_not fate.Handed gives = absurd cc
+given_not other gives = refl
+
+now_none : (n d peer : ℕ) (s : DomainState) (t : Taken) → hands_it t.fate ≡ false → times n (serials_in (handed_now d s peer t)) ≡ 0
 now_none n d peer s t e = rw e refl
 
 and_true : (a b : Bool) → a ≡ true → (a && b) ≡ b
@@ -179,18 +148,30 @@ some_place (Some i) e = (i, refl)
 
 frame_once : (d peer : ℕ) (s : DomainState) (t : Taken) (took gone : Tally) → option_map (λ r. r.word) (row_for s peer t.frame) ≡ Some t.fate → Once s took gone →
     Once (after_frame s peer t.frame) (with_takings took (handed_now d s peer t)) gone
-frame_once d peer s t took gone word once = elim (frame_case s peer t word) [
-  | inl h ↦ let p = some_place (place_waiting_for s (destination_of t.frame)) h.waiting in
-      subst (λ (a : DomainState). Once a (with_takings took (handed_now d s peer t)) gone) (sym h.state) (hand_once d peer s t took gone p.0 p.1 once)
-  | inr l ↦ once_same s (after_frame s peer t.frame) took (with_takings took (handed_now d s peer t)) gone gone l.requests l.given (λ n. omega (arith, now_none n d peer s t l.no_hand)) (λ n. refl) once
-]
+frame_once d peer s t took gone word once = go (word_of (row_for s peer t.frame)) (after_frame s peer t.frame) (frame_word_is s peer t.frame t.fate word) (frame_deals s peer t.frame)
+  where
+    now : Tally
+    now = with_takings took (handed_now d s peer t)
 
--- no frame gives a request
-pub frame_given : (s : DomainState) (peer : ℕ) (t : Taken) → option_map (λ r. r.word) (row_for s peer t.frame) ≡ Some t.fate → (after_frame s peer t.frame).requests_given ≡ s.requests_given
-frame_given s peer t word = elim (frame_case s peer t word) [
-  | inl h ↦ ap (λ (a : DomainState). a.requests_given) h.state
-  | inr l ↦ l.given
-]
+    same : hands_it t.fate ≡ false → (n : ℕ) → now n ≡ took n
+    same not n = omega (arith, now_none n d peer s t not)
+
+    created : (o : Option EndName) (address : ℕ) → hands_it t.fate ≡ false → Once (with_created s peer o address) now gone
+    created None address not = once_same s s took now gone gone refl refl (same not) (λ n. refl) once
+    created (Some name) address not = once_completed (found_for name address) (found_completes name address) s (with_created s peer (Some name) address) took now gone gone refl refl (same not) (λ n. refl) once
+
+    destroyed : (o : Option EndName) → hands_it t.fate ≡ false → Once (with_destroyed s peer o) now gone
+    destroyed None not = once_same s s took now gone gone refl refl (same not) (λ n. refl) once
+    destroyed (Some name) not = once_same s (with_destroyed s peer (Some name)) took now gone gone refl refl (same not) (λ n. refl) once
+
+    go : (w : Fate) (after : DomainState) → w ≡ t.fate → DealsWith s peer t.frame w after → Once after now gone
+    go w after is (stays left gives) = rw left (once_same s s took now gone gone refl refl (same (ap hands_it (sym is) ∙ given_not w gives)) (λ n. refl) once)
+    go w after is (learns left acted) = rw left (created (announced_name peer t.frame) (announced_address t.frame) (ap hands_it (sym is ∙ acted)))
+    go w after is (forgets left acted) = rw left (destroyed (announced_name peer t.frame) (ap hands_it (sym is ∙ acted)))
+    go w after is (hands left handed waits) =
+        let p = some_place (place_waiting_for s (destination_of t.frame)) waits in
+        rw left (hand_once d peer s t took gone p.0 p.1 once)
+    go w after is (queues left queued there) = rw left (once_same s _ took now gone gone refl refl (same (ap hands_it (sym is ∙ queued))) (λ n. refl) once)
 
 -- ---- frames, visits and turns
 

@@ -7,6 +7,7 @@ use Rattle.board_model.specs.declared.scenario.CallLine.{CallLine}
 use Rattle.board_model.specs.declared.scenario.Scenario.{Scenario}
 use Rattle.board_model.specs.Scenario.{script}
 use Rattle.board_model.specs.Grammar.{IsLawful}
+use Rattle.board_model.specs.LinkedBoard.{IsLinkedBoard}
 use Rattle.board_model.specs.Journal.{PlainEntry}
 use Rattle.board_model.specs.State.{DomainState, Endpoint, is_at, endpoint_at, queue_in}
 use Rattle.board_model.specs.Choice.{best}
@@ -17,9 +18,10 @@ use Rattle.board_model.specs.Messages.{queued_message}
 use Rattle.board_model.specs.Takings.{Standing, none_standing, standing_after, best_at, took_something, cancelled_by, CancelledTookNothing}
 use Rattle.board_model.proofs.MessageQueues.{at-found}
 use Rattle.board_model.proofs.MessageTakes.{Stands}
-use Rattle.board_model.proofs.MessageCalls.{live-named, endpoint-found, best-queued}
+use Rattle.board_model.proofs.MessageCalls.{endpoint-found, best-queued}
 use Rattle.board_model.proofs.MessageRuns.{AllAllowed, allowed_all, stands_entry, stands_start}
 use Rattle.board_model.proofs.RequestCounts.{times-contains}
+use Rattle.board_model.proofs.BoardsLawful.{lawful_linked}
 use Rattle.board_model.proofs.CancelRuns.{BestTells, AllTell, run_once}
 
 -- what stands is what is queued, so nothing stands where nothing is queued
@@ -32,7 +34,7 @@ best_tells d s q stands at none = go (find (is_at at) s.endpoints) refl
         let here : endpoint_at s at ≡ Some f = endpoint-found s at ∙ found in
         let empty : best (λ i. i.priority) f.queue ≡ None = ap (λ o. best (λ i. i.priority) (queue_in o)) (sym here) ∙ none in
         ap (λ o. best_at (option_map (λ (e : Endpoint). e.address) o) q) here
-        ∙ (ap (best (λ m. m.priority)) (stands.queued f.address ∙ at-found d (is_at at) (live-named at) 1024 (1024 + s.endpoints_given) s.endpoints f stands.rise found)
+        ∙ (ap (best (λ m. m.priority)) (stands.queued f.address ∙ at-found d (is_at at) 1024 (1024 + s.endpoints_given) s.endpoints f stands.rise found)
         ∙ (best-queued d f ∙ ap (option_map (queued_message d f.address)) empty))
 
 all_tell : (lines : List CallLine) (d : ℕ) (r : RunState) (q : Standing) (es : List PlainEntry) → AllAllowed lines r es → Stands d r.state q → AllTell lines d r q es
@@ -44,19 +46,23 @@ all_tell lines d r q (e ∷ es) allowed stands =
 script_within : (s : Scenario) (d : ℕ) → length (script s d) ≤ length s.calls
 script_within s d = omega (arith, length-filter (λ (c : CallLine). c.domain == d) s.calls, count_by-le-length (λ (c : CallLine). c.domain == d) s.calls)
 
-cancelled_none : (s : Scenario) (j : DomainJournal) → IsLawful s → IsDomainRun s j.line j.entries → CancelledTookNothing s j
-cancelled_none s j lawful run =
+cancelled_none : (s : Scenario) (j : DomainJournal) → IsLinkedBoard s → IsDomainRun s j.line j.entries → CancelledTookNothing s j
+cancelled_none s j board run =
     let lines = script s j.line.domain in
     let d = j.line.domain in
     let allowed = allowed_all lines (start s j.line) (left_by s j.line j.entries) j.entries run.steps in
     let stands = stands_start s j.line in
     let once = run_once lines d (start s j.line) none_standing j.entries (λ n. 0) (λ n. 0) allowed (all_tell lines d (start s j.line) none_standing j.entries allowed stands)
-    (omega arith, omega (arith, script_within s d, lawful.lines_fit)) (record { one = λ n. omega arith; apart = λ n. omega arith; below = λ n least. omega arith }) in
+    (omega arith, omega (arith, script_within s d, board.lines_few)) (record { one = λ n. omega arith; apart = λ n. omega arith; below = λ n least. omega arith }) in
     λ n cancelled took. omega (arith, once.one n, times-contains n (cancelled_by s j) cancelled, times-contains n (took_something s j) took)
 
-each_none : (s : Scenario) (js : List DomainJournal) → IsLawful s → AllByRecursion (λ j. IsDomainRun s j.line j.entries) js → AllByRecursion (CancelledTookNothing s) js
-each_none s [] lawful runs = tt
-each_none s (j ∷ js) lawful runs = (cancelled_none s j lawful runs.0, each_none s js lawful runs.1)
+each_none : (s : Scenario) (js : List DomainJournal) → IsLinkedBoard s → AllByRecursion (λ j. IsDomainRun s j.line j.entries) js → AllByRecursion (CancelledTookNothing s) js
+each_none s [] board runs = tt
+each_none s (j ∷ js) board runs = (cancelled_none s j board runs.0, each_none s js board runs.1)
+
+-- on a board of linked domains, and so on one of one domain
+pub linked_cancels : (s : Scenario) (js : List DomainJournal) → IsLinkedBoard s → IsBoardRun s js → AllByRecursion (CancelledTookNothing s) js
+linked_cancels s js board run = each_none s js board run.domain_runs
 
 pub cancelled_took_nothing : (s : Scenario) (js : List DomainJournal) → IsLawful s → IsBoardRun s js → AllByRecursion (CancelledTookNothing s) js
-cancelled_took_nothing s js lawful run = each_none s js lawful run.domain_runs
+cancelled_took_nothing s js lawful run = linked_cancels s js (lawful_linked s lawful) run

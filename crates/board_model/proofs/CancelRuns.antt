@@ -1,20 +1,23 @@
 -- Along every run of a domain a request that was cancelled took nothing.
-use Rattle.std.proofs.Common.{◌≡◌, ℕ, ◌+◌, ◌<◌, ◌≤◌, ◌%◌, ◌^◌, Bool, true, false, not, ◌&&◌, List, [], ◌∷◌, ◌++◌, length, Option, Some, None, map, count_by, option_map, option_to_list, refl, sym, ap, ◌∙◌, subst, inl, inr, arith, mod-eq_of_lt}
+use Rattle.std.proofs.Common.{◌≡◌, ℕ, ◌+◌, ◌<◌, ◌≤◌, ◌%◌, ◌^◌, Bool, true, false, not, ◌&&◌, cond, List, [], ◌∷◌, ◌++◌, length, Option, Some, None, map, count_by, option_map, option_to_list, refl, sym, ap, ◌∙◌, subst, inl, inr, arith, mod-eq_of_lt}
 use Rattle.std.specs.Prelude.{is_some, is_none, ◌==◌}
 use Rattle.std.proofs.lemmas.Bool.Decides.{eqb_tells}
 use Rattle.std.proofs.lemmas.Option.{slice_get_within}
 use Rattle.mc_base.specs.declared.name.Local.{Local}
+use Rattle.mc_base.specs.FullName.{end_name}
+use Rattle.mc_base.specs.declared.name.EndName.{EndName}
 use Rattle.mc_base.specs.declared.refusal.Refusal.{Refusal}
-use Rattle.board_model.specs.DomainCall.{DomainCall, create_at, send_from, receive_at, request_at, available_at, test_of, cancel_of}
+use Rattle.mc_base.specs.declared.refusal.Refusal.TheVariants.{EndpInvalid}
+use Rattle.board_model.specs.DomainCall.{DomainCall, create_at, delete_at, lookup_of, send_from, receive_at, request_at, available_at, test_of, cancel_of, turn_alone}
 use Rattle.board_model.specs.Lists.{without}
 use Rattle.board_model.specs.declared.scenario.CallLine.{CallLine}
-use Rattle.board_model.specs.Journal.{PlainEntry, turned, put, called, PlainAnswer, refuses, Taken, Visit}
-use Rattle.board_model.specs.State.{Item, Asked, message_at, Request, Outcome, has_item, has_serial, DomainState, request_at_place, address_at, queue_at}
+use Rattle.board_model.specs.Journal.{PlainEntry, turned, put, again, called, PlainAnswer, refuses}
+use Rattle.board_model.specs.State.{Item, Asked, name_of, message_at, Request, Outcome, has_address, has_item, has_ended, waits_at, has_serial, DomainState, request_at_place, address_at, queue_at}
 use Rattle.board_model.specs.Choice.{best}
-use Rattle.board_model.specs.Answer.{local, refusal, answer, answer_by, success, given, unless_refused, is_complete, holds, words_of}
-use Rattle.board_model.specs.Effect.{effect, success_effect, best_queued}
-use Rattle.board_model.specs.Dealing.{after_frame, after_takes, HaveWords}
-use Rattle.board_model.specs.Turn.{after_looks, after_visit, AreVisits, after_turn}
+use Rattle.board_model.specs.Answer.{local, address_of, refusal, answer, answer_by, success, given, unless_refused, is_complete, holds, words_of}
+use Rattle.board_model.specs.Effect.{ended_by_word, effect, success_effect, best_queued}
+use Rattle.board_model.specs.Dealing.{found_for}
+use Rattle.board_model.specs.Turn.{after_turn}
 use Rattle.board_model.specs.Step.{RunState, next_line, call_at, effect_of_line, after, Allowed}
 use Rattle.board_model.specs.Run.{after_all}
 use Rattle.board_model.specs.Messages.{Message}
@@ -22,7 +25,8 @@ use Rattle.board_model.specs.Takings.{Standing, standing_after, receives_by, rec
 use Rattle.board_model.proofs.ListsCounts.{one_if, count-cons, count-append, count-without, find-none}
 use Rattle.board_model.proofs.MessageRuns.{AllAllowed}
 use Rattle.board_model.proofs.RequestCounts.{times, standing_of, pending_as, pending_of, pending-stands, one_at_most, other_none}
-use Rattle.board_model.proofs.CancelFrames.{Tally, Once, once_same, serials_in, with_takings, takings_two, frame_given, turn_once}
+use Rattle.board_model.proofs.CancelFrames.{Tally, Once, once_same, serials_in, with_takings, Completes, once_completed, found_completes, takings_two, turn_once}
+use Rattle.board_model.proofs.SerialRequests.{turn_gives}
 
 -- where nothing is queued at an endpoint, nothing stands there
 abbrev pub BestTells : DomainState → Standing → Type 0
@@ -104,12 +108,15 @@ ended_once s p r took gone gone' at after now given more once =
 -- a call that is refused
 refused_once : (s : DomainState) (node : ℕ) (call : DomainCall) (w : Refusal) (q : Standing) (took gone : Tally) → Once s took gone → CallOnce s s node call (refuses w) q took gone
 refused_once s node (create_at port) w q took gone once = call_same s s node (create_at port) (refuses w) q took gone refl refl (λ n. refl) refl once
+refused_once s node (delete_at port) w q took gone once = call_same s s node (delete_at port) (refuses w) q took gone refl refl (λ n. refl) refl once
+refused_once s node (lookup_of name) w q took gone once = call_same s s node (lookup_of name) (refuses w) q took gone refl refl (λ n. refl) refl once
 refused_once s node (send_from port to priority bytes) w q took gone once = call_same s s node (send_from port to priority bytes) (refuses w) q took gone refl refl (λ n. refl) refl once
 refused_once s node (receive_at port max) w q took gone once = call_same s s node (receive_at port max) (refuses w) q took gone refl refl (λ n. refl) refl once
 refused_once s node (request_at port max) w q took gone once = call_same s s node (request_at port max) (refuses w) q took gone refl refl (λ n. refl) refl once
 refused_once s node (available_at port) w q took gone once = call_same s s node (available_at port) (refuses w) q took gone refl refl (λ n. refl) refl once
 refused_once s node (test_of p) w q took gone once = call_same s s node (test_of p) (refuses w) q took gone refl refl (λ n. refl) refl once
 refused_once s node (cancel_of p) w q took gone once = call_same s s node (cancel_of p) (refuses w) q took gone refl refl (λ n. refl) refl once
+refused_once s node turn_alone w q took gone once = call_same s s node turn_alone (refuses w) q took gone refl refl (λ n. refl) refl once
 
 -- a receive takes by no request
 given_none : (s : DomainState) (node port max n : ℕ) (i : Option Item) (q : Standing) → times n (serials_in (takings_of s node (receive_at port max) (given max i) q)) ≡ 0
@@ -132,6 +139,32 @@ requested_once s node port max q took gone small tells once =
     (takings_of s node (request_at port max) (success s node (request_at port max)) q) refl refl refl
     (λ n. takes_or_waits n s.requests_given asked (best_queued s at) (best_at (address_at s at) q) (tells at)) (success_effect s node (request_at port max)) refl next once in
     once_same (success_effect s node (request_at port max)) (success_effect s node (request_at port max)) _ _ gone (with_gone gone []) refl refl (λ n. refl) (λ n. omega arith) one
+
+-- a lookup takes nothing
+looked_once : (s : DomainState) (node : ℕ) (name : EndName) (q : Standing) (took gone : Tally) → s.requests_given + 1 < 2 ^ 64 → Once s took gone →
+    CallOnce s (success_effect s node (lookup_of name)) node (lookup_of name) (success s node (lookup_of name)) q took gone
+looked_once s node name q took gone small once =
+    let next : (s.requests_given + 1) % 2 ^ 64 ≡ s.requests_given + 1 = mod-eq_of_lt small in
+    let found = option_map has_address (address_of s name) in
+    let one = request_once s s.requests_given s.requests (record { serial = s.requests_given; asked = name_of name; outcome = found }) took gone []
+    refl refl refl (λ n. one_of n (is_none found)) (success_effect s node (lookup_of name)) refl next once in
+    once_same (success_effect s node (lookup_of name)) (success_effect s node (lookup_of name)) _ _ gone (with_gone gone []) refl refl (λ n. refl) (λ n. omega arith) one
+  where
+    one_of : (n : ℕ) (b : Bool) → one_if (b && s.requests_given == n) + times n [] ≤ one_if (s.requests_given == n)
+    one_of n true = omega arith
+    one_of n false = omega arith
+
+-- a receive that waits at an endpoint that is deleted is complete with no item
+ended_completes : (w : Refusal) (at : Local) → Completes (ended_by_word w at)
+ended_completes w at = record { serial = λ r. serial r (waits_at at r); fewer = λ m r. fewer m r (waits_at at r) }
+  where
+    serial : (r : Request) (b : Bool) → (cond b (record r { outcome = Some (has_ended w) }) r).serial ≡ r.serial
+    serial r true = refl
+    serial r false = refl
+
+    fewer : (m : ℕ) (r : Request) (b : Bool) → one_if (pending_as m (cond b (record r { outcome = Some (has_ended w) }) r)) ≤ one_if (pending_as m r)
+    fewer m r true = omega arith
+    fewer m r false = omega arith
 
 -- the request that a call names, where no word holds
 not_true : (b : Bool) → not b ≡ false → b ≡ true
@@ -178,7 +211,12 @@ cancel_once s node p q took gone none once =
 
 success_once : (s : DomainState) (node : ℕ) (call : DomainCall) (q : Standing) (took gone : Tally) → refusal s node call ≡ None → s.requests_given + 1 < 2 ^ 64 → BestTells s q → Once s took gone →
     CallOnce s (success_effect s node call) node call (success s node call) q took gone
-success_once s node (create_at port) q took gone none small tells once = call_same s (success_effect s node (create_at port)) node (create_at port) (success s node (create_at port)) q took gone refl refl (λ n. refl) refl once
+success_once s node (create_at port) q took gone none small tells once =
+    let n = end_name s.number (local node port) in
+    once_completed (found_for n (1024 + s.endpoints_given)) (found_completes n (1024 + s.endpoints_given)) s (success_effect s node (create_at port)) took _ gone _ refl refl (λ m. omega arith) (λ m. omega arith) once
+success_once s node (delete_at port) q took gone none small tells once =
+    once_completed (ended_by_word EndpInvalid (local node port)) (ended_completes EndpInvalid (local node port)) s (success_effect s node (delete_at port)) took _ gone _ refl refl (λ m. omega arith) (λ m. omega arith) once
+success_once s node (lookup_of name) q took gone none small tells once = looked_once s node name q took gone small once
 success_once s node (send_from port to priority bytes) q took gone none small tells once = call_same s (success_effect s node (send_from port to priority bytes)) node (send_from port to priority bytes) (success s node (send_from port to priority bytes)) q took gone refl refl (λ n. refl) refl once
 success_once s node (receive_at port max) q took gone none small tells once =
     call_same s (success_effect s node (receive_at port max)) node (receive_at port max) (success s node (receive_at port max)) q took gone refl refl (λ n. given_none s node port max n (best (λ i. i.priority) (queue_at s (local node port))) q) (nothing_given (best (λ i. i.priority) (queue_at s (local node port)))) once
@@ -190,6 +228,7 @@ success_once s node (request_at port max) q took gone none small tells once = re
 success_once s node (available_at port) q took gone none small tells once = call_same s (success_effect s node (available_at port)) node (available_at port) (success s node (available_at port)) q took gone refl refl (λ n. refl) refl once
 success_once s node (test_of p) q took gone none small tells once = tested_once s node p q took gone none once
 success_once s node (cancel_of p) q took gone none small tells once = cancel_once s node p q took gone none once
+success_once s node turn_alone q took gone none small tells once = call_same s s node turn_alone (success s node turn_alone) q took gone refl refl (λ n. refl) refl once
 
 pub call_once : (s : DomainState) (node : ℕ) (call : DomainCall) (q : Standing) (took gone : Tally) → s.requests_given + 1 < 2 ^ 64 → BestTells s q → Once s took gone →
     CallOnce s (effect s node call) node call (answer s node call) q took gone
@@ -205,22 +244,17 @@ call_once s node call q took gone small tells once = go (refusal s node call) re
 abbrev pub FewGiven : List CallLine → RunState → Type 0
 FewGiven lines r = (r.state.requests_given ≤ r.lines_called) × (length lines < 2 ^ 32)
 
-takes_given : (s : DomainState) (peer : ℕ) (ts : List Taken) → HaveWords s peer ts → (after_takes s peer ts).requests_given ≡ s.requests_given
-takes_given s peer [] words = refl
-takes_given s peer (t ∷ ts) words = takes_given (after_frame s peer t.frame) peer ts words.1 ∙ frame_given s peer t words.0
-
-turn_given : (s : DomainState) (vs : List Visit) → AreVisits s vs → (after_turn s vs).requests_given ≡ s.requests_given
-turn_given s [] are = refl
-turn_given s (v ∷ vs) are = turn_given (after_visit s v) vs are.1 ∙ takes_given (after_looks s v) v.peer v.takes are.0.words
-
 success_given : (s : DomainState) (node : ℕ) (call : DomainCall) → s.requests_given + 1 < 2 ^ 64 → (success_effect s node call).requests_given ≤ s.requests_given + 1
 success_given s node (create_at port) small = omega arith
+success_given s node (delete_at port) small = omega arith
+success_given s node (lookup_of name) small = let next : (s.requests_given + 1) % 2 ^ 64 ≡ s.requests_given + 1 = mod-eq_of_lt small in omega (arith, next)
 success_given s node (send_from port to priority bytes) small = omega arith
 success_given s node (receive_at port max) small = omega arith
 success_given s node (request_at port max) small = let next : (s.requests_given + 1) % 2 ^ 64 ≡ s.requests_given + 1 = mod-eq_of_lt small in omega (arith, next)
 success_given s node (available_at port) small = omega arith
 success_given s node (test_of p) small = omega arith
 success_given s node (cancel_of p) small = omega arith
+success_given s node turn_alone small = omega arith
 
 call_given : (s : DomainState) (node : ℕ) (call : DomainCall) → s.requests_given + 1 < 2 ^ 64 → (effect s node call).requests_given ≤ s.requests_given + 1
 call_given s node call small = go (refusal s node call)
@@ -237,8 +271,9 @@ line_given : (lines : List CallLine) (r : RunState) (line : CallLine) (o : Optio
 line_given lines r line o is small = rw is (call_given r.state line.node (call_at r line) small)
 
 pub few_entry : (lines : List CallLine) (r : RunState) (e : PlainEntry) → Allowed lines r e → FewGiven lines r → FewGiven lines (after lines r e)
-few_entry lines r (turned visits) allowed few = (omega (arith, few.0, turn_given r.state visits allowed.1.allowed), few.1)
+few_entry lines r (turned visits) allowed few = (omega (arith, few.0, turn_gives r.state visits), few.1)
 few_entry lines r (put peer frame) allowed few = few
+few_entry lines r (again word) allowed few = few
 few_entry lines r (called k a) allowed few =
     (omega (arith, few.0, line_given lines r allowed.0 (next_line lines r) allowed.1 (few_small lines r allowed.0 allowed.1 few)), few.1)
 
@@ -254,6 +289,7 @@ entry_once : (lines : List CallLine) (d : ℕ) (r : RunState) (q : Standing) (e 
 entry_once lines d r q (turned visits) took gone allowed few tells once =
     once_same (after_turn r.state visits) (after_turn r.state visits) _ _ gone _ refl refl (λ n. refl) (λ n. omega arith) (turn_once d r.state visits took gone allowed.1.allowed once)
 entry_once lines d r q (put peer frame) took gone allowed few tells once = once_same r.state r.state took _ gone _ refl refl (λ n. omega arith) (λ n. omega arith) once
+entry_once lines d r q (again word) took gone allowed few tells once = once_same r.state r.state took _ gone _ refl refl (λ n. omega arith) (λ n. omega arith) once
 entry_once lines d r q (called k a) took gone allowed few tells once = line_once r q a allowed.0 (next_line lines r) took gone allowed.1 allowed.3 (few_small lines r allowed.0 allowed.1 few) tells once
 
 -- ---- a run

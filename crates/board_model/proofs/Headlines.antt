@@ -4,7 +4,7 @@ use Rattle.board_model.specs.declared.scenario.Scenario.{Scenario}
 use Rattle.board_model.specs.Grammar.{IsLawful}
 use Rattle.board_model.specs.Board.{DomainJournal, IsBoardRun}
 use Rattle.board_model.specs.Headline.{Headline}
-use Rattle.board_model.proofs.PlaceCounts.{every_buffer}
+use Rattle.board_model.proofs.PlaceOne.{every_buffer}
 use Rattle.board_model.proofs.MessageRuns.{receives_best}
 use Rattle.board_model.proofs.MessageKept.{no_message_lost}
 use Rattle.board_model.proofs.CancelLaw.{cancelled_took_nothing}

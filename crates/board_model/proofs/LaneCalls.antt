@@ -1,40 +1,50 @@
--- Calls of a domain with one peer: what they take of its free buffers, and what of the items that are held.
-use Rattle.std.proofs.Common.{◌≡◌, ℕ, zero, suc, ◌+◌, ◌≤◌, Bool, true, false, not, cond, List, [], ◌∷◌, ◌++◌, map, Option, Some, None, count_by, flat_map, slice_get, option_map, option_and_then, option_to_list, refl, sym, ap, ap₂, ◌∙◌, ◌-◌, subst, arith, ltb-false, eqb-true, eq-eqb}
-use Rattle.std.specs.Prelude.{◌==◌, unwrap_or}
-use Rattle.std.specs.List.{AllByRecursion}
+-- Calls of a domain: what they take of the free buffers of its lanes, and what of the items that are held.
+use Rattle.std.proofs.Common.{◌≡◌, ℕ, zero, suc, ◌+◌, ◌≤◌, Bool, true, false, not, cond, List, [], ◌∷◌, ◌++◌, map, Option, Some, None, count_by, flat_map, find, slice_get, option_map, option_and_then, option_to_list, refl, sym, ap, ◌∙◌, inl, inr, arith, ltb-false}
+use Rattle.std.specs.Prelude.{◌==◌, unwrap_or, is_none}
+use Rattle.std.proofs.lemmas.Bool.{and_parts}
+use Rattle.std.proofs.lemmas.Bool.Decides.{eqb_tells}
+use Rattle.std.proofs.lemmas.List.Concat.{flat_map-append}
+use Rattle.mc_base.specs.FullName.{end_name}
 use Rattle.mc_base.specs.Frame.{made}
 use Rattle.mc_base.specs.Letter.{spelling, msg}
+use Rattle.mc_base.specs.declared.name.Local.{Local}
 use Rattle.mc_base.specs.declared.name.EndName.{EndName}
 use Rattle.mc_base.specs.declared.refusal.Refusal.{Refusal}
 use Rattle.mc_base.specs.declared.refusal.Refusal.TheVariants as word
-use Rattle.board_model.specs.DomainCall.{DomainCall, create_at, send_from, receive_at, request_at, available_at, test_of, cancel_of}
+use Rattle.board_model.specs.DomainCall.{DomainCall, create_at, delete_at, lookup_of, send_from, receive_at, request_at, available_at, test_of, cancel_of, turn_alone}
 use Rattle.board_model.specs.Lists.{changed, without}
-use Rattle.board_model.specs.State.{DomainState, Endpoint, Item, Peer, Request, message_at, has_item, item_in, lent_items, request_at_place, place_at, queue_in, address_at, free_to, place_of_peer}
+use Rattle.board_model.specs.State.{DomainState, Endpoint, Item, Announcement, Peer, Request, name_of, message_at, has_address, has_item, has_ended, item_in, request_at_place, place_at, queue_in, address_at, is_numbered, waits_at, receives_at, free_to}
 use Rattle.board_model.specs.Choice.{best, best_place}
-use Rattle.board_model.specs.Answer.{local, holds, words_of, is_complete, refusal, unless_refused, puts, address_of}
-use Rattle.board_model.specs.Effect.{new_endpoint, used_one, with_used, received, best_queued, held_by, success_effect, effect, success_returns, returns}
+use Rattle.board_model.specs.Answer.{local, holds, words_of, is_complete, refusal, unless_refused, success_puts, puts, address_of}
+use Rattle.board_model.specs.Effect.{new_endpoint, also_owed, ended_by_word, used_one, with_used, received, best_queued, held_by, success_effect, effect, success_returns, returns}
 use Rattle.board_model.proofs.ListsCounts.{one_if, count-cons, count-append, count-without, find-none}
-use Rattle.board_model.proofs.LaneStates.{place_of_own, peer_of_one}
-use Rattle.board_model.proofs.LaneTakes.{held, pending_holds}
-use Rattle.std.proofs.lemmas.List.Concat.{flat_map-append}
+use Rattle.board_model.proofs.LanePeers.{free_in, free_found, KeepsFree, free-mapped, peer-other, peer-own}
+use Rattle.board_model.proofs.LaneTakes.{held, pending_holds, asked_items, lent_counts, same_asked, found_asked}
+
+-- ---- what calls change
+
+-- what depends on nothing that a call changes
+abbrev pub Untouched : {X : Type 0} → (DomainState → X) → Type 0
+Untouched f = (t : DomainState) (ps : List Peer) (es : List Endpoint) (gone : List ℕ) (k : ℕ) (rs : List Request) (m : ℕ) → f (record t { peers = ps; endpoints = es; ended = gone; endpoints_given = k; requests = rs; requests_given = m }) ≡ f t
 
 -- a call changes peers, endpoints, requests and their numbers alone
-success_keeps : {X : Type 0} (f : DomainState → X) (s : DomainState) (node : ℕ) (call : DomainCall) → ((t : DomainState) (ps : List Peer) (es : List Endpoint) (k : ℕ) (rs : List Request) (m : ℕ) → f (record t { peers = ps; endpoints = es; endpoints_given = k; requests = rs; requests_given = m }) ≡ f t) → f (success_effect s node call) ≡ f s
-success_keeps f s node (create_at port) same = same s s.peers (s.endpoints ++ new_endpoint s (local node port) ∷ []) (s.endpoints_given + 1) s.requests s.requests_given
-success_keeps f s node (send_from port to priority bytes) same = same s (changed used_one (place_of_peer s to.domain) s.peers) s.endpoints s.endpoints_given s.requests s.requests_given
-success_keeps f s node (receive_at port max) same = same s s.peers (changed received (place_at s (local node port)) s.endpoints) s.endpoints_given s.requests s.requests_given
-success_keeps f s node (request_at port max) same =
-    let t = success_effect s node (request_at port max) in
-    same s s.peers t.endpoints s.endpoints_given t.requests t.requests_given
+success_keeps : {X : Type 0} (f : DomainState → X) (s : DomainState) (node : ℕ) (call : DomainCall) → Untouched f → f (success_effect s node call) ≡ f s
+success_keeps f s node (create_at port) same = let t = success_effect s node (create_at port) in same s t.peers t.endpoints t.ended t.endpoints_given t.requests t.requests_given
+success_keeps f s node (delete_at port) same = let t = success_effect s node (delete_at port) in same s t.peers t.endpoints t.ended t.endpoints_given t.requests t.requests_given
+success_keeps f s node (lookup_of name) same = let t = success_effect s node (lookup_of name) in same s t.peers t.endpoints t.ended t.endpoints_given t.requests t.requests_given
+success_keeps f s node (send_from port to priority bytes) same = let t = success_effect s node (send_from port to priority bytes) in same s t.peers t.endpoints t.ended t.endpoints_given t.requests t.requests_given
+success_keeps f s node (receive_at port max) same = let t = success_effect s node (receive_at port max) in same s t.peers t.endpoints t.ended t.endpoints_given t.requests t.requests_given
+success_keeps f s node (request_at port max) same = let t = success_effect s node (request_at port max) in same s t.peers t.endpoints t.ended t.endpoints_given t.requests t.requests_given
 success_keeps f s node (available_at port) same = refl
-success_keeps f s node (test_of request) same = same s s.peers s.endpoints s.endpoints_given (without request s.requests) s.requests_given
-success_keeps f s node (cancel_of request) same = same s s.peers s.endpoints s.endpoints_given (without request s.requests) s.requests_given
+success_keeps f s node (test_of request) same = let t = success_effect s node (test_of request) in same s t.peers t.endpoints t.ended t.endpoints_given t.requests t.requests_given
+success_keeps f s node (cancel_of request) same = let t = success_effect s node (cancel_of request) in same s t.peers t.endpoints t.ended t.endpoints_given t.requests t.requests_given
+success_keeps f s node turn_alone same = refl
 
 unless_keeps : {X : Type 0} (f : DomainState → X) (o : Option Refusal) (s t : DomainState) → f t ≡ f s → f (unless_refused o s t) ≡ f s
 unless_keeps f (Some r) s t e = refl
 unless_keeps f None s t e = e
 
-pub call_keeps : {X : Type 0} (f : DomainState → X) (s : DomainState) (node : ℕ) (call : DomainCall) → ((t : DomainState) (ps : List Peer) (es : List Endpoint) (k : ℕ) (rs : List Request) (m : ℕ) → f (record t { peers = ps; endpoints = es; endpoints_given = k; requests = rs; requests_given = m }) ≡ f t) → f (effect s node call) ≡ f s
+pub call_keeps : {X : Type 0} (f : DomainState → X) (s : DomainState) (node : ℕ) (call : DomainCall) → Untouched f → f (effect s node call) ≡ f s
 call_keeps f s node call same = unless_keeps f (refusal s node call) s (success_effect s node call) (success_keeps f s node call same)
 
 -- ---- items
@@ -55,12 +65,21 @@ created_counts w es e empty =
     ∙ ap (λ q. count_by w (flat_map (λ x. x.queue) es) + count_by w (q ++ [])) empty
     ∙ omega arith
 
--- the items that requests hold
-abbrev asked_items : List Request → List Item
-asked_items rs = flat_map (λ r. item_in r.outcome) rs
+-- what stands at an endpoint that is deleted is gone with it
+deleted_counts : (w : Item → Bool) (o : Option ℕ) (es : List Endpoint) → count_by w (flat_map (λ e. e.queue) (without o es)) + count_by w (queue_in (option_and_then (λ i. slice_get es i) o)) ≡ count_by w (flat_map (λ e. e.queue) es)
+deleted_counts w None es = omega arith
+deleted_counts w (Some i) [] = refl
+deleted_counts w (Some zero) (e ∷ es) = omega (arith, count-append w e.queue (flat_map (λ x. x.queue) es))
+deleted_counts w (Some (suc i)) (e ∷ es) =
+    omega (arith, count-append w e.queue (flat_map (λ x. x.queue) (without (Some i) es)), count-append w e.queue (flat_map (λ x. x.queue) es), deleted_counts w (Some i) es)
 
-lent_counts : (w : Item → Bool) (s : DomainState) → count_by w (lent_items s) ≡ count_by w (map (λ p. p.item) s.lent) + count_by w (asked_items s.requests)
-lent_counts w s = count-append w (map (λ p. p.item) s.lent) (asked_items s.requests)
+-- a receive that waits there holds nothing
+ended_holds : (r : Refusal) (at : Local) (x : Request) → item_in (ended_by_word r at x).outcome ≡ item_in x.outcome
+ended_holds r at x = go (waits_at at x) refl
+  where
+    go : (b : Bool) → waits_at at x ≡ b → item_in (cond b (record x { outcome = Some (has_ended r) }) x).outcome ≡ item_in x.outcome
+    go true waits = sym (pending_holds x.outcome (and_parts (is_none x.outcome) (receives_at at x.asked) waits).0)
+    go false waits = refl
 
 -- a new request holds what it is complete with
 asked_counts : (w : Item → Bool) (rs : List Request) (r : Request) → count_by w (asked_items (rs ++ r ∷ [])) ≡ count_by w (asked_items rs) + count_by w (item_in r.outcome)
@@ -72,6 +91,10 @@ asked_counts w rs r =
 item_asked : (o : Option Item) → item_in (option_map has_item o) ≡ option_to_list o
 item_asked None = refl
 item_asked (Some i) = refl
+
+address_asked : (o : Option ℕ) → item_in (option_map has_address o) ≡ []
+address_asked None = refl
+address_asked (Some a) = refl
 
 -- what the request at a place holds is gone with it
 ended_counts : (w : Item → Bool) (o : Option ℕ) (rs : List Request) → count_by w (asked_items (without o rs)) + count_by w (held_by (option_and_then (λ i. slice_get rs i) o)) ≡ count_by w (asked_items rs)
@@ -92,7 +115,18 @@ cancelled_holds s node request e =
     pending_none (request_at_place s request) t.1.0
 
 success_counts : (w : Item → Bool) (s : DomainState) (node : ℕ) (call : DomainCall) → refusal s node call ≡ None → held w (success_effect s node call) + count_by w (success_returns s node call) ≡ held w s
-success_counts w s node (create_at port) e = omega (arith, created_counts w s.endpoints (new_endpoint s (local node port)) refl)
+success_counts w s node (create_at port) e =
+    let t = success_effect s node (create_at port) in
+    let n = end_name s.number (local node port) in
+    omega (arith, created_counts w s.endpoints (new_endpoint s (local node port)) refl, lent_counts w s, lent_counts w t, ap (count_by w) (found_asked n (1024 + s.endpoints_given) s.requests))
+success_counts w s node (delete_at port) e =
+    let t = success_effect s node (delete_at port) in
+    let at = local node port in
+    omega (arith, deleted_counts w (place_at s at) s.endpoints, lent_counts w s, lent_counts w t, ap (count_by w) (same_asked (ended_by_word word.EndpInvalid at) (ended_holds word.EndpInvalid at) s.requests))
+success_counts w s node (lookup_of name) e =
+    let t = success_effect s node (lookup_of name) in
+    let r : Request = record { serial = s.requests_given; asked = name_of name; outcome = option_map has_address (address_of s name) } in
+    omega (arith, lent_counts w s, lent_counts w t, asked_counts w s.requests r, ap (count_by w) (address_asked (address_of s name)))
 success_counts w s node (send_from port to priority bytes) e = omega arith
 success_counts w s node (receive_at port max) e = omega (arith, received_counts w (place_at s (local node port)) s.endpoints)
 success_counts w s node (request_at port max) e =
@@ -105,6 +139,7 @@ success_counts w s node (test_of request) e =
     omega (arith, ended_counts w request s.requests, lent_counts w s, lent_counts w (success_effect s node (test_of request)))
 success_counts w s node (cancel_of request) e =
     omega (arith, ended_counts w request s.requests, lent_counts w s, lent_counts w (success_effect s node (cancel_of request)), ap (count_by w) (cancelled_holds s node request e))
+success_counts w s node turn_alone e = omega arith
 
 unless_counts : (w : Item → Bool) (o : Option Refusal) (s t : DomainState) (items : List Item) → (o ≡ None → held w t + count_by w items ≡ held w s) → held w (unless_refused o s t) + count_by w (unless_refused o [] items) ≡ held w s
 unless_counts w (Some r) s t items e = omega arith
@@ -126,56 +161,70 @@ send_holds s node port to priority bytes e =
     let t = find-none (holds s node (send_from port to priority bytes)) (words_of (send_from port to priority bytes)) e in
     record { named = t.1.1.0; room = t.1.1.1.1.0 }
 
-free_when : (b : Bool) (at : Peer) → 1 ≤ unwrap_or (option_map (λ p. p.free) (cond b (Some at) None)) 0 → (b ≡ true) × (1 ≤ at.free)
-free_when true at h = (refl, h)
-free_when false at h = absurd (omega arith)
-
--- a frame is sent only to the one peer there is, where it has a free buffer
-pub sent_to : (s : DomainState) (node port : ℕ) (to : EndName) (priority : ℕ) (bytes : List ℕ) (at : Peer) → s.peers ≡ at ∷ [] → refusal s node (send_from port to priority bytes) ≡ None → ((at.number == to.domain) ≡ true) × (1 ≤ at.free)
-sent_to s node port to priority bytes at one e =
-    let h = send_holds s node port to priority bytes e in
-    let enough : 1 ≤ free_to s to.domain = ltb-false (free_to s to.domain) 1 h.room in
-    free_when (at.number == to.domain) at (subst (λ (o : Option Peer). 1 ≤ unwrap_or (option_map (λ p. p.free) o) 0) (peer_of_one s at to.domain one) enough)
-
-abbrev pub with_free : Peer → ℕ → Peer
-with_free at k = record at { free = k }
-
 abbrev pub goes_to : ℕ → ℕ × List ℕ → Bool
 goes_to n p = p.0 == n
 
--- the peer after a call, and how many frames the call puts to it
-pub record Used (at : Peer) (ps : List Peer) (n : ℕ) (frames : List (ℕ × List ℕ)) : Type 0 where
-  pub left : ℕ
-  pub one : ps ≡ with_free at left ∷ []
-  pub frees : left + count_by (goes_to n) frames ≡ at.free
-  pub all : AllByRecursion (λ p. goes_to n p ≡ true) frames
+-- a frame is sent only where the lane has a free buffer
+pub send_room : (s : DomainState) (node port : ℕ) (to : EndName) (priority : ℕ) (bytes : List ℕ) → refusal s node (send_from port to priority bytes) ≡ None → 1 ≤ free_to s to.domain
+send_room s node port to priority bytes e = ltb-false (free_to s to.domain) 1 (send_holds s node port to priority bytes e).room
 
-used_none : (at : Peer) (ps : List Peer) (n : ℕ) → ps ≡ at ∷ [] → Used at ps n []
-used_none at ps n one = record { left = at.free; one = one; frees = omega arith; all = tt }
+used_found : (o : Option Peer) → 1 ≤ unwrap_or (option_map (λ p. p.free) o) 0 → unwrap_or (option_map (λ p. p.free) (option_map used_one o)) 0 + 1 ≡ unwrap_or (option_map (λ p. p.free) o) 0
+used_found None room = absurd (omega (arith, room))
+used_found (Some p) room = omega (arith, room)
 
-used_send : (o : Option Refusal) (s : DomainState) (at : Peer) (n m : ℕ) (frame : List ℕ) → s.peers ≡ at ∷ [] → at.number ≡ n → (o ≡ None → ((at.number == m) ≡ true) × (1 ≤ at.free)) → Used at (unless_refused o s (with_used s m)).peers n (unless_refused o [] ((m, frame) ∷ []))
-used_send (Some r) s at n m frame one same free = used_none at s.peers n one
-used_send None s at n m frame one same free =
-    let f = free refl in
-    let to_n : m ≡ n = sym (eqb-true at.number m f.0) ∙ same in
-    let counted : count_by (goes_to n) ((m, frame) ∷ []) ≡ 1 = omega (arith, count-cons (goes_to n) (m, frame) [], ap one_if (eq-eqb m n to_n)) in
-    record {
-      left = at.free - 1;
-      one = ap₂ (λ o ps. changed used_one o ps) (place_of_own s at m one (eqb-true at.number m f.0)) one;
-      frees = omega (arith, f.1, counted);
-      all = (eq-eqb m n to_n, tt);
-    }
+-- a frame uses one buffer of its lane
+used_frees : (s : DomainState) (m n : ℕ) (frame : List ℕ) → 1 ≤ free_to s m → free_to (with_used s m) n + count_by (goes_to n) ((m, frame) ∷ []) ≡ free_to s n
+used_frees s m n frame room =
+    let t = with_used s m in
+    elim (eqb_tells m n) [
+      | inl same ↦
+          let one : count_by (goes_to n) ((m, frame) ∷ []) ≡ 1 = omega (arith, count-cons (goes_to n) (m, frame) [], ap one_if same.0) in
+          let at_m : free_to t m + 1 ≡ free_to s m =
+          omega (arith, free_found t m, free_found s m, ap (λ (o : Option Peer). unwrap_or (option_map (λ p. p.free) o) 0) (peer-own used_one (λ p. refl) m s.peers), used_found (find (is_numbered m) s.peers) (omega (arith, room, free_found s m))) in
+          omega (arith, one, at_m, ap (free_to t) same.1, ap (free_to s) same.1)
+      | inr differ ↦
+          let none : count_by (goes_to n) ((m, frame) ∷ []) ≡ 0 = omega (arith, count-cons (goes_to n) (m, frame) [], ap one_if differ.0) in
+          omega (arith, none, free_found t n, free_found s n, ap (λ (o : Option Peer). unwrap_or (option_map (λ p. p.free) o) 0) (peer-other used_one (λ p. refl) n m differ.1 s.peers))
+    ]
 
-used_nothing : (o : Option Refusal) (s t : DomainState) (at : Peer) (n : ℕ) → s.peers ≡ at ∷ [] → t.peers ≡ at ∷ [] → Used at (unless_refused o s t).peers n (unless_refused o [] [])
-used_nothing (Some r) s t at n e f = used_none at s.peers n e
-used_nothing None s t at n e f = used_none at t.peers n f
+-- telling peers of an endpoint uses none
+also_owed_number : (domain : ℕ) (a : Announcement) (p : Peer) → (also_owed domain a p).number ≡ p.number
+also_owed_number domain a p = go (p.number == domain)
+  where
+    go : (b : Bool) → (cond b p (record p { announcements = p.announcements ++ a ∷ [] })).number ≡ p.number
+    go true = refl
+    go false = refl
 
-pub call_uses : (s : DomainState) (node : ℕ) (call : DomainCall) (at : Peer) (n : ℕ) → s.peers ≡ at ∷ [] → at.number ≡ n → Used at (effect s node call).peers n (puts s node call)
-call_uses s node (create_at port) at n one same = used_nothing (refusal s node (create_at port)) s (success_effect s node (create_at port)) at n one one
-call_uses s node (send_from port to priority bytes) at n one same =
-    used_send (refusal s node (send_from port to priority bytes)) s at n to.domain (made (unwrap_or (address_at s (local node port)) 0) (unwrap_or (address_of s to) 0) (spelling (msg priority bytes))) one same (λ e. sent_to s node port to priority bytes at one e)
-call_uses s node (receive_at port max) at n one same = used_nothing (refusal s node (receive_at port max)) s (success_effect s node (receive_at port max)) at n one one
-call_uses s node (request_at port max) at n one same = used_nothing (refusal s node (request_at port max)) s (success_effect s node (request_at port max)) at n one one
-call_uses s node (available_at port) at n one same = used_nothing (refusal s node (available_at port)) s (success_effect s node (available_at port)) at n one one
-call_uses s node (test_of request) at n one same = used_nothing (refusal s node (test_of request)) s (success_effect s node (test_of request)) at n one one
-call_uses s node (cancel_of request) at n one same = used_nothing (refusal s node (cancel_of request)) s (success_effect s node (cancel_of request)) at n one one
+also_owed_free : (domain : ℕ) (a : Announcement) (p : Peer) → (also_owed domain a p).free ≡ p.free
+also_owed_free domain a p = go (p.number == domain)
+  where
+    go : (b : Bool) → (cond b p (record p { announcements = p.announcements ++ a ∷ [] })).free ≡ p.free
+    go true = refl
+    go false = refl
+
+owed_keeps : (domain : ℕ) (a : Announcement) → KeepsFree (also_owed domain a)
+owed_keeps domain a = record { number = also_owed_number domain a; free = also_owed_free domain a }
+
+told_frees : (s t : DomainState) (n domain : ℕ) (a : Announcement) → t.peers ≡ map (also_owed domain a) s.peers → free_to t n + 0 ≡ free_to s n
+told_frees s t n domain a told = omega (arith, free_found t n, free_found s n, ap (free_in n) told, free-mapped (also_owed domain a) (owed_keeps domain a) n s.peers)
+
+unless_frees : (n : ℕ) (o : Option Refusal) (s t : DomainState) (frames : List (ℕ × List ℕ)) → (o ≡ None → free_to t n + count_by (goes_to n) frames ≡ free_to s n) → free_to (unless_refused o s t) n + count_by (goes_to n) (unless_refused o [] frames) ≡ free_to s n
+unless_frees n (Some r) s t frames e = omega arith
+unless_frees n None s t frames e = e refl
+
+success_frees : (s : DomainState) (n node : ℕ) (call : DomainCall) → refusal s node call ≡ None → free_to (success_effect s node call) n + count_by (goes_to n) (success_puts s node call) ≡ free_to s n
+success_frees s n node (create_at port) e = told_frees s (success_effect s node (create_at port)) n s.number (record { local = local node port; address = 1024 + s.endpoints_given; create = true }) refl
+success_frees s n node (delete_at port) e = told_frees s (success_effect s node (delete_at port)) n s.number (record { local = local node port; address = unwrap_or (address_at s (local node port)) 0; create = false }) refl
+success_frees s n node (lookup_of name) e = omega arith
+success_frees s n node (send_from port to priority bytes) e =
+    used_frees s to.domain n (made (unwrap_or (address_at s (local node port)) 0) (unwrap_or (address_of s to) 0) (spelling (msg priority bytes))) (send_room s node port to priority bytes e)
+success_frees s n node (receive_at port max) e = omega arith
+success_frees s n node (request_at port max) e = omega arith
+success_frees s n node (available_at port) e = omega arith
+success_frees s n node (test_of request) e = omega arith
+success_frees s n node (cancel_of request) e = omega arith
+success_frees s n node turn_alone e = omega arith
+
+-- the frames that a call puts to a peer use as many buffers of the lane to it
+pub call_frees : (s : DomainState) (n node : ℕ) (call : DomainCall) → free_to (effect s node call) n + count_by (goes_to n) (puts s node call) ≡ free_to s n
+call_frees s n node call = unless_frees n (refusal s node call) s (success_effect s node call) (success_puts s node call) (success_frees s n node call)

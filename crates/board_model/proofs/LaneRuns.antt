@@ -1,87 +1,103 @@
--- Runs of a domain with one peer: its free buffers by what was put and came back, its items by what was taken and given.
-use Rattle.std.proofs.Common.{◌≡◌, ℕ, zero, suc, ◌+◌, ◌-◌, min, Bool, true, false, not, cond, List, [], ◌∷◌, ◌++◌, length, map, take, drop, sum, Option, Some, None, is_some, count_by, flat_map, option_map, refl, sym, ap, ap₂, ◌∙◌, subst, arith, length-append, append-nil, eq-eqb}
-use Rattle.std.specs.Prelude.{◌==◌}
-use Rattle.std.proofs.lemmas.List.Sums.{sum_by-append}
+-- Runs of a domain, at any peer: the free buffers of the lane to it by what was put and came back, and the items that are held
+-- from it by what was taken and given back.
+use Rattle.std.proofs.Common.{◌≡◌, ℕ, ◌+◌, ◌-◌, ◌≤◌, min, Bool, true, false, not, cond, List, [], ◌∷◌, ◌++◌, length, map, sum, Option, Some, None, is_some, count_by, flat_map, find, option_map, refl, sym, ap, ◌∙◌, subst, inl, inr, arith, length-append, length-take, eq-eqb}
+use Rattle.std.specs.Prelude.{◌==◌, unwrap_or}
+use Rattle.std.proofs.lemmas.Bool.Decides.{eqb_tells}
+use Rattle.std.proofs.lemmas.List.Sums.{sum_by-append, sum_by-cons}
 use Rattle.board_model.specs.declared.scenario.CallLine.{CallLine}
-use Rattle.board_model.specs.Lists.{changed}
-use Rattle.board_model.specs.Journal.{PlainEntry, turned, put, called, PlainAnswer, Visit, Taken}
-use Rattle.board_model.specs.State.{DomainState, Peer, is_from, held_from, owed_to}
-use Rattle.board_model.specs.Dealing.{item_of, HaveWords, keeps_buffer}
-use Rattle.board_model.specs.Turn.{turn_limit, due_frames, looked_at, after_looks, after_visit, IsVisit, AreVisits}
+use Rattle.board_model.specs.Journal.{PlainEntry, turned, put, again, called, Visit, Taken}
+use Rattle.board_model.specs.State.{DomainState, Peer, is_numbered, peer_of, free_to, is_from, held_from, owed_to}
+use Rattle.board_model.specs.Dealing.{knowing, item_of, HaveWords, keeps_buffer}
+use Rattle.board_model.specs.Turn.{turn_limit, looked_at, after_looks, after_visit, IsVisit, AreVisits, after_turn}
 use Rattle.board_model.specs.DomainCall.{DomainCall}
-use Rattle.board_model.specs.Answer.{puts}
 use Rattle.board_model.specs.Effect.{effect, returns}
-use Rattle.board_model.specs.Step.{RunState, HasNoPuts, next_line, call_at, Allowed, effect_of_line, after}
+use Rattle.board_model.specs.Step.{RunState, HasNoPuts, call_at, Allowed, effect_of_line, after}
 use Rattle.board_model.specs.Traffic.{visits_to, puts_in, takes_in, put_to, takes_from, returned_by, given_in, given, backs_in, back_looks}
 use Rattle.board_model.specs.Run.{Leads}
 use Rattle.board_model.proofs.ListsCounts.{one_if, count-cons, count-append}
-use Rattle.board_model.proofs.LaneStates.{place_of_own, peer_of_own}
-use Rattle.board_model.proofs.LaneTakes.{takes_keep, takes_count}
-use Rattle.board_model.proofs.LaneCalls.{call_counts, goes_to, with_free, call_uses}
+use Rattle.board_model.proofs.LanePeers.{free_in, peer_found, free_found, free-kept, peer-other, peer-own}
+use Rattle.board_model.proofs.LaneTakes.{takes_peers, takes_count, takes_none}
+use Rattle.board_model.proofs.LaneCalls.{call_counts, goes_to, call_frees}
 
 -- ---- a visit
 
--- the peer of this number, to which nothing is owed
-pub record Quiet (n : ℕ) (at : Peer) : Type 0 where
-  pub number : at.number ≡ n
-  pub silent : at.announcements ≡ []
-  pub answered : at.replies ≡ []
+-- frames that are taken use no buffer of a lane to a peer
+visit_free : (n : ℕ) (s : DomainState) (v : Visit) → free_to (after_visit s v) n ≡ free_in n (after_looks s v).peers
+visit_free n s v =
+    free_found (after_visit s v) n
+    ∙ takes_peers (λ ps. free_in n ps ≡ free_in n (after_looks s v).peers) (λ names o ps h. free-kept (knowing names) (record { number = λ p. refl; free = λ p. refl }) n o ps ∙ h) (after_looks s v) v.peer v.takes refl
 
-take_none : {A : Type 0} (k : ℕ) (xs : List A) → xs ≡ [] → take k xs ≡ []
-take_none {A} k xs e = ap (take k) e ∙ nothing k
-  where
-    nothing : (j : ℕ) → take {A = A} j [] ≡ []
-    nothing zero = refl
-    nothing (suc j) = refl
+free_at : (n : ℕ) (s : DomainState) (o : Option Peer) → peer_of s n ≡ o → free_to s n ≡ unwrap_or (option_map (λ p. p.free) o) 0
+free_at n s o known = ap (λ (x : Option Peer). unwrap_or (option_map (λ p. p.free) x) 0) known
 
-drop_none : {A : Type 0} (k : ℕ) (xs : List A) → xs ≡ [] → drop k xs ≡ []
-drop_none {A} k xs e = ap (drop k) e ∙ nothing k
-  where
-    nothing : (j : ℕ) → drop {A = A} j [] ≡ []
-    nothing zero = refl
-    nothing (suc j) = refl
+-- what is put is at most what is free after the look
+due_within : (s : DomainState) (v : Visit) (h : IsVisit s v) → length v.owed ≤ h.at.free + v.back
+due_within s v h = omega (arith, ap length h.puts_due, length-take (min turn_limit (h.at.free + v.back)) (owed_to s.number h.at))
 
-pub owed_none : (n : ℕ) (at : Peer) → Quiet n at → owed_to at ≡ []
-owed_none n at q = ap₂ (λ xs ys. xs ++ ys) q.silent q.answered
+-- at the peer itself
+visit_frees : (n : ℕ) (s : DomainState) (v : Visit) → v.peer ≡ n → IsVisit s v → free_to (after_visit s v) n + length v.owed ≡ free_to s n + v.back
+visit_frees n s v same h =
+    let known : find (is_numbered n) s.peers ≡ Some h.at = sym (peer_found s n) ∙ ap (peer_of s) (sym same) ∙ h.known in
+    let changes : free_in n (after_looks s v).peers ≡ h.at.free + v.back - length v.owed =
+    ap (λ m. unwrap_or (option_map (λ (p : Peer). p.free) (find (is_numbered n) (after_looks s (record v { peer = m })).peers)) 0) same
+    ∙ ap (λ (o : Option Peer). unwrap_or (option_map (λ (p : Peer). p.free) o) 0) (peer-own (looked_at v) (λ p. refl) n s.peers ∙ ap (option_map (looked_at v)) known) in
+    omega (arith, visit_free n s v, changes, due_within s v h, free_at n s (Some h.at) (ap (peer_of s) (sym same) ∙ h.known))
 
--- what a quiet peer is owed and due is nothing
-pub due_none : (n : ℕ) (at : Peer) (back : ℕ) → Quiet n at → due_frames at back ≡ []
-due_none n at back q = take_none (min turn_limit (at.free + back)) (owed_to at) (owed_none n at q)
-
--- a visit leaves the peer quiet
-pub looked_quiet : (n : ℕ) (at : Peer) (v : Visit) → Quiet n at → Quiet n (looked_at v at)
-looked_quiet n at v q = record {
-  number = q.number;
-  silent = drop_none (length v.owed) at.announcements q.silent;
-  answered = drop_none (length v.owed - length at.announcements) at.replies q.answered;
-}
-
-pub looked_peers : (s : DomainState) (v : Visit) (at : Peer) → s.peers ≡ at ∷ [] → at.number ≡ v.peer → (after_looks s v).peers ≡ looked_at v at ∷ []
-looked_peers s v at one same = ap₂ (λ o ps. changed (looked_at v) o ps) (place_of_own s at v.peer one same) one
-
-pub visit_peers : (s : DomainState) (v : Visit) (at : Peer) → s.peers ≡ at ∷ [] → at.number ≡ v.peer → (after_visit s v).peers ≡ looked_at v at ∷ []
-visit_peers s v at one same = takes_keep (λ t. t.peers) (after_looks s v) v.peer v.takes (λ t es rs. refl) ∙ looked_peers s v at one same
+-- at the others
+visit_other : (n : ℕ) (s : DomainState) (v : Visit) → (v.peer ≡ n → ⊥) → free_to (after_visit s v) n ≡ free_to s n
+visit_other n s v differ =
+    visit_free n s v
+    ∙ ap (λ (o : Option Peer). unwrap_or (option_map (λ (p : Peer). p.free) o) 0) (peer-other (looked_at v) (λ p. refl) n v.peer differ s.peers)
+    ∙ sym (free_found s n)
 
 -- items taken from a peer are from it
 pub from_peer : (n peer : ℕ) → peer ≡ n → (f : List ℕ) → is_from n (item_of peer f) ≡ true
 from_peer n peer same f = eq-eqb peer n same
 
-pub visit_holds : (n : ℕ) (s : DomainState) (v : Visit) → v.peer ≡ n → HaveWords (after_looks s v) v.peer v.takes → held_from n (after_visit s v) + count_by (λ t. not (keeps_buffer t.fate)) v.takes ≡ held_from n s + length v.takes
+visit_holds : (n : ℕ) (s : DomainState) (v : Visit) → v.peer ≡ n → HaveWords (after_looks s v) v.peer v.takes → held_from n (after_visit s v) + count_by (λ t. not (keeps_buffer t.fate)) v.takes ≡ held_from n s + length v.takes
 visit_holds n s v same words = takes_count (is_from n) (after_looks s v) v.peer (from_peer n v.peer same) v.takes words
 
--- ---- the traffic of a turn with one visit
+visit_holds_other : (n : ℕ) (s : DomainState) (v : Visit) → (v.peer == n) ≡ false → HaveWords (after_looks s v) v.peer v.takes → held_from n (after_visit s v) ≡ held_from n s
+visit_holds_other n s v differ words = takes_none (is_from n) (after_looks s v) v.peer (λ f. differ) v.takes words
 
-pub visits_one : (n : ℕ) (v : Visit) → v.peer ≡ n → visits_to n (v ∷ []) ≡ v ∷ []
-visits_one n v same = ap (λ b. cond b (v ∷ []) []) (eq-eqb v.peer n same)
+-- ---- a turn
 
-pub turn_puts : (n : ℕ) (v : Visit) → v.peer ≡ n → puts_in n (turned (v ∷ [])) ≡ v.owed
-turn_puts n v same = ap (flat_map (λ (x : Visit). x.owed)) (visits_one n v same) ∙ append-nil v.owed
+abbrev given_at_once : List Taken → ℕ
+given_at_once ts = count_by (λ t. not (keeps_buffer t.fate)) ts
 
-pub turn_takes : (n : ℕ) (v : Visit) → v.peer ≡ n → takes_in n (turned (v ∷ [])) ≡ v.takes
-turn_takes n v same = ap (flat_map (λ (x : Visit). x.takes)) (visits_one n v same) ∙ append-nil v.takes
+-- what a turn does at a peer: frames put, buffers back, frames taken and buffers given back
+record TurnSums (n : ℕ) (s : DomainState) (vs : List Visit) (after : DomainState) : Type 0 where
+  frees : free_to after n + length (puts_in n (turned vs)) ≡ free_to s n + sum (backs_in n (turned vs))
+  holds : held_from n after + given_at_once (takes_in n (turned vs)) ≡ held_from n s + length (takes_in n (turned vs))
 
-pub turn_backs : (n : ℕ) (v : Visit) → v.peer ≡ n → backs_in n (turned (v ∷ [])) ≡ v.back ∷ []
-turn_backs n v same = ap (map (λ (x : Visit). x.back)) (visits_one n v same)
+module _ (n : ℕ) (v : Visit) (vs : List Visit) where
+  own_visits : (v.peer == n) ≡ true → visits_to n (v ∷ vs) ≡ v ∷ visits_to n vs
+  own_visits same = ap (λ b. cond b (v ∷ visits_to n vs) (visits_to n vs)) same
+
+  other_visits : (v.peer == n) ≡ false → visits_to n (v ∷ vs) ≡ visits_to n vs
+  other_visits differ = ap (λ b. cond b (v ∷ visits_to n vs) (visits_to n vs)) differ
+
+turn_sums : (n : ℕ) (s : DomainState) (vs : List Visit) → AreVisits s vs → TurnSums n s vs (after_turn s vs)
+turn_sums n s [] are = record { frees = refl; holds = refl }
+turn_sums n s (v ∷ vs) are = elim (eqb_tells v.peer n) [
+  | inl same ↦
+      let rest = turn_sums n (after_visit s v) vs are.1 in
+      let visits = own_visits n v vs same.0 in
+      let puts = ap (λ (us : List Visit). length (flat_map (λ x. x.owed) us)) visits in
+      let takes = ap (λ (us : List Visit). flat_map (λ x. x.takes) us) visits in
+      record {
+        frees = omega (arith, rest.frees, visit_frees n s v same.1 are.0, puts, length-append v.owed (puts_in n (turned vs)), ap (λ (us : List Visit). sum (map (λ x. x.back) us)) visits, sum_by-cons (λ (x : ℕ). x) v.back (backs_in n (turned vs)));
+        holds = omega (arith, rest.holds, visit_holds n s v same.1 are.0.words, ap length takes, ap given_at_once takes, length-append v.takes (takes_in n (turned vs)), count-append (λ (t : Taken). not (keeps_buffer t.fate)) v.takes (takes_in n (turned vs)));
+      }
+  | inr differ ↦
+      let rest = turn_sums n (after_visit s v) vs are.1 in
+      let visits = other_visits n v vs differ.0 in
+      let takes = ap (λ (us : List Visit). flat_map (λ x. x.takes) us) visits in
+      record {
+        frees = omega (arith, rest.frees, visit_other n s v differ.1, ap (λ (us : List Visit). length (flat_map (λ x. x.owed) us)) visits, ap (λ (us : List Visit). sum (map (λ x. x.back) us)) visits);
+        holds = omega (arith, rest.holds, visit_holds_other n s v differ.0 are.0.words, ap length takes, ap given_at_once takes);
+      }
+]
 
 -- ---- the two sums along a run
 
@@ -90,43 +106,14 @@ abbrev pub waiting : ℕ → Option (List (ℕ × List ℕ)) → ℕ
 waiting n None = 0
 waiting n (Some ps) = count_by (goes_to n) ps
 
--- after so many frames put, buffers come back, frames taken and buffers given
-pub record Sums (n size puts backs takes gives : ℕ) (r : RunState) : Type 0 where
-  pub at : Peer
-  pub one : r.state.peers ≡ at ∷ []
-  pub quiet : Quiet n at
-  pub frees : at.free + puts ≡ size + backs + waiting n r.put_since_turn
-  pub holds : held_from n r.state + gives ≡ takes
-
 pub waiting_none : (n : ℕ) (o : Option (List (ℕ × List ℕ))) → HasNoPuts o → waiting n o ≡ 0
 waiting_none n None h = refl
 waiting_none n (Some ps) h = ap (count_by (goes_to n)) h
 
--- a turn of one visit
-sums_visit : (script : List CallLine) (n size p b t g : ℕ) (r : RunState) (v : Visit) → v.peer ≡ n → HasNoPuts r.put_since_turn → IsVisit r.state v → Sums n size p b t g r → Sums n size (p + length (puts_in n (turned (v ∷ [])))) (b + sum (backs_in n (turned (v ∷ [])))) (t + length (takes_in n (turned (v ∷ [])))) (g + given_in script r n (turned (v ∷ []))) (after script r (turned (v ∷ [])))
-sums_visit script n size p b t g r v same none visit h =
-    let to_v : h.at.number ≡ v.peer = h.quiet.number ∙ sym same in
-    let at_v : visit.at ≡ h.at = some_peer (sym visit.known ∙ peer_of_own r.state h.at v.peer h.one to_v) in
-    let owes : v.owed ≡ [] = visit.puts_due ∙ ap (λ (x : Peer). due_frames x v.back) at_v ∙ due_none n h.at v.back h.quiet in
-    let no_puts : length v.owed ≡ 0 = ap length owes in
-    record {
-      at = looked_at v h.at;
-      one = visit_peers r.state v h.at h.one to_v;
-      quiet = looked_quiet n h.at v h.quiet;
-      frees = omega (arith, h.frees, no_puts, ap length (turn_puts n v same), ap sum (turn_backs n v same), waiting_none n r.put_since_turn none);
-      holds = omega (arith, h.holds, visit_holds n r.state v same visit.words, ap length (turn_takes n v same), ap (count_by (λ (x : Taken). not (keeps_buffer x.fate))) (turn_takes n v same));
-    }
-  where
-    some_peer : {x y : Peer} → ◌≡◌ {A = Option Peer} (Some x) (Some y) → x ≡ y
-    some_peer e = cc
-
--- a turn visits the one peer there is
-sums_turn : (script : List CallLine) (n size p b t g : ℕ) (r : RunState) (vs : List Visit) (at : Peer) → map (λ v. v.peer) vs ≡ at.number ∷ [] → at.number ≡ n → HasNoPuts r.put_since_turn → AreVisits r.state vs → Sums n size p b t g r → Sums n size (p + length (puts_in n (turned vs))) (b + sum (backs_in n (turned vs))) (t + length (takes_in n (turned vs))) (g + given_in script r n (turned vs)) (after script r (turned vs))
-sums_turn script n size p b t g r [] at e same none visits h = absurd cc
-sums_turn script n size p b t g r (v ∷ []) at e same none visits h =
-    let is_at : v.peer ≡ at.number = cc in
-    sums_visit script n size p b t g r v (is_at ∙ same) none visits.0 h
-sums_turn script n size p b t g r (v ∷ u ∷ vs) at e same none visits h = absurd cc
+-- after so many frames put to a peer, buffers come back, frames taken and buffers given back
+pub record Sums (n size puts backs takes gives : ℕ) (r : RunState) : Type 0 where
+  pub frees : free_to r.state n + puts ≡ size + backs + waiting n r.put_since_turn
+  pub holds : held_from n r.state + gives ≡ takes
 
 length-if : (b : Bool) (frame : List ℕ) → length (cond b (frame ∷ []) []) ≡ one_if b
 length-if true frame = refl
@@ -136,39 +123,31 @@ waiting_more : (n : ℕ) (o : Option (List (ℕ × List ℕ))) (to : ℕ) (frame
 waiting_more n None to frame h = absurd cc
 waiting_more n (Some ps) to frame h = omega (arith, count-append (goes_to n) ps ((to, frame) ∷ []), count-cons (goes_to n) (to, frame) [], length-if (to == n) frame)
 
-sums_put : (script : List CallLine) (n size p b t g : ℕ) (r : RunState) (to : ℕ) (frame : List ℕ) → is_some r.put_since_turn ≡ true → Sums n size p b t g r → Sums n size (p + length (puts_in n (put to frame))) (b + sum (backs_in n (put to frame))) (t + length (takes_in n (put to frame))) (g + given_in script r n (put to frame)) (after script r (put to frame))
-sums_put script n size p b t g r to frame turn h = record {
-  at = h.at;
-  one = h.one;
-  quiet = h.quiet;
-  frees = omega (arith, h.frees, waiting_more n r.put_since_turn to frame turn);
-  holds = omega (arith, h.holds);
-}
-
 pub call_holds : (n : ℕ) (s : DomainState) (node : ℕ) (call : DomainCall) → held_from n (effect s node call) + count_by (is_from n) (returns s node call) ≡ held_from n s
 call_holds n s node call = call_counts (is_from n) s node call
 
-sums_called : (script : List CallLine) (n size p b t g : ℕ) (r : RunState) (k : ℕ) (a : PlainAnswer) (line : CallLine) → next_line script r ≡ Some line → r.put_since_turn ≡ Some (puts r.state line.node (call_at r line)) → Sums n size p b t g r → Sums n size (p + length (puts_in n (called k a))) (b + sum (backs_in n (called k a))) (t + length (takes_in n (called k a))) (g + given_in script r n (called k a)) (after script r (called k a))
-sums_called script n size p b t g r k a line here waits h =
-    let u = call_uses r.state line.node (call_at r line) h.at n h.one h.quiet.number in
+-- an entry adds what it does
+sums_after : (script : List CallLine) (n size p b t g : ℕ) (r : RunState) (e : PlainEntry) → Allowed script r e → Sums n size p b t g r → Sums n size (p + length (puts_in n e)) (b + sum (backs_in n e)) (t + length (takes_in n e)) (g + given_in script r n e) (after script r e)
+sums_after script n size p b t g r (turned vs) allowed h =
+    let turn = turn_sums n r.state vs allowed.1.allowed in
+    record { frees = omega (arith, h.frees, turn.frees, waiting_none n r.put_since_turn allowed.0); holds = omega (arith, h.holds, turn.holds) }
+sums_after script n size p b t g r (put to frame) allowed h =
+    record { frees = omega (arith, h.frees, waiting_more n r.put_since_turn to frame allowed); holds = omega (arith, h.holds) }
+sums_after script n size p b t g r (again word) allowed h =
+    record { frees = omega (arith, h.frees, ap (waiting n) allowed.3); holds = omega (arith, h.holds) }
+sums_after script n size p b t g r (called k a) allowed h =
+    let line = allowed.0 in
+    let here = allowed.1 in
     record {
-      at = with_free h.at u.left;
-      one = ap (λ o. (effect_of_line o r).peers) here ∙ u.one;
-      quiet = record { number = h.quiet.number; silent = h.quiet.silent; answered = h.quiet.answered };
-      frees = omega (arith, h.frees, u.frees, ap (waiting n) waits);
+      frees = omega (arith, h.frees, call_frees r.state n line.node (call_at r line), ap (λ o. free_to (effect_of_line o r) n) here, ap (waiting n) allowed.4);
       holds = omega (arith, h.holds, call_holds n r.state line.node (call_at r line), ap (λ o. held_from n (effect_of_line o r)) here, ap (λ o. count_by (is_from n) (returned_by o r)) here);
     }
-
-sums_after : (script : List CallLine) (n size p b t g : ℕ) (r : RunState) (e : PlainEntry) → Allowed script r e → Sums n size p b t g r → Sums n size (p + length (puts_in n e)) (b + sum (backs_in n e)) (t + length (takes_in n e)) (g + given_in script r n e) (after script r e)
-sums_after script n size p b t g r (turned vs) allowed h = sums_turn script n size p b t g r vs h.at (allowed.1.each_peer ∙ ap (map (λ x. x.number)) h.one) h.quiet.number allowed.0 allowed.1.allowed h
-sums_after script n size p b t g r (put to frame) allowed h = sums_put script n size p b t g r to frame allowed h
-sums_after script n size p b t g r (called k a) allowed h = sums_called script n size p b t g r k a allowed.0 allowed.1 allowed.4 h
 
 sum-append : (xs ys : List ℕ) → sum (xs ++ ys) ≡ sum xs + sum ys
 sum-append xs ys = sum_by-append (λ x. x) xs ys
 
 sums_to : (n size p b t g p' b' t' g' : ℕ) (r : RunState) → p ≡ p' → b ≡ b' → t ≡ t' → g ≡ g' → Sums n size p b t g r → Sums n size p' b' t' g' r
-sums_to n size p b t g p' b' t' g' r e1 e2 e3 e4 h = record { at = h.at; one = h.one; quiet = h.quiet; frees = omega (arith, h.frees); holds = omega (arith, h.holds) }
+sums_to n size p b t g p' b' t' g' r e1 e2 e3 e4 h = record { frees = omega (arith, h.frees); holds = omega (arith, h.holds) }
 
 -- the sums along a whole run
 pub sums_run : (script : List CallLine) (n size p b t g : ℕ) (r new : RunState) (es : List PlainEntry) → Leads script r es new → Sums n size p b t g r → Sums n size (p + length (put_to n es)) (b + sum (back_looks n es)) (t + length (takes_from n es)) (g + given script r n es) new

@@ -1,97 +1,72 @@
--- Frames that a domain takes: each buffer stays with an item that is held, or is given back; all else is as it was.
-use Rattle.std.proofs.Common.{◌≡◌, ℕ, ◌+◌, Bool, true, false, not, ◌&&◌, List, [], ◌∷◌, length, map, Option, Some, None, count_by, flat_map, slice_get, option_map, option_and_then, is_some, refl, sym, ap, ◌∙◌, arith, slice_index}
-use Rattle.std.specs.Prelude.{◌==◌, is_none}
+-- Frames that a domain takes: each buffer stays with an item that is held, or is given back; all else is as it was, but for the
+-- names that are known of a peer and lookups of them.
+use Rattle.std.proofs.Common.{◌≡◌, ℕ, ◌+◌, Bool, true, false, not, cond, List, [], ◌∷◌, ◌++◌, length, map, Option, Some, None, count_by, flat_map, slice_get, option_map, option_and_then, is_some, refl, sym, ap, ap₂, ◌∙◌, arith}
+use Rattle.std.specs.Prelude.{is_none}
 use Rattle.std.proofs.lemmas.Bool.{and_parts}
 use Rattle.mc_base.specs.declared.name.Local.{Local}
-use Rattle.mc_base.specs.Frame.{destination_of, payload_of}
-use Rattle.mc_base.specs.Fault.{fault}
-use Rattle.mc_base.specs.declared.fault.Fault.{Fault}
-use Rattle.mc_base.specs.declared.fault.Fault.TheVariants as of
-use Rattle.mc_base.specs.declared.fault.FrameFault.{FrameFault}
-use Rattle.mc_base.specs.declared.fault.FrameFault.TheVariants as frame_fault
-use Rattle.mc_base.specs.declared.fault.LetterFault.{LetterFault}
-use Rattle.mc_base.specs.declared.fault.LetterFault.TheVariants as letter_fault
-use Rattle.mc_base.specs.declared.fault.NsFault.{NsFault}
-use Rattle.mc_base.specs.declared.fault.NsFault.TheVariants as ns_fault
+use Rattle.mc_base.specs.declared.name.EndName.{EndName}
+use Rattle.mc_base.specs.Frame.{destination_of}
+use Rattle.mc_base.specs.NameMap.{Names, learned, forgotten}
 use Rattle.mc_base.specs.declared.fate.Fate.{Fate}
-use Rattle.mc_base.specs.declared.fate.Fate.TheVariants as fate
 use Rattle.board_model.specs.Lists.{changed}
 use Rattle.board_model.specs.Journal.{Taken}
-use Rattle.board_model.specs.State.{DomainState, Endpoint, Item, Request, Outcome, item_in, queued_items, lent_items, place_of_address, has_address_of, local_of_address, waits_at, receives_at, place_of_waiting, place_waiting_for}
-use Rattle.board_model.specs.Dealing.{fault_word, frame_word, letter_word, ns_word, is_letter, item_of, queued_last, complete_with, Row, row, fault_row, first_row, row_for, left_by, after_frame, after_takes, HaveWords, keeps_buffer}
-use Rattle.board_model.proofs.ListsCounts.{one_if, count-cons, count-append, count-changed_at, position-tells, map-changed}
+use Rattle.board_model.specs.State.{DomainState, Endpoint, Item, Peer, Request, Outcome, has_address, item_in, queued_items, lent_items, place_of_address, has_address_of, local_of_address, waits_at, receives_at, place_of_waiting, place_waiting_for, place_of_peer}
+use Rattle.board_model.specs.Dealing.{item_of, queued_last, with_item, complete_with, with_handed, known_from, knowing, asks_for, looks_for, found_for, with_created, with_destroyed, announced_name, announced_address, row_for, after_frame, after_takes, HaveWords, keeps_buffer}
+use Rattle.board_model.specs.Serial.{word_of}
+use Rattle.board_model.proofs.ListsCounts.{one_if, count-cons, count-append, count-changed_at, position-tells}
+use Rattle.board_model.proofs.LaneRows.{stays, learns, forgets, hands, queues, DealsWith, frame_deals, frame_word_is}
 
--- a fault's word keeps no buffer
-frame_word_gives : (f : FrameFault) → keeps_buffer (frame_word f) ≡ false
-frame_word_gives frame_fault.FrameShort = refl
-frame_word_gives frame_fault.FrameLong = refl
-frame_word_gives frame_fault.HeaderLen = refl
+-- ---- what frames change
 
-letter_word_gives : (f : LetterFault) → keeps_buffer (letter_word f) ≡ false
-letter_word_gives letter_fault.PayloadShort = refl
-letter_word_gives letter_fault.Magic = refl
-letter_word_gives letter_fault.Version = refl
-letter_word_gives letter_fault.Kind = refl
-letter_word_gives letter_fault.Argument = refl
-letter_word_gives letter_fault.Channel = refl
-letter_word_gives letter_fault.Size = refl
+-- what depends on no endpoint, no request and no peer
+abbrev pub Apart : {X : Type 0} → (DomainState → X) → Type 0
+Apart f = (t : DomainState) (es : List Endpoint) (rs : List Request) (ps : List Peer) → f (record t { endpoints = es; requests = rs; peers = ps }) ≡ f t
 
-ns_word_gives : (f : NsFault) → keeps_buffer (ns_word f) ≡ false
-ns_word_gives ns_fault.NsSize = refl
-ns_word_gives ns_fault.NsFlags = refl
-ns_word_gives ns_fault.NsName = refl
+created_keeps : {X : Type 0} (f : DomainState → X) (s : DomainState) (peer : ℕ) (o : Option EndName) (address : ℕ) → Apart f → f (with_created s peer o address) ≡ f s
+created_keeps f s peer None address same = refl
+created_keeps f s peer (Some n) address same = same s s.endpoints (map (found_for n address) s.requests) (changed (knowing (learned n address (known_from s peer))) (place_of_peer s peer) s.peers)
 
-pub fault_word_gives : (f : Fault) → keeps_buffer (fault_word f) ≡ false
-fault_word_gives (of.Frame f) = frame_word_gives f
-fault_word_gives (of.Letter f) = letter_word_gives f
-fault_word_gives (of.Ns f) = ns_word_gives f
+destroyed_keeps : {X : Type 0} (f : DomainState → X) (s : DomainState) (peer : ℕ) (o : Option EndName) → Apart f → f (with_destroyed s peer o) ≡ f s
+destroyed_keeps f s peer None same = refl
+destroyed_keeps f s peer (Some n) same = same s s.endpoints s.requests (changed (knowing (forgotten n (known_from s peer))) (place_of_peer s peer) s.peers)
 
--- the row of a frame by its fault, whether it is a letter, whether its kind is 1, the place of its address, and the place of
--- the receive that waits there
-abbrev pub row_by : DomainState → Item → Option Fault → Bool → Bool → Option ℕ → Option ℕ → Option Row
-row_by s item o letter kind place waiting =
-    first_row (fault_row s o
-    ∷ row (letter && not (is_some place)) fate.NoEndpoint s
-    ∷ row ((letter && kind) && is_some waiting) fate.Handed (record s { requests = changed (complete_with item) waiting s.requests })
-    ∷ row (letter && kind) fate.Queued (record s { endpoints = changed (queued_last item) place s.endpoints })
-    ∷ row letter fate.State s
-    ∷ [])
+-- a frame changes endpoints, requests and peers alone
+pub frame_keeps : {X : Type 0} (f : DomainState → X) (s : DomainState) (peer : ℕ) (frame : List ℕ) → Apart f → f (after_frame s peer frame) ≡ f s
+frame_keeps {X} f s peer frame same = go (word_of (row_for s peer frame)) (after_frame s peer frame) (frame_deals s peer frame)
+  where
+    go : (w : Fate) (after : DomainState) → DealsWith s peer frame w after → f after ≡ f s
+    go w after (stays is gives) = ap f is
+    go w after (learns is word) = ap f is ∙ created_keeps f s peer (announced_name peer frame) (announced_address frame) same
+    go w after (forgets is word) = ap f is ∙ destroyed_keeps f s peer (announced_name peer frame) same
+    go w after (hands is word waits) = ap f is ∙ same s s.endpoints (changed (complete_with (item_of peer frame)) (place_waiting_for s (destination_of frame)) s.requests) s.peers
+    go w after (queues is word there) = ap f is ∙ same s (changed (queued_last (item_of peer frame)) (place_of_address s (destination_of frame)) s.endpoints) s.requests s.peers
 
--- the state that a row leaves changes endpoints and requests alone
-row_keeps : {X : Type 0} (f : DomainState → X) (s : DomainState) (item : Item) → ((es : List Endpoint) (rs : List Request) → f (record s { endpoints = es; requests = rs }) ≡ f s) → (o : Option Fault) (letter kind : Bool) (place waiting : Option ℕ) → f (left_by s (row_by s item o letter kind place waiting)) ≡ f s
-row_keeps f s item same (Some x) letter kind place waiting = refl
-row_keeps f s item same None false kind place waiting = refl
-row_keeps f s item same None true kind None waiting = refl
-row_keeps f s item same None true true (Some i) None = same (changed (queued_last item) (Some i) s.endpoints) s.requests
-row_keeps f s item same None true true (Some i) (Some j) = same s.endpoints (changed (complete_with item) (Some j) s.requests)
-row_keeps f s item same None true false (Some i) waiting = refl
-
--- a frame changes endpoints and requests alone
-pub frame_keeps : {X : Type 0} (f : DomainState → X) (s : DomainState) (peer : ℕ) (frame : List ℕ) → ((t : DomainState) (es : List Endpoint) (rs : List Request) → f (record t { endpoints = es; requests = rs }) ≡ f t) → f (after_frame s peer frame) ≡ f s
-frame_keeps f s peer frame same =
-    row_keeps f s (item_of peer frame) (same s) (fault frame) (is_letter frame) (slice_index (payload_of frame) 2 == 1) (place_of_address s (destination_of frame)) (place_waiting_for s (destination_of frame))
-
-pub takes_keep : {X : Type 0} (f : DomainState → X) (s : DomainState) (peer : ℕ) (ts : List Taken) → ((t : DomainState) (es : List Endpoint) (rs : List Request) → f (record t { endpoints = es; requests = rs }) ≡ f t) → f (after_takes s peer ts) ≡ f s
+pub takes_keep : {X : Type 0} (f : DomainState → X) (s : DomainState) (peer : ℕ) (ts : List Taken) → Apart f → f (after_takes s peer ts) ≡ f s
 takes_keep f s peer [] same = refl
 takes_keep f s peer (t ∷ ts) same = takes_keep f (after_frame s peer t.frame) peer ts same ∙ frame_keeps f s peer t.frame same
 
--- the addresses of the endpoints
-abbrev pub addresses : DomainState → List ℕ
-addresses s = map (λ e. e.address) s.endpoints
+-- what holds of peers, and stays as names are learned and forgotten
+pub frame_peers : (P : List Peer → Type 0) → ((names : Names) (o : Option ℕ) (ps : List Peer) → P ps → P (changed (knowing names) o ps)) → (s : DomainState) (peer : ℕ) (frame : List ℕ) → P s.peers → P (after_frame s peer frame).peers
+frame_peers P known s peer frame holds = go (word_of (row_for s peer frame)) (after_frame s peer frame) (frame_deals s peer frame)
+  where
+    created : (o : Option EndName) (address : ℕ) → P (with_created s peer o address).peers
+    created None address = holds
+    created (Some n) address = known (learned n address (known_from s peer)) (place_of_peer s peer) s.peers holds
 
-row_addresses : (s : DomainState) (item : Item) (o : Option Fault) (letter kind : Bool) (place waiting : Option ℕ) → addresses (left_by s (row_by s item o letter kind place waiting)) ≡ addresses s
-row_addresses s item (Some x) letter kind place waiting = refl
-row_addresses s item None false kind place waiting = refl
-row_addresses s item None true kind None waiting = refl
-row_addresses s item None true true (Some i) None = map-changed (λ e. e.address) (queued_last item) (λ e. refl) (Some i) s.endpoints
-row_addresses s item None true true (Some i) (Some j) = refl
-row_addresses s item None true false (Some i) waiting = refl
+    destroyed : (o : Option EndName) → P (with_destroyed s peer o).peers
+    destroyed None = holds
+    destroyed (Some n) = known (forgotten n (known_from s peer)) (place_of_peer s peer) s.peers holds
 
-pub takes_addresses : (s : DomainState) (peer : ℕ) (ts : List Taken) → addresses (after_takes s peer ts) ≡ addresses s
-takes_addresses s peer [] = refl
-takes_addresses s peer (t ∷ ts) =
-    takes_addresses (after_frame s peer t.frame) peer ts
-    ∙ row_addresses s (item_of peer t.frame) (fault t.frame) (is_letter t.frame) (slice_index (payload_of t.frame) 2 == 1) (place_of_address s (destination_of t.frame)) (place_waiting_for s (destination_of t.frame))
+    go : (w : Fate) (after : DomainState) → DealsWith s peer frame w after → P after.peers
+    go w after (stays is gives) = rw is holds
+    go w after (learns is word) = rw is (created (announced_name peer frame) (announced_address frame))
+    go w after (forgets is word) = rw is (destroyed (announced_name peer frame))
+    go w after (hands is word waits) = rw is holds
+    go w after (queues is word there) = rw is holds
+
+pub takes_peers : (P : List Peer → Type 0) → ((names : Names) (o : Option ℕ) (ps : List Peer) → P ps → P (changed (knowing names) o ps)) → (s : DomainState) (peer : ℕ) (ts : List Taken) → P s.peers → P (after_takes s peer ts).peers
+takes_peers P known s peer [] holds = holds
+takes_peers P known s peer (t ∷ ts) holds = takes_peers P known (after_frame s peer t.frame) peer ts (frame_peers P known s peer t.frame holds)
 
 -- ---- what is held and given back
 
@@ -99,14 +74,15 @@ takes_addresses s peer (t ∷ ts) =
 abbrev pub held : (Item → Bool) → DomainState → ℕ
 held w s = count_by w (queued_items s) + count_by w (lent_items s)
 
-abbrev pub gives_back : Fate → ℕ
-gives_back f = one_if (not (keeps_buffer f))
+-- what a frame's buffer counts for where it is given back, and where it stays
+abbrev pub given_of : Bool → Fate → ℕ
+given_of b f = cond (keeps_buffer f) 0 (one_if b)
 
-queued_one_more : (w : Item → Bool) (s : DomainState) (item : Item) (i : ℕ) (e : Endpoint) → slice_get s.endpoints i ≡ Some e → w item ≡ true → count_by w (flat_map (λ x. x.queue) (changed (queued_last item) (Some i) s.endpoints)) ≡ count_by w (queued_items s) + 1
-queued_one_more w s item i e at counts =
-    let more : (x : Endpoint) → slice_get s.endpoints i ≡ Some x → count_by w (queued_last item x).queue + 0 ≡ count_by w x.queue + 1 =
-    λ x p. omega (arith, count-append w x.queue (item ∷ []), count-cons w item [], ap one_if counts) in
-    let r = count-changed_at w (λ x. x.queue) (queued_last item) 1 0 i s.endpoints e at more in
+queued_one_more : (w : Item → Bool) (s : DomainState) (item : Item) (i : ℕ) (e : Endpoint) → slice_get s.endpoints i ≡ Some e → count_by w (flat_map (λ x. x.queue) (changed (queued_last item) (Some i) s.endpoints)) ≡ count_by w (queued_items s) + one_if (w item)
+queued_one_more w s item i e at =
+    let more : (x : Endpoint) → slice_get s.endpoints i ≡ Some x → count_by w (queued_last item x).queue + 0 ≡ count_by w x.queue + one_if (w item) =
+    λ x p. omega (arith, count-append w x.queue (item ∷ []), count-cons w item []) in
+    let r = count-changed_at w (λ x. x.queue) (queued_last item) (one_if (w item)) 0 i s.endpoints e at more in
     omega arith
 
 -- a pending request holds nothing
@@ -114,15 +90,22 @@ pub pending_holds : (o : Option Outcome) → is_none o ≡ true → item_in o �
 pending_holds None e = refl
 pending_holds (Some x) e = absurd cc
 
+-- the items that requests hold
+abbrev pub asked_items : List Request → List Item
+asked_items rs = flat_map (λ r. item_in r.outcome) rs
+
+pub lent_counts : (w : Item → Bool) (s : DomainState) → count_by w (lent_items s) ≡ count_by w (map (λ p. p.item) s.lent) + count_by w (asked_items s.requests)
+lent_counts w s = count-append w (map (λ p. p.item) s.lent) (asked_items s.requests)
+
 -- a pending request that is complete holds the item
-lent_one_more : (w : Item → Bool) (s : DomainState) (item : Item) (i : ℕ) (r : Request) → slice_get s.requests i ≡ Some r → is_none r.outcome ≡ true → w item ≡ true → count_by w (lent_items (record s { requests = changed (complete_with item) (Some i) s.requests })) ≡ count_by w (lent_items s) + 1
-lent_one_more w s item i r at pending counts =
-    let more : (x : Request) → slice_get s.requests i ≡ Some x → count_by w (item_in (complete_with item x).outcome) + 0 ≡ count_by w (item_in x.outcome) + 1 =
+lent_one_more : (w : Item → Bool) (s : DomainState) (item : Item) (i : ℕ) (r : Request) → slice_get s.requests i ≡ Some r → is_none r.outcome ≡ true → count_by w (asked_items (changed (complete_with item) (Some i) s.requests)) ≡ count_by w (asked_items s.requests) + one_if (w item)
+lent_one_more w s item i r at pending =
+    let more : (x : Request) → slice_get s.requests i ≡ Some x → count_by w (item_in (complete_with item x).outcome) + 0 ≡ count_by w (item_in x.outcome) + one_if (w item) =
     λ x p.
     let same : r ≡ x = some_request (sym at ∙ p) in
-    omega (arith, count-cons w item [], ap one_if counts, ap (λ (y : Request). count_by w (item_in y.outcome)) same, ap (count_by w) (pending_holds r.outcome pending)) in
-    let changes = count-changed_at w (λ (x : Request). item_in x.outcome) (complete_with item) 1 0 i s.requests r at more in
-    omega (arith, count-append w (map (λ p. p.item) s.lent) (flat_map (λ (x : Request). item_in x.outcome) s.requests), count-append w (map (λ p. p.item) s.lent) (flat_map (λ (x : Request). item_in x.outcome) (changed (complete_with item) (Some i) s.requests)))
+    omega (arith, count-cons w item [], ap (λ (y : Request). count_by w (item_in y.outcome)) same, ap (count_by w) (pending_holds r.outcome pending)) in
+    let changes = count-changed_at w (λ (x : Request). item_in x.outcome) (complete_with item) (one_if (w item)) 0 i s.requests r at more in
+    omega arith
   where
     some_request : {x y : Request} → ◌≡◌ {A = Option Request} (Some x) (Some y) → x ≡ y
     some_request e = cc
@@ -137,32 +120,78 @@ waiting_tells s address i e = go (local_of_address s address) e
         let t = position-tells (waits_at at) s.requests i h in
         (t.0, t.1, (and_parts (is_none t.0.outcome) (receives_at at t.0.asked) t.2).0)
 
-some_word : {w v : Fate} → ◌≡◌ {A = Option Fate} (Some w) (Some v) → w ≡ v
-some_word e = cc
+-- a request that may be complete without an item holds what it held
+pub same_asked : (f : Request → Request) → ((r : Request) → item_in (f r).outcome ≡ item_in r.outcome) → (rs : List Request) → asked_items (map f rs) ≡ asked_items rs
+same_asked f same [] = refl
+same_asked f same (r ∷ rs) = ap₂ (λ (xs ys : List Item). xs ++ ys) (same r) (same_asked f same rs)
 
-row_counts : (w : Item → Bool) (s : DomainState) (item : Item) → w item ≡ true → (o : Option Fault) (letter kind : Bool) (place waiting : Option ℕ) →
-    ((i : ℕ) → place ≡ Some i → (e : Endpoint) × (slice_get s.endpoints i ≡ Some e)) →
-    ((i : ℕ) → waiting ≡ Some i → (r : Request) × (slice_get s.requests i ≡ Some r) × (is_none r.outcome ≡ true)) →
-    (f : Fate) → option_map (λ r. r.word) (row_by s item o letter kind place waiting) ≡ Some f → held w (left_by s (row_by s item o letter kind place waiting)) + gives_back f ≡ held w s + 1
-row_counts w s item counts (Some x) letter kind place waiting there waits f e =
-    omega (arith, ap gives_back (sym (some_word e)), ap (λ (b : Bool). one_if (not b)) (fault_word_gives x))
-row_counts w s item counts None false kind place waiting there waits f e = absurd cc
-row_counts w s item counts None true kind None waiting there waits f e = omega (arith, ap gives_back (sym (some_word e)))
-row_counts w s item counts None true true (Some i) None there waits f e =
-    let at = there i refl in
-    omega (arith, ap gives_back (sym (some_word e)), queued_one_more w s item i at.0 at.1 counts)
-row_counts w s item counts None true true (Some i) (Some j) there waits f e =
-    let at = waits j refl in
-    omega (arith, ap gives_back (sym (some_word e)), lent_one_more w s item j at.0 at.1 at.2 counts)
-row_counts w s item counts None true false (Some i) waiting there waits f e = omega (arith, ap gives_back (sym (some_word e)))
+found_holds : (n : EndName) (address : ℕ) (r : Request) → item_in (found_for n address r).outcome ≡ item_in r.outcome
+found_holds n address r = go (looks_for n r) refl
+  where
+    go : (b : Bool) → looks_for n r ≡ b → item_in (cond b (record r { outcome = Some (has_address address) }) r).outcome ≡ item_in r.outcome
+    go true looks = sym (pending_holds r.outcome (and_parts (is_none r.outcome) (asks_for n r.asked) looks).0)
+    go false looks = refl
+
+pub found_asked : (n : EndName) (address : ℕ) (rs : List Request) → asked_items (map (found_for n address) rs) ≡ asked_items rs
+found_asked n address rs = same_asked (found_for n address) (found_holds n address) rs
+
+created_holds : (w : Item → Bool) (s : DomainState) (peer : ℕ) (o : Option EndName) (address : ℕ) → held w (with_created s peer o address) ≡ held w s
+created_holds w s peer None address = refl
+created_holds w s peer (Some n) address =
+    omega (arith, lent_counts w s, lent_counts w (with_created s peer (Some n) address), ap (count_by w) (found_asked n address s.requests))
+
+destroyed_holds : (w : Item → Bool) (s : DomainState) (peer : ℕ) (o : Option EndName) → held w (with_destroyed s peer o) ≡ held w s
+destroyed_holds w s peer None = refl
+destroyed_holds w s peer (Some n) = refl
+
+some_place : (o : Option ℕ) → is_some o ≡ true → (i : ℕ) × (o ≡ Some i)
+some_place None e = absurd cc
+some_place (Some i) e = (i, refl)
+
+handed_holds : (w : Item → Bool) (s : DomainState) (address : ℕ) (item : Item) → is_some (place_waiting_for s address) ≡ true → held w (with_handed s address item) ≡ held w s + one_if (w item)
+handed_holds w s address item waits =
+    let p = some_place (place_waiting_for s address) waits in
+    let at = waiting_tells s address p.0 p.1 in
+    omega (arith, lent_counts w s, lent_counts w (with_handed s address item), ap (λ o. count_by w (asked_items (changed (complete_with item) o s.requests))) p.1, lent_one_more w s item p.0 at.0 at.1 at.2)
+
+item_holds : (w : Item → Bool) (s : DomainState) (address : ℕ) (item : Item) → is_some (place_of_address s address) ≡ true → held w (with_item s address item) ≡ held w s + one_if (w item)
+item_holds w s address item there =
+    let p = some_place (place_of_address s address) there in
+    let at = position-tells (has_address_of address) s.endpoints p.0 p.1 in
+    omega (arith, ap (λ o. count_by w (flat_map (λ x. x.queue) (changed (queued_last item) o s.endpoints))) p.1, queued_one_more w s item p.0 at.0 at.1)
 
 -- a frame with the word of its row is held as an item, or its buffer is given back
-pub frame_counts : (w : Item → Bool) (s : DomainState) (peer : ℕ) → ((f : List ℕ) → w (item_of peer f) ≡ true) → (frame : List ℕ) (f : Fate) → option_map (λ r. r.word) (row_for s peer frame) ≡ Some f → held w (after_frame s peer frame) + gives_back f ≡ held w s + 1
-frame_counts w s peer counts frame f e =
-    row_counts w s (item_of peer frame) (counts frame) (fault frame) (is_letter frame) (slice_index (payload_of frame) 2 == 1) (place_of_address s (destination_of frame)) (place_waiting_for s (destination_of frame))
-    (λ i p. let t = position-tells (has_address_of (destination_of frame)) s.endpoints i p in (t.0, t.1)) (waiting_tells s (destination_of frame)) f e
+frame_counts : (w : Item → Bool) (b : Bool) (s : DomainState) (peer : ℕ) (frame : List ℕ) (f : Fate) → w (item_of peer frame) ≡ b → option_map (λ r. r.word) (row_for s peer frame) ≡ Some f → held w (after_frame s peer frame) + given_of b f ≡ held w s + one_if b
+frame_counts w b s peer frame f counts e = go (word_of (row_for s peer frame)) (after_frame s peer frame) (frame_word_is s peer frame f e) (frame_deals s peer frame)
+  where
+    go : (v : Fate) (after : DomainState) → v ≡ f → DealsWith s peer frame v after → held w after + given_of b f ≡ held w s + one_if b
+    go v after word (stays is gives) = omega (arith, ap (held w) is, ap (given_of b) (sym word), ap (λ k. cond k 0 (one_if b)) gives)
+    go v after word (learns is acted) = omega (arith, ap (held w) is, created_holds w s peer (announced_name peer frame) (announced_address frame), ap (given_of b) (sym word ∙ acted))
+    go v after word (forgets is acted) = omega (arith, ap (held w) is, destroyed_holds w s peer (announced_name peer frame), ap (given_of b) (sym word ∙ acted))
+    go v after word (hands is handed waits) = omega (arith, ap (held w) is, handed_holds w s (destination_of frame) (item_of peer frame) waits, ap (given_of b) (sym word ∙ handed), ap one_if counts)
+    go v after word (queues is queued there) = omega (arith, ap (held w) is, item_holds w s (destination_of frame) (item_of peer frame) there, ap (given_of b) (sym word ∙ queued), ap one_if counts)
 
+given_one : (f : Fate) → given_of true f ≡ one_if (not (keeps_buffer f))
+given_one f = go (keeps_buffer f)
+  where
+    go : (k : Bool) → cond k 0 1 ≡ one_if (not k)
+    go true = refl
+    go false = refl
+
+given_none : (f : Fate) → given_of false f ≡ 0
+given_none f = go (keeps_buffer f)
+  where
+    go : (k : Bool) → cond k 0 (one_if false) ≡ 0
+    go true = refl
+    go false = refl
+
+-- where all items of the peer count, and where none does
 pub takes_count : (w : Item → Bool) (s : DomainState) (peer : ℕ) → ((f : List ℕ) → w (item_of peer f) ≡ true) → (ts : List Taken) → HaveWords s peer ts → held w (after_takes s peer ts) + count_by (λ t. not (keeps_buffer t.fate)) ts ≡ held w s + length ts
 takes_count w s peer counts [] words = refl
 takes_count w s peer counts (t ∷ ts) words =
-    omega (arith, frame_counts w s peer counts t.frame t.fate words.0, takes_count w (after_frame s peer t.frame) peer counts ts words.1, count-cons (λ (x : Taken). not (keeps_buffer x.fate)) t ts)
+    omega (arith, frame_counts w true s peer t.frame t.fate (counts t.frame) words.0, given_one t.fate, takes_count w (after_frame s peer t.frame) peer counts ts words.1, count-cons (λ (x : Taken). not (keeps_buffer x.fate)) t ts)
+
+pub takes_none : (w : Item → Bool) (s : DomainState) (peer : ℕ) → ((f : List ℕ) → w (item_of peer f) ≡ false) → (ts : List Taken) → HaveWords s peer ts → held w (after_takes s peer ts) ≡ held w s
+takes_none w s peer counts [] words = refl
+takes_none w s peer counts (t ∷ ts) words =
+    omega (arith, frame_counts w false s peer t.frame t.fate (counts t.frame) words.0, given_none t.fate, takes_none w (after_frame s peer t.frame) peer counts ts words.1)

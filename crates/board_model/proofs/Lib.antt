@@ -1,12 +1,17 @@
+pub mod BoardsLawful
 pub mod BoardsOne
 pub mod CancelFrames
 pub mod CancelLaw
 pub mod CancelRuns
 pub mod Headlines
+pub mod LaneAlone
 pub mod LaneCalls
+pub mod LanePeers
+pub mod LaneRows
 pub mod LaneRuns
 pub mod LaneStates
 pub mod LaneTakes
+pub mod ListsApart
 pub mod ListsCounts
 pub mod ListsJoined
 pub mod MessageAlls
@@ -40,7 +45,9 @@ pub mod MessageTakes
 pub mod MessageTotals
 pub mod MessageTraffic
 pub mod MessageWaits
+pub mod PlaceBoards
 pub mod PlaceCounts
+pub mod PlaceOne
 pub mod RequestCounts
 pub mod SerialBoard
 pub mod SerialCalls

@@ -1,46 +1,42 @@
--- The four numbers of the lane of a board of one domain add up to its size.
-use Rattle.std.proofs.Common.{◌≡◌, ℕ, ◌+◌, ◌-◌, ◌≤◌, List, [], ◌∷◌, length, sum, refl, sym, ap, ap₂, ◌∙◌, subst, arith, length-append}
+-- The four numbers of each lane of a board of linked domains add up to its size.
+use Rattle.std.proofs.Common.{◌≡◌, ℕ, ◌+◌, ◌-◌, ◌≤◌, List, [], ◌∷◌, length, map, sum, find, Option, Some, None, option_map, refl, sym, ap, ◌∙◌, subst, arith, length-append}
+use Rattle.std.specs.Prelude.{◌==◌, unwrap_or}
 use Rattle.std.proofs.lemmas.List.{length-map}
 use Rattle.std.specs.List.{AllByRecursion}
 use Rattle.board_model.specs.declared.scenario.DomainLine.{DomainLine}
-use Rattle.board_model.specs.declared.scenario.CallLine.{CallLine}
 use Rattle.board_model.specs.declared.scenario.Scenario.{Scenario}
 use Rattle.board_model.specs.Lists.{IsPrefix}
-use Rattle.board_model.specs.Scenario.{lanes, script, neighbour}
-use Rattle.board_model.specs.Grammar.{IsLawful}
+use Rattle.board_model.specs.Scenario.{Neighbour, Lane, lane_to, lanes, neighbours, rising, script}
+use Rattle.board_model.specs.LinkedBoard.{Differ, IsLinkedBoard}
 use Rattle.board_model.specs.Journal.{PlainEntry}
-use Rattle.board_model.specs.State.{DomainState, free_to, held_from, queued_from, lent_from, new_peer}
+use Rattle.board_model.specs.State.{Peer, new_peer, free_to, held_from, queued_from, lent_from}
 use Rattle.board_model.specs.Traffic.{put_to, takes_from, taken_from, given, back_looks}
 use Rattle.board_model.specs.Run.{start, left_by, IsDomainRun}
-use Rattle.board_model.specs.Board.{DomainJournal, LaneFits, IsBoardRun}
-use Rattle.board_model.specs.Places.{places_of, EveryBuffer}
-use Rattle.board_model.proofs.LaneStates.{free_to_own}
-use Rattle.board_model.proofs.LaneRuns.{Sums, sums_run, waiting_none}
-use Rattle.board_model.proofs.BoardsOne.{board_of, is_board, own_lane, journal, journal_one, given_one, at_end_one, journals_one}
+use Rattle.board_model.specs.Board.{DomainJournal, journal_in, journal_of, given_by, given_back, LaneFits, IsBoardRun}
+use Rattle.board_model.specs.Places.{in_last_state, at_end, EveryBuffer}
+use Rattle.board_model.proofs.MessageAlls.{all-with, all-found}
+use Rattle.board_model.proofs.ListsApart.{all-map, all-unmap, all-joined, differ-found}
+use Rattle.board_model.proofs.LanePeers.{free_in, free_found}
+use Rattle.board_model.proofs.LaneRuns.{sums_run, waiting_none}
+use Rattle.board_model.proofs.BoardsOne.{is_of}
+use Rattle.board_model.proofs.PlaceBoards.{rising_differ, neighbours_differ}
 
--- at the start every buffer is free
-pub sums_start : (d : DomainLine) (calls : List CallLine) → Sums d.domain d.pool 0 0 0 0 (start (board_of d calls) d)
-sums_start d calls = record {
-  at = new_peer (neighbour d.domain d.pool);
-  one = refl;
-  quiet = record { number = refl; silent = refl; answered = refl };
-  frees = omega arith;
-  holds = refl;
-}
+-- ---- a run
 
--- the numbers of a whole run
-pub record Ends (n size puts backs takes gives : ℕ) (s : DomainState) : Type 0 where
-  pub free : free_to s n + puts ≡ size + backs
-  pub held : held_from n s + gives ≡ takes
+-- at a peer: buffers that are free at the start are free, put or came back; what was taken is held or was given back
+record Ends (s : Scenario) (d : DomainLine) (es : List PlainEntry) (n : ℕ) : Type 0 where
+  free : free_to (left_by s d es).state n + length (put_to n es) ≡ free_to (start s d).state n + sum (back_looks n es)
+  held : held_from n (left_by s d es).state + given (script s d.domain) (start s d) n es ≡ length (takes_from n es)
 
-pub run_ends : (d : DomainLine) (calls : List CallLine) (es : List PlainEntry) → IsDomainRun (board_of d calls) d es → Ends d.domain d.pool (length (put_to d.domain es)) (sum (back_looks d.domain es)) (length (takes_from d.domain es)) (given (script (board_of d calls) d.domain) (start (board_of d calls) d) d.domain es) (left_by (board_of d calls) d es).state
-run_ends d calls es run =
-    let s = board_of d calls in
-    let h = sums_run (script s d.domain) d.domain d.pool 0 0 0 0 (start s d) (left_by s d es) es run.steps (sums_start d calls) in
+run_ends : (s : Scenario) (d : DomainLine) (es : List PlainEntry) (n : ℕ) → IsDomainRun s d es → Ends s d es n
+run_ends s d es n run =
+    let h = sums_run (script s d.domain) n (free_to (start s d).state n) 0 0 0 0 (start s d) (left_by s d es) es run.steps (record { frees = omega arith; holds = refl }) in
     record {
-      free = omega (arith, h.frees, free_to_own (left_by s d es).state h.at d.domain h.one h.quiet.number, waiting_none d.domain (left_by s d es).put_since_turn run.settled);
+      free = omega (arith, h.frees, waiting_none n (left_by s d es).put_since_turn run.settled);
       held = omega (arith, h.holds);
     }
+
+-- ---- a lane
 
 prefix_length : {A : Type 0} (xs ys : List A) → IsPrefix xs ys → length xs ≤ length ys
 prefix_length xs ys p = omega (arith, ap length p.1, length-append xs p.0)
@@ -48,43 +44,76 @@ prefix_length xs ys p = omega (arith, ap length p.1, length-append xs p.0)
 places_add : (size free puts backs takes gives queue lent : ℕ) → free + puts ≡ size + backs → queue + lent + gives ≡ takes → takes ≤ puts → backs ≤ gives → free + (gives - backs) + (puts - takes) + queue + lent ≡ size
 places_add size free puts backs takes gives queue lent h1 h2 h3 h4 = omega arith
 
--- where the buffers are, by the one journal
-pub record AreAt (d : DomainLine) (calls : List CallLine) (es : List PlainEntry) : Type 0 where
-  pub free : (places_of (board_of d calls) (journal d es ∷ []) (own_lane d)).free ≡ free_to (left_by (board_of d calls) d es).state d.domain + (given (script (board_of d calls) d.domain) (start (board_of d calls) d) d.domain es - sum (back_looks d.domain es))
-  pub ring : (places_of (board_of d calls) (journal d es ∷ []) (own_lane d)).ring ≡ length (put_to d.domain es) - length (taken_from d.domain es)
-  pub queue : (places_of (board_of d calls) (journal d es ∷ []) (own_lane d)).queue ≡ queued_from d.domain (left_by (board_of d calls) d es).state
-  pub lent : (places_of (board_of d calls) (journal d es ∷ []) (own_lane d)).lent ≡ lent_from d.domain (left_by (board_of d calls) d es).state
+-- what the receiver holds, by its journal; one without a journal takes nothing
+record Receives (s : Scenario) (o : Option DomainJournal) (n : ℕ) : Type 0 where
+  held : in_last_state s (queued_from n) o + in_last_state s (lent_from n) o + given_by s o n ≡ length (taken_from n (journal_in o))
 
-pub are_at : (d : DomainLine) (calls : List CallLine) (es : List PlainEntry) → AreAt d calls es
-are_at d calls es =
-    let s = board_of d calls in
-    let n = d.domain in
-    record {
-      free = ap₂ ◌+◌ (at_end_one s d es (λ st. free_to st n)) (ap₂ ◌-◌ (given_one s d es n) (ap (λ (x : List PlainEntry). sum (back_looks n x)) (journal_one d es)));
-      ring = ap (λ (x : List PlainEntry). length (put_to n x) - length (taken_from n x)) (journal_one d es);
-      queue = at_end_one s d es (queued_from n);
-      lent = at_end_one s d es (lent_from n);
-    }
+receives : (s : Scenario) (js : List DomainJournal) (o : Option DomainJournal) (n : ℕ) → ((j : DomainJournal) → o ≡ Some j → IsDomainRun s j.line j.entries) → Receives s o n
+receives s js None n runs = record { held = refl }
+receives s js (Some j) n runs =
+    record { held = omega (arith, (run_ends s j.line j.entries n (runs j refl)).held, length-map (takes_from n j.entries) (λ t. t.frame)) }
 
--- every buffer of the one lane is at its place
-pub place_one : (d : DomainLine) (calls : List CallLine) (es : List PlainEntry) → IsBoardRun (board_of d calls) (journal d es ∷ []) → EveryBuffer (board_of d calls) (journal d es ∷ []) (own_lane d)
-place_one d calls es run =
-    let s = board_of d calls in
-    let n = d.domain in
-    let fits : LaneFits s (journal d es ∷ []) (own_lane d) = run.lanes_fit.0 in
-    let ends = run_ends d calls es run.domain_runs.0 in
-    let at = are_at d calls es in
-    let first : IsPrefix (taken_from n es) (put_to n es) = subst (λ (x : List PlainEntry). IsPrefix (taken_from n x) (put_to n x)) (journal_one d es) fits.taken_first in
-    let fewer : length (taken_from n es) ≤ length (put_to n es) = prefix_length (taken_from n es) (put_to n es) first in
-    let taken : length (taken_from n es) ≡ length (takes_from n es) = length-map (takes_from n es) (λ t. t.frame) in
-    let backs : sum (back_looks n es) ≤ given (script s n) (start s d) n es = omega (arith, fits.backs, given_one s d es n, ap (λ (x : List PlainEntry). sum (back_looks n x)) (journal_one d es)) in
-    let sums = places_add d.pool (free_to (left_by s d es).state n) (length (put_to n es)) (sum (back_looks n es)) (length (taken_from n es)) (given (script s n) (start s d) n es) (queued_from n (left_by s d es).state) (lent_from n (left_by s d es).state) ends.free (ends.held ∙ sym taken) fewer backs in
-    omega (arith, at.free, at.ring, at.queue, at.lent, sums)
+-- every buffer of the lane from a domain whose journal is this one
+pub lane_buffers : (s : Scenario) (js : List DomainJournal) (l : Lane) (j : DomainJournal) → AllByRecursion (λ k. IsDomainRun s k.line k.entries) js → find (is_of l.sender) js ≡ Some j → free_to (start s j.line).state l.receiver ≡ l.size → LaneFits s js l → EveryBuffer s js l
+lane_buffers s js l j runs found size fits =
+    let n = l.receiver in
+    let there = find (is_of l.receiver) js in
+    let sent = run_ends s j.line j.entries n (all-found (λ k. IsDomainRun s k.line k.entries) (is_of l.sender) js j runs found) in
+    let received = receives s js there l.sender (λ k at. all-found (λ x. IsDomainRun s x.line x.entries) (is_of l.receiver) js k runs at) in
+    let free = ap (in_last_state s (λ st. free_to st n)) found in
+    let puts = ap (λ (o : Option DomainJournal). length (put_to n (journal_in o))) found in
+    let backs = ap (λ (o : Option DomainJournal). sum (back_looks n (journal_in o))) found in
+    let fewer = prefix_length (taken_from l.sender (journal_of n js)) (put_to n (journal_of l.sender js)) fits.taken_first in
+    let sums = places_add l.size (free_to (left_by s j.line j.entries).state n) (length (put_to n j.entries)) (sum (back_looks n j.entries)) (length (taken_from l.sender (journal_of n js))) (given_back s js n l.sender)
+    (at_end s js n (queued_from l.sender)) (at_end s js n (lent_from l.sender)) (omega (arith, sent.free, size)) received.held (omega (arith, fewer, puts)) (omega (arith, fits.backs, backs)) in
+    omega (arith, sums, free, puts, backs)
 
-pub place_board : (d : DomainLine) (calls : List CallLine) (js : List DomainJournal) → IsBoardRun (board_of d calls) js → AllByRecursion (EveryBuffer (board_of d calls) js) (lanes (board_of d calls))
-place_board d calls js run = journals_one (λ ks. IsBoardRun (board_of d calls) ks → AllByRecursion (EveryBuffer (board_of d calls) ks) (lanes (board_of d calls))) d js run.each_domain (λ es r. (place_one d calls es r, tt)) run
+-- ---- all lanes
 
--- the place law
-pub every_buffer : (s : Scenario) (js : List DomainJournal) → IsLawful s → IsBoardRun s js → AllByRecursion (EveryBuffer s js) (lanes s)
-every_buffer s js lawful =
-    subst (λ (x : Scenario). IsBoardRun x js → AllByRecursion (EveryBuffer x js) (lanes x)) (sym (is_board s lawful)) (place_board lawful.domain s.calls js)
+-- at the start the lane to each neighbour has all its buffers free
+free_each : (ns : List Neighbour) → Differ (map (λ n. n.number) ns) → AllByRecursion (λ n. free_in n.number (map new_peer ns) ≡ n.size) ns
+free_each ns differ =
+    all-unmap-peers ns (differ-found (λ (p : Peer). p.number) (map new_peer ns) (subst Differ (sym (numbers_same ns)) differ))
+  where
+    numbers_same : (ms : List Neighbour) → map (λ p. p.number) (map new_peer ms) ≡ map (λ m. m.number) ms
+    numbers_same [] = refl
+    numbers_same (m ∷ ms) = ap (λ (ks : List ℕ). m.number ∷ ks) (numbers_same ms)
+
+    each : (ps : List Peer) (m : Neighbour) → find (λ p. p.number == m.number) ps ≡ Some (new_peer m) → free_in m.number ps ≡ m.size
+    each ps m found = ap (λ (o : Option Peer). unwrap_or (option_map (λ p. p.free) o) 0) found
+
+    all-unmap-peers : (ms : List Neighbour) → AllByRecursion (λ x. find (λ y. y.number == x.number) (map new_peer ms) ≡ Some x) (map new_peer ms) → AllByRecursion (λ m. free_in m.number (map new_peer ms) ≡ m.size) ms
+    all-unmap-peers ms all = go ms (all-unmap (λ x. find (λ y. y.number == x.number) (map new_peer ms) ≡ Some x) new_peer ms all)
+      where
+        go : (ks : List Neighbour) → AllByRecursion (λ k. find (λ y. y.number == k.number) (map new_peer ms) ≡ Some (new_peer k)) ks → AllByRecursion (λ k. free_in k.number (map new_peer ms) ≡ k.size) ks
+        go [] h = tt
+        go (k ∷ ks) h = (each (map new_peer ms) k h.0, go ks h.1)
+
+module _ (s : Scenario) (js : List DomainJournal) (board : IsLinkedBoard s) (run : IsBoardRun s js) where
+  abbrev Fits : Lane → Type 0
+  Fits l = LaneFits s js l → EveryBuffer s js l
+
+  lanes_from : (j : DomainJournal) → find (is_of j.line.domain) js ≡ Some j → AllByRecursion Fits (map (lane_to j.line.domain) (neighbours s j.line))
+  lanes_from j found = all-map Fits (lane_to j.line.domain) (neighbours s j.line) (go (neighbours s j.line) (free_each (neighbours s j.line) (neighbours_differ s board j.line)))
+    where
+      go : (ns : List Neighbour) → AllByRecursion (λ n. free_in n.number (map new_peer (neighbours s j.line)) ≡ n.size) ns → AllByRecursion (λ n. Fits (lane_to j.line.domain n)) ns
+      go [] all = tt
+      go (n ∷ ns) all =
+          (λ fits. lane_buffers s js (lane_to j.line.domain n) j run.domain_runs found (free_found (start s j.line).state n.number ∙ all.0) fits, go ns all.1)
+
+  journals_differ : Differ (map (λ j. j.line.domain) js)
+  journals_differ = subst Differ (sym (lines_of js ∙ ap (map (λ (d : DomainLine). d.domain)) run.each_domain)) (rising_differ s board)
+    where
+      lines_of : (ks : List DomainJournal) → map (λ j. j.line.domain) ks ≡ map (λ d. d.domain) (map (λ j. j.line) ks)
+      lines_of [] = refl
+      lines_of (k ∷ ks) = ap (λ (ns : List ℕ). k.line.domain ∷ ns) (lines_of ks)
+
+  lanes_each : (ks : List DomainJournal) → AllByRecursion (λ j. find (is_of j.line.domain) js ≡ Some j) ks → AllByRecursion (λ d. AllByRecursion Fits (map (lane_to d.domain) (neighbours s d))) (map (λ j. j.line) ks)
+  lanes_each [] all = tt
+  lanes_each (k ∷ ks) all = (lanes_from k all.0, lanes_each ks all.1)
+
+  -- on a board of linked domains every buffer is at its place
+  pub every_lane : AllByRecursion (EveryBuffer s js) (lanes s)
+  every_lane =
+      let of_domains = subst (AllByRecursion (λ (d : DomainLine). AllByRecursion Fits (map (lane_to d.domain) (neighbours s d)))) run.each_domain (lanes_each js (differ-found (λ (j : DomainJournal). j.line.domain) js journals_differ)) in
+      all-with (LaneFits s js) Fits (EveryBuffer s js) (λ l fits f. f fits) (lanes s) run.lanes_fit (all-joined Fits (λ (d : DomainLine). map (lane_to d.domain) (neighbours s d)) (rising s) of_domains)

@@ -11,7 +11,7 @@ use Rattle.board_model.specs.declared.scenario.CallLine.{CallLine}
 use Rattle.board_model.specs.declared.scenario.Scenario.{Scenario}
 use Rattle.board_model.specs.Scenario.{script, rising, lanes}
 use Rattle.board_model.specs.Grammar.{IsLawful}
-use Rattle.board_model.specs.Journal.{PlainEntry, turned, put, called, PlainAnswer, Visit, Line, turn_line, back_line, put_line, see_line, call_line, looked, taken_line, visit_lines, joined}
+use Rattle.board_model.specs.Journal.{PlainEntry, turned, put, again, called, PlainAnswer, Visit, Line, again_line, turn_line, back_line, put_line, see_line, call_line, looked, taken_line, visit_lines, joined}
 use Rattle.board_model.specs.State.{Endpoint, queued_items, queued_from, lent_from}
 use Rattle.board_model.specs.Step.{RunState}
 use Rattle.board_model.specs.Traffic.{visits_to, puts_in, takes_in, put_to, takes_from, taken_from}
@@ -22,13 +22,14 @@ use Rattle.board_model.specs.Answer.{answer, puts}
 use Rattle.board_model.specs.Serial.{Alone, Running, after_own_turn, own_call, opened, line_entries, after_line, entries_from, after_lines, serial}
 pub use Rattle.board_model.specs.Tallies.{is_put_line, is_take_line}
 use Rattle.board_model.proofs.ListsJoined.{entry_lines, sum-joined}
-use Rattle.board_model.proofs.LaneCalls.{goes_to, call_uses}
+use Rattle.board_model.proofs.LaneCalls.{goes_to}
+use Rattle.board_model.proofs.LaneAlone.{call_uses}
 use Rattle.board_model.proofs.BoardsOne.{board_of, is_board, own_lane, journal}
-use Rattle.board_model.proofs.PlaceCounts.{are_at, place_one}
+use Rattle.board_model.proofs.PlaceOne.{are_at, place_one}
 use Rattle.board_model.proofs.SerialStates.{Standing, standing_turn}
 use Rattle.board_model.proofs.SerialSteps.{between, standing_line}
 use Rattle.board_model.proofs.SerialTraffic.{after_turn_of}
-use Rattle.board_model.proofs.SerialBoard.{own_script, own_entries, own_end, standing_opened, own_left, own_ring, serial_one}
+use Rattle.board_model.proofs.SerialBoard.{AreUntried, lawful_untried, own_script, own_entries, own_end, standing_opened, own_left, own_ring, serial_one}
 
 -- ---- the lines of puts and takes
 
@@ -36,6 +37,7 @@ use Rattle.board_model.proofs.SerialBoard.{own_script, own_entries, own_end, sta
 abbrev pub IsOnlyWith : ℕ → PlainEntry → Type 0
 IsOnlyWith n (turned visits) = AllByRecursion (λ v. v.peer ≡ n) visits
 IsOnlyWith n (put to frame) = to ≡ n
+IsOnlyWith n (again word) = Unit {0}
 IsOnlyWith n (called k a) = Unit {0}
 
 looked-weighs : (f : Line → ℕ) (line : ℕ → Line) (n : ℕ) → f (line n) ≡ 0 → sum_by f (looked line n) ≡ 0
@@ -92,12 +94,14 @@ puts_weigh : (n : ℕ) (e : PlainEntry) → IsOnlyWith n e → length (puts_in n
 puts_weigh n (turned vs) only =
     omega (arith, ap (λ (us : List Visit). length (flat_map (λ v. v.owed) us)) (visits_all n vs only), turn_weighs is_put_line (λ v. v.owed) visit_puts vs, sum_by-cons (in_count is_put_line) turn_line (flat_map visit_lines vs))
 puts_weigh n (put to frame) only = ap (λ (b : Bool). length (cond b (frame ∷ []) [])) (eq-eqb to n only) ∙ omega (arith, sum_by-cons (in_count is_put_line) (put_line to frame) [])
+puts_weigh n (again word) only = omega (arith, sum_by-cons (in_count is_put_line) (again_line word) [])
 puts_weigh n (called k a) only = omega (arith, sum_by-cons (in_count is_put_line) (call_line k a) [])
 
 takes_weigh : (n : ℕ) (e : PlainEntry) → IsOnlyWith n e → length (takes_in n e) ≡ sum_by (in_count is_take_line) (entry_lines e)
 takes_weigh n (turned vs) only =
     omega (arith, ap (λ (us : List Visit). length (flat_map (λ v. v.takes) us)) (visits_all n vs only), turn_weighs is_take_line (λ v. v.takes) visit_takes vs, sum_by-cons (in_count is_take_line) turn_line (flat_map visit_lines vs))
 takes_weigh n (put to frame) only = omega (arith, sum_by-cons (in_count is_take_line) (put_line to frame) [])
+takes_weigh n (again word) only = omega (arith, sum_by-cons (in_count is_take_line) (again_line word) [])
 takes_weigh n (called k a) only = omega (arith, sum_by-cons (in_count is_take_line) (call_line k a) [])
 
 each_agrees : (P Q : PlainEntry → Type 0) → ((e : PlainEntry) → P e → Q e) → (es : List PlainEntry) → AllByRecursion P es → AllByRecursion Q es
@@ -108,14 +112,14 @@ each_agrees P Q f (e ∷ es) h = (f e h.0, each_agrees P Q f es h.1)
 pub put_lines : (n : ℕ) (es : List PlainEntry) → AllByRecursion (IsOnlyWith n) es → count_by is_put_line (joined es) ≡ length (put_to n es)
 put_lines n es only =
     let f = in_count is_put_line in
-    sum-joined f (λ e. length (puts_in n e)) (λ k. refl) refl es (each_agrees (IsOnlyWith n) (λ e. length (puts_in n e) ≡ sum_by f (entry_lines e)) (puts_weigh n) es only)
+    sum-joined f (λ e. length (puts_in n e)) (record { idle = λ k. refl; again = λ w. refl; spin = λ k w. refl; turn = refl }) es (each_agrees (IsOnlyWith n) (λ e. length (puts_in n e) ≡ sum_by f (entry_lines e)) (puts_weigh n) es only)
     ∙ sym (length-flat_map (puts_in n) es)
 
 -- and the take lines are the frames taken
 pub take_lines : (n : ℕ) (es : List PlainEntry) → AllByRecursion (IsOnlyWith n) es → count_by is_take_line (joined es) ≡ length (taken_from n es)
 take_lines n es only =
     let f = in_count is_take_line in
-    sum-joined f (λ e. length (takes_in n e)) (λ k. refl) refl es (each_agrees (IsOnlyWith n) (λ e. length (takes_in n e) ≡ sum_by f (entry_lines e)) (takes_weigh n) es only)
+    sum-joined f (λ e. length (takes_in n e)) (record { idle = λ k. refl; again = λ w. refl; spin = λ k w. refl; turn = refl }) es (each_agrees (IsOnlyWith n) (λ e. length (takes_in n e) ≡ sum_by f (entry_lines e)) (takes_weigh n) es only)
     ∙ sym (length-flat_map (takes_in n) es) ∙ sym (length-map (takes_from n es) (λ t. t.frame))
 
 -- ---- the serial journal is of the domain alone
@@ -132,7 +136,7 @@ only_line : (n size : ℕ) (r : Running) (j : ℕ) (line : CallLine) → Standin
 only_line n size r j line h =
     let s = (after_own_turn r.alone).state in
     let hb = standing_turn n size r.alone h in
-    let u = call_uses s line.node (own_call r line) hb.at n hb.one hb.quiet.number in
+    let u = call_uses s line.node (own_call r line) hb.at n hb.one (hb.quiet.number ∙ sym hb.number) hb.quiet.number in
     ((h.number, tt), only_rest n (puts s line.node (own_call r line)) j (answer s line.node (own_call r line)) u.all)
 
 pub only_lines : (n size : ℕ) (r : Running) (j : ℕ) (ls : List CallLine) → Standing n size r.alone → AllByRecursion (IsOnlyWith n) (entries_from r j ls)
@@ -155,7 +159,10 @@ serial_last s d = after_lines (opened d) (script s d.domain)
 abbrev pub serial_end : Scenario → DomainLine → Alone
 serial_end s d = (serial_last s d).alone
 
--- what holds of a board of one domain holds of a lawful scenario
+-- what holds of a board of one domain, or of one whose lines have no tries, holds of a lawful scenario
+pub untriedly : (P : Scenario → DomainLine → Type 0) → ((d : DomainLine) (calls : List CallLine) → AreUntried calls → P (board_of d calls) d) → (s : Scenario) (h : IsLawful s) → P s h.domain
+untriedly P f s h = subst (λ (x : Scenario). P x h.domain) (sym (is_board s h)) (f h.domain s.calls (lawful_untried s h))
+
 pub lawfully : (P : Scenario → DomainLine → Type 0) → ((d : DomainLine) (calls : List CallLine) → P (board_of d calls) d) → (s : Scenario) (h : IsLawful s) → P s h.domain
 lawfully P f s h = subst (λ (x : Scenario). P x h.domain) (sym (is_board s h)) (f h.domain s.calls)
 
@@ -183,7 +190,7 @@ serial_standing s h = standing_lines h.domain.domain h.domain.pool (opened h.dom
 
 -- the state that the serial run leaves
 pub serial_left : (s : Scenario) (h : IsLawful s) → left_by s h.domain (serial_entries s h.domain) ≡ between (serial_last s h.domain) (length (script s h.domain.domain))
-serial_left = lawfully (λ s d. left_by s d (serial_entries s d) ≡ between (serial_last s d) (length (script s d.domain))) own_left
+serial_left = untriedly (λ s d. left_by s d (serial_entries s d) ≡ between (serial_last s d) (length (script s d.domain))) own_left
 
 -- the ring that is left is what was put and not taken
 pub serial_ring : (s : Scenario) (h : IsLawful s) → (serial_end s h.domain).ring ≡ drop (length (taken_from h.domain.domain (serial_entries s h.domain))) (put_to h.domain.domain (serial_entries s h.domain))
@@ -206,23 +213,23 @@ serial_places_are s d =
 same_places : (n : ℕ) (f r q l f' r' q' l' : ℕ) → f ≡ f' → r ≡ r' → q ≡ q' → l ≡ l' → places n f r q l ≡ places n f' r' q' l'
 same_places n f r q l f' r' q' l' e1 e2 e3 e4 = cc
 
-own_places : (d : DomainLine) (calls : List CallLine) → places_of (board_of d calls) (serial (board_of d calls)) (own_lane d) ≡ serial_places_are (board_of d calls) d
-own_places d calls =
+own_places : (d : DomainLine) (calls : List CallLine) → AreUntried calls → places_of (board_of d calls) (serial (board_of d calls)) (own_lane d) ≡ serial_places_are (board_of d calls) d
+own_places d calls untried =
     let s = board_of d calls in
     let es = own_entries d calls in
     let n = d.domain in
     let p = places_of s (serial s) (own_lane d) in
     let st = (own_end d calls).alone.state in
     let at = are_at d calls es in
-    let all : p.free + p.ring + p.queue + p.lent ≡ d.pool = place_one d calls es (serial_one d calls).0 in
-    let queue : p.queue ≡ queued_from n st = at.queue ∙ ap (λ (r : RunState). queued_from n r.state) (own_left d calls) in
-    let lent : p.lent ≡ lent_from n st = at.lent ∙ ap (λ (r : RunState). lent_from n r.state) (own_left d calls) in
+    let all : p.free + p.ring + p.queue + p.lent ≡ d.pool = place_one d calls es (serial_one d calls untried).0 in
+    let queue : p.queue ≡ queued_from n st = at.queue ∙ ap (λ (r : RunState). queued_from n r.state) (own_left d calls untried) in
+    let lent : p.lent ≡ lent_from n st = at.lent ∙ ap (λ (r : RunState). lent_from n r.state) (own_left d calls untried) in
     let ring : p.ring ≡ ring_of s d = at.ring in
     let free : p.free ≡ d.pool - ring_of s d - queued_from n st - lent_from n st = omega arith in
     same_places n p.free p.ring p.queue p.lent (d.pool - ring_of s d - queued_from n st - lent_from n st) (ring_of s d) (queued_from n st) (lent_from n st) free ring queue lent
 
 pub serial_places : (s : Scenario) (h : IsLawful s) → places_of s (serial s) (own_lane h.domain) ≡ serial_places_are s h.domain
-serial_places = lawfully (λ s d. places_of s (serial s) (own_lane d) ≡ serial_places_are s d) own_places
+serial_places = untriedly (λ s d. places_of s (serial s) (own_lane d) ≡ serial_places_are s d) own_places
 
 -- ---- the queued messages
 
@@ -231,10 +238,10 @@ length-queued n [] = refl
 length-queued n (e ∷ es) =
     omega (arith, length-append (queued_at n e) (flat_map (queued_at n) es), length-append e.queue (flat_map (λ x. x.queue) es), length-map e.queue (queued_message n e.address), length-queued n es)
 
-own_queued : (d : DomainLine) (calls : List CallLine) → length (messages_queued (board_of d calls) (serial (board_of d calls))) ≡ length (queued_items (own_end d calls).alone.state)
-own_queued d calls =
+own_queued : (d : DomainLine) (calls : List CallLine) → AreUntried calls → length (messages_queued (board_of d calls) (serial (board_of d calls))) ≡ length (queued_items (own_end d calls).alone.state)
+own_queued d calls untried =
     let one = ap length (append-nil (queued_by (board_of d calls) (journal d (own_entries d calls)))) in
-    one ∙ ap (λ (r : RunState). length (flat_map (queued_at d.domain) r.state.endpoints)) (own_left d calls) ∙ length-queued d.domain (own_end d calls).alone.state.endpoints
+    one ∙ ap (λ (r : RunState). length (flat_map (queued_at d.domain) r.state.endpoints)) (own_left d calls untried) ∙ length-queued d.domain (own_end d calls).alone.state.endpoints
 
 pub serial_queued : (s : Scenario) (h : IsLawful s) → length (messages_queued s (serial s)) ≡ length (queued_items (serial_end s h.domain).state)
-serial_queued = lawfully (λ s d. length (messages_queued s (serial s)) ≡ length (queued_items (serial_end s d).state)) own_queued
+serial_queued = untriedly (λ s d. length (messages_queued s (serial s)) ≡ length (queued_items (serial_end s d).state)) own_queued

@@ -1,34 +1,38 @@
 -- Serials of requests along the serial run: those of the requests that stand are apart, no label's serial comes again, and
 -- all of them were given; so few lines are in a file that no serial is given twice.
-use Rattle.std.proofs.Common.{◌≡◌, ℕ, zero, suc, ◌+◌, ◌<◌, ◌≤◌, ◌^◌, Bool, true, false, ◌&&◌, cond, List, [], ◌∷◌, ◌++◌, length, map, Option, Some, None, position, option_map, option_and_then, option_to_list, refl, sym, ap, ◌∙◌, subst, inl, inr, arith, append-nil, length-append, mod-eq_of_lt, eq-eqb, eqb-true}
-use Rattle.std.specs.Prelude.{◌==◌, find, slice_index}
+use Rattle.std.proofs.Common.{◌≡◌, ℕ, zero, suc, ◌+◌, ◌<◌, ◌≤◌, ◌^◌, Bool, true, false, ◌&&◌, cond, List, [], ◌∷◌, ◌++◌, length, map, Option, Some, None, position, option_map, option_and_then, option_to_list, refl, sym, ap, ap₂, ◌∙◌, subst, inl, inr, arith, append-nil, length-append, mod-eq_of_lt, eq-eqb, eqb-true}
+use Rattle.std.specs.Prelude.{◌==◌, find}
 use Rattle.std.specs.List.{position_from, AllByRecursion}
 use Rattle.std.specs.Str.{bytes_eq}
 use Rattle.std.proofs.lemmas.Bool.Decides.{eqb_tells}
 use Rattle.std.proofs.lemmas.Iterator.Adapters.{position_from-zero}
 use Rattle.std.proofs.lemmas.List.{map-append}
 use Rattle.std.proofs.lemmas.List.Sums.{length-filter, count_by-le-length}
-use Rattle.mc_base.specs.Frame.{destination_of, payload_of}
-use Rattle.mc_base.specs.Fault.{fault}
-use Rattle.mc_base.specs.declared.fault.Fault.{Fault}
+use Rattle.mc_base.specs.Frame.{destination_of}
+use Rattle.mc_base.specs.FullName.{end_name}
+use Rattle.mc_base.specs.declared.name.Local.{Local}
+use Rattle.mc_base.specs.declared.name.EndName.{EndName}
+use Rattle.mc_base.specs.declared.fate.Fate.{Fate}
 use Rattle.mc_base.specs.declared.refusal.Refusal.{Refusal}
+use Rattle.mc_base.specs.declared.refusal.Refusal.TheVariants.{EndpInvalid}
 use Rattle.board_model.specs.declared.scenario.CallLine.{CallLine}
 use Rattle.board_model.specs.declared.scenario.DomainLine.{DomainLine}
 use Rattle.board_model.specs.declared.scenario.Scenario.{Scenario}
-use Rattle.board_model.specs.DomainCall.{DomainCall, create_at, send_from, receive_at, request_at, available_at, test_of, cancel_of}
+use Rattle.board_model.specs.DomainCall.{DomainCall, create_at, delete_at, lookup_of, send_from, receive_at, request_at, available_at, test_of, cancel_of, turn_alone}
 use Rattle.board_model.specs.Lists.{without_at, without}
 use Rattle.board_model.specs.Scenario.{script, label_in}
 use Rattle.board_model.specs.Grammar.{IsLawful}
 use Rattle.board_model.specs.Journal.{Visit, Taken}
-use Rattle.board_model.specs.State.{DomainState, Item, Request, has_serial, place_of_request, place_of_address, place_waiting_for}
-use Rattle.board_model.specs.Dealing.{is_letter, item_of, complete_with, left_by, after_frame, after_takes}
+use Rattle.board_model.specs.State.{DomainState, Request, has_address, has_ended, has_serial, place_of_request, waits_at, place_waiting_for}
+use Rattle.board_model.specs.Dealing.{item_of, complete_with, looks_for, found_for, with_created, with_destroyed, announced_name, announced_address, row_for, after_frame, after_takes}
 use Rattle.board_model.specs.Turn.{after_looks, after_visit, after_turn}
-use Rattle.board_model.specs.Answer.{refusal, unless_refused}
-use Rattle.board_model.specs.Effect.{success_effect, effect}
+use Rattle.board_model.specs.Answer.{local, refusal, unless_refused}
+use Rattle.board_model.specs.Effect.{ended_by_word, success_effect, effect}
 use Rattle.board_model.specs.Labels.{Labelled, serial_of, place_of_label, call_of, success_request, request_given, with_label, labels_after}
-use Rattle.board_model.specs.Serial.{Running, own_turn, after_own_turn, after_line, after_lines, opened}
+use Rattle.board_model.specs.Serial.{word_of, Running, own_turn, after_own_turn, after_line, after_lines, opened}
 use Rattle.board_model.proofs.ListsCounts.{one_if, count-cons, count-append, count-without, map-changed}
-use Rattle.board_model.proofs.LaneTakes.{row_by, takes_keep}
+use Rattle.board_model.proofs.LaneRows.{stays, learns, forgets, hands, queues, DealsWith, frame_deals}
+use Rattle.board_model.proofs.LaneTakes.{takes_keep}
 use Rattle.board_model.proofs.MessageAlls.{all-append, all-weaken, all-without, all-found}
 use Rattle.board_model.proofs.RequestCounts.{times, other_none, one_at_most}
 
@@ -49,20 +53,47 @@ pub record Serials (k : ℕ) (s : DomainState) (labels : List Labelled) : Type 0
 
 -- ---- turns
 
-row_serials : (s : DomainState) (item : Item) (o : Option Fault) (letter kind : Bool) (place waiting : Option ℕ) → serials (left_by s (row_by s item o letter kind place waiting)) ≡ serials s
-row_serials s item (Some x) letter kind place waiting = refl
-row_serials s item None false kind place waiting = refl
-row_serials s item None true kind None waiting = refl
-row_serials s item None true true (Some i) None = refl
-row_serials s item None true true (Some i) (Some j) = map-changed (λ r. r.serial) (complete_with item) (λ r. refl) (Some j) s.requests
-row_serials s item None true false (Some i) waiting = refl
+-- a part that stays when each item changes
+map-kept : {A B : Type 0} (g : A → B) (f : A → A) → ((x : A) → g (f x) ≡ g x) → (xs : List A) → map g (map f xs) ≡ map g xs
+map-kept g f same [] = refl
+map-kept {A} {B} g f same (x ∷ xs) = ap₂ (λ (y : B) (ys : List B). y ∷ ys) (same x) (map-kept g f same xs)
+
+found_serial : (n : EndName) (address : ℕ) (r : Request) → (found_for n address r).serial ≡ r.serial
+found_serial n address r = go (looks_for n r)
+  where
+    go : (b : Bool) → (cond b (record r { outcome = Some (has_address address) }) r).serial ≡ r.serial
+    go true = refl
+    go false = refl
+
+ended_serial : (w : Refusal) (at : Local) (r : Request) → (ended_by_word w at r).serial ≡ r.serial
+ended_serial w at r = go (waits_at at r)
+  where
+    go : (b : Bool) → (cond b (record r { outcome = Some (has_ended w) }) r).serial ≡ r.serial
+    go true = refl
+    go false = refl
+
+created_serials : (s : DomainState) (peer : ℕ) (o : Option EndName) (address : ℕ) → serials (with_created s peer o address) ≡ serials s
+created_serials s peer None address = refl
+created_serials s peer (Some n) address = map-kept (λ r. r.serial) (found_for n address) (found_serial n address) s.requests
+
+destroyed_serials : (s : DomainState) (peer : ℕ) (o : Option EndName) → serials (with_destroyed s peer o) ≡ serials s
+destroyed_serials s peer None = refl
+destroyed_serials s peer (Some n) = refl
 
 -- no frame gives or ends a request
+frame_serials : (s : DomainState) (peer : ℕ) (frame : List ℕ) → serials (after_frame s peer frame) ≡ serials s
+frame_serials s peer frame = go (word_of (row_for s peer frame)) (after_frame s peer frame) (frame_deals s peer frame)
+  where
+    go : (w : Fate) (after : DomainState) → DealsWith s peer frame w after → serials after ≡ serials s
+    go w after (stays is gives) = ap serials is
+    go w after (learns is word) = ap serials is ∙ created_serials s peer (announced_name peer frame) (announced_address frame)
+    go w after (forgets is word) = ap serials is ∙ destroyed_serials s peer (announced_name peer frame)
+    go w after (hands is word waits) = ap serials is ∙ map-changed (λ r. r.serial) (complete_with (item_of peer frame)) (λ r. refl) (place_waiting_for s (destination_of frame)) s.requests
+    go w after (queues is word there) = ap serials is
+
 takes_serials : (s : DomainState) (peer : ℕ) (ts : List Taken) → serials (after_takes s peer ts) ≡ serials s
 takes_serials s peer [] = refl
-takes_serials s peer (t ∷ ts) =
-    takes_serials (after_frame s peer t.frame) peer ts
-    ∙ row_serials s (item_of peer t.frame) (fault t.frame) (is_letter t.frame) (slice_index (payload_of t.frame) 2 == 1) (place_of_address s (destination_of t.frame)) (place_waiting_for s (destination_of t.frame))
+takes_serials s peer (t ∷ ts) = takes_serials (after_frame s peer t.frame) peer ts ∙ frame_serials s peer t.frame
 
 pub turn_serials : (s : DomainState) (vs : List Visit) → serials (after_turn s vs) ≡ serials s
 turn_serials s [] = refl
@@ -70,7 +101,7 @@ turn_serials s (v ∷ vs) = turn_serials (after_visit s v) vs ∙ takes_serials 
 
 pub turn_gives : (s : DomainState) (vs : List Visit) → (after_turn s vs).requests_given ≡ s.requests_given
 turn_gives s [] = refl
-turn_gives s (v ∷ vs) = turn_gives (after_visit s v) vs ∙ takes_keep (λ t. t.requests_given) (after_looks s v) v.peer v.takes (λ t es rs. refl)
+turn_gives s (v ∷ vs) = turn_gives (after_visit s v) vs ∙ takes_keep (λ t. t.requests_given) (after_looks s v) v.peer v.takes (λ t es rs ps. refl)
 
 pub serials_turn : (k : ℕ) (s : DomainState) (labels : List Labelled) (vs : List Visit) → Serials k s labels → Serials k (after_turn s vs) labels
 serials_turn k s labels vs h =
@@ -104,13 +135,18 @@ map-without f None xs = refl
 map-without f (Some i) xs = map-without_at f i xs
 
 success_serials : (s : DomainState) (node : ℕ) (call : DomainCall) → serials (success_effect s node call) ≡ without (success_ended call) (serials s) ++ option_to_list (success_request s call)
-success_serials s node (create_at port) = sym (append-nil (serials s))
+success_serials s node (create_at port) =
+    map-kept (λ r. r.serial) (found_for (end_name s.number (local node port)) (1024 + s.endpoints_given)) (found_serial (end_name s.number (local node port)) (1024 + s.endpoints_given)) s.requests ∙ sym (append-nil (serials s))
+success_serials s node (delete_at port) =
+    map-kept (λ r. r.serial) (ended_by_word EndpInvalid (local node port)) (ended_serial EndpInvalid (local node port)) s.requests ∙ sym (append-nil (serials s))
+success_serials s node (lookup_of name) = map-append (λ r. r.serial) s.requests _
 success_serials s node (send_from port to priority bytes) = sym (append-nil (serials s))
 success_serials s node (receive_at port max) = sym (append-nil (serials s))
 success_serials s node (request_at port max) = map-append (λ r. r.serial) s.requests _
 success_serials s node (available_at port) = sym (append-nil (serials s))
 success_serials s node (test_of p) = map-without (λ r. r.serial) p s.requests ∙ sym (append-nil (without p (serials s)))
 success_serials s node (cancel_of p) = map-without (λ r. r.serial) p s.requests ∙ sym (append-nil (without p (serials s)))
+success_serials s node turn_alone = sym (append-nil (serials s))
 
 -- the request that a call ends is gone, and one that it gives comes last
 pub call_serials : (s : DomainState) (node : ℕ) (call : DomainCall) → serials (effect s node call) ≡ without (request_ended s node call) (serials s) ++ option_to_list (request_given s node call)
@@ -122,12 +158,15 @@ call_serials s node call = go (refusal s node call)
 
 success_gives : (s : DomainState) (node : ℕ) (call : DomainCall) → s.requests_given + 1 < 2 ^ 64 → (success_effect s node call).requests_given ≡ s.requests_given + length (option_to_list (success_request s call))
 success_gives s node (create_at port) small = omega arith
+success_gives s node (delete_at port) small = omega arith
+success_gives s node (lookup_of name) small = mod-eq_of_lt small
 success_gives s node (send_from port to priority bytes) small = omega arith
 success_gives s node (receive_at port max) small = omega arith
 success_gives s node (request_at port max) small = mod-eq_of_lt small
 success_gives s node (available_at port) small = omega arith
 success_gives s node (test_of p) small = omega arith
 success_gives s node (cancel_of p) small = omega arith
+success_gives s node turn_alone small = omega arith
 
 pub call_gives : (s : DomainState) (node : ℕ) (call : DomainCall) → s.requests_given + 1 < 2 ^ 64 → (effect s node call).requests_given ≡ s.requests_given + length (option_to_list (request_given s node call))
 call_gives s node call small = go (refusal s node call)
@@ -139,12 +178,15 @@ call_gives s node call small = go (refusal s node call)
 -- the serial that is given is the number of requests that were given before
 success_is : (s : DomainState) (call : DomainCall) (m : ℕ) → success_request s call ≡ Some m → m ≡ s.requests_given
 success_is s (create_at port) m e = absurd cc
+success_is s (delete_at port) m e = absurd cc
+success_is s (lookup_of name) m e = cc
 success_is s (send_from port to priority bytes) m e = absurd cc
 success_is s (receive_at port max) m e = absurd cc
 success_is s (request_at port max) m e = cc
 success_is s (available_at port) m e = absurd cc
 success_is s (test_of p) m e = absurd cc
 success_is s (cancel_of p) m e = absurd cc
+success_is s turn_alone m e = absurd cc
 
 pub given_is : (s : DomainState) (node : ℕ) (call : DomainCall) (m : ℕ) → request_given s node call ≡ Some m → m ≡ s.requests_given
 given_is s node call m e = go (refusal s node call) e

@@ -17,12 +17,12 @@ use Rattle.board_model.specs.Traffic.{visits_to, puts_in, takes_in, put_to, take
 use Rattle.board_model.specs.Run.{after_all}
 use Rattle.board_model.specs.Board.{SeeAtMost, SeesAtMost}
 use Rattle.board_model.specs.Serial.{Running, own_frames, own_visit, own_turn, after_own_turn, own_call, frame_put, put_entry, line_entries, after_line, entries_from, after_lines}
-use Rattle.board_model.proofs.LaneCalls.{goes_to, call_uses}
-use Rattle.board_model.proofs.LaneRuns.{visits_one, turn_puts, turn_takes, turn_backs}
+use Rattle.board_model.proofs.LaneCalls.{goes_to}
+use Rattle.board_model.proofs.LaneAlone.{visits_one, turn_puts, turn_takes, turn_backs, call_uses}
 use Rattle.board_model.proofs.SerialFrames.{frames-dealt}
 use Rattle.board_model.proofs.SerialStates.{Standing, own_due_none, own_frames_are, own_taken, own_looks, own_takes_many, standing_turn}
 use Rattle.board_model.proofs.SerialCalls.{call_own}
-use Rattle.board_model.proofs.SerialSteps.{between, turned_with, leads_to, leads_line, standing_line, next_of, later_of}
+use Rattle.board_model.proofs.SerialSteps.{IsUntried, between, turned_with, leads_to, leads_line, standing_line, next_of, later_of}
 
 -- ---- what comes after the turn of a line
 
@@ -55,7 +55,7 @@ pub line_puts : (n size : ℕ) (r : Running) (j : ℕ) (line : CallLine) → Sta
 line_puts n size r j line h =
     let b = after_own_turn r.alone in
     let hb = standing_turn n size r.alone h in
-    let u = call_uses b.state line.node (own_call r line) hb.at n hb.one hb.quiet.number in
+    let u = call_uses b.state line.node (own_call r line) hb.at n hb.one (hb.quiet.number ∙ sym hb.number) hb.quiet.number in
     ap₂ (λ (xs ys : List (List ℕ)). xs ++ ys) (turn_puts n (own_visit r.alone) h.number ∙ own_due_none n size r.alone h) (puts_rest n (puts b.state line.node (own_call r line)) j (answer b.state line.node (own_call r line)) u.all)
 
 pub line_takes : (n size : ℕ) (r : Running) (j : ℕ) (line : CallLine) → Standing n size r.alone → takes_from n (line_entries r j line) ≡ (own_visit r.alone).takes
@@ -115,16 +115,16 @@ given-append script r n [] fs = omega arith
 given-append script r n (e ∷ es) fs = omega (arith, given-append script (after script r e) n es fs)
 
 -- the buffers that come back are those given back, but for the last ones
-pub backs_lines : (n size : ℕ) (script : List CallLine) (r : Running) (k : ℕ) (ls : List CallLine) → Standing n size r.alone → drop k script ≡ ls → r.alone.returned + given script (between r k) n (entries_from r (k + 1) ls) ≡ sum (back_looks n (entries_from r (k + 1) ls)) + (after_lines r ls).alone.returned
-backs_lines n size script r k [] h e = omega arith
-backs_lines n size script r k (line ∷ ls) h e =
+pub backs_lines : (n size : ℕ) (script : List CallLine) (r : Running) (k : ℕ) (ls : List CallLine) → Standing n size r.alone → drop k script ≡ ls → AllByRecursion IsUntried ls → r.alone.returned + given script (between r k) n (entries_from r (k + 1) ls) ≡ sum (back_looks n (entries_from r (k + 1) ls)) + (after_lines r ls).alone.returned
+backs_lines n size script r k [] h e untried = omega arith
+backs_lines n size script r k (line ∷ ls) h e untried =
     let one = line_entries r (k + 1) line in
     let c = after_line r line in
     let rest = entries_from c (k + 1 + 1) ls in
     let here = next_of script k line ls e in
-    let ih = backs_lines n size script c (k + 1) ls (standing_line n size r line h) (later_of script k line ls e) in
+    let ih = backs_lines n size script c (k + 1) ls (standing_line n size r line h) (later_of script k line ls e) untried.1 in
     let all = given-append script (between r k) n one rest in
-    let mid = ap (λ (x : RunState). given script x n rest) (leads_to script (between r k) (between c (k + 1)) one (leads_line n size script r k line h here)) in
+    let mid = ap (λ (x : RunState). given script x n rest) (leads_to script (between r k) (between c (k + 1)) one (leads_line n size script r k line h here untried.0)) in
     let first = line_given n size script r k (k + 1) line h here in
     let looks = ap sum (flat_map-append (backs_in n) one rest) ∙ sum_by-append (λ x. x) (back_looks n one) (back_looks n rest) in
     let look = ap sum (line_backs n size r (k + 1) line h) in

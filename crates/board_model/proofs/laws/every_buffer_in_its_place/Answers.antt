@@ -1,4 +1,4 @@
-use Rattle.board_model.proofs.PlaceCounts.{every_buffer}
+use Rattle.board_model.proofs.PlaceOne.{every_buffer}
 use Rattle.board_model.proofs.laws.every_buffer_in_its_place.Goals as goal
 
 pub returns : goal.returns
