@@ -40,6 +40,7 @@ pub mod MessageQueues
 pub mod MessageRanks
 pub mod MessageRuns
 pub mod MessageSends
+pub mod MessageSilent
 pub mod MessageSums
 pub mod MessageTakes
 pub mod MessageTotals

@@ -1,7 +1,7 @@
 -- What holds of every item of a list, through searches, filters, joins and changes.
-use Rattle.std.proofs.Common.{◌≡◌, ℕ, zero, suc, Bool, true, false, cond, List, [], ◌∷◌, ◌++◌, map, take, drop, Option, Some, None, refl, subst}
+use Rattle.std.proofs.Common.{◌≡◌, ℕ, zero, suc, Bool, true, false, cond, List, [], ◌∷◌, ◌++◌, take, drop, Option, Some, None, refl, subst}
 use Rattle.std.specs.Prelude.{find, filter, slice_get}
-use Rattle.std.specs.List.{AllByRecursion, flat_map}
+use Rattle.std.specs.List.{AllByRecursion}
 use Rattle.std.proofs.lemmas.Bool.{cond_both}
 use Rattle.board_model.specs.Lists.{changed_at, changed, without_at, without}
 use Rattle.board_model.proofs.MessageLists.{changed_first, without_first}
@@ -93,18 +93,6 @@ pub all-without-first : {A : Type 0} (P : A → Type 0) (p : A → Bool) (xs : L
 all-without-first P p [] all = tt
 all-without-first P p (x ∷ xs) all =
     cond_both (p x) xs (x ∷ without_first p xs) (λ ys. AllByRecursion P ys) (λ here. all.1) (λ other. (all.0, all-without-first P p xs all.1))
-
-pub all-map : {A B : Type 0} (P : A → Type 0) (Q : B → Type 0) (f : A → B) (keeps : (x : A) → P x → Q (f x)) (xs : List A) → AllByRecursion P xs → AllByRecursion Q (map f xs)
-all-map P Q f keeps [] all = tt
-all-map P Q f keeps (x ∷ xs) all = (keeps x all.0, all-map P Q f keeps xs all.1)
-
-pub all-unmap : {A B : Type 0} (P : B → Type 0) (f : A → B) (xs : List A) → AllByRecursion P (map f xs) → AllByRecursion (λ x. P (f x)) xs
-all-unmap P f [] all = tt
-all-unmap P f (x ∷ xs) all = (all.0, all-unmap P f xs all.1)
-
-pub all-joined : {A B : Type 0} (P : B → Type 0) (f : A → List B) (xs : List A) → AllByRecursion (λ x. AllByRecursion P (f x)) xs → AllByRecursion P (flat_map f xs)
-all-joined P f [] all = tt
-all-joined P f (x ∷ xs) all = all-append P (f x) (flat_map f xs) all.0 (all-joined P f xs all.1)
 
 pub all-take : {A : Type 0} (P : A → Type 0) (n : ℕ) (xs : List A) → AllByRecursion P xs → AllByRecursion P (take n xs)
 all-take P zero xs all = tt

@@ -1,14 +1,13 @@
 -- On a board of linked domains no message is lost. Lane by lane, the messages of the frames put are those of the frames taken and
 -- of those in the ring; and domain by domain, those taken from all peers were received or dropped, or are queued.
-use Rattle.std.proofs.Common.{◌≡◌, ℕ, ◌+◌, ◌≤◌, Bool, true, false, cond, List, [], ◌∷◌, map, drop, length, Some, refl, sym, ap, ◌∙◌, arith}
+use Rattle.std.proofs.Common.{◌≡◌, ℕ, ◌+◌, Bool, List, [], ◌∷◌, map, drop, length, Some, refl, sym, ap, ◌∙◌, subst, arith}
 use Rattle.std.specs.Prelude.{count_by, find, ◌==◌}
 use Rattle.std.specs.List.{AllByRecursion, flat_map}
 use Rattle.std.proofs.lemmas.List.{drop_at}
-use Rattle.std.proofs.lemmas.Bool.{eq-eqb}
 use Rattle.board_model.specs.declared.scenario.DomainLine.{DomainLine}
 use Rattle.board_model.specs.declared.scenario.Scenario.{Scenario}
 use Rattle.board_model.specs.Scenario.{script, Neighbour, Lane, lane_to, lanes, neighbours, rising}
-use Rattle.board_model.specs.LinkedBoard.{IsLinkedBoard}
+use Rattle.board_model.specs.LinkedBoard.{Differ, IsLinkedBoard}
 use Rattle.board_model.specs.Traffic.{put_to, taken_from}
 use Rattle.board_model.specs.Run.{start, IsDomainRun}
 use Rattle.board_model.specs.Board.{DomainJournal, journal_in, journal_of, LaneFits, IsBoardRun}
@@ -19,67 +18,32 @@ use Rattle.board_model.specs.Headline.{NoMessageLost}
 use Rattle.board_model.proofs.MessageAlls.{all-with}
 use Rattle.board_model.proofs.MessageRuns.{stands_start, run_allowed}
 use Rattle.board_model.proofs.MessageBalance.{carried_in, run_count}
-use Rattle.board_model.proofs.MessageOnce.{total, total-each, total-same, total-sum, total-map, total-joined, count-joined, times}
-use Rattle.board_model.proofs.MessageNeighbours.{neighbours-few, rising-few, over_lanes, lanes-turned}
+use Rattle.board_model.proofs.MessageOnce.{total, total-each, total-same, total-sum, total-map, total-joined, count-joined, differ-few}
+use Rattle.board_model.proofs.MessageNeighbours.{over_lanes, lanes-turned}
+use Rattle.board_model.proofs.ListsApart.{differ-found}
+use Rattle.board_model.proofs.PlaceBoards.{rising_differ, neighbours_differ}
 use Rattle.board_model.proofs.MessageLinked.{numbers_of, linked-start, Fits, run-fits}
 use Rattle.board_model.proofs.MessageTraffic.{AreFew, passing, passing-append, accepted-peers, carried-peers}
 
--- ---- each domain has one journal
+-- ---- a journal
 
--- how often the domain of a journal comes
-abbrev comes : List DomainJournal → ℕ → ℕ
-comes js n = times (λ j. j.line.domain) n js
-
-none_other_here : (b : Bool) (k : ℕ) → cond b 1 0 + k ≡ 0 → (b ≡ false) × (k ≡ 0)
-none_other_here true k none = absurd (omega arith)
-none_other_here false k none = (refl, omega arith)
-
-none_other : (n : ℕ) (js : List DomainJournal) → comes js n ≡ 0 → AllByRecursion (λ j. n == j.line.domain ≡ false) js
-none_other n [] none = tt
-none_other n (j ∷ js) none = let parts = none_other_here (n == j.line.domain) (comes js n) none in (parts.0, none_other n js parts.1)
-
--- it is the one that is found
+-- it is the one that is found by its domain
 abbrev IsFound : List DomainJournal → DomainJournal → Type 0
 IsFound js j = find (λ k. k.line.domain == j.line.domain) js ≡ Some j
 
-found_first : (j : DomainJournal) (js : List DomainJournal) → IsFound (j ∷ js) j
-found_first j js = ap (λ (b : Bool). cond b (Some j) (find (λ k. k.line.domain == j.line.domain) js)) (eq-eqb j.line.domain j.line.domain refl)
-
-found_later : (j k : DomainJournal) (js : List DomainJournal) → (j.line.domain == k.line.domain) ≡ false → IsFound js k → IsFound (j ∷ js) k
-found_later j k js other found = ap (λ (b : Bool). cond b (Some j) (find (λ i. i.line.domain == k.line.domain) js)) other ∙ found
-
-one_alone : (b : Bool) (k : ℕ) → b ≡ true → cond b 1 0 + k ≤ 1 → k ≡ 0
-one_alone true k is few = omega arith
-one_alone false k is few = absurd cc
-
-head_alone : (j : DomainJournal) (js : List DomainJournal) → comes (j ∷ js) j.line.domain ≤ 1 → comes js j.line.domain ≡ 0
-head_alone j js few = one_alone (j.line.domain == j.line.domain) (comes js j.line.domain) (eq-eqb j.line.domain j.line.domain refl) few
-
-fewer : (b : Bool) (k : ℕ) → cond b 1 0 + k ≤ 1 → k ≤ 1
-fewer true k few = omega arith
-fewer false k few = omega arith
-
-each_found : (js : List DomainJournal) → ((n : ℕ) → comes js n ≤ 1) → AllByRecursion (IsFound js) js
-each_found [] few = tt
-each_found (j ∷ js) few = (
-  found_first j js,
-  all-with (λ k. j.line.domain == k.line.domain ≡ false) (IsFound js) (IsFound (j ∷ js)) (λ k other found. found_later j k js other found) js
-      (none_other j.line.domain js (head_alone j js (few j.line.domain)))
-      (each_found js (λ n. fewer (n == j.line.domain) (comes js n) (few n))),
-)
+domains_of : (js : List DomainJournal) → map (λ j. j.line.domain) js ≡ map (λ d. d.domain) (map (λ j. j.line) js)
+domains_of [] = refl
+domains_of (j ∷ js) = ap (λ ns. j.line.domain ∷ ns) (domains_of js)
 
 each_journal : (s : Scenario) (js : List DomainJournal) → IsLinkedBoard s → IsBoardRun s js → AllByRecursion (IsFound js) js
 each_journal s js board run =
-    each_found js (λ n. let few : times (λ d. d.domain) n (map (λ j. j.line) js) ≤ 1 = rw (run.each_domain) (rising-few s n board) in
-    omega (arith, total-map (λ d. cond (n == d.domain) 1 0) (λ (j : DomainJournal). j.line) js))
-
--- ---- a journal
+    differ-found (λ j. j.line.domain) js (subst Differ (sym (domains_of js ∙ ap (map (λ (d : DomainLine). d.domain)) run.each_domain)) (rising_differ s board))
 
 run_fits : (s : Scenario) (j : DomainJournal) → IsDomainRun s j.line j.entries → AllByRecursion (Fits (numbers_of s j.line)) j.entries
 run_fits s j run = run-fits (script s j.line.domain) (numbers_of s j.line) (start s j.line) j.entries (run_allowed s j run) run.settled (linked-start s j.line)
 
 few_numbers : (s : Scenario) (d : DomainLine) → IsLinkedBoard s → AreFew (numbers_of s d)
-few_numbers s d board n = omega (arith, neighbours-few s d n board, total-map (λ m. cond (n == m) 1 0) (λ (k : Neighbour). k.number) (neighbours s d))
+few_numbers s d board n = differ-few n (numbers_of s d) (neighbours_differ s board d)
 
 module _ (test : Message → Bool) (s : Scenario) (js : List DomainJournal) where
   -- what passes the test of the messages that were put from one domain to another, of those taken there, and of those in the ring

@@ -20,7 +20,7 @@ use Rattle.board_model.specs.Messages.{messages_in, accepted_in, ring_messages, 
 use Rattle.board_model.specs.Headline.{NoMessageLost}
 use Rattle.board_model.proofs.MessageTakes.{messages_in-append}
 use Rattle.board_model.proofs.MessageRuns.{AllAllowed, run_allowed}
-use Rattle.board_model.proofs.MessageLawful.{lawful-board}
+use Rattle.board_model.proofs.BoardsLawful.{lawful_linked}
 use Rattle.board_model.proofs.MessageBoard.{no-message-lost}
 use Rattle.board_model.proofs.MessageLane.{OwnLane, own_entry, own_start, own_visits, alone, PutTo, puts-own}
 
@@ -123,4 +123,4 @@ ring_one s j one links =
 
 -- no message is lost
 pub no_message_lost : (s : Scenario) (js : List DomainJournal) → IsLawful s → IsBoardRun s js → NoMessageLost s js
-no_message_lost s js lawful run = no-message-lost s js (lawful-board s lawful) run
+no_message_lost s js lawful run = no-message-lost s js (lawful_linked s lawful) run

@@ -1,14 +1,9 @@
 -- A domain of a linked board: the numbers of its peers stay, the frames that it owes carry no message, and its calls put to
 -- peers.
-use Rattle.std.proofs.Common.{◌≡◌, ℕ, ◌+◌, ◌-◌, ◌≤◌, Bool, true, false, not, ◌&&◌, cond, List, [], ◌∷◌, ◌++◌, map, length, Option, Some, None, refl, sym, ap, ◌∙◌, subst, arith}
-use Rattle.std.specs.Prelude.{find, is_some, is_none, min, ◌==◌, slice_index}
+use Rattle.std.proofs.Common.{◌≡◌, ℕ, ◌+◌, ◌-◌, ◌≤◌, Bool, true, false, cond, List, [], ◌∷◌, ◌++◌, map, length, Option, Some, None, refl, sym, ap, ◌∙◌, subst, arith}
+use Rattle.std.specs.Prelude.{find, is_some, ◌==◌}
 use Rattle.std.specs.List.{AllByRecursion}
 use Rattle.std.proofs.lemmas.Bool.{eqb-true, eq-eqb}
-use Rattle.mc_base.specs.Limits.{name_service_address}
-use Rattle.mc_base.specs.FullName.{end_name, full_name}
-use Rattle.mc_base.specs.Announcement.{announcement}
-use Rattle.mc_base.specs.Frame.{destination_of, payload_of}
-use Rattle.mc_base.specs.Fault.{fault}
 use Rattle.mc_base.specs.declared.refusal.Refusal.{Refusal}
 use Rattle.board_model.specs.declared.scenario.CallLine.{CallLine}
 use Rattle.board_model.specs.declared.scenario.DomainLine.{DomainLine}
@@ -17,29 +12,23 @@ use Rattle.board_model.specs.Lists.{changed}
 use Rattle.board_model.specs.Scenario.{Neighbour, neighbours}
 use Rattle.board_model.specs.Journal.{PlainEntry, turned, put, again, called, Visit}
 use Rattle.board_model.specs.DomainCall.{DomainCall, create_at, delete_at, lookup_of, send_from, receive_at, request_at, available_at, test_of, cancel_of, turn_alone}
-use Rattle.board_model.specs.State.{DomainState, Peer, Announcement, new_peer, is_numbered, announcing, owed_to, place_of_peer}
+use Rattle.board_model.specs.State.{DomainState, Peer, Announcement, new_peer, is_numbered, place_of_peer}
 use Rattle.board_model.specs.Dealing.{knowing}
-use Rattle.board_model.specs.Turn.{turn_limit, due_frames, looked_at, after_looks, after_visit, after_turn, IsVisit, AreVisits, IsTurn}
+use Rattle.board_model.specs.Turn.{looked_at, after_looks, after_visit, after_turn, IsVisit, AreVisits, IsTurn}
 use Rattle.board_model.specs.Answer.{refusal, puts, unless_refused}
 use Rattle.board_model.specs.Effect.{also_owed, used_one, success_effect}
 use Rattle.board_model.specs.Step.{RunState, HasNoPuts, Allowed, next_line, call_at, effect_of_line, after}
 use Rattle.board_model.specs.Run.{start, after_all}
 use Rattle.board_model.specs.Messages.{carries_message}
 use Rattle.board_model.proofs.MessageLists.{get-position, map-changed}
-use Rattle.board_model.proofs.MessageAlls.{all-append, all-changed, all-found, all-map, all-unmap, all-take, all-drop, all-weaken}
+use Rattle.board_model.proofs.MessageAlls.{all-changed, all-found, all-drop, all-weaken}
+use Rattle.board_model.proofs.ListsApart.{all-map, all-unmap}
 use Rattle.board_model.proofs.MessageFrames.{peers-hold}
 use Rattle.board_model.proofs.MessageRuns.{AllAllowed}
-use Rattle.board_model.proofs.MessageMade.{destination-made}
 use Rattle.board_model.proofs.MessageCanSend.{send-found, puts-of-send}
 use Rattle.board_model.proofs.MessagePuts.{PutIs, each-put}
 use Rattle.board_model.proofs.MessageOnce.{times}
-
--- frames that carry no message
-abbrev pub AllSilent : List (List ℕ) → Type 0
-AllSilent frames = AllByRecursion (λ f. carries_message f ≡ false) frames
-
-abbrev RepliesSilent : Peer → Type 0
-RepliesSilent p = AllSilent p.replies
+use Rattle.board_model.proofs.MessageSilent.{AllSilent, RepliesSilent, due-silent}
 
 -- the peers have these numbers, and the replies that are owed to them carry no message
 abbrev pub LinkedTo : List ℕ → List Peer → Type 0
@@ -76,8 +65,11 @@ owed_numbers domain a (p ∷ ps) =
     ap (λ n. n ∷ map (λ q. q.number) (map (also_owed domain a) ps)) here ∙ ap (λ ns. p.number ∷ ns) (owed_numbers domain a ps)
 
 linked_owed : (ns : List ℕ) (domain : ℕ) (a : Announcement) (ps : List Peer) → LinkedTo ns ps → LinkedTo ns (map (also_owed domain a) ps)
-linked_owed ns domain a ps linked =
-    (owed_numbers domain a ps ∙ linked.0, all-map RepliesSilent RepliesSilent (also_owed domain a) (λ p silent. owed_keeps RepliesSilent (p.number == domain) p (record p { announcements = p.announcements ++ a ∷ [] }) silent silent) ps linked.1)
+linked_owed ns domain a ps linked = (
+  owed_numbers domain a ps ∙ linked.0,
+  all-map RepliesSilent (also_owed domain a) ps
+      (all-weaken RepliesSilent (λ p. RepliesSilent (also_owed domain a p)) (λ p silent. owed_keeps RepliesSilent (p.number == domain) p (record p { announcements = p.announcements ++ a ∷ [] }) silent silent) ps linked.1),
+)
 
 linked_success : (ns : List ℕ) (s : DomainState) (node : ℕ) (call : DomainCall) (o : Option Refusal) → LinkedTo ns s.peers → LinkedTo ns (unless_refused o s (success_effect s node call)).peers
 linked_success ns s node call (Some w) linked = linked
@@ -121,28 +113,9 @@ linked-start s d = (new_numbers (neighbours s d), new_silent (neighbours s d))
 
 -- ---- frames that are owed
 
-not_carried : (letter none : Bool) (kind : Bool) → letter ≡ false → none && (letter && kind) ≡ false
-not_carried true none kind is = absurd cc
-not_carried false true kind is = refl
-not_carried false false kind is = refl
-
-pub announcing-silent : (domain : ℕ) (a : Announcement) → carries_message (announcing domain a) ≡ false
-announcing-silent domain a =
-    let frame : List ℕ = announcing domain a in
-    let at : destination_of frame ≡ name_service_address = destination-made a.address name_service_address (announcement (full_name (end_name domain a.local)) a.address a.create) (omega arith) in
-    not_carried (not (destination_of frame == name_service_address)) (is_none (fault frame)) (slice_index (payload_of frame) 2 == 1) (ap not (eq-eqb (destination_of frame) name_service_address at))
-
-announcing_all : (domain : ℕ) (told : List Announcement) → AllSilent (map (announcing domain) told)
-announcing_all domain [] = tt
-announcing_all domain (a ∷ told) = (announcing-silent domain a, announcing_all domain told)
-
-due_silent : (domain : ℕ) (p : Peer) (back : ℕ) → RepliesSilent p → AllSilent (due_frames domain p back)
-due_silent domain p back silent =
-    all-take (λ f. carries_message f ≡ false) (min turn_limit (p.free + back)) (owed_to domain p) (all-append (λ f. carries_message f ≡ false) (map (announcing domain) p.announcements) p.replies (announcing_all domain p.announcements) silent)
-
 visit_silent : (ns : List ℕ) (s : DomainState) (v : Visit) → IsVisit s v → LinkedTo ns s.peers → AllSilent v.owed
 visit_silent ns s v is linked =
-    subst AllSilent (sym is.puts_due) (due_silent s.number is.at v.back (all-found RepliesSilent (is_numbered v.peer) s.peers is.at linked.1 (sym (get-position (is_numbered v.peer) s.peers) ∙ is.known)))
+    subst AllSilent (sym is.puts_due) (due-silent s.number is.at v.back (all-found RepliesSilent (is_numbered v.peer) s.peers is.at linked.1 (sym (get-position (is_numbered v.peer) s.peers) ∙ is.known)))
 
 visits_silent : (ns : List ℕ) (s : DomainState) (vs : List Visit) → AreVisits s vs → LinkedTo ns s.peers → AllByRecursion (λ v. AllSilent v.owed) vs
 visits_silent ns s [] are linked = tt

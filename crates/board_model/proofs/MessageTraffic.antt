@@ -1,28 +1,22 @@
 -- The messages of a domain's journal, peer by peer: those that it put, and those of the frames that it took.
 use Rattle.std.proofs.Common.{◌≡◌, ℕ, ◌+◌, ◌≤◌, Bool, true, false, cond, List, [], ◌∷◌, ◌++◌, map, refl, sym, ap, ◌∙◌, arith}
-use Rattle.std.specs.Prelude.{count_by, filter, ◌==◌}
+use Rattle.std.specs.Prelude.{count_by, ◌==◌}
 use Rattle.std.specs.List.{AllByRecursion, flat_map}
 use Rattle.std.proofs.lemmas.List.{map-append}
 use Rattle.board_model.specs.Journal.{PlainEntry, turned, put, again, called, Visit, Taken}
 use Rattle.board_model.specs.Traffic.{visits_to, puts_in, takes_in, put_to, takes_from, taken_from}
-use Rattle.board_model.specs.Messages.{Message, message_in, carries_message, messages_in, accepted_in}
-use Rattle.board_model.proofs.MessageAlls.{all-filter, all-joined}
+use Rattle.board_model.specs.Messages.{Message, carries_message, messages_in, accepted_in}
+use Rattle.board_model.proofs.MessageAlls.{all-filter}
+use Rattle.board_model.proofs.ListsApart.{all-joined}
 use Rattle.board_model.proofs.MessageTakes.{messages_in-append}
 use Rattle.board_model.proofs.MessageSums.{count-append, carried_at}
 use Rattle.board_model.proofs.MessageBalance.{carried_in}
 use Rattle.board_model.proofs.MessageOnce.{total, total-zero, total-sum, total-same, times, only, total-once}
-use Rattle.board_model.proofs.MessageLinked.{AllSilent, IsAmong, Fits}
+use Rattle.board_model.proofs.MessageSilent.{AllSilent, silent-none}
+use Rattle.board_model.proofs.MessageLinked.{IsAmong, Fits}
 
 abbrev frames_of : List Taken → List (List ℕ)
 frames_of ts = map (λ t. t.frame) ts
-
-silent_kept : (fs : List (List ℕ)) → AllSilent fs → filter carries_message fs ≡ []
-silent_kept [] all = refl
-silent_kept (f ∷ fs) all = ap (λ (b : Bool). cond b (f ∷ filter carries_message fs) (filter carries_message fs)) all.0 ∙ silent_kept fs all.1
-
--- frames that carry no message
-silent_none : (a b : ℕ) (fs : List (List ℕ)) → AllSilent fs → messages_in a b fs ≡ []
-silent_none a b fs all = ap (map (message_in a b)) (silent_kept fs all)
 
 silent_puts : (n : ℕ) (vs : List Visit) → AllByRecursion (λ v. AllSilent v.owed) vs → AllSilent (flat_map (λ v. v.owed) (visits_to n vs))
 silent_puts n vs all = all-joined (λ f. carries_message f ≡ false) (λ (v : Visit). v.owed) (visits_to n vs) (all-filter (λ v. AllSilent v.owed) (λ v. v.peer == n) vs all)
@@ -55,7 +49,7 @@ module _ (test : Message → Bool) (d : ℕ) where
 
   entry_accepted : (ns : List ℕ) (e : PlainEntry) → AreFew ns → Fits ns e → count_by test (accepted_in d e) ≡ total (λ n. passing d n (puts_in n e)) ns
   entry_accepted ns (turned visits) few fits =
-      sym (total-zero (λ n. passing d n (puts_in n (turned visits))) (λ n. ap (count_by test) (silent_none d n (puts_in n (turned visits)) (silent_puts n visits fits.1))) ns)
+      sym (total-zero (λ n. passing d n (puts_in n (turned visits))) (λ n. ap (count_by test) (silent-none d n (puts_in n (turned visits)) (silent_puts n visits fits.1))) ns)
   entry_accepted ns (put peer frame) few fits = sym (put_count ns peer frame few fits)
   entry_accepted ns (again word) few fits = sym (total-zero (λ n. 0) (λ n. refl) ns)
   entry_accepted ns (called k a) few fits = sym (total-zero (λ n. 0) (λ n. refl) ns)
