@@ -24,9 +24,9 @@ use Rattle.board_model.proofs.MessageBest.{count-cons}
 use Rattle.board_model.proofs.MessageTakes.{tested-append}
 pub use Rattle.board_model.specs.Tallies.{is_put_line, is_take_line, is_drop_line}
 use Rattle.board_model.proofs.MessageSums.{count-append, dropped_of}
-use Rattle.board_model.proofs.MessageRuns.{AllAllowed}
+use Rattle.board_model.proofs.MessageRuns.{AllAllowed, run_allowed}
 use Rattle.board_model.proofs.MessageLane.{OwnLane, own_entry, own_start, own_visits}
-use Rattle.board_model.proofs.MessageKept.{takes_self, run_allowed, run_accepted}
+use Rattle.board_model.proofs.MessageKept.{takes_self, run_accepted}
 
 -- ---- lists
 
