@@ -16,10 +16,10 @@ use Rattle.board_model.specs.Headline.{Headline}
 abbrev pub PlaceLaw : Type 0
 PlaceLaw = (s : Scenario) (js : List DomainJournal) → IsLinkedBoard s → IsBoardRun s js → AllByRecursion (EveryBuffer s js) (lanes s)
 
--- the serial run is a run of the board, and runs every script whole
+-- the serial run of a board of one domain is a run of the board, and runs every script whole
 abbrev pub SerialIsBoardRun : Type 0
 SerialIsBoardRun = (s : Scenario) → IsLawful s → IsBoardRun s (serial s) × AreWhole s (serial s)
 
--- the headline holds of every run of a board
+-- the headline holds of every run of a board of linked domains
 abbrev pub HeadlineLaw : Type 0
-HeadlineLaw = (s : Scenario) (js : List DomainJournal) → IsLawful s → IsBoardRun s js → Headline s js
+HeadlineLaw = (s : Scenario) (js : List DomainJournal) → IsLinkedBoard s → IsBoardRun s js → Headline s js
