@@ -3,7 +3,6 @@
 use Rattle.std.specs.Prelude.{List}
 use Rattle.std.specs.List.{AllByRecursion}
 use Rattle.board_model.specs.declared.scenario.Scenario.{Scenario}
-use Rattle.board_model.specs.Grammar.{IsLawful}
 use Rattle.board_model.specs.LinkedBoard.{IsLinkedBoard}
 use Rattle.board_model.specs.Board.{DomainJournal, IsBoardRun}
 use Rattle.board_model.specs.Takings.{ReceivesBest, CancelledTookNothing}
@@ -17,6 +16,6 @@ ReceivesTakeTheBest = (s : Scenario) (js : List DomainJournal) → IsLinkedBoard
 abbrev pub NoMessageIsLost : Type 0
 NoMessageIsLost = (s : Scenario) (js : List DomainJournal) → IsLinkedBoard s → IsBoardRun s js → NoMessageLost s js
 
--- on a board of one domain a request that was cancelled took nothing
+-- a request that was cancelled took nothing
 abbrev pub CancelledRequestsTookNothing : Type 0
-CancelledRequestsTookNothing = (s : Scenario) (js : List DomainJournal) → IsLawful s → IsBoardRun s js → AllByRecursion (CancelledTookNothing s) js
+CancelledRequestsTookNothing = (s : Scenario) (js : List DomainJournal) → IsLinkedBoard s → IsBoardRun s js → AllByRecursion (CancelledTookNothing s) js
