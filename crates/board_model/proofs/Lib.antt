@@ -24,6 +24,7 @@ pub mod MessageBoard
 pub mod MessageCalls
 pub mod MessageCanSend
 pub mod MessageCounts
+pub mod MessageDeleted
 pub mod MessageFrames
 pub mod MessageHands
 pub mod MessageKept
@@ -36,6 +37,7 @@ pub mod MessageMade
 pub mod MessageNames
 pub mod MessageNeighbours
 pub mod MessageNoted
+pub mod MessageNumbers
 pub mod MessageOnce
 pub mod MessagePuts
 pub mod MessageQueues
@@ -45,8 +47,10 @@ pub mod MessageSends
 pub mod MessageSilent
 pub mod MessageSums
 pub mod MessageTakes
+pub mod MessageTold
 pub mod MessageTotals
 pub mod MessageTraffic
+pub mod MessageVisitLines
 pub mod MessageWaits
 pub mod PlaceBoards
 pub mod PlaceCounts

@@ -15,7 +15,7 @@ use Rattle.board_model.specs.Messages.{Message, accepted_in, accepted, queued_by
 use Rattle.board_model.specs.Drops.{dropped_by, dropped}
 use Rattle.board_model.specs.Takings.{taken_by, messages_taken, none_standing}
 use Rattle.board_model.specs.Headline.{NoMessageLost}
-use Rattle.board_model.proofs.MessageAlls.{all-with}
+use Rattle.board_model.proofs.MessageAlls.{all-weaken, all-with}
 use Rattle.board_model.proofs.MessageRuns.{stands_start, run_allowed}
 use Rattle.board_model.proofs.MessageBalance.{carried_in, run_count}
 use Rattle.board_model.proofs.MessageOnce.{total, total-each, total-same, total-sum, total-map, total-joined, count-joined, differ-few}
@@ -39,7 +39,7 @@ each_journal : (s : Scenario) (js : List DomainJournal) → IsLinkedBoard s → 
 each_journal s js board run =
     differ-found (λ j. j.line.domain) js (subst Differ (sym (domains_of js ∙ ap (map (λ (d : DomainLine). d.domain)) run.each_domain)) (rising_differ s board))
 
-run_fits : (s : Scenario) (j : DomainJournal) → IsDomainRun s j.line j.entries → AllByRecursion (Fits (numbers_of s j.line)) j.entries
+pub run_fits : (s : Scenario) (j : DomainJournal) → IsDomainRun s j.line j.entries → AllByRecursion (Fits (numbers_of s j.line)) j.entries
 run_fits s j run = run-fits (script s j.line.domain) (numbers_of s j.line) (start s j.line) j.entries (run_allowed s j run) run.settled (linked-start s j.line)
 
 few_numbers : (s : Scenario) (d : DomainLine) → IsLinkedBoard s → AreFew (numbers_of s d)
@@ -95,12 +95,19 @@ module _ (test : Message → Bool) (s : Scenario) (js : List DomainJournal) wher
       (λ j is found. journal_accepted board j is found) js run.domain_runs (each_journal s js board run))
       ∙ over_journals put_from run)
 
-  kept_total : IsLinkedBoard s → IsBoardRun s js → total kept_by js ≡ over_lanes (λ a b. taken_at b a) s
-  kept_total board run =
-      total-each kept_by (λ j. total (λ k. taken_at k.number j.line.domain) (neighbours s j.line)) js
-      (all-with (λ j. IsDomainRun s j.line j.entries) (IsFound js) (λ j. kept_by j ≡ total (λ k. taken_at k.number j.line.domain) (neighbours s j.line))
-      (λ j is found. journal_kept j is ∙ journal_carried board j is found) js run.domain_runs (each_journal s js board run))
+  -- what the frames taken carried
+  abbrev pub brought_by : DomainJournal → ℕ
+  brought_by j = count_by test (flat_map (carried_in j.line.domain) j.entries)
+
+  brought_total : IsLinkedBoard s → IsBoardRun s js → total brought_by js ≡ over_lanes (λ a b. taken_at b a) s
+  brought_total board run =
+      total-each brought_by (λ j. total (λ k. taken_at k.number j.line.domain) (neighbours s j.line)) js
+      (all-with (λ j. IsDomainRun s j.line j.entries) (IsFound js) (λ j. brought_by j ≡ total (λ k. taken_at k.number j.line.domain) (neighbours s j.line))
+      (λ j is found. journal_carried board j is found) js run.domain_runs (each_journal s js board run))
       ∙ over_journals (λ a b. taken_at b a) run
+
+  kept_total : IsBoardRun s js → total kept_by js ≡ total brought_by js
+  kept_total run = total-each kept_by brought_by js (all-weaken (λ j. IsDomainRun s j.line j.entries) (λ j. kept_by j ≡ brought_by j) (λ j is. journal_kept j is) js run.domain_runs)
 
   kept_parts : total kept_by js ≡ count_by test (messages_taken s js) + count_by test (dropped s js) + count_by test (messages_queued s js)
   kept_parts =
@@ -137,9 +144,13 @@ module _ (test : Message → Bool) (s : Scenario) (js : List DomainJournal) wher
       let ring : count_by test (messages_in_ring s js) ≡ total (λ l. ringing l.sender l.receiver) (lanes s) = count-joined test (ring_messages js) (lanes s) in
       omega (arith, all_parts (lanes s) run.lanes_fit, over_all put_from, over_all taken_at)
 
+  -- the messages that were accepted are those of the frames taken, and those in the ring
+  pub accepted-parts : IsLinkedBoard s → IsBoardRun s js → count_by test (accepted js) ≡ total brought_by js + count_by test (messages_in_ring s js)
+  accepted-parts board run = omega (arith, accepted_total board run, lanes_parts run, lanes-turned taken_at s board, brought_total board run)
+
   kept : IsLinkedBoard s → IsBoardRun s js →
       count_by test (accepted js) ≡ count_by test (messages_taken s js) + count_by test (dropped s js) + count_by test (messages_queued s js) + count_by test (messages_in_ring s js)
-  kept board run = omega (arith, accepted_total board run, lanes_parts run, lanes-turned taken_at s board, kept_total board run, kept_parts)
+  kept board run = omega (arith, accepted-parts board run, kept_total run, kept_parts)
 
 pub no-message-lost : (s : Scenario) (js : List DomainJournal) → IsLinkedBoard s → IsBoardRun s js → NoMessageLost s js
 no-message-lost s js board run test = kept test s js board run

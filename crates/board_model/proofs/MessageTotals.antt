@@ -29,7 +29,8 @@ use Rattle.board_model.proofs.MessageLane.{OwnLane, own_entry, own_start, own_vi
 use Rattle.board_model.proofs.MessageLines.{joined-count}
 use Rattle.board_model.proofs.ListsJoined.{entry_lines}
 use Rattle.board_model.proofs.MessageKept.{takes_self, puts_self, run_puts, rest_of, parts_of, OneJournal, one_of, own_prefix, ring_one, no_message_lost}
-use Rattle.board_model.proofs.MessageCounts.{is_put_line, is_take_line, is_drop_line, count-always, count-never, visit_lines_count, length-messages, run_put, run_dropped, is_dropped}
+use Rattle.board_model.proofs.MessageVisitLines.{count-always, count-never, visit_lines_count, length-messages, is_dropped}
+use Rattle.board_model.proofs.MessageCounts.{is_put_line, is_take_line, is_drop_line, run_put, run_dropped}
 
 always : {A : Type 0} (xs : List A) → AllByRecursion (λ x. true ≡ true) xs
 always [] = tt
