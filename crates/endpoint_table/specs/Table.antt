@@ -1,7 +1,8 @@
 -- The table of a domain's endpoints: the records that are in use, and the announcements that are owed to each linked domain.
 -- Source: docs/PROFILE.md, "A domain" and "Names".
-use Rattle.std.specs.Prelude.{ℕ, ◌+◌, Bool, true, false, not, ◌&&◌, ◌||◌, ◌==◌, nat_lt, nat_le, List, [], ◌∷◌, ◌++◌, length, map, filter, find, drop, codes, decimal, slice_get, Option, None, Some, is_some, option_and_then, Result, Ok, Err, if◌then◌else◌}
+use Rattle.std.specs.Prelude.{ℕ, ◌+◌, Bool, true, false, not, ◌&&◌, ◌||◌, ◌==◌, nat_lt, nat_le, List, [], ◌∷◌, ◌++◌, length, map, filter, find, drop, slice_get, Option, None, Some, is_some, option_and_then, Result, Ok, Err, if◌then◌else◌}
 use Rattle.std.specs.List.{list_any}
+use Rattle.mc_base.specs.FullName.{end_name, full_name}
 use Rattle.mc_base.specs.declared.name.Local.{Local}
 use Rattle.mc_base.specs.declared.refusal.Refusal.{Refusal}
 use Rattle.mc_base.specs.declared.refusal.Refusal.TheVariants as refusal
@@ -64,9 +65,9 @@ owing_to t peer = find (λ o. o.peer == peer) t.owing
 abbrev pub owed_to : Table → ℕ → Option Announced
 owed_to t peer = option_and_then (λ o. slice_get o.owed 0) (owing_to t peer)
 
--- the name of an endpoint as all domains have it, `mcapi:D:N:P`
+-- the name of an endpoint as all domains have it
 abbrev pub name_of : ℕ → Local → List ℕ
-name_of domain local = codes "mcapi:" ++ (decimal domain ++ (codes ":" ++ (decimal local.node ++ (codes ":" ++ decimal local.port))))
+name_of domain local = full_name (end_name domain local)
 
 -- an announcement's name, its address, and whether the endpoint is there or gone
 abbrev pub announcement_of : ℕ → Announced → List ℕ × ℕ × Bool

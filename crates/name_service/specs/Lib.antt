@@ -1,3 +1,4 @@
 pub mod Laws
 pub mod NameLaws
+pub mod FullNameLaws
 pub mod InKnownNames

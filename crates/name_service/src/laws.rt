@@ -1,5 +1,6 @@
 ghost use Rattle.name_service.specs.Laws.{AnnouncementsReadBack, NoPayloadHasTwoAnnouncements};
 ghost use Rattle.name_service.specs.NameLaws.{RankTellsNames, AddressOfTheVeryName, LearnedHasItsAddress, LearnedLeavesOthers, ForgottenHasNone, ForgottenLeavesOthers, LearnedCounts, ForgottenCounts, OrderStays, OneListForEachMap};
+ghost use Rattle.name_service.specs.FullNameLaws.{FullNamesReadBack, OnlyFullNamesAreRead, NoNameNamesTwo};
 
 /// The spelling of each announcement that `write_ns` takes is read as this announcement.
 pub fn announcements_read_back()
@@ -23,4 +24,11 @@ pub fn known_names_are_a_map()
     ensures forgotten_counts { ForgottenCounts }
     ensures order { OrderStays }
     ensures one_list { OneListForEachMap }
+{}
+
+/// Each full name is read back as its endpoint, nothing else is read, and no name names two endpoints.
+pub fn full_names_read_back()
+    ensures read_back { FullNamesReadBack }
+    ensures only { OnlyFullNamesAreRead }
+    ensures one { NoNameNamesTwo }
 {}

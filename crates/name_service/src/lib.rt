@@ -6,6 +6,7 @@
 #![tactic(auto)]
 
 mod faults;
+mod full_names;
 mod known;
 mod laws;
 mod name;
@@ -14,8 +15,12 @@ mod threads;
 mod writing;
 
 pub use faults::fault_of;
+pub use full_names::endpoint_named;
 pub use known::KnownNames;
-pub use laws::{announcements_read_back, known_names_are_a_map, no_payload_has_two_announcements};
+pub use laws::{
+    announcements_read_back, full_names_read_back, known_names_are_a_map,
+    no_payload_has_two_announcements,
+};
 pub use name::is_legal;
 pub use reading::read_ns;
 pub use threads::may_cross_threads;

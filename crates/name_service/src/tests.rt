@@ -1,3 +1,4 @@
+mod full_names;
 mod known_names;
 
 use super::*;
