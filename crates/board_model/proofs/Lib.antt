@@ -50,3 +50,15 @@ pub mod SerialRequests
 pub mod SerialStates
 pub mod SerialSteps
 pub mod SerialTraffic
+pub mod WholeCalls
+pub mod WholeGoing
+pub mod WholeHas
+pub mod WholeJournals
+pub mod WholeLanes
+pub mod WholeLoads
+pub mod WholePeers
+pub mod WholeStations
+pub mod WholeTakes
+pub mod WholeTurns
+pub mod WholeVisits
+pub mod WholeJoined
