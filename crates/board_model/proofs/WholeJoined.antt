@@ -1,15 +1,14 @@
 -- The lanes of a board of linked domains, told by its lines: each domain has one to itself, and each link makes two.
-use Rattle.std.proofs.Common.{◌≡◌, ◌⊎◌, ℕ, Bool, true, false, cond, List, [], ◌∷◌, ◌++◌, map, Option, Some, None, find, flat_map, ltb, option_map, refl, sym, ap, ◌∙◌, subst, inl, inr, eqb-true, eq-eqb}
+use Rattle.std.proofs.Common.{◌≡◌, ◌⊎◌, ℕ, Bool, true, false, cond, List, [], ◌∷◌, map, Option, Some, find, flat_map, ltb, refl, sym, ap, ◌∙◌, subst, inl, inr, eqb-true, eq-eqb}
 use Rattle.std.specs.Prelude.{◌==◌}
 use Rattle.std.specs.List.{AllByRecursion}
 use Rattle.std.proofs.lemmas.Bool.{ne_eqb}
-use Rattle.std.proofs.lemmas.Bool.Decides.{eqb_tells}
 use Rattle.board_model.specs.declared.scenario.DomainLine.{DomainLine}
 use Rattle.board_model.specs.declared.scenario.LinkLine.{LinkLine}
 use Rattle.board_model.specs.declared.scenario.Scenario.{Scenario}
-use Rattle.board_model.specs.Scenario.{Neighbour, neighbour, linked_by, ranked, all_ranked, neighbours, Lane, lane_to, lanes, ranked_domain, rising_from, rising}
-use Rattle.board_model.specs.LinkedBoard.{Differ, IsTold, Joins, IsLinkedBoard}
-use Rattle.board_model.proofs.MessageAlls.{all-append, all-with, all-found, all-weaken}
+use Rattle.board_model.specs.Scenario.{Neighbour, neighbour, linked_by, ranked, all_ranked, neighbours, lane_to, lanes, ranked_domain, rising_from, rising}
+use Rattle.board_model.specs.LinkedBoard.{IsTold, Joins, IsLinkedBoard}
+use Rattle.board_model.proofs.MessageAlls.{all-found, all-weaken}
 use Rattle.board_model.proofs.ListsApart.{all-map, all-joined}
 use Rattle.board_model.proofs.PlaceBoards.{rising_differ, neighbours_differ}
 use Rattle.board_model.proofs.WholeHas.{Has, has-weaken, has-with, has-gives, has-map, has-joined, has-each, has-contained, has-differ}
