@@ -6,7 +6,6 @@ use Rattle.std.proofs.lemmas.List.Sums.{length-filter, count_by-le-length}
 use Rattle.board_model.specs.declared.scenario.CallLine.{CallLine}
 use Rattle.board_model.specs.declared.scenario.Scenario.{Scenario}
 use Rattle.board_model.specs.Scenario.{script}
-use Rattle.board_model.specs.Grammar.{IsLawful}
 use Rattle.board_model.specs.LinkedBoard.{IsLinkedBoard}
 use Rattle.board_model.specs.Journal.{PlainEntry}
 use Rattle.board_model.specs.State.{DomainState, Endpoint, is_at, endpoint_at, queue_in}
@@ -21,7 +20,6 @@ use Rattle.board_model.proofs.MessageTakes.{Stands}
 use Rattle.board_model.proofs.MessageCalls.{endpoint-found, best-queued}
 use Rattle.board_model.proofs.MessageRuns.{AllAllowed, allowed_all, stands_entry, stands_start}
 use Rattle.board_model.proofs.RequestCounts.{times-contains}
-use Rattle.board_model.proofs.BoardsLawful.{lawful_linked}
 use Rattle.board_model.proofs.CancelRuns.{BestTells, AllTell, run_once}
 
 -- what stands is what is queued, so nothing stands where nothing is queued
@@ -60,9 +58,5 @@ each_none : (s : Scenario) (js : List DomainJournal) → IsLinkedBoard s → All
 each_none s [] board runs = tt
 each_none s (j ∷ js) board runs = (cancelled_none s j board runs.0, each_none s js board runs.1)
 
--- on a board of linked domains, and so on one of one domain
-pub linked_cancels : (s : Scenario) (js : List DomainJournal) → IsLinkedBoard s → IsBoardRun s js → AllByRecursion (CancelledTookNothing s) js
-linked_cancels s js board run = each_none s js board run.domain_runs
-
-pub cancelled_took_nothing : (s : Scenario) (js : List DomainJournal) → IsLawful s → IsBoardRun s js → AllByRecursion (CancelledTookNothing s) js
-cancelled_took_nothing s js lawful run = linked_cancels s js (lawful_linked s lawful) run
+pub cancelled_took_nothing : (s : Scenario) (js : List DomainJournal) → IsLinkedBoard s → IsBoardRun s js → AllByRecursion (CancelledTookNothing s) js
+cancelled_took_nothing s js board run = each_none s js board run.domain_runs

@@ -2,19 +2,25 @@
 use Rattle.std.proofs.Common.{[], List, refl}
 use Rattle.board_model.specs.declared.scenario.Scenario.{Scenario}
 use Rattle.board_model.specs.Grammar.{IsLawful}
+use Rattle.board_model.specs.LinkedBoard.{IsLinkedBoard}
 use Rattle.board_model.specs.Board.{DomainJournal, IsBoardRun}
 use Rattle.board_model.specs.Headline.{Headline}
-use Rattle.board_model.proofs.PlaceOne.{every_buffer}
+use Rattle.board_model.proofs.BoardsLawful.{lawful_linked}
+use Rattle.board_model.proofs.PlaceCounts.{every_lane}
 use Rattle.board_model.proofs.MessageRuns.{receives_best}
-use Rattle.board_model.proofs.MessageKept.{no_message_lost}
+use Rattle.board_model.proofs.MessageBoard.{no-message-lost}
 use Rattle.board_model.proofs.CancelLaw.{cancelled_took_nothing}
 
-pub headline : (s : Scenario) (js : List DomainJournal) → IsLawful s → IsBoardRun s js → Headline s js
-headline s js lawful run = record {
+pub linked_headline : (s : Scenario) (js : List DomainJournal) → IsLinkedBoard s → IsBoardRun s js → Headline s js
+linked_headline s js board run = record {
   channel_prefix = λ sender channel. ([], refl);
   best_first = receives_best s js run;
-  cancelled_nothing = cancelled_took_nothing s js lawful run;
+  cancelled_nothing = cancelled_took_nothing s js board run;
   items_kept = λ sender channel. refl;
-  messages_kept = no_message_lost s js lawful run;
-  buffers_kept = every_buffer s js lawful run;
+  messages_kept = no-message-lost s js board run;
+  buffers_kept = every_lane s js board run;
 }
+
+-- a board of one domain is one of linked domains
+pub headline : (s : Scenario) (js : List DomainJournal) → IsLawful s → IsBoardRun s js → Headline s js
+headline s js lawful run = linked_headline s js (lawful_linked s lawful) run

@@ -1,5 +1,5 @@
 -- What holds of every item of a list, through searches, filters, joins and changes.
-use Rattle.std.proofs.Common.{◌≡◌, ℕ, zero, suc, Bool, true, false, cond, List, [], ◌∷◌, ◌++◌, map, Option, Some, None, refl, subst}
+use Rattle.std.proofs.Common.{◌≡◌, ℕ, zero, suc, Bool, true, false, cond, List, [], ◌∷◌, ◌++◌, take, drop, Option, Some, None, refl, subst}
 use Rattle.std.specs.Prelude.{find, filter, slice_get}
 use Rattle.std.specs.List.{AllByRecursion}
 use Rattle.std.proofs.lemmas.Bool.{cond_both}
@@ -94,6 +94,12 @@ all-without-first P p [] all = tt
 all-without-first P p (x ∷ xs) all =
     cond_both (p x) xs (x ∷ without_first p xs) (λ ys. AllByRecursion P ys) (λ here. all.1) (λ other. (all.0, all-without-first P p xs all.1))
 
-pub all-map : {A B : Type 0} (P : A → Type 0) (Q : B → Type 0) (f : A → B) (keeps : (x : A) → P x → Q (f x)) (xs : List A) → AllByRecursion P xs → AllByRecursion Q (map f xs)
-all-map P Q f keeps [] all = tt
-all-map P Q f keeps (x ∷ xs) all = (keeps x all.0, all-map P Q f keeps xs all.1)
+pub all-take : {A : Type 0} (P : A → Type 0) (n : ℕ) (xs : List A) → AllByRecursion P xs → AllByRecursion P (take n xs)
+all-take P zero xs all = tt
+all-take P (suc n) [] all = tt
+all-take P (suc n) (x ∷ xs) all = (all.0, all-take P n xs all.1)
+
+pub all-drop : {A : Type 0} (P : A → Type 0) (n : ℕ) (xs : List A) → AllByRecursion P xs → AllByRecursion P (drop n xs)
+all-drop P zero xs all = all
+all-drop P (suc n) [] all = tt
+all-drop P (suc n) (x ∷ xs) all = all-drop P n xs all.1

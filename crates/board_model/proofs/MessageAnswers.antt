@@ -20,8 +20,7 @@ use Rattle.board_model.specs.Run.{start, after_all}
 use Rattle.board_model.specs.Board.{DomainJournal, IsBoardRun}
 use Rattle.board_model.specs.Messages.{accepted_in, accepted}
 use Rattle.board_model.proofs.MessageSums.{count-append}
-use Rattle.board_model.proofs.MessageRuns.{AllAllowed}
-use Rattle.board_model.proofs.MessageKept.{run_allowed}
+use Rattle.board_model.proofs.MessageRuns.{AllAllowed, run_allowed}
 use Rattle.board_model.proofs.MessageCounts.{puts_message, length-accepted}
 use Rattle.board_model.proofs.MessageSends.{PutCarries, puts_of_lawful}
 

@@ -39,7 +39,7 @@ abbrev pub taken_along : List CallLine → ℕ → RunState → Standing → Lis
 taken_along lines d r q es = messages_of (takings_along lines d r q es)
 
 -- what stands at the address of an endpoint that is found
-found_stands : (d : ℕ) (s : DomainState) (q : Standing) (at : Local) (f : Endpoint) → Stands d s q → find (is_at at) s.endpoints ≡ Some f → q f.address ≡ queued_at d f
+pub found_stands : (d : ℕ) (s : DomainState) (q : Standing) (at : Local) (f : Endpoint) → Stands d s q → find (is_at at) s.endpoints ≡ Some f → q f.address ≡ queued_at d f
 found_stands d s q at f stands found = stands.queued f.address ∙ at-found d (is_at at) 1024 (1024 + s.endpoints_given) s.endpoints f stands.rise found
 
 none_best : (d : ℕ) (s : DomainState) (q : Standing) (at : Local) (o : Option Endpoint) → Stands d s q → find (is_at at) s.endpoints ≡ o → best (λ i. i.priority) (queue_in o) ≡ None → best_at (option_map (λ e. e.address) o) q ≡ None

@@ -1,8 +1,9 @@
--- On a board of one domain no message is lost: those put are those taken, dropped, queued and in the ring.
-use Rattle.std.proofs.Common.{◌≡◌, ℕ, ◌+◌, Bool, cond, List, [], ◌∷◌, ◌++◌, map, drop, length, Some, None, refl, sym, ap, ◌∙◌, subst, arith}
-use Rattle.std.specs.Prelude.{count_by, ◌==◌}
+-- A board of one domain: it has one journal and one lane, and the messages that were accepted are those of the frames put on it.
+-- As on every board, no message is lost.
+use Rattle.std.proofs.Common.{◌≡◌, ℕ, Bool, cond, List, [], ◌∷◌, ◌++◌, map, drop, length, Some, None, refl, sym, ap, ◌∙◌, subst}
+use Rattle.std.specs.Prelude.{◌==◌}
 use Rattle.std.specs.List.{AllByRecursion, flat_map}
-use Rattle.std.proofs.lemmas.List.{append-nil, map-append, drop_at}
+use Rattle.std.proofs.lemmas.List.{append-nil, drop_at}
 use Rattle.std.proofs.lemmas.Bool.{eq-eqb}
 use Rattle.board_model.specs.declared.scenario.DomainLine.{DomainLine}
 use Rattle.board_model.specs.declared.scenario.CallLine.{CallLine}
@@ -12,18 +13,16 @@ use Rattle.board_model.specs.Scenario.{script, Lane, lane_to, lanes, neighbour, 
 use Rattle.board_model.specs.Grammar.{IsLawful}
 use Rattle.board_model.specs.Journal.{PlainEntry, turned, put, again, called, Visit, Taken}
 use Rattle.board_model.specs.Step.{RunState, Allowed, after}
-use Rattle.board_model.specs.Traffic.{visits_to, puts_in, takes_in, put_to, takes_from, taken_from}
-use Rattle.board_model.specs.Run.{start, left_by, IsDomainRun}
+use Rattle.board_model.specs.Traffic.{visits_to, puts_in, takes_in, put_to, taken_from}
+use Rattle.board_model.specs.Run.{start, IsDomainRun}
 use Rattle.board_model.specs.Board.{DomainJournal, journal_in, journal_of, LaneFits, IsBoardRun}
-use Rattle.board_model.specs.Messages.{Message, messages_in, accepted_in, accepted, queued_by, messages_queued, ring_messages, messages_in_ring}
-use Rattle.board_model.specs.Drops.{dropped_by, dropped}
-use Rattle.board_model.specs.Takings.{taken_by, messages_taken, none_standing}
+use Rattle.board_model.specs.Messages.{messages_in, accepted_in, ring_messages, messages_in_ring}
 use Rattle.board_model.specs.Headline.{NoMessageLost}
 use Rattle.board_model.proofs.MessageTakes.{messages_in-append}
-use Rattle.board_model.proofs.MessageSums.{count-append, carried_of, carried_at}
-use Rattle.board_model.proofs.MessageRuns.{AllAllowed, allowed_all, stands_start}
-use Rattle.board_model.proofs.MessageBalance.{carried_in, run_count}
-use Rattle.board_model.proofs.MessageLane.{OwnLane, own_entry, own_start, own_visits, alone, PutTo, puts_go}
+use Rattle.board_model.proofs.MessageRuns.{AllAllowed, run_allowed}
+use Rattle.board_model.proofs.BoardsLawful.{lawful_linked}
+use Rattle.board_model.proofs.MessageBoard.{no-message-lost}
+use Rattle.board_model.proofs.MessageLane.{OwnLane, own_entry, own_start, own_visits, alone, PutTo, puts-own}
 
 -- ---- one entry
 
@@ -39,18 +38,6 @@ takes_self d v at = ap (flat_map (λ u. u.takes)) (visits_self d v at) ∙ appen
 pub puts_self : (d : ℕ) (v : Visit) → v.peer ≡ d → v.owed ≡ [] → puts_in d (turned (v ∷ [])) ≡ []
 puts_self d v at none = ap (flat_map (λ u. u.owed)) (visits_self d v at) ∙ (append-nil v.owed ∙ none)
 
-carried_self : (d : ℕ) (v : Visit) → v.peer ≡ d → carried_in d (turned (v ∷ [])) ≡ messages_in d d (frames_of (takes_in d (turned (v ∷ []))))
-carried_self d v at =
-    append-nil (carried_at d v) ∙ (ap (λ n. carried_of d n v.takes) at ∙ ap (λ ts. messages_in d d (frames_of ts)) (sym (takes_self d v at)))
-
-carried_is : (lines : List CallLine) (d : ℕ) (r : RunState) (e : PlainEntry) → Allowed lines r e → OwnLane d r.state → carried_in d e ≡ messages_in d d (frames_of (takes_in d e))
-carried_is lines d r (turned visits) allowed own =
-    let one = own_visits d r.state visits allowed.1 own in
-    subst (λ (vs : List Visit). carried_in d (turned vs) ≡ messages_in d d (frames_of (takes_in d (turned vs)))) (sym one.1) (carried_self d one.0 one.2)
-carried_is lines d r (put peer frame) allowed own = refl
-carried_is lines d r (again word) allowed own = refl
-carried_is lines d r (called k a) allowed own = refl
-
 accepted_self : (d peer : ℕ) (frame : List ℕ) → peer ≡ d → messages_in d peer (frame ∷ []) ≡ messages_in d d (cond (peer == d) (frame ∷ []) [])
 accepted_self d peer frame at =
     ap (λ n. messages_in d n (frame ∷ [])) at ∙ ap (λ (b : Bool). messages_in d d (cond b (frame ∷ []) [])) (sym (eq-eqb peer d at))
@@ -65,17 +52,6 @@ accepted_is lines d r (called k a) allowed own to = refl
 
 -- ---- a run
 
-pub carried_all : (lines : List CallLine) (d : ℕ) (r : RunState) (es : List PlainEntry) → AllAllowed lines r es → OwnLane d r.state → flat_map (carried_in d) es ≡ messages_in d d (taken_from d es)
-carried_all lines d r [] allowed own = refl
-carried_all lines d r (e ∷ es) allowed own =
-    let rest : flat_map (carried_in d) es ≡ messages_in d d (taken_from d es) = carried_all lines d (after lines r e) es allowed.1 (own_entry lines d r e allowed.0 own) in
-    let here : carried_in d e ≡ messages_in d d (frames_of (takes_in d e)) = carried_is lines d r e allowed.0 own in
-    let parts : taken_from d (e ∷ es) ≡ frames_of (takes_in d e) ++ taken_from d es = map-append (λ (t : Taken). t.frame) (takes_in d e) (takes_from d es) in
-    ap (λ ms. ms ++ flat_map (carried_in d) es) here
-    ∙ (ap (λ ms. messages_in d d (frames_of (takes_in d e)) ++ ms) rest
-    ∙ (sym (messages_in-append d d (frames_of (takes_in d e)) (taken_from d es))
-    ∙ ap (messages_in d d) (sym parts)))
-
 pub accepted_all : (lines : List CallLine) (d : ℕ) (r : RunState) (es : List PlainEntry) → AllAllowed lines r es → OwnLane d r.state → AllByRecursion (PutTo d) es → flat_map (accepted_in d) es ≡ messages_in d d (put_to d es)
 accepted_all lines d r [] allowed own to = refl
 accepted_all lines d r (e ∷ es) allowed own to =
@@ -87,17 +63,11 @@ accepted_all lines d r (e ∷ es) allowed own to =
 
 -- ---- a domain alone
 
-pub run_allowed : (s : Scenario) (j : DomainJournal) → IsDomainRun s j.line j.entries → AllAllowed (script s j.line.domain) (start s j.line) j.entries
-run_allowed s j run = allowed_all (script s j.line.domain) (start s j.line) (left_by s j.line j.entries) j.entries run.steps
-
 pub run_puts : (s : Scenario) (j : DomainJournal) → s.links ≡ [] → IsDomainRun s j.line j.entries → AllByRecursion (PutTo j.line.domain) j.entries
-run_puts s j links run = (puts_go (script s j.line.domain) j.line.domain (start s j.line) j.entries (run_allowed s j run) run.settled (own_start s j.line links)).1
+run_puts s j links run = puts-own (script s j.line.domain) j.line.domain (start s j.line) j.entries (run_allowed s j run) run.settled (own_start s j.line links)
 
 pub run_accepted : (s : Scenario) (j : DomainJournal) → s.links ≡ [] → IsDomainRun s j.line j.entries → flat_map (accepted_in j.line.domain) j.entries ≡ messages_in j.line.domain j.line.domain (put_to j.line.domain j.entries)
 run_accepted s j links run = accepted_all (script s j.line.domain) j.line.domain (start s j.line) j.entries (run_allowed s j run) (own_start s j.line links) (run_puts s j links run)
-
-pub run_carried : (s : Scenario) (j : DomainJournal) → s.links ≡ [] → IsDomainRun s j.line j.entries → flat_map (carried_in j.line.domain) j.entries ≡ messages_in j.line.domain j.line.domain (taken_from j.line.domain j.entries)
-run_carried s j links run = carried_all (script s j.line.domain) j.line.domain (start s j.line) j.entries (run_allowed s j run) (own_start s j.line links)
 
 -- what is put and not taken
 abbrev pub rest_of : ℕ → List PlainEntry → List (List ℕ)
@@ -106,20 +76,6 @@ rest_of d es = drop (length (taken_from d es)) (put_to d es)
 pub parts_of : (d : ℕ) (es : List PlainEntry) → IsPrefix (taken_from d es) (put_to d es) → put_to d es ≡ taken_from d es ++ rest_of d es
 parts_of d es first =
     first.1 ∙ ap (λ fs. taken_from d es ++ fs) (sym (ap (drop (length (taken_from d es))) first.1 ∙ drop_at (taken_from d es) first.0 (length (taken_from d es)) refl))
-
-pub run_kept : (test : Message → Bool) (s : Scenario) (j : DomainJournal) → s.links ≡ [] → IsDomainRun s j.line j.entries → IsPrefix (taken_from j.line.domain j.entries) (put_to j.line.domain j.entries) →
-    count_by test (flat_map (accepted_in j.line.domain) j.entries)
-    ≡ count_by test (taken_by s j) + count_by test (dropped_by s j) + count_by test (queued_by s j) + count_by test (messages_in j.line.domain j.line.domain (rest_of j.line.domain j.entries))
-run_kept test s j links run first =
-    let d : ℕ = j.line.domain in
-    let es : List PlainEntry = j.entries in
-    let accepts : count_by test (flat_map (accepted_in d) es) ≡ count_by test (messages_in d d (taken_from d es)) + count_by test (messages_in d d (rest_of d es))
-    = ap (count_by test) (run_accepted s j links run ∙ (ap (messages_in d d) (parts_of d es first) ∙ messages_in-append d d (taken_from d es) (rest_of d es)))
-    ∙ count-append test (messages_in d d (taken_from d es)) (messages_in d d (rest_of d es)) in
-    let carries : count_by test (flat_map (carried_in d) es) ≡ count_by test (messages_in d d (taken_from d es)) = ap (count_by test) (run_carried s j links run) in
-    let balance : count_by test (taken_by s j) + count_by test (dropped_by s j) + count_by test (queued_by s j) ≡ count_by test (flat_map (carried_in d) es) + 0
-    = run_count test d (script s d) (start s j.line) none_standing es (run_allowed s j run) (stands_start s j.line) in
-    omega arith
 
 -- ---- a board of one domain
 
@@ -165,17 +121,6 @@ ring_one s j one links =
     ∙ (append-nil (ring_messages (j ∷ []) (own_lane j.line))
     ∙ ap (λ es. messages_in j.line.domain j.line.domain (rest_of j.line.domain es)) (own_journal j))
 
-kept_one : (s : Scenario) (j : DomainJournal) → s.domains ≡ j.line ∷ [] → s.links ≡ [] → IsDomainRun s j.line j.entries → LaneFits s (j ∷ []) (own_lane j.line) → NoMessageLost s (j ∷ [])
-kept_one s j one links run fits test =
-    let d : ℕ = j.line.domain in
-    let accepts : count_by test (accepted (j ∷ [])) ≡ count_by test (flat_map (accepted_in d) j.entries) = ap (count_by test) (append-nil (flat_map (accepted_in d) j.entries)) in
-    let takes : count_by test (messages_taken s (j ∷ [])) ≡ count_by test (taken_by s j) = ap (count_by test) (append-nil (taken_by s j)) in
-    let drops : count_by test (dropped s (j ∷ [])) ≡ count_by test (dropped_by s j) = ap (count_by test) (append-nil (dropped_by s j)) in
-    let queues : count_by test (messages_queued s (j ∷ [])) ≡ count_by test (queued_by s j) = ap (count_by test) (append-nil (queued_by s j)) in
-    let ring : count_by test (messages_in_ring s (j ∷ [])) ≡ count_by test (messages_in d d (rest_of d j.entries)) = ap (count_by test) (ring_one s j one links) in
-    accepts ∙ (run_kept test s j links run (own_prefix s j fits) ∙ omega arith)
-
+-- no message is lost
 pub no_message_lost : (s : Scenario) (js : List DomainJournal) → IsLawful s → IsBoardRun s js → NoMessageLost s js
-no_message_lost s js lawful run =
-    let one : OneJournal s js = one_of s js lawful run in
-    subst (λ (ks : List DomainJournal). NoMessageLost s ks) (sym one.all) (kept_one s one.journal one.domain one.links one.run one.fits)
+no_message_lost s js lawful run = no-message-lost s js (lawful_linked s lawful) run

@@ -1,10 +1,10 @@
 -- The first item of a list that passes a test, changed or left out, by recursion over the list; and what of it holds of
 -- the best item of a queue.
-use Rattle.std.proofs.Common.{◌≡◌, ℕ, suc, ◌+◌, Bool, true, false, cond, List, [], ◌∷◌, Option, Some, None, refl, sym, ap, ◌∙◌, arith}
+use Rattle.std.proofs.Common.{◌≡◌, ℕ, zero, suc, ◌+◌, Bool, true, false, cond, List, [], ◌∷◌, map, Option, Some, None, refl, sym, ap, ◌∙◌, arith}
 use Rattle.std.specs.Prelude.{position, find, slice_get, option_map, option_and_then, ◌==◌, is_some}
 use Rattle.std.specs.List.{position_from}
 use Rattle.std.proofs.lemmas.Iterator.Adapters.{position_from-zero}
-use Rattle.board_model.specs.Lists.{changed, without}
+use Rattle.board_model.specs.Lists.{changed_at, changed, without}
 use Rattle.board_model.specs.Choice.{least, best, without_best}
 
 abbrev pub changed_first : {A : Type 0} → (A → Bool) → (A → A) → List A → List A
@@ -73,6 +73,17 @@ some_cons false (Some i) x r e = e
 pub some-position : {A : Type 0} (p : A → Bool) (xs : List A) → is_some (position p xs) ≡ is_some (find p xs)
 some-position p [] = refl
 some-position p (x ∷ xs) = ap (λ o. is_some o) (position-cons p x xs) ∙ some_cons (p x) (position p xs) x (find p xs) (some-position p xs)
+
+-- ---- what a change keeps
+
+map_changed_at : {A B : Type 0} (g : A → B) (f : A → A) (same : (x : A) → g (f x) ≡ g x) (i : ℕ) (xs : List A) → map g (changed_at f i xs) ≡ map g xs
+map_changed_at g f same i [] = refl
+map_changed_at g f same zero (x ∷ xs) = ap (λ y. y ∷ map g xs) (same x)
+map_changed_at g f same (suc i) (x ∷ xs) = ap (λ ys. g x ∷ ys) (map_changed_at g f same i xs)
+
+pub map-changed : {A B : Type 0} (g : A → B) (f : A → A) (same : (x : A) → g (f x) ≡ g x) (o : Option ℕ) (xs : List A) → map g (changed f o xs) ≡ map g xs
+map-changed g f same None xs = refl
+map-changed g f same (Some i) xs = map_changed_at g f same i xs
 
 -- ---- the best
 

@@ -32,7 +32,7 @@ payload_length-made src dst payload short = little_number-reads_back 2 (length p
 payload-made : (src dst : ℕ) (payload : List ℕ) → length payload ≤ 496 → payload_of (made src dst payload) ≡ payload
 payload-made src dst payload short = ap (λ n. take n payload) (payload_length-made src dst payload short) ∙ take_all (length payload) payload (omega arith)
 
-destination-made : (src dst : ℕ) (payload : List ℕ) → dst < 2 ^ 32 → destination_of (made src dst payload) ≡ dst
+pub destination-made : (src dst : ℕ) (payload : List ℕ) → dst < 2 ^ 32 → destination_of (made src dst payload) ≡ dst
 destination-made src dst payload fits = little_number-reads_back 4 dst [] fits
 
 -- a frame with no fault of its own to an endpoint has the faults of its letter

@@ -8,7 +8,8 @@ use Rattle.mc_base.specs.declared.name.EndName.{EndName}
 use Rattle.board_model.specs.Lists.{changed}
 use Rattle.board_model.specs.State.{DomainState, has_address, Request, waits_at, place_of_peer}
 use Rattle.board_model.specs.Dealing.{known_from, knowing, looks_for, found_for, with_found, with_created, with_destroyed}
-use Rattle.board_model.proofs.MessageAlls.{all-map}
+use Rattle.board_model.proofs.MessageAlls.{all-weaken}
+use Rattle.board_model.proofs.ListsApart.{all-map}
 
 -- no request waits at an endpoint of this name
 abbrev pub NoneWaits : List Request → Local → Type 0
@@ -32,7 +33,8 @@ found_waits_less n address at r none =
 
 pub found-wait : (s : DomainState) (n : EndName) (address : ℕ) (at : Local) → NoneWaits s.requests at → NoneWaits (with_found s n address).requests at
 found-wait s n address at none =
-    all-map (λ r. waits_at at r ≡ false) (λ r. waits_at at r ≡ false) (found_for n address) (λ r less. found_waits_less n address at r less) s.requests none
+    all-map (λ r. waits_at at r ≡ false) (found_for n address) s.requests
+    (all-weaken (λ r. waits_at at r ≡ false) (λ r. waits_at at (found_for n address r) ≡ false) (λ r less. found_waits_less n address at r less) s.requests none)
 
 -- ---- announcements
 

@@ -28,6 +28,9 @@ allowed_all lines r to [] leads = tt
 allowed_all lines r to (e ∷ es) leads =
     (leads.1.allowed, allowed_all lines (after lines r e) to es (subst (λ (n : RunState). Leads lines n es to) leads.1.leads leads.2))
 
+pub run_allowed : (s : Scenario) (j : DomainJournal) → IsDomainRun s j.line j.entries → AllAllowed (script s j.line.domain) (start s j.line) j.entries
+run_allowed s j run = allowed_all (script s j.line.domain) (start s j.line) (left_by s j.line j.entries) j.entries run.steps
+
 -- ---- a step
 
 stands_line : (d : ℕ) (r : RunState) (q : Standing) (a : PlainAnswer) (line : CallLine) (o : Option CallLine) → o ≡ Some line → a ≡ answer r.state line.node (call_at r line) → Stands d r.state q →
@@ -81,7 +84,7 @@ quiet_start s d = record { apart = tt; ranked = tt; free = tt }
 pub run_takes_best : (s : Scenario) (j : DomainJournal) → IsDomainRun s j.line j.entries → ReceivesBest s j
 run_takes_best s j run =
     takes_best (script s j.line.domain) j.line.domain (start s j.line) none_standing j.entries
-    (allowed_all (script s j.line.domain) (start s j.line) (left_by s j.line j.entries) j.entries run.steps) (stands_start s j.line) (quiet_start s j.line)
+    (run_allowed s j run) (stands_start s j.line) (quiet_start s j.line)
 
 each_takes_best : (s : Scenario) (js : List DomainJournal) → AllByRecursion (λ j. IsDomainRun s j.line j.entries) js → AllByRecursion (ReceivesBest s) js
 each_takes_best s [] runs = tt

@@ -1,6 +1,6 @@
 -- Every frame that a domain alone puts carries a message.
-use Rattle.std.proofs.Common.{◌≡◌, ℕ, ◌+◌, ◌≤◌, ◌<◌, ◌^◌, Bool, true, cond, List, [], ◌∷◌, ◌++◌, length, Option, Some, None, refl, sym, ap, ◌∙◌, subst, arith}
-use Rattle.std.specs.Prelude.{find, option_map, is_some, unwrap_or, ◌==◌, IsSome}
+use Rattle.std.proofs.Common.{◌≡◌, ℕ, ◌+◌, ◌≤◌, ◌<◌, ◌^◌, Bool, true, cond, List, [], ◌∷◌, length, Option, Some, None, refl, sym, ap, ◌∙◌, subst, arith}
+use Rattle.std.specs.Prelude.{find, option_map, is_some, unwrap_or, ◌==◌}
 use Rattle.std.specs.List.{AllByRecursion}
 use Rattle.std.proofs.lemmas.Bool.{eq-eqb, ltb-false, leb-false, not-false, cond_both}
 use Rattle.mc_base.specs.declared.name.Local.{Local}
@@ -18,7 +18,7 @@ use Rattle.board_model.specs.DomainCall.{DomainCall, create_at, delete_at, looku
 use Rattle.board_model.specs.Labels.{Labelled, call_of}
 use Rattle.board_model.specs.State.{DomainState, Endpoint, is_at, endpoint_at, address_at, peer_of}
 use Rattle.board_model.specs.Turn.{after_looks, after_visit, IsVisit, AreVisits, after_turn}
-use Rattle.board_model.specs.Answer.{local, known_address, address_of, holds, refusal, success_puts, unless_refused}
+use Rattle.board_model.specs.Answer.{local, known_address, address_of, holds, refusal, success_puts, puts, unless_refused}
 use Rattle.board_model.specs.Effect.{success_effect}
 use Rattle.board_model.specs.Step.{RunState, HasNoPuts, Allowed, next_line, call_at, effect_of_line, after}
 use Rattle.board_model.specs.Traffic.{puts_in, put_to}
@@ -27,16 +27,18 @@ use Rattle.board_model.specs.Board.{DomainJournal, IsBoardRun}
 use Rattle.board_model.specs.Messages.{carries_message}
 use Rattle.board_model.specs.Takings.{Standing, none_standing, standing_after}
 use Rattle.board_model.specs.Serial.{serial, serial_journal}
-use Rattle.board_model.proofs.MessageAlls.{none-passes, all-at, all-filter, all-append, all-parts}
+use Rattle.board_model.proofs.MessageAlls.{none-passes, all-at, all-filter, all-append}
 use Rattle.board_model.proofs.MessageQueues.{Rise, found-within}
 use Rattle.board_model.proofs.MessageFrames.{takes-keep}
 use Rattle.board_model.proofs.MessageTakes.{Stands}
 use Rattle.board_model.proofs.MessageCalls.{endpoint-found}
-use Rattle.board_model.proofs.MessageRuns.{AllAllowed, stands_entry, stands_start}
+use Rattle.board_model.proofs.MessageRuns.{AllAllowed, run_allowed, stands_entry, stands_start}
 use Rattle.board_model.proofs.MessageLawful.{LawfulLines, lawful_calls}
-use Rattle.board_model.proofs.MessageLane.{OwnLane, own_entry, own_start, own_visits, CanSend, can_send, send_to_self}
+use Rattle.board_model.proofs.MessageLane.{OwnLane, own_entry, own_start, own_visits, send_to_self}
+use Rattle.board_model.proofs.MessageCanSend.{CanSend, can_send}
+use Rattle.board_model.proofs.MessagePuts.{PutIs, each-put}
 use Rattle.board_model.proofs.MessageMade.{made_carries}
-use Rattle.board_model.proofs.MessageKept.{puts_self, run_allowed}
+use Rattle.board_model.proofs.MessageKept.{puts_self}
 use Rattle.board_model.proofs.MessageTotals.{AllCarry, LinesTell, lines_tell, serial_is}
 
 -- ---- the number of the domain, and how many endpoints it made
@@ -137,20 +139,7 @@ puts_carry d s q labels node Turn None is lawful own made stands = tt
 -- ---- a run
 
 abbrev pub PutCarries : PlainEntry → Type 0
-PutCarries (put peer frame) = carries_message frame ≡ true
-PutCarries other = Unit {0}
-
-abbrev PendingCarry : Option (List (ℕ × List ℕ)) → Type 0
-PendingCarry None = Unit {0}
-PendingCarry (Some ps) = AllByRecursion Carries ps
-
-no_puts : (o : Option (List (ℕ × List ℕ))) → HasNoPuts o → PendingCarry o
-no_puts None none = tt
-no_puts (Some ps) none = rw none tt
-
-one_more : (peer : ℕ) (frame : List ℕ) (o : Option (List (ℕ × List ℕ))) → IsSome o → PendingCarry (option_map (λ ps. ps ++ (peer, frame) ∷ []) o) → PendingCarry o × (carries_message frame ≡ true)
-one_more peer frame None some all = absurd cc
-one_more peer frame (Some ps) some all = let parts = all-parts Carries ps ((peer, frame) ∷ []) all in (parts.0, parts.1.0)
+PutCarries e = PutIs Carries e
 
 -- what holds of the state of a domain alone
 record Sound (d : ℕ) (s : DomainState) (q : Standing) : Type 0 where
@@ -161,24 +150,20 @@ record Sound (d : ℕ) (s : DomainState) (q : Standing) : Type 0 where
 sound_entry : (lines : List CallLine) (d : ℕ) (r : RunState) (q : Standing) (e : PlainEntry) → Allowed lines r e → Sound d r.state q → Sound d (after lines r e).state (standing_after lines d r q e)
 sound_entry lines d r q e allowed sound = record { own = own_entry lines d r e allowed sound.own; made = made_entry lines d r e allowed sound.made; stands = stands_entry lines d r q e allowed sound.stands }
 
-each_carries : (lines : List CallLine) (d : ℕ) (r : RunState) (q : Standing) (es : List PlainEntry) → LawfulLines lines → AllAllowed lines r es → HasNoPuts (after_all lines r es).put_since_turn → Sound d r.state q →
-    PendingCarry r.put_since_turn × AllByRecursion PutCarries es
-each_carries lines d r q [] lawful allowed settled sound = (no_puts r.put_since_turn settled, tt)
-each_carries lines d r q (turned visits ∷ es) lawful allowed settled sound =
-    let rest = each_carries lines d (after lines r (turned visits)) (standing_after lines d r q (turned visits)) es lawful allowed.1 settled (sound_entry lines d r q (turned visits) allowed.0 sound) in
-    (no_puts r.put_since_turn allowed.0.0, (tt, rest.1))
-each_carries lines d r q (put peer frame ∷ es) lawful allowed settled sound =
-    let rest = each_carries lines d (after lines r (put peer frame)) q es lawful allowed.1 settled sound in
-    let here = one_more peer frame r.put_since_turn allowed.0 rest.0 in
-    (here.0, (here.1, rest.1))
-each_carries lines d r q (again word ∷ es) lawful allowed settled sound =
-    let rest = each_carries lines d (after lines r (again word)) q es lawful allowed.1 settled sound in
-    (no_puts r.put_since_turn (rw (allowed.0.3) refl), (tt, rest.1))
-each_carries lines d r q (called k a ∷ es) lawful allowed settled sound =
-    let rest = each_carries lines d (after lines r (called k a)) (standing_after lines d r q (called k a)) es lawful allowed.1 settled (sound_entry lines d r q (called k a) allowed.0 sound) in
-    let line : CallLine = allowed.0.0 in
-    let call : IsLawfulCall line.call = all-at (λ c. IsLawfulCall c.call) lines r.lines_called line lawful allowed.0.1 in
-    (rw (allowed.0.4) (puts_carry d r.state q r.labels line.node line.call (refusal r.state line.node (call_at r line)) refl call sound.own sound.made sound.stands), (tt, rest.1))
+-- with what stands at its addresses
+abbrev SoundIn : ℕ → RunState → Type 0
+SoundIn d r = (q : Standing) × Sound d r.state q
+
+sound_next : (lines : List CallLine) (d : ℕ) (r : RunState) (e : PlainEntry) → Allowed lines r e → SoundIn d r → SoundIn d (after lines r e)
+sound_next lines d r e allowed sound = (standing_after lines d r sound.0 e, sound_entry lines d r sound.0 e allowed sound.1)
+
+call_carries : (lines : List CallLine) (d : ℕ) (r : RunState) (line : CallLine) → LawfulLines lines → next_line lines r ≡ Some line → SoundIn d r → AllByRecursion Carries (puts r.state line.node (call_at r line))
+call_carries lines d r line lawful at sound =
+    puts_carry d r.state sound.0 r.labels line.node line.call (refusal r.state line.node (call_at r line)) refl (all-at (λ c. IsLawfulCall c.call) lines r.lines_called line lawful at) sound.1.own sound.1.made sound.1.stands
+
+each_carries : (lines : List CallLine) (d : ℕ) (r : RunState) (es : List PlainEntry) → LawfulLines lines → AllAllowed lines r es → HasNoPuts (after_all lines r es).put_since_turn → SoundIn d r → AllByRecursion PutCarries es
+each_carries lines d r es lawful allowed settled sound =
+    each-put lines Carries (SoundIn d) (sound_next lines d) (λ t line at held. call_carries lines d t line lawful at held) r es allowed settled sound
 
 -- ---- what is put on the lane
 
@@ -201,10 +186,8 @@ carry_all lines d r (e ∷ es) allowed own it =
 -- each put of a run carries a message
 run_puts_carry : (s : Scenario) (j : DomainJournal) → s.links ≡ [] → LawfulLines s.calls → IsDomainRun s j.line j.entries → AllByRecursion PutCarries j.entries
 run_puts_carry s j links lawful run =
-    let begin : RunState = start s j.line in
-    let each = each_carries (script s j.line.domain) j.line.domain begin none_standing j.entries (all-filter (λ c. IsLawfulCall c.call) (λ c. c.domain == j.line.domain) s.calls lawful) (run_allowed s j run) run.settled
-    (record { own = own_start s j.line links; made = record { number = refl; few = omega arith }; stands = stands_start s j.line }) in
-    each.1
+    each_carries (script s j.line.domain) j.line.domain (start s j.line) j.entries (all-filter (λ c. IsLawfulCall c.call) (λ c. c.domain == j.line.domain) s.calls lawful) (run_allowed s j run) run.settled
+    (none_standing, record { own = own_start s j.line links; made = record { number = refl; few = omega arith }; stands = stands_start s j.line })
 
 pub puts_of_lawful : (s : Scenario) (j : DomainJournal) → IsLawful s → IsBoardRun s (j ∷ []) → AllByRecursion PutCarries j.entries
 puts_of_lawful s j lawful run = run_puts_carry s j lawful.no_links (lawful_calls lawful.domain.domain [] s.calls lawful.lines_lawful) run.domain_runs.0

@@ -11,7 +11,7 @@ use Rattle.board_model.specs.declared.scenario.Scenario.{Scenario}
 use Rattle.board_model.specs.Lists.{IsPrefix}
 use Rattle.board_model.specs.Scenario.{script, rising_from}
 use Rattle.board_model.specs.Grammar.{IsLawful}
-use Rattle.board_model.specs.Journal.{PlainEntry, turned, put, again, called, Visit, Taken, Line, back_line, put_line, see_line, taken_line, visit_lines, joined}
+use Rattle.board_model.specs.Journal.{PlainEntry, turned, put, again, called, Visit, Taken, Line, turn_line, back_line, put_line, see_line, taken_line, visit_lines, joined}
 use Rattle.board_model.specs.Step.{RunState, Allowed, after}
 use Rattle.board_model.specs.Traffic.{puts_in, takes_in, put_to, takes_from, taken_from}
 use Rattle.board_model.specs.Run.{start, IsDomainRun}
@@ -23,12 +23,14 @@ use Rattle.board_model.specs.Serial.{serial, serial_journal}
 use Rattle.board_model.proofs.MessageAlls.{all-parts}
 use Rattle.board_model.proofs.MessageBest.{count-cons}
 use Rattle.board_model.proofs.MessageSums.{count-append}
-use Rattle.board_model.proofs.MessageRuns.{AllAllowed}
+use Rattle.board_model.proofs.MessageRuns.{AllAllowed, run_allowed}
 use Rattle.board_model.proofs.MessageLawful.{LawfulLines, lawful_calls}
 use Rattle.board_model.proofs.MessageLane.{OwnLane, own_entry, own_start, own_visits, PutTo}
-use Rattle.board_model.proofs.MessageLines.{told, joined-count}
-use Rattle.board_model.proofs.MessageKept.{takes_self, puts_self, run_allowed, run_puts, rest_of, parts_of, OneJournal, one_of, own_prefix, ring_one, no_message_lost}
-use Rattle.board_model.proofs.MessageCounts.{is_put_line, is_take_line, is_drop_line, count-always, count-never, visit_lines_count, length-messages, run_put, run_dropped, is_dropped}
+use Rattle.board_model.proofs.MessageLines.{joined-count}
+use Rattle.board_model.proofs.ListsJoined.{entry_lines}
+use Rattle.board_model.proofs.MessageKept.{takes_self, puts_self, run_puts, rest_of, parts_of, OneJournal, one_of, own_prefix, ring_one, no_message_lost}
+use Rattle.board_model.proofs.MessageVisitLines.{count-always, count-never, visit_lines_count, length-messages, is_dropped}
+use Rattle.board_model.proofs.MessageCounts.{is_put_line, is_take_line, is_drop_line, run_put, run_dropped}
 
 always : {A : Type 0} (xs : List A) → AllByRecursion (λ x. true ≡ true) xs
 always [] = tt
@@ -39,34 +41,37 @@ count-all xs = count-always (λ x. true) xs (always xs)
 
 -- ---- lines of puts and takes
 
-self_lines : (test : Line → Bool) (v : Visit) → ((p n : ℕ) → test (back_line p n) ≡ false) → ((p n : ℕ) → test (see_line p n) ≡ false) →
-    count_by test (told (turned (v ∷ []))) ≡ count_by (λ f. test (put_line v.peer f)) v.owed + count_by (λ t. test (taken_line v.peer t)) v.takes
-self_lines test v no_back no_see = ap (count_by test) (append-nil (visit_lines v)) ∙ visit_lines_count test v no_back no_see
+self_lines : (test : Line → Bool) (v : Visit) → test turn_line ≡ false → ((p n : ℕ) → test (back_line p n) ≡ false) → ((p n : ℕ) → test (see_line p n) ≡ false) →
+    count_by test (entry_lines (turned (v ∷ []))) ≡ count_by (λ f. test (put_line v.peer f)) v.owed + count_by (λ t. test (taken_line v.peer t)) v.takes
+self_lines test v no_turn no_back no_see =
+    count-cons test turn_line (flat_map visit_lines (v ∷ []))
+    ∙ (ap (λ (b : Bool). cond b 1 0 + count_by test (flat_map visit_lines (v ∷ []))) no_turn
+    ∙ omega (arith, ap (count_by test) (append-nil (visit_lines v)), visit_lines_count test v no_back no_see))
 
-self_puts : (d : ℕ) (v : Visit) → v.peer ≡ d → v.owed ≡ [] → count_by is_put_line (told (turned (v ∷ []))) ≡ length (puts_in d (turned (v ∷ [])))
+self_puts : (d : ℕ) (v : Visit) → v.peer ≡ d → v.owed ≡ [] → count_by is_put_line (entry_lines (turned (v ∷ []))) ≡ length (puts_in d (turned (v ∷ [])))
 self_puts d v at none =
     let owed : length v.owed ≡ 0 = ap length none in
     let puts : length (puts_in d (turned (v ∷ []))) ≡ 0 = ap length (puts_self d v at none) in
-    omega (arith, self_lines is_put_line v (λ p n. refl) (λ p n. refl), count-all v.owed, count-never (λ t. is_put_line (taken_line v.peer t)) (λ t. refl) v.takes)
+    omega (arith, self_lines is_put_line v refl (λ p n. refl) (λ p n. refl), count-all v.owed, count-never (λ t. is_put_line (taken_line v.peer t)) (λ t. refl) v.takes)
 
-self_takes : (d : ℕ) (v : Visit) → v.peer ≡ d → count_by is_take_line (told (turned (v ∷ []))) ≡ length (takes_in d (turned (v ∷ [])))
+self_takes : (d : ℕ) (v : Visit) → v.peer ≡ d → count_by is_take_line (entry_lines (turned (v ∷ []))) ≡ length (takes_in d (turned (v ∷ [])))
 self_takes d v at =
     let takes : length (takes_in d (turned (v ∷ []))) ≡ length v.takes = ap length (takes_self d v at) in
-    omega (arith, self_lines is_take_line v (λ p n. refl) (λ p n. refl), count-never (λ f. is_take_line (put_line v.peer f)) (λ f. refl) v.owed, count-all v.takes)
+    omega (arith, self_lines is_take_line v refl (λ p n. refl) (λ p n. refl), count-never (λ f. is_take_line (put_line v.peer f)) (λ f. refl) v.owed, count-all v.takes)
 
-self_drops : (d : ℕ) (v : Visit) → v.peer ≡ d → count_by is_drop_line (told (turned (v ∷ []))) ≡ count_by (λ t. drops t.fate) (takes_in d (turned (v ∷ [])))
+self_drops : (d : ℕ) (v : Visit) → v.peer ≡ d → count_by is_drop_line (entry_lines (turned (v ∷ []))) ≡ count_by (λ t. drops t.fate) (takes_in d (turned (v ∷ [])))
 self_drops d v at =
     let takes : count_by (λ t. drops t.fate) (takes_in d (turned (v ∷ []))) ≡ count_by (λ t. drops t.fate) v.takes = ap (count_by (λ t. drops t.fate)) (takes_self d v at) in
-    omega (arith, self_lines is_drop_line v (λ p n. refl) (λ p n. refl), count-never (λ f. is_drop_line (put_line v.peer f)) (λ f. refl) v.owed)
+    omega (arith, self_lines is_drop_line v refl (λ p n. refl) (λ p n. refl), count-never (λ f. is_drop_line (put_line v.peer f)) (λ f. refl) v.owed)
 
 put_self : (d peer : ℕ) (frame : List ℕ) → peer ≡ d → length (cond (peer == d) (frame ∷ []) []) ≡ 1
 put_self d peer frame at = ap (λ (b : Bool). length (cond b (frame ∷ []) [])) (eq-eqb peer d at)
 
 -- the lines of an entry of a domain alone
 record Tells (d : ℕ) (e : PlainEntry) : Type 0 where
-  puts : count_by is_put_line (told e) ≡ length (puts_in d e)
-  takes : count_by is_take_line (told e) ≡ length (takes_in d e)
-  drops_some : count_by is_drop_line (told e) ≡ count_by (λ t. drops t.fate) (takes_in d e)
+  puts : count_by is_put_line (entry_lines e) ≡ length (puts_in d e)
+  takes : count_by is_take_line (entry_lines e) ≡ length (takes_in d e)
+  drops_some : count_by is_drop_line (entry_lines e) ≡ count_by (λ t. drops t.fate) (takes_in d e)
 
 tells_entry : (lines : List CallLine) (d : ℕ) (r : RunState) (e : PlainEntry) → Allowed lines r e → OwnLane d r.state → PutTo d e → Tells d e
 tells_entry lines d r (turned visits) allowed own to =
@@ -78,15 +83,15 @@ tells_entry lines d r (called k a) allowed own to = record { puts = refl; takes 
 
 -- and of a run
 record TellsAll (d : ℕ) (es : List PlainEntry) : Type 0 where
-  puts : count_by is_put_line (flat_map told es) ≡ length (put_to d es)
-  takes : count_by is_take_line (flat_map told es) ≡ length (takes_from d es)
-  drops_some : count_by is_drop_line (flat_map told es) ≡ count_by (λ t. drops t.fate) (takes_from d es)
+  puts : count_by is_put_line (flat_map entry_lines es) ≡ length (put_to d es)
+  takes : count_by is_take_line (flat_map entry_lines es) ≡ length (takes_from d es)
+  drops_some : count_by is_drop_line (flat_map entry_lines es) ≡ count_by (λ t. drops t.fate) (takes_from d es)
 
 tells_more : (d : ℕ) (e : PlainEntry) (es : List PlainEntry) → Tells d e → TellsAll d es → TellsAll d (e ∷ es)
 tells_more d e es here rest = record {
-  puts = omega (arith, here.puts, rest.puts, count-append is_put_line (told e) (flat_map told es), length-append (puts_in d e) (put_to d es));
-  takes = omega (arith, here.takes, rest.takes, count-append is_take_line (told e) (flat_map told es), length-append (takes_in d e) (takes_from d es));
-  drops_some = omega (arith, here.drops_some, rest.drops_some, count-append is_drop_line (told e) (flat_map told es), count-append (λ t. drops t.fate) (takes_in d e) (takes_from d es));
+  puts = omega (arith, here.puts, rest.puts, count-append is_put_line (entry_lines e) (flat_map entry_lines es), length-append (puts_in d e) (put_to d es));
+  takes = omega (arith, here.takes, rest.takes, count-append is_take_line (entry_lines e) (flat_map entry_lines es), length-append (takes_in d e) (takes_from d es));
+  drops_some = omega (arith, here.drops_some, rest.drops_some, count-append is_drop_line (entry_lines e) (flat_map entry_lines es), count-append (λ t. drops t.fate) (takes_in d e) (takes_from d es));
 }
 
 tells_all : (lines : List CallLine) (d : ℕ) (r : RunState) (es : List PlainEntry) → AllAllowed lines r es → OwnLane d r.state → AllByRecursion (PutTo d) es → TellsAll d es
@@ -128,16 +133,16 @@ one_tells s j one links lawful run first carry =
     let tells : TellsAll d es = run_tells s j links run in
     let split : AllCarry (taken_from d es ++ rest_of d es) = subst AllCarry (parts_of d es first) carry in
     let parts = all-parts (λ f. carries_message f ≡ true) (taken_from d es) (rest_of d es) split in
-    let puts_lines : count_by is_put_line (joined es) ≡ length (put_to d es) = joined-count is_put_line (record { no_idle = λ n. refl; no_turn = refl; no_again = λ w. refl; no_spin = λ n w. refl }) es ∙ tells.puts in
+    let puts_lines : count_by is_put_line (joined es) ≡ length (put_to d es) = joined-count is_put_line (record { idle = λ n. refl; again = λ w. refl; spin = λ n w. refl; turn = refl }) es ∙ tells.puts in
     let takes_lines : count_by is_take_line (joined es) ≡ length (taken_from d es)
-    = joined-count is_take_line (record { no_idle = λ n. refl; no_turn = refl; no_again = λ w. refl; no_spin = λ n w. refl }) es ∙ (tells.takes ∙ sym (length-map (takes_from d es) (λ (t : Taken). t.frame))) in
+    = joined-count is_take_line (record { idle = λ n. refl; again = λ w. refl; spin = λ n w. refl; turn = refl }) es ∙ (tells.takes ∙ sym (length-map (takes_from d es) (λ (t : Taken). t.frame))) in
     let rests : length (rest_of d es) ≡ length (put_to d es) - length (taken_from d es) = length-drop (length (taken_from d es)) (put_to d es) in
     let ring : length (messages_in_ring s (j ∷ [])) ≡ length (rest_of d es)
     = ap length (ring_one s j one links) ∙ (length-messages d d (rest_of d es) ∙ count-always carries_message (rest_of d es) parts.1) in
     record {
       accepts = ap length (append-nil (flat_map (accepted_in d) es)) ∙ (run_put s j links run ∙ (count-always carries_message (put_to d es) carry ∙ sym puts_lines));
       drops_some = ap length (append-nil (dropped_by s j))
-          ∙ (run_dropped s j links lawful run ∙ (all_dropped (takes_from d es) parts.0 ∙ (sym tells.drops_some ∙ sym (joined-count is_drop_line (record { no_idle = λ n. refl; no_turn = refl; no_again = λ w. refl; no_spin = λ n w. refl }) es))));
+          ∙ (run_dropped s j links lawful run ∙ (all_dropped (takes_from d es) parts.0 ∙ (sym tells.drops_some ∙ sym (joined-count is_drop_line (record { idle = λ n. refl; again = λ w. refl; spin = λ n w. refl; turn = refl }) es))));
       in_ring = omega (arith, ring, rests, puts_lines, takes_lines);
     }
 

@@ -20,7 +20,8 @@ use Rattle.board_model.specs.Turn.{after_looks, after_visit, IsVisit, AreVisits,
 use Rattle.board_model.specs.Answer.{local, address_of, holds, words_of, refusal, unless_refused}
 use Rattle.board_model.specs.Effect.{new_endpoint, with_announced, ended_by_word, received, with_received, with_request, best_queued, success_effect, effect}
 use Rattle.board_model.proofs.MessageLists.{changed_first, without_first, changed-position, without-position, get-position, some-position}
-use Rattle.board_model.proofs.MessageAlls.{none-passes, all-append, all-weaken, all-with, all-changed-first, all-without-first, all-changed, all-without, all-map}
+use Rattle.board_model.proofs.MessageAlls.{none-passes, all-append, all-weaken, all-with, all-changed-first, all-without-first, all-changed, all-without}
+use Rattle.board_model.proofs.ListsApart.{all-map}
 use Rattle.board_model.proofs.MessageBest.{best-none}
 use Rattle.board_model.proofs.MessageFrames.{frame_case}
 use Rattle.board_model.proofs.MessageRanks.{carried-priority}
@@ -157,11 +158,16 @@ ended_wait : (word : Refusal) (here at : Local) (r : Request) → waits_at at r 
 ended_wait word here at r none =
     cond_both (waits_at here r) (record r { outcome = Some (has_ended word) }) r (λ x. waits_at at x ≡ false) (λ ended. refl) (λ other. none)
 
+ended_none : (word : Refusal) (here at : Local) (rs : List Request) → NoneWaits rs at → NoneWaits (map (ended_by_word word here) rs) at
+ended_none word here at rs none =
+    all-map (λ r. waits_at at r ≡ false) (ended_by_word word here) rs
+    (all-weaken (λ r. waits_at at r ≡ false) (λ r. waits_at at (ended_by_word word here r) ≡ false) (λ r less. ended_wait word here at r less) rs none)
+
 deleted_quiet : (s : DomainState) (node port : ℕ) → Quiet s → Quiet (success_effect s node (delete_at port))
 deleted_quiet s node port quiet =
     let at : Local = local node port in
     let ended : List Request = map (ended_by_word EndpInvalid at) s.requests in
-    let fewer = requests_changed s ended (λ name none. all-map (λ r. waits_at name r ≡ false) (λ r. waits_at name r ≡ false) (ended_by_word EndpInvalid at) (λ r less. ended_wait EndpInvalid at name r less) s.requests none) quiet in
+    let fewer = requests_changed s ended (λ name none. ended_none EndpInvalid at name s.requests none) quiet in
     let place : without (place_at s at) s.endpoints ≡ without_first (is_at at) s.endpoints = without-position (is_at at) s.endpoints in
     record {
       apart = rw place (apart-gone (is_at at) s.endpoints fewer.apart);

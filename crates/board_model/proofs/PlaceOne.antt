@@ -1,11 +1,10 @@
--- The place law of a board of one domain, which is a board of linked domains; and where the buffers of its lane are, by its journal.
+-- Where the buffers of the lane of a board of one domain are, by its journal.
 use Rattle.std.proofs.Common.{◌≡◌, ◌+◌, ◌-◌, List, [], ◌∷◌, length, sum, ap, ap₂, refl}
 use Rattle.std.specs.List.{AllByRecursion}
 use Rattle.board_model.specs.declared.scenario.DomainLine.{DomainLine}
 use Rattle.board_model.specs.declared.scenario.CallLine.{CallLine}
 use Rattle.board_model.specs.declared.scenario.Scenario.{Scenario}
 use Rattle.board_model.specs.Scenario.{lanes, script, neighbour}
-use Rattle.board_model.specs.Grammar.{IsLawful}
 use Rattle.board_model.specs.Journal.{PlainEntry}
 use Rattle.board_model.specs.State.{free_to, queued_from, lent_from, new_peer}
 use Rattle.board_model.specs.Traffic.{put_to, taken_from, given, back_looks}
@@ -14,12 +13,7 @@ use Rattle.board_model.specs.Board.{DomainJournal, IsBoardRun}
 use Rattle.board_model.specs.Places.{places_of, EveryBuffer}
 use Rattle.board_model.proofs.LaneStates.{free_to_own}
 use Rattle.board_model.proofs.BoardsOne.{board_of, own_lane, journal, found_one, journal_one, given_one, at_end_one}
-use Rattle.board_model.proofs.BoardsLawful.{lawful_linked}
-use Rattle.board_model.proofs.PlaceCounts.{lane_buffers, every_lane}
-
--- the place law
-pub every_buffer : (s : Scenario) (js : List DomainJournal) → IsLawful s → IsBoardRun s js → AllByRecursion (EveryBuffer s js) (lanes s)
-every_buffer s js lawful run = every_lane s js (lawful_linked s lawful) run
+use Rattle.board_model.proofs.PlaceCounts.{lane_buffers}
 
 -- where the buffers are, by the one journal
 pub record AreAt (d : DomainLine) (calls : List CallLine) (es : List PlainEntry) : Type 0 where

@@ -1,21 +1,21 @@
--- The laws of messages: what holds of the journals of every run of a board of one domain.
+-- The laws of messages: what holds of the journals of every run of a board of linked domains.
 -- Source: docs/PROMISES.md, "Messages".
 use Rattle.std.specs.Prelude.{List}
 use Rattle.std.specs.List.{AllByRecursion}
 use Rattle.board_model.specs.declared.scenario.Scenario.{Scenario}
-use Rattle.board_model.specs.Grammar.{IsLawful}
+use Rattle.board_model.specs.LinkedBoard.{IsLinkedBoard}
 use Rattle.board_model.specs.Board.{DomainJournal, IsBoardRun}
 use Rattle.board_model.specs.Takings.{ReceivesBest, CancelledTookNothing}
 use Rattle.board_model.specs.Headline.{NoMessageLost}
 
 -- each message receive takes the oldest of the best priority queued, and tells it
 abbrev pub ReceivesTakeTheBest : Type 0
-ReceivesTakeTheBest = (s : Scenario) (js : List DomainJournal) → IsLawful s → IsBoardRun s js → AllByRecursion (ReceivesBest s) js
+ReceivesTakeTheBest = (s : Scenario) (js : List DomainJournal) → IsLinkedBoard s → IsBoardRun s js → AllByRecursion (ReceivesBest s) js
 
 -- each message that was accepted was taken or dropped, or is queued or in the ring, each as often
 abbrev pub NoMessageIsLost : Type 0
-NoMessageIsLost = (s : Scenario) (js : List DomainJournal) → IsLawful s → IsBoardRun s js → NoMessageLost s js
+NoMessageIsLost = (s : Scenario) (js : List DomainJournal) → IsLinkedBoard s → IsBoardRun s js → NoMessageLost s js
 
 -- a request that was cancelled took nothing
 abbrev pub CancelledRequestsTookNothing : Type 0
-CancelledRequestsTookNothing = (s : Scenario) (js : List DomainJournal) → IsLawful s → IsBoardRun s js → AllByRecursion (CancelledTookNothing s) js
+CancelledRequestsTookNothing = (s : Scenario) (js : List DomainJournal) → IsLinkedBoard s → IsBoardRun s js → AllByRecursion (CancelledTookNothing s) js

@@ -1,5 +1,5 @@
-use Rattle.board_model.proofs.PlaceOne.{every_buffer}
+use Rattle.board_model.proofs.PlaceCounts.{every_lane}
 use Rattle.board_model.proofs.laws.every_buffer_in_its_place.Goals as goal
 
 pub returns : goal.returns
-returns c = every_buffer
+returns c = every_lane

@@ -1,5 +1,5 @@
-use Rattle.board_model.proofs.Headlines.{headline}
+use Rattle.board_model.proofs.Headlines.{linked_headline}
 use Rattle.board_model.proofs.laws.headline.Goals as goal
 
 pub returns : goal.returns
-returns c = headline
+returns c = linked_headline

@@ -1,7 +1,7 @@
--- The messages of the frames put are those of the frames taken and of those in the ring. By induction over the entries
--- those taken were received or dropped, or are queued.
-use Rattle.board_model.proofs.MessageKept.{no_message_lost}
+-- Lane by lane, the messages of the frames put are those of the frames taken and of those in the ring. Domain by domain, by
+-- induction over its entries, those taken were received or dropped, or are queued.
+use Rattle.board_model.proofs.MessageBoard.{no-message-lost}
 use Rattle.board_model.proofs.laws.no_message_is_lost.Goals as goal
 
 pub returns : goal.returns
-returns c = λ s js lawful run. no_message_lost s js lawful run
+returns c = λ s js board run. no-message-lost s js board run
