@@ -64,6 +64,7 @@ pub mod SerialSteps
 pub mod SerialTraffic
 pub mod WholeBoard
 pub mod WholeCalls
+pub mod WholeFinds
 pub mod WholeGoing
 pub mod WholeHas
 pub mod WholeJoined

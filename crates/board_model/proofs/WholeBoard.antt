@@ -2,6 +2,7 @@
 use Rattle.std.proofs.Common.{◌≡◌, ℕ, List, [], length, map, sum, find, Option, Some, None, option_map, refl, sym, ap, ◌∙◌, subst, arith}
 use Rattle.std.specs.Prelude.{◌==◌}
 use Rattle.std.specs.List.{AllByRecursion}
+use Rattle.std.proofs.lemmas.Simd.{map-map}
 use Rattle.board_model.specs.declared.scenario.Scenario.{Scenario}
 use Rattle.board_model.specs.Lists.{IsPrefix}
 use Rattle.board_model.specs.Scenario.{script, Lane, lanes, rising}
@@ -14,11 +15,12 @@ use Rattle.board_model.specs.SerialRun.{Station, Running, is_station, opened, fi
 use Rattle.board_model.proofs.MessageAlls.{all-weaken}
 use Rattle.board_model.proofs.ListsApart.{all-map, differ-found}
 use Rattle.board_model.proofs.PlaceBoards.{rising_differ}
+use Rattle.board_model.proofs.WholeFinds.{find-mapped}
 use Rattle.board_model.proofs.WholeJournals.{leads_to}
 use Rattle.board_model.proofs.WholeStations.{station, entries_in, gives_in}
 use Rattle.board_model.proofs.WholeGoing.{Going}
 use Rattle.board_model.proofs.WholeJoined.{Joined, lanes_join}
-use Rattle.board_model.proofs.WholeOpening.{find-mapped, map-nested, opened_going}
+use Rattle.board_model.proofs.WholeOpening.{opened_going}
 use Rattle.board_model.proofs.WholeLines.{lines_go}
 
 -- every line is called once, and no call is made of a next one
@@ -63,7 +65,7 @@ runs_whole s r h t e =
 
 all_whole : (s : Scenario) → IsLinkedBoard s → (r : Running) → Going s (Joined s) (λ n. length (script s n)) (λ n. 0) r → AllByRecursion (RunsWhole s) r.stations
 all_whole s board r h =
-    let numbers : map (λ d. d.domain) (rising s) ≡ map (λ (t : Station). t.line.domain) r.stations = ap (map (λ d. d.domain)) (sym h.domains) ∙ map-nested (λ d. d.domain) (λ (t : Station). t.line) r.stations in
+    let numbers : map (λ d. d.domain) (rising s) ≡ map (λ (t : Station). t.line.domain) r.stations = ap (map (λ d. d.domain)) (sym h.domains) ∙ map-map (λ d. d.domain) (λ (t : Station). t.line) r.stations in
     all-weaken (λ t. station r t.line.domain ≡ Some t) (RunsWhole s) (runs_whole s r h) r.stations
     (differ-found (λ (t : Station). t.line.domain) r.stations (subst Differ numbers (rising_differ s board)))
 
@@ -80,11 +82,11 @@ lane_fits s r h l joined =
     let sees = h.sees a b l.size joined in
     record {
       taken_first =
-        subst (λ es. IsPrefix (taken_from a es) (put_to b (journal_of a (map journal_left r.stations)))) (sym got)
-        (subst (λ es. IsPrefix (taken_from a (entries_in (station r b))) (put_to b es)) (sym sent) front);
+          subst (λ es. IsPrefix (taken_from a es) (put_to b (journal_of a (map journal_left r.stations)))) (sym got)
+          (subst (λ es. IsPrefix (taken_from a (entries_in (station r b))) (put_to b es)) (sym sent) front);
       sees =
-        subst (λ es. SeesAtMost a (length (put_to b (journal_of a (map journal_left r.stations)))) 0 es) (sym got)
-        (subst (λ es. SeesAtMost a (length (put_to b es)) 0 (entries_in (station r b))) (sym sent) sees);
+          subst (λ es. SeesAtMost a (length (put_to b (journal_of a (map journal_left r.stations)))) 0 es) (sym got)
+          (subst (λ es. SeesAtMost a (length (put_to b es)) 0 (entries_in (station r b))) (sym sent) sees);
       backs = omega (arith, lane.shows, given_at s r.stations b a, ap (λ es. sum (back_looks b es)) sent);
     }
 
@@ -92,10 +94,9 @@ pub serial_run_is_whole : (s : Scenario) → IsLinkedBoard s → IsBoardRun s (s
 serial_run_is_whole s board =
     let r = finished s in
     let h = finished_going s board in
-    let all = all_whole s board r h in
-    (
+    let all = all_whole s board r h in (
       record {
-        each_domain = map-nested (λ (j : DomainJournal). j.line) journal_left r.stations ∙ h.domains;
+        each_domain = map-map (λ (j : DomainJournal). j.line) journal_left r.stations ∙ h.domains;
         domain_runs = all-map (λ j. IsDomainRun s j.line j.entries) journal_left r.stations (all-weaken (RunsWhole s) (λ t. IsDomainRun s t.line t.entries) (λ t x. x.runs) r.stations all);
         lanes_fit = all-weaken (λ l. Joined s l.sender l.receiver l.size) (LaneFits s (serial_run s)) (lane_fits s r h) (lanes s) (lanes_join s);
       },

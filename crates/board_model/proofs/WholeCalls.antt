@@ -104,8 +104,8 @@ call_lane states d s node call loads size a b k h =
       front = sym (append_assoc k.taken h.load.frames (cond (a == d) (frames_for b ps) [])) ∙ ap (λ xs. xs ++ cond (a == d) (frames_for b ps) []) h.front;
       shows = omega (arith, h.shows);
       places =
-        places_by (a == d) (b == d) size (free_to (placed states d s a) b) (held_from a (placed states d s b)) (free_to (placed states d t a) b) (held_from a (placed states d t b)) (count_by (goes_to b) ps) (count_by (is_from a) items) h.load.frames h.load.returned (frames_for b ps)
-        h.places (frames_many b ps) (freed (a == d)) (held (b == d));
+          places_by (a == d) (b == d) size (free_to (placed states d s a) b) (held_from a (placed states d s b)) (free_to (placed states d t a) b) (held_from a (placed states d t b)) (count_by (goes_to b) ps) (count_by (is_from a) items) h.load.frames h.load.returned (frames_for b ps)
+          h.places (frames_many b ps) (freed (a == d)) (held (b == d));
       within = omega (arith, h.within, shown, length-append h.load.frames (cond (a == d) (frames_for b ps) []));
     }
   where

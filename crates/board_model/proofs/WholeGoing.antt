@@ -85,26 +85,26 @@ goes_on s Joined called made called' made' r d t es loads books h here new other
             record { leads = ok.leads; no_puts = ok.no_puts; lines = ok.lines ∙ sym same.0; calls = ok.calls ∙ sym same.1; number = ok.number; peers = ok.peers }
       ];
       lanes = λ a b size j.
-        lane_same size a b (placed (states_of r) d (after_all (script s t.line.domain) t.run es).state a) (placed (states_of r) d (after_all (script s t.line.domain) t.run es).state b) (states_of z a) (states_of z b) (books a b) (book_of s z a b) loads z.loads
-        (states_after s d es q t here a) (states_after s d es q t here b) (puts_are a b)
-        (backs_after s d es q t here a b ∙ sym (adds a b).backs)
-        (taken_after s d es q t here a b ∙ sym (adds a b).taken)
-        (gives_after s d es q t here led a b ∙ sym (adds a b).gives)
-        (entries_loads s d es q) (lanes a b size j);
+          lane_same size a b (placed (states_of r) d (after_all (script s t.line.domain) t.run es).state a) (placed (states_of r) d (after_all (script s t.line.domain) t.run es).state b) (states_of z a) (states_of z b) (books a b) (book_of s z a b) loads z.loads
+          (states_after s d es q t here a) (states_after s d es q t here b) (puts_are a b)
+          (backs_after s d es q t here a b ∙ sym (adds a b).backs)
+          (taken_after s d es q t here a b ∙ sym (adds a b).taken)
+          (gives_after s d es q t here led a b ∙ sym (adds a b).gives)
+          (entries_loads s d es q) (lanes a b size j);
       sees = λ a b size j.
-        let more : length (book_of s r a b).puts ≤ length (books a b).puts = omega (arith, ap length (adds a b).puts, length-append (book_of s r a b).puts (cond (a == d) (put_to b es) [])) in
-        let old = sees-more a (length (book_of s r a b).puts) (length (books a b).puts) 0 (entries_in (station r b)) more (h.sees a b size j) in
-        let now : SeesAtMost a (length (books a b).puts) 0 (entries_in (station r b) ++ cond (b == d) es []) = elim (eqb_tells b d) [
-          | inl same ↦
-              let own = subst (λ n. SeesAtMost a (length (books a n).puts) (length (book_of s r a n).taken) es) (sym same.1) (sees a size (subst (λ n. Joined a n size) same.1 j)) in
-              subst (λ x. SeesAtMost a (length (books a b).puts) 0 (entries_in (station r b) ++ cond x es [])) (sym same.0)
-              (sees-append a (length (books a b).puts) 0 (length (book_of s r a b).taken) (entries_in (station r b)) es (omega (arith, taken_many a (entries_in (station r b)))) old own)
-          | inr differ ↦
-              subst (λ x. SeesAtMost a (length (books a b).puts) 0 (entries_in (station r b) ++ cond x es [])) (sym differ.0)
-              (subst (λ xs. SeesAtMost a (length (books a b).puts) 0 xs) (sym (append-nil (entries_in (station r b)))) old)
-        ] in
-        subst (λ n. SeesAtMost a n 0 (entries_in (station z b))) (sym (ap length (puts_are a b)))
-        (subst (λ xs. SeesAtMost a (length (books a b).puts) 0 xs) (sym (entries_after s d es q t here b)) now);
+          let more : length (book_of s r a b).puts ≤ length (books a b).puts = omega (arith, ap length (adds a b).puts, length-append (book_of s r a b).puts (cond (a == d) (put_to b es) [])) in
+          let old = sees-more a (length (book_of s r a b).puts) (length (books a b).puts) 0 (entries_in (station r b)) more (h.sees a b size j) in
+          let now : SeesAtMost a (length (books a b).puts) 0 (entries_in (station r b) ++ cond (b == d) es []) = elim (eqb_tells b d) [
+            | inl same ↦
+                let own = subst (λ n. SeesAtMost a (length (books a n).puts) (length (book_of s r a n).taken) es) (sym same.1) (sees a size (subst (λ n. Joined a n size) same.1 j)) in
+                subst (λ x. SeesAtMost a (length (books a b).puts) 0 (entries_in (station r b) ++ cond x es [])) (sym same.0)
+                (sees-append a (length (books a b).puts) 0 (length (book_of s r a b).taken) (entries_in (station r b)) es (omega (arith, taken_many a (entries_in (station r b)))) old own)
+            | inr differ ↦
+                subst (λ x. SeesAtMost a (length (books a b).puts) 0 (entries_in (station r b) ++ cond x es [])) (sym differ.0)
+                (subst (λ xs. SeesAtMost a (length (books a b).puts) 0 xs) (sym (append-nil (entries_in (station r b)))) old)
+          ] in
+          subst (λ n. SeesAtMost a n 0 (entries_in (station z b))) (sym (ap length (puts_are a b)))
+          (subst (λ xs. SeesAtMost a (length (books a b).puts) 0 xs) (sym (entries_after s d es q t here b)) now);
     }
   where
     some_station : {x y : Station} → ◌≡◌ {A = Option Station} (Some x) (Some y) → x ≡ y

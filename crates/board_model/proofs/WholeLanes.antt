@@ -7,7 +7,8 @@ use Rattle.board_model.specs.Journal.{Visit}
 use Rattle.board_model.specs.State.{DomainState, Peer, peer_of, free_to, held_from}
 use Rattle.board_model.specs.Turn.{looked_at, after_looks}
 use Rattle.board_model.specs.Loads.{Load, frames_in, returned_in, frames_on, returned_on, with_load, with_frames, all_back}
-use Rattle.board_model.proofs.WholePeers.{size_at, shown_at, read_tells, looks_size, looks_other, looks_own}
+use Rattle.board_model.proofs.WholeFinds.{some_tells}
+use Rattle.board_model.proofs.WholePeers.{size_at, shown_at, looks_size, looks_other, looks_own}
 use Rattle.board_model.proofs.WholeLoads.{load_on, loaded-with}
 
 -- what the two ends of a lane tell: the frames put and taken, the buffers that came back and those given back
@@ -69,7 +70,7 @@ pub record LooksFit (d : ℕ) (s : DomainState) (v : Visit) (loads : List Load) 
 
 free_own : (s : DomainState) (v : Visit) (n size : ℕ) → v.peer ≡ n → size_at s n ≡ Some size → length v.owed ≤ free_to s v.peer + v.back → free_to (after_looks s v) n + length v.owed ≡ free_to s n + v.back
 free_own s v n size same sized room =
-    let t = read_tells (λ p. p.size) (peer_of s n) size sized in
+    let t = some_tells (λ p. p.size) (peer_of s n) size sized in
     let old : free_to s n ≡ t.0.free = ap (λ (o : Option Peer). unwrap_or (option_map (λ p. p.free) o) 0) t.1 in
     let new : free_to (after_looks s v) n ≡ t.0.free + v.back - length v.owed =
     ap (λ (o : Option Peer). unwrap_or (option_map (λ p. p.free) o) 0) (looks_own s v n same ∙ ap (option_map (looked_at v)) t.1) in
@@ -80,8 +81,12 @@ free_by states d s v size a b sized room true true is_d is_peer =
     let own = placed-own states d s a is_d in
     omega (arith, ap (λ t. free_to t b) own, ap (λ t. free_to t b) (placed-own states d (after_looks s v) a is_d), free_own s v b size (sym (eqb-true b v.peer is_peer)) (ap (λ t. size_at t b) (sym own) ∙ sized) room)
 free_by states d s v size a b sized room true false is_d differs =
-    omega (arith, ap (λ t. free_to t b) (placed-own states d s a is_d), ap (λ t. free_to t b) (placed-own states d (after_looks s v) a is_d),
-    ap (λ (o : Option Peer). unwrap_or (option_map (λ p. p.free) o) 0) (looks_other s v b (λ e. absurd (not_both (b == v.peer) (eq-eqb b v.peer (sym e)) differs))))
+    omega (
+      arith,
+      ap (λ t. free_to t b) (placed-own states d s a is_d),
+      ap (λ t. free_to t b) (placed-own states d (after_looks s v) a is_d),
+      ap (λ (o : Option Peer). unwrap_or (option_map (λ p. p.free) o) 0) (looks_other s v b (λ e. absurd (not_both (b == v.peer) (eq-eqb b v.peer (sym e)) differs))),
+    )
   where
     not_both : (z : Bool) → z ≡ true → z ≡ false → ⊥
     not_both true e h = cc
@@ -91,7 +96,7 @@ free_by states d s v size a b sized room false y differs e =
 
 pub shown_own : (s : DomainState) (v : Visit) (n size : ℕ) → v.peer ≡ n → size_at s n ≡ Some size → shown_at (after_looks s v) n ≡ v.see - length v.takes
 shown_own s v n size same sized =
-    let t = read_tells (λ p. p.size) (peer_of s n) size sized in
+    let t = some_tells (λ p. p.size) (peer_of s n) size sized in
     ap (λ (o : Option Peer). unwrap_or (option_map (λ p. p.shown) o) 0) (looks_own s v n same ∙ ap (option_map (looked_at v)) t.1)
 
 refilled_longer : (sends : Bool) (owed : List (List ℕ)) (l : Load) → length l.frames ≤ length (cond sends (refilled owed l) l).frames
@@ -148,11 +153,14 @@ looks_lane states d s v loads fit size a b k h =
       front = front_by sends k.taken k.puts v.owed h.load h.front;
       shows = shows_by sends k.backs k.gives v.back v.owed h.load h.shows all;
       places =
-        omega (arith, places_by sends size (free_to (placed states d s a) b) (free_to (placed states d (after_looks s v) a) b) (held_from a (placed states d s b)) v.back v.owed h.load h.places
-        (free_by states d s v size a b h.sized_out fit.room (a == d) (b == v.peer) refl refl) all,
-        placed_same (held_from a) states d s (after_looks s v) b refl);
+          omega (
+            arith,
+            places_by sends size (free_to (placed states d s a) b) (free_to (placed states d (after_looks s v) a) b) (held_from a (placed states d s b)) v.back v.owed h.load h.places
+                (free_by states d s v size a b h.sized_out fit.room (a == d) (b == v.peer) refl refl) all,
+            placed_same (held_from a) states d s (after_looks s v) b refl,
+          );
       within =
-        shown_by states d s v loads size a b (cond sends (refilled v.owed h.load) h.load) h.sized_in fit loaded (omega (arith, h.within, refilled_longer sends v.owed h.load));
+          shown_by states d s v loads size a b (cond sends (refilled v.owed h.load) h.load) h.sized_in fit loaded (omega (arith, h.within, refilled_longer sends v.owed h.load));
     }
   where
     both : (x y : Bool) → (x && y) ≡ true → (x ≡ true) × (y ≡ true)

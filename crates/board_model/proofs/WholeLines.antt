@@ -1,19 +1,19 @@
 -- A board that runs serially goes on through its lines, each with its tries.
-use Rattle.std.proofs.Common.{◌≡◌, ℕ, zero, suc, ◌+◌, Bool, true, false, ◌&&◌, cond, if◌then◌else◌, List, [], ◌∷◌, ◌++◌, length, map, filter, find, Option, Some, None, option_map, slice_get, refl, sym, ap, ◌∙◌, subst, inl, inr, arith, append_assoc, append-nil, length-append, eq-eqb, lt-ltb, le-ltb}
+use Rattle.std.proofs.Common.{◌≡◌, ℕ, zero, suc, ◌+◌, Bool, true, false, ◌&&◌, cond, if◌then◌else◌, List, [], ◌∷◌, ◌++◌, length, filter, find, Option, Some, None, slice_get, refl, sym, ap, ◌∙◌, subst, inl, inr, arith, append_assoc, append-nil, length-append, eq-eqb, lt-ltb, le-ltb}
 use Rattle.std.specs.Prelude.{◌==◌}
 use Rattle.std.specs.List.{AllByRecursion}
 use Rattle.std.proofs.lemmas.Bool.{ne_eqb}
 use Rattle.std.proofs.lemmas.Bool.Decides.{eqb_tells}
 use Rattle.std.proofs.lemmas.List.Elements.{filter-append}
-use Rattle.board_model.specs.declared.scenario.DomainLine.{DomainLine}
 use Rattle.board_model.specs.declared.scenario.CallLine.{CallLine}
 use Rattle.board_model.specs.declared.scenario.Scenario.{Scenario}
 use Rattle.board_model.specs.Scenario.{script}
 use Rattle.board_model.specs.LinkedBoard.{IsTold, IsLinkedBoard}
 use Rattle.board_model.specs.Answer.{answer}
 use Rattle.board_model.specs.Step.{call_at, is_tried, may_try, tries_again}
-use Rattle.board_model.specs.SerialRun.{Station, Running, is_station, turned_once, all_turned, others, called_by, again_by, is_tried_at, after_turn_of, last_call, tried, more_calls, line_run, lines_run}
+use Rattle.board_model.specs.SerialRun.{Station, Running, turned_once, all_turned, others, called_by, again_by, is_tried_at, after_turn_of, last_call, tried, more_calls, line_run, lines_run}
 use Rattle.board_model.proofs.ListsCounts.{one_if}
+use Rattle.board_model.proofs.WholeFinds.{find-mapped, some_tells}
 use Rattle.board_model.proofs.WholeStations.{station}
 use Rattle.board_model.proofs.WholeGoing.{Going}
 use Rattle.board_model.proofs.WholeJoined.{Joined, told_found}
@@ -27,22 +27,11 @@ turns_go s counts made r (d ∷ ds) h = turns_go s counts made (turned_once s r 
 
 -- ---- stations that are there
 
-line_found : (n : ℕ) (ts : List Station) → option_map (λ t. t.line) (find (is_station n) ts) ≡ find (λ l. l.domain == n) (map (λ t. t.line) ts)
-line_found n [] = refl
-line_found n (t ∷ ts) = go (is_station n t) (line_found n ts)
-  where
-    go : (b : Bool) → option_map (λ t. t.line) (find (is_station n) ts) ≡ find (λ l. l.domain == n) (map (λ t. t.line) ts) → option_map (λ x. x.line) (cond b (Some t) (find (is_station n) ts)) ≡ cond b (Some t.line) (find (λ l. l.domain == n) (map (λ x. x.line) ts))
-    go true h = refl
-    go false h = h
-
 pub told_station : (s : Scenario) → IsLinkedBoard s → (counts made : ℕ → ℕ) (r : Running) (n : ℕ) → IsTold s n → Going s (Joined s) counts made r → (t : Station) × (station r n ≡ Some t)
 told_station s board counts made r n told h =
     let d = told_found s board n told in
-    go (station r n) (line_found n r.stations ∙ ap (find (λ l. l.domain == n)) h.domains ∙ d.1)
-  where
-    go : {l : DomainLine} (o : Option Station) → option_map (λ t. t.line) o ≡ Some l → (t : Station) × (o ≡ Some t)
-    go None e = absurd cc
-    go (Some t) e = (t, refl)
+    let t = some_tells (λ (x : Station). x.line) (station r n) d.0 (sym (find-mapped (λ l. l.domain == n) (λ (x : Station). x.line) r.stations) ∙ ap (find (λ l. l.domain == n)) h.domains ∙ d.1) in
+    (t.0, t.1)
 
 -- ---- tries
 
@@ -94,8 +83,8 @@ going_same : (s : Scenario) (counts made counts' made' : ℕ → ℕ) (r : Runni
 going_same s counts made counts' made' r same_counts same_made h = record {
   domains = h.domains;
   each = λ n t e.
-    let ok = h.each n t e in
-    record { leads = ok.leads; no_puts = ok.no_puts; lines = ok.lines ∙ sym (same_counts n); calls = ok.calls ∙ sym (same_made n); number = ok.number; peers = ok.peers };
+      let ok = h.each n t e in
+      record { leads = ok.leads; no_puts = ok.no_puts; lines = ok.lines ∙ sym (same_counts n); calls = ok.calls ∙ sym (same_made n); number = ok.number; peers = ok.peers };
   lanes = h.lanes;
   sees = h.sees;
 }
@@ -103,7 +92,6 @@ going_same s counts made counts' made' r same_counts same_made h = record {
 -- the lines of a domain
 abbrev pub lines_of : List CallLine → ℕ → List CallLine
 lines_of ls d = filter (λ c. c.domain == d) ls
-
 
 next_line_is : (before rest : List CallLine) (line : CallLine) → slice_get (lines_of (before ++ line ∷ rest) line.domain) (length (lines_of before line.domain)) ≡ Some line
 next_line_is before rest line =

@@ -1,21 +1,10 @@
 -- Loads as they change: what is on a lane after the load of one lane, or of all, was changed.
-use Rattle.std.proofs.Common.{◌≡◌, ℕ, Bool, true, false, ◌&&◌, cond, List, [], ◌∷◌, map, Option, Some, find, option_map, refl, ap, ◌∙◌, eqb-true}
+use Rattle.std.proofs.Common.{◌≡◌, ℕ, Bool, true, false, ◌&&◌, cond, List, map, Option, Some, find, option_map, refl, ap, ◌∙◌, eqb-true}
 use Rattle.std.specs.Prelude.{◌==◌}
 use Rattle.std.proofs.lemmas.Bool.{and_parts}
 use Rattle.board_model.specs.Loads.{Load, is_between, with_load}
 use Rattle.board_model.proofs.MessageAlls.{found-passes}
-
--- the first that passes a test, where each item passes as it did before
-pub find-map : {A : Type 0} (p : A → Bool) (f : A → A) → ((x : A) → p (f x) ≡ p x) → (xs : List A) → find p (map f xs) ≡ option_map f (find p xs)
-find-map p f same [] = refl
-find-map {A} p f same (x ∷ xs) =
-    ap (λ b. cond b (Some (f x)) (find p (map f xs))) (same x)
-    ∙ ap (λ o. cond (p x) (Some (f x)) o) (find-map p f same xs)
-    ∙ go (p x)
-  where
-    go : (b : Bool) → cond b (Some (f x)) (option_map f (find p xs)) ≡ option_map f (cond b (Some x) (find p xs))
-    go true = refl
-    go false = refl
+use Rattle.board_model.proofs.WholeFinds.{find-kept}
 
 -- the load of a lane
 abbrev pub load_on : List Load → ℕ → ℕ → Option Load
@@ -34,7 +23,7 @@ pub record KeepsEnds (f : Load → Load) : Type 0 where
 
 pub loaded-map : (f : Load → Load) → KeepsEnds f → (loads : List Load) (a b : ℕ) (l : Load) → load_on loads a b ≡ Some l → load_on (map f loads) a b ≡ Some (f l)
 loaded-map f keeps loads a b l e =
-    find-map (is_between a b) f (λ x. ap (λ n. (n == a) && ((f x).receiver == b)) (keeps.sender x) ∙ ap (λ n. (x.sender == a) && (n == b)) (keeps.receiver x)) loads
+    find-kept (is_between a b) f (λ x. ap (λ n. (n == a) && ((f x).receiver == b)) (keeps.sender x) ∙ ap (λ n. (x.sender == a) && (n == b)) (keeps.receiver x)) loads
     ∙ ap (option_map f) e
 
 keeps_cond : (g : Load → ℕ) (f : Load → Load) (l : Load) → g (f l) ≡ g l → (b : Bool) → g (cond b (f l) l) ≡ g l

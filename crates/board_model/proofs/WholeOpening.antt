@@ -1,7 +1,8 @@
 -- A board of linked domains before its first line: every lane is empty, and all its buffers are free.
-use Rattle.std.proofs.Common.{◌≡◌, ℕ, Bool, true, false, ◌&&◌, cond, List, [], ◌∷◌, ◌++◌, length, map, sum, Option, Some, None, find, option_map, refl, sym, ap, ◌∙◌, subst, arith, eq-eqb, eqb-true}
+use Rattle.std.proofs.Common.{map-id, ◌≡◌, ℕ, true, ◌&&◌, List, [], ◌∷◌, ◌++◌, length, map, sum, Option, Some, None, find, option_map, refl, sym, ap, ◌∙◌, subst, arith, eq-eqb, eqb-true}
 use Rattle.std.specs.Prelude.{◌==◌, unwrap_or}
 use Rattle.std.specs.List.{AllByRecursion}
+use Rattle.std.proofs.lemmas.Simd.{map-map}
 use Rattle.board_model.specs.declared.scenario.DomainLine.{DomainLine}
 use Rattle.board_model.specs.declared.scenario.Scenario.{Scenario}
 use Rattle.board_model.specs.Scenario.{Neighbour, neighbours, Lane, lanes, rising}
@@ -15,28 +16,13 @@ use Rattle.board_model.specs.SerialRun.{Station, is_station, opened_station, ope
 use Rattle.board_model.proofs.MessageAlls.{all-found, found-passes}
 use Rattle.board_model.proofs.ListsApart.{all-map}
 use Rattle.board_model.proofs.LanePeers.{peer_found}
+use Rattle.board_model.proofs.WholeFinds.{find-mapped, some_tells}
 use Rattle.board_model.proofs.WholePeers.{shown_at}
 use Rattle.board_model.proofs.WholeLanes.{LaneOk}
 use Rattle.board_model.proofs.WholeStations.{station, state_in, entries_in, gives_in, states_of, book_of}
 use Rattle.board_model.proofs.WholeGoing.{StationOk, Going}
 use Rattle.board_model.proofs.WholeHas.{Has, has-weaken, has-found}
 use Rattle.board_model.proofs.WholeJoined.{Joined, joined_back, rising_told, neighbours_join, joined_found, found_neighbour, has_lane}
-
-pub find-mapped : {A B : Type 0} (p : B → Bool) (f : A → B) (xs : List A) → find p (map f xs) ≡ option_map f (find (λ x. p (f x)) xs)
-find-mapped p f [] = refl
-find-mapped {A} {B} p f (x ∷ xs) = ap (λ o. cond (p (f x)) (Some (f x)) o) (find-mapped p f xs) ∙ go (p (f x))
-  where
-    go : (b : Bool) → cond b (Some (f x)) (option_map f (find (λ y. p (f y)) xs)) ≡ option_map f (cond b (Some x) (find (λ y. p (f y)) xs))
-    go true = refl
-    go false = refl
-
-pub map-nested : {A B C : Type 0} (g : B → C) (f : A → B) (xs : List A) → map g (map f xs) ≡ map (λ x. g (f x)) xs
-map-nested g f [] = refl
-map-nested g f (x ∷ xs) = ap (λ ys. g (f x) ∷ ys) (map-nested g f xs)
-
-some_tells : {A B : Type 0} (f : A → B) (o : Option A) (y : B) → option_map f o ≡ Some y → (x : A) × (o ≡ Some x) × (f x ≡ y)
-some_tells f None y e = absurd cc
-some_tells f (Some x) y e = (x, refl, cc)
 
 -- the stations
 opened_at : (s : Scenario) (n : ℕ) → station (opened s) n ≡ option_map (opened_station s) (find (λ d. d.domain == n) (rising s))
@@ -82,7 +68,7 @@ opens s board a b size joined =
       found = t.1;
       peer = n.0;
       there =
-        ap (λ x. peer_of x b) state ∙ peer_found (start s t.0).state b ∙ find-mapped (is_numbered b) new_peer (neighbours s t.0) ∙ ap (option_map new_peer) n.1;
+          ap (λ x. peer_of x b) state ∙ peer_found (start s t.0).state b ∙ find-mapped (is_numbered b) new_peer (neighbours s t.0) ∙ ap (option_map new_peer) n.1;
       sized = n.2;
     }
 
@@ -111,31 +97,27 @@ opened_lane s board a b size joined =
 -- a board goes from its opening
 pub opened_going : (s : Scenario) → IsLinkedBoard s → Going s (Joined s) (λ n. 0) (λ n. 0) (opened s)
 opened_going s board = record {
-  domains = map-nested (λ (t : Station). t.line) (opened_station s) (rising s) ∙ same (rising s);
+  domains = map-map (λ (t : Station). t.line) (opened_station s) (rising s) ∙ map-id (rising s);
   each = λ n t e.
-    let u = some_tells (opened_station s) (find (λ d. d.domain == n) (rising s)) t (sym (opened_at s n) ∙ e) in
-    let is_n : u.0.domain ≡ n = eqb-true u.0.domain n (found-passes (λ d. d.domain == n) (rising s) u.0 u.1) in
-    let told = all-found (λ d. Has (λ x. x ≡ d) s.domains) (λ d. d.domain == n) (rising s) u.0 (rising_told s) u.1 in
-    subst (λ x. StationOk s (Joined s) n 0 0 x) u.2
-    (record {
-      leads = refl;
-      no_puts = tt;
-      lines = refl;
-      calls = refl;
-      number = is_n;
-      peers =
-        subst (AllByRecursion (λ p. (size : ℕ) × Joined s n p size)) (sym (map-nested (λ (p : Peer). p.number) new_peer (neighbours s u.0)))
-        (subst (λ m. AllByRecursion (λ p. (size : ℕ) × Joined s m p size) (map (λ x. x.number) (neighbours s u.0))) is_n
-        (all-map (λ p. (size : ℕ) × Joined s u.0.domain p size) (λ x. x.number) (neighbours s u.0) (sized u.0.domain (neighbours s u.0) (neighbours_join s u.0 told))));
-    });
+      let u = some_tells (opened_station s) (find (λ d. d.domain == n) (rising s)) t (sym (opened_at s n) ∙ e) in
+      let is_n : u.0.domain ≡ n = eqb-true u.0.domain n (found-passes (λ d. d.domain == n) (rising s) u.0 u.1) in
+      let told = all-found (λ d. Has (λ x. x ≡ d) s.domains) (λ d. d.domain == n) (rising s) u.0 (rising_told s) u.1 in
+      subst (λ x. StationOk s (Joined s) n 0 0 x) u.2
+      (record {
+        leads = refl;
+        no_puts = tt;
+        lines = refl;
+        calls = refl;
+        number = is_n;
+        peers =
+            subst (AllByRecursion (λ p. (size : ℕ) × Joined s n p size)) (sym (map-map (λ (p : Peer). p.number) new_peer (neighbours s u.0)))
+            (subst (λ m. AllByRecursion (λ p. (size : ℕ) × Joined s m p size) (map (λ x. x.number) (neighbours s u.0))) is_n
+            (all-map (λ p. (size : ℕ) × Joined s u.0.domain p size) (λ x. x.number) (neighbours s u.0) (sized u.0.domain (neighbours s u.0) (neighbours_join s u.0 told))));
+      });
   lanes = opened_lane s board;
   sees = λ a b size j. subst (λ es. SeesAtMost a (length (put_to b (entries_in (station (opened s) a)))) 0 es) (sym (no_entries s b)) tt;
 }
   where
-    same : (ds : List DomainLine) → map (λ d. d) ds ≡ ds
-    same [] = refl
-    same (d ∷ ds) = ap (λ es. d ∷ es) (same ds)
-
     sized : (a : ℕ) (ns : List Neighbour) → AllByRecursion (λ n. Joined s a n.number n.size) ns → AllByRecursion (λ n. (size : ℕ) × Joined s a n.number size) ns
     sized a [] all = tt
     sized a (n ∷ ns) all = ((n.size, all.0), sized a ns all.1)

@@ -49,11 +49,6 @@ read-mapped g f keeps n (p ∷ ps) = read-cons g n (f p) p (map f ps) ps (keeps.
 pub read_of : {X : Type 0} (g : Peer → X) (s : DomainState) (n : ℕ) → option_map g (peer_of s n) ≡ read g n s.peers
 read_of g s n = ap (option_map g) (peer_found s n)
 
--- the peer of a number, and what is read of it
-pub read_tells : {X : Type 0} (g : Peer → X) (o : Option Peer) (x : X) → option_map g o ≡ Some x → (p : Peer) × (o ≡ Some p) × (g p ≡ x)
-read_tells g None x e = absurd cc
-read_tells g (Some p) x e = (p, refl, cc)
-
 -- ---- frames that are taken, and calls
 
 abbrev pub size_at : DomainState → ℕ → Option ℕ

@@ -11,7 +11,7 @@ use Rattle.board_model.specs.Run.{start, after_all}
 use Rattle.board_model.specs.Traffic.{put_to, taken_from, given, back_looks}
 use Rattle.board_model.specs.SerialRun.{Station, Running, is_station, entered, with_entry, with_entries}
 use Rattle.board_model.proofs.MessageAlls.{found-passes}
-use Rattle.board_model.proofs.WholeLoads.{find-map}
+use Rattle.board_model.proofs.WholeFinds.{find-kept}
 use Rattle.board_model.proofs.WholeLanes.{Book, placed}
 use Rattle.board_model.proofs.WholeJournals.{put_to-append, taken_from-append, backs-append, given-append}
 
@@ -51,7 +51,7 @@ found-entries s d [] r n = sym (map-none (entered_if s d []) same (station r n))
         go false = refl
 found-entries s d (e ∷ es) r n =
     found-entries s d es (with_entry s d e r) n
-    ∙ ap (option_map (entered_if s d es)) (find-map (is_station n) (entered_if_one s d e) keeps r.stations)
+    ∙ ap (option_map (entered_if s d es)) (find-kept (is_station n) (entered_if_one s d e) keeps r.stations)
     ∙ map-twice (entered_if_one s d e) (entered_if s d es) (entered_if s d (e ∷ es)) both (station r n)
   where
     keeps : (t : Station) → is_station n (entered_if_one s d e t) ≡ is_station n t

@@ -90,10 +90,10 @@ turn_goes s counts made r d h = go (station r d) refl
         } in
         record {
           going =
-            goes_on s (Joined s) counts made counts made r d t (turned vs ∷ []) (loads_turned st r.loads) (λ a b. turned_book d vs a b (book_of s r a b)) h e new (λ n differ. (refl, refl)) turns.lanes
-            (λ a b. turned_adds s d t vs a b (book_of s r a b)) (λ a size j. (turns.sees a (length (turned_book d vs a d (book_of s r a d)).puts) (omega arith), tt));
+              goes_on s (Joined s) counts made counts made r d t (turned vs ∷ []) (loads_turned st r.loads) (λ a b. turned_book d vs a b (book_of s r a b)) h e new (λ n differ. (refl, refl)) turns.lanes
+              (λ a b. turned_adds s d t vs a b (book_of s r a b)) (λ a size j. (turns.sees a (length (turned_book d vs a d (book_of s r a d)).puts) (omega arith), tt));
           fresh = λ u here.
-            put_of (sym (ap (λ b. cond b (Some (entered_all s (turned vs ∷ []) t)) (station r d)) (eq-eqb d d refl)) ∙ sym (station_after s d (turned vs ∷ []) (record r { loads = loads_turned st r.loads }) t e d) ∙ here) refl;
+              put_of (sym (ap (λ b. cond b (Some (entered_all s (turned vs ∷ []) t)) (station r d)) (eq-eqb d d refl)) ∙ sym (station_after s d (turned vs ∷ []) (record r { loads = loads_turned st r.loads }) t e d) ∙ here) refl;
         }
 
 -- ---- calls

@@ -77,12 +77,15 @@ takes_lane states d s peer ts loads fit size a b k h =
       front = front_by takes k.taken k.puts ts h.load h.front (λ e. fit.first ∙ ap (take (length ts)) (lane e));
       shows = shows_by takes k.backs k.gives ts h.load h.shows;
       places =
-        omega (arith, places_by takes size (free_to (placed states d s a) b) (held_from a (placed states d s b)) (held_from a (placed states d t b)) ts h.load h.places
-        (held_by states d s peer ts fit.words a b (a == peer) (b == d) refl refl) (λ e. let more = shown e in omega (arith, more)),
-        placed_same (λ x. free_to x b) states d s t a (free_same s peer ts b));
+          omega (
+            arith,
+            places_by takes size (free_to (placed states d s a) b) (held_from a (placed states d s b)) (held_from a (placed states d t b)) ts h.load h.places
+                (held_by states d s peer ts fit.words a b (a == peer) (b == d) refl refl) (λ e. let more = shown e in omega (arith, more)),
+            placed_same (λ x. free_to x b) states d s t a (free_same s peer ts b),
+          );
       within =
-        within_by takes (shown_at (placed states d t b) a) ts h.load
-        (omega (arith, h.within, placed_same (λ x. shown_at x a) states d s t b (shown_same s peer ts a))) shown;
+          within_by takes (shown_at (placed states d t b) a) ts h.load
+          (omega (arith, h.within, placed_same (λ x. shown_at x a) states d s t b (shown_same s peer ts a))) shown;
     }
   where
     free_same : (s : DomainState) (peer : ℕ) (ts : List Taken) (n : ℕ) → free_to (after_takes s peer ts) n ≡ free_to s n

@@ -144,11 +144,11 @@ turn_lanes Joined turn states d s books loads (p ∷ ps) e joins h =
       are = (here.is_visit, rest.are);
       lanes = rest.lanes;
       sees = λ a total fits.
-        see_visit d v vs a total (books a d)
-        (λ same.
-        let at : v.see + length (books a d).taken ≡ length (visited_book d v a d (books a d)).puts = subst (λ n. v.see + length (books n d).taken ≡ length (visited_book d v n d (books n d)).puts) same here.sees in
-        omega (arith, at, puts_grow d vs a d (visited_book d v a d (books a d)), fits))
-        (rest.sees a total fits);
+          see_visit d v vs a total (books a d)
+          (λ same.
+          let at : v.see + length (books a d).taken ≡ length (visited_book d v a d (books a d)).puts = subst (λ n. v.see + length (books n d).taken ≡ length (visited_book d v n d (books n d)).puts) same here.sees in
+          omega (arith, at, puts_grow d vs a d (visited_book d v a d (books a d)), fits))
+          (rest.sees a total fits);
     }
 
 visited_peers : (s : DomainState) (loads : List Load) (ps : List ℕ) → map (λ v. v.peer) (visits_to_all s loads ps) ≡ ps

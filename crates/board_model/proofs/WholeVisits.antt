@@ -1,33 +1,20 @@
 -- A visit of the serial run: it is one that the lanes allow, and it leaves each lane well.
-use Rattle.std.proofs.Common.{◌≡◌, ℕ, ◌+◌, ◌-◌, ◌≤◌, min, ◌&&◌, List, [], ◌∷◌, length, map, take, drop, Option, Some, None, option_map, refl, sym, ap, ◌∙◌, subst, arith, length-take, length-append, eq-eqb}
+use Rattle.std.proofs.Common.{◌≡◌, ℕ, ◌+◌, ◌-◌, ◌≤◌, min, ◌&&◌, List, length, map, take, drop, Option, Some, None, option_map, refl, sym, ap, ◌∙◌, subst, arith, length-take, length-append, eq-eqb}
 use Rattle.std.specs.Prelude.{◌==◌, unwrap_or}
 use Rattle.std.proofs.lemmas.List.{length-map}
 use Rattle.mc_base.specs.declared.fate.Fate.TheVariants.{State}
 use Rattle.board_model.specs.Lists.{changed}
 use Rattle.board_model.specs.Journal.{Visit, Taken, taken}
 use Rattle.board_model.specs.State.{DomainState, Peer, peer_of, free_to, held_from, owed_to, place_of_peer}
-use Rattle.board_model.specs.Dealing.{HaveWords, after_frame}
+use Rattle.board_model.specs.Dealing.{HaveWords}
 use Rattle.board_model.specs.Turn.{turn_limit, with_peers, after_looks, after_visit, IsVisit}
-use Rattle.board_model.specs.Serial.{dealt, due_to}
+use Rattle.board_model.specs.Serial.{due_to}
 use Rattle.board_model.specs.Loads.{Load, frames_in, returned_in, returned_on, frames_due, after_owed, frames_seen, visit_to, loads_visited}
-use Rattle.board_model.proofs.LaneRows.{frame_row}
-use Rattle.board_model.proofs.WholePeers.{size_at, shown_at, read_tells}
+use Rattle.board_model.proofs.SerialFrames.{dealt_words, length-dealt, frames-dealt}
+use Rattle.board_model.proofs.WholeFinds.{some_tells}
+use Rattle.board_model.proofs.WholePeers.{size_at, shown_at}
 use Rattle.board_model.proofs.WholeLanes.{Book, LaneOk, placed, placed-own, LooksFit, looked_book, looks_lane, shown_own, refilled_more}
-use Rattle.board_model.proofs.WholeTakes.{frames_of, TakesFit, taken_book, takes_lane}
-
--- ---- frames that are dealt with
-
-pub dealt_words : (s : DomainState) (peer : ℕ) (frames : List (List ℕ)) → HaveWords s peer (dealt s peer frames)
-dealt_words s peer [] = tt
-dealt_words s peer (f ∷ fs) = (frame_row s peer f, dealt_words (after_frame s peer f) peer fs)
-
-pub length-dealt : (s : DomainState) (peer : ℕ) (frames : List (List ℕ)) → length (dealt s peer frames) ≡ length frames
-length-dealt s peer [] = refl
-length-dealt s peer (f ∷ fs) = omega (arith, length-dealt (after_frame s peer f) peer fs)
-
-pub frames-dealt : (s : DomainState) (peer : ℕ) (frames : List (List ℕ)) → frames_of (dealt s peer frames) ≡ frames
-frames-dealt s peer [] = refl
-frames-dealt s peer (f ∷ fs) = ap (λ (x : List (List ℕ)). f ∷ x) (frames-dealt (after_frame s peer f) peer fs)
+use Rattle.board_model.proofs.WholeTakes.{TakesFit, taken_book, takes_lane}
 
 -- a look depends on how many frames are taken, and not on what becomes of them
 looks_by : (s : DomainState) (v : Visit) (ts us : List Taken) → length ts ≡ length us → after_looks s (record v { takes = ts }) ≡ after_looks s (record v { takes = us })
@@ -76,7 +63,7 @@ takes_fit : (s : DomainState) (loads : List Load) (p size : ℕ) → size_at s p
 takes_fit s loads p size sized = record {
   words = visit_words s loads p;
   first =
-    frames-dealt (after_looks s (looks_to s loads p)) p (first_seen s loads p) ∙ ap (λ (n : ℕ). take n (frames_seen s loads p)) (sym (takes_many s loads p));
+      frames-dealt (after_looks s (looks_to s loads p)) p (first_seen s loads p) ∙ ap (λ (n : ℕ). take n (frames_seen s loads p)) (sym (takes_many s loads p));
   shown = omega (arith, shown_own s (visit_to s loads p) p size refl sized, takes_many s loads p);
 }
 
@@ -103,7 +90,7 @@ visit_here Joined turn states s books loads p size joined h =
     let seen = looked p d size (turn d p size joined) in
     let own_after : placed states d (after_looks s v) d ≡ after_looks s v = placed-own states d (after_looks s v) d (eq-eqb d d refl) in
     let lane : length (frames_seen s loads p) ≡ length seen.load.frames = ap (λ (o : Option Load). length (frames_in o)) seen.loaded in
-    let t = read_tells (λ p. p.size) (peer_of s p) size sized in
+    let t = some_tells (λ p. p.size) (peer_of s p) size sized in
     let free : free_to s p ≡ t.0.free = ap (λ (o : Option Peer). unwrap_or (option_map (λ x. x.free) o) 0) t.1 in
     let shown : shown_at s p ≡ t.0.shown = ap (λ (o : Option Peer). unwrap_or (option_map (λ x. x.shown) o) 0) t.1 in
     let returned : v.back ≡ out.load.returned = ap returned_in out.loaded in
