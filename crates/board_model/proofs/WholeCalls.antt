@@ -8,7 +8,7 @@ use Rattle.board_model.specs.Effect.{effect, returns}
 use Rattle.board_model.specs.Loads.{Load, with_frames, with_returned, loads_put, loads_given}
 use Rattle.board_model.specs.SerialRun.{loads_with_puts}
 use Rattle.board_model.proofs.ListsCounts.{one_if, count-cons}
-use Rattle.board_model.proofs.LaneCalls.{goes_to, call_frees}
+use Rattle.board_model.proofs.LaneSends.{goes_to, call_frees}
 use Rattle.board_model.proofs.LaneRuns.{call_holds}
 use Rattle.board_model.proofs.WholePeers.{size_at, shown_at, call_read}
 use Rattle.board_model.proofs.WholeLoads.{load_on, load_ends, loaded-map, loaded-with}
