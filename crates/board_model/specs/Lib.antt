@@ -30,3 +30,4 @@ pub mod Report
 pub mod Headline
 pub mod Laws
 pub mod MessageLaws
+pub mod SerialLaws

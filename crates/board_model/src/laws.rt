@@ -1,6 +1,7 @@
 //! What is proved of the definitions themselves. Each function has no code: its contract is the law.
 ghost use Rattle.board_model.specs.Laws.{PlaceLaw, SerialIsBoardRun, HeadlineLaw};
 ghost use Rattle.board_model.specs.MessageLaws.{ReceivesTakeTheBest, NoMessageIsLost, CancelledRequestsTookNothing};
+ghost use Rattle.board_model.specs.SerialLaws.{LinkedSerialIsBoardRun};
 
 /// At the end of every run of a board, each buffer of each lane is at exactly one place.
 pub fn every_buffer_in_its_place()
@@ -30,4 +31,9 @@ pub fn headline()
 /// The serial run is a run of the board, and runs every script whole.
 pub fn serial_run_is_a_board_run()
     ensures { SerialIsBoardRun }
+{}
+
+/// The serial run of a board of linked domains is a run of the board, and runs every script whole.
+pub fn linked_serial_run_is_a_board_run()
+    ensures { LinkedSerialIsBoardRun }
 {}
