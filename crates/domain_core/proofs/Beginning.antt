@@ -1,9 +1,9 @@
 -- A receive that is begun.
-use Rattle.std.proofs.Common.{◌≡◌, ◌≢◌, ℕ, suc, ◌+◌, ◌<◌, ◌≤◌, Bool, true, false, cond, List, [], ◌∷◌, ◌++◌, length, map, Option, Some, None, refl, sym, ap, ◌∙◌, subst, arith, eq-eqb}
-use Rattle.std.specs.Prelude.{count_by, nat_le, nat_lt, option_map, slice_get, ◌%◌, ◌^◌}
+use Rattle.std.proofs.Common.{◌≡◌, ◌≢◌, ℕ, ◌+◌, ◌<◌, ◌≤◌, Bool, true, false, cond, List, [], ◌∷◌, ◌++◌, length, map, Option, Some, None, refl, sym, ap, ◌∙◌, arith, eq-eqb}
+use Rattle.std.specs.Prelude.{count_by, nat_lt, option_map, slice_get, ◌%◌, ◌^◌}
 use Rattle.std.specs.List.{AllByRecursion}
 use Rattle.std.proofs.lemmas.Bool.{and_from, ltb-true, ltb-false}
-use Rattle.std.proofs.lemmas.List.{length_push, map-append, map_push}
+use Rattle.std.proofs.lemmas.List.{length_push, map_push}
 use Rattle.mc_base.specs.declared.name.Local.{Local}
 use Rattle.mc_base.specs.declared.request.RequestId.{RequestId}
 use Rattle.mc_base.specs.declared.request.Slot.{Slot}
@@ -12,7 +12,7 @@ use Rattle.board_model.specs.State as state
 use Rattle.board_model.specs.Choice.{best}
 use Rattle.board_model.specs.Effect.{received}
 use Rattle.board_model.proofs.ListsCounts.{count-cons, count-every}
-use Rattle.buffer_book.specs.Book.{Book, queued_at}
+use Rattle.buffer_book.specs.Book.{Book}
 use Rattle.message_queue.specs.Queue.{Waiting, waiting}
 use Rattle.request_set.specs.declared.ask.Ask.{Ask}
 use Rattle.request_set.specs.declared.ask.Ask.TheVariants as ask
@@ -20,13 +20,13 @@ use Rattle.request_set.specs.declared.ask.Complete.{Complete}
 use Rattle.request_set.specs.declared.ask.Complete.TheVariants as complete
 use Rattle.request_set.specs.Requests.{Requests, Standing, completed, is_id, keys, with_complete, with_request}
 use Rattle.domain_core.specs.Table.{Table}
-use Rattle.domain_core.specs.Records.{Records, waiting_in, with_best_taken, with_best_taken_at}
+use Rattle.domain_core.specs.Records.{Records, waiting_in, with_best_taken_at}
 use Rattle.domain_core.specs.Pool.{Pool}
-use Rattle.domain_core.specs.InBook.{asked_in, endpoints_in, item_at, item_in, outcome_in, priority_in, request_in, requests_in, table_in}
-use Rattle.domain_core.specs.InRequests.{AreReceives, IsReceive, handed_slots, slots_in}
-use Rattle.domain_core.specs.InPlaces.{AreInPlaces, is_same, one_if, times_in}
+use Rattle.domain_core.specs.InBook.{asked_in, endpoints_in, item_at, item_in, outcome_in, request_in, requests_in, table_in}
+use Rattle.domain_core.specs.InRequests.{AreReceives, IsReceive, handed_slots}
+use Rattle.domain_core.specs.InPlaces.{AreInPlaces, is_same, one_if}
 use Rattle.domain_core.proofs.Queuing.{cancelled-places, moved-places, received-priority}
-use Rattle.domain_core.proofs.Receives.{differ-more, handed-new, key_in, keys_in, others-fresh, others-stay}
+use Rattle.domain_core.proofs.Receives.{differ-more, handed-new, keys_in, others-fresh, others-stay}
 use Rattle.domain_core.proofs.Tables.{All-push}
 use Rattle.domain_core.proofs.Waits.{endpoints-less}
 

@@ -1,29 +1,32 @@
 -- What a call answers and leaves, by the first word of refusal that holds.
-use Rattle.std.proofs.Common.{◌≡◌, ℕ, ◌+◌, ◌<◌, ◌≤◌, Bool, true, false, cond, List, [], ◌∷◌, ◌++◌, length, map, Option, Some, None, refl, sym, ap, ◌∙◌, arith}
-use Rattle.std.specs.Prelude.{is_some, not, nat_le, nat_lt, ◌==◌, ◌%◌, ◌^◌, option_map, option_to_list, unwrap_or}
+use Rattle.std.proofs.Common.{◌≡◌, ℕ, ◌+◌, ◌<◌, ◌≤◌, Bool, true, false, cond, List, [], ◌∷◌, ◌++◌, length, map, Option, Some, None, refl, sym, ap, ◌∙◌, arith, eq-eqb}
+use Rattle.std.specs.Prelude.{filter, is_some, not, nat_le, nat_lt, ◌==◌, ◌%◌, ◌^◌, option_map, option_to_list, unwrap_or}
 use Rattle.std.proofs.lemmas.List.{append-nil}
 use Rattle.mc_base.specs.declared.name.EndName.{EndName}
 use Rattle.mc_base.specs.declared.refusal.Refusal.{Refusal}
-use Rattle.mc_base.specs.declared.refusal.Refusal.TheVariants.{NodeInvalid, ExistsAlready, EndpLimit, AddressSpent, EndpInvalid, PeerInvalid, OnChannel, MsgSize, NoBuffer, Empty, RequestLimit, RequestInvalid, Pending, TooLate}
-use Rattle.board_model.specs.DomainCall.{DomainCall, create_at, send_from, receive_at, request_at, available_at, test_of, cancel_of}
+use Rattle.mc_base.specs.declared.refusal.Refusal.TheVariants.{NodeInvalid, ExistsAlready, EndpLimit, AddressSpent, EndpInvalid, PeerInvalid, OnChannel, ChanConnected, MsgSize, NoBuffer, Empty, RequestLimit, RequestInvalid, Pending, TooLate}
+use Rattle.board_model.specs.DomainCall.{DomainCall, create_at, delete_at, lookup_of, send_from, receive_at, request_at, available_at, test_of, cancel_of}
 use Rattle.board_model.specs.Journal.{refuses}
 use Rattle.board_model.specs.Lists.{changed, changed_at, without}
-use Rattle.board_model.specs.State.{DomainState, Peer, Item, Request, Asked, Outcome, has_item, message_at, request_at_place, place_at, endpoint_at, queue_at, free_to, place_of_peer}
+use Rattle.board_model.specs.State.{DomainState, Announcement, is_owed_end, Peer, Item, Request, Asked, Outcome, has_item, request_at_place, place_at, endpoint_at, queue_at, free_to, place_of_peer}
 use Rattle.board_model.specs.Answer.{is_complete, answer, answer_by, puts, refusal, success, success_puts, unless_refused, has_channel, address_of, local, lacks_buffers}
-use Rattle.board_model.specs.Effect.{success_effect, success_returns, with_used, used_one, received, held_by}
+use Rattle.board_model.specs.Dealing.{found_for}
+use Rattle.board_model.specs.Effect.{also_owed, ended_by_word, success_effect, success_returns, with_announced, with_endpoint, with_request, with_used, used_one, received}
 use Rattle.board_model.specs.Serial.{Alone, after_own_call, frame_put}
-use Rattle.domain_core.specs.Table.{Table, with_received_at, with_requests}
+use Rattle.mc_base.specs.FullName.{end_name}
+use Rattle.mc_base.specs.declared.name.Local.{Local}
+use Rattle.domain_core.specs.Table.{Table, with_deleted_at, with_received_at, with_requests}
 use Rattle.domain_core.specs.Lane.{Lane, with_frame, with_one_used, with_returned}
 use Rattle.mc_base.specs.declared.request.RequestId.{RequestId}
 use Rattle.domain_core.specs.Calls.{place_ended, success_ends}
-use Rattle.domain_core.specs.Alone.{state_of, alone}
+use Rattle.domain_core.specs.Alone.{own_peer, state_of, alone}
 use Rattle.domain_core.proofs.Turning.{own-known, own-place}
 
 -- a call by its refusal
 abbrev pub after_by : Alone → ℕ → DomainCall → Option Refusal → Alone
 after_by a node call o = record { state = unless_refused o a.state (success_effect a.state node call); ring = a.ring ++ map frame_put (unless_refused o [] (success_puts a.state node call)); returned = a.returned + length (unless_refused o [] (success_returns a.state node call)) }
 
-nothing-more : (a : Alone) → a ≡ record { state = a.state; ring = a.ring ++ []; returned = a.returned + 0 }
+pub nothing-more : (a : Alone) → a ≡ record { state = a.state; ring = a.ring ++ []; returned = a.returned + 0 }
 nothing-more a =
     let zero-more : a.returned ≡ a.returned + 0 = omega arith in
     ap (λ (r : List (List ℕ)). record a { ring = r }) (sym (append-nil a.ring)) ∙ ap (λ (k : ℕ). record { state = a.state; ring = a.ring ++ []; returned = k }) zero-more
@@ -71,38 +74,59 @@ same-ids s node call ids ids' none same =
 abbrev create_by : Bool → Bool → Bool → Bool → Option Refusal
 create_by b1 b2 b3 b4 = cond b1 (Some NodeInvalid) (cond b2 (Some ExistsAlready) (cond b3 (Some EndpLimit) (cond b4 (Some AddressSpent) None)))
 
-create-is : (s : DomainState) (node port : ℕ) → refusal s node (create_at port) ≡ create_by (nat_le s.nodes node) (is_some (place_at s (local node port))) (nat_le 64 (length s.endpoints)) (nat_le 60000 s.endpoints_given)
+create-is : (s : DomainState) (node port : ℕ) → refusal s node (create_at port) ≡ create_by (nat_le s.nodes node) (is_some (place_at s (local node port))) (nat_le 64 (length s.endpoints + length s.ended)) (nat_le 60000 s.endpoints_given)
 create-is s node port = refl
 
 -- the first conditions, as far as they decide
 pub create-node : (s : DomainState) (node port : ℕ) → s.nodes ≤ node → refusal s node (create_at port) ≡ Some NodeInvalid
 create-node s node port le =
     let e1 : nat_le s.nodes node ≡ true = grind arith in
-    ap (λ (b : Bool). create_by b (is_some (place_at s (local node port))) (nat_le 64 (length s.endpoints)) (nat_le 60000 s.endpoints_given)) e1
+    ap (λ (b : Bool). create_by b (is_some (place_at s (local node port))) (nat_le 64 (length s.endpoints + length s.ended)) (nat_le 60000 s.endpoints_given)) e1
 
 pub create-exists : (s : DomainState) (node port : ℕ) → node < s.nodes → is_some (place_at s (local node port)) ≡ true → refusal s node (create_at port) ≡ Some ExistsAlready
 create-exists s node port lt e2 =
     let e1 : nat_le s.nodes node ≡ false = grind arith in
-    ap (λ (b : Bool). create_by b (is_some (place_at s (local node port))) (nat_le 64 (length s.endpoints)) (nat_le 60000 s.endpoints_given)) e1
-    ∙ ap (λ (b : Bool). create_by false b (nat_le 64 (length s.endpoints)) (nat_le 60000 s.endpoints_given)) e2
+    ap (λ (b : Bool). create_by b (is_some (place_at s (local node port))) (nat_le 64 (length s.endpoints + length s.ended)) (nat_le 60000 s.endpoints_given)) e1
+    ∙ ap (λ (b : Bool). create_by false b (nat_le 64 (length s.endpoints + length s.ended)) (nat_le 60000 s.endpoints_given)) e2
 
-pub create-limit : (s : DomainState) (node port : ℕ) → node < s.nodes → is_some (place_at s (local node port)) ≡ false → 64 ≤ length s.endpoints → refusal s node (create_at port) ≡ Some EndpLimit
+pub create-limit : (s : DomainState) (node port : ℕ) → node < s.nodes → is_some (place_at s (local node port)) ≡ false → 64 ≤ length s.endpoints + length s.ended → refusal s node (create_at port) ≡ Some EndpLimit
 create-limit s node port lt e2 le =
     let e1 : nat_le s.nodes node ≡ false = grind arith in
-    let e3 : nat_le 64 (length s.endpoints) ≡ true = grind arith in
-    ap (λ (b : Bool). create_by b (is_some (place_at s (local node port))) (nat_le 64 (length s.endpoints)) (nat_le 60000 s.endpoints_given)) e1
-    ∙ ap (λ (b : Bool). create_by false b (nat_le 64 (length s.endpoints)) (nat_le 60000 s.endpoints_given)) e2
+    let e3 : nat_le 64 (length s.endpoints + length s.ended) ≡ true = grind arith in
+    ap (λ (b : Bool). create_by b (is_some (place_at s (local node port))) (nat_le 64 (length s.endpoints + length s.ended)) (nat_le 60000 s.endpoints_given)) e1
+    ∙ ap (λ (b : Bool). create_by false b (nat_le 64 (length s.endpoints + length s.ended)) (nat_le 60000 s.endpoints_given)) e2
     ∙ ap (λ (b : Bool). create_by false false b (nat_le 60000 s.endpoints_given)) e3
 
-pub create-done : (s : DomainState) (node port : ℕ) → node < s.nodes → is_some (place_at s (local node port)) ≡ false → length s.endpoints < 64 → s.endpoints_given < 60000 → refusal s node (create_at port) ≡ None
+pub create-done : (s : DomainState) (node port : ℕ) → node < s.nodes → is_some (place_at s (local node port)) ≡ false → length s.endpoints + length s.ended < 64 → s.endpoints_given < 60000 → refusal s node (create_at port) ≡ None
 create-done s node port lt e2 few given =
     let e1 : nat_le s.nodes node ≡ false = grind arith in
-    let e3 : nat_le 64 (length s.endpoints) ≡ false = grind arith in
+    let e3 : nat_le 64 (length s.endpoints + length s.ended) ≡ false = grind arith in
     let e4 : nat_le 60000 s.endpoints_given ≡ false = grind arith in
-    ap (λ (b : Bool). create_by b (is_some (place_at s (local node port))) (nat_le 64 (length s.endpoints)) (nat_le 60000 s.endpoints_given)) e1
-    ∙ ap (λ (b : Bool). create_by false b (nat_le 64 (length s.endpoints)) (nat_le 60000 s.endpoints_given)) e2
+    ap (λ (b : Bool). create_by b (is_some (place_at s (local node port))) (nat_le 64 (length s.endpoints + length s.ended)) (nat_le 60000 s.endpoints_given)) e1
+    ∙ ap (λ (b : Bool). create_by false b (nat_le 64 (length s.endpoints + length s.ended)) (nat_le 60000 s.endpoints_given)) e2
     ∙ ap (λ (b : Bool). create_by false false b (nat_le 60000 s.endpoints_given)) e3
     ∙ ap (λ (b : Bool). create_by false false false b) e4
+
+pub create-spent : (s : DomainState) (node port : ℕ) → node < s.nodes → is_some (place_at s (local node port)) ≡ false → length s.endpoints + length s.ended < 64 → 60000 ≤ s.endpoints_given → refusal s node (create_at port) ≡ Some AddressSpent
+create-spent s node port lt e2 few given =
+    let e1 : nat_le s.nodes node ≡ false = grind arith in
+    let e3 : nat_le 64 (length s.endpoints + length s.ended) ≡ false = grind arith in
+    let e4 : nat_le 60000 s.endpoints_given ≡ true = grind arith in
+    ap (λ (b : Bool). create_by b (is_some (place_at s (local node port))) (nat_le 64 (length s.endpoints + length s.ended)) (nat_le 60000 s.endpoints_given)) e1
+    ∙ ap (λ (b : Bool). create_by false b (nat_le 64 (length s.endpoints + length s.ended)) (nat_le 60000 s.endpoints_given)) e2
+    ∙ ap (λ (b : Bool). create_by false false b (nat_le 60000 s.endpoints_given)) e3
+    ∙ ap (λ (b : Bool). create_by false false false b) e4
+
+abbrev delete_by : Bool → Bool → Option Refusal
+delete_by b1 b2 = cond b1 (Some EndpInvalid) (cond b2 (Some ChanConnected) None)
+
+pub delete-is : (s : DomainState) (node port : ℕ) (b1 : Bool) → is_some (place_at s (local node port)) ≡ b1 → has_channel (endpoint_at s (local node port)) ≡ false → refusal s node (delete_at port) ≡ delete_by (not b1) false
+delete-is s node port b1 e1 e2 =
+    ap (λ (b : Bool). delete_by (not b) (has_channel (endpoint_at s (local node port)))) e1
+    ∙ ap (λ (b : Bool). delete_by (not b1) b) e2
+
+pub lookup-is : (s : DomainState) (node : ℕ) (name : EndName) (b1 : Bool) → nat_le 64 (length s.requests) ≡ b1 → refusal s node (lookup_of name) ≡ cond b1 (Some RequestLimit) None
+lookup-is s node name b1 e1 = ap (λ (b : Bool). cond b (Some RequestLimit) None) e1
 
 abbrev send_by : Bool → Bool → Bool → Bool → Bool → Option Refusal
 send_by b1 b2 b3 b4 b5 = cond b1 (Some EndpInvalid) (cond b2 (Some OnChannel) (cond b3 (Some PeerInvalid) (cond b4 (Some MsgSize) (cond b5 (Some NoBuffer) None))))
@@ -213,3 +237,46 @@ pub alone-cancelled : (n nodes : ℕ) (t t' : Table) (l : Lane) (place : Option 
     → alone n nodes t' l ≡ record { state = record (state_of n nodes t l) { requests = without place t.held.requests }; ring = l.ring ++ []; returned = l.returned + 0 }
 alone-cancelled n nodes t t' l place is =
     ap (λ (x : Table). alone n nodes x l) is ∙ nothing-more (alone n nodes (with_requests t (without place t.held.requests)) l)
+
+-- a request was made that is complete or not, and holds nothing
+pub alone-asked : (n nodes : ℕ) (t t' : Table) (l : Lane) (asked : Asked) (outcome : Option Outcome) → t' ≡ record t { held = record t.held { requests = t.held.requests ++ record { serial = t.requests_given; asked = asked; outcome = outcome } ∷ [] }; requests_given = (t.requests_given + 1) % 2 ^ 64 }
+    → alone n nodes t' l ≡ record { state = with_request (state_of n nodes t l) asked outcome; ring = l.ring ++ []; returned = l.returned + 0 }
+alone-asked n nodes t t' l asked outcome is =
+    let r : Request = record { serial = t.requests_given; asked = asked; outcome = outcome } in
+    let t'' : Table = record t { held = record t.held { requests = t.held.requests ++ r ∷ [] }; requests_given = (t.requests_given + 1) % 2 ^ 64 } in
+    ap (λ (x : Table). alone n nodes x l) is ∙ nothing-more (alone n nodes t'' l)
+
+-- nothing is announced to the domain itself
+own-told : (n : ℕ) (l : Lane) (a : Announcement) → map (also_owed n a) (own_peer n l ∷ []) ≡ own_peer n l ∷ []
+own-told n l a = ap (λ (b : Bool). cond b (own_peer n l) (record (own_peer n l) { announcements = a ∷ [] }) ∷ []) (eq-eqb n n refl)
+
+-- an endpoint was made
+pub alone-created : (n nodes : ℕ) (t t' : Table) (l : Lane) (at : Local) → t' ≡ record t { held = record { endpoints = t.held.endpoints ++ record { local = at; address = 1024 + t.given; queue = []; channel = None } ∷ []; requests = map (found_for (end_name n at) (1024 + t.given)) t.held.requests }; given = t.given + 1 }
+    → alone n nodes t' l ≡ record { state = with_endpoint (state_of n nodes t l) at; ring = l.ring ++ []; returned = l.returned + 0 }
+alone-created n nodes t t' l at is =
+    let address = 1024 + t.given in
+    let t'' : Table = record t { held = record { endpoints = t.held.endpoints ++ record { local = at; address = address; queue = []; channel = None } ∷ []; requests = map (found_for (end_name n at) address) t.held.requests }; given = t.given + 1 } in
+    ap (λ (x : Table). alone n nodes x l) is
+    ∙ nothing-more (alone n nodes t'' l)
+    ∙ ap (λ (ps : List Peer). record { state = record (state_of n nodes t'' l) { peers = ps }; ring = l.ring ++ []; returned = l.returned + 0 }) (sym (own-told n l (record { local = at; address = address; create = true })))
+
+-- an endpoint is gone, and its messages were dropped
+pub alone-deleted : (n nodes : ℕ) (t t' : Table) (l l' : Lane) (i dropped : ℕ) (at : Local) (place : Option ℕ) (address : ℕ) (q : List Item) → t' ≡ with_deleted_at t i at → l' ≡ with_returned l dropped → Some i ≡ place → length q ≡ dropped
+    → alone n nodes t' l' ≡ record { state = with_announced (record (state_of n nodes t l) { endpoints = without place t.held.endpoints; ended = address ∷ []; requests = map (ended_by_word EndpInvalid at) t.held.requests }) (record { local = at; address = address; create = false }); ring = l.ring ++ []; returned = l.returned + length q }
+alone-deleted n nodes t t' l l' i dropped at place address q gone back there long =
+    let s = state_of n nodes t l in
+    let requests = map (ended_by_word EndpInvalid at) t.held.requests in
+    let with_ring : DomainState → ℕ → Alone = λ x k. record { state = x; ring = l.ring ++ []; returned = l.returned + k } in
+    ap (λ (x : Table). alone n nodes x l') gone
+    ∙ ap (λ (x : Lane). alone n nodes (with_deleted_at t i at) x) back
+    ∙ ap (λ (r : List (List ℕ)). record (alone n nodes (with_deleted_at t i at) (with_returned l dropped)) { ring = r }) (sym (append-nil l.ring))
+    ∙ ap (λ (o : Option ℕ). with_ring (record s { endpoints = without o t.held.endpoints; requests = requests }) dropped) there
+    ∙ ap (λ (k : ℕ). with_ring (record s { endpoints = without place t.held.endpoints; requests = requests }) k) (sym long)
+    ∙ ap (λ (ps : List Peer). with_ring (record s { endpoints = without place t.held.endpoints; ended = filter (is_owed_end ps) (address ∷ []); peers = ps; requests = requests }) (length q)) (sym (own-told n l (record { local = at; address = address; create = false })))
+
+-- a request was tested off, which held nothing
+pub alone-told : (n nodes : ℕ) (t t' : Table) (l : Lane) (place : Option ℕ) (held : List Item) → t' ≡ with_requests t (without place t.held.requests) → length held ≡ 0
+    → alone n nodes t' l ≡ record { state = record (state_of n nodes t l) { requests = without place t.held.requests }; ring = l.ring ++ []; returned = l.returned + length held }
+alone-told n nodes t t' l place held is none =
+    alone-cancelled n nodes t t' l place is
+    ∙ ap (λ (k : ℕ). record { state = record (state_of n nodes t l) { requests = without place t.held.requests }; ring = l.ring ++ []; returned = l.returned + k }) (sym none)

@@ -1,20 +1,19 @@
 -- A request that is tested off or cancelled.
-use Rattle.std.proofs.Common.{◌≡◌, ℕ, ◌+◌, Bool, true, false, cond, List, [], ◌∷◌, length, map, take, Option, Some, None, refl, sym, ap, ◌∙◌, subst, arith}
-use Rattle.std.specs.Prelude.{count_by, is_some, not, option_map, position, Result, Ok, Err}
-use Rattle.std.specs.List.{AllByRecursion}
+use Rattle.std.proofs.Common.{◌≡◌, ℕ, ◌+◌, Bool, true, cond, List, [], length, map, take, Option, Some, None, refl, sym, ap, ◌∙◌, subst, arith}
+use Rattle.std.specs.Prelude.{count_by, is_some, not, option_map, position, Ok, Err}
 use Rattle.mc_base.specs.declared.refusal.Refusal.{Refusal}
 use Rattle.mc_base.specs.declared.refusal.Refusal.TheVariants.{RequestInvalid, Pending, TooLate}
 use Rattle.mc_base.specs.declared.request.RequestId.{RequestId}
 use Rattle.mc_base.specs.declared.request.Slot.{Slot}
 use Rattle.board_model.specs.DomainCall.{DomainCall, test_of, cancel_of}
-use Rattle.board_model.specs.Journal.{brought}
+use Rattle.board_model.specs.Journal.{PlainResult, brought}
 use Rattle.board_model.specs.Lists.{without}
 use Rattle.board_model.specs.State as state
 use Rattle.board_model.specs.State.{DomainState, request_at_place}
 use Rattle.board_model.specs.Answer.{refusal, result_by, result_of, unless_refused}
 use Rattle.board_model.specs.Effect.{held_by}
 use Rattle.board_model.proofs.ListsCounts.{count-cons, count-every}
-use Rattle.buffer_book.specs.Book.{AllDiffer, Book, queued_at}
+use Rattle.buffer_book.specs.Book.{Book, queued_at}
 use Rattle.request_set.specs.declared.ask.Ask.{Ask}
 use Rattle.request_set.specs.declared.ask.Ask.TheVariants as ask
 use Rattle.request_set.specs.declared.ask.Complete.{Complete}
@@ -24,12 +23,13 @@ use Rattle.request_set.specs.Requests.{Requests, Standing, is_id, progress_of, r
 use Rattle.domain_core.specs.declared.domain.Domain.TheInside.{Inside}
 use Rattle.domain_core.specs.Calls.{place_ended, success_ends}
 use Rattle.domain_core.specs.DomainView.{place_of_id}
-use Rattle.domain_core.specs.Table.{with_held, with_requests}
+use Rattle.domain_core.specs.Table.{with_requests}
 use Rattle.domain_core.specs.Records.{Records}
-use Rattle.domain_core.specs.InBook.{asked_in, content_in, endpoints_in, outcome_in, request_in, requests_in, table_in}
-use Rattle.domain_core.specs.InRequests.{AreReceives, IsReceive, Receives, handed_slots, slots_in}
-use Rattle.domain_core.specs.InPlaces.{is_same, one_if, times_in}
+use Rattle.domain_core.specs.InBook.{asked_in, item_at, content_in, outcome_in, request_in, requests_in, table_in}
+use Rattle.domain_core.specs.InRequests.{AreReceives, Receives, handed_slots, slots_in}
+use Rattle.domain_core.specs.InPlaces.{one_if}
 use Rattle.domain_core.specs.Alone.{alone_of, view_of}
+use Rattle.domain_core.proofs.Handed.{item-in}
 use Rattle.domain_core.proofs.Calling.{cancel_by, cancel-is, test_by, test-is}
 use Rattle.domain_core.proofs.Receives.{differ-filter, each-filter, found-receives, gone-at, handed-less, length-filter, map-without, place-of_id, request-there}
 
@@ -165,3 +165,53 @@ left-ids q id o receives at =
 
 pub cancelled-same : (q : Requests) (id : RequestId) (test : Slot → Bool) → AreReceives q → progress_of q id ≡ Some None → count_by test (handed_slots (without_request q id).standing) ≡ count_by test (handed_slots q.standing)
 cancelled-same q id test receives pending = let less = handed-less test id None q.standing receives.differ pending in omega (arith, less)
+
+-- ---- a request that ended and held no message
+
+-- what is tested off is complete
+pub test-complete : (o : Option (Option Complete)) (how : Complete) → set.tested o ≡ Ok how → o ≡ Some (Some how)
+test-complete None how e = absurd cc
+test-complete (Some None) how e = absurd cc
+test-complete (Some (Some c)) how e = cc
+
+no-slots : (a : Ask) (how : Complete) → Receives a (Some how) → ((slot : Slot) (max : ℕ) → how ≡ complete.Message slot max → ⊥) → slots_in (Some how) ≡ []
+no-slots a (complete.Address address) is other = refl
+no-slots a complete.Accepted is other = refl
+no-slots a (complete.Rejected reason) is other = refl
+no-slots a (complete.Message slot max) is other = absurd (other slot max refl)
+no-slots (ask.Lookup name) (complete.Packet slot) is other = absurd is
+no-slots (ask.Connect channel) (complete.Packet slot) is other = absurd is
+no-slots (ask.Message at max) (complete.Packet slot) is other = absurd is
+no-slots (ask.Packet at) (complete.Packet slot) is other = absurd is
+no-slots a (complete.Ended word) is other = refl
+
+module _ (d : Inside) (id : RequestId) (receives : AreReceives d.requests) (how : Complete) (held : progress_of d.requests id ≡ Some (Some how)) (other : (slot : Slot) (max : ℕ) → how ≡ complete.Message slot max → ⊥) where
+  there : (r : Standing) × (request_of d.requests id ≡ Some r) × (r.complete ≡ Some how)
+  there = request-found (request_of d.requests id) (Some how) held
+
+  pub quiet-slots : slots_in (Some how) ≡ []
+  quiet-slots =
+      let r = there.0 in
+      no-slots r.ask how (subst (λ (o : Option Complete). Receives r.ask o) there.2 (found-receives (is_id id) r d.requests.standing receives.each there.1)) other
+
+  pub quiet-result : (told : PlainResult) → ((asked : state.Asked) → told ≡ result_by asked (Some (outcome_in d.book how))) → told ≡ result_of (request_at_place (alone_of d).state (place_of_id (view_of d) id))
+  quiet-result told is =
+      let r = there.0 in
+      is (asked_in r.ask)
+      ∙ sym (ap result_of (request-at d id ∙ ap (option_map (request_in d.book)) there.1)
+      ∙ ap (λ (o : Option Complete). result_by (asked_in r.ask) (option_map (outcome_in d.book) o)) there.2)
+
+  pub quiet-returns : length (held_by (request_at_place (alone_of d).state (place_of_id (view_of d) id))) ≡ 0
+  quiet-returns =
+      ap (λ (o : Option state.Request). length (held_by o)) (request-at d id ∙ ap (option_map (request_in d.book)) there.1)
+      ∙ ap (λ (o : Option Complete). length (state.item_in (option_map (outcome_in d.book) o))) there.2
+      ∙ ap length (item-in d.book (Some how) ∙ ap (map (item_at d.book)) quiet-slots)
+
+  pub quiet-same : (test : Slot → Bool) → count_by test (handed_slots (without_request d.requests id).standing) ≡ count_by test (handed_slots d.requests.standing)
+  quiet-same test =
+      let less = handed-less test id (Some how) d.requests.standing receives.differ held in
+      let none = ap (count_by test) quiet-slots in
+      omega (arith, less, none)
+
+pub held-message : (o : Option (Option Complete)) (how : Complete) (slot : Slot) (max : ℕ) → set.tested o ≡ Ok how → how ≡ complete.Message slot max → o ≡ Some (Some (complete.Message slot max))
+held-message o how slot max e is = test-complete o how e ∙ ap (λ (c : Complete). Some (Some c)) is

@@ -1,6 +1,6 @@
 -- The table of what a domain does with a frame: which row a frame has.
 use Rattle.std.proofs.Common.{◌≡◌, ℕ, ◌+◌, ◌-◌, ◌<◌, ◌≤◌, Bool, true, false, cond, List, [], ◌∷◌, ◌++◌, length, Option, Some, None, refl, sym, ap, ◌∙◌, arith, take, drop, eqb}
-use Rattle.std.specs.Prelude.{option_map, position, is_some, not, ◌&&◌, ◌==◌, slice_index}
+use Rattle.std.specs.Prelude.{option_map, position, is_none, is_some, nat_le, not, ◌&&◌, ◌==◌, slice_index}
 use Rattle.std.proofs.lemmas.List.{append-nil, drop-take, drop-drop, get_or-drop, get_or-take, length-take, length-drop}
 use Rattle.mc_base.specs.FaultRow.{FaultRow, first, first_fault, widened}
 use Rattle.mc_base.specs.Fault.{fault, payload_faults}
@@ -19,7 +19,8 @@ use Rattle.mc_base.specs.declared.letter.Letter.TheVariants as letter
 use Rattle.std.specs.Borrow.{Bor}
 use Rattle.board_model.specs.Lists.{changed}
 use Rattle.board_model.specs.State.{DomainState, Item, place_of_address, place_waiting_for}
-use Rattle.board_model.specs.Dealing.{Row, row, fault_row, first_row, row_for, left_by, fault_word, is_letter, item_of, queued_last, complete_with, priority_in, content_in, keeps_buffer}
+use Rattle.mc_base.specs.NameMap.{names_limit}
+use Rattle.board_model.specs.Dealing.{Row, row, rows, fault_row, first_row, row_for, is_announcement, is_known, known_from, announced_address, announced_name, tells_creation, with_created, with_destroyed, with_handed, with_item, left_by, fault_word, is_letter, item_of, queued_last, complete_with, priority_in, content_in, keeps_buffer}
 use Rattle.board_model.specs.Serial.{word_of}
 use Rattle.mc_base.specs.declared.name.Local.{Local}
 use Rattle.mc_base.specs.declared.request.RequestId.{RequestId}
@@ -62,28 +63,47 @@ faultless frame letter sound e =
     ∙ ap first_fault (letters-faults frame letter ∙ sym (append-nil (widened fault_of.Letter (letter_faults (payload_of frame)))))
     ∙ widened-passes fault_of.Letter (letter_faults (payload_of frame)) [] e
 
--- ---- the rows, by what they depend on
+-- ---- the row of a letter, by what it depends on
 
-abbrev pub row_by : DomainState → Option Fault → Bool → Option ℕ → Bool → Option ℕ → Item → Option Row
-row_by s o letter place first_kind waiting item =
-    first_row (fault_row s o ∷ row (letter && not (is_some place)) fate.NoEndpoint s ∷ row ((letter && first_kind) && is_some waiting) fate.Handed (record s { requests = changed (complete_with item) waiting s.requests }) ∷ row (letter && first_kind) fate.Queued (record s { endpoints = changed (queued_last item) place s.endpoints }) ∷ row letter fate.State s ∷ [])
+abbrev pub row_by : DomainState → Option Fault → Option ℕ → Bool → Option ℕ → Item → Option Row
+row_by s o place first_kind waiting item =
+    first_row (fault_row s o ∷ row (not (is_some place)) fate.NoEndpoint s ∷ row (first_kind && is_some waiting) fate.Handed (record s { requests = changed (complete_with item) waiting s.requests }) ∷ row first_kind fate.Queued (record s { endpoints = changed (queued_last item) place s.endpoints }) ∷ row true fate.State s ∷ [])
 
-pub row_is : (s : DomainState) (peer : ℕ) (frame : List ℕ) → row_for s peer frame ≡ row_by s (fault frame) (is_letter frame) (place_of_address s (destination_of frame)) (slice_index (payload_of frame) 2 == 1) (place_waiting_for s (destination_of frame)) (item_of peer frame)
-row_is s peer frame = refl
+no-announcement : (frame : List ℕ) → is_letter frame ≡ true → is_announcement frame ≡ false
+no-announcement frame letter = elim (is_announcement frame) as (λ b. not b ≡ true → b ≡ false) [ true ↦ λ h. absurd cc | false ↦ λ h. refl ] letter
 
-pub row_by-faulty : (s : DomainState) (o : Option Fault) (f : Fault) (l : Bool) (p : Option ℕ) (k : Bool) (w : Option ℕ) (i : Item) → o ≡ Some f → row_by s o l p k w i ≡ Some (row true (fault_word f) s)
-row_by-faulty s o f l p k w i e = ap (λ (x : Option Fault). row_by s x l p k w i) e
+abbrev rows_by : DomainState → ℕ → List ℕ → Bool → Option Row
+rows_by s peer frame announces = first_row (
+    fault_row s (fault frame)
+    ∷ row (announces && is_none (announced_name peer frame)) fate.ForeignName s
+    ∷ row ((announces && tells_creation frame) && (not (is_known (known_from s peer) (announced_name peer frame)) && nat_le names_limit (length (known_from s peer)))) fate.NamesFull s
+    ∷ row (announces && tells_creation frame) fate.Acted (with_created s peer (announced_name peer frame) (announced_address frame))
+    ∷ row (announces && not (is_known (known_from s peer) (announced_name peer frame))) fate.UnknownName s
+    ∷ row announces fate.Acted (with_destroyed s peer (announced_name peer frame))
+    ∷ row (not announces && not (is_some (place_of_address s (destination_of frame)))) fate.NoEndpoint s
+    ∷ row ((not announces && slice_index (payload_of frame) 2 == 1) && is_some (place_waiting_for s (destination_of frame))) fate.Handed (with_handed s (destination_of frame) (item_of peer frame))
+    ∷ row (not announces && slice_index (payload_of frame) 2 == 1) fate.Queued (with_item s (destination_of frame) (item_of peer frame))
+    ∷ row (not announces) fate.State s
+    ∷ []
+    )
 
-pub row_by-nobody : (s : DomainState) (o : Option Fault) (l : Bool) (p : Option ℕ) (k : Bool) (w : Option ℕ) (i : Item) → o ≡ None → l ≡ true → p ≡ None → row_by s o l p k w i ≡ Some (row true fate.NoEndpoint s)
-row_by-nobody s o l p k w i e1 e2 e3 = ap (λ (x : Option Fault). row_by s x l p k w i) e1 ∙ ap (λ (x : Bool). row_by s None x p k w i) e2 ∙ ap (λ (x : Option ℕ). row_by s None true x k w i) e3
+pub row_is : (s : DomainState) (peer : ℕ) (frame : List ℕ) → is_letter frame ≡ true → row_for s peer frame ≡ row_by s (fault frame) (place_of_address s (destination_of frame)) (slice_index (payload_of frame) 2 == 1) (place_waiting_for s (destination_of frame)) (item_of peer frame)
+row_is s peer frame letter = ap (rows_by s peer frame) (no-announcement frame letter)
+
+-- a frame with a fault, be it a letter or not
+pub row-faulty : (s : DomainState) (peer : ℕ) (frame : List ℕ) (f : Fault) → fault frame ≡ Some f → row_for s peer frame ≡ Some (row true (fault_word f) s)
+row-faulty s peer frame f e = ap (λ (o : Option Fault). first_row (fault_row s o ∷ drop 1 (rows s peer frame))) e
+
+pub row_by-nobody : (s : DomainState) (o : Option Fault) (p : Option ℕ) (k : Bool) (w : Option ℕ) (i : Item) → o ≡ None → p ≡ None → row_by s o p k w i ≡ Some (row true fate.NoEndpoint s)
+row_by-nobody s o p k w i e1 e2 = ap (λ (x : Option Fault). row_by s x p k w i) e1 ∙ ap (λ (x : Option ℕ). row_by s None x k w i) e2
 
 -- a message to a live endpoint
-pub row_by-message : (s : DomainState) (o : Option Fault) (l : Bool) (p : Option ℕ) (at : ℕ) (k : Bool) (w v : Option ℕ) (i j : Item) → o ≡ None → l ≡ true → p ≡ Some at → k ≡ true → w ≡ v → i ≡ j → row_by s o l p k w i ≡ row_by s None true (Some at) true v j
-row_by-message s o l p at k w v i j e1 e2 e3 e4 e5 e6 =
-    ap (λ (x : Option Fault). row_by s x l p k w i) e1 ∙ ap (λ (x : Bool). row_by s None x p k w i) e2 ∙ ap (λ (x : Option ℕ). row_by s None true x k w i) e3 ∙ ap (λ (x : Bool). row_by s None true (Some at) x w i) e4 ∙ ap (λ (x : Option ℕ). row_by s None true (Some at) true x i) e5 ∙ ap (λ (x : Item). row_by s None true (Some at) true v x) e6
+pub row_by-message : (s : DomainState) (o : Option Fault) (p : Option ℕ) (at : ℕ) (k : Bool) (w v : Option ℕ) (i j : Item) → o ≡ None → p ≡ Some at → k ≡ true → w ≡ v → i ≡ j → row_by s o p k w i ≡ row_by s None (Some at) true v j
+row_by-message s o p at k w v i j e1 e2 e3 e4 e5 =
+    ap (λ (x : Option Fault). row_by s x p k w i) e1 ∙ ap (λ (x : Option ℕ). row_by s None x k w i) e2 ∙ ap (λ (x : Bool). row_by s None (Some at) x w i) e3 ∙ ap (λ (x : Option ℕ). row_by s None (Some at) true x i) e4 ∙ ap (λ (x : Item). row_by s None (Some at) true v x) e5
 
-pub row_by-other : (s : DomainState) (o : Option Fault) (l : Bool) (p : Option ℕ) (at : ℕ) (k : Bool) (w : Option ℕ) (i : Item) → o ≡ None → l ≡ true → p ≡ Some at → k ≡ false → row_by s o l p k w i ≡ Some (row true fate.State s)
-row_by-other s o l p at k w i e1 e2 e3 e4 = ap (λ (x : Option Fault). row_by s x l p k w i) e1 ∙ ap (λ (x : Bool). row_by s None x p k w i) e2 ∙ ap (λ (x : Option ℕ). row_by s None true x k w i) e3 ∙ ap (λ (x : Bool). row_by s None true (Some at) x w i) e4
+pub row_by-other : (s : DomainState) (o : Option Fault) (p : Option ℕ) (at : ℕ) (k : Bool) (w : Option ℕ) (i : Item) → o ≡ None → p ≡ Some at → k ≡ false → row_by s o p k w i ≡ Some (row true fate.State s)
+row_by-other s o p at k w i e1 e2 e3 = ap (λ (x : Option Fault). row_by s x p k w i) e1 ∙ ap (λ (x : Option ℕ). row_by s None x k w i) e2 ∙ ap (λ (x : Bool). row_by s None (Some at) x w i) e3
 
 -- ---- verdicts
 
@@ -92,19 +112,19 @@ returned peer h frame f e back = record { word = ap word_of e; leaves = ap (λ (
 
 pub returned-faulty : (peer : ℕ) (h : Held) (frame : List ℕ) (f : Fault) (w : Fate) → fault frame ≡ Some f → w ≡ fault_word f → keeps_buffer w ≡ false → IsReturned peer h frame w
 returned-faulty peer h frame f w e is back =
-    returned peer h frame w (row_by-faulty (keeping h) (fault frame) f (is_letter frame) (place_of_address (keeping h) (destination_of frame)) (slice_index (payload_of frame) 2 == 1) (place_waiting_for (keeping h) (destination_of frame)) (item_of peer frame) e ∙ ap (λ (x : Fate). Some (row true x (keeping h))) (sym is)) back
+    returned peer h frame w (row-faulty (keeping h) peer frame f e ∙ ap (λ (x : Fate). Some (row true x (keeping h))) (sym is)) back
 
 pub returned-nobody : (peer : ℕ) (h : Held) (frame : List ℕ) → fault frame ≡ None → is_letter frame ≡ true → place_of_address (keeping h) (destination_of frame) ≡ None → IsReturned peer h frame fate.NoEndpoint
 returned-nobody peer h frame e1 e2 e3 =
-    returned peer h frame fate.NoEndpoint (row_by-nobody (keeping h) (fault frame) (is_letter frame) (place_of_address (keeping h) (destination_of frame)) (slice_index (payload_of frame) 2 == 1) (place_waiting_for (keeping h) (destination_of frame)) (item_of peer frame) e1 e2 e3) refl
+    returned peer h frame fate.NoEndpoint (row_is (keeping h) peer frame e2 ∙ row_by-nobody (keeping h) (fault frame) (place_of_address (keeping h) (destination_of frame)) (slice_index (payload_of frame) 2 == 1) (place_waiting_for (keeping h) (destination_of frame)) (item_of peer frame) e1 e3) refl
 
 pub returned-other : (peer : ℕ) (h : Held) (frame : List ℕ) (at : ℕ) → fault frame ≡ None → is_letter frame ≡ true → place_of_address (keeping h) (destination_of frame) ≡ Some at → (slice_index (payload_of frame) 2 == 1) ≡ false → IsReturned peer h frame fate.State
 returned-other peer h frame at e1 e2 e3 e4 =
-    returned peer h frame fate.State (row_by-other (keeping h) (fault frame) (is_letter frame) (place_of_address (keeping h) (destination_of frame)) at (slice_index (payload_of frame) 2 == 1) (place_waiting_for (keeping h) (destination_of frame)) (item_of peer frame) e1 e2 e3 e4) refl
+    returned peer h frame fate.State (row_is (keeping h) peer frame e2 ∙ row_by-other (keeping h) (fault frame) (place_of_address (keeping h) (destination_of frame)) at (slice_index (payload_of frame) 2 == 1) (place_waiting_for (keeping h) (destination_of frame)) (item_of peer frame) e1 e3 e4) refl
 
 -- a message of a frame without faults, to the live endpoint at a place
 pub record IsMessage (peer : ℕ) (h : Held) (frame : List ℕ) (at priority size : ℕ) : Type 0 where
-  pub row : (v : Option ℕ) → place_waiting_for (keeping h) (destination_of frame) ≡ v → row_for (keeping h) peer frame ≡ row_by (keeping h) None true (Some at) true v (message_in peer frame size)
+  pub row : (v : Option ℕ) → place_waiting_for (keeping h) (destination_of frame) ≡ v → row_for (keeping h) peer frame ≡ row_by (keeping h) None (Some at) true v (message_in peer frame size)
   pub says : slice_index frame 19 ≡ priority
   pub size_fits : size ≤ 488
   pub content_fits : 24 + size ≤ length frame
@@ -175,7 +195,7 @@ is-message peer h frame at src dst priority payload content f letter sound fault
     let none = faultless frame letter sound (ap (λ (p : List ℕ). first_fault (letter_faults p)) (sym payload') ∙ faultless') in
     let there = ap (λ (d : ℕ). place_of_address (keeping h) d) (sym f.destination) ∙ sym place in
     record {
-      row = λ v e. row_by-message (keeping h) (fault frame) (is_letter frame) (place_of_address (keeping h) (destination_of frame)) at (slice_index (payload_of frame) 2 == 1) (place_waiting_for (keeping h) (destination_of frame)) v (item_of peer frame) (message_in peer frame (length content)) none letter there kind e item;
+      row = λ v e. row_is (keeping h) peer frame letter ∙ row_by-message (keeping h) (fault frame) (place_of_address (keeping h) (destination_of frame)) at (slice_index (payload_of frame) 2 == 1) (place_waiting_for (keeping h) (destination_of frame)) v (item_of peer frame) (message_in peer frame (length content)) none there kind e item;
       says = sym argument ∙ priority';
       size_fits = l.lawful.1;
       content_fits = lies.1;

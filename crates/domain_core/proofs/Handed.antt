@@ -1,7 +1,7 @@
 -- Messages that complete requests hold, by the book of buffers.
 use Rattle.std.proofs.Common.{◌≡◌, ℕ, zero, suc, ◌+◌, ◌≤◌, Bool, true, false, List, [], ◌∷◌, ◌++◌, length, map, take, Option, Some, None, refl, sym, ap, ◌∙◌, arith, eq-eqb, length-append, add-one}
-use Rattle.std.specs.Prelude.{count_by, is_some, option_map, slice_get, ◌==◌}
-use Rattle.std.specs.List.{AllByRecursion, flat_map}
+use Rattle.std.specs.Prelude.{count_by, option_map, slice_get, ◌==◌}
+use Rattle.std.specs.List.{flat_map}
 use Rattle.std.proofs.lemmas.Bool.{eqb-true}
 use Rattle.std.proofs.lemmas.List.{length-map, map-append, take_all}
 use Rattle.mc_base.specs.declared.request.RequestId.{RequestId}
@@ -9,14 +9,13 @@ use Rattle.mc_base.specs.declared.request.Slot.{Slot}
 use Rattle.board_model.specs.State as state
 use Rattle.board_model.specs.State.{Item, Request, is_from}
 use Rattle.board_model.proofs.ListsCounts.{count-append, count-cons}
-use Rattle.buffer_book.specs.Book.{Book, Kept, queued_at, with_place}
+use Rattle.buffer_book.specs.Book.{Book, Kept, with_place}
 use Rattle.request_set.specs.declared.ask.Ask.{Ask}
-use Rattle.request_set.specs.declared.ask.Ask.TheVariants as ask
 use Rattle.request_set.specs.declared.ask.Complete.{Complete}
 use Rattle.request_set.specs.declared.ask.Complete.TheVariants as complete
 use Rattle.request_set.specs.Requests.{Standing}
 use Rattle.domain_core.specs.InBook.{content_in, item_at, outcome_in, priority_in, request_in, requests_in, source_in}
-use Rattle.domain_core.specs.InRequests.{IsReceive, Receives, handed_slots, slots_in}
+use Rattle.domain_core.specs.InRequests.{handed_slots, slots_in}
 use Rattle.domain_core.specs.InPlaces.{is_same, one_if, times_in}
 use Rattle.domain_core.proofs.Books.{differ-back, itself, queued-there}
 use Rattle.domain_core.proofs.Placed.{no-one}
@@ -49,7 +48,7 @@ requests-stay b s k (r ∷ rs) none =
 
 -- ---- the items that they hold
 
-item-in : (b : Book) (o : Option Complete) → state.item_in (option_map (outcome_in b) o) ≡ map (item_at b) (slots_in o)
+pub item-in : (b : Book) (o : Option Complete) → state.item_in (option_map (outcome_in b) o) ≡ map (item_at b) (slots_in o)
 item-in b None = refl
 item-in b (Some (complete.Address address)) = refl
 item-in b (Some complete.Accepted) = refl
@@ -85,56 +84,44 @@ own-handed b number rs strangers = ap (count_by (is_from number)) (items-handed 
 
 -- ---- how many
 
-one-handed : (a : Ask) (o : Option Complete) → Receives a o → length (slots_in o) ≡ one_if (is_some o)
-one-handed (ask.Message at max) None is = refl
-one-handed (ask.Message at max) (Some (complete.Message slot most)) is = refl
-one-handed (ask.Message at max) (Some (complete.Address address)) is = absurd is
-one-handed (ask.Message at max) (Some complete.Accepted) is = absurd is
-one-handed (ask.Message at max) (Some (complete.Rejected reason)) is = absurd is
-one-handed (ask.Message at max) (Some (complete.Packet slot)) is = absurd is
-one-handed (ask.Message at max) (Some (complete.Ended word)) is = absurd is
-one-handed (ask.Lookup name) o is = absurd is
-one-handed (ask.Connect channel) o is = absurd is
-one-handed (ask.Packet at) o is = absurd is
-
 abbrev pub held_at : Option Standing → ℕ
 held_at None = 0
-held_at (Some r) = one_if (is_some r.complete)
+held_at (Some r) = length (slots_in r.complete)
 
 nothing-there : (k : ℕ) → take {A = Standing} k [] ≡ []
 nothing-there zero = refl
 nothing-there (suc k) = refl
 
 -- one request more
-handed-take : (rs : List Standing) (k : ℕ) → AllByRecursion IsReceive rs → length (handed_slots (take (suc k) rs)) ≡ length (handed_slots (take k rs)) + held_at (slice_get rs k)
-handed-take [] k each = ap (λ (xs : List Standing). length (handed_slots xs) + 0) (sym (nothing-there k))
-handed-take (r ∷ rs) zero each = length-append (slots_in r.complete) [] ∙ ap (λ (n : ℕ). n + 0) (one-handed r.ask r.complete each.0) ∙ omega arith
-handed-take (r ∷ rs) (suc k) each =
-    let rest = handed-take rs k each.1 in
+handed-take : (rs : List Standing) (k : ℕ) → length (handed_slots (take (suc k) rs)) ≡ length (handed_slots (take k rs)) + held_at (slice_get rs k)
+handed-take [] k = ap (λ (xs : List Standing). length (handed_slots xs) + 0) (sym (nothing-there k))
+handed-take (r ∷ rs) zero = length-append (slots_in r.complete) [] ∙ omega arith
+handed-take (r ∷ rs) (suc k) =
+    let rest = handed-take rs k in
     let now = length-append (slots_in r.complete) (handed_slots (take (suc k) rs)) in
     let before = length-append (slots_in r.complete) (handed_slots (take k rs)) in
     omega (arith, rest, now, before)
 
-pub handed-next : (rs : List Standing) (k : ℕ) → AllByRecursion IsReceive rs → length (handed_slots (take (k + 1) rs)) ≡ length (handed_slots (take k rs)) + held_at (slice_get rs k)
-handed-next rs k each = rw add-one (handed-take rs k each)
+pub handed-next : (rs : List Standing) (k : ℕ) → length (handed_slots (take (k + 1) rs)) ≡ length (handed_slots (take k rs)) + held_at (slice_get rs k)
+handed-next rs k = rw add-one (handed-take rs k)
 
-abbrev Listing : Type 0
+abbrev pub Listing : Type 0
 Listing = RequestId × Ask × Option Complete
 
-abbrev listing : Standing → Listing
+abbrev pub listing : Standing → Listing
 listing r = (r.id, r.ask, r.complete)
 
-pub held-listed : (o : Option Standing) (told : Listing) → Some told ≡ option_map listing o → held_at o ≡ one_if (is_some told.2)
+pub held-listed : (o : Option Standing) (told : Listing) → Some told ≡ option_map listing o → held_at o ≡ length (slots_in told.2)
 held-listed None told e = absurd cc
-held-listed (Some r) told e = let same : told ≡ listing r = cc in ap (λ (x : Listing). one_if (is_some x.2)) (sym same)
+held-listed (Some r) told e = let same : told ≡ listing r = cc in ap (λ (x : Listing). length (slots_in x.2)) (sym same)
 
 -- past the last one
-none-past : (rs : List Standing) (k : ℕ) → slice_get rs k ≡ None → length rs ≤ k
+pub none-past : (rs : List Standing) (k : ℕ) → slice_get rs k ≡ None → length rs ≤ k
 none-past [] k e = omega arith
 none-past (r ∷ rs) zero e = absurd cc
 none-past (r ∷ rs) (suc k) e = let rest = none-past rs k e in omega (arith, rest)
 
-none-listed : (o : Option Standing) → None ≡ option_map listing o → o ≡ None
+pub none-listed : (o : Option Standing) → None ≡ option_map listing o → o ≡ None
 none-listed None e = refl
 none-listed (Some r) e = absurd cc
 

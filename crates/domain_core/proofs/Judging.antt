@@ -1,5 +1,5 @@
 -- Whether a receive waits for the message of a frame.
-use Rattle.std.proofs.Common.{◌≡◌, ℕ, Bool, true, false, List, Option, Some, None, refl, sym, ap, ◌∙◌}
+use Rattle.std.proofs.Common.{◌≡◌, ℕ, true, Option, Some, None, refl, sym, ap, ◌∙◌}
 use Rattle.std.specs.Prelude.{find, is_none, is_some, option_and_then, option_map, position, slice_get}
 use Rattle.std.proofs.lemmas.Option.{slice_get-map}
 use Rattle.mc_base.specs.declared.name.Local.{Local}
@@ -8,7 +8,6 @@ use Rattle.board_model.specs.State as state
 use Rattle.board_model.specs.State.{place_of_address, place_of_waiting, place_waiting_for}
 use Rattle.board_model.proofs.MessageLists.{some-position}
 use Rattle.buffer_book.specs.Book.{Book}
-use Rattle.request_set.specs.declared.ask.Ask.TheVariants.{Message}
 use Rattle.request_set.specs.Requests.{IsPending, Requests, Standing, is_id, oldest_waiting, request_of, waits_at}
 use Rattle.domain_core.specs.declared.endpoints.Endpoint.{Endpoint}
 use Rattle.domain_core.specs.Table.{keeping}

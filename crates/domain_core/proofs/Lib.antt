@@ -15,6 +15,9 @@ pub mod Judging
 pub mod Taking
 pub mod Turning
 pub mod Calling
+pub mod Completing
 pub mod Ending
 pub mod Beginning
 pub mod Making
+pub mod Deleting
+pub mod Creating

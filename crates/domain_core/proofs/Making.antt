@@ -1,6 +1,6 @@
 -- A call after its turn.
-use Rattle.std.proofs.Common.{◌≡◌, ◌≢◌, ℕ, List, [], ◌++◌, map, Option, Some, None, refl, sym, ap, ◌∙◌, subst}
-use Rattle.std.specs.Prelude.{IfOk, IfSome, Contains, Result, Ok, Err}
+use Rattle.std.proofs.Common.{◌≡◌, ◌≢◌, ℕ, List, ◌++◌, map, Option, Some, None, refl, sym, ap, ◌∙◌, subst}
+use Rattle.std.specs.Prelude.{IfOk, IfSome, Result, Ok, Err}
 use Rattle.std.specs.List.{AllByRecursion}
 use Rattle.mc_base.specs.declared.refusal.Refusal.{Refusal}
 use Rattle.mc_base.specs.declared.request.RequestId.{RequestId}

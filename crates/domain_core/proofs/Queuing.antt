@@ -22,6 +22,7 @@ use Rattle.request_set.specs.declared.ask.Ask.TheVariants as ask
 use Rattle.request_set.specs.declared.ask.Complete.{Complete}
 use Rattle.request_set.specs.declared.ask.Complete.TheVariants as complete
 use Rattle.request_set.specs.Requests.{IsPending, Requests, Standing, is_id, request_of, with_complete}
+use Rattle.domain_core.specs.declared.endpoints.Endpoint.{Endpoint}
 use Rattle.domain_core.specs.Table.{Held, with_held, with_received_at}
 use Rattle.domain_core.specs.Records.{Records, all_waiting, waiting_in, with_best_taken, with_best_taken_at, with_waiting, with_waiting_at}
 use Rattle.domain_core.specs.Pool.{Pool, numbers_on, with_given_back}
@@ -256,6 +257,54 @@ module _ (r : Records) (q : Requests) (b : Book) (p : Pool) (i : ℕ) (w : Waiti
             (omega (arith, shorter, long, length-all vs2 gs, length-all vs2 hs2)) places.each;
         priorities = rest-priorities;
       }
+
+-- ---- a message is taken out of its queue, wherever it stands
+
+module _ (r : Records) (q : Requests) (b : Book) (p : Pool) (es : List Endpoint) (w : Waiting) (places : AreInPlaces r q b p)
+    (one-less : (test : Waiting → Bool) → count_by test (all_waiting es) + one_if (test w) ≡ count_by test (all_waiting r.endpoints)) where
+  abbrev ws4 : List Waiting
+  ws4 = all_waiting r.endpoints
+
+  abbrev vs4 : List Waiting
+  vs4 = all_waiting es
+
+  abbrev hs4 : List Slot
+  hs4 = handed_slots q.standing
+
+  less4 : (t : Slot) → times_in t (slots vs4 ++ hs4) + one_if (is_same w.slot t) ≡ times_in t (slots ws4 ++ hs4)
+  less4 t = let l = one-less (λ (x : Waiting). is_same x.slot t) in omega (arith, l, times-all t vs4 hs4, times-all t ws4 hs4)
+
+  shorter4 : length (slots vs4 ++ hs4) + 1 ≡ length (slots ws4 ++ hs4)
+  shorter4 = let l = one-less (λ (x : Waiting). true) in omega (arith, l, count-every vs4, count-every ws4, length-all vs4 hs4, length-all ws4 hs4)
+
+  pub out-queued : IsQueued b w.slot
+  out-queued = is-queued r.number p.size (slots ws4 ++ hs4) (slots vs4 ++ hs4) b (numbers_on p) w.slot places.each (less4 w.slot)
+
+  none-left4 : times_in w.slot (slots vs4 ++ hs4) ≡ 0
+  none-left4 = none-left r.number p.size (slots ws4 ++ hs4) (slots vs4 ++ hs4) b (numbers_on p) w.slot places.each out-queued (less4 w.slot)
+
+  pub out-waiting : times_waiting w.slot vs4 ≡ 0
+  out-waiting = omega (arith, none-left4, times-all w.slot vs4 hs4)
+
+  out-handed : times_in w.slot hs4 ≡ 0
+  out-handed = omega (arith, none-left4, times-all w.slot vs4 hs4)
+
+  pub out-places_but : AreInPlacesBut w.slot.buffer (record r { endpoints = es }) q (with_away b w.slot) p
+  out-places_but =
+      let l = one-less (is_misplaced b) in
+      let all = places.priorities in
+      record {
+        each = withdrawn r.number p.size (slots ws4 ++ hs4) (slots vs4 ++ hs4) b (numbers_on p) w.slot places.each out-queued less4 shorter4;
+        priorities = misplaced-stay b w.slot None vs4 out-waiting ∙ omega (arith, l, all);
+      }
+
+  pub out-places : AreInPlaces (record r { endpoints = es }) q (with_away b w.slot) (with_given_back p w.slot.buffer)
+  out-places = placed-given (record r { endpoints = es }) q (with_away b w.slot) p w.slot.buffer out-places_but
+
+  pub out-table : table_in (with_away b w.slot) (record r { endpoints = es }) q ≡ table_in b (record r { endpoints = es }) q
+  out-table =
+      ap (λ (xs : List state.Endpoint). with_held (table_in b r q) (record { endpoints = xs; requests = requests_in (with_away b w.slot) q.standing })) (endpoints-stay b w.slot None es out-waiting)
+      ∙ ap (λ (xs : List state.Request). with_held (table_in b r q) (record { endpoints = endpoints_in b es; requests = xs })) (requests-stay b w.slot None q.standing out-handed)
 
 -- ---- what a request held is given back
 

@@ -1,6 +1,6 @@
 -- The requests that stand: one is complete or ended, and the others stay.
-use Rattle.std.proofs.Common.{◌≡◌, ◌≢◌, ℕ, zero, suc, ◌+◌, ◌<◌, ◌≤◌, Bool, true, false, cond, List, [], ◌∷◌, ◌++◌, length, map, Option, Some, None, refl, sym, ap, ◌∙◌, subst, arith, eq-eqb}
-use Rattle.std.specs.Prelude.{Contains, count_by, filter, find, is_none, is_some, not, option_and_then, option_map, position, slice_get, ◌&&◌, ◌==◌, Result, Ok, Err}
+use Rattle.std.proofs.Common.{◌≡◌, ◌≢◌, ℕ, zero, suc, ◌+◌, ◌≤◌, Bool, true, false, cond, List, [], ◌∷◌, ◌++◌, length, map, Option, Some, None, refl, sym, ap, ◌∙◌, subst, arith, eq-eqb}
+use Rattle.std.specs.Prelude.{Contains, count_by, filter, find, is_none, is_some, not, option_and_then, option_map, position, slice_get, ◌&&◌, ◌==◌}
 use Rattle.std.specs.List.{AllByRecursion, position_from}
 use Rattle.std.proofs.lemmas.Bool.{eqb-true, eqb-false, and_parts, and_from, false_from_ne_true}
 use Rattle.std.proofs.lemmas.Iterator.Adapters.{position_from-zero}
@@ -11,16 +11,16 @@ use Rattle.mc_base.specs.declared.request.RequestId.{RequestId}
 use Rattle.mc_base.specs.declared.request.Slot.{Slot}
 use Rattle.board_model.specs.Lists.{changed, changed_at, without, without_at}
 use Rattle.board_model.specs.State as state
-use Rattle.board_model.proofs.ListsCounts.{count-append, count-cons, count-every}
+use Rattle.board_model.proofs.ListsCounts.{count-append, count-cons}
 use Rattle.board_model.proofs.MessageLists.{changed_first, without_first, changed-position, without-position, get-position, some-position}
 use Rattle.buffer_book.specs.Book.{AllDiffer, Book}
 use Rattle.request_set.specs.declared.ask.Ask.{Ask}
 use Rattle.request_set.specs.declared.ask.Ask.TheVariants as ask
 use Rattle.request_set.specs.declared.ask.Complete.{Complete}
 use Rattle.request_set.specs.declared.ask.Complete.TheVariants as complete
-use Rattle.request_set.specs.Requests.{Requests, Standing, is_id, completed, progress_of, receives_at, request_of, tested, waits_at}
+use Rattle.request_set.specs.Requests.{Requests, Standing, is_id, completed, receives_at, request_of, waits_at}
 use Rattle.domain_core.specs.DomainView.{has_id}
-use Rattle.domain_core.specs.InBook.{asked_in, outcome_in, item_at, request_in, requests_in}
+use Rattle.domain_core.specs.InBook.{asked_in, outcome_in, request_in, requests_in}
 use Rattle.domain_core.specs.InRequests.{AreReceives, IsReceive, Receives, handed_slots, slots_in}
 use Rattle.domain_core.specs.InPlaces.{one_if}
 use Rattle.domain_core.proofs.Tables.{All-push, position-map}
@@ -72,20 +72,20 @@ not-among key (x ∷ ks) all (suc k, lt, is) = not-among key ks all.1 (k, omega 
 
 -- ---- ids
 
-itself : (r : Standing) → is_id r.id r ≡ true
+pub itself : (r : Standing) → is_id r.id r ≡ true
 itself r = and_from _ _ (eq-eqb r.id.key r.id.key refl) (eq-eqb r.id.serial r.id.serial refl)
 
 key-is : (id : RequestId) (r : Standing) → is_id id r ≡ true → r.id.key ≡ id.key
 key-is id r is = eqb-true r.id.key id.key (and_parts (r.id.key == id.key) (r.id.serial == id.serial) is).0
 
-other-key : (id : RequestId) (r : Standing) → (r.id.key == id.key) ≡ false → is_id id r ≡ false
+pub other-key : (id : RequestId) (r : Standing) → (r.id.key == id.key) ≡ false → is_id id r ≡ false
 other-key id r differ = ap (λ (b : Bool). b && r.id.serial == id.serial) differ
 
 -- each has another key than the id
 abbrev Others : RequestId → List Standing → Type 0
 Others id rs = AllByRecursion (λ k. (k == id.key) ≡ false) (keys_in rs)
 
-others-of : (id : RequestId) (r : Standing) (rs : List Standing) → AllDiffer (keys_in (r ∷ rs)) → is_id id r ≡ true → Others id rs
+pub others-of : (id : RequestId) (r : Standing) (rs : List Standing) → AllDiffer (keys_in (r ∷ rs)) → is_id id r ≡ true → Others id rs
 others-of id r rs differ is = subst (λ (n : ℕ). AllByRecursion (λ k. (k == n) ≡ false) (keys_in rs)) (key-is id r is) differ.0
 
 pub others-fresh : (id : RequestId) (rs : List Standing) → AllByRecursion (λ k. k ≢ id.key) (keys_in rs) → Others id rs
@@ -116,7 +116,7 @@ complete-first id how (r ∷ rs) differ = go (complete-first id how rs differ.1)
 pub complete-at : (id : RequestId) (how : Complete) (rs : List Standing) → AllDiffer (keys_in rs) → map (completed id how) rs ≡ changed (complete_now how) (position (is_id id) rs) rs
 complete-at id how rs differ = complete-first id how rs differ ∙ sym (changed-position (is_id id) (complete_now how) rs)
 
-id-stays : (b : Bool) (how : Complete) (r : Standing) → (cond b (complete_now how r) r).id ≡ r.id
+pub id-stays : (b : Bool) (how : Complete) (r : Standing) → (cond b (complete_now how r) r).id ≡ r.id
 id-stays true how r = refl
 id-stays false how r = refl
 
@@ -248,17 +248,17 @@ handed-new test r (x ∷ rs) = omega (arith, handed-new test r rs, count-append 
 
 -- ---- receives that wait
 
-none-map : (b : Book) (o : Option Complete) → is_none (option_map (outcome_in b) o) ≡ is_none o
+pub none-map : (b : Book) (o : Option Complete) → is_none (option_map (outcome_in b) o) ≡ is_none o
 none-map b None = refl
 none-map b (Some c) = refl
 
-receives-map : (local : Local) (a : Ask) → state.receives_at local (asked_in a) ≡ receives_at local a
+pub receives-map : (local : Local) (a : Ask) → state.receives_at local (asked_in a) ≡ receives_at local a
 receives-map local (ask.Lookup name) = refl
 receives-map local (ask.Connect channel) = refl
 receives-map local (ask.Message at max) = refl
 receives-map local (ask.Packet at) = refl
 
-waits-map : (b : Book) (local : Local) (r : Standing) → state.waits_at local (request_in b r) ≡ waits_at local r
+pub waits-map : (b : Book) (local : Local) (r : Standing) → state.waits_at local (request_in b r) ≡ waits_at local r
 waits-map b local r = ap (λ (x : Bool). x && state.receives_at local (asked_in r.ask)) (none-map b r.complete) ∙ ap (λ (x : Bool). is_none r.complete && x) (receives-map local r.ask)
 
 pub waiting-place : (b : Book) (local : Local) (rs : List Standing) → position (state.waits_at local) (requests_in b rs) ≡ position (waits_at local) rs
@@ -294,45 +294,33 @@ found-receives p r (x ∷ rs) each found =
     elim (p x) as (λ b. cond b (Some x) (find p rs) ≡ Some r → IsReceive r)
     [ true ↦ λ e. let same : x ≡ r = cc in subst IsReceive same each.0 | false ↦ λ e. found-receives p r rs each.1 e ] found
 
--- ---- only receives of messages stand
+-- ---- only receives of messages wait at an endpoint
 
-message-ask : (a : Ask) (o : Option Complete) → Receives a o → (at : Local) × (max : ℕ) × (a ≡ ask.Message at max)
-message-ask (ask.Message at max) o is = (at, max, refl)
-message-ask (ask.Lookup name) o is = absurd is
-message-ask (ask.Connect channel) o is = absurd is
-message-ask (ask.Packet at) o is = absurd is
+message-ask : (local : Local) (a : Ask) (o : Option Complete) → Receives a o → receives_at local a ≡ true → (at : Local) × (max : ℕ) × (a ≡ ask.Message at max)
+message-ask local (ask.Message at max) o is waits = (at, max, refl)
+message-ask local (ask.Lookup name) o is waits = absurd cc
+message-ask local (ask.Connect channel) o is waits = absurd cc
+message-ask local (ask.Packet at) o is waits = absurd is
 
-message-complete : (a : Ask) (how : Complete) → Receives a (Some how) → (slot : Slot) × (max : ℕ) × (how ≡ complete.Message slot max)
-message-complete (ask.Message at max) (complete.Message slot most) is = (slot, most, refl)
-message-complete (ask.Message at max) (complete.Address address) is = absurd is
-message-complete (ask.Message at max) complete.Accepted is = absurd is
-message-complete (ask.Message at max) (complete.Rejected reason) is = absurd is
-message-complete (ask.Message at max) (complete.Packet slot) is = absurd is
-message-complete (ask.Message at max) (complete.Ended word) is = absurd is
-message-complete (ask.Lookup name) how is = absurd is
-message-complete (ask.Connect channel) how is = absurd is
-message-complete (ask.Packet at) how is = absurd is
+found-has : (p : Standing → Bool) (r : Standing) (rs : List Standing) → find p rs ≡ Some r → p r ≡ true
+found-has p r [] found = absurd cc
+found-has p r (x ∷ rs) found =
+    elim (p x) as (λ b. p x ≡ b → cond b (Some x) (find p rs) ≡ Some r → p r ≡ true)
+    [ true ↦ λ is e. let same : x ≡ r = cc in subst (λ (y : Standing). p y ≡ true) same is | false ↦ λ is e. found-has p r rs e ] refl found
 
-pub only-asks : (q : Requests) (id : RequestId) (a : Ask) → AreReceives q → option_map (λ (r : Standing). r.ask) (request_of q id) ≡ Some a → (at : Local) × (max : ℕ) × (a ≡ ask.Message at max)
-only-asks q id a receives asks = go (request_of q id) refl asks
+pub only-waits : (q : Requests) (local : Local) (id : RequestId) (a : Ask) → AreReceives q → Some id ≡ option_map (λ (r : Standing). r.id) (find (waits_at local) q.standing) → option_map (λ (r : Standing). r.ask) (request_of q id) ≡ Some a → (at : Local) × (max : ℕ) × (a ≡ ask.Message at max)
+only-waits q local id a receives oldest asks = go (request_of q id) refl asks
   where
+    there : find (waits_at local) q.standing ≡ request_of q id
+    there =
+        sym (get-position (waits_at local) q.standing)
+        ∙ ap (λ (o : Option ℕ). option_and_then (λ i. slice_get q.standing i) o) (found-place (waits_at local) id q.standing receives.differ (sym oldest))
+        ∙ get-position (is_id id) q.standing
+
     go : (o : Option Standing) → request_of q id ≡ o → option_map (λ (r : Standing). r.ask) o ≡ Some a → (at : Local) × (max : ℕ) × (a ≡ ask.Message at max)
     go None found e = absurd cc
     go (Some r) found e =
         let same : r.ask ≡ a = cc in
-        let is = message-ask r.ask r.complete (found-receives (is_id id) r q.standing receives.each found) in
+        let waits = found-has (waits_at local) r q.standing (there ∙ found) in
+        let is = message-ask local r.ask r.complete (found-receives (is_id id) r q.standing receives.each found) (and_parts (is_none r.complete) (receives_at local r.ask) waits).1 in
         (is.0, is.1, sym same ∙ is.2)
-
-pub only-message : (q : Requests) (id : RequestId) (how : Complete) → AreReceives q → tested (progress_of q id) ≡ Ok how → (slot : Slot) × (max : ℕ) × (how ≡ complete.Message slot max)
-only-message q id how receives answer = go (request_of q id) refl answer
-  where
-    by : (r : Standing) (o : Option Complete) → Receives r.ask o → tested (Some o) ≡ Ok how → (slot : Slot) × (max : ℕ) × (how ≡ complete.Message slot max)
-    by r None is e = absurd cc
-    by r (Some c) is e =
-        let same : c ≡ how = cc in
-        let told = message-complete r.ask c is in
-        (told.0, told.1, sym same ∙ told.2)
-
-    go : (o : Option Standing) → request_of q id ≡ o → tested (option_map (λ (r : Standing). r.complete) o) ≡ Ok how → (slot : Slot) × (max : ℕ) × (how ≡ complete.Message slot max)
-    go None found e = absurd cc
-    go (Some r) found e = by r r.complete (found-receives (is_id id) r q.standing receives.each found) e

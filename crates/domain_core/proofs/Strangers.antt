@@ -1,7 +1,6 @@
 -- No buffer of another domain waits or was handed.
-use Rattle.std.proofs.Common.{◌≡◌, ℕ, ◌+◌, false, length, sym, ap, ◌∙◌, arith, subst}
-use Rattle.std.specs.Prelude.{count_by, ◌==◌}
-use Rattle.std.specs.List.{flat_map}
+use Rattle.std.proofs.Common.{◌≡◌, false, arith}
+use Rattle.std.specs.Prelude.{◌==◌}
 use Rattle.mc_base.specs.declared.request.Slot.{Slot}
 use Rattle.buffer_book.specs.Book.{Book}
 use Rattle.request_set.specs.Requests.{Requests}

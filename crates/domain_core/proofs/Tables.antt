@@ -1,9 +1,9 @@
 -- Endpoints as the code keeps them, and as the definitions see them.
 use Rattle.std.proofs.Common.{◌≡◌, ℕ, zero, suc, ◌+◌, ◌<◌, ◌≤◌, Bool, false, cond, List, [], ◌∷◌, ◌++◌, length, map, Option, Some, None, refl, sym, ap, ◌∙◌, arith, get_or}
 use Rattle.std.specs.Prelude.{position, slice_set, slice_get, option_and_then}
-use Rattle.std.specs.List.{position_from, AllByRecursion}
+use Rattle.std.specs.List.{position_from, remove, AllByRecursion}
 use Rattle.std.proofs.lemmas.Iterator.Adapters.{position_from-zero}
-use Rattle.board_model.specs.Lists.{changed_at}
+use Rattle.board_model.specs.Lists.{changed_at, without_at}
 use Rattle.board_model.specs.Answer.{has_channel}
 use Rattle.board_model.specs.Choice.{without_best}
 use Rattle.buffer_book.specs.Book.{Book}
@@ -86,3 +86,21 @@ pub taken-none : (es : List Endpoint) (i : ℕ) → waiting_in (slice_get es i) 
 taken-none [] i none = refl
 taken-none (e ∷ es) zero none = ap (λ (ws : List Waiting). record e { queue = record e.queue { waiting = ws } } ∷ es) (taken-nothing e.queue.waiting none)
 taken-none (e ∷ es) (suc i) none = ap (λ (xs : List Endpoint). e ∷ xs) (taken-none es i none)
+
+-- ---- one endpoint less
+
+pub removed : {X : Type 0} (xs : List X) (i : ℕ) → remove xs i ≡ without_at i xs
+removed [] zero = refl
+removed [] (suc i) = refl
+removed (x ∷ xs) zero = refl
+removed {X} (x ∷ xs) (suc i) = ap (λ (ys : List X). x ∷ ys) (removed xs i)
+
+pub length-without : {X : Type 0} (i : ℕ) (xs : List X) → i < length xs → length (without_at i xs) + 1 ≡ length xs
+length-without i [] lt = absurd (omega arith)
+length-without zero (x ∷ xs) lt = omega arith
+length-without (suc i) (x ∷ xs) lt = let rest = length-without i xs (omega arith) in omega (arith, rest)
+
+pub All-without : {X : Type 0} (P : X → Type 0) (i : ℕ) (xs : List X) → AllByRecursion P xs → AllByRecursion P (without_at i xs)
+All-without P i [] all = tt
+All-without P zero (x ∷ xs) all = all.1
+All-without P (suc i) (x ∷ xs) all = (all.0, All-without P i xs all.1)

@@ -13,15 +13,15 @@ use Rattle.mc_base.specs.declared.fate.Fate.TheVariants.{State}
 use Rattle.board_model.specs.Lists.{changed}
 use Rattle.board_model.specs.Journal.{Visit, Taken, taken}
 use Rattle.board_model.specs.State.{DomainState, Peer, Item, Request, item_in, place_of_address, place_waiting_for, is_numbered, is_from, place_of_peer, peer_of}
-use Rattle.board_model.specs.Dealing.{Row, row_for, left_by, after_frame, after_takes, HaveWords, is_letter, item_of, queued_last}
-use Rattle.board_model.specs.Turn.{IsTurn, IsVisit, after_turn, after_looks, looked_at, turn_limit}
+use Rattle.board_model.specs.Dealing.{Row, row_for, left_by, after_frame, after_takes, HaveWords, item_of, queued_last}
+use Rattle.board_model.specs.Turn.{IsTurn, IsVisit, after_turn, after_looks, looked_at, turn_limit, with_peers}
 use Rattle.board_model.specs.Serial.{Alone, word_of, dealt, own_visit, own_turn, own_due, own_frames, visit_of, due_to, after_own_turn, returned_at_once}
 use Rattle.domain_core.specs.Table.{Held, Table, held_in, keeping, items_in}
-use Rattle.domain_core.specs.Lane.{Lane, AreForEndpoints}
+use Rattle.domain_core.specs.Lane.{Lane, IsForEndpoint, AreForEndpoints}
 use Rattle.domain_core.specs.Dealt.{word_at, held_after, taken_at, held_after_all}
 use Rattle.domain_core.specs.Turned.{visit, count_taken, frames_taken, table_after, lane_after}
 use Rattle.domain_core.specs.Alone.{own_peer, state_of, alone}
-use Rattle.domain_core.proofs.Frames.{row_by}
+use Rattle.domain_core.proofs.Frames.{row_by, row_is}
 use Rattle.domain_core.proofs.Tables.{length-changed}
 
 -- ---- a frame changes endpoints and requests alone, and its row hangs on them alone
@@ -29,60 +29,65 @@ use Rattle.domain_core.proofs.Tables.{length-changed}
 abbrev with_both : DomainState → Held → DomainState
 with_both s h = record s { endpoints = h.endpoints; requests = h.requests }
 
-after-same : (s : DomainState) (o : Option Fault) (l : Bool) (p : Option ℕ) (k : Bool) (w : Option ℕ) (i : Item) → left_by s (row_by s o l p k w i) ≡ with_both s (held_in (left_by (keeping (held_in s)) (row_by (keeping (held_in s)) o l p k w i)))
-after-same s (Some f) l p k w i = refl
-after-same s None true None k w i = refl
-after-same s None true (Some at) true (Some j) i = refl
-after-same s None true (Some at) true None i = refl
-after-same s None true (Some at) false w i = refl
-after-same s None false p k w i = refl
+after-same : (s : DomainState) (o : Option Fault) (p : Option ℕ) (k : Bool) (w : Option ℕ) (i : Item) → left_by s (row_by s o p k w i) ≡ with_both s (held_in (left_by (keeping (held_in s)) (row_by (keeping (held_in s)) o p k w i)))
+after-same s (Some f) p k w i = refl
+after-same s None None k w i = refl
+after-same s None (Some at) true (Some j) i = refl
+after-same s None (Some at) true None i = refl
+after-same s None (Some at) false w i = refl
 
-word-same : (s : DomainState) (o : Option Fault) (l : Bool) (p : Option ℕ) (k : Bool) (w : Option ℕ) (i : Item) → word_of (row_by s o l p k w i) ≡ word_of (row_by (keeping (held_in s)) o l p k w i)
-word-same s (Some f) l p k w i = refl
-word-same s None true None k w i = refl
-word-same s None true (Some at) true (Some j) i = refl
-word-same s None true (Some at) true None i = refl
-word-same s None true (Some at) false w i = refl
-word-same s None false p k w i = refl
+word-same : (s : DomainState) (o : Option Fault) (p : Option ℕ) (k : Bool) (w : Option ℕ) (i : Item) → option_map (λ (r : Row). r.word) (row_by s o p k w i) ≡ Some (word_of (row_by (keeping (held_in s)) o p k w i))
+word-same s (Some f) p k w i = refl
+word-same s None None k w i = refl
+word-same s None (Some at) true (Some j) i = refl
+word-same s None (Some at) true None i = refl
+word-same s None (Some at) false w i = refl
 
-word-told : (s : DomainState) (o : Option Fault) (l : Bool) (p : Option ℕ) (k : Bool) (w : Option ℕ) (i : Item) → l ≡ true → option_map (λ (r : Row). r.word) (row_by s o l p k w i) ≡ Some (word_of (row_by (keeping (held_in s)) o l p k w i))
-word-told s (Some f) l p k w i e = refl
-word-told s None true None k w i e = refl
-word-told s None true (Some at) true (Some j) i e = refl
-word-told s None true (Some at) true None i e = refl
-word-told s None true (Some at) false w i e = refl
-word-told s None false p k w i e = absurd cc
+frame-after : (s : DomainState) (peer : ℕ) (f : List ℕ) → IsForEndpoint f → after_frame s peer f ≡ with_both s (held_after peer (held_in s) f)
+frame-after s peer f letter =
+    let h = held_in s in
+    ap (left_by s) (row_is s peer f letter)
+    ∙ after-same s (fault f) (place_of_address s (destination_of f)) (slice_index (payload_of f) 2 == 1) (place_waiting_for s (destination_of f)) (item_of peer f)
+    ∙ ap (λ (o : Option Row). with_both s (held_in (left_by (keeping h) o))) (sym (row_is (keeping h) peer f letter))
 
-frame-after : (s : DomainState) (peer : ℕ) (f : List ℕ) → after_frame s peer f ≡ with_both s (held_after peer (held_in s) f)
-frame-after s peer f = after-same s (fault f) (is_letter f) (place_of_address s (destination_of f)) (slice_index (payload_of f) 2 == 1) (place_waiting_for s (destination_of f)) (item_of peer f)
+word-told : (s : DomainState) (peer : ℕ) (f : List ℕ) → IsForEndpoint f → option_map (λ (r : Row). r.word) (row_for s peer f) ≡ Some (word_at peer (held_in s) f)
+word-told s peer f letter =
+    let h = held_in s in
+    ap (option_map (λ (r : Row). r.word)) (row_is s peer f letter)
+    ∙ word-same s (fault f) (place_of_address s (destination_of f)) (slice_index (payload_of f) 2 == 1) (place_waiting_for s (destination_of f)) (item_of peer f)
+    ∙ ap (λ (o : Option Row). Some (word_of o)) (sym (row_is (keeping h) peer f letter))
 
-frame-word : (s : DomainState) (peer : ℕ) (f : List ℕ) → word_of (row_for s peer f) ≡ word_at peer (held_in s) f
-frame-word s peer f = word-same s (fault f) (is_letter f) (place_of_address s (destination_of f)) (slice_index (payload_of f) 2 == 1) (place_waiting_for s (destination_of f)) (item_of peer f)
+word-in : (o : Option Row) (w : Fate) → option_map (λ (r : Row). r.word) o ≡ Some w → word_of o ≡ w
+word-in None w e = absurd cc
+word-in (Some r) w e = cc
 
-dealt-is : (fs : List (List ℕ)) (s : DomainState) (peer : ℕ) → dealt s peer fs ≡ taken_at peer (held_in s) fs
-dealt-is [] s peer = refl
-dealt-is (f ∷ fs) s peer =
-    let rest = dealt-is fs (after_frame s peer f) peer ∙ ap (λ (x : DomainState). taken_at peer (held_in x) fs) (frame-after s peer f) in
-    ap (λ (w : Fate). taken f w ∷ dealt (after_frame s peer f) peer fs) (frame-word s peer f) ∙ ap (λ (ts : List Taken). taken f (word_at peer (held_in s) f) ∷ ts) rest
+frame-word : (s : DomainState) (peer : ℕ) (f : List ℕ) → IsForEndpoint f → word_of (row_for s peer f) ≡ word_at peer (held_in s) f
+frame-word s peer f letter = word-in (row_for s peer f) (word_at peer (held_in s) f) (word-told s peer f letter)
 
-takes-after : (fs : List (List ℕ)) (s : DomainState) (peer : ℕ) → after_takes s peer (taken_at peer (held_in s) fs) ≡ with_both s (held_after_all peer (held_in s) fs)
-takes-after [] s peer = refl
-takes-after (f ∷ fs) s peer =
-    ap (λ (x : DomainState). after_takes x peer (taken_at peer (held_after peer (held_in s) f) fs)) (frame-after s peer f)
-    ∙ takes-after fs (with_both s (held_after peer (held_in s) f)) peer
+dealt-is : (fs : List (List ℕ)) (s : DomainState) (peer : ℕ) → AreForEndpoints fs → dealt s peer fs ≡ taken_at peer (held_in s) fs
+dealt-is [] s peer all = refl
+dealt-is (f ∷ fs) s peer all =
+    let rest = dealt-is fs (after_frame s peer f) peer all.1 ∙ ap (λ (x : DomainState). taken_at peer (held_in x) fs) (frame-after s peer f all.0) in
+    ap (λ (w : Fate). taken f w ∷ dealt (after_frame s peer f) peer fs) (frame-word s peer f all.0) ∙ ap (λ (ts : List Taken). taken f (word_at peer (held_in s) f) ∷ ts) rest
+
+takes-after : (fs : List (List ℕ)) (s : DomainState) (peer : ℕ) → AreForEndpoints fs → after_takes s peer (taken_at peer (held_in s) fs) ≡ with_both s (held_after_all peer (held_in s) fs)
+takes-after [] s peer all = refl
+takes-after (f ∷ fs) s peer all =
+    ap (λ (x : DomainState). after_takes x peer (taken_at peer (held_after peer (held_in s) f) fs)) (frame-after s peer f all.0)
+    ∙ takes-after fs (with_both s (held_after peer (held_in s) f)) peer all.1
 
 words-told : (fs : List (List ℕ)) (s : DomainState) (peer : ℕ) → AreForEndpoints fs → HaveWords s peer (taken_at peer (held_in s) fs)
 words-told [] s peer all = tt
 words-told (f ∷ fs) s peer all = (
-  word-told s (fault f) (is_letter f) (place_of_address s (destination_of f)) (slice_index (payload_of f) 2 == 1) (place_waiting_for s (destination_of f)) (item_of peer f) all.0,
-  subst (λ (x : DomainState). HaveWords x peer (taken_at peer (held_after peer (held_in s) f) fs)) (sym (frame-after s peer f)) (words-told fs (with_both s (held_after peer (held_in s) f)) peer all.1),
+  word-told s peer f all.0,
+  subst (λ (x : DomainState). HaveWords x peer (taken_at peer (held_after peer (held_in s) f) fs)) (sym (frame-after s peer f all.0)) (words-told fs (with_both s (held_after peer (held_in s) f)) peer all.1),
 )
 
 length-taken : (fs : List (List ℕ)) (peer : ℕ) (h : Held) → length (taken_at peer h fs) ≡ length fs
 length-taken [] peer h = refl
 length-taken (f ∷ fs) peer h = ap suc (length-taken fs peer (held_after peer h f))
 
-All-take : (k : ℕ) (fs : List (List ℕ)) → AreForEndpoints fs → AreForEndpoints (take k fs)
+pub All-take : (k : ℕ) (fs : List (List ℕ)) → AreForEndpoints fs → AreForEndpoints (take k fs)
 All-take zero fs all = tt
 All-take (suc k) [] all = tt
 All-take (suc k) (f ∷ fs) all = (all.0, All-take k fs all.1)
@@ -106,20 +111,20 @@ pub own-known : (n nodes : ℕ) (t : Table) (l : Lane) → peer_of (state_of n n
 own-known n nodes t l = ap (λ (o : Option ℕ). option_and_then (λ i. slice_get (own_peer n l ∷ []) i) o) (own-place n nodes t l)
 
 due-none : (n nodes : ℕ) (t : Table) (l : Lane) → own_due (alone n nodes t l) ≡ []
-due-none n nodes t l = ap (λ (o : Option Peer). due_to o l.returned) (own-known n nodes t l) ∙ take-nothing (min turn_limit (l.free + l.returned))
+due-none n nodes t l = ap (λ (o : Option Peer). due_to n o l.returned) (own-known n nodes t l) ∙ take-nothing (min turn_limit (l.free + l.returned))
 
 frames-are : (n nodes : ℕ) (t : Table) (l : Lane) → own_frames (alone n nodes t l) ≡ l.ring
 frames-are n nodes t l = ap (λ (fs : List (List ℕ)). l.ring ++ fs) (due-none n nodes t l) ∙ append-nil l.ring
 
-pub visit-is : (n nodes : ℕ) (t : Table) (l : Lane) → own_visit (alone n nodes t l) ≡ visit n t.held l
-visit-is n nodes t l =
+pub visit-is : (n nodes : ℕ) (t : Table) (l : Lane) → AreForEndpoints l.ring → own_visit (alone n nodes t l) ≡ visit n t.held l
+visit-is n nodes t l letters =
     let s = state_of n nodes t l in
     ap (λ (fs : List (List ℕ)). visit_of s n l.returned (own_due (alone n nodes t l)) (length fs) (take (min turn_limit (length fs)) fs)) (frames-are n nodes t l)
     ∙ ap (λ (due : List (List ℕ)). visit_of s n l.returned due (length l.ring) (frames_taken l)) (due-none n nodes t l)
-    ∙ ap (λ (ts : List Taken). record (visit n t.held l) { takes = ts }) (dealt-is (frames_taken l) (after_looks s (record { peer = n; back = l.returned; owed = []; see = length l.ring; takes = map (λ f. taken f State) (frames_taken l) })) n)
+    ∙ ap (λ (ts : List Taken). record (visit n t.held l) { takes = ts }) (dealt-is (frames_taken l) (after_looks s (record { peer = n; back = l.returned; owed = []; see = length l.ring; takes = map (λ f. taken f State) (frames_taken l) })) n (All-take (count_taken l) l.ring letters))
 
-pub turn-is : (n nodes : ℕ) (t : Table) (l : Lane) → own_turn (alone n nodes t l) ≡ visit n t.held l ∷ []
-turn-is n nodes t l = ap (λ (v : Visit). v ∷ []) (visit-is n nodes t l)
+pub turn-is : (n nodes : ℕ) (t : Table) (l : Lane) → AreForEndpoints l.ring → own_turn (alone n nodes t l) ≡ visit n t.held l ∷ []
+turn-is n nodes t l letters = ap (λ (v : Visit). v ∷ []) (visit-is n nodes t l letters)
 
 count-taken : (n : ℕ) (h : Held) (l : Lane) → length (taken_at n h (frames_taken l)) ≡ count_taken l
 count-taken n h l = length-taken (frames_taken l) n h ∙ omega (arith, length-take (count_taken l) l.ring)
@@ -131,27 +136,27 @@ looks-after : (n nodes : ℕ) (t : Table) (l : Lane) → after_looks (state_of n
 looks-after n nodes t l =
     let s = state_of n nodes t l in
     let v = visit n t.held l in
-    ap (λ (o : Option ℕ). record s { peers = changed (looked_at v) o s.peers }) (own-place n nodes t l)
+    ap (λ (o : Option ℕ). with_peers s (changed (looked_at v) o s.peers)) (own-place n nodes t l)
     ∙ ap (λ (k : ℕ). record s { peers = record (own_peer n l) { free = l.free + l.returned - 0; shown = length l.ring - k; announcements = []; replies = drop (0 - 0) [] } ∷ [] }) (count-taken n t.held l)
     ∙ ap (λ (k : ℕ). record s { peers = record (own_peer n l) { free = k; shown = length l.ring - count_taken l; announcements = []; replies = drop (0 - 0) [] } ∷ [] }) (free-same l)
 
 abbrev alone-with : DomainState → List (List ℕ) → ℕ → Alone
 alone-with s ring returned = record { state = s; ring = ring; returned = returned }
 
-state-after : (n nodes : ℕ) (t : Table) (l : Lane) → after_turn (state_of n nodes t l) (own_turn (alone n nodes t l)) ≡ state_of n nodes (table_after n t l) (lane_after n t.held l)
-state-after n nodes t l =
+state-after : (n nodes : ℕ) (t : Table) (l : Lane) → AreForEndpoints l.ring → after_turn (state_of n nodes t l) (own_turn (alone n nodes t l)) ≡ state_of n nodes (table_after n t l) (lane_after n t.held l)
+state-after n nodes t l letters =
     let s = state_of n nodes t l in
-    ap (λ (vs : List Visit). after_turn s vs) (turn-is n nodes t l)
-    ∙ takes-after (frames_taken l) (after_looks s (visit n t.held l)) n
+    ap (λ (vs : List Visit). after_turn s vs) (turn-is n nodes t l letters)
+    ∙ takes-after (frames_taken l) (after_looks s (visit n t.held l)) n (All-take (count_taken l) l.ring letters)
     ∙ ap (λ (x : DomainState). with_both x (held_after_all n t.held (frames_taken l))) (looks-after n nodes t l)
 
 -- what a turn leaves
-pub alone-after : (n nodes : ℕ) (t : Table) (l : Lane) → after_own_turn (alone n nodes t l) ≡ alone n nodes (table_after n t l) (lane_after n t.held l)
-alone-after n nodes t l =
+pub alone-after : (n nodes : ℕ) (t : Table) (l : Lane) → AreForEndpoints l.ring → after_own_turn (alone n nodes t l) ≡ alone n nodes (table_after n t l) (lane_after n t.held l)
+alone-after n nodes t l letters =
     let a = alone n nodes t l in
     let after = state_of n nodes (table_after n t l) (lane_after n t.held l) in
-    ap (λ (s : DomainState). alone-with s (drop (length (own_visit a).takes) (own_frames a)) (returned_at_once (own_visit a).takes)) (state-after n nodes t l)
-    ∙ ap (λ (v : Visit). alone-with after (drop (length v.takes) (own_frames a)) (returned_at_once v.takes)) (visit-is n nodes t l)
+    ap (λ (s : DomainState). alone-with s (drop (length (own_visit a).takes) (own_frames a)) (returned_at_once (own_visit a).takes)) (state-after n nodes t l letters)
+    ∙ ap (λ (v : Visit). alone-with after (drop (length v.takes) (own_frames a)) (returned_at_once v.takes)) (visit-is n nodes t l letters)
     ∙ ap (λ (fs : List (List ℕ)). alone-with after (drop (length (taken_at n t.held (frames_taken l))) fs) (returned_at_once (taken_at n t.held (frames_taken l)))) (frames-are n nodes t l)
     ∙ ap (λ (k : ℕ). alone-with after (drop k l.ring) (returned_at_once (taken_at n t.held (frames_taken l)))) (count-taken n t.held l)
 
@@ -181,21 +186,22 @@ is-turn n nodes t l places shown letters =
       takes_first = count-taken n t.held l;
       words = words-told (frames_taken l) (after_looks s v) n (All-take (count_taken l) l.ring letters);
     } in
-    subst (λ (vs : List Visit). IsTurn s vs) (sym (turn-is n nodes t l)) (record { each_peer = refl; allowed = (is, tt) })
+    subst (λ (vs : List Visit). IsTurn s vs) (sym (turn-is n nodes t l letters)) (record { each_peer = refl; allowed = (is, tt) })
 
 -- ---- as many endpoints as before
 
-length-after-by : (h : Held) (o : Option Fault) (l : Bool) (p : Option ℕ) (k : Bool) (w : Option ℕ) (i : Item) → length (left_by (keeping h) (row_by (keeping h) o l p k w i)).endpoints ≡ length h.endpoints
-length-after-by h (Some f) l p k w i = refl
-length-after-by h None true None k w i = refl
-length-after-by h None true (Some at) true (Some j) i = refl
-length-after-by h None true (Some at) true None i = length-changed (queued_last i) at h.endpoints
-length-after-by h None true (Some at) false w i = refl
-length-after-by h None false p k w i = refl
+length-after-by : (h : Held) (o : Option Fault) (p : Option ℕ) (k : Bool) (w : Option ℕ) (i : Item) → length (left_by (keeping h) (row_by (keeping h) o p k w i)).endpoints ≡ length h.endpoints
+length-after-by h (Some f) p k w i = refl
+length-after-by h None None k w i = refl
+length-after-by h None (Some at) true (Some j) i = refl
+length-after-by h None (Some at) true None i = length-changed (queued_last i) at h.endpoints
+length-after-by h None (Some at) false w i = refl
 
-length-after-one : (peer : ℕ) (h : Held) (f : List ℕ) → length (held_after peer h f).endpoints ≡ length h.endpoints
-length-after-one peer h f = length-after-by h (fault f) (is_letter f) (place_of_address (keeping h) (destination_of f)) (slice_index (payload_of f) 2 == 1) (place_waiting_for (keeping h) (destination_of f)) (item_of peer f)
+length-after-one : (peer : ℕ) (h : Held) (f : List ℕ) → IsForEndpoint f → length (held_after peer h f).endpoints ≡ length h.endpoints
+length-after-one peer h f letter =
+    ap (λ (o : Option Row). length (left_by (keeping h) o).endpoints) (row_is (keeping h) peer f letter)
+    ∙ length-after-by h (fault f) (place_of_address (keeping h) (destination_of f)) (slice_index (payload_of f) 2 == 1) (place_waiting_for (keeping h) (destination_of f)) (item_of peer f)
 
-pub length-after : (fs : List (List ℕ)) (peer : ℕ) (h : Held) → length (held_after_all peer h fs).endpoints ≡ length h.endpoints
-length-after [] peer h = refl
-length-after (f ∷ fs) peer h = length-after fs peer (held_after peer h f) ∙ length-after-one peer h f
+pub length-after : (fs : List (List ℕ)) (peer : ℕ) (h : Held) → AreForEndpoints fs → length (held_after_all peer h fs).endpoints ≡ length h.endpoints
+length-after [] peer h all = refl
+length-after (f ∷ fs) peer h all = length-after fs peer (held_after peer h f) all.1 ∙ length-after-one peer h f all.0

@@ -17,7 +17,7 @@ abbrev pub own_peer : ℕ → Lane → Peer
 own_peer number l = record { number = number; size = l.size; free = l.free; shown = l.shown; announcements = []; replies = []; known = [] }
 
 abbrev pub state_of : ℕ → ℕ → Table → Lane → DomainState
-state_of number nodes t l = record { number = number; nodes = nodes; endpoints = t.held.endpoints; peers = own_peer number l ∷ []; requests = t.held.requests; lent = []; endpoints_given = t.given; channels_given = 0; requests_given = t.requests_given; packets_lent = 0 }
+state_of number nodes t l = record { number = number; nodes = nodes; endpoints = t.held.endpoints; ended = []; peers = own_peer number l ∷ []; requests = t.held.requests; lent = []; endpoints_given = t.given; channels_given = 0; requests_given = t.requests_given; packets_lent = 0 }
 
 abbrev pub alone : ℕ → ℕ → Table → Lane → Alone
 alone number nodes t l = record { state = state_of number nodes t l; ring = l.ring; returned = l.returned }
@@ -36,5 +36,5 @@ pub record IsSound (d : Inside) : Type 0 where
   pub room : d.lane.size ≤ d.endpoints.room
   pub number : d.endpoints.number ≡ d.number
   pub shown : d.lane.shown ≤ length d.lane.ring
-  pub given : d.endpoints.given ≡ length d.endpoints.endpoints
+  pub given : d.endpoints.given ≤ 60000
   pub few : length d.endpoints.endpoints ≤ 64

@@ -1,7 +1,7 @@
 -- What every call of a domain does.
 -- Source: docs/PROFILE.md, "Calls" and "Serial run". One turn, whose looks show all that stands; then the frames that the
 -- call puts; the answer of the state after the turn; and the effect of the call.
-use Rattle.std.specs.Prelude.{◌≡◌, ◌≢◌, ℕ, List, ◌++◌, map, take, Contains, IfSome, Option, None, Some, option_to_list, Result, Ok, Err}
+use Rattle.std.specs.Prelude.{◌≡◌, ◌≢◌, ◌≤◌, ℕ, List, ◌++◌, length, map, take, drop, Contains, IfSome, Option, None, Some, option_to_list, Result, Ok, Err}
 use Rattle.mc_base.specs.declared.refusal.Refusal.{Refusal}
 use Rattle.mc_base.specs.declared.refusal.Refusal.TheVariants.{Pending}
 use Rattle.mc_base.specs.declared.request.Done.{Done}
@@ -46,6 +46,11 @@ abbrev pub created : Result ℕ Refusal → PlainAnswer
 created (Ok address) = tells address
 created (Err word) = refuses word
 
+-- how many messages were dropped
+abbrev pub deleted : Result ℕ Refusal → PlainAnswer
+deleted (Ok count) = tells count
+deleted (Err word) = refuses word
+
 abbrev pub sent : Result (Unit {0}) Refusal → PlainAnswer
 sent (Ok done) = agrees
 sent (Err word) = refuses word
@@ -76,6 +81,11 @@ result_of_done (done.Rejected reason) out = was_rejected reason
 result_of_done (done.Message got) out = brought got.size (take got.given out)
 result_of_done (done.Packet id) out = ended_by Pending
 result_of_done (done.Ended word) out = ended_by word
+
+-- the first bytes of a message go to `out`; all else stays there
+abbrev pub GivesTo : Done → List ℕ → List ℕ → Type 0
+GivesTo (done.Message got) old new = (got.given ≤ length old) × (drop got.given new ≡ drop got.given old)
+GivesTo other old new = new ≡ old
 
 abbrev pub tested : Result Done Refusal → List ℕ → PlainAnswer
 tested (Ok how) out = completes (result_of_done how out)

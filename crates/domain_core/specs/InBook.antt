@@ -1,7 +1,7 @@
 -- The endpoints and requests as the board's definitions see them: what waits or was handed is read in the book of buffers.
 -- Source: docs/PROFILE.md, "Messages" and "Requests". A message lies in the buffer of its frame, whose header names its
 -- source, and whose letter names its priority.
-use Rattle.std.specs.Prelude.{ℕ, true, List, [], map, slice_index, Option, None, Some, option_map}
+use Rattle.std.specs.Prelude.{ℕ, List, [], map, slice_index, Option, None, Some, option_map}
 use Rattle.mc_base.specs.Frame.{source_of}
 use Rattle.mc_base.specs.declared.request.Slot.{Slot}
 use Rattle.board_model.specs.State as state
@@ -39,7 +39,7 @@ abbrev pub item_at : Book → Slot → state.Item
 item_at b slot = item_in b (waiting slot (priority_in (queued_at b slot)))
 
 abbrev pub endpoint_in : Book → Endpoint → state.Endpoint
-endpoint_in b e = record { local = e.local; address = e.address; live = true; queue = map (item_in b) e.queue.waiting; channel = None }
+endpoint_in b e = record { local = e.local; address = e.address; queue = map (item_in b) e.queue.waiting; channel = None }
 
 abbrev pub endpoints_in : Book → List Endpoint → List state.Endpoint
 endpoints_in b es = map (endpoint_in b) es

@@ -29,3 +29,4 @@ pub record HasQueues (t : Inside) : Type 0 where
   pub records : length t.records.items + length t.spare.items ≡ 64
   pub addresses : HaveAddresses t.records.items
   pub records_room : 64 ≤ vec_capacity t.records
+  pub spare_room : 64 ≤ vec_capacity t.spare

@@ -4,8 +4,8 @@
 use Rattle.std.specs.Prelude.{ℕ, ◌+◌, List, [], ◌∷◌, ◌++◌, Option, None, Some}
 use Rattle.std.specs.List.{flat_map}
 use Rattle.mc_base.specs.declared.name.Local.{Local}
-use Rattle.message_queue.specs.Queue.{Waiting, empty_queue, pushed, popped_best}
-use Rattle.board_model.specs.Lists.{changed_at}
+use Rattle.message_queue.specs.Queue.{Waiting, empty_queue, pushed, popped_best, popped_oldest}
+use Rattle.board_model.specs.Lists.{changed_at, without_at}
 use Rattle.domain_core.specs.declared.endpoints.Endpoint.{Endpoint}
 
 -- the domain's number, its endpoints, how many were created, and for how many buffers each queue has room
@@ -38,6 +38,17 @@ with_best_taken e = record e { queue = popped_best e.queue }
 
 abbrev pub with_best_taken_at : Records → ℕ → Records
 with_best_taken_at r i = record r { endpoints = changed_at with_best_taken i r.endpoints }
+
+-- the oldest at a place is gone
+abbrev pub with_oldest_taken : Endpoint → Endpoint
+with_oldest_taken e = record e { queue = popped_oldest e.queue }
+
+abbrev pub with_oldest_taken_at : Records → ℕ → Records
+with_oldest_taken_at r i = record r { endpoints = changed_at with_oldest_taken i r.endpoints }
+
+-- the endpoint at a place is gone
+abbrev pub without_record_at : Records → ℕ → Records
+without_record_at r i = record r { endpoints = without_at i r.endpoints }
 
 -- what waits at an endpoint, and at all of them
 abbrev pub waiting_in : Option Endpoint → List Waiting

@@ -1,29 +1,31 @@
 //! A domain, and its calls.
 
 ghost use Rattle.std.specs.Prelude.{◌≡◌, ◌≤◌, ◌<◌, ◌+◌, [], IfOk, IfSome, IsNone, OnErr, ◌↔◌, ◌≢◌, IsSome, None, length, drop, map, ◌++◌, option_to_list};
-ghost use Rattle.std.specs.List.{AllByRecursion};
-ghost use Rattle.board_model.specs.DomainCall.{create_at, send_from, receive_at, request_at, available_at, test_of, cancel_of};
-ghost use Rattle.board_model.specs.Journal.{noted, noted_all, turned};
+ghost use Rattle.std.specs.List.{AllByRecursion, list_all};
+ghost use Rattle.board_model.specs.DomainCall.{create_at, delete_at, lookup_of, turn_alone, send_from, receive_at, request_at, available_at, test_of, cancel_of};
+ghost use Rattle.board_model.specs.Journal.{noted, noted_all, turned, agrees, is_idle};
 ghost use Rattle.board_model.specs.State.{lent_from, queued_from, queued_items};
 ghost use Rattle.board_model.specs.Turn.{IsTurn};
 ghost use Rattle.board_model.specs.Answer.{address_of, answer, puts};
 ghost use Rattle.board_model.specs.Serial.{opening_alone, own_turn, after_own_turn, after_own_call, put_entry};
 ghost use Rattle.domain_core.specs.Written.{call_entries, call_bytes};
 ghost use Rattle.board_model.specs.Lists.{without};
-ghost use Rattle.mc_base.specs.declared.request.Got.{Got};
-ghost use Rattle.mc_base.specs.declared.request.Done.TheVariants.{Message};
 ghost use Rattle.request_set.specs.Requests.{no_key};
 ghost use Rattle.domain_core.specs.DomainView.{place_of_id};
-ghost use Rattle.domain_core.specs.Calls.{Calls, created, sent, received, requested, given, available, tested, cancelled, place_ended};
+ghost use Rattle.domain_core.specs.Calls.{Calls, GivesTo, created, deleted, sent, received, requested, given, available, tested, cancelled, place_ended};
 
 use crate::endpoints::Endpoints;
 use crate::journal::{Entry, Journal};
 use crate::lane::OwnLane;
 use crate::messages::{fill, give, give_at_most};
-use crate::requests::{end_receive, messages_handed};
+use crate::removal::end_endpoint;
+use crate::requests::{Waiters, complete_all, messages_handed, told};
 use crate::turn::make_turn;
 use buffer_book::BufferBook;
-use mc_base::{Done, EndName, Got, ITEM_SIZE, Local, NoMemory, Priority, Refusal, RequestId};
+use mc_base::{
+    Done, EndName, Got, ITEM_SIZE, Local, MAX_ENDPOINTS_EVER, NoMemory, Priority, Refusal,
+    RequestId,
+};
 use request_set::{Ask, Complete, RequestSet};
 use std::alloc::Global;
 use std::marker::Model;
@@ -92,15 +94,51 @@ impl Domain {
 
     /// Makes an endpoint, and answers its address.
     ///
-    /// Refused with `NodeInvalid` where the domain has no such node, with `ExistsAlready` where the endpoint is live, and
-    /// with `EndpLimit` where 64 records are in use.
+    /// Lookups of it that wait are complete. Refused with `NodeInvalid` where the domain has no such node, with
+    /// `ExistsAlready` where the endpoint is live, with `EndpLimit` where 64 are, and with `AddressSpent` where 60,000 were made.
     pub fn create(&mut self, journal: &mut Journal, at: Local) -> Result<u32, Refusal>
         requires entry_room { call_entries ≤ journal.old.entry_room }
         requires byte_room { call_bytes ≤ journal.old.byte_room }
         ensures { Calls at.node (create_at at.port) self.old self.new journal.old.lines journal.new.lines (created result) None }
     {
-        self.turn(journal);
+        self.take_turn(journal);
         self.add_endpoint(at)
+    }
+
+    /// Ends an endpoint, and answers how many messages were dropped that waited there. Their buffers are given back, and
+    /// receives that wait there end with `EndpInvalid`. A complete request keeps its message.
+    ///
+    /// Refused with `EndpInvalid` where the endpoint is not live.
+    pub fn delete(&mut self, journal: &mut Journal, at: Local) -> Result<u32, Refusal>
+        requires entry_room { call_entries ≤ journal.old.entry_room }
+        requires byte_room { call_bytes ≤ journal.old.byte_room }
+        ensures { Calls at.node (delete_at at.port) self.old self.new journal.old.lines journal.new.lines (deleted result) None }
+    {
+        self.take_turn(journal);
+        self.remove_endpoint(at)
+    }
+
+    /// Begins a lookup of an endpoint's address. It is complete at once where the endpoint is live in this domain, and else as
+    /// soon as it is made. Of another domain's endpoints none is ever known.
+    ///
+    /// Refused with `RequestLimit` where 64 requests stand.
+    pub fn lookup(&mut self, journal: &mut Journal, name: EndName) -> Result<RequestId, Refusal>
+        requires entry_room { call_entries ≤ journal.old.entry_room }
+        requires byte_room { call_bytes ≤ journal.old.byte_room }
+        ensures { Calls 0 (lookup_of name) self.old self.new journal.old.lines journal.new.lines (requested result) (given result) }
+    {
+        self.take_turn(journal);
+        self.begin_lookup(name)
+    }
+
+    /// Makes a turn alone, and answers whether it was idle: nothing was shown, put or taken.
+    pub fn turn(&mut self, journal: &mut Journal) -> bool
+        requires entry_room { call_entries ≤ journal.old.entry_room }
+        requires byte_room { call_bytes ≤ journal.old.byte_room }
+        ensures call { Calls 0 turn_alone self.old self.new journal.old.lines journal.new.lines agrees None }
+        ensures idle { result ≡ list_all is_idle (own_turn self.old.alone) }
+    {
+        self.take_turn(journal)
     }
 
     /// Sends a message of at most 488 bytes.
@@ -119,7 +157,7 @@ impl Domain {
         requires byte_room { call_bytes ≤ journal.old.byte_room }
         ensures { Calls from.node (send_from from.port to priority bytes.now) self.old self.new journal.old.lines journal.new.lines (sent result) None }
     {
-        self.turn(journal); // Buffers that came back are free from here on.
+        self.take_turn(journal); // Buffers that came back are free from here on.
         self.put_message(journal, from, to, priority, bytes)
     }
 
@@ -140,7 +178,7 @@ impl Domain {
         ensures rest { IfOk result (λ got. drop got.given out.new ≡ drop got.given out.old) }
         ensures refused { OnErr result (out.new ≡ out.old) }
     {
-        self.turn(journal);
+        self.take_turn(journal);
         self.take_message(at, out)
     }
 
@@ -158,7 +196,7 @@ impl Domain {
         requires byte_room { call_bytes ≤ journal.old.byte_room }
         ensures { Calls at.node (request_at at.port max) self.old self.new journal.old.lines journal.new.lines (requested result) (given result) }
     {
-        self.turn(journal);
+        self.take_turn(journal);
         self.begin_receive(at, max)
     }
 
@@ -170,12 +208,13 @@ impl Domain {
         requires byte_room { call_bytes ≤ journal.old.byte_room }
         ensures { Calls at.node (available_at at.port) self.old self.new journal.old.lines journal.new.lines (available result) None }
     {
-        self.turn(journal);
+        self.take_turn(journal);
         self.count_messages(at)
     }
 
-    /// Ends a request that is complete, and answers how. The first bytes of its message, as many as it asked for, go to
-    /// `out`, which has room for any message; what lies behind them stays. The message's buffer is given back.
+    /// Ends a request that is complete, and answers how: with a message, the address that was looked up, or the word with which
+    /// a receive ended. The first bytes of a message, as many as the request asked for, go to `out`, which has room for any
+    /// message; all else stays there. The message's buffer is given back.
     ///
     /// Refused with `RequestInvalid` where no request that stands has the id, and with `Pending` where it is not complete.
     /// `out` stays then.
@@ -189,10 +228,10 @@ impl Domain {
         requires byte_room { call_bytes ≤ journal.old.byte_room }
         requires out { 488 ≤ length out.old }
         ensures call { Calls 0 (test_of (place_of_id self.old id)) self.old self.new journal.old.lines journal.new.lines (tested result out.new) None }
-        ensures message { IfOk result (λ done. (got : Got) × (done ≡ Message got) × (got.given ≤ length out.old) × (drop got.given out.new ≡ drop got.given out.old)) }
+        ensures message { IfOk result (λ done. GivesTo done out.old out.new) }
         ensures refused { OnErr result (out.new ≡ out.old) }
     {
-        self.turn(journal);
+        self.take_turn(journal);
         self.end_request(id, out)
     }
 
@@ -204,7 +243,7 @@ impl Domain {
         requires byte_room { call_bytes ≤ journal.old.byte_room }
         ensures { Calls 0 (cancel_of (place_of_id self.old id)) self.old self.new journal.old.lines journal.new.lines (cancelled result) None }
     {
-        self.turn(journal);
+        self.take_turn(journal);
         self.end_pending(id)
     }
 
@@ -231,8 +270,8 @@ impl Domain {
         self.endpoints.queued() as u32
     }
 
-    /// Makes a turn, and notes it.
-    fn turn(&mut self, journal: &mut Journal)
+    /// Makes a turn, notes it, and answers whether it was idle.
+    fn take_turn(&mut self, journal: &mut Journal) -> bool
         requires entry_room { 11 ≤ journal.old.entry_room }
         requires byte_room { 4096 ≤ journal.old.byte_room }
         ensures allowed { IsTurn self.old.alone.state (own_turn self.old.alone) }
@@ -241,6 +280,7 @@ impl Domain {
         ensures told { journal.new.lines ≡ noted journal.old.lines (turned (own_turn self.old.alone)) }
         ensures entry_room { journal.old.entry_room ≤ journal.new.entry_room + 11 }
         ensures byte_room { journal.old.byte_room ≤ journal.new.byte_room + 4096 }
+        ensures idle { result ≡ list_all is_idle (own_turn self.old.alone) }
     {
         make_turn(
             &mut self.endpoints,
@@ -249,7 +289,7 @@ impl Domain {
             &mut self.lane,
             journal,
             self.number,
-        );
+        )
     }
 
     /// `create` after its turn.
@@ -264,10 +304,60 @@ impl Domain {
         if self.endpoints.place_at(at).is_some() {
             return Err(Refusal::ExistsAlready);
         }
-        match self.endpoints.add(at) {
-            Some(address) => Ok(address),
-            None => Err(Refusal::EndpLimit),
+        if self.endpoints.is_full() {
+            return Err(Refusal::EndpLimit);
         }
+        if self.endpoints.given() >= MAX_ENDPOINTS_EVER {
+            return Err(Refusal::AddressSpent);
+        }
+        let address = self.endpoints.add(at);
+        let name = EndName {
+            domain: self.number,
+            node: at.node,
+            port: at.port,
+        };
+        complete_all(
+            &mut self.requests,
+            Waiters::Lookups(name),
+            Complete::Address(address),
+        );
+        Ok(address)
+    }
+
+    /// `delete` after its turn.
+    fn remove_endpoint(&mut self, at: Local) -> Result<u32, Refusal>
+        ensures answer { deleted result ≡ answer self.old.alone.state at.node (delete_at at.port) }
+        ensures ids { self.new.ids ≡ self.old.ids }
+        ensures alone { self.new.alone ≡ after_own_call self.old.alone at.node (delete_at at.port) }
+    {
+        let Some(place) = self.endpoints.place_at(at) else {
+            return Err(Refusal::EndpInvalid);
+        };
+        Ok(end_endpoint(
+            &mut self.endpoints,
+            &mut self.book,
+            &mut self.requests,
+            &mut self.lane,
+            place,
+            at,
+        ))
+    }
+
+    /// `lookup` after its turn.
+    fn begin_lookup(&mut self, name: EndName) -> Result<RequestId, Refusal>
+        ensures answer { requested result ≡ answer self.old.alone.state 0 (lookup_of name) }
+        ensures alone { self.new.alone ≡ after_own_call self.old.alone 0 (lookup_of name) }
+        ensures ids { self.new.ids ≡ self.old.ids ++ option_to_list (given result) }
+        ensures fresh { IfOk result (λ id. (AllByRecursion (λ key. key ≢ id.key) (map (λ i. i.key) self.old.ids)) × (id.key ≢ no_key) × (id.serial ≡ self.old.alone.state.requests_given)) }
+    {
+        let address = self.address_of(name);
+        let Ok(id) = self.requests.add(Ask::Lookup(name)) else {
+            return Err(Refusal::RequestLimit);
+        };
+        if let Some(address) = address {
+            self.requests.complete(id, Complete::Address(address));
+        }
+        Ok(id)
     }
 
     /// `msg_send` after its turn.
@@ -342,6 +432,7 @@ impl Domain {
         Ok(got)
     }
 
+    /// `msg_recv_i` after its turn.
     fn begin_receive(&mut self, at: Local, max: u32) -> Result<RequestId, Refusal>
         ensures answer { requested result ≡ answer self.old.alone.state at.node (request_at at.port max) }
         ensures alone { self.new.alone ≡ after_own_call self.old.alone at.node (request_at at.port max) }
@@ -375,10 +466,13 @@ impl Domain {
         ensures answer { tested result out.new ≡ answer self.old.alone.state 0 (test_of (place_of_id self.old id)) }
         ensures alone { self.new.alone ≡ after_own_call self.old.alone 0 (test_of (place_of_id self.old id)) }
         ensures ids { self.new.ids ≡ without (place_ended self.old.alone.state 0 (test_of (place_of_id self.old id))) self.old.ids }
-        ensures message { IfOk result (λ done. (got : Got) × (done ≡ Message got) × (got.given ≤ length out.old) × (drop got.given out.new ≡ drop got.given out.old)) }
+        ensures message { IfOk result (λ done. GivesTo done out.old out.new) }
         ensures refused { OnErr result (out.new ≡ out.old) }
     {
-        let (slot, max) = end_receive(&mut self.requests, id)?;
+        let how = self.requests.test(id)?;
+        let Complete::Message(slot, max) = how else {
+            return Ok(told(how));
+        };
         let got = give_at_most(self.book.bytes(slot), max, out);
         self.lane.give_back(self.book.withdraw(slot));
         Ok(Done::Message(got))

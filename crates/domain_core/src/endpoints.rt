@@ -1,14 +1,14 @@
 //! The endpoints of a domain and their queues.
 
-ghost use Rattle.std.specs.Prelude.{◌≡◌, ◌≤◌, ◌<◌, ◌+◌, [], ℕ, false, IfOk, IfSome, IsNone, MatchOption, ◌^◌, ◌==◌, ◌&&◌, length, sum_by, is_some, position, slice_get, Some, option_map};
+ghost use Rattle.std.specs.Prelude.{◌≡◌, ◌≤◌, ◌<◌, ◌+◌, [], ℕ, false, IfOk, IfSome, IsNone, ◌^◌, ◌==◌, ◌&&◌, length, sum_by, is_some, nat_le, position, slice_get, Some, option_map, vec_capacity};
 ghost use Rattle.std.specs.List.{AllByRecursion};
 ghost use Rattle.board_model.specs.State.{address_at, endpoint_at, place_at, place_of_address};
 ghost use Rattle.board_model.specs.Answer.{has_channel};
-ghost use Rattle.board_model.specs.Choice.{best};
+ghost use Rattle.board_model.specs.Choice.{best, oldest};
 ghost use Rattle.buffer_book.specs.Book.{Book};
 ghost use Rattle.message_queue.specs.Queue.{waiting};
 ghost use Rattle.domain_core.specs.Table.{holding};
-ghost use Rattle.domain_core.specs.Records.{all_waiting, opening_records, waiting_in, with_best_taken_at, with_record, with_waiting_at};
+ghost use Rattle.domain_core.specs.Records.{all_waiting, opening_records, waiting_in, with_best_taken_at, with_oldest_taken_at, with_record, with_waiting_at, without_record_at};
 ghost use Rattle.domain_core.specs.InBook.{endpoints_in};
 ghost use Rattle.domain_core.specs.InTable.{IsSpare};
 
@@ -92,13 +92,28 @@ impl Endpoints {
         place_with_address(&self.records, address)
     }
 
-    /// Makes an endpoint, and answers its address, or `None` where 64 records are in use.
-    pub fn add(&mut self, at: Local) -> Option<u32>
-        requires { self.old.given ≤ 60000 }
-        ensures cases { MatchOption result ((64 ≤ length self.old.endpoints) × (self.new ≡ self.old))
-            (λ a. (length self.old.endpoints < 64) × (a ≡ 1024 + self.old.given) × (self.new ≡ with_record self.old at)) }
+    /// Whether all records are in use.
+    pub fn is_full(&self) -> bool
+        ensures { result ≡ nat_le 64 (length self.now.endpoints) }
     {
-        let queue = self.spare.pop()?;
+        self.spare.is_empty()
+    }
+
+    /// How many endpoints were made.
+    pub fn given(&self) -> u32
+        ensures { result ≡ self.now.given }
+    {
+        self.given
+    }
+
+    /// Makes an endpoint, and answers its address.
+    pub fn add(&mut self, at: Local) -> u32
+        requires few { length self.old.endpoints < 64 }
+        requires given { self.old.given < 60000 }
+        ensures address { result ≡ 1024 + self.old.given }
+        ensures added { self.new ≡ with_record self.old at }
+    {
+        let queue = self.spare.pop().unwrap();
         let address = FIRST_ADDRESS + self.given;
         self.records
             .push(Endpoint {
@@ -108,7 +123,17 @@ impl Endpoints {
             })
             .unwrap();
         self.given += 1;
-        Some(address)
+        address
+    }
+
+    /// Ends the endpoint at a place, where nothing waits. Its queue serves another from then on.
+    pub fn remove(&mut self, place: usize)
+        requires within { place < length self.old.endpoints }
+        requires empty { waiting_in (slice_get self.old.endpoints place) ≡ [] }
+        ensures { self.new ≡ without_record_at self.old place }
+    {
+        let endpoint = self.records.remove(place);
+        self.spare.push(endpoint.queue).unwrap();
     }
 
     /// Queues a buffer last at the endpoint at a place.
@@ -130,6 +155,16 @@ impl Endpoints {
     {
         let endpoint = &mut self.records[place];
         endpoint.queue.pop_best()
+    }
+
+    /// Takes the oldest buffer at a place, or `None` where none waits there.
+    pub fn take_oldest(&mut self, place: usize) -> Option<Slot>
+        requires within { place < length self.old.endpoints }
+        ensures oldest { result ≡ option_map (λ w. w.slot) (oldest (waiting_in (slice_get self.old.endpoints place))) }
+        ensures rest { self.new ≡ with_oldest_taken_at self.old place }
+    {
+        let endpoint = &mut self.records[place];
+        endpoint.queue.pop_oldest()
     }
 
     /// The name of the endpoint at a place.
@@ -184,8 +219,11 @@ fn count_waiting(records: &[Endpoint]) -> usize
 fn empty_queues(alloc: Global, room: u32) -> Result<Vec<MessageQueue>, NoMemory>
     ensures each { IfOk result (λ v. AllByRecursion (IsSpare room) v.items) }
     ensures count { IfOk result (λ v. length v.items ≡ 64) }
+    ensures room { IfOk result (λ v. 64 ≤ vec_capacity v) }
 {
-    let mut queues = Vec::new(alloc);
+    let Ok(mut queues) = Vec::with_capacity(alloc, MAX_ENDPOINTS) else {
+        return Err(NoMemory);
+    };
     for _ in 0..MAX_ENDPOINTS {
         let queue = MessageQueue::new(alloc, room)?;
         if queues.push(queue).is_err() {

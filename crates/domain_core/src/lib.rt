@@ -11,6 +11,7 @@ mod fates;
 mod journal;
 mod lane;
 mod messages;
+mod removal;
 mod requests;
 mod threads;
 mod turn;

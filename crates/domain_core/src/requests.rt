@@ -1,14 +1,51 @@
-//! The receives that wait, and those that are complete.
+//! Requests that wait, and those that are complete.
 
-ghost use Rattle.std.specs.Prelude.{◌≡◌, Some, Err, IfSome, IfOk, IfErr, OnOk, OnErr, length, option_map};
+ghost use Rattle.std.specs.Prelude.{◌≡◌, ◌≤◌, ℕ, [], List, Some, IfSome, ◌&&◌, is_none, length, option_map};
 ghost use Rattle.mc_base.specs.declared.name.Local.{Local};
+ghost use Rattle.board_model.specs.State.{Asked};
+ghost use Rattle.board_model.specs.Answer.{result_by};
+ghost use Rattle.buffer_book.specs.Book.{Book};
 ghost use Rattle.request_set.specs.declared.ask.Ask.TheVariants.{Message};
-ghost use Rattle.request_set.specs.declared.ask.Complete.TheVariants as complete;
-ghost use Rattle.request_set.specs.Requests.{IsPending, oldest_waiting, progress_of, request_of, tested, without_request};
-ghost use Rattle.domain_core.specs.InRequests.{AreReceives, handed_slots};
+ghost use Rattle.request_set.specs.Requests.{IsPending, oldest_waiting, request_of};
+ghost use Rattle.domain_core.specs.Calls.{GivesTo, result_of_done};
+ghost use Rattle.domain_core.specs.InBook.{outcome_in};
+ghost use Rattle.domain_core.specs.InRequests.{AreReceives, handed_slots, is_among, slots_in, with_all_complete};
 
-use mc_base::{Local, MAX_REQUESTS, Refusal, RequestId, Slot};
+use mc_base::{Done, EndName, Local, MAX_REQUESTS, RequestId};
 use request_set::{Ask, Complete, RequestSet};
+
+/// Requests that wait for the same.
+#[derive(Clone, Copy, Debug)]
+pub enum Waiters {
+    /// Lookups of this name.
+    Lookups(EndName),
+    /// Receives at this endpoint.
+    Receives(Local),
+}
+
+impl Waiters {
+    /// Whether a request is one of them and pending.
+    fn have(self, ask: Ask, complete: Option<Complete>) -> bool
+        ensures { result ≡ (is_none complete && is_among self ask) }
+    {
+        complete.is_none() && self.asks(ask)
+    }
+
+    /// Whether a request that asks so is one of them.
+    fn asks(self, ask: Ask) -> bool
+        ensures { result ≡ is_among self ask }
+    {
+        match (self, ask) {
+            (Waiters::Lookups(name), Ask::Lookup(other)) => {
+                other.domain == name.domain && (other.node == name.node && other.port == name.port)
+            }
+            (Waiters::Receives(local), Ask::Message(at, _) | Ask::Packet(at)) => {
+                at.node == local.node && at.port == local.port
+            }
+            _ => false,
+        }
+    }
+}
 
 /// The oldest receive that waits at an endpoint, and how many bytes it is given at most.
 pub fn oldest_receive(requests: &RequestSet, at: Local) -> Option<(RequestId, u32)>
@@ -20,26 +57,39 @@ pub fn oldest_receive(requests: &RequestSet, at: Local) -> Option<(RequestId, u3
     let id = requests.waiting(at)?;
     let ask = requests.asked(id)?;
     let Ask::Message(_, max) = ask else {
-        return None; // No other requests stand.
+        return None; // No other request waits there.
     };
     Some((id, max))
 }
 
-/// Ends a receive that is complete. Answers the buffer of its message, and how many bytes it is given at most.
-///
-/// Refused with `RequestInvalid` where no request that stands has the id, and with `Pending` where it is not complete.
-pub fn end_receive(requests: &mut RequestSet, id: RequestId) -> Result<(Slot, u32), Refusal>
+/// Makes all of these requests complete that are pending.
+pub fn complete_all(requests: &mut RequestSet, who: Waiters, how: Complete)
     requires { AreReceives requests.old }
-    ensures held { IfOk result (λ r. progress_of requests.old id ≡ Some (Some (complete.Message r.0 r.1))) }
-    ensures ended { OnOk result (requests.new ≡ without_request requests.old id) }
-    ensures refused { IfErr result (λ word. tested (progress_of requests.old id) ≡ Err word) }
-    ensures stays { OnErr result (requests.new ≡ requests.old) }
+    ensures { requests.new ≡ with_all_complete requests.old who how }
 {
-    let complete = requests.test(id)?;
-    let Complete::Message(slot, max) = complete else {
-        return Err(Refusal::RequestInvalid); // No other requests stand.
-    };
-    Ok((slot, max))
+    for at in 0..MAX_REQUESTS as u32 {
+        let Some((id, ask, complete)) = requests.listed(at) else {
+            break;
+        };
+        if who.have(ask, complete) {
+            requests.complete(id, how);
+        }
+    }
+}
+
+/// How a request ended that holds no message.
+pub fn told(how: Complete) -> Done
+    requires { slots_in (Some how) ≡ [] }
+    ensures result { (b : Book) (asked : Asked) (out : List ℕ) → result_of_done result out ≡ result_by asked (Some (outcome_in b how)) }
+    ensures gives { (old : List ℕ) → GivesTo result old old }
+{
+    match how {
+        Complete::Address(address) => Done::Address(address),
+        Complete::Accepted => Done::Accepted,
+        Complete::Rejected(reason) => Done::Rejected(reason),
+        Complete::Ended(word) => Done::Ended(word),
+        Complete::Message(..) | Complete::Packet(_) => unreachable!(),
+    }
 }
 
 /// How many messages complete requests hold.
@@ -52,9 +102,18 @@ pub fn messages_handed(requests: &RequestSet) -> u32
         let Some((_, _, complete)) = requests.listed(at) else {
             break;
         };
-        if complete.is_some() {
-            count += 1;
-        }
+        count += held(complete);
     }
     count
+}
+
+/// How many messages a request holds.
+fn held(complete: Option<Complete>) -> u32
+    ensures count { result ≡ length (slots_in complete) }
+    ensures most { result ≤ 1 }
+{
+    match complete {
+        Some(Complete::Message(..) | Complete::Packet(_)) => 1,
+        _ => 0,
+    }
 }

@@ -1,7 +1,7 @@
 //! A turn: the looks at the own lane, and what is done with the frames that they show.
 
 ghost use Rattle.std.specs.Prelude.{◌≡◌, ◌≤◌, ◌<◌, ◌+◌, ◌*◌, ◌++◌, ◌∷◌, [], length, map};
-ghost use Rattle.board_model.specs.Journal.{looked, back_line, see_line, turn_line, taken};
+ghost use Rattle.board_model.specs.Journal.{is_idle, looked, back_line, see_line, turn_line, taken};
 ghost use Rattle.board_model.specs.Serial.{returned_at_once};
 ghost use Rattle.domain_core.specs.Table.{with_held};
 ghost use Rattle.domain_core.specs.Lane.{with_returned, AreForEndpoints};
@@ -11,7 +11,7 @@ ghost use Rattle.domain_core.specs.InBook.{held_by, table_in};
 ghost use Rattle.domain_core.specs.InRequests.{AreReceives};
 ghost use Rattle.domain_core.specs.InPlaces.{AreInPlaces, AreInPlacesBut};
 ghost use Rattle.domain_core.specs.Dealt.{IsVerdict, Takes, TakesFirst, scene, held_after, fate_of};
-ghost use Rattle.domain_core.specs.Turned.{MakesTurn};
+ghost use Rattle.domain_core.specs.Turned.{MakesTurn, visit};
 
 use crate::carried::Carried;
 use crate::dealing::{Verdict, judge};
@@ -23,7 +23,7 @@ use buffer_book::BufferBook;
 use mc_base::TURN_FRAMES;
 use request_set::{Complete, RequestSet};
 
-/// Makes a turn. Both looks show all that stands, and the first frames are taken, at most 8.
+/// Makes a turn, and answers whether it was idle. Both looks show all that stands, and the first frames are taken, at most 8.
 pub fn make_turn(
     endpoints: &mut Endpoints,
     book: &mut BufferBook,
@@ -31,7 +31,7 @@ pub fn make_turn(
     lane: &mut OwnLane,
     journal: &mut Journal,
     peer: u8,
-)
+) -> bool
     requires peer { peer ≡ endpoints.old.number }
     requires places { AreInPlaces endpoints.old requests.old book.old lane.old }
     requires receives { AreReceives requests.old }
@@ -43,6 +43,7 @@ pub fn make_turn(
     ensures ids { map (λ r. r.id) requests.new.standing ≡ map (λ r. r.id) requests.old.standing }
     ensures places { AreInPlaces endpoints.new requests.new book.new lane.new }
     ensures frames { AreForEndpoints (lane_in lane.old).ring }
+    ensures idle { result ≡ is_idle (visit peer (held_by book.old endpoints.old requests.old) (lane_in lane.old)) }
     ensures entry_room { journal.old.entry_room ≤ journal.new.entry_room + 11 }
     ensures byte_room { journal.old.byte_room ≤ journal.new.byte_room + 4096 }
 {
@@ -50,7 +51,7 @@ pub fn make_turn(
     let see = lane.look_ahead();
     if back == 0 && see == 0 {
         journal.note(Entry::Idle { turns: 1 });
-        return;
+        return true;
     }
     note_looks(journal, peer, back, see);
     take_frames(
@@ -62,6 +63,7 @@ pub fn make_turn(
         peer,
         TURN_FRAMES.min(see as usize),
     );
+    false
 }
 
 /// Notes the looks of a turn that is not idle.

@@ -1,9 +1,6 @@
-use Rattle.std.proofs.Common.{◌≡◌, ◌≤◌, ◌<◌, ◌∙◌, ℕ, Bool, ap, sym, arith, length, take}
-use Rattle.std.specs.Prelude.{is_some, slice_get}
-use Rattle.domain_core.specs.InRequests.{handed_slots}
-use Rattle.domain_core.specs.InPlaces.{one_if}
+use Rattle.std.proofs.Common.{◌∙◌, arith}
+use Rattle.std.specs.Prelude.{slice_get}
 use Rattle.domain_core.proofs.Handed.{all-handed, all-listed, handed-next, held-listed}
-use Rattle.domain_core.proofs.requests.messages_handed.Goals.{then-is_some, else-is_some}
 use Rattle.domain_core.proofs.requests.messages_handed.Goals as goal
 
 pub loop-at-preserved : goal.loop-at-preserved
@@ -12,12 +9,9 @@ loop-at-preserved c =
     let at = c.loop-at.at in
     let before = c.loop-at.invariant.count in
     let bound = c.loop-at.invariant.bound in
-    let next = handed-next rs at c.requires.each in
+    let next = handed-next rs at in
     let one = held-listed (slice_get rs at) (c.in-Some.field-0-0, c.in-Some.field-0-1, c.in-Some.complete) c.in-Some.ensures.place in
-    elim c.if-is_some.branch [
-      | then-is_some w ↦ let is = ap one_if (sym c.is_some.ensures ∙ w.if-is_some.true) in record { count = omega (arith, w.count-is, before, next, one, is); bound = omega (arith, w.count-is, bound) }
-      | else-is_some w ↦ let is = ap one_if (sym c.is_some.ensures ∙ w.if-is_some.false) in record { count = omega (arith, w.count-is, before, next, one, is); bound = omega (arith, w.count-is, bound) }
-    ]
+    record { count = omega (arith, before, next, one, c.held-count.ensures.count); bound = omega (arith, bound, c.held-count.ensures.most) }
 
 pub returns-after-loop-at : goal.returns-after-loop-at
 returns-after-loop-at c =

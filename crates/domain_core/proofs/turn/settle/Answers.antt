@@ -1,4 +1,4 @@
-use Rattle.std.proofs.Common.{◌≡◌, ◌<◌, ℕ, ap, sym, subst, arith, ◌∙◌, length, List}
+use Rattle.std.proofs.Common.{◌<◌, ℕ, ap, sym, subst, arith, ◌∙◌, length}
 use Rattle.std.proofs.lemmas.List.{length-map}
 use Rattle.buffer_book.specs.Book.{IsAway}
 use Rattle.domain_core.specs.Table.{Held, with_held}

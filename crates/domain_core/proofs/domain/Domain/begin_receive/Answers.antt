@@ -1,5 +1,5 @@
-use Rattle.std.proofs.Common.{◌≡◌, ◌≢◌, ◌<◌, ◌≤◌, ◌∙◌, ◌+◌, ◌++◌, ◌∷◌, [], ap, sym, refl, subst, arith, length, map, List, ℕ, Option, Some, None, true, false}
-use Rattle.std.specs.Prelude.{is_some, nat_le, option_and_then, option_map, slice_get}
+use Rattle.std.proofs.Common.{◌≡◌, ◌≢◌, ◌<◌, ◌≤◌, ◌∙◌, ◌++◌, ◌∷◌, [], ap, sym, refl, subst, arith, length, map, List, ℕ, Option, Some, None, true, false}
+use Rattle.std.specs.Prelude.{is_some, nat_le, option_and_then, slice_get}
 use Rattle.std.specs.List.{AllByRecursion}
 use Rattle.std.proofs.lemmas.List.{length-map}
 use Rattle.mc_base.specs.declared.request.RequestId.{RequestId}
@@ -11,7 +11,7 @@ use Rattle.board_model.specs.Choice.{best}
 use Rattle.board_model.specs.Answer.{answer, local, refusal}
 use Rattle.board_model.specs.Effect.{best_queued}
 use Rattle.board_model.specs.Serial.{after_own_call}
-use Rattle.message_queue.specs.Queue.{Waiting, waiting}
+use Rattle.message_queue.specs.Queue.{waiting}
 use Rattle.request_set.specs.declared.ask.Ask.{Ask}
 use Rattle.request_set.specs.declared.ask.Ask.TheVariants as ask
 use Rattle.request_set.specs.declared.ask.Complete.{Complete}
@@ -24,7 +24,7 @@ use Rattle.domain_core.specs.Pool.{lane_in}
 use Rattle.domain_core.specs.InBook.{endpoints_in, item_in, request_in, table_in}
 use Rattle.domain_core.specs.InRequests.{AreReceives}
 use Rattle.domain_core.specs.InPlaces.{AreInPlaces}
-use Rattle.domain_core.specs.Alone.{alone, alone_of, view_of}
+use Rattle.domain_core.specs.Alone.{alone_of, view_of}
 use Rattle.domain_core.proofs.Beginning.{few-left, given-item, given-places, keys-of_ids, last-complete, last-ids, last-receives, pending-places, requested-table, with_last, with_outcome}
 use Rattle.domain_core.proofs.Frames.{none-from}
 use Rattle.domain_core.proofs.Tables.{length-changed, taken-none}
@@ -99,7 +99,7 @@ invariant_of-self-in-Some-take_best c =
       room = omega (arith, i.room, room);
       number = number ∙ i.number;
       shown = i.shown;
-      given = omega (arith, given', same, i.given);
+      given = omega (arith, given', i.given);
       few = omega (arith, same, i.few);
     }
 
@@ -188,7 +188,7 @@ invariant_of-self-in_default-take_best c =
       room = omega (arith, i.room, room);
       number = number ∙ i.number;
       shown = i.shown;
-      given = omega (arith, given', same, i.given);
+      given = omega (arith, given', i.given);
       few = omega (arith, same, i.few);
     }
 

@@ -1,18 +1,16 @@
-use Rattle.std.proofs.Common.{rules, ◌≡◌, ◌∙◌, ap, sym, subst, length, map, Bool, true, Some, None}
-use Rattle.std.proofs.lemmas.List.{length-map}
-use Rattle.std.specs.Prelude.{count_by, Result, Ok, Err}
+use Rattle.std.proofs.Common.{rules, ◌≡◌, ◌∙◌, ap, sym, subst, map, Bool, true, Some, None}
+use Rattle.std.specs.Prelude.{Err}
 use Rattle.board_model.specs.DomainCall.{DomainCall, cancel_of}
 use Rattle.board_model.specs.Lists.{without}
 use Rattle.board_model.specs.Answer.{answer, refusal}
 use Rattle.board_model.specs.Serial.{after_own_call}
 use Rattle.mc_base.specs.declared.request.Slot.{Slot}
-use Rattle.request_set.specs.Requests as set
 use Rattle.request_set.specs.Requests.{Requests, Standing, progress_of, without_request}
 use Rattle.board_model.proofs.ListsCounts.{count-every}
 use Rattle.domain_core.specs.Calls.{cancelled, place_ended}
 use Rattle.domain_core.specs.DomainView.{DomainView, place_of_id}
 use Rattle.domain_core.specs.Pool.{lane_in}
-use Rattle.domain_core.specs.InBook.{requests_in, table_in}
+use Rattle.domain_core.specs.InBook.{table_in}
 use Rattle.domain_core.specs.InRequests.{AreReceives, handed_slots}
 use Rattle.domain_core.specs.InPlaces.{AreInPlaces, is_same}
 use Rattle.domain_core.specs.Alone.{IsSound, alone, alone_of, view_of}

@@ -13,10 +13,10 @@ returns-clause-call c =
     let node = c.args.at.node in
     let old = c.args.self.now.alone in
     record {
-      turn = c.turn.ensures.allowed;
-      answer = c.take_message.ensures.answer ∙ ap (λ (a : Alone). answer a.state node call) c.turn.ensures.alone;
-      state = c.take_message.ensures.alone ∙ ap (λ (a : Alone). after_own_call a node call) c.turn.ensures.alone;
-      told = c.turn.ensures.told ∙ ap (λ (ps : List (ℕ × List ℕ)). noted_all (noted c.args.journal.now.lines (turned (own_turn old))) (map put_entry ps)) (sym (puts-nothing (after_own_turn old).state node call refl));
-      ids = same-ids (after_own_turn old).state node call c.args.self.now.ids c.take_message.new.self.ids refl (c.take_message.ensures.ids ∙ c.turn.ensures.ids);
+      turn = c.take_turn.ensures.allowed;
+      answer = c.take_message.ensures.answer ∙ ap (λ (a : Alone). answer a.state node call) c.take_turn.ensures.alone;
+      state = c.take_message.ensures.alone ∙ ap (λ (a : Alone). after_own_call a node call) c.take_turn.ensures.alone;
+      told = c.take_turn.ensures.told ∙ ap (λ (ps : List (ℕ × List ℕ)). noted_all (noted c.args.journal.now.lines (turned (own_turn old))) (map put_entry ps)) (sym (puts-nothing (after_own_turn old).state node call refl));
+      ids = same-ids (after_own_turn old).state node call c.args.self.now.ids c.take_message.new.self.ids refl (c.take_message.ensures.ids ∙ c.take_turn.ensures.ids);
       fresh = tt;
     }

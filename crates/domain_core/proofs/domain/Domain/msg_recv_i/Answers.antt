@@ -16,10 +16,10 @@ returns c =
     let node = c.args.at.node in
     let old = c.args.self.now.alone in
     record {
-      turn = c.turn.ensures.allowed;
-      answer = c.begin_receive.ensures.answer ∙ ap (λ (a : Alone). answer a.state node call) c.turn.ensures.alone;
-      state = c.begin_receive.ensures.alone ∙ ap (λ (a : Alone). after_own_call a node call) c.turn.ensures.alone;
-      told = c.turn.ensures.told ∙ ap (λ (ps : List (ℕ × List ℕ)). noted_all (noted c.args.journal.now.lines (turned (own_turn old))) (map put_entry ps)) (sym (puts-nothing (after_own_turn old).state node call refl));
-      ids = begun-ids (after_own_turn old).state node call c.args.self.now.ids c.begin_receive.new.self.ids (option_to_list (given c.begin_receive.result)) refl (c.begin_receive.ensures.ids ∙ ap (λ (is : List RequestId). is ++ option_to_list (given c.begin_receive.result)) c.turn.ensures.ids);
-      fresh = fresh-from c.args.self.now c.turn.new.self c.begin_receive.result c.turn.ensures.alone c.turn.ensures.ids c.begin_receive.ensures.fresh;
+      turn = c.take_turn.ensures.allowed;
+      answer = c.begin_receive.ensures.answer ∙ ap (λ (a : Alone). answer a.state node call) c.take_turn.ensures.alone;
+      state = c.begin_receive.ensures.alone ∙ ap (λ (a : Alone). after_own_call a node call) c.take_turn.ensures.alone;
+      told = c.take_turn.ensures.told ∙ ap (λ (ps : List (ℕ × List ℕ)). noted_all (noted c.args.journal.now.lines (turned (own_turn old))) (map put_entry ps)) (sym (puts-nothing (after_own_turn old).state node call refl));
+      ids = begun-ids (after_own_turn old).state node call c.args.self.now.ids c.begin_receive.new.self.ids (option_to_list (given c.begin_receive.result)) refl (c.begin_receive.ensures.ids ∙ ap (λ (is : List RequestId). is ++ option_to_list (given c.begin_receive.result)) c.take_turn.ensures.ids);
+      fresh = fresh-from c.args.self.now c.take_turn.new.self c.begin_receive.result c.take_turn.ensures.alone c.take_turn.ensures.ids c.begin_receive.ensures.fresh;
     }

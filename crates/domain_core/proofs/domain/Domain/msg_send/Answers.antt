@@ -13,12 +13,12 @@ returns c =
     let node = c.args.from.node in
     let old = c.args.self.now.alone in
     record {
-      turn = c.turn.ensures.allowed;
-      answer = c.put_message.ensures.answer ∙ ap (λ (a : Alone). answer a.state node call) c.turn.ensures.alone;
-      state = c.put_message.ensures.alone ∙ ap (λ (a : Alone). after_own_call a node call) c.turn.ensures.alone;
+      turn = c.take_turn.ensures.allowed;
+      answer = c.put_message.ensures.answer ∙ ap (λ (a : Alone). answer a.state node call) c.take_turn.ensures.alone;
+      state = c.put_message.ensures.alone ∙ ap (λ (a : Alone). after_own_call a node call) c.take_turn.ensures.alone;
       told = c.put_message.ensures.told
-          ∙ ap (λ (a : Alone). noted_all c.turn.new.journal.lines (map put_entry (puts a.state node call))) c.turn.ensures.alone
-          ∙ ap (λ (ls : List Line). noted_all ls (map put_entry (puts (after_own_turn old).state node call))) c.turn.ensures.told;
-      ids = same-ids (after_own_turn old).state node call c.args.self.now.ids c.put_message.new.self.ids refl (c.put_message.ensures.ids ∙ c.turn.ensures.ids);
+          ∙ ap (λ (a : Alone). noted_all c.take_turn.new.journal.lines (map put_entry (puts a.state node call))) c.take_turn.ensures.alone
+          ∙ ap (λ (ls : List Line). noted_all ls (map put_entry (puts (after_own_turn old).state node call))) c.take_turn.ensures.told;
+      ids = same-ids (after_own_turn old).state node call c.args.self.now.ids c.put_message.new.self.ids refl (c.put_message.ensures.ids ∙ c.take_turn.ensures.ids);
       fresh = tt;
     }

@@ -30,7 +30,7 @@ invariant_of-result c =
       room = omega (arith, size, ap (λ (r : Records). r.room) records);
       number = ap (λ (r : Records). r.number) records;
       shown = omega (arith, ap (λ (p : Pool). p.shown) pool);
-      given = ap (λ (r : Records). r.given) records ∙ sym few;
+      given = omega (arith, ap (λ (r : Records). r.given) records);
       few = omega (arith, few);
     }
 

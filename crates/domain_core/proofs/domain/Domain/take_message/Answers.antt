@@ -99,7 +99,7 @@ invariant_of-self-2 c =
       room = omega (arith, i.room, size, room);
       number = number ∙ i.number;
       shown = omega (arith, shown, ring, i.shown);
-      given = omega (arith, given', same, i.given);
+      given = omega (arith, given', i.given);
       few = omega (arith, same, i.few);
     }
 

@@ -1,4 +1,4 @@
-use Rattle.std.proofs.Common.{◌≡◌, ◌∙◌, ap, sym, refl, List, [], ◌++◌, ℕ, map}
+use Rattle.std.proofs.Common.{◌≡◌, ◌∙◌, ap, sym, refl, List, ℕ, map}
 use Rattle.std.proofs.lemmas.List.{append-nil}
 use Rattle.board_model.specs.DomainCall.{DomainCall, test_of}
 use Rattle.board_model.specs.Journal.{noted, noted_all, turned}
@@ -17,12 +17,12 @@ returns-clause-call c =
     let ids = c.args.self.now.ids in
     let id = c.args.id in
     let call : DomainCall = test_of (place_of_id c.args.self.now id) in
-    let mid : c.turn.new.self ≡ record { alone = after_own_turn old; ids = ids } = view-is c.turn.new.self (after_own_turn old) ids c.turn.ensures.alone c.turn.ensures.ids in
+    let mid : c.take_turn.new.self ≡ record { alone = after_own_turn old; ids = ids } = view-is c.take_turn.new.self (after_own_turn old) ids c.take_turn.ensures.alone c.take_turn.ensures.ids in
     record {
-      turn = c.turn.ensures.allowed;
+      turn = c.take_turn.ensures.allowed;
       answer = c.end_request.ensures.answer ∙ ap (λ (v : DomainView). answer v.alone.state 0 (test_of (place_of_id v id))) mid;
       state = c.end_request.ensures.alone ∙ ap (λ (v : DomainView). after_own_call v.alone 0 (test_of (place_of_id v id))) mid;
-      told = c.turn.ensures.told ∙ ap (λ (ps : List (ℕ × List ℕ)). noted_all (noted c.args.journal.now.lines (turned (own_turn old))) (map put_entry ps)) (sym (puts-nothing (after_own_turn old).state 0 call refl));
+      told = c.take_turn.ensures.told ∙ ap (λ (ps : List (ℕ × List ℕ)). noted_all (noted c.args.journal.now.lines (turned (own_turn old))) (map put_entry ps)) (sym (puts-nothing (after_own_turn old).state 0 call refl));
       ids = c.end_request.ensures.ids
           ∙ ap (λ (v : DomainView). without (place_ended v.alone.state 0 (test_of (place_of_id v id))) v.ids) mid
           ∙ sym (append-nil (without (place_ended (after_own_turn old).state 0 call) ids));
