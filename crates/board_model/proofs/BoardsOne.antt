@@ -1,11 +1,11 @@
 -- Boards of one domain: such a scenario, and its journals.
-use Rattle.std.proofs.Common.{◌≡◌, ℕ, Bool, cond, List, [], ◌∷◌, Some, None, map, find, refl, sym, ap, ap₂, subst, eq-eqb}
+use Rattle.std.proofs.Common.{◌≡◌, ℕ, Bool, cond, List, [], ◌∷◌, Some, None, find, refl, ap, ap₂, eq-eqb}
 use Rattle.std.specs.Prelude.{◌==◌}
 use Rattle.board_model.specs.declared.scenario.DomainLine.{DomainLine}
 use Rattle.board_model.specs.declared.scenario.LinkLine.{LinkLine}
 use Rattle.board_model.specs.declared.scenario.CallLine.{CallLine}
 use Rattle.board_model.specs.declared.scenario.Scenario.{Scenario}
-use Rattle.board_model.specs.Scenario.{Lane, lanes, script}
+use Rattle.board_model.specs.Scenario.{Lane, script}
 use Rattle.board_model.specs.Grammar.{IsLawful}
 use Rattle.board_model.specs.Journal.{PlainEntry}
 use Rattle.board_model.specs.State.{DomainState}
@@ -28,9 +28,6 @@ is_board s h = ap₂ (λ (ds : List DomainLine) (ls : List LinkLine). board_with
 abbrev pub own_lane : DomainLine → Lane
 own_lane d = record { sender = d.domain; receiver = d.domain; size = d.pool }
 
-pub lanes_one : (d : DomainLine) (calls : List CallLine) → lanes (board_of d calls) ≡ own_lane d ∷ []
-lanes_one d calls = refl
-
 -- its one journal
 abbrev pub journal : DomainLine → List PlainEntry → DomainJournal
 journal d es = record { line = d; entries = es }
@@ -49,11 +46,3 @@ given_one s d es peer = ap (λ o. given_by s o peer) (found_one d es)
 
 pub at_end_one : (s : Scenario) (d : DomainLine) (es : List PlainEntry) (f : DomainState → ℕ) → at_end s (journal d es ∷ []) d.domain f ≡ f (left_by s d es).state
 at_end_one s d es f = ap (in_last_state s f) (found_one d es)
-
--- journals of this one domain are one journal
-pub journals_one : (P : List DomainJournal → Type 0) (d : DomainLine) (js : List DomainJournal) → map (λ j. j.line) js ≡ d ∷ [] → ((es : List PlainEntry) → P (journal d es ∷ [])) → P js
-journals_one P d [] e h = absurd cc
-journals_one P d (j ∷ []) e h =
-    let is_d : j.line ≡ d = cc in
-    subst (λ (x : DomainLine). P (journal x j.entries ∷ [])) (sym is_d) (h j.entries)
-journals_one P d (j ∷ k ∷ js) e h = absurd cc

@@ -1,24 +1,23 @@
 -- Each serial of a domain is that of a pending request, or was taken by, or was cancelled: at most one of these, and at most
 -- once. What frames do to it.
-use Rattle.std.proofs.Common.{◌≡◌, ℕ, ◌+◌, ◌≤◌, Bool, true, false, ◌&&◌, cond, List, [], ◌∷◌, ◌++◌, Option, Some, None, map, flat_map, slice_get, option_map, option_and_then, option_to_list, refl, sym, ap, ◌∙◌, arith}
-use Rattle.std.specs.Prelude.{is_some, is_none, ◌==◌}
-use Rattle.std.proofs.lemmas.Bool.{and_parts}
+use Rattle.std.proofs.Common.{◌≡◌, ℕ, ◌+◌, ◌≤◌, Bool, true, false, ◌&&◌, cond, List, [], ◌∷◌, ◌++◌, Option, Some, None, map, flat_map, slice_get, option_map, option_to_list, refl, sym, ap, ◌∙◌, arith}
+use Rattle.std.specs.Prelude.{is_none, ◌==◌}
 use Rattle.std.proofs.lemmas.List.Concat.{flat_map-append}
 use Rattle.mc_base.specs.Frame.{destination_of}
-use Rattle.mc_base.specs.declared.name.Local.{Local}
 use Rattle.mc_base.specs.declared.name.EndName.{EndName}
 use Rattle.mc_base.specs.declared.fate.Fate.{Fate}
 use Rattle.mc_base.specs.declared.fate.Fate.TheVariants as fate
 use Rattle.board_model.specs.Lists.{changed_at, changed}
 use Rattle.board_model.specs.Journal.{Taken, Visit}
-use Rattle.board_model.specs.State.{Request, has_address, has_serial, DomainState, waits_at, place_of_waiting, place_waiting_for, local_of_address}
+use Rattle.board_model.specs.State.{Request, has_address, has_serial, DomainState, place_waiting_for}
 use Rattle.board_model.specs.Dealing.{item_of, complete_with, with_handed, looks_for, found_for, with_created, with_destroyed, announced_name, announced_address, row_for, after_frame, after_takes, HaveWords, keeps_buffer}
 use Rattle.board_model.specs.Turn.{after_looks, after_visit, IsVisit, AreVisits, after_turn}
 use Rattle.board_model.specs.Messages.{message_in, carries_message, messages_in}
 use Rattle.board_model.specs.Takings.{Taking, taking, is_handed, serial_at, handed_now, handed_in, handed_along}
 use Rattle.board_model.specs.Serial.{word_of}
-use Rattle.board_model.proofs.ListsCounts.{one_if, count-cons, count-append, position-tells}
+use Rattle.board_model.proofs.ListsCounts.{one_if, count-cons, count-append, some_place}
 use Rattle.board_model.proofs.RequestCounts.{times, standing_of, pending_as, pending_of, pending-stands, count-changed}
+use Rattle.board_model.proofs.LaneTakes.{waiting_tells}
 use Rattle.board_model.proofs.LaneRows.{stays, learns, forgets, hands, queues, DealsWith, frame_deals, frame_word_is}
 
 -- how often each serial was taken by a request, and how often one was cancelled
@@ -82,13 +81,6 @@ found_completes n address = record { serial = λ r. serial r (looks_for n r); fe
 
 -- ---- one frame
 
--- the place of a waiting receive is that of a pending request
-waits_pending : (s : DomainState) (l : Option Local) (i : ℕ) → option_and_then (place_of_waiting s) l ≡ Some i → (r : Request) × (slice_get s.requests i ≡ Some r) × (is_none r.outcome ≡ true)
-waits_pending s None i e = absurd cc
-waits_pending s (Some local) i e =
-    let t = position-tells (waits_at local) s.requests i e in
-    (t.0, t.1, (and_parts (is_none t.0.outcome) _ t.2).0)
-
 -- a message that is handed tells the request's serial, once
 handed_times : (n serial peer d : ℕ) (frame : List ℕ) → times n (serials_in (map (taking (Some serial)) (messages_in peer d (frame ∷ [])))) ≤ one_if (serial == n)
 handed_times n serial peer d frame = go (carries_message frame)
@@ -126,7 +118,7 @@ hand_once : (d peer : ℕ) (s : DomainState) (t : Taken) (took gone : Tally) (i 
     Once (with_handed s (destination_of t.frame) (item_of peer t.frame)) (with_takings took (handed_now d s peer t)) gone
 hand_once d peer s t took gone i place once =
     let item = item_of peer t.frame in
-    let w = waits_pending s (local_of_address s (destination_of t.frame)) i place in
+    let w = waiting_tells s (destination_of t.frame) i place in
     let r = w.0 in
     let rs : changed (complete_with item) (place_waiting_for s (destination_of t.frame)) s.requests ≡ changed_at (complete_with item) i s.requests = ap (λ o. changed (complete_with item) o s.requests) place in
     let pending : (n : ℕ) → pending_of n (changed_at (complete_with item) i s.requests) + one_if (r.serial == n) ≡ pending_of n s.requests = λ n.
@@ -141,10 +133,6 @@ hand_once d peer s t took gone i place once =
       apart = λ n. omega (arith, once.apart n, standing n, ap (standing_of n) rs);
       below = λ n least. omega (arith, once.below n least, pending n, pending-stands n s.requests, now_times n d peer s t i r place w.1, standing n, ap (standing_of n) rs);
     }
-
-some_place : (o : Option ℕ) → is_some o ≡ true → (i : ℕ) × (o ≡ Some i)
-some_place None e = absurd cc
-some_place (Some i) e = (i, refl)
 
 frame_once : (d peer : ℕ) (s : DomainState) (t : Taken) (took gone : Tally) → option_map (λ r. r.word) (row_for s peer t.frame) ≡ Some t.fate → Once s took gone →
     Once (after_frame s peer t.frame) (with_takings took (handed_now d s peer t)) gone

@@ -20,7 +20,8 @@ use Rattle.board_model.proofs.MessageTakes.{Stands}
 use Rattle.board_model.proofs.MessageCalls.{endpoint-found, best-queued}
 use Rattle.board_model.proofs.MessageRuns.{AllAllowed, allowed_all, stands_entry, stands_start}
 use Rattle.board_model.proofs.RequestCounts.{times-contains}
-use Rattle.board_model.proofs.CancelRuns.{BestTells, AllTell, run_once}
+use Rattle.board_model.proofs.CancelCalls.{BestTells}
+use Rattle.board_model.proofs.CancelRuns.{AllTell, run_once}
 
 -- what stands is what is queued, so nothing stands where nothing is queued
 best_tells : (d : ℕ) (s : DomainState) (q : Standing) → Stands d s q → BestTells s q

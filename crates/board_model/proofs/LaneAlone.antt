@@ -19,7 +19,7 @@ use Rattle.board_model.specs.Traffic.{visits_to, puts_in, takes_in, backs_in}
 use Rattle.board_model.proofs.ListsCounts.{one_if, count-cons}
 use Rattle.board_model.proofs.LaneStates.{place_of_own, peer_of_one}
 use Rattle.board_model.proofs.LaneTakes.{takes_peers}
-use Rattle.board_model.proofs.LaneCalls.{goes_to, send_room}
+use Rattle.board_model.proofs.LaneSends.{goes_to, send_room}
 
 -- ---- a visit
 

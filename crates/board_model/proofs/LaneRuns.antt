@@ -17,7 +17,8 @@ use Rattle.board_model.specs.Run.{Leads}
 use Rattle.board_model.proofs.ListsCounts.{one_if, count-cons, count-append}
 use Rattle.board_model.proofs.LanePeers.{free_in, peer_found, free_found, free-kept, peer-other, peer-own}
 use Rattle.board_model.proofs.LaneTakes.{takes_peers, takes_count, takes_none}
-use Rattle.board_model.proofs.LaneCalls.{call_counts, goes_to, call_frees}
+use Rattle.board_model.proofs.LaneCalls.{call_counts}
+use Rattle.board_model.proofs.LaneSends.{goes_to, call_frees}
 
 -- ---- a visit
 

@@ -13,7 +13,7 @@ use Rattle.board_model.specs.Journal.{Taken}
 use Rattle.board_model.specs.State.{DomainState, Endpoint, Item, Peer, Request, Outcome, has_address, item_in, queued_items, lent_items, place_of_address, has_address_of, local_of_address, waits_at, receives_at, place_of_waiting, place_waiting_for, place_of_peer}
 use Rattle.board_model.specs.Dealing.{item_of, queued_last, with_item, complete_with, with_handed, known_from, knowing, asks_for, looks_for, found_for, with_created, with_destroyed, announced_name, announced_address, row_for, after_frame, after_takes, HaveWords, keeps_buffer}
 use Rattle.board_model.specs.Serial.{word_of}
-use Rattle.board_model.proofs.ListsCounts.{one_if, count-cons, count-append, count-changed_at, position-tells}
+use Rattle.board_model.proofs.ListsCounts.{one_if, count-cons, count-append, count-changed_at, position-tells, some_place}
 use Rattle.board_model.proofs.LaneRows.{stays, learns, forgets, hands, queues, DealsWith, frame_deals, frame_word_is}
 
 -- ---- what frames change
@@ -111,7 +111,7 @@ lent_one_more w s item i r at pending =
     some_request e = cc
 
 -- the receive that waits for a frame stands, and is pending
-waiting_tells : (s : DomainState) (address i : ℕ) → place_waiting_for s address ≡ Some i → (r : Request) × (slice_get s.requests i ≡ Some r) × (is_none r.outcome ≡ true)
+pub waiting_tells : (s : DomainState) (address i : ℕ) → place_waiting_for s address ≡ Some i → (r : Request) × (slice_get s.requests i ≡ Some r) × (is_none r.outcome ≡ true)
 waiting_tells s address i e = go (local_of_address s address) e
   where
     go : (o : Option Local) → option_and_then (place_of_waiting s) o ≡ Some i → (r : Request) × (slice_get s.requests i ≡ Some r) × (is_none r.outcome ≡ true)
@@ -143,10 +143,6 @@ created_holds w s peer (Some n) address =
 destroyed_holds : (w : Item → Bool) (s : DomainState) (peer : ℕ) (o : Option EndName) → held w (with_destroyed s peer o) ≡ held w s
 destroyed_holds w s peer None = refl
 destroyed_holds w s peer (Some n) = refl
-
-some_place : (o : Option ℕ) → is_some o ≡ true → (i : ℕ) × (o ≡ Some i)
-some_place None e = absurd cc
-some_place (Some i) e = (i, refl)
 
 handed_holds : (w : Item → Bool) (s : DomainState) (address : ℕ) (item : Item) → is_some (place_waiting_for s address) ≡ true → held w (with_handed s address item) ≡ held w s + one_if (w item)
 handed_holds w s address item waits =

@@ -1,5 +1,6 @@
 pub mod BoardsLawful
 pub mod BoardsOne
+pub mod CancelCalls
 pub mod CancelFrames
 pub mod CancelLaw
 pub mod CancelRuns
@@ -9,6 +10,7 @@ pub mod LaneCalls
 pub mod LanePeers
 pub mod LaneRows
 pub mod LaneRuns
+pub mod LaneSends
 pub mod LaneStates
 pub mod LaneTakes
 pub mod ListsApart

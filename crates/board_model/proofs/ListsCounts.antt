@@ -1,5 +1,5 @@
 -- Counts over lists: where a place is, one item changed among joined lists, the best item taken out.
-use Rattle.std.proofs.Common.{◌≡◌, ℕ, zero, suc, ◌+◌, Bool, true, false, cond, List, [], ◌∷◌, ◌++◌, length, map, Option, Some, None, count_by, flat_map, position, slice_get, find, option_and_then, option_to_list, refl, sym, ap, ◌∙◌, arith}
+use Rattle.std.proofs.Common.{◌≡◌, ℕ, zero, suc, ◌+◌, Bool, true, false, cond, List, [], ◌∷◌, ◌++◌, length, map, Option, Some, None, is_some, count_by, flat_map, position, slice_get, find, option_and_then, option_to_list, refl, sym, ap, ◌∙◌, arith}
 use Rattle.std.specs.List.{position_from, AllByRecursion}
 use Rattle.std.proofs.lemmas.Iterator.Adapters.{position_from-zero}
 use Rattle.std.proofs.lemmas.List.Sums.{sum_by-cons, sum_by-append}
@@ -35,6 +35,10 @@ position-tells p xs i e =
     let t = position_from-tells p 0 xs i (sym (position_from-zero p xs) ∙ e) in
     let same : i ≡ t.0 = omega arith in
     (t.1, ap (slice_get xs) same ∙ t.3, t.4)
+
+pub some_place : (o : Option ℕ) → is_some o ≡ true → (i : ℕ) × (o ≡ Some i)
+some_place None e = absurd cc
+some_place (Some i) e = (i, refl)
 
 pub position_one : {A : Type 0} (p : A → Bool) (x : A) → position p (x ∷ []) ≡ cond (p x) (Some 0) None
 position_one p x = position_from-zero p (x ∷ [])

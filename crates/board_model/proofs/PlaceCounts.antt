@@ -48,9 +48,9 @@ places_add size free puts backs takes gives queue lent h1 h2 h3 h4 = omega arith
 record Receives (s : Scenario) (o : Option DomainJournal) (n : ℕ) : Type 0 where
   held : in_last_state s (queued_from n) o + in_last_state s (lent_from n) o + given_by s o n ≡ length (taken_from n (journal_in o))
 
-receives : (s : Scenario) (js : List DomainJournal) (o : Option DomainJournal) (n : ℕ) → ((j : DomainJournal) → o ≡ Some j → IsDomainRun s j.line j.entries) → Receives s o n
-receives s js None n runs = record { held = refl }
-receives s js (Some j) n runs =
+receives : (s : Scenario) (o : Option DomainJournal) (n : ℕ) → ((j : DomainJournal) → o ≡ Some j → IsDomainRun s j.line j.entries) → Receives s o n
+receives s None n runs = record { held = refl }
+receives s (Some j) n runs =
     record { held = omega (arith, (run_ends s j.line j.entries n (runs j refl)).held, length-map (takes_from n j.entries) (λ t. t.frame)) }
 
 -- every buffer of the lane from a domain whose journal is this one
@@ -59,7 +59,7 @@ lane_buffers s js l j runs found size fits =
     let n = l.receiver in
     let there = find (is_of l.receiver) js in
     let sent = run_ends s j.line j.entries n (all-found (λ k. IsDomainRun s k.line k.entries) (is_of l.sender) js j runs found) in
-    let received = receives s js there l.sender (λ k at. all-found (λ x. IsDomainRun s x.line x.entries) (is_of l.receiver) js k runs at) in
+    let received = receives s there l.sender (λ k at. all-found (λ x. IsDomainRun s x.line x.entries) (is_of l.receiver) js k runs at) in
     let free = ap (in_last_state s (λ st. free_to st n)) found in
     let puts = ap (λ (o : Option DomainJournal). length (put_to n (journal_in o))) found in
     let backs = ap (λ (o : Option DomainJournal). sum (back_looks n (journal_in o))) found in

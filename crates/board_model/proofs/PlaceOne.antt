@@ -1,15 +1,13 @@
 -- Where the buffers of the lane of a board of one domain are, by its journal.
 use Rattle.std.proofs.Common.{◌≡◌, ◌+◌, ◌-◌, List, [], ◌∷◌, length, sum, ap, ap₂, refl}
-use Rattle.std.specs.List.{AllByRecursion}
 use Rattle.board_model.specs.declared.scenario.DomainLine.{DomainLine}
 use Rattle.board_model.specs.declared.scenario.CallLine.{CallLine}
-use Rattle.board_model.specs.declared.scenario.Scenario.{Scenario}
-use Rattle.board_model.specs.Scenario.{lanes, script, neighbour}
+use Rattle.board_model.specs.Scenario.{script, neighbour}
 use Rattle.board_model.specs.Journal.{PlainEntry}
 use Rattle.board_model.specs.State.{free_to, queued_from, lent_from, new_peer}
 use Rattle.board_model.specs.Traffic.{put_to, taken_from, given, back_looks}
 use Rattle.board_model.specs.Run.{start, left_by}
-use Rattle.board_model.specs.Board.{DomainJournal, IsBoardRun}
+use Rattle.board_model.specs.Board.{IsBoardRun}
 use Rattle.board_model.specs.Places.{places_of, EveryBuffer}
 use Rattle.board_model.proofs.LaneStates.{free_to_own}
 use Rattle.board_model.proofs.BoardsOne.{board_of, own_lane, journal, found_one, journal_one, given_one, at_end_one}

@@ -10,7 +10,8 @@ use Rattle.board_model.specs.Effect.{effect, returns}
 use Rattle.board_model.specs.Serial.{Alone, frame_put, after_own_call}
 use Rattle.board_model.proofs.ListsCounts.{one_if, count-cons, count-every}
 use Rattle.board_model.proofs.LaneTakes.{held}
-use Rattle.board_model.proofs.LaneCalls.{call_keeps, call_counts, goes_to}
+use Rattle.board_model.proofs.LaneCalls.{call_keeps, call_counts}
+use Rattle.board_model.proofs.LaneSends.{goes_to}
 use Rattle.board_model.proofs.LaneAlone.{with_free, call_uses}
 use Rattle.board_model.proofs.SerialStates.{Standing, any_item}
 

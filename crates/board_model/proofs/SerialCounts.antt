@@ -22,7 +22,7 @@ use Rattle.board_model.specs.Answer.{answer, puts}
 use Rattle.board_model.specs.Serial.{Alone, Running, after_own_turn, own_call, opened, line_entries, after_line, entries_from, after_lines, serial}
 pub use Rattle.board_model.specs.Tallies.{is_put_line, is_take_line}
 use Rattle.board_model.proofs.ListsJoined.{entry_lines, sum-joined}
-use Rattle.board_model.proofs.LaneCalls.{goes_to}
+use Rattle.board_model.proofs.LaneSends.{goes_to}
 use Rattle.board_model.proofs.LaneAlone.{call_uses}
 use Rattle.board_model.proofs.BoardsOne.{board_of, is_board, own_lane, journal}
 use Rattle.board_model.proofs.PlaceOne.{are_at, place_one}

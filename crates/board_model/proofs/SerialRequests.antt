@@ -30,6 +30,7 @@ use Rattle.board_model.specs.Answer.{local, refusal, unless_refused}
 use Rattle.board_model.specs.Effect.{ended_by_word, success_effect, effect}
 use Rattle.board_model.specs.Labels.{Labelled, serial_of, place_of_label, call_of, success_request, request_given, with_label, labels_after}
 use Rattle.board_model.specs.Serial.{word_of, Running, own_turn, after_own_turn, after_line, after_lines, opened}
+use Rattle.board_model.proofs.ListsApart.{all-unmap}
 use Rattle.board_model.proofs.ListsCounts.{one_if, count-cons, count-append, count-without, map-changed}
 use Rattle.board_model.proofs.LaneRows.{stays, learns, forgets, hands, queues, DealsWith, frame_deals}
 use Rattle.board_model.proofs.LaneTakes.{takes_keep}
@@ -239,7 +240,8 @@ labels_grow g (Some m) labels (Some label) is = grows g (Some m) None (told_seri
 
 -- ---- lines
 
-few_more : (new : Option ℕ) → length (option_to_list new) ≤ 1
+-- a call gives one request at most
+pub few_more : (new : Option ℕ) → length (option_to_list new) ≤ 1
 few_more None = omega arith
 few_more (Some m) = omega arith
 
@@ -296,10 +298,6 @@ serials_rise s h ran rest e =
     (so_far, omega (arith, so_far.few, fits, both))
 
 -- ---- what follows
-
-all-unmap : {A B : Type 0} (P : B → Type 0) (f : A → B) (xs : List A) → AllByRecursion P (map f xs) → AllByRecursion (λ x. P (f x)) xs
-all-unmap P f [] all = tt
-all-unmap P f (x ∷ xs) all = (all.0, all-unmap P f xs all.1)
 
 -- the serial of a label was given
 pub label_given : (k : ℕ) (s : DomainState) (labels : List Labelled) (label : List ℕ) (n : ℕ) → Serials k s labels → serial_of labels label ≡ Some n → n < s.requests_given

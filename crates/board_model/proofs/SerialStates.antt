@@ -1,15 +1,13 @@
 -- A domain alone, in the serial run: what holds before each turn and each call.
 use Rattle.std.proofs.Common.{◌≡◌, ℕ, ◌+◌, ◌-◌, ◌≤◌, min, Bool, true, List, [], ◌∷◌, ◌++◌, length, map, take, drop, Some, refl, sym, ap, ◌∙◌, subst, arith, length-take, length-drop, append-nil}
 use Rattle.std.proofs.lemmas.List.{length-map}
-use Rattle.std.proofs.lemmas.List.Sums.{count_by-le-length}
 use Rattle.mc_base.specs.declared.fate.Fate.TheVariants.{State}
 use Rattle.board_model.specs.Lists.{changed}
 use Rattle.board_model.specs.Journal.{Visit, Taken, taken}
-use Rattle.board_model.specs.State.{DomainState, Item, Peer, is_from, queued_items, lent_items, queued_from, lent_from, held_from, place_of_peer, peer_of}
+use Rattle.board_model.specs.State.{DomainState, Item, Peer, is_from, held_from, place_of_peer, peer_of}
 use Rattle.board_model.specs.Dealing.{knowing, HaveWords}
 use Rattle.board_model.specs.Turn.{turn_limit, looked_at, with_peers, after_looks, after_visit, IsVisit}
-use Rattle.board_model.specs.Serial.{Alone, dealt, due_to, own_due, own_frames, own_visit, returned_at_once, after_own_turn}
-use Rattle.board_model.proofs.ListsCounts.{count-every}
+use Rattle.board_model.specs.Serial.{Alone, due_to, own_due, own_frames, own_visit, returned_at_once, after_own_turn}
 use Rattle.board_model.proofs.LaneStates.{peer_of_own}
 use Rattle.board_model.proofs.LaneTakes.{takes_keep, takes_count, held}
 use Rattle.board_model.proofs.LaneRuns.{from_peer}
@@ -50,9 +48,6 @@ own_taken a = take (min turn_limit (length (own_frames a))) (own_frames a)
 abbrev pub own_looks : Alone → Visit
 own_looks a = record { peer = a.state.number; back = a.returned; owed = own_due a; see = length (own_frames a); takes = map (λ f. taken f State) (own_taken a) }
 
-pub own_takes : (a : Alone) → (own_visit a).takes ≡ dealt (after_looks a.state (own_looks a)) a.state.number (own_taken a)
-own_takes a = refl
-
 -- a look depends on how many frames are taken, and not on what becomes of them
 looks_by : (s : DomainState) (v : Visit) (ts us : List Taken) → length ts ≡ length us → after_looks s (record v { takes = ts }) ≡ after_looks s (record v { takes = us })
 looks_by s v ts us e = ap (λ k. with_peers s (changed (looked_by v k) (place_of_peer s v.peer) s.peers)) e
@@ -73,16 +68,6 @@ own_takes_many a =
     let e = length-dealt (after_looks a.state (own_looks a)) a.state.number (own_taken a) in
     let t = length-take (min turn_limit (length (own_frames a))) (own_frames a) in
     omega arith
-
--- all that is queued and all that is lent is its own
-pub own_held : (n size : ℕ) (a : Alone) → Standing n size a → (queued_from n a.state ≡ length (queued_items a.state)) × (lent_from n a.state ≡ length (lent_items a.state))
-own_held n size a h =
-    let queued = count_by-le-length (is_from n) (queued_items a.state) in
-    let lent = count_by-le-length (is_from n) (lent_items a.state) in
-    let all_queued = count-every (queued_items a.state) in
-    let all_lent = count-every (lent_items a.state) in
-    let own = h.own in
-    (omega arith, omega arith)
 
 pub own_visit_is : (n size : ℕ) (a : Alone) → Standing n size a → IsVisit a.state (own_visit a)
 own_visit_is n size a h =

@@ -17,7 +17,7 @@ use Rattle.board_model.specs.Traffic.{visits_to, puts_in, takes_in, put_to, take
 use Rattle.board_model.specs.Run.{after_all}
 use Rattle.board_model.specs.Board.{SeeAtMost, SeesAtMost}
 use Rattle.board_model.specs.Serial.{Running, own_frames, own_visit, own_turn, after_own_turn, own_call, frame_put, put_entry, line_entries, after_line, entries_from, after_lines}
-use Rattle.board_model.proofs.LaneCalls.{goes_to}
+use Rattle.board_model.proofs.LaneSends.{goes_to}
 use Rattle.board_model.proofs.LaneAlone.{visits_one, turn_puts, turn_takes, turn_backs, call_uses}
 use Rattle.board_model.proofs.SerialFrames.{frames-dealt}
 use Rattle.board_model.proofs.SerialStates.{Standing, own_due_none, own_frames_are, own_taken, own_looks, own_takes_many, standing_turn}
