@@ -1,28 +1,31 @@
 -- The messages accepted are as many as the sends that were answered ok: each such call puts one frame, which carries its
 -- message, and no other call puts any.
-use Rattle.std.proofs.Common.{◌≡◌, ℕ, ◌+◌, ◌-◌, ◌&&◌, Bool, true, false, cond, List, [], ◌∷◌, ◌++◌, length, Option, Some, None, refl, sym, ap, ◌∙◌, subst, arith}
+use Rattle.std.proofs.Common.{◌≡◌, ℕ, ◌+◌, ◌-◌, ◌&&◌, Bool, true, false, cond, List, [], ◌∷◌, ◌++◌, length, Option, Some, None, refl, sym, ap, ◌∙◌, arith}
 use Rattle.std.specs.Prelude.{count_by, option_map, slice_get, IsSome}
 use Rattle.std.specs.List.{AllByRecursion, flat_map}
-use Rattle.std.proofs.lemmas.List.{append-nil, length-append}
+use Rattle.std.proofs.lemmas.List.{length-append}
 use Rattle.mc_base.specs.declared.refusal.Refusal.{Refusal}
 use Rattle.board_model.specs.declared.scenario.Call.{Call}
 use Rattle.board_model.specs.declared.scenario.Call.TheVariants.{Create, Delete, Lookup, MsgSend, MsgRecv, MsgRecvI, MsgAvailable, Test, Cancel, Turn}
 use Rattle.board_model.specs.declared.scenario.CallLine.{CallLine}
 use Rattle.board_model.specs.declared.scenario.Scenario.{Scenario}
 use Rattle.board_model.specs.Scenario.{script}
-use Rattle.board_model.specs.Grammar.{IsLawful}
+use Rattle.board_model.specs.LinkedBoard.{IsLinkedBoard}
 use Rattle.board_model.specs.Journal.{PlainAnswer, agrees, PlainEntry, turned, put, again, called}
 use Rattle.board_model.specs.State.{DomainState}
 use Rattle.board_model.specs.Labels.{Labelled, call_of}
 use Rattle.board_model.specs.Answer.{refusal, success, answer_by, answer, success_puts, puts, unless_refused}
 use Rattle.board_model.specs.Step.{RunState, HasNoPuts, next_line, call_at, after}
-use Rattle.board_model.specs.Run.{start, after_all}
+use Rattle.board_model.specs.Run.{start, after_all, IsDomainRun}
 use Rattle.board_model.specs.Board.{DomainJournal, IsBoardRun}
 use Rattle.board_model.specs.Messages.{accepted_in, accepted}
 use Rattle.board_model.proofs.MessageSums.{count-append}
 use Rattle.board_model.proofs.MessageRuns.{AllAllowed, run_allowed}
 use Rattle.board_model.proofs.MessageCounts.{puts_message, length-accepted}
-use Rattle.board_model.proofs.MessageSends.{PutCarries, puts_of_lawful}
+use Rattle.board_model.proofs.MessageAlls.{all-with}
+use Rattle.board_model.proofs.MessageOnce.{total, total-each, length-joined}
+use Rattle.board_model.proofs.MessageCarries.{PutCarries}
+use Rattle.board_model.proofs.MessageHonest.{puts-carry}
 
 -- a line that sends, and an answer ok
 abbrev pub is_send : Call → Bool
@@ -116,7 +119,7 @@ puts_answered lines r (called k a ∷ es) allowed settled =
     let rest : 0 + count_by is_put es ≡ count_by (is_agreed lines) es = puts_answered lines (after lines r (called k a)) es allowed.1 settled in
     omega (arith, count-append is_put (called k a ∷ []) es, count-append (is_agreed lines) (called k a ∷ []) es)
 
--- ---- a board of one domain
+-- ---- a board
 
 entry_carries : (e : PlainEntry) → PutCarries e → count_by puts_message (e ∷ []) ≡ count_by is_put (e ∷ [])
 entry_carries (turned visits) it = refl
@@ -128,14 +131,16 @@ puts_all_carry : (es : List PlainEntry) → AllByRecursion PutCarries es → cou
 puts_all_carry [] all = refl
 puts_all_carry (e ∷ es) all = omega (arith, count-append puts_message (e ∷ []) es, count-append is_put (e ∷ []) es, entry_carries e all.0, puts_all_carry es all.1)
 
-one_answers : (s : Scenario) (j : DomainJournal) → IsLawful s → IsBoardRun s (j ∷ []) → length (accepted (j ∷ [])) ≡ count_by (is_agreed (script s j.line.domain)) j.entries
-one_answers s j lawful run =
+journal_answers : (s : Scenario) (j : DomainJournal) → IsDomainRun s j.line j.entries → AllByRecursion PutCarries j.entries → length (flat_map (accepted_in j.line.domain) j.entries) ≡ count_by (is_agreed (script s j.line.domain)) j.entries
+journal_answers s j run carry =
     let answered : 0 + count_by is_put j.entries ≡ count_by (is_agreed (script s j.line.domain)) j.entries
-    = puts_answered (script s j.line.domain) (start s j.line) j.entries (run_allowed s j run.domain_runs.0) run.domain_runs.0.settled in
-    let counts : length (accepted (j ∷ [])) ≡ count_by puts_message j.entries
-    = ap length (append-nil (flat_map (accepted_in j.line.domain) j.entries)) ∙ length-accepted j.line.domain j.entries in
-    omega (arith, puts_all_carry j.entries (puts_of_lawful s j lawful run))
+    = puts_answered (script s j.line.domain) (start s j.line) j.entries (run_allowed s j run) run.settled in
+    omega (arith, puts_all_carry j.entries carry, length-accepted j.line.domain j.entries)
 
-pub accepted_answers : (s : Scenario) (js : List DomainJournal) (j : DomainJournal) → IsLawful s → IsBoardRun s js → js ≡ j ∷ [] → length (accepted js) ≡ count_by (is_agreed (script s j.line.domain)) j.entries
-accepted_answers s js j lawful run is =
-    ap (λ ks. length (accepted ks)) is ∙ one_answers s j lawful (subst (λ (ks : List DomainJournal). IsBoardRun s ks) is run)
+-- on a board of linked domains
+pub accepted-answers : (s : Scenario) (js : List DomainJournal) → IsLinkedBoard s → IsBoardRun s js → length (accepted js) ≡ total (λ j. count_by (is_agreed (script s j.line.domain)) j.entries) js
+accepted-answers s js board run =
+    length-joined (λ j. flat_map (accepted_in j.line.domain) j.entries) js
+    ∙ total-each (λ j. length (flat_map (accepted_in j.line.domain) j.entries)) (λ j. count_by (is_agreed (script s j.line.domain)) j.entries) js
+    (all-with (λ j. IsDomainRun s j.line j.entries) (λ j. AllByRecursion PutCarries j.entries) (λ j. length (flat_map (accepted_in j.line.domain) j.entries) ≡ count_by (is_agreed (script s j.line.domain)) j.entries)
+    (λ j is carry. journal_answers s j is carry) js run.domain_runs (puts-carry s js board run))

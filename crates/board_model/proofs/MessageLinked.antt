@@ -127,6 +127,13 @@ visits_silent ns s (v ∷ vs) are linked = (visit_silent ns s v are.0 linked, vi
 abbrev pub IsAmong : List ℕ → ℕ → Type 0
 IsAmong ns n = 1 ≤ times (λ m. m) n ns
 
+-- no number comes twice among these
+abbrev pub AreFew : List ℕ → Type 0
+AreFew ns = (n : ℕ) → times (λ m. m) n ns ≤ 1
+
+pub among-once : (ns : List ℕ) (n : ℕ) → AreFew ns → IsAmong ns n → times (λ m. m) n ns ≡ 1
+among-once ns n few among = omega (arith, few n, among)
+
 among_more : (b : Bool) (k : ℕ) → 1 ≤ k → 1 ≤ cond b 1 0 + k
 among_more true k some = omega arith
 among_more false k some = omega arith

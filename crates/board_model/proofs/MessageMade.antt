@@ -29,7 +29,7 @@ sound_letter priority bytes p l =
 payload_length-made : (src dst : ℕ) (payload : List ℕ) → length payload ≤ 496 → payload_length_of (made src dst payload) ≡ length payload
 payload_length-made src dst payload short = little_number-reads_back 2 (length payload) [] (omega arith)
 
-payload-made : (src dst : ℕ) (payload : List ℕ) → length payload ≤ 496 → payload_of (made src dst payload) ≡ payload
+pub payload-made : (src dst : ℕ) (payload : List ℕ) → length payload ≤ 496 → payload_of (made src dst payload) ≡ payload
 payload-made src dst payload short = ap (λ n. take n payload) (payload_length-made src dst payload short) ∙ take_all (length payload) payload (omega arith)
 
 pub destination-made : (src dst : ℕ) (payload : List ℕ) → dst < 2 ^ 32 → destination_of (made src dst payload) ≡ dst

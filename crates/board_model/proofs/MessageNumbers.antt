@@ -1,9 +1,8 @@
 -- On a board of linked domains the lines of the journals tell how many messages were accepted and dropped, and are in the ring.
 -- Those that were taken are the rest.
-use Rattle.std.proofs.Common.{◌≡◌, ℕ, ◌+◌, ◌-◌, true, List, [], ◌∷◌, length, sum_by, refl, ap, ◌∙◌, arith}
+use Rattle.std.proofs.Common.{◌≡◌, ℕ, ◌+◌, ◌-◌, true, List, length, sum_by, ◌∙◌, arith}
 use Rattle.std.specs.Prelude.{count_by}
 use Rattle.std.specs.List.{AllByRecursion, flat_map}
-use Rattle.std.proofs.lemmas.List.{length-append}
 use Rattle.board_model.specs.declared.scenario.Scenario.{Scenario}
 use Rattle.board_model.specs.Scenario.{script}
 use Rattle.board_model.specs.LinkedBoard.{IsLinkedBoard}
@@ -17,11 +16,12 @@ use Rattle.board_model.proofs.ListsCounts.{count-every}
 use Rattle.board_model.proofs.MessageAlls.{all-weaken}
 use Rattle.board_model.proofs.MessageRuns.{stands_start, run_allowed}
 use Rattle.board_model.proofs.MessageBalance.{carried_in}
-use Rattle.board_model.proofs.MessageOnce.{total, total-each, total-same}
+use Rattle.board_model.proofs.MessageOnce.{total, total-each, total-same, length-joined}
 use Rattle.board_model.proofs.MessageLinked.{numbers_of}
 use Rattle.board_model.proofs.MessageTold.{is_sent_line, is_brought_line, is_lost_line, sent-told, brought-told}
 use Rattle.board_model.proofs.MessageDeleted.{deleted_in, dropped-told}
-use Rattle.board_model.proofs.MessageBoard.{run_fits, brought_by, accepted-parts, no-message-lost}
+use Rattle.board_model.proofs.MessageJournals.{run_fits}
+use Rattle.board_model.proofs.MessageBoard.{brought_by, accepted-parts, no-message-lost}
 
 -- the numbers that lines tell, of one journal and of all
 abbrev pub sent : DomainJournal → ℕ
@@ -39,10 +39,6 @@ pub record NumbersTold (s : Scenario) (js : List DomainJournal) : Type 0 where
   pub in_ring : length (messages_in_ring s js) ≡ total sent js - total brought js
   pub takes_rest : length (messages_taken s js) ≡ length (accepted js) - length (dropped s js) - length (messages_queued s js) - length (messages_in_ring s js)
 
-length_joined : {A B : Type 0} (f : A → List B) (xs : List A) → length (flat_map f xs) ≡ total (λ x. length (f x)) xs
-length_joined f [] = refl
-length_joined f (x ∷ xs) = length-append (f x) (flat_map f xs) ∙ ap (λ n. length (f x) + n) (length_joined f xs)
-
 -- ---- a journal
 
 journal_sent : (s : Scenario) (j : DomainJournal) → IsDomainRun s j.line j.entries → length (flat_map (accepted_in j.line.domain) j.entries) ≡ sent j
@@ -55,13 +51,13 @@ journal_lost s j run = dropped-told (script s j.line.domain) j.line.domain (star
 
 accepted_told : (s : Scenario) (js : List DomainJournal) → AllByRecursion (λ j. IsDomainRun s j.line j.entries) js → length (accepted js) ≡ total sent js
 accepted_told s js runs =
-    length_joined (λ j. flat_map (accepted_in j.line.domain) j.entries) js
+    length-joined (λ j. flat_map (accepted_in j.line.domain) j.entries) js
     ∙ total-each (λ j. length (flat_map (accepted_in j.line.domain) j.entries)) sent js
     (all-weaken (λ j. IsDomainRun s j.line j.entries) (λ j. length (flat_map (accepted_in j.line.domain) j.entries) ≡ sent j) (λ j run. journal_sent s j run) js runs)
 
 dropped_told : (s : Scenario) (js : List DomainJournal) → AllByRecursion (λ j. IsDomainRun s j.line j.entries) js → length (dropped s js) ≡ total (lost s) js
 dropped_told s js runs =
-    length_joined (dropped_by s) js
+    length-joined (dropped_by s) js
     ∙ total-each (λ j. length (dropped_by s j)) (lost s) js
     (all-weaken (λ j. IsDomainRun s j.line j.entries) (λ j. length (dropped_by s j) ≡ lost s j) (λ j run. journal_lost s j run) js runs)
 

@@ -1,7 +1,8 @@
 -- Sums over lists, and keys that come once in a list.
-use Rattle.std.proofs.Common.{◌≡◌, ◌⊎◌, ℕ, ◌+◌, ◌≤◌, Bool, true, false, cond, List, [], ◌∷◌, ◌++◌, map, refl, sym, ap, ◌∙◌, subst, arith, inl, inr}
+use Rattle.std.proofs.Common.{◌≡◌, ◌⊎◌, ℕ, ◌+◌, ◌≤◌, Bool, true, false, cond, List, [], ◌∷◌, ◌++◌, map, length, refl, sym, ap, ◌∙◌, subst, arith, inl, inr}
 use Rattle.std.specs.Prelude.{count_by, ◌==◌, Contains}
 use Rattle.std.specs.List.{AllByRecursion, flat_map}
+use Rattle.std.proofs.lemmas.List.{length-append}
 use Rattle.std.proofs.lemmas.Bool.{eqb-true, eq-eqb, ne_eqb, cases_Bool}
 use Rattle.std.proofs.lemmas.List.Elements.{Contains-append_cases, Contains-push_cases}
 use Rattle.board_model.specs.LinkedBoard.{Differ}
@@ -43,6 +44,10 @@ total-joined f g (x ∷ xs) = total-append f (g x) (flat_map g xs) ∙ ap (λ n.
 pub count-joined : {A B : Type 0} (test : B → Bool) (g : A → List B) (xs : List A) → count_by test (flat_map g xs) ≡ total (λ x. count_by test (g x)) xs
 count-joined test g [] = refl
 count-joined test g (x ∷ xs) = count-append test (g x) (flat_map g xs) ∙ ap (λ n. count_by test (g x) + n) (count-joined test g xs)
+
+pub length-joined : {A B : Type 0} (f : A → List B) (xs : List A) → length (flat_map f xs) ≡ total (λ x. length (f x)) xs
+length-joined f [] = refl
+length-joined f (x ∷ xs) = length-append (f x) (flat_map f xs) ∙ ap (λ n. length (f x) + n) (length-joined f xs)
 
 -- the order of two sums does not matter
 pub total-swap : {A B : Type 0} (f : A → B → ℕ) (xs : List A) (ys : List B) → total (λ x. total (f x) ys) xs ≡ total (λ y. total (λ x. f x y) xs) ys

@@ -19,11 +19,11 @@ none_here P true r o rest none = absurd cc
 none_here P false r o rest none = (refl, rest none)
 
 -- where there is no fault, no row stands
-none_stands : {F : Type 0} (rows : List (FaultRow F)) → first_fault rows ≡ None → AllByRecursion (λ r. r.stands ≡ false) rows
+pub none_stands : {F : Type 0} (rows : List (FaultRow F)) → first_fault rows ≡ None → AllByRecursion (λ r. r.stands ≡ false) rows
 none_stands [] none = tt
 none_stands (r ∷ rs) none = none_here (AllByRecursion (λ x. x.stands ≡ false) rs) r.stands r (first rs) (λ e. none_stands rs e) none
 
-none_of : {A : Type 0} (o : Option A) → is_none o ≡ true → o ≡ None
+pub none_of : {A : Type 0} (o : Option A) → is_none o ≡ true → o ≡ None
 none_of None is = refl
 none_of (Some x) is = absurd cc
 
