@@ -1,6 +1,6 @@
 -- The answer of a call: the first refusal whose condition holds, or else the answer of success.
 -- Source: docs/PROFILE.md, "Calls" and "Words of refusal". E is the endpoint of the line's domain, node and port.
-use Rattle.std.specs.Prelude.{ℕ, ◌+◌, Bool, false, not, ◌&&◌, List, [], ◌∷◌, length, take, nat_lt, nat_le, ◌==◌, find, Option, None, Some, is_some, option_map, unwrap_or, if◌then◌else◌}
+use Rattle.std.specs.Prelude.{ℕ, ◌+◌, Bool, false, not, List, [], ◌∷◌, length, take, nat_lt, nat_le, ◌==◌, find, Option, None, Some, is_some, unwrap_or, if◌then◌else◌}
 use Rattle.mc_base.specs.Limits.{item_size}
 use Rattle.mc_base.specs.NameMap.{address_in}
 use Rattle.mc_base.specs.Frame.{made}

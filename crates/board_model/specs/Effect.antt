@@ -1,14 +1,13 @@
 -- What a call changes. A refused call changes nothing.
 -- Source: docs/PROFILE.md, "Calls".
-use Rattle.std.specs.Prelude.{ℕ, ◌+◌, ◌-◌, ◌%◌, ◌^◌, Bool, true, false, not, ◌==◌, List, [], ◌∷◌, ◌++◌, map, filter, Option, None, Some, option_map, option_to_list, unwrap_or, if◌then◌else◌}
+use Rattle.std.specs.Prelude.{ℕ, ◌+◌, ◌-◌, ◌%◌, ◌^◌, true, false, ◌==◌, List, [], ◌∷◌, ◌++◌, map, Option, None, Some, option_map, option_to_list, unwrap_or, if◌then◌else◌}
 use Rattle.mc_base.specs.FullName.{end_name}
 use Rattle.mc_base.specs.declared.name.Local.{Local}
-use Rattle.mc_base.specs.declared.name.EndName.{EndName}
 use Rattle.mc_base.specs.declared.refusal.Refusal.{Refusal}
 use Rattle.mc_base.specs.declared.refusal.Refusal.TheVariants.{EndpInvalid}
 use Rattle.board_model.specs.DomainCall.{DomainCall, create_at, delete_at, lookup_of, send_from, receive_at, request_at, available_at, test_of, cancel_of, turn_alone}
 use Rattle.board_model.specs.Lists.{changed, without}
-use Rattle.board_model.specs.State.{DomainState, Endpoint, Item, Announcement, Peer, Asked, name_of, message_at, Outcome, has_address, has_item, has_ended, Request, request_at_place, item_in, place_at, address_at, queue_at, place_of_peer, waits_at, is_owed_end}
+use Rattle.board_model.specs.State.{DomainState, Endpoint, Item, Announcement, Peer, Asked, name_of, message_at, Outcome, has_address, has_item, has_ended, Request, request_at_place, item_in, place_at, address_at, queue_at, place_of_peer, waits_at}
 use Rattle.board_model.specs.Choice.{best, without_best}
 use Rattle.board_model.specs.Dealing.{with_found}
 use Rattle.board_model.specs.Turn.{with_peers}

@@ -2,7 +2,7 @@
 -- Source: docs/PROFILE.md, "Serial run".
 use Rattle.std.specs.Prelude.{ℕ, ◌+◌, min, ◌&&◌, ◌==◌, Bool, List, [], ◌∷◌, ◌++◌, length, take, drop, map, find, count_by, Option, None, Some, if◌then◌else◌}
 use Rattle.board_model.specs.Scenario.{Lane}
-use Rattle.board_model.specs.Journal.{PlainEntry, turned, put, again, called, Visit}
+use Rattle.board_model.specs.Journal.{Visit}
 use Rattle.board_model.specs.State.{DomainState, Item, is_from, peer_of}
 use Rattle.board_model.specs.Turn.{turn_limit, after_visit}
 use Rattle.board_model.specs.Serial.{due_to, visit_of, returned_at_once}

@@ -1,15 +1,14 @@
 -- The serial run of a board: the lines are run in the file's order, and each look shows all that stands. Between two calls of a
 -- line with tries every other domain makes one turn, in rising number.
 -- Source: docs/PROFILE.md, "Serial run" and "Tries".
-use Rattle.std.specs.Prelude.{ℕ, ◌+◌, Bool, ◌&&◌, ◌==◌, zero, suc, List, [], ◌∷◌, ◌++◌, map, filter, not, find, Option, None, Some, unwrap_or, if◌then◌else◌}
+use Rattle.std.specs.Prelude.{ℕ, ◌+◌, Bool, ◌==◌, zero, suc, List, [], ◌∷◌, ◌++◌, map, filter, not, find, Option, None, Some, if◌then◌else◌}
 use Rattle.board_model.specs.declared.scenario.DomainLine.{DomainLine}
 use Rattle.board_model.specs.declared.scenario.CallLine.{CallLine}
 use Rattle.board_model.specs.declared.scenario.Scenario.{Scenario}
 use Rattle.board_model.specs.Scenario.{script, lanes, rising}
-use Rattle.board_model.specs.Journal.{PlainEntry, turned, put, again, called, PlainAnswer, refuses}
+use Rattle.board_model.specs.Journal.{PlainEntry, turned, again, called, PlainAnswer, refuses}
 use Rattle.mc_base.specs.declared.refusal.Refusal.{Refusal}
 use Rattle.mc_base.specs.declared.refusal.Refusal.TheVariants.{Empty}
-use Rattle.board_model.specs.State.{DomainState}
 use Rattle.board_model.specs.Answer.{answer, puts}
 use Rattle.board_model.specs.Effect.{returns}
 use Rattle.board_model.specs.Step.{RunState, call_at, after, is_tried}

@@ -2,7 +2,7 @@
 -- Source: docs/PROFILE.md, "Steps" and "Tries". A call comes after a turn, and after the frames that it puts, if it is a success
 -- that puts any. A line with tries makes its call again where it is refused with one of six words, until it was made as often as
 -- the line says. Other turns may stand between two calls.
-use Rattle.std.specs.Prelude.{◌≡◌, ℕ, ◌+◌, ◌<◌, Bool, true, false, not, ◌&&◌, nat_lt, List, [], ◌∷◌, ◌++◌, slice_get, Option, None, Some, option_map, IsSome, IsTrue}
+use Rattle.std.specs.Prelude.{◌≡◌, ℕ, ◌+◌, Bool, true, false, ◌&&◌, nat_lt, List, [], ◌∷◌, ◌++◌, slice_get, Option, None, Some, option_map, IsSome}
 use Rattle.board_model.specs.declared.scenario.CallLine.{CallLine}
 use Rattle.mc_base.specs.declared.refusal.Refusal.{Refusal}
 use Rattle.mc_base.specs.declared.refusal.Refusal.TheVariants.{Empty, NoBuffer, NotConnected, NotOpen, ChanConnected, Pending}
