@@ -1,19 +1,21 @@
 -- A table after each of its changes.
 use Rattle.std.proofs.Common.{◌≡◌, ◌<◌, ◌≤◌, ◌+◌, ◌∙◌, ℕ, Bool, true, false, not, List, [], ◌∷◌, ◌++◌, length, map, drop, cond, refl, sym, ap, subst, inl, inr, arith}
-use Rattle.std.specs.Prelude.{◌==◌, filter, find, Some, vec_capacity, Vec}
+use Rattle.std.specs.Prelude.{◌==◌, filter, find, None, Some, vec_capacity, Vec}
 use Rattle.std.specs.List.{AllByRecursion, list_any}
 use Rattle.std.specs.VecDeque.{deque_capacity}
 use Rattle.std.specs.Vec.{with_items}
 use Rattle.std.proofs.lemmas.List.{length_push, length-map, with_items_is}
 use Rattle.mc_base.specs.declared.name.Local.{Local}
+use Rattle.name_service.specs.KnownNames.{learned, forgotten}
 use Rattle.endpoint_table.specs.declared.record.Record.{Record}
 use Rattle.endpoint_table.specs.declared.announced.Announced.{Announced}
 use Rattle.endpoint_table.specs.declared.debts.Debt.{Debt}
 use Rattle.endpoint_table.specs.declared.table.EndpointTable.TheInside.{Inside}
 use Rattle.endpoint_table.specs.Table.{Table, Owing, is_in_use, is_live_at, ended, also_owing, told_oldest, nothing_owed, opening_table, created, deleted, paid_to, ended_in, record_limit, creation_limit, first_address}
-use Rattle.endpoint_table.specs.InTable.{table_of, debt_of_none, owing_in, one_more, one_less, owes, settled_events, settled_records, without_ended, IsOrderly, IsTight, IsKept}
+use Rattle.endpoint_table.specs.InTable.{table_of, debt_of_none, owing_in, one_more, one_less, owes, settled_events, settled_records, without_ended, IsOrderly, IsTight, HasBounds, IsIndexed, IsKept, name_in}
 use Rattle.endpoint_table.proofs.RecordLemmas.{all-weaken, most_owed-most, most_owed-ended}
 use Rattle.endpoint_table.proofs.DebtLemmas.{IsNear, nearly-told, nearly-all, within-told, within-announced, owed-all-announced, settled-tight, owing-told, owing-announced, owing-settled}
+use Rattle.endpoint_table.proofs.IndexLemmas.{indexed-none, indexed-created, indexed-ended, indexed-settled}
 use Rattle.endpoint_table.proofs.OrderLemmas.{orderly-created, orderly-ended, orderly-settled, freed-settled}
 
 abbrev table-as : ℕ → ℕ → List Record → List Owing → ℕ → Table
@@ -47,14 +49,15 @@ owing-none : (peers : List ℕ) → owing_in [] (map debt_of_none peers) ≡ map
 owing-none [] = refl
 owing-none (p ∷ ps) = ap (λ (os : List Owing). nothing_owed p ∷ os) (owing-none ps)
 
-pub kept-new : (t : Inside) (peers : List ℕ) → t.records.items ≡ [] → t.events.items ≡ [] → t.debts.items ≡ map debt_of_none peers → t.given ≡ 0 → record_limit ≤ vec_capacity t.records → record_limit + record_limit ≤ deque_capacity t.events → IsKept t
-kept-new t peers records events debts given record_room event_room =
+pub kept-new : (t : Inside) (peers : List ℕ) → t.records.items ≡ [] → t.live ≡ [] → t.events.items ≡ [] → t.debts.items ≡ map debt_of_none peers → t.given ≡ 0 → record_limit ≤ vec_capacity t.records → record_limit + record_limit ≤ deque_capacity t.events → IsKept t
+kept-new t peers records live events debts given record_room event_room =
     let next : first_address + 0 ≡ first_address = omega arith in
     let orderly : IsOrderly [] [] (first_address + 0) = record { rising = tt; below = tt; from = first_address; ordered = sym next; weighed = omega arith; marked = tt } in
     let tight : IsTight [] (map debt_of_none peers) = record { within = none-within peers; tight = inl refl } in
     record {
       orderly = rw (records, events, given) orderly;
       tight = rw (events, debts) tight;
+      indexed = rw (records, live) (indexed-none t.domain);
       few = rw records (omega arith);
       given = omega arith;
       record_room = record_room;
@@ -83,8 +86,8 @@ near-told es ds peer tight = elim tight.tight [
 tight-told : (es : List Announced) (ds : List Debt) (peer : ℕ) → IsTight es ds → IsTight (settled_events es (map (one_less peer) ds)) (map (one_less peer) ds)
 tight-told es ds peer tight = settled-tight es (map (one_less peer) ds) (within-told (length es) peer ds tight.within) (near-told es ds peer tight)
 
-pub kept-told : (t u : Inside) (peer : ℕ) → IsKept t → u.debts.items ≡ map (one_less peer) t.debts.items → u.events.items ≡ settled_events t.events.items (map (one_less peer) t.debts.items) → u.records.items ≡ settled_records t.records.items t.events.items (map (one_less peer) t.debts.items) → vec_capacity u.records ≡ vec_capacity t.records → deque_capacity u.events ≡ deque_capacity t.events → u.given ≡ t.given → IsKept u
-kept-told t u peer k debts events records record_room event_room given =
+pub kept-told : (t u : Inside) (peer : ℕ) → IsKept t → u.domain ≡ t.domain → u.live ≡ t.live → u.debts.items ≡ map (one_less peer) t.debts.items → u.events.items ≡ settled_events t.events.items (map (one_less peer) t.debts.items) → u.records.items ≡ settled_records t.records.items t.events.items (map (one_less peer) t.debts.items) → vec_capacity u.records ≡ vec_capacity t.records → deque_capacity u.events ≡ deque_capacity t.events → u.given ≡ t.given → IsKept u
+kept-told t u peer k domain live debts events records record_room event_room given =
     let ds = map (one_less peer) t.debts.items in
     let orderly = orderly-settled t.records.items t.events.items ds (first_address + t.given) k.orderly in
     let tight = tight-told t.events.items t.debts.items peer k.tight in
@@ -92,6 +95,7 @@ kept-told t u peer k debts events records record_room event_room given =
     record {
       orderly = rw (records, events, given) orderly;
       tight = rw (events, debts) tight;
+      indexed = rw (domain, records, live) (indexed-settled t.domain t.records.items t.events.items ds t.live k.orderly.marked k.indexed);
       few = rw records (omega (arith, k.few, less));
       given = omega (arith, k.given);
       record_room = omega (arith, k.record_room);
@@ -134,8 +138,8 @@ owing-after es e ds tight = owing-settled (es ++ e ∷ []) (map one_more ds) (wi
 pub room-to-create : (t : Inside) → IsKept t → length t.records.items < record_limit → length t.events.items < record_limit + record_limit
 room-to-create t k few = let o = k.orderly in omega (arith, o.weighed, most_owed-most o.from t.records.items)
 
-pub kept-created : (t u : Inside) (r : Record) (e : Announced) → IsKept t → length t.records.items < record_limit → t.given < creation_limit → r.address ≡ first_address + t.given → r.live ≡ true → e.address ≡ first_address + t.given → e.create ≡ true → u.debts.items ≡ map one_more t.debts.items → u.events.items ≡ settled_events (t.events.items ++ e ∷ []) (map one_more t.debts.items) → u.records.items ≡ settled_records (t.records.items ++ r ∷ []) (t.events.items ++ e ∷ []) (map one_more t.debts.items) → record_limit ≤ vec_capacity u.records → deque_capacity u.events ≡ deque_capacity t.events → u.given ≡ t.given + 1 → IsKept u
-kept-created t u r e k few more at live told there debts events records record_room event_room given =
+pub kept-created : (t u : Inside) (r : Record) (e : Announced) → IsKept t → HasBounds r → find (is_live_at r.local) t.records.items ≡ None → u.domain ≡ t.domain → u.live ≡ learned (name_in t.domain r.local) r.address t.live → length t.records.items < record_limit → t.given < creation_limit → r.address ≡ first_address + t.given → r.live ≡ true → e.address ≡ first_address + t.given → e.create ≡ true → u.debts.items ≡ map one_more t.debts.items → u.events.items ≡ settled_events (t.events.items ++ e ∷ []) (map one_more t.debts.items) → u.records.items ≡ settled_records (t.records.items ++ r ∷ []) (t.events.items ++ e ∷ []) (map one_more t.debts.items) → record_limit ≤ vec_capacity u.records → deque_capacity u.events ≡ deque_capacity t.events → u.given ≡ t.given + 1 → IsKept u
+kept-created t u r e k fits none domain addresses few more at live told there debts events records record_room event_room given =
     let rs = t.records.items ++ r ∷ [] in
     let es = t.events.items ++ e ∷ [] in
     let ds = map one_more t.debts.items in
@@ -147,6 +151,7 @@ kept-created t u r e k few more at live told there debts events records record_r
     record {
       orderly = rw (records, events, given) orderly;
       tight = rw (events, debts) tight;
+      indexed = rw (domain, records, addresses) (indexed-settled t.domain rs es ds _ before.marked (indexed-created t.domain t.records.items r t.live k.indexed none live fits));
       few = rw records (omega (arith, length_push t.records.items r, less));
       given = omega arith;
       record_room = record_room;
@@ -189,8 +194,8 @@ room-to-end t local r k found =
     let o = k.orderly in
     omega (arith, k.few, o.weighed, most_owed-ended o.from local t.records.items r found, most_owed-most o.from (map (ended r.address) t.records.items), length-map t.records.items (ended r.address))
 
-pub kept-ended : (t u : Inside) (local : Local) (r : Record) (e : Announced) → IsKept t → find (is_live_at local) t.records.items ≡ Some r → e.address ≡ r.address → e.create ≡ false → u.debts.items ≡ map one_more t.debts.items → u.events.items ≡ settled_events (t.events.items ++ e ∷ []) (map one_more t.debts.items) → u.records.items ≡ settled_records (map (ended e.address) t.records.items) (t.events.items ++ e ∷ []) (map one_more t.debts.items) → vec_capacity u.records ≡ vec_capacity t.records → deque_capacity u.events ≡ deque_capacity t.events → u.given ≡ t.given → IsKept u
-kept-ended t u local r e k found at gone debts events records record_room event_room given =
+pub kept-ended : (t u : Inside) (local : Local) (r : Record) (e : Announced) → IsKept t → local.node < 256 → local.port < 65536 → u.domain ≡ t.domain → u.live ≡ forgotten (name_in t.domain local) t.live → find (is_live_at local) t.records.items ≡ Some r → e.address ≡ r.address → e.create ≡ false → u.debts.items ≡ map one_more t.debts.items → u.events.items ≡ settled_events (t.events.items ++ e ∷ []) (map one_more t.debts.items) → u.records.items ≡ settled_records (map (ended e.address) t.records.items) (t.events.items ++ e ∷ []) (map one_more t.debts.items) → vec_capacity u.records ≡ vec_capacity t.records → deque_capacity u.events ≡ deque_capacity t.events → u.given ≡ t.given → IsKept u
+kept-ended t u local r e k node port domain addresses found at gone debts events records record_room event_room given =
     let rs = map (ended e.address) t.records.items in
     let es = t.events.items ++ e ∷ [] in
     let ds = map one_more t.debts.items in
@@ -201,6 +206,7 @@ kept-ended t u local r e k found at gone debts events records record_room event_
     record {
       orderly = rw (records, events, given) orderly;
       tight = rw (events, debts) tight;
+      indexed = rw (domain, records, addresses) (indexed-settled t.domain rs es ds _ before.marked (subst (λ a. IsIndexed t.domain (map (ended a) t.records.items) (forgotten (name_in t.domain local) t.live)) (sym at) (indexed-ended t.domain local t.records.items r t.live k.indexed k.orderly.rising node port found)));
       few = rw records (omega (arith, length-map t.records.items (ended e.address), k.few, less));
       given = omega (arith, k.given);
       record_room = omega (arith, k.record_room);

@@ -3,11 +3,14 @@
 use Rattle.std.specs.Prelude.{◌≡◌, ◌<◌, ◌≤◌, ◌+◌, ◌-◌, ◌⊎◌, ⊤, ℕ, Bool, true, false, not, nat_le, ◌==◌, List, [], ◌∷◌, length, map, filter, drop, vec_capacity, if◌then◌else◌}
 use Rattle.std.specs.List.{AllByRecursion, HoldsAt, list_any}
 use Rattle.std.specs.VecDeque.{deque_capacity}
+use Rattle.mc_base.specs.declared.name.EndName.{EndName}
+use Rattle.mc_base.specs.declared.name.Local.{Local}
+use Rattle.name_service.specs.KnownNames.{Names, learned}
 use Rattle.endpoint_table.specs.declared.record.Record.{Record}
 use Rattle.endpoint_table.specs.declared.announced.Announced.{Announced}
 use Rattle.endpoint_table.specs.declared.debts.Debt.{Debt}
 use Rattle.endpoint_table.specs.declared.table.EndpointTable.TheInside.{Inside}
-use Rattle.endpoint_table.specs.Table.{Table, Owing, record_limit, creation_limit, first_address, tells_gone}
+use Rattle.endpoint_table.specs.Table.{Table, Owing, record_limit, creation_limit, first_address, tells_gone, is_live_at}
 
 -- the latest of the events are owed to a linked domain
 abbrev pub owing_of : List Announced → Debt → Owing
@@ -57,6 +60,36 @@ pub record IsPlace (records : List Record) (address place : ℕ) : Type 0 where
   pub within : place < length records
   pub addressed : HoldsAt (λ r. r.address ≡ address) records place
 
+-- ---- the live endpoints by name
+
+-- the name of an endpoint of a domain among those of all domains
+abbrev pub name_in : ℕ → Local → EndName
+name_in domain local = record { domain = domain; node = local.node; port = local.port }
+
+-- the addresses of the live endpoints
+abbrev pub addresses_in : ℕ → List Record → Names
+addresses_in domain [] = []
+addresses_in domain (r ∷ rs) =
+    if r.live then learned (name_in domain r.local) r.address (addresses_in domain rs) else addresses_in domain rs
+
+-- one endpoint at most is live under a name
+abbrev pub AreApart : List Record → Type 0
+AreApart [] = ⊤
+AreApart (r ∷ rs) = (r.live ≡ true → AllByRecursion (λ later. is_live_at r.local later ≡ false) rs) × AreApart rs
+
+-- the numbers of a name are a u8 and a u16
+pub record HasBounds (r : Record) : Type 0 where
+  pub node : r.local.node < 256
+  pub port : r.local.port < 65536
+
+-- the live endpoints are found by name
+pub record IsIndexed (domain : ℕ) (records : List Record) (live : Names) : Type 0 where
+  pub addresses : live ≡ addresses_in domain records
+  pub apart : AreApart records
+  pub bounded : AllByRecursion HasBounds records
+
+-- ---- the order of the events
+
 -- From an address on, endpoints are announced one after the other, up to that of the next creation; an endpoint is gone
 -- only after it was there, and once.
 abbrev pub IsNext : Bool → ℕ → ℕ → List Announced → Type 0
@@ -100,6 +133,7 @@ pub record IsTight (events : List Announced) (debts : List Debt) : Type 0 where
 pub record IsKept (t : Inside) : Type 0 where
   pub orderly : IsOrderly t.records.items t.events.items (first_address + t.given)
   pub tight : IsTight t.events.items t.debts.items
+  pub indexed : IsIndexed t.domain t.records.items t.live
   pub few : length t.records.items ≤ record_limit
   pub given : t.given ≤ creation_limit
   pub record_room : record_limit ≤ vec_capacity t.records

@@ -1,7 +1,7 @@
 //! A record.
 
 ghost use Rattle.std.specs.Prelude.{◌≡◌};
-ghost use Rattle.endpoint_table.specs.Table.{ended, is_live_at};
+ghost use Rattle.endpoint_table.specs.Table.{ended};
 
 use mc_base::Local;
 
@@ -14,12 +14,6 @@ pub struct Record {
 }
 
 impl Record {
-    pub fn is_live_at(&self, local: Local) -> bool
-        ensures { result ≡ is_live_at local self.now }
-    {
-        self.live && self.local.node == local.node && self.local.port == local.port
-    }
-
     /// Notes that the endpoint is live no more, where it has this address.
     pub fn end(&mut self, address: u32)
         ensures { self.new ≡ ended address self.old }

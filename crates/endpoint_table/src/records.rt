@@ -3,18 +3,10 @@
 ghost use Rattle.std.specs.Prelude.{◌≡◌, ◌≢◌, ◌==◌, IfErr, IfOk, find, filter, map, not, vec_capacity};
 ghost use Rattle.std.specs.List.{AllByRecursion};
 ghost use Rattle.std.specs.Ordering.{nat_cmp};
-ghost use Rattle.endpoint_table.specs.Table.{ended, has_live_address, is_live_at};
+ghost use Rattle.endpoint_table.specs.Table.{ended, has_live_address};
 ghost use Rattle.endpoint_table.specs.InTable.{IsPlace, IsRising};
 
 use crate::record::Record;
-use mc_base::Local;
-
-/// The record of the live endpoint of this name.
-pub fn live_at(records: &[Record], local: Local) -> Option<Record>
-    ensures { result ≡ find (is_live_at local) records.now }
-{
-    records.iter().copied().find(|r| r.is_live_at(local))
-}
 
 /// The record of the live endpoint of this address.
 pub fn with_address(records: &[Record], address: u32) -> Option<Record>

@@ -5,7 +5,7 @@ ghost use Rattle.std.specs.List.{AllByRecursion};
 ghost use Rattle.std.specs.VecDeque.{deque_capacity, deque_len};
 ghost use Rattle.mc_base.specs.Announcement.{is_name};
 ghost use Rattle.endpoint_table.specs.Table.{opening_table, live_at, live_with_address, owed_to, announcement_of, created, deleted, paid_to, create_answer, delete_answer};
-ghost use Rattle.endpoint_table.specs.InTable.{one_more, settled_events, settled_records};
+ghost use Rattle.endpoint_table.specs.InTable.{name_in, one_more, settled_events, settled_records};
 
 use crate::announced::Announced;
 use crate::debts::{self, Debt};
@@ -13,9 +13,10 @@ use crate::name::name_of;
 use crate::record::Record;
 use crate::records;
 use mc_base::{
-    FIRST_ADDRESS, Local, MAX_ENDPOINTS, MAX_ENDPOINTS_EVER, MAX_OWED_ANNOUNCEMENTS, NoMemory, Ns,
-    Refusal,
+    EndName, FIRST_ADDRESS, Local, MAX_ENDPOINTS, MAX_ENDPOINTS_EVER, MAX_OWED_ANNOUNCEMENTS,
+    NoMemory, Ns, Refusal,
 };
+use name_service::KnownNames;
 use std::alloc::Global;
 use std::collections::VecDeque;
 use std::marker::Model;
@@ -28,6 +29,8 @@ pub struct EndpointTable {
     nodes: u8,
     // In rising order of the addresses.
     records: Vec<Record>,
+    // The addresses of the live endpoints, to be found by name.
+    live: KnownNames,
     // What one of the linked domains at least is still to be told, the oldest first.
     events: VecDeque<Announced>,
     debts: Vec<Debt>,
@@ -60,6 +63,7 @@ impl EndpointTable {
         let Ok(records) = Vec::with_capacity(alloc, MAX_ENDPOINTS) else {
             return Err(NoMemory);
         };
+        let live = KnownNames::new(alloc)?;
         let Ok(events) = VecDeque::with_capacity(alloc, MAX_OWED_ANNOUNCEMENTS) else {
             return Err(NoMemory);
         };
@@ -68,6 +72,7 @@ impl EndpointTable {
             domain,
             nodes,
             records,
+            live,
             events,
             debts,
             given: 0,
@@ -88,7 +93,7 @@ impl EndpointTable {
         if local.node >= self.nodes {
             return Err(Refusal::NodeInvalid);
         }
-        if records::live_at(&self.records, local).is_some() {
+        if self.find(local).is_some() {
             return Err(Refusal::ExistsAlready);
         }
         if self.records.len() >= MAX_ENDPOINTS {
@@ -105,6 +110,9 @@ impl EndpointTable {
             live: true,
         };
         self.records.push(record).unwrap();
+        self.live
+            .learn(name_in(self.domain, local), address)
+            .unwrap();
         let event = Announced {
             local,
             address,
@@ -123,11 +131,12 @@ impl EndpointTable {
         ensures deleted { OnOk result (self.new ≡ deleted self.old local) }
         ensures refused { OnErr result (self.new ≡ self.old) }
     {
-        let record = records::live_at(&self.records, local).ok_or(Refusal::EndpInvalid)?;
-        records::end(&mut self.records, record.address);
+        let address = self.find(local).ok_or(Refusal::EndpInvalid)?;
+        records::end(&mut self.records, address);
+        self.live.forget(name_in(self.domain, local));
         let event = Announced {
-            local: record.local,
-            address: record.address,
+            local,
+            address,
             create: false,
         };
         announce(&mut self.records, &mut self.events, &mut self.debts, event);
@@ -138,8 +147,7 @@ impl EndpointTable {
     pub fn find(&self, local: Local) -> Option<u32>
         ensures { result ≡ option_map (λ r. r.address) (live_at self.now local) }
     {
-        let record = records::live_at(&self.records, local)?;
-        Some(record.address)
+        self.live.find(name_in(self.domain, local))
     }
 
     /// The live endpoint of an address, or `None` where no live endpoint has it.
@@ -171,6 +179,17 @@ impl EndpointTable {
     {
         debts::pay(&mut self.debts, peer);
         settle(&mut self.records, &mut self.events, &mut self.debts);
+    }
+}
+
+/// The name of an endpoint of this domain among those of all domains.
+fn name_in(domain: u8, local: Local) -> EndName
+    ensures { result ≡ name_in domain local }
+{
+    EndName {
+        domain,
+        node: local.node,
+        port: local.port,
     }
 }
 
