@@ -31,13 +31,13 @@ use Rattle.domain_core.specs.Dealt.{IsHanded, IsReturned, IsQueued, message, mes
 
 -- ---- first faults
 
-widened-passes : {F G : Type 0} (f : F → G) (rows : List (FaultRow F)) (more : List (FaultRow G)) → first_fault rows ≡ None → first_fault (widened f rows ++ more) ≡ first_fault more
+pub widened-passes : {F G : Type 0} (f : F → G) (rows : List (FaultRow F)) (more : List (FaultRow G)) → first_fault rows ≡ None → first_fault (widened f rows ++ more) ≡ first_fault more
 widened-passes f [] more e = refl
 widened-passes f (r ∷ rs) more e =
     elim r.stands as (λ b. option_map (λ x. x.fault) (cond b (Some r) (first rs)) ≡ None → option_map (λ x. x.fault) (cond b (Some (record { fault = f r.fault; stands = r.stands; place = r.place })) (first (widened f rs ++ more))) ≡ first_fault more)
     [ true ↦ λ h. absurd cc | false ↦ λ h. widened-passes f rs more h ] e
 
-widened-tells : {F G : Type 0} (f : F → G) (rows : List (FaultRow F)) (more : List (FaultRow G)) (x : F) → first_fault rows ≡ Some x → first_fault (widened f rows ++ more) ≡ Some (f x)
+pub widened-tells : {F G : Type 0} (f : F → G) (rows : List (FaultRow F)) (more : List (FaultRow G)) (x : F) → first_fault rows ≡ Some x → first_fault (widened f rows ++ more) ≡ Some (f x)
 widened-tells f [] more x e = absurd cc
 widened-tells f (r ∷ rs) more x e =
     elim r.stands as (λ b. option_map (λ y. y.fault) (cond b (Some r) (first rs)) ≡ Some x → option_map (λ y. y.fault) (cond b (Some (record { fault = f r.fault; stands = r.stands; place = r.place })) (first (widened f rs ++ more))) ≡ Some (f x))
@@ -72,7 +72,7 @@ row_by s o place first_kind waiting item =
 no-announcement : (frame : List ℕ) → is_letter frame ≡ true → is_announcement frame ≡ false
 no-announcement frame letter = elim (is_announcement frame) as (λ b. not b ≡ true → b ≡ false) [ true ↦ λ h. absurd cc | false ↦ λ h. refl ] letter
 
-abbrev rows_by : DomainState → ℕ → List ℕ → Bool → Option Row
+abbrev pub rows_by : DomainState → ℕ → List ℕ → Bool → Option Row
 rows_by s peer frame announces = first_row (
     fault_row s (fault frame)
     ∷ row (announces && is_none (announced_name peer frame)) fate.ForeignName s

@@ -21,3 +21,4 @@ pub mod Beginning
 pub mod Making
 pub mod Deleting
 pub mod Creating
+pub mod Announcing

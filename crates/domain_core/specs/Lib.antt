@@ -11,6 +11,7 @@ pub mod InBook
 pub mod InRequests
 pub mod InPlaces
 pub mod Dealt
+pub mod Announced
 pub mod Turned
 pub mod DomainView
 pub mod Alone

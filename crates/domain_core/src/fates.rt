@@ -45,8 +45,9 @@ pub(crate) fn letter_fate(fault: LetterFault) -> Fate
 }
 
 /// A fault of a name announcement.
-fn ns_fate(fault: NsFault) -> Fate
-    ensures { result ≡ ns_word fault }
+pub(crate) fn ns_fate(fault: NsFault) -> Fate
+    ensures word { result ≡ ns_word fault }
+    ensures returned { keeps_buffer result ≡ false }
 {
     match fault {
         NsFault::NsSize => Fate::NsSize,

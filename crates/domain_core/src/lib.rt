@@ -3,6 +3,7 @@
 //! A domain takes memory where it is opened, and a journal where room is reserved in it. No other call takes any.
 #![tactic(auto)]
 
+mod announcements;
 mod carried;
 mod dealing;
 mod domain;

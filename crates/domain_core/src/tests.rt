@@ -3,6 +3,7 @@ use mc_base::{EndName, Fate, Local, NoMemory, Priority, Reason, Refusal};
 use std::process::Abort;
 use std::test::Fail;
 
+mod announcements;
 mod requests;
 
 /// A call at node 0 of domain 3, but for what it says. A message has the same byte throughout.
