@@ -1,7 +1,7 @@
 -- The text of a line, piece by piece.
 use Rattle.std.proofs.Common.{◌≡◌, List, ℕ, [], ◌∷◌, ◌++◌, append_assoc, Option, None, Some, refl, sym, ap, ◌∙◌}
 use Rattle.board_model.specs.declared.scenario.Call.{Call}
-use Rattle.board_model.specs.declared.scenario.Call.TheVariants.{Create, MsgSend, MsgRecv, MsgRecvI, MsgAvailable, Test, Cancel}
+use Rattle.board_model.specs.declared.scenario.Call.TheVariants.{Create, Delete, Lookup, MsgSend, MsgRecv, MsgRecvI, MsgAvailable, Test, Cancel, Turn}
 use Rattle.board_model.specs.Grammar.{spaced, line_of, call_words, label_words}
 use Rattle.scenario_lang.specs.Lines.{label_front}
 
@@ -12,21 +12,27 @@ caller_then caller words = append_assoc caller (32 ∷ words) (10 ∷ [])
 pub spaced_after : (w : List ℕ) (label : Option (List ℕ)) (c : Call) → spaced (w ∷ (label_words label ++ call_words c)) ≡ w ++ 32 ∷ spaced (label_words label ++ call_words c)
 spaced_after w (Some label) c = refl
 spaced_after w None (Create port) = refl
+spaced_after w None (Delete port) = refl
+spaced_after w None (Lookup name) = refl
 spaced_after w None (MsgSend port to priority bytes) = refl
 spaced_after w None (MsgRecv port max) = refl
 spaced_after w None (MsgRecvI port max) = refl
 spaced_after w None (MsgAvailable port) = refl
 spaced_after w None (Test label) = refl
 spaced_after w None (Cancel label) = refl
+spaced_after w None Turn = refl
 
 sign_then : (c : Call) → spaced ((61 ∷ []) ∷ call_words c) ≡ 61 ∷ 32 ∷ spaced (call_words c)
 sign_then (Create port) = refl
+sign_then (Delete port) = refl
+sign_then (Lookup name) = refl
 sign_then (MsgSend port to priority bytes) = refl
 sign_then (MsgRecv port max) = refl
 sign_then (MsgRecvI port max) = refl
 sign_then (MsgAvailable port) = refl
 sign_then (Test label) = refl
 sign_then (Cancel label) = refl
+sign_then Turn = refl
 
 pub front_then : (label : Option (List ℕ)) (c : Call) → spaced (label_words label ++ call_words c) ≡ label_front label ++ spaced (call_words c)
 front_then None c = refl

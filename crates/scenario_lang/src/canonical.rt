@@ -102,6 +102,8 @@ fn put_call<K: Sink>(out: &mut Writer<'_, K>, call: &Call)
 {
     match call {
         Call::Create { port } => put_create(out, *port),
+        Call::Delete { port } => put_delete(out, *port),
+        Call::Lookup { name } => put_lookup(out, *name),
         Call::MsgSend {
             port,
             to,
@@ -113,6 +115,7 @@ fn put_call<K: Sink>(out: &mut Writer<'_, K>, call: &Call)
         Call::MsgAvailable { port } => put_available(out, *port),
         Call::Test { label } => put_test(out, label.as_slice()),
         Call::Cancel { label } => put_cancel(out, label.as_slice()),
+        Call::Turn => out.put(b"turn"),
     }
 }
 
@@ -121,6 +124,20 @@ fn put_create<K: Sink>(out: &mut Writer<'_, K>, port: u16)
 {
     out.put(b"create ");
     out.put_number(port as u64);
+}
+
+fn put_delete<K: Sink>(out: &mut Writer<'_, K>, port: u16)
+    ensures { Puts K.Sink out.old out.new (spaced (codes "delete" ∷ decimal port ∷ [])) }
+{
+    out.put(b"delete ");
+    out.put_number(port as u64);
+}
+
+fn put_lookup<K: Sink>(out: &mut Writer<'_, K>, name: EndName)
+    ensures { Puts K.Sink out.old out.new (spaced (codes "lookup" ∷ name_text name ∷ [])) }
+{
+    out.put(b"lookup ");
+    put_name(out, name);
 }
 
 fn put_send<K: Sink>(
