@@ -11,9 +11,9 @@ use Rattle.std.proofs.lemmas.List.Folds.{find-append}
 use Rattle.std.proofs.lemmas.Iterator.Adapters.{position_from-zero}
 use Rattle.mc_base.specs.declared.request.RequestId.{RequestId}
 use Rattle.board_model.specs.declared.scenario.Call.{Call}
-use Rattle.board_model.specs.declared.scenario.Call.TheVariants.{Create, MsgSend, MsgRecv, MsgRecvI, MsgAvailable, Test, Cancel}
+use Rattle.board_model.specs.declared.scenario.Call.TheVariants.{Create, Delete, Lookup, MsgSend, MsgRecv, MsgRecvI, MsgAvailable, Test, Cancel, Turn}
 use Rattle.board_model.specs.declared.scenario.CallLine.{CallLine}
-use Rattle.board_model.specs.DomainCall.{DomainCall, create_at, send_from, receive_at, request_at, available_at, test_of, cancel_of}
+use Rattle.board_model.specs.DomainCall.{DomainCall, create_at, delete_at, lookup_of, send_from, receive_at, request_at, available_at, test_of, cancel_of, turn_alone}
 use Rattle.board_model.specs.Lists.{without_at, without}
 use Rattle.board_model.specs.State.{DomainState, place_of_request}
 use Rattle.board_model.specs.Answer.{refusal, unless_refused}
@@ -56,12 +56,15 @@ call_is h r k line st = go line.call
   where
     go : (call : Call) → call_by h.ids h.domain call ≡ call_of r.labels (after_own_turn r.alone).state call
     go (Create port) = refl
+    go (Delete port) = refl
+    go (Lookup name) = refl
     go (MsgSend port to priority bytes) = refl
     go (MsgRecv port max) = refl
     go (MsgRecvI port max) = refl
     go (MsgAvailable port) = refl
     go (Test label) = ap test_of (place_held h r k label.items st)
     go (Cancel label) = ap cancel_of (place_held h r k label.items st)
+    go Turn = refl
 
 -- ---- the ids that stand
 
@@ -80,12 +83,15 @@ map-option f (Some x) = refl
 
 same_ends : (call : DomainCall) → success_ends call ≡ success_ended call
 same_ends (create_at port) = refl
+same_ends (delete_at port) = refl
+same_ends (lookup_of name) = refl
 same_ends (send_from port to priority bytes) = refl
 same_ends (receive_at port max) = refl
 same_ends (request_at port max) = refl
 same_ends (available_at port) = refl
 same_ends (test_of p) = refl
 same_ends (cancel_of p) = refl
+same_ends turn_alone = refl
 
 pub same_ended : (s : DomainState) (node : ℕ) (call : DomainCall) → place_ended s node call ≡ request_ended s node call
 same_ended s node call = ap (unless_refused (refusal s node call) None) (same_ends call)

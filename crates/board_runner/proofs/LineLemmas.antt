@@ -1,6 +1,6 @@
 -- Lines that run one after the other.
 use Rattle.std.proofs.Common.{◌≡◌, ◌≢◌, ℕ, zero, suc, ◌+◌, ◌<◌, ◌≤◌, ◌^◌, List, [], ◌∷◌, ◌++◌, length, map, drop, get_or, Option, Some, None, option_map, option_to_list, refl, sym, ap, ap₂, ◌∙◌, subst, arith}
-use Rattle.std.specs.Prelude.{IfSome, Result, Ok, Err, OnOk}
+use Rattle.std.specs.Prelude.{IfSome, IfOk, Result, Ok, Err, OnOk}
 use Rattle.std.specs.Result.{result_ok}
 use Rattle.std.specs.Option.{option_or}
 use Rattle.std.specs.List.{AllByRecursion}
@@ -9,19 +9,20 @@ use Rattle.std.specs.BTreeMap.{is_at}
 use Rattle.std.specs.Cmp.Lexicographic.{slice_cmp}
 use Rattle.std.specs.Ordering.{nat_cmp}
 use Rattle.std.proofs.lemmas.List.{map-append}
+use Rattle.mc_base.specs.declared.name.EndName.{EndName}
 use Rattle.mc_base.specs.declared.refusal.NoMemory.{NoMemory}
 use Rattle.mc_base.specs.declared.refusal.Refusal.{Refusal}
 use Rattle.mc_base.specs.declared.request.RequestId.{RequestId}
 use Rattle.board_model.specs.declared.scenario.Call.{Call}
-use Rattle.board_model.specs.declared.scenario.Call.TheVariants.{Create, MsgSend, MsgRecv, MsgRecvI, MsgAvailable, Test, Cancel}
+use Rattle.board_model.specs.declared.scenario.Call.TheVariants.{Create, Delete, Lookup, MsgSend, MsgRecv, MsgRecvI, MsgAvailable, Test, Cancel, Turn}
 use Rattle.board_model.specs.declared.scenario.CallLine.{CallLine}
-use Rattle.board_model.specs.DomainCall.{DomainCall, request_at, test_of, cancel_of}
+use Rattle.board_model.specs.DomainCall.{DomainCall, lookup_of, test_of, cancel_of, turn_alone}
 use Rattle.board_model.specs.Lists.{without}
 use Rattle.board_model.specs.Scenario.{label_in}
 use Rattle.board_model.specs.Grammar.{IsLawfulCall, AreLawfulLines, told_after}
 use Rattle.board_model.specs.Journal.{Line, call_line, PlainEntry, called, PlainAnswer, tells, noted, noted_all}
 use Rattle.board_model.specs.State.{DomainState, Request}
-use Rattle.board_model.specs.Answer.{refusal, unless_refused, answer, answer_by}
+use Rattle.board_model.specs.Answer.{refusal, unless_refused, success, answer, answer_by}
 use Rattle.board_model.specs.Effect.{effect}
 use Rattle.board_model.specs.Labels.{serial_of, success_request, request_given, with_label}
 use Rattle.board_model.specs.Serial.{Alone, Running, own_turn, after_own_turn, after_own_call, own_call, before_answer, line_entries, after_line, after_lines, entries_from}
@@ -60,8 +61,8 @@ gives_none s node call e = go (refusal s node call)
     go None = sym e
 
 -- a request is given where it is not refused
-pub gives_requested : (s : DomainState) (node port max : ℕ) (made : Result RequestId Refusal) → requested made ≡ answer s node (request_at port max) → option_map (λ i. i.serial) (given made) ≡ request_given s node (request_at port max)
-gives_requested s node port max made e = go (refusal s node (request_at port max)) made e
+pub gives_requested : (s : DomainState) (node : ℕ) (call : DomainCall) (made : Result RequestId Refusal) → success s node call ≡ tells s.requests_given → success_request s call ≡ Some s.requests_given → requested made ≡ answer s node call → option_map (λ i. i.serial) (given made) ≡ request_given s node call
+gives_requested s node call made told gives e = go (refusal s node call) made (e ∙ ap (answer_by (refusal s node call)) told) ∙ ap (unless_refused (refusal s node call) None) (sym gives)
   where
     go : (o : Option Refusal) (made : Result RequestId Refusal) → requested made ≡ answer_by o (tells s.requests_given) → option_map (λ i. i.serial) (given made) ≡ unless_refused o None (Some s.requests_given)
     go None (Ok id) e = cc
@@ -72,6 +73,10 @@ gives_requested s node port max made e = go (refusal s node (request_at port max
 pub then_ok : {P Q : Type 0} (r : Result (Unit {0}) NoMemory) → OnOk r P → (P → Q) → OnOk r Q
 then_ok (Ok x) h f = f h
 then_ok (Err e) h f = tt
+
+pub then_given : {A : Type 0} {P Q : A → Type 0} (r : Result A NoMemory) → IfOk r P → ((x : A) → P x → Q x) → IfOk r Q
+then_given (Ok x) h f = f x h
+then_given (Err e) h f = tt
 
 -- the same where room was made first, and the answer is written as the journal notes it
 pub makes_noted : (number node : ℕ) (call : DomainCall) (old new : DomainView) (lines start mid lines' : List Line) (answered noted : PlainAnswer) (id : Option RequestId) → start ≡ lines → Calls node call old new start mid answered id →
@@ -90,12 +95,18 @@ by_equal number node call same old new lines lines' id e made = subst (λ (c : D
 pub at_node : (number node here : ℕ) (call : DomainCall) (old new : DomainView) (lines lines' : List Line) (id : Option RequestId) → node ≡ here → MakesCall number node call old new lines lines' id → MakesCall number here call old new lines lines' id
 at_node number node here call old new lines lines' id e made = subst (λ (n : ℕ). MakesCall number n call old new lines lines' id) e made
 
--- a call on a request hangs on no node
+-- a call on a request hangs on no node, nor does a lookup or a turn
 pub test_anywhere : (number node : ℕ) (p : Option ℕ) (old new : DomainView) (lines lines' : List Line) (id : Option RequestId) → MakesCall number 0 (test_of p) old new lines lines' id → MakesCall number node (test_of p) old new lines lines' id
 test_anywhere number node p old new lines lines' id made = record { state = made.state; told = made.told; ids = made.ids; fresh = made.fresh; gives = made.gives }
 
 pub cancel_anywhere : (number node : ℕ) (p : Option ℕ) (old new : DomainView) (lines lines' : List Line) (id : Option RequestId) → MakesCall number 0 (cancel_of p) old new lines lines' id → MakesCall number node (cancel_of p) old new lines lines' id
 cancel_anywhere number node p old new lines lines' id made = record { state = made.state; told = made.told; ids = made.ids; fresh = made.fresh; gives = made.gives }
+
+pub lookup_anywhere : (number node : ℕ) (name : EndName) (old new : DomainView) (lines lines' : List Line) (id : Option RequestId) → MakesCall number 0 (lookup_of name) old new lines lines' id → MakesCall number node (lookup_of name) old new lines lines' id
+lookup_anywhere number node name old new lines lines' id made = record { state = made.state; told = made.told; ids = made.ids; fresh = made.fresh; gives = made.gives }
+
+pub turn_anywhere : (number node : ℕ) (old new : DomainView) (lines lines' : List Line) (id : Option RequestId) → MakesCall number 0 turn_alone old new lines lines' id → MakesCall number node turn_alone old new lines lines' id
+turn_anywhere number node old new lines lines' id made = record { state = made.state; told = made.told; ids = made.ids; fresh = made.fresh; gives = made.gives }
 
 pub ok_given : (made : Result RequestId Refusal) → result_ok made ≡ given made
 ok_given (Ok id) = refl
@@ -212,12 +223,15 @@ holds r h number line d ids lines lines' id small made more = then_ok r more (λ
 -- a lawful line asks for 9,000 bytes at most
 pub lawful_asks : (c : Call) → IsLawfulCall c → AsksAtMost 9000 c
 lawful_asks (Create port) h = tt
+lawful_asks (Delete port) h = tt
+lawful_asks (Lookup name) h = tt
 lawful_asks (MsgSend port to priority bytes) h = tt
 lawful_asks (MsgRecv port max) h = h.1
 lawful_asks (MsgRecvI port max) h = tt
 lawful_asks (MsgAvailable port) h = tt
 lawful_asks (Test label) h = tt
 lawful_asks (Cancel label) h = tt
+lawful_asks Turn h = tt
 
 pub lawful_at : (d : ℕ) (told : List (List ℕ)) (lines : List CallLine) (i : ℕ) (line : CallLine) → AreLawfulLines d told lines → i < length lines → line ≡ get_or lines i line → IsLawfulCall line.call
 lawful_at d told [] i line all lt is = absurd (omega arith)

@@ -13,7 +13,8 @@ use Rattle.board_model.specs.Journal.{Line, joined, noted_all}
 use Rattle.board_model.specs.State.{queued_items, queued_from, lent_from}
 use Rattle.board_model.specs.Traffic.{put_to, taken_from}
 use Rattle.board_model.specs.Totals.{totals}
-use Rattle.board_model.specs.Messages.{accepted, messages_queued, messages_in_ring, dropped as messages_dropped}
+use Rattle.board_model.specs.Messages.{accepted, messages_queued, messages_in_ring}
+use Rattle.board_model.specs.Drops.{dropped as messages_dropped}
 use Rattle.board_model.specs.Takings.{messages_taken}
 use Rattle.board_model.specs.Tallies.{is_put_line, is_take_line, is_drop_line}
 use Rattle.board_model.specs.Places.{places_of}
@@ -69,7 +70,7 @@ frames s h a lines end =
 -- the numbers of messages
 pub record Sums (s : Scenario) (puts takes dropped queued : ℕ) : Type 0 where
   pub accepts : puts ≡ length (accepted (serial s))
-  pub drops_some : dropped ≡ length (messages_dropped (serial s))
+  pub drops_some : dropped ≡ length (messages_dropped s (serial s))
   pub queues : queued ≡ length (messages_queued s (serial s))
   pub in_ring : puts - takes ≡ length (messages_in_ring s (serial s))
   pub all : puts ≡ length (messages_taken s (serial s)) + dropped + queued + (puts - takes)
@@ -81,7 +82,7 @@ sums s h a lines end puts takes dropped queued e1 e2 e3 e4 =
     let run = (serial_is_board_run s h).0 in
     let tells = serial_tells s h run in
     let accepts : puts ≡ length (accepted (serial s)) = e1 ∙ ap (count_by is_put_line) at.1 ∙ sym tells.accepts in
-    let drops_some : dropped ≡ length (messages_dropped (serial s)) = e3 ∙ ap (count_by is_drop_line) at.1 ∙ sym tells.drops_some in
+    let drops_some : dropped ≡ length (messages_dropped s (serial s)) = e3 ∙ ap (count_by is_drop_line) at.1 ∙ sym tells.drops_some in
     let queues : queued ≡ length (messages_queued s (serial s)) = e4 ∙ ap (λ (x : Alone). length (queued_items x.state)) at.0 ∙ sym (serial_queued s h) in
     let in_ring : puts - takes ≡ length (messages_in_ring s (serial s)) =
     ap (λ (n : ℕ). n - takes) e1 ∙ ap (λ (n : ℕ). count_by is_put_line lines - n) e2 ∙ ap (λ (ls : List Line). count_by is_put_line ls - count_by is_take_line ls) at.1 ∙ sym tells.in_ring in

@@ -5,9 +5,9 @@ use Rattle.mc_base.specs.declared.request.RequestId.{RequestId}
 use Rattle.mc_base.specs.declared.request.Done.{Done}
 use Rattle.mc_base.specs.declared.request.Done.TheVariants as done
 use Rattle.board_model.specs.declared.scenario.Call.{Call}
-use Rattle.board_model.specs.declared.scenario.Call.TheVariants.{Create, MsgSend, MsgRecv, MsgRecvI, MsgAvailable, Test, Cancel}
+use Rattle.board_model.specs.declared.scenario.Call.TheVariants.{Create, Delete, Lookup, MsgSend, MsgRecv, MsgRecvI, MsgAvailable, Test, Cancel, Turn}
 use Rattle.board_model.specs.declared.scenario.CallLine.{CallLine}
-use Rattle.board_model.specs.DomainCall.{DomainCall, create_at, send_from, receive_at, request_at, available_at, test_of, cancel_of}
+use Rattle.board_model.specs.DomainCall.{DomainCall, create_at, delete_at, lookup_of, send_from, receive_at, request_at, available_at, test_of, cancel_of, turn_alone}
 use Rattle.board_model.specs.Journal.{Line, called, noted_all}
 use Rattle.board_model.specs.Lists.{without}
 use Rattle.board_model.specs.Answer.{answer}
@@ -20,12 +20,15 @@ use Rattle.board_runner.specs.Held.{Ids, id_or_none, Held, StandsFor}
 -- the call of a line as the domain knows it, by the ids that are held for labels
 abbrev pub call_by : Ids → DomainView → Call → DomainCall
 call_by ids d (Create port) = create_at port
+call_by ids d (Delete port) = delete_at port
+call_by ids d (Lookup name) = lookup_of name
 call_by ids d (MsgSend port to priority bytes) = send_from port to priority bytes
 call_by ids d (MsgRecv port max) = receive_at port max
 call_by ids d (MsgRecvI port max) = request_at port max
 call_by ids d (MsgAvailable port) = available_at port
 call_by ids d (Test label) = test_of (place_of_id d (id_or_none ids label.items))
 call_by ids d (Cancel label) = cancel_of (place_of_id d (id_or_none ids label.items))
+call_by ids d Turn = turn_alone
 
 -- a call as the domain knows it was made, and its entries stand in the journal
 pub record MakesCall (number node : ℕ) (call : DomainCall) (old new : DomainView) (lines lines' : List Line) (given : Option RequestId) : Type 0 where

@@ -1,7 +1,7 @@
 //! The answers of calls, as a journal notes them.
 
 ghost use Rattle.std.specs.Prelude.{◌≡◌, ◌≤◌, IfOk, length, take};
-ghost use Rattle.domain_core.specs.Calls.{created, sent, received, requested, available, result_of_done, tested, cancelled};
+ghost use Rattle.domain_core.specs.Calls.{created, deleted, sent, received, requested, available, result_of_done, tested, cancelled};
 ghost use Rattle.domain_core.specs.Entry.{plain_answer, result_of_told, bytes_in_answer, bytes_in_told};
 ghost use Rattle.board_runner.specs.Lines.{GivesWithin};
 
@@ -20,9 +20,10 @@ pub fn of_unit(made: Result<(), Refusal>) -> Answer<'static>
     }
 }
 
-/// Of a call that tells a number: an address, or how many messages wait.
+/// Of a call that tells a number: an address, or how many messages wait or were dropped.
 pub fn of_number(made: Result<u32, Refusal>) -> Answer<'static>
     ensures created { plain_answer result ≡ created made }
+    ensures deleted { plain_answer result ≡ deleted made }
     ensures available { plain_answer result ≡ available made }
     ensures no_bytes { bytes_in_answer result ≡ 0 }
 {

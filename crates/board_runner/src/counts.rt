@@ -4,7 +4,7 @@ ghost use Rattle.std.specs.Prelude.{◌≡◌, ◌+◌, ◌<◌, ◌^◌, count_
 ghost use Rattle.board_model.specs.Tallies.{is_put_line, is_take_line, is_drop_line};
 ghost use Rattle.board_runner.specs.Counts.{one_if};
 ghost use Rattle.domain_core.specs.Entry.{line_of_entry};
-ghost use Rattle.board_model.specs.Messages.{drops};
+ghost use Rattle.board_model.specs.Drops.{drops};
 
 use domain_core::{Entry, Journal};
 use mc_base::Fate;

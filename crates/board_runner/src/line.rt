@@ -13,8 +13,8 @@ use crate::labels::{hold, id_of};
 use board_model::{Call, CallLine};
 use domain_core::{Answer, CALL_BYTES, CALL_ENTRIES, Domain, Entry, Journal, Told};
 use mc_base::{Local, NoMemory, RequestId};
-use messages::{available, create, receive, send};
-use requests::{cancel, request, test};
+use messages::{available, create, delete, receive, send, turn};
+use requests::{cancel, lookup, request, test};
 use std::collections::BTreeMap;
 
 /// Makes the call of a line and notes its answer. What is received goes through `room`. Where the call gives a request, its
@@ -50,6 +50,8 @@ fn make_call(
 {
     match &line.call {
         Call::Create { port } => create(domain, journal, number, local(line, *port))?,
+        Call::Delete { port } => delete(domain, journal, number, local(line, *port))?,
+        Call::Lookup { name } => return lookup(domain, journal, number, *name),
         Call::MsgSend {
             port,
             to,
@@ -77,6 +79,7 @@ fn make_call(
         Call::MsgAvailable { port } => available(domain, journal, number, local(line, *port))?,
         Call::Test { label } => test(domain, journal, number, id_of(ids, label), room)?,
         Call::Cancel { label } => cancel(domain, journal, number, id_of(ids, label))?,
+        Call::Turn => turn(domain, journal, number)?,
     }
     Ok(None)
 }

@@ -1,12 +1,12 @@
-//! Lines that make endpoints, and send and receive messages.
+//! Lines that make and end endpoints, send and receive messages, and make turns alone.
 
-ghost use Rattle.std.specs.Prelude.{◌≡◌, ◌≤◌, None, OnOk, length};
-ghost use Rattle.board_model.specs.DomainCall.{create_at, send_from, receive_at, available_at};
+ghost use Rattle.std.specs.Prelude.{◌≡◌, ◌≤◌, ℕ, None, OnOk, length};
+ghost use Rattle.board_model.specs.DomainCall.{create_at, delete_at, send_from, receive_at, available_at, turn_alone};
 ghost use Rattle.board_runner.specs.Lines.{MakesCall};
 
 use super::{CALL_BYTES, CALL_ENTRIES, note_answer};
 use crate::answers::{of_number, of_receive, of_unit};
-use domain_core::{Domain, Journal};
+use domain_core::{Answer, Domain, Journal};
 use mc_base::{EndName, Local, NoMemory, Priority};
 
 /// Makes an endpoint.
@@ -20,6 +20,20 @@ pub fn create(
 {
     journal.reserve(CALL_ENTRIES, CALL_BYTES)?;
     let made = domain.create(journal, at);
+    note_answer(journal, number, of_number(made))
+}
+
+/// Ends an endpoint.
+pub fn delete(
+    domain: &mut Domain,
+    journal: &mut Journal,
+    number: u32,
+    at: Local,
+) -> Result<(), NoMemory>
+    ensures { OnOk result (MakesCall number at.node (delete_at at.port) domain.old domain.new journal.old.lines journal.new.lines None) }
+{
+    journal.reserve(CALL_ENTRIES, CALL_BYTES)?;
+    let made = domain.delete(journal, at);
     note_answer(journal, number, of_number(made))
 }
 
@@ -68,4 +82,13 @@ pub fn available(
     journal.reserve(CALL_ENTRIES, CALL_BYTES)?;
     let made = domain.msg_available(journal, at);
     note_answer(journal, number, of_number(made))
+}
+
+/// Makes a turn alone.
+pub fn turn(domain: &mut Domain, journal: &mut Journal, number: u32) -> Result<(), NoMemory>
+    ensures { OnOk result ((node : ℕ) → MakesCall number node turn_alone domain.old domain.new journal.old.lines journal.new.lines None) }
+{
+    journal.reserve(CALL_ENTRIES, CALL_BYTES)?;
+    domain.turn(journal);
+    note_answer(journal, number, Answer::Ok)
 }

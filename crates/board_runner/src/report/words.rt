@@ -2,7 +2,7 @@
 
 ghost use Rattle.std.specs.Prelude.{◌≡◌};
 ghost use Rattle.board_model.specs.Dealing.{fault_word as word_of_fault};
-ghost use Rattle.board_model.specs.Report.{refusal_text, fate_text, reason_text};
+ghost use Rattle.board_model.specs.Words.{refusal_text, fate_text, reason_text};
 
 use domain_core::fault_fate;
 use mc_base::{Fate, Fault, Reason, Refusal};
