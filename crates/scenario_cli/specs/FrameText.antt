@@ -15,7 +15,7 @@ use Rattle.mc_base.specs.declared.channel.Reason.TheVariants.{NoEndpoint, Connec
 use Rattle.mc_base.specs.declared.fault.Fault.{Fault}
 use Rattle.board_model.specs.Grammar.{line_of}
 use Rattle.board_model.specs.Dealing.{fault_word}
-use Rattle.board_model.specs.Report.{fate_text}
+use Rattle.board_model.specs.Words.{fate_text}
 use Rattle.scenario_cli.specs.Hex.{hex_fault, bytes_spelled}
 
 abbrev pub kind_text : Kind → List ℕ
