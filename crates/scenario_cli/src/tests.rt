@@ -1,6 +1,7 @@
 use crate::mcrun;
 use outer_io::{MemSink, MemSource};
 use std::alloc::{AllocError, Global};
+use std::process::Abort;
 use std::test::Fail;
 use std::thread::Threads;
 
@@ -136,24 +137,41 @@ struct Given<'a> {
     room: usize,
 }
 
+const SERIAL: &[&str] = &["run", "--serial"];
+
+/// The form `run --serial` on no text, with streams that fail nowhere.
+const EMPTY: Given<'static> = Given {
+    words: SERIAL,
+    text: b"",
+    failing_read: NEVER,
+    failing_write: NEVER,
+    step: 4096,
+    room: 1_000_000,
+};
+
+/// The form `run --serial` on the scenario of one message.
+const ONE_MESSAGE: Given<'static> = Given {
+    words: SERIAL,
+    text: MESSAGE,
+    failing_read: NEVER,
+    failing_write: NEVER,
+    step: 4096,
+    room: 1_000_000,
+};
+
+/// No words, with a text that is a scenario.
+const NO_WORDS: Given<'static> = Given {
+    words: &[],
+    text: MESSAGE,
+    failing_read: NEVER,
+    failing_write: NEVER,
+    step: 4096,
+    room: 1_000_000,
+};
+
 /// The form `run --serial` on a text, with streams that fail nowhere.
 fn serial(text: &[u8]) -> Given<'_> {
-    Given {
-        words: ["run", "--serial"].as_slice(),
-        text,
-        failing_read: NEVER,
-        failing_write: NEVER,
-        step: 4096,
-        room: 1_000_000,
-    }
-}
-
-/// Other words, with a text that is a scenario.
-fn with_words<'a>(words: &'a [&'a str]) -> Given<'a> {
-    Given {
-        words,
-        ..serial(MESSAGE)
-    }
+    Given { text, ..EMPTY }
 }
 
 fn words_of(alloc: Global, texts: &[&str]) -> Result<Vec<String>, AllocError> {
@@ -183,142 +201,181 @@ fn outcome_of<T: Threads + Sync>(
     Ok((status, output))
 }
 
-/// Asserts the status and the output of each call.
-#[test]
-fn statuses_and_outputs(rt: HostRuntime) -> Result<(), Fail> {
-    let alloc = rt.alloc();
-    let cases = [
-        (serial(MESSAGE), 0, MESSAGE_REPORT),
-        (serial(ONE_BUFFER), 0, ONE_BUFFER_REPORT),
-        (serial(NO_CALL), 0, NO_CALL_REPORT),
-        (serial(b""), 3, REFUSED),
-        (with_words([].as_slice()), 2, USAGE),
-        (with_words(["run"].as_slice()), 2, USAGE),
-        (with_words(["--serial", "run"].as_slice()), 2, USAGE),
-        (with_words(["run", "--serial", ""].as_slice()), 2, USAGE),
-        (with_words(["run", "frame"].as_slice()), 2, USAGE),
-        (with_words(["frame", "x"].as_slice()), 2, USAGE),
-        (with_words(["frame", "frame"].as_slice()), 2, USAGE),
-        (with_words(["Frame"].as_slice()), 2, USAGE),
-        (with_words(["--serial"].as_slice()), 2, USAGE),
-    ];
-    for (given, status, written) in cases {
-        let (answer, output) = outcome_of(&rt, alloc, given)?;
-        assert_eq!(rt; answer, status);
-        assert_eq!(rt; output.written(), written);
+/// Asserts the status and the output of a call.
+fn assert_outcome<T: Threads + Sync + Abort>(
+    rt: &T,
+    alloc: Global,
+    given: Given<'_>,
+    status: u8,
+    written: &[u8],
+) -> Result<(), Fail> {
+    let (answer, output) = outcome_of(rt, alloc, given)?;
+    assert_eq!(rt; answer, status);
+    assert_eq!(rt; output.written(), written);
+    Ok(())
+}
+
+/// Words and a text, and the status and the output that come of them.
+type Outcome<'a> = (&'a [&'a str], &'a [u8], u8, &'a [u8]);
+
+const OUTCOMES: [Outcome<'static>; 13] = [
+    (SERIAL, MESSAGE, 0, MESSAGE_REPORT),
+    (SERIAL, ONE_BUFFER, 0, ONE_BUFFER_REPORT),
+    (SERIAL, NO_CALL, 0, NO_CALL_REPORT),
+    (SERIAL, b"", 3, REFUSED),
+    (&[], MESSAGE, 2, USAGE),
+    (&["run"], MESSAGE, 2, USAGE),
+    (&["--serial", "run"], MESSAGE, 2, USAGE),
+    (&["run", "--serial", ""], MESSAGE, 2, USAGE),
+    (&["run", "frame"], MESSAGE, 2, USAGE),
+    (&["frame", "x"], MESSAGE, 2, USAGE),
+    (&["frame", "frame"], MESSAGE, 2, USAGE),
+    (&["Frame"], MESSAGE, 2, USAGE),
+    (&["--serial"], MESSAGE, 2, USAGE),
+];
+
+fn assert_outcomes<T: Threads + Sync + Abort>(
+    rt: &T,
+    alloc: Global,
+    rows: &[Outcome<'_>],
+) -> Result<(), Fail> {
+    for (words, text, status, written) in rows {
+        let given = Given {
+            words: *words,
+            ..serial(*text)
+        };
+        assert_outcome(rt, alloc, given, *status, *written)?;
     }
     Ok(())
 }
 
-/// What a stream that fails leaves: the status, and the first so many bytes of what was due.
 #[test]
-fn streams_that_fail(rt: HostRuntime) -> Result<(), Fail> {
-    let alloc = rt.alloc();
-    let report = serial(MESSAGE);
-    let cases = [
-        (
-            Given {
-                failing_read: 0,
-                ..report
-            },
-            4,
-            0,
-        ),
-        (
-            Given {
-                failing_read: 1,
-                ..report
-            },
-            4,
-            0,
-        ),
-        (
-            Given {
-                failing_read: 2,
-                ..report
-            },
-            0,
-            MESSAGE_REPORT.len(),
-        ),
-        (
-            Given {
-                failing_write: 0,
-                ..report
-            },
-            5,
-            0,
-        ),
-        (
-            Given {
-                failing_write: 14,
-                step: 1,
-                ..report
-            },
-            5,
-            14,
-        ),
-        (
-            Given {
-                room: MESSAGE_REPORT.len(),
-                ..report
-            },
-            0,
-            MESSAGE_REPORT.len(),
-        ),
-        (
-            Given {
-                room: MESSAGE_REPORT.len() - 1,
-                ..report
-            },
-            5,
-            MESSAGE_REPORT.len() - 1,
-        ),
-    ];
-    for (given, status, length) in cases {
-        let (answer, output) = outcome_of(&rt, alloc, given)?;
-        assert_eq!(rt; answer, status);
-        assert_eq!(rt; Some(output.written()), MESSAGE_REPORT.get(..length));
-    }
-    let cases = [
-        (
-            Given {
-                room: REFUSED.len(),
-                ..serial(b"")
-            },
-            3,
-            REFUSED,
-        ),
-        (
-            Given {
-                room: REFUSED.len() - 1,
-                ..serial(b"")
-            },
-            5,
-            REFUSED,
-        ),
-        (
-            Given {
-                room: USAGE.len(),
-                ..with_words([].as_slice())
-            },
-            2,
-            USAGE,
-        ),
-        (
-            Given {
-                room: USAGE.len() - 1,
-                ..with_words([].as_slice())
-            },
-            5,
-            USAGE,
-        ),
-    ];
-    for (given, status, due) in cases {
-        let (answer, output) = outcome_of(&rt, alloc, given)?;
-        assert_eq!(rt; answer, status);
-        assert_eq!(rt; Some(output.written()), due.get(..given.room));
+fn statuses_and_outputs(rt: HostRuntime) -> Result<(), Fail> {
+    assert_outcomes(&rt, rt.alloc(), &OUTCOMES)
+}
+
+/// A call, its status, and what was due, of which the first so many bytes come.
+type Cut<'a> = (Given<'a>, u8, &'a [u8], usize);
+
+const CUTS: [Cut<'static>; 11] = [
+    (
+        Given {
+            failing_read: 0,
+            ..ONE_MESSAGE
+        },
+        4,
+        MESSAGE_REPORT,
+        0,
+    ),
+    (
+        Given {
+            failing_read: 1,
+            ..ONE_MESSAGE
+        },
+        4,
+        MESSAGE_REPORT,
+        0,
+    ),
+    (
+        Given {
+            failing_read: 2,
+            ..ONE_MESSAGE
+        },
+        0,
+        MESSAGE_REPORT,
+        MESSAGE_REPORT.len(),
+    ),
+    (
+        Given {
+            failing_write: 0,
+            ..ONE_MESSAGE
+        },
+        5,
+        MESSAGE_REPORT,
+        0,
+    ),
+    (
+        Given {
+            failing_write: 14,
+            step: 1,
+            ..ONE_MESSAGE
+        },
+        5,
+        MESSAGE_REPORT,
+        14,
+    ),
+    (
+        Given {
+            room: MESSAGE_REPORT.len(),
+            ..ONE_MESSAGE
+        },
+        0,
+        MESSAGE_REPORT,
+        MESSAGE_REPORT.len(),
+    ),
+    (
+        Given {
+            room: MESSAGE_REPORT.len() - 1,
+            ..ONE_MESSAGE
+        },
+        5,
+        MESSAGE_REPORT,
+        MESSAGE_REPORT.len() - 1,
+    ),
+    (
+        Given {
+            room: REFUSED.len(),
+            ..EMPTY
+        },
+        3,
+        REFUSED,
+        REFUSED.len(),
+    ),
+    (
+        Given {
+            room: REFUSED.len() - 1,
+            ..EMPTY
+        },
+        5,
+        REFUSED,
+        REFUSED.len() - 1,
+    ),
+    (
+        Given {
+            room: USAGE.len(),
+            ..NO_WORDS
+        },
+        2,
+        USAGE,
+        USAGE.len(),
+    ),
+    (
+        Given {
+            room: USAGE.len() - 1,
+            ..NO_WORDS
+        },
+        5,
+        USAGE,
+        USAGE.len() - 1,
+    ),
+];
+
+fn assert_cuts<T: Threads + Sync + Abort>(
+    rt: &T,
+    alloc: Global,
+    rows: &[Cut<'_>],
+) -> Result<(), Fail> {
+    for (given, status, due, length) in rows {
+        let written = due.get(..*length).ok_or("length")?;
+        assert_outcome(rt, alloc, *given, *status, written)?;
     }
     Ok(())
+}
+
+/// What a stream that fails leaves: the status, and the first bytes of what was due.
+#[test]
+fn streams_that_fail(rt: HostRuntime) -> Result<(), Fail> {
+    assert_cuts(&rt, rt.alloc(), &CUTS)
 }
 
 /// An input of the most bytes is read, and one byte more is not.
@@ -330,9 +387,7 @@ fn limit_of_the_input(rt: HostRuntime) -> Result<(), Fail> {
         (8_388_609, 7, b"".as_slice()),
     ] {
         let text = Vec::from_elem(alloc, b'7', length)?;
-        let (answer, output) = outcome_of(&rt, alloc, serial(&text))?;
-        assert_eq!(rt; answer, status);
-        assert_eq!(rt; output.written(), written);
+        assert_outcome(&rt, alloc, serial(&text), status, written)?;
     }
     Ok(())
 }
@@ -364,8 +419,5 @@ end
 "
         )
     );
-    let (answer, output) = outcome_of(&rt, alloc, serial(&longer))?;
-    assert_eq!(rt; answer, 3);
-    assert_eq!(rt; output.written(), REFUSED);
-    Ok(())
+    assert_outcome(&rt, alloc, serial(&longer), 3, REFUSED)
 }

@@ -1,17 +1,22 @@
-use crate::tests::{Given, outcome_of, serial};
+use crate::tests::{EMPTY, Given, assert_outcome};
 use std::alloc::{AllocError, Global};
+use std::process::Abort;
 use std::test::Fail;
+use std::thread::Threads;
 
 /// A message of two bytes.
-const MESSAGE: &str = "0004000001040000000000000a0000004d010101000000006869";
+const MESSAGE: &[u8] = b"0004000001040000000000000a0000004d010101000000006869";
 
 const MESSAGE_LINE: &str = "right 1024 1025 msg 1 6869\n";
+
+pub const FRAME: &[&str] = &["frame"];
 
 /// The form `frame` on a text, with streams that fail nowhere.
 pub fn frame(text: &[u8]) -> Given<'_> {
     Given {
-        words: ["frame"].as_slice(),
-        ..serial(text)
+        words: FRAME,
+        text,
+        ..EMPTY
     }
 }
 
@@ -26,96 +31,101 @@ pub fn joined(alloc: Global, pieces: &[(&str, usize)]) -> Result<Vec<u8>, AllocE
     Ok(text)
 }
 
-/// Frames whose lines are worked out by hand from the layouts.
-#[test]
-fn worked_frames(rt: HostRuntime) -> Result<(), Fail> {
-    let alloc = rt.alloc();
-    let cases = [
-        (MESSAGE, 0, MESSAGE_LINE),
-        // Bytes after the payload.
-        (
-            "0004000001040000000000000a0000004d01010100000000686900000000",
-            0,
-            MESSAGE_LINE,
-        ),
-        // A header's length of 15.
-        (
-            "0004000001040000000000000f0000004d01010100000000686900000000",
-            1,
-            "wrong 12 header_len\n",
-        ),
-        // An announcement.
-        (
-            "00040000350000000000000028000000 6d636170693a313a303a35
-             000000000000000000000000000000000000000000 0004000000000000",
-            0,
-            "right 1024 53 name create mcapi:1:0:5 1024\n",
-        ),
-        (
-            "0004000001040000000000000a0000",
-            1,
-            "wrong 15 frame_short\n",
-        ),
-        (
-            "00040000010400000000000000000000",
-            1,
-            "wrong 12 payload_short\n",
-        ),
-        // A scalar of 16 bits with one byte.
-        (
-            "00040000000400000000000009000000 4d01080201000000 00",
-            1,
-            "wrong 12 size\n",
-        ),
-        // Digits of either case, reserved, flags and what follows the payload are no matter.
-        (
-            "FfFfFfFf 00000000 fFfFfFfF 0800 AbCd 4D01010300000000 eE",
-            0,
-            "right 4294967295 0 msg 3 -\n",
-        ),
-    ];
-    for (text, status, line) in cases {
-        let (answer, output) = outcome_of(&rt, alloc, frame(text.as_bytes()))?;
-        assert_eq!(rt; answer, status);
-        assert_eq!(rt; output.written(), line.as_bytes());
+/// A text, and the status and the line that come of it.
+type Told<'a> = (&'a [u8], u8, &'a str);
+
+/// Asserts the status and the line of each text.
+fn assert_told<T: Threads + Sync + Abort>(
+    rt: &T,
+    alloc: Global,
+    rows: &[Told<'_>],
+) -> Result<(), Fail> {
+    for (text, status, line) in rows {
+        assert_outcome(rt, alloc, frame(*text), *status, line.as_bytes())?;
     }
     Ok(())
 }
 
+/// Frames whose lines are worked out by hand from the layouts.
+const WORKED: [Told<'static>; 8] = [
+    (MESSAGE, 0, MESSAGE_LINE),
+    // Bytes after the payload.
+    (
+        b"0004000001040000000000000a0000004d01010100000000686900000000",
+        0,
+        MESSAGE_LINE,
+    ),
+    // A header's length of 15.
+    (
+        b"0004000001040000000000000f0000004d01010100000000686900000000",
+        1,
+        "wrong 12 header_len\n",
+    ),
+    // An announcement.
+    (
+        b"00040000350000000000000028000000 6d636170693a313a303a35
+         000000000000000000000000000000000000000000 0004000000000000",
+        0,
+        "right 1024 53 name create mcapi:1:0:5 1024\n",
+    ),
+    (
+        b"0004000001040000000000000a0000",
+        1,
+        "wrong 15 frame_short\n",
+    ),
+    (
+        b"00040000010400000000000000000000",
+        1,
+        "wrong 12 payload_short\n",
+    ),
+    // A scalar of 16 bits with one byte.
+    (
+        b"00040000000400000000000009000000 4d01080201000000 00",
+        1,
+        "wrong 12 size\n",
+    ),
+    // Digits of either case, reserved, flags and what follows the payload are no matter.
+    (
+        b"FfFfFfFf 00000000 fFfFfFfF 0800 AbCd 4D01010300000000 eE",
+        0,
+        "right 4294967295 0 msg 3 -\n",
+    ),
+];
+
+#[test]
+fn worked_frames(rt: HostRuntime) -> Result<(), Fail> {
+    assert_told(&rt, rt.alloc(), &WORKED)
+}
+
 /// Texts that spell bytes or none, whatever the bytes mean.
+const HEXADECIMAL: [Told<'static>; 19] = [
+    (b"", 1, "wrong 0 frame_short\n"),
+    (b" \t\r\n", 1, "wrong 0 frame_short\n"),
+    (b"0", 1, "wrong 1 hex\n"),
+    (b"0\n", 1, "wrong 2 hex\n"),
+    (b"0g", 1, "wrong 1 hex\n"),
+    (b"g", 1, "wrong 0 hex\n"),
+    // A byte that is no digit comes before an odd count, wherever it stands.
+    (b"012x", 1, "wrong 3 hex\n"),
+    (b"0 1 2 \n;", 1, "wrong 7 hex\n"),
+    (b"0x00", 1, "wrong 1 hex\n"),
+    // Blanks stand anywhere, also between the digits of a byte.
+    (b"0 0\t0\r0\n", 1, "wrong 2 frame_short\n"),
+    // The neighbours of the digits.
+    (b"/", 1, "wrong 0 hex\n"),
+    (b":", 1, "wrong 0 hex\n"),
+    (b"@", 1, "wrong 0 hex\n"),
+    (b"G", 1, "wrong 0 hex\n"),
+    (b"`", 1, "wrong 0 hex\n"),
+    (b"\x0b", 1, "wrong 0 hex\n"),
+    (b"\x0c", 1, "wrong 0 hex\n"),
+    (b"00 \x00", 1, "wrong 3 hex\n"),
+    (b"09 af AF", 1, "wrong 3 frame_short\n"),
+];
+
 #[test]
 fn hexadecimal_texts(rt: HostRuntime) -> Result<(), Fail> {
-    let alloc = rt.alloc();
-    let cases = [
-        ("", "wrong 0 frame_short\n"),
-        (" \t\r\n", "wrong 0 frame_short\n"),
-        ("0", "wrong 1 hex\n"),
-        ("0\n", "wrong 2 hex\n"),
-        ("0g", "wrong 1 hex\n"),
-        ("g", "wrong 0 hex\n"),
-        // A byte that is no digit comes before an odd count, wherever it stands.
-        ("012x", "wrong 3 hex\n"),
-        ("0 1 2 \n;", "wrong 7 hex\n"),
-        ("0x00", "wrong 1 hex\n"),
-        // Blanks stand anywhere, also between the digits of a byte.
-        ("0 0\t0\r0\n", "wrong 2 frame_short\n"),
-        // The neighbours of the digits.
-        ("/", "wrong 0 hex\n"),
-        (":", "wrong 0 hex\n"),
-        ("@", "wrong 0 hex\n"),
-        ("G", "wrong 0 hex\n"),
-        ("`", "wrong 0 hex\n"),
-        ("\u{b}", "wrong 0 hex\n"),
-        ("\u{c}", "wrong 0 hex\n"),
-        ("00 \u{0}", "wrong 3 hex\n"),
-        ("09 af AF", "wrong 3 frame_short\n"),
-    ];
-    for (text, line) in cases {
-        let (answer, output) = outcome_of(&rt, alloc, frame(text.as_bytes()))?;
-        assert_eq!(rt; answer, 1);
-        assert_eq!(rt; output.written(), line.as_bytes());
-    }
-    Ok(())
+    assert_told(&rt, rt.alloc(), &HEXADECIMAL)
 }
 
 /// Inputs of the most bytes and of one more. The place of a frame that is too long is the number of its bytes.
@@ -130,62 +140,70 @@ fn limit_of_the_text(rt: HostRuntime) -> Result<(), Fail> {
     ];
     for (byte, length, status, line) in cases {
         let text = Vec::from_elem(alloc, byte, length)?;
-        let (answer, output) = outcome_of(&rt, alloc, frame(&text))?;
-        assert_eq!(rt; answer, status);
-        assert_eq!(rt; output.written(), line.as_bytes());
+        assert_outcome(&rt, alloc, frame(&text), status, line.as_bytes())?;
     }
     Ok(())
 }
 
+/// A frame that is sound, and a text that spells none.
+const RIGHT: Given<'static> = Given {
+    words: FRAME,
+    text: MESSAGE,
+    ..EMPTY
+};
+
+const WRONG: Given<'static> = Given {
+    words: FRAME,
+    text: b"0g",
+    ..EMPTY
+};
+
 /// What a stream that fails leaves: the status, and the first so many bytes of what was due.
+const CUTS: [(Given<'static>, u8, &str); 8] = [
+    (
+        Given {
+            failing_read: 0,
+            ..RIGHT
+        },
+        4,
+        "",
+    ),
+    (
+        Given {
+            failing_read: 1,
+            ..WRONG
+        },
+        4,
+        "",
+    ),
+    (
+        Given {
+            failing_write: 0,
+            ..RIGHT
+        },
+        5,
+        "",
+    ),
+    (
+        Given {
+            failing_write: 11,
+            step: 1,
+            ..WRONG
+        },
+        5,
+        "wrong 1 hex",
+    ),
+    (Given { room: 27, ..RIGHT }, 0, MESSAGE_LINE),
+    (Given { room: 26, ..RIGHT }, 5, "right 1024 1025 msg 1 6869"),
+    (Given { room: 12, ..WRONG }, 1, "wrong 1 hex\n"),
+    (Given { room: 11, ..WRONG }, 5, "wrong 1 hex"),
+];
+
 #[test]
 fn streams_that_fail(rt: HostRuntime) -> Result<(), Fail> {
     let alloc = rt.alloc();
-    let right = frame(MESSAGE.as_bytes());
-    let wrong = frame(b"0g");
-    let cases = [
-        (
-            Given {
-                failing_read: 0,
-                ..right
-            },
-            4,
-            "",
-        ),
-        (
-            Given {
-                failing_read: 1,
-                ..wrong
-            },
-            4,
-            "",
-        ),
-        (
-            Given {
-                failing_write: 0,
-                ..right
-            },
-            5,
-            "",
-        ),
-        (
-            Given {
-                failing_write: 11,
-                step: 1,
-                ..wrong
-            },
-            5,
-            "wrong 1 hex",
-        ),
-        (Given { room: 27, ..right }, 0, MESSAGE_LINE),
-        (Given { room: 26, ..right }, 5, "right 1024 1025 msg 1 6869"),
-        (Given { room: 12, ..wrong }, 1, "wrong 1 hex\n"),
-        (Given { room: 11, ..wrong }, 5, "wrong 1 hex"),
-    ];
-    for (given, status, written) in cases {
-        let (answer, output) = outcome_of(&rt, alloc, given)?;
-        assert_eq!(rt; answer, status);
-        assert_eq!(rt; output.written(), written.as_bytes());
+    for (given, status, written) in &CUTS {
+        assert_outcome(&rt, alloc, *given, *status, written.as_bytes())?;
     }
     Ok(())
 }

@@ -1,6 +1,9 @@
+use crate::tests::assert_outcome;
 use crate::tests::frame::{frame, joined};
-use crate::tests::outcome_of;
+use std::alloc::Global;
+use std::process::Abort;
 use std::test::Fail;
+use std::thread::Threads;
 
 /// A text as pieces, each with how often it stands.
 type Pieces<'a> = &'a [(&'a str, usize)];
@@ -14,354 +17,341 @@ const LONG_PACKET: &str = "00040000 01040000 00000000 f001 0000 4d01070001000000
 /// All before the bytes of a message of 489 bytes.
 const LONGER_MESSAGE: &str = "00040000 01040000 00000000 f101 0000 4d01010200000000";
 
-/// Each letter, and both ends of each range. The first column is the header's length.
+/// The header's length, the payload, and the words of the line behind the first.
+type Payload<'a> = (&'a str, &'a str, &'a str);
+
+/// Asserts the status and the line of each payload: the first words of the line, and then its own.
+fn assert_payloads<'a, T: Threads + Sync + Abort>(
+    rt: &T,
+    alloc: Global,
+    status: u8,
+    first: &'a str,
+    rows: &[Payload<'a>],
+) -> Result<(), Fail> {
+    for (len, payload, words) in rows {
+        let text = joined(
+            alloc,
+            &[
+                ("00040000 01040000 00000000", 1),
+                (*len, 1),
+                ("0000", 1),
+                (*payload, 1),
+            ],
+        )?;
+        let line = joined(alloc, &[(first, 1), (*words, 1), ("\n", 1)])?;
+        assert_outcome(rt, alloc, frame(&text), status, &line)?;
+    }
+    Ok(())
+}
+
+/// Each letter, and both ends of each range.
+const LETTERS: [Payload<'static>; 19] = [
+    ("0800", "4d01 01 00 00000000", "msg 0 -"),
+    ("0900", "4d01 01 03 00000000 ff", "msg 3 ff"),
+    ("0800", "4d01 02 00 01000000", "connect 1 packet"),
+    ("0800", "4d01 02 01 ffffffff", "connect 4294967295 scalar"),
+    ("0800", "4d01 03 00 01020304", "accept 67305985"),
+    ("0800", "4d01 04 01 05000000", "reject 5 no_endpoint"),
+    ("0800", "4d01 04 02 05000000", "reject 5 connected"),
+    ("0800", "4d01 04 03 05000000", "reject 5 busy"),
+    ("0800", "4d01 05 00 06000000", "recv_open 6"),
+    ("0800", "4d01 06 00 07000000", "send_open 7"),
+    ("0800", "4d01 07 00 08000000", "packet 8 -"),
+    ("0b00", "4d01 07 00 08000000 00ff7f", "packet 8 00ff7f"),
+    ("0900", "4d01 08 01 09000000 80", "scalar 9 8 128"),
+    ("0a00", "4d01 08 02 09000000 0102", "scalar 9 16 513"),
+    (
+        "0c00",
+        "4d01 08 04 09000000 78563412",
+        "scalar 9 32 305419896",
+    ),
+    (
+        "1000",
+        "4d01 08 08 ffffffff ffffffffffffffff",
+        "scalar 4294967295 64 18446744073709551615",
+    ),
+    (
+        "1000",
+        "4d01 08 08 01000000 0000000000000000",
+        "scalar 1 64 0",
+    ),
+    ("0800", "4d01 09 00 0a000000", "send_close 10"),
+    ("0800", "4d01 0a 00 0b000000", "recv_close 11"),
+];
+
 #[test]
 fn letters(rt: HostRuntime) -> Result<(), Fail> {
-    let alloc = rt.alloc();
-    let cases = [
-        ("0800", "4d01 01 00 00000000", "msg 0 -"),
-        ("0900", "4d01 01 03 00000000 ff", "msg 3 ff"),
-        ("0800", "4d01 02 00 01000000", "connect 1 packet"),
-        ("0800", "4d01 02 01 ffffffff", "connect 4294967295 scalar"),
-        ("0800", "4d01 03 00 01020304", "accept 67305985"),
-        ("0800", "4d01 04 01 05000000", "reject 5 no_endpoint"),
-        ("0800", "4d01 04 02 05000000", "reject 5 connected"),
-        ("0800", "4d01 04 03 05000000", "reject 5 busy"),
-        ("0800", "4d01 05 00 06000000", "recv_open 6"),
-        ("0800", "4d01 06 00 07000000", "send_open 7"),
-        ("0800", "4d01 07 00 08000000", "packet 8 -"),
-        ("0b00", "4d01 07 00 08000000 00ff7f", "packet 8 00ff7f"),
-        ("0900", "4d01 08 01 09000000 80", "scalar 9 8 128"),
-        ("0a00", "4d01 08 02 09000000 0102", "scalar 9 16 513"),
-        (
-            "0c00",
-            "4d01 08 04 09000000 78563412",
-            "scalar 9 32 305419896",
-        ),
-        (
-            "1000",
-            "4d01 08 08 ffffffff ffffffffffffffff",
-            "scalar 4294967295 64 18446744073709551615",
-        ),
-        (
-            "1000",
-            "4d01 08 08 01000000 0000000000000000",
-            "scalar 1 64 0",
-        ),
-        ("0800", "4d01 09 00 0a000000", "send_close 10"),
-        ("0800", "4d01 0a 00 0b000000", "recv_close 11"),
-    ];
-    for (len, payload, words) in cases {
-        let pieces = [
-            ("00040000 01040000 00000000", 1usize),
-            (len, 1),
-            ("0000", 1),
-            (payload, 1),
-        ];
-        let text = joined(alloc, &pieces)?;
-        let line = joined(alloc, &[("right 1024 1025 ", 1), (words, 1), ("\n", 1)])?;
-        let (answer, output) = outcome_of(&rt, alloc, frame(&text))?;
-        assert_eq!(rt; answer, 0);
-        assert_eq!(rt; output.written(), line.as_slice());
-    }
-    Ok(())
+    assert_payloads(&rt, rt.alloc(), 0, "right 1024 1025 ", &LETTERS)
 }
 
-/// Each fault of a letter, and of two neighbours in the order the first. The first column is the header's length.
+/// Each fault of a letter, and of two neighbours in the order the first.
+const FAULTS_OF_LETTERS: [Payload<'static>; 41] = [
+    ("0700", "00010100 000000", "12 payload_short"),
+    ("0700", "4d010100 00000000", "12 payload_short"),
+    ("0800", "4c020100 00000000", "16 magic"),
+    ("0800", "4d000000 00000000", "17 version"),
+    ("0800", "4d020000 00000000", "17 version"),
+    ("0800", "4d0100ff 00000000", "18 kind"),
+    ("0800", "4d010b00 01000000", "18 kind"),
+    ("0800", "4d01ff00 01000000", "18 kind"),
+    ("0800", "4d010104 01000000", "19 argument"),
+    ("0800", "4d010202 00000000", "19 argument"),
+    ("0800", "4d010301 01000000", "19 argument"),
+    ("0800", "4d010400 01000000", "19 argument"),
+    ("0800", "4d010404 01000000", "19 argument"),
+    ("0800", "4d010501 01000000", "19 argument"),
+    ("0800", "4d010601 01000000", "19 argument"),
+    ("0800", "4d010701 01000000", "19 argument"),
+    ("0800", "4d010800 01000000", "19 argument"),
+    ("0b00", "4d010803 01000000 000000", "19 argument"),
+    ("0800", "4d010901 01000000", "19 argument"),
+    ("0800", "4d010a01 01000000", "19 argument"),
+    ("0800", "4d010100 01000000", "20 channel"),
+    ("0900", "4d010200 00000000 00", "20 channel"),
+    ("0900", "4d010300 00000000 00", "20 channel"),
+    ("0800", "4d010401 00000000", "20 channel"),
+    ("0800", "4d010500 00000000", "20 channel"),
+    ("0800", "4d010600 00000000", "20 channel"),
+    ("0800", "4d010700 00000000", "20 channel"),
+    ("0800", "4d010801 00000000", "20 channel"),
+    ("0800", "4d010900 00000000", "20 channel"),
+    ("0800", "4d010a00 00000000", "20 channel"),
+    ("0900", "4d010200 01000000 00", "12 size"),
+    ("0900", "4d010300 01000000 00", "12 size"),
+    ("0900", "4d010401 01000000 00", "12 size"),
+    ("0900", "4d010500 01000000 00", "12 size"),
+    ("0900", "4d010600 01000000 00", "12 size"),
+    ("0800", "4d010801 01000000", "12 size"),
+    ("0a00", "4d010801 01000000 0000", "12 size"),
+    ("0f00", "4d010808 01000000 00000000000000", "12 size"),
+    ("0900", "4d010900 01000000 00", "12 size"),
+    ("0900", "4d010a00 01000000 00", "12 size"),
+    // The header's length is asked before the payload.
+    ("0900", "00000000 00000000", "12 header_len"),
+];
+
 #[test]
 fn faults_of_letters(rt: HostRuntime) -> Result<(), Fail> {
-    let alloc = rt.alloc();
-    let cases = [
-        ("0700", "00010100 000000", "12 payload_short"),
-        ("0700", "4d010100 00000000", "12 payload_short"),
-        ("0800", "4c020100 00000000", "16 magic"),
-        ("0800", "4d000000 00000000", "17 version"),
-        ("0800", "4d020000 00000000", "17 version"),
-        ("0800", "4d0100ff 00000000", "18 kind"),
-        ("0800", "4d010b00 01000000", "18 kind"),
-        ("0800", "4d01ff00 01000000", "18 kind"),
-        ("0800", "4d010104 01000000", "19 argument"),
-        ("0800", "4d010202 00000000", "19 argument"),
-        ("0800", "4d010301 01000000", "19 argument"),
-        ("0800", "4d010400 01000000", "19 argument"),
-        ("0800", "4d010404 01000000", "19 argument"),
-        ("0800", "4d010501 01000000", "19 argument"),
-        ("0800", "4d010601 01000000", "19 argument"),
-        ("0800", "4d010701 01000000", "19 argument"),
-        ("0800", "4d010800 01000000", "19 argument"),
-        ("0b00", "4d010803 01000000 000000", "19 argument"),
-        ("0800", "4d010901 01000000", "19 argument"),
-        ("0800", "4d010a01 01000000", "19 argument"),
-        ("0800", "4d010100 01000000", "20 channel"),
-        ("0900", "4d010200 00000000 00", "20 channel"),
-        ("0900", "4d010300 00000000 00", "20 channel"),
-        ("0800", "4d010401 00000000", "20 channel"),
-        ("0800", "4d010500 00000000", "20 channel"),
-        ("0800", "4d010600 00000000", "20 channel"),
-        ("0800", "4d010700 00000000", "20 channel"),
-        ("0800", "4d010801 00000000", "20 channel"),
-        ("0800", "4d010900 00000000", "20 channel"),
-        ("0800", "4d010a00 00000000", "20 channel"),
-        ("0900", "4d010200 01000000 00", "12 size"),
-        ("0900", "4d010300 01000000 00", "12 size"),
-        ("0900", "4d010401 01000000 00", "12 size"),
-        ("0900", "4d010500 01000000 00", "12 size"),
-        ("0900", "4d010600 01000000 00", "12 size"),
-        ("0800", "4d010801 01000000", "12 size"),
-        ("0a00", "4d010801 01000000 0000", "12 size"),
-        ("0f00", "4d010808 01000000 00000000000000", "12 size"),
-        ("0900", "4d010900 01000000 00", "12 size"),
-        ("0900", "4d010a00 01000000 00", "12 size"),
-        // The header's length is asked before the payload.
-        ("0900", "00000000 00000000", "12 header_len"),
-    ];
-    for (len, payload, words) in cases {
-        let pieces = [
-            ("00040000 01040000 00000000", 1usize),
-            (len, 1),
-            ("0000", 1),
-            (payload, 1),
-        ];
-        let text = joined(alloc, &pieces)?;
-        let line = joined(alloc, &[("wrong ", 1), (words, 1), ("\n", 1)])?;
-        let (answer, output) = outcome_of(&rt, alloc, frame(&text))?;
-        assert_eq!(rt; answer, 1);
-        assert_eq!(rt; output.written(), line.as_slice());
+    assert_payloads(&rt, rt.alloc(), 1, "wrong ", &FAULTS_OF_LETTERS)
+}
+
+/// An announcement: the header's length, the field of the name, and what follows it; and the status and the line.
+type Announcement<'a> = (&'a str, Pieces<'a>, &'a str, u8, Pieces<'a>);
+
+const ANNOUNCEMENTS: [Announcement<'static>; 20] = [
+    (
+        "2800",
+        &[("61", 1), ("00", 31)],
+        "00040000 00000000",
+        0,
+        &[("right 1024 53 name create a 1024\n", 1)],
+    ),
+    (
+        "2800",
+        &[("61", 30), ("00", 2)],
+        "ffffffff 01000000",
+        0,
+        &[
+            ("right 1024 53 name destroy ", 1),
+            ("a", 30),
+            (" 4294967295\n", 1),
+        ],
+    ),
+    (
+        "2800",
+        &[("61", 31), ("00", 1)],
+        "00000000 00000000",
+        0,
+        &[("right 1024 53 name create ", 1), ("a", 31), (" 0\n", 1)],
+    ),
+    // The last byte of the field is no part of the name.
+    (
+        "2800",
+        &[("61", 32)],
+        "00040000 00000000",
+        0,
+        &[("right 1024 53 name create ", 1), ("a", 31), (" 1024\n", 1)],
+    ),
+    (
+        "2800",
+        &[("61", 31), ("07", 1)],
+        "00040000 00000000",
+        0,
+        &[("right 1024 53 name create ", 1), ("a", 31), (" 1024\n", 1)],
+    ),
+    // What follows the first NUL may be any bytes; so may what follows the payload.
+    (
+        "2800",
+        &[("20417e00", 1), ("1f", 28)],
+        "00040000 01000000 ffff",
+        0,
+        &[("right 1024 53 name destroy  A~ 1024\n", 1)],
+    ),
+    (
+        "2800",
+        &[("00", 32)],
+        "00040000 00000000",
+        1,
+        &[("wrong 16 ns_name\n", 1)],
+    ),
+    (
+        "2800",
+        &[("00", 1), ("61", 31)],
+        "00040000 00000000",
+        1,
+        &[("wrong 16 ns_name\n", 1)],
+    ),
+    (
+        "2800",
+        &[("61", 30), ("1f", 1), ("00", 1)],
+        "00040000 00000000",
+        1,
+        &[("wrong 16 ns_name\n", 1)],
+    ),
+    (
+        "2800",
+        &[("7f", 1), ("00", 31)],
+        "00040000 00000000",
+        1,
+        &[("wrong 16 ns_name\n", 1)],
+    ),
+    (
+        "2800",
+        &[("61", 1), ("00", 31)],
+        "00040000 02000000",
+        1,
+        &[("wrong 52 ns_flags\n", 1)],
+    ),
+    (
+        "2800",
+        &[("61", 1), ("00", 31)],
+        "00040000 00000001",
+        1,
+        &[("wrong 52 ns_flags\n", 1)],
+    ),
+    // Of two faults the first.
+    (
+        "2800",
+        &[("00", 32)],
+        "00040000 02000000",
+        1,
+        &[("wrong 52 ns_flags\n", 1)],
+    ),
+    (
+        "2900",
+        &[("61", 1), ("00", 31)],
+        "00040000 02000000 00",
+        1,
+        &[("wrong 12 ns_size\n", 1)],
+    ),
+    (
+        "2800",
+        &[("00", 32)],
+        "00040000 020000",
+        1,
+        &[("wrong 12 header_len\n", 1)],
+    ),
+    // 39, 40 and 41 bytes.
+    (
+        "2700",
+        &[("61", 1), ("00", 31)],
+        "00040000 000000",
+        1,
+        &[("wrong 12 ns_size\n", 1)],
+    ),
+    (
+        "2700",
+        &[("61", 1), ("00", 31)],
+        "00040000 00000000",
+        1,
+        &[("wrong 12 ns_size\n", 1)],
+    ),
+    (
+        "2900",
+        &[("61", 1), ("00", 31)],
+        "00040000 00000000 00",
+        1,
+        &[("wrong 12 ns_size\n", 1)],
+    ),
+    // A sound letter to the name service, and nothing at all.
+    (
+        "0a00",
+        &[("4d01010100000000", 1)],
+        "6869",
+        1,
+        &[("wrong 12 ns_size\n", 1)],
+    ),
+    ("0000", &[("00", 0)], "", 1, &[("wrong 12 ns_size\n", 1)]),
+];
+
+fn assert_announcements<T: Threads + Sync + Abort>(
+    rt: &T,
+    alloc: Global,
+    rows: &[Announcement<'_>],
+) -> Result<(), Fail> {
+    for (len, name, rest, status, told) in rows {
+        let mut text = joined(
+            alloc,
+            &[("00040000 35000000 00000000", 1), (*len, 1), ("0000", 1)],
+        )?;
+        text.extend_from_slice(&joined(alloc, *name)?)?;
+        text.extend_from_slice(rest.as_bytes())?;
+        let line = joined(alloc, *told)?;
+        assert_outcome(rt, alloc, frame(&text), *status, &line)?;
     }
     Ok(())
 }
 
-/// Announcements: the header's length, the field of the name, and what follows it.
 #[test]
 fn announcements(rt: HostRuntime) -> Result<(), Fail> {
-    let alloc = rt.alloc();
-    let cases: [(&str, Pieces<'_>, &str, u8, Pieces<'_>); 20] = [
-        (
-            "2800",
-            [("61", 1), ("00", 31)].as_slice(),
-            "00040000 00000000",
-            0,
-            [("right 1024 53 name create a 1024\n", 1)].as_slice(),
-        ),
-        (
-            "2800",
-            [("61", 30), ("00", 2)].as_slice(),
-            "ffffffff 01000000",
-            0,
-            [
-                ("right 1024 53 name destroy ", 1),
-                ("a", 30),
-                (" 4294967295\n", 1),
-            ]
-            .as_slice(),
-        ),
-        (
-            "2800",
-            [("61", 31), ("00", 1)].as_slice(),
-            "00000000 00000000",
-            0,
-            [("right 1024 53 name create ", 1), ("a", 31), (" 0\n", 1)].as_slice(),
-        ),
-        // The last byte of the field is no part of the name.
-        (
-            "2800",
-            [("61", 32)].as_slice(),
-            "00040000 00000000",
-            0,
-            [("right 1024 53 name create ", 1), ("a", 31), (" 1024\n", 1)].as_slice(),
-        ),
-        (
-            "2800",
-            [("61", 31), ("07", 1)].as_slice(),
-            "00040000 00000000",
-            0,
-            [("right 1024 53 name create ", 1), ("a", 31), (" 1024\n", 1)].as_slice(),
-        ),
-        // What follows the first NUL may be any bytes; so may what follows the payload.
-        (
-            "2800",
-            [("20417e00", 1), ("1f", 28)].as_slice(),
-            "00040000 01000000 ffff",
-            0,
-            [("right 1024 53 name destroy  A~ 1024\n", 1)].as_slice(),
-        ),
-        (
-            "2800",
-            [("00", 32)].as_slice(),
-            "00040000 00000000",
-            1,
-            [("wrong 16 ns_name\n", 1)].as_slice(),
-        ),
-        (
-            "2800",
-            [("00", 1), ("61", 31)].as_slice(),
-            "00040000 00000000",
-            1,
-            [("wrong 16 ns_name\n", 1)].as_slice(),
-        ),
-        (
-            "2800",
-            [("61", 30), ("1f", 1), ("00", 1)].as_slice(),
-            "00040000 00000000",
-            1,
-            [("wrong 16 ns_name\n", 1)].as_slice(),
-        ),
-        (
-            "2800",
-            [("7f", 1), ("00", 31)].as_slice(),
-            "00040000 00000000",
-            1,
-            [("wrong 16 ns_name\n", 1)].as_slice(),
-        ),
-        (
-            "2800",
-            [("61", 1), ("00", 31)].as_slice(),
-            "00040000 02000000",
-            1,
-            [("wrong 52 ns_flags\n", 1)].as_slice(),
-        ),
-        (
-            "2800",
-            [("61", 1), ("00", 31)].as_slice(),
-            "00040000 00000001",
-            1,
-            [("wrong 52 ns_flags\n", 1)].as_slice(),
-        ),
-        // Of two faults the first.
-        (
-            "2800",
-            [("00", 32)].as_slice(),
-            "00040000 02000000",
-            1,
-            [("wrong 52 ns_flags\n", 1)].as_slice(),
-        ),
-        (
-            "2900",
-            [("61", 1), ("00", 31)].as_slice(),
-            "00040000 02000000 00",
-            1,
-            [("wrong 12 ns_size\n", 1)].as_slice(),
-        ),
-        (
-            "2800",
-            [("00", 32)].as_slice(),
-            "00040000 020000",
-            1,
-            [("wrong 12 header_len\n", 1)].as_slice(),
-        ),
-        // 39, 40 and 41 bytes.
-        (
-            "2700",
-            [("61", 1), ("00", 31)].as_slice(),
-            "00040000 000000",
-            1,
-            [("wrong 12 ns_size\n", 1)].as_slice(),
-        ),
-        (
-            "2700",
-            [("61", 1), ("00", 31)].as_slice(),
-            "00040000 00000000",
-            1,
-            [("wrong 12 ns_size\n", 1)].as_slice(),
-        ),
-        (
-            "2900",
-            [("61", 1), ("00", 31)].as_slice(),
-            "00040000 00000000 00",
-            1,
-            [("wrong 12 ns_size\n", 1)].as_slice(),
-        ),
-        // A sound letter to the name service, and nothing at all.
-        (
-            "0a00",
-            [("4d01010100000000", 1)].as_slice(),
-            "6869",
-            1,
-            [("wrong 12 ns_size\n", 1)].as_slice(),
-        ),
-        (
-            "0000",
-            [("00", 0)].as_slice(),
-            "",
-            1,
-            [("wrong 12 ns_size\n", 1)].as_slice(),
-        ),
-    ];
-    for (len, name, rest, status, told) in cases {
-        let header = [
-            ("00040000 35000000 00000000", 1usize),
-            (len, 1),
-            ("0000", 1),
-        ];
-        let mut text = joined(alloc, &header)?;
-        text.extend_from_slice(&joined(alloc, name)?)?;
-        text.extend_from_slice(rest.as_bytes())?;
-        let line = joined(alloc, told)?;
-        let (answer, output) = outcome_of(&rt, alloc, frame(&text))?;
-        assert_eq!(rt; answer, status);
-        assert_eq!(rt; output.written(), line.as_slice());
-    }
-    Ok(())
+    assert_announcements(&rt, rt.alloc(), &ANNOUNCEMENTS)
 }
 
 /// Frames of the most bytes, and of one more.
+const LONGEST_FRAMES: [(Pieces<'static>, u8, Pieces<'static>); 9] = [
+    (
+        &[(LONG_MESSAGE, 1), ("a5", 488)],
+        0,
+        &[("right 1024 1025 msg 2 ", 1), ("a5", 488), ("\n", 1)],
+    ),
+    (
+        &[(LONG_PACKET, 1), ("00", 488)],
+        0,
+        &[("right 1024 1025 packet 1 ", 1), ("00", 488), ("\n", 1)],
+    ),
+    (
+        &[(LONG_MESSAGE, 1), ("a5", 487)],
+        1,
+        &[("wrong 12 header_len\n", 1)],
+    ),
+    (
+        &[(LONG_MESSAGE, 1), ("a5", 489)],
+        1,
+        &[("wrong 513 frame_long\n", 1)],
+    ),
+    (
+        &[(LONGER_MESSAGE, 1), ("a5", 488)],
+        1,
+        &[("wrong 12 header_len\n", 1)],
+    ),
+    (
+        &[(LONGER_MESSAGE, 1), ("a5", 489)],
+        1,
+        &[("wrong 513 frame_long\n", 1)],
+    ),
+    (&[("00", 512)], 1, &[("wrong 12 payload_short\n", 1)]),
+    (&[("00", 513)], 1, &[("wrong 513 frame_long\n", 1)]),
+    // Too long, and then its header's length.
+    (&[("ff", 513)], 1, &[("wrong 513 frame_long\n", 1)]),
+];
+
 #[test]
 fn longest_frames(rt: HostRuntime) -> Result<(), Fail> {
     let alloc = rt.alloc();
-    let cases: [(Pieces<'_>, u8, Pieces<'_>); 9] = [
-        (
-            [(LONG_MESSAGE, 1), ("a5", 488)].as_slice(),
-            0,
-            [("right 1024 1025 msg 2 ", 1), ("a5", 488), ("\n", 1)].as_slice(),
-        ),
-        (
-            [(LONG_PACKET, 1), ("00", 488)].as_slice(),
-            0,
-            [("right 1024 1025 packet 1 ", 1), ("00", 488), ("\n", 1)].as_slice(),
-        ),
-        (
-            [(LONG_MESSAGE, 1), ("a5", 487)].as_slice(),
-            1,
-            [("wrong 12 header_len\n", 1)].as_slice(),
-        ),
-        (
-            [(LONG_MESSAGE, 1), ("a5", 489)].as_slice(),
-            1,
-            [("wrong 513 frame_long\n", 1)].as_slice(),
-        ),
-        (
-            [(LONGER_MESSAGE, 1), ("a5", 488)].as_slice(),
-            1,
-            [("wrong 12 header_len\n", 1)].as_slice(),
-        ),
-        (
-            [(LONGER_MESSAGE, 1), ("a5", 489)].as_slice(),
-            1,
-            [("wrong 513 frame_long\n", 1)].as_slice(),
-        ),
-        (
-            [("00", 512)].as_slice(),
-            1,
-            [("wrong 12 payload_short\n", 1)].as_slice(),
-        ),
-        (
-            [("00", 513)].as_slice(),
-            1,
-            [("wrong 513 frame_long\n", 1)].as_slice(),
-        ),
-        // Too long, and then its header's length.
-        (
-            [("ff", 513)].as_slice(),
-            1,
-            [("wrong 513 frame_long\n", 1)].as_slice(),
-        ),
-    ];
-    for (pieces, status, told) in cases {
-        let text = joined(alloc, pieces)?;
-        let line = joined(alloc, told)?;
-        let (answer, output) = outcome_of(&rt, alloc, frame(&text))?;
-        assert_eq!(rt; answer, status);
-        assert_eq!(rt; output.written(), line.as_slice());
+    for (pieces, status, told) in &LONGEST_FRAMES {
+        let text = joined(alloc, *pieces)?;
+        let line = joined(alloc, *told)?;
+        assert_outcome(&rt, alloc, frame(&text), *status, &line)?;
     }
     Ok(())
 }

@@ -1,8 +1,10 @@
 //! Requests end to end: texts of scenarios, and what the report tells of their calls.
 
-use super::{MESSAGE, REFUSED, outcome_of, serial};
+use super::{MESSAGE, REFUSED, assert_outcome, outcome_of, serial};
 use std::alloc::{AllocError, Global};
+use std::process::Abort;
 use std::test::Fail;
+use std::thread::Threads;
 
 /// A domain with two endpoints, of which the lines of a case follow.
 const TWO_ENDPOINTS: &[u8] = b"domain 0 nodes 1 pool 4\n0.0 create 1\n0.0 create 2\n";
@@ -237,30 +239,51 @@ fn joined(alloc: Global, first: &[u8], rest: &[u8]) -> Result<Vec<u8>, AllocErro
     Ok(all)
 }
 
+/// Asserts what the report of a case tells.
+fn assert_case<T: Threads + Sync + Abort>(
+    rt: &T,
+    alloc: Global,
+    case: Case<'_>,
+) -> Result<(), Fail> {
+    let text = joined(alloc, TWO_ENDPOINTS, case.lines)?;
+    let due = joined(alloc, TWO_CREATED, case.calls)?;
+    let report = assert_calls(rt, alloc, &text, &due)?;
+    assert!(rt; report.ends_with(case.end));
+    Ok(())
+}
+
+/// Asserts the lines of a report that tell calls, and answers the report.
+fn assert_calls<T: Threads + Sync + Abort>(
+    rt: &T,
+    alloc: Global,
+    text: &[u8],
+    due: &[u8],
+) -> Result<Vec<u8>, Fail> {
+    let (status, output) = outcome_of(rt, alloc, serial(text))?;
+    assert_eq!(rt; status, 0);
+    let calls = calls_in(alloc, output.written())?;
+    assert_eq!(rt; calls.as_slice(), due);
+    Ok(Vec::from_slice(alloc, output.written())?)
+}
+
+const CASES: [Case<'static>; 10] = [
+    BEST_FIRST,
+    CANCELLED_AND_TESTED,
+    NO_BYTES_ASKED,
+    WAITS_BEFORE_A_RECEIVE,
+    OLDEST_IS_SERVED_FIRST,
+    LENT_UNTIL_TESTED,
+    BACK_ONCE_TESTED,
+    REFUSED_REQUEST,
+    SECOND_GETS_IT,
+    PLACE_USED_AGAIN,
+];
+
 #[test]
 fn requests_end_to_end(rt: HostRuntime) -> Result<(), Fail> {
     let alloc = rt.alloc();
-    for case in [
-        BEST_FIRST,
-        CANCELLED_AND_TESTED,
-        NO_BYTES_ASKED,
-        WAITS_BEFORE_A_RECEIVE,
-        OLDEST_IS_SERVED_FIRST,
-        LENT_UNTIL_TESTED,
-        BACK_ONCE_TESTED,
-        REFUSED_REQUEST,
-        SECOND_GETS_IT,
-        PLACE_USED_AGAIN,
-    ] {
-        let text = joined(alloc, TWO_ENDPOINTS, case.lines)?;
-        let (status, output) = outcome_of(&rt, alloc, serial(&text))?;
-        assert_eq!(rt; status, 0);
-        let calls = calls_in(alloc, output.written())?;
-        assert_eq!(rt;
-            calls.as_slice(),
-            joined(alloc, TWO_CREATED, case.calls)?.as_slice()
-        );
-        assert!(rt; output.written().ends_with(case.end));
+    for case in &CASES {
+        assert_case(&rt, alloc, *case)?;
     }
     Ok(())
 }
@@ -287,13 +310,12 @@ fn sizes_of_messages(rt: HostRuntime) -> Result<(), Fail> {
         text.push(b'\n')?;
     }
     text.extend_from_slice(b"0.0 msg_recv 2 488\n")?;
-    let (status, output) = outcome_of(&rt, alloc, serial(&text))?;
-    assert_eq!(rt; status, 0);
-    let calls = calls_in(alloc, output.written())?;
-    assert_eq!(rt;
-        calls.as_slice(),
-        b"call 1 ok 1024\ncall 2 ok 1025\ncall 3 ok\ncall 4 ok\ncall 5 msg_size\ncall 6 ok 0 -\n".as_slice()
-    );
+    assert_calls(
+        &rt,
+        alloc,
+        &text,
+        b"call 1 ok 1024\ncall 2 ok 1025\ncall 3 ok\ncall 4 ok\ncall 5 msg_size\ncall 6 ok 0 -\n",
+    )?;
     Ok(())
 }
 
@@ -331,36 +353,34 @@ call 70 request_limit
 }
 
 /// Lines that are in no scenario: of labels, and of a priority.
+const LINES_OF_NONE: [&[u8]; 14] = [
+    b"0.0 msg_recv_i 1 1\n",
+    b"0.0 r = msg_recv_i 1 1\n0.0 r = msg_recv_i 1 1\n",
+    b"0.0 test r\n0.0 r = msg_recv_i 1 1\n",
+    b"0.0 test r\n",
+    b"0.0 cancel r\n",
+    b"0.0 r = create 3\n",
+    b"0.0 r = msg_recv 1 1\n",
+    b"0.0 r= msg_recv_i 1 1\n",
+    b"0.0 R = msg_recv_i 1 1\n",
+    b"0.0 1r = msg_recv_i 1 1\n",
+    b"0.0 r-r = msg_recv_i 1 1\n",
+    b"0.0 abcdefghijklmnopq = msg_recv_i 1 1\n",
+    b"0.0 r = msg_recv_i 1 9001\n",
+    b"0.0 msg_send 1 0:0:2 4 61\n",
+];
+
+const LONGEST_LABEL: &[u8] =
+    b"0.0 abcdefghijklmn_9 = msg_recv_i 1 9000\n0.0 test abcdefghijklmn_9\n";
+
 #[test]
 fn lines_of_no_scenario(rt: HostRuntime) -> Result<(), Fail> {
     let alloc = rt.alloc();
-    let lines: [&[u8]; 14] = [
-        b"0.0 msg_recv_i 1 1\n",
-        b"0.0 r = msg_recv_i 1 1\n0.0 r = msg_recv_i 1 1\n",
-        b"0.0 test r\n0.0 r = msg_recv_i 1 1\n",
-        b"0.0 test r\n",
-        b"0.0 cancel r\n",
-        b"0.0 r = create 3\n",
-        b"0.0 r = msg_recv 1 1\n",
-        b"0.0 r= msg_recv_i 1 1\n",
-        b"0.0 R = msg_recv_i 1 1\n",
-        b"0.0 1r = msg_recv_i 1 1\n",
-        b"0.0 r-r = msg_recv_i 1 1\n",
-        b"0.0 abcdefghijklmnopq = msg_recv_i 1 1\n",
-        b"0.0 r = msg_recv_i 1 9001\n",
-        b"0.0 msg_send 1 0:0:2 4 61\n",
-    ];
-    for line in lines {
-        let text = joined(alloc, MESSAGE, line)?;
-        let (status, output) = outcome_of(&rt, alloc, serial(&text))?;
-        assert_eq!(rt; status, 3);
-        assert_eq!(rt; output.written(), REFUSED);
+    for line in &LINES_OF_NONE {
+        let text = joined(alloc, MESSAGE, *line)?;
+        assert_outcome(&rt, alloc, serial(&text), 3, REFUSED)?;
     }
-    let text = joined(
-        alloc,
-        MESSAGE,
-        b"0.0 abcdefghijklmn_9 = msg_recv_i 1 9000\n0.0 test abcdefghijklmn_9\n",
-    )?;
+    let text = joined(alloc, MESSAGE, LONGEST_LABEL)?;
     let (status, _) = outcome_of(&rt, alloc, serial(&text))?;
     assert_eq!(rt; status, 0);
     Ok(())
