@@ -1,6 +1,6 @@
 //! The name announcements of the RPMsg name service (`struct rpmsg_ns_msg` of Linux): read with their first fault, and
 //! written in their one spelling. `fault_of` tells the first fault of a whole frame, whatever its payload is to be.
-//! `KnownNames` holds the addresses that were learned of names.
+//! `endpoint_named` reads the full names of endpoints, and `KnownNames` holds the addresses that were learned of names.
 //!
 //! No call takes memory but `KnownNames::new`, and none panics. `mc_base` defines what an announcement is.
 #![tactic(auto)]

@@ -25,22 +25,21 @@ const ROWS: [(&[u8], u32, u8, Fate, Option<u32>); 13] = [
     (b"mcapi:2:0:1", 1030, 1, Fate::UnknownName, None),
 ];
 
-/// What becomes of an announcement where no request waits.
-fn heard(
-    alloc: Global,
-    known: &mut KnownNames,
-    name: &[u8],
-    addr: u32,
-    flags: u8,
-) -> Result<Fate, NoMemory> {
+/// The payload of an announcement.
+fn payload(name: &[u8], addr: u32, flags: u8) -> [u8; 40] {
     let mut payload = [0; 40];
     for (to, b) in payload.iter_mut().zip(name) {
         *to = *b;
     }
     LittleEndian::write_u32(&mut payload[32..], addr);
     payload[36] = flags;
+    payload
+}
+
+/// What becomes of an announcement where no request waits.
+fn heard(alloc: Global, known: &mut KnownNames, payload: &[u8]) -> Result<Fate, NoMemory> {
     let mut requests = RequestSet::new(alloc)?;
-    Ok(take_announcement(known, &mut requests, 2, &payload))
+    Ok(take_announcement(known, &mut requests, 2, payload))
 }
 
 fn name(node: u8, port: u16) -> EndName {
@@ -55,8 +54,9 @@ fn name(node: u8, port: u16) -> EndName {
 fn announcements_are_heard(rt: HostRuntime) -> Result<(), Fail> {
     let mut known = KnownNames::new(rt.alloc())?;
     for (text, addr, flags, fate, found) in ROWS {
+        let told = payload(text, addr, flags);
         assert_eq!(rt;
-            heard(rt.alloc(), &mut known, text, addr, flags)?,
+            heard(rt.alloc(), &mut known, &told)?,
             fate,
             "{text:?} {flags}"
         );
@@ -66,10 +66,10 @@ fn announcements_are_heard(rt: HostRuntime) -> Result<(), Fail> {
     for port in 0..63 {
         known.learn(name(1, port), 2000)?;
     }
-    let fate = heard(rt.alloc(), &mut known, b"mcapi:2:0:1", 1040, 0)?;
+    let fate = heard(rt.alloc(), &mut known, &payload(b"mcapi:2:0:1", 1040, 0))?;
     assert_eq!(rt; fate, Fate::NamesFull);
     assert_eq!(rt; known.find(name(0, 1)), None);
-    let fate = heard(rt.alloc(), &mut known, b"mcapi:2:0:2", 1041, 0)?;
+    let fate = heard(rt.alloc(), &mut known, &payload(b"mcapi:2:0:2", 1041, 0))?;
     assert_eq!(rt; fate, Fate::Acted);
     assert_eq!(rt; known.find(name(0, 2)), Some(1041));
     Ok(())
