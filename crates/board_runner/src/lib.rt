@@ -16,5 +16,5 @@ mod serial;
 mod tests;
 
 pub use outcome::Outcome;
-pub use report::{fault_word, write_report};
+pub use report::{fault_word, reason_word, write_report};
 pub use serial::run_serial;

@@ -18,7 +18,7 @@ use domain_core::Journal;
 use entry::put_entry;
 use outer_io::{Failed, Sink, Writer};
 use scenario_lang::put_scenario;
-pub use words::fault_word;
+pub use words::{fault_word, reason_word};
 
 /// Writes the report: the scenario, the journal of each domain, and what became of messages and buffers. It goes to the
 /// sink piece by piece and takes no memory. The outcome has one journal for each domain of the scenario. `Failed` comes

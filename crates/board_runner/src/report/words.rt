@@ -44,7 +44,7 @@ pub fn refusal_word(word: Refusal) -> &'static [u8]
     }
 }
 
-/// Why a connection was rejected.
+/// The word for why a connection was rejected.
 pub fn reason_word(reason: Reason) -> &'static [u8]
     ensures { result.now ≡ reason_text reason }
 {

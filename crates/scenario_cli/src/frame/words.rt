@@ -8,11 +8,12 @@ ghost use Rattle.outer_io.specs.Faults.{HasCause};
 ghost use Rattle.outer_io.specs.Puts.{Puts};
 ghost use Rattle.outer_io.specs.Writes.{Writes};
 ghost use Rattle.board_model.specs.Grammar.{spaced};
-ghost use Rattle.scenario_cli.specs.FrameText.{kind_text, reason_text, letter_words, announcement_words, right_line, wrong_line};
+ghost use Rattle.scenario_cli.specs.FrameText.{kind_text, letter_words, announcement_words, right_line, wrong_line};
 ghost use Rattle.scenario_cli.specs.Content.{content_line};
 
 use crate::frame::content::Content;
-use mc_base::{Bits, Kind, Letter, NAME_SERVICE_ADDRESS, Ns, Reason};
+use board_runner::reason_word;
+use mc_base::{Bits, Kind, Letter, NAME_SERVICE_ADDRESS, Ns};
 use outer_io::{Failed, Sink, Writer};
 
 /// Writes the line of a sound frame.
@@ -175,16 +176,6 @@ fn kind_word(kind: Kind) -> &'static [u8]
     match kind {
         Kind::Packet => b"packet",
         Kind::Scalar => b"scalar",
-    }
-}
-
-fn reason_word(reason: Reason) -> &'static [u8]
-    ensures { result.now ≡ reason_text reason }
-{
-    match reason {
-        Reason::NoEndpoint => b"no_endpoint",
-        Reason::Connected => b"connected",
-        Reason::Busy => b"busy",
     }
 }
 
