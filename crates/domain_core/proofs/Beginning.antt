@@ -21,7 +21,7 @@ use Rattle.request_set.specs.declared.ask.Complete.TheVariants as complete
 use Rattle.request_set.specs.Requests.{Requests, Standing, completed, is_id, keys, with_complete, with_request}
 use Rattle.domain_core.specs.Table.{Table}
 use Rattle.domain_core.specs.Records.{Records, waiting_in, with_best_taken_at}
-use Rattle.domain_core.specs.Pool.{Pool}
+use Rattle.domain_core.specs.Out.{Out}
 use Rattle.domain_core.specs.InBook.{asked_in, endpoints_in, item_at, item_in, outcome_in, request_in, requests_in, table_in}
 use Rattle.domain_core.specs.InRequests.{AreReceives, IsReceive, handed_slots}
 use Rattle.domain_core.specs.InPlaces.{AreInPlaces, is_same, one_if}
@@ -84,7 +84,7 @@ abbrev pub with_outcome : Book → Records → Requests → ℕ → Ask → Opti
 with_outcome b r q i a o = record (table_in b r q) { held = record { endpoints = changed_at received i (endpoints_in b r.endpoints); requests = requests_in b q.standing ++ record { serial = q.given; asked = asked_in a; outcome = option_map state.has_item o } ∷ [] }; requests_given = (q.given + 1) % 2 ^ 64 }
 
 -- nothing was handed
-pub pending-places : (r : Records) (q : Requests) (b : Book) (p : Pool) (id : RequestId) (a : Ask) → AreInPlaces r q b p → AreInPlaces r (with_last q id a None) b p
+pub pending-places : (r : Records) (q : Requests) (b : Book) (p : Out) (id : RequestId) (a : Ask) → AreInPlaces r q b p → AreInPlaces r (with_last q id a None) b p
 pending-places r q b p id a places =
     let new = new_standing id a None in
     let hs = handed_slots (q.standing ++ new ∷ []) in
@@ -92,7 +92,7 @@ pending-places r q b p id a places =
     cancelled-places r q (with_last q id a None) b p (λ t. same (λ (x : Slot). is_same x t)) (sym (count-every hs) ∙ same (λ (x : Slot). true) ∙ count-every (handed_slots q.standing)) places
 
 -- the best message goes to the request
-module _ (r : Records) (q : Requests) (b : Book) (p : Pool) (i : ℕ) (slot : Slot) (priority max : ℕ) (id : RequestId) (at : Local) (places : AreInPlaces r q b p) (is : best (λ (x : Waiting). x.priority) (waiting_in (slice_get r.endpoints i)) ≡ Some (waiting slot priority)) where
+module _ (r : Records) (q : Requests) (b : Book) (p : Out) (i : ℕ) (slot : Slot) (priority max : ℕ) (id : RequestId) (at : Local) (places : AreInPlaces r q b p) (is : best (λ (x : Waiting). x.priority) (waiting_in (slice_get r.endpoints i)) ≡ Some (waiting slot priority)) where
   abbrev new : Standing
   new = new_standing id (ask.Message at max) (Some (complete.Message slot max))
 

@@ -16,7 +16,7 @@ use Rattle.request_set.specs.declared.ask.Complete.TheVariants as complete
 use Rattle.request_set.specs.Requests.{Requests}
 use Rattle.domain_core.specs.declared.requests.Waiters.TheVariants as waiters
 use Rattle.domain_core.specs.Records.{Records, new_record, with_record}
-use Rattle.domain_core.specs.Pool.{Pool}
+use Rattle.domain_core.specs.Out.{Out}
 use Rattle.domain_core.specs.InBook.{asked_in, endpoint_in, endpoints_in, outcome_in, request_in, requests_in, table_in}
 use Rattle.domain_core.specs.InRequests.{completed_with, handed_slots, slots_in, with_all_complete}
 use Rattle.domain_core.specs.InPlaces.{AreInPlaces, is_same}
@@ -40,7 +40,7 @@ created-table b r q n at address is =
     ∙ ap (λ (rs : List state.Request). record t { held = record { endpoints = endpoints_in b r.endpoints ++ endpoint_in b new ∷ []; requests = rs }; given = r.given + 1 }) (requests-found b (end_name n at) (1024 + r.given) q.standing)
 
 -- a request more that holds nothing
-pub asked-places : (r : Records) (q : Requests) (b : Book) (p : Pool) (id : RequestId) (a : Ask) (o : Option Complete) → slots_in o ≡ [] → AreInPlaces r q b p → AreInPlaces r (with_last q id a o) b p
+pub asked-places : (r : Records) (q : Requests) (b : Book) (p : Out) (id : RequestId) (a : Ask) (o : Option Complete) → slots_in o ≡ [] → AreInPlaces r q b p → AreInPlaces r (with_last q id a o) b p
 asked-places r q b p id a o none places =
     let new = new_standing id a o in
     let hs = handed_slots (q.standing ++ new ∷ []) in

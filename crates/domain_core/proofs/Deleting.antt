@@ -17,7 +17,7 @@ use Rattle.request_set.specs.declared.ask.Complete.TheVariants as complete
 use Rattle.request_set.specs.Requests.{Requests}
 use Rattle.domain_core.specs.declared.endpoints.Endpoint.{Endpoint}
 use Rattle.domain_core.specs.Records.{Records, all_waiting, waiting_in, with_oldest_taken, with_oldest_taken_at, without_record_at}
-use Rattle.domain_core.specs.Pool.{Pool, numbers_on}
+use Rattle.domain_core.specs.Out.{Out}
 use Rattle.domain_core.specs.InBook.{endpoint_in, endpoints_in, item_in, requests_in, table_in}
 use Rattle.domain_core.specs.InRequests.{completed_with, handed_slots, with_all_complete}
 use Rattle.domain_core.specs.declared.requests.Waiters.TheVariants as waiters
@@ -127,13 +127,12 @@ deleted-table b b0 r q i k at same =
     ∙ ap (λ (x : Table). with_held t (record { endpoints = without_at i x.held.endpoints; requests = map (ended_by_word EndpInvalid at) x.held.requests })) same
     ∙ ap (λ (es : List state.Endpoint). with_held t (record { endpoints = es; requests = map (ended_by_word EndpInvalid at) (requests_in b0 q.standing) })) (sym (endpoints-without b0 i rk.endpoints) ∙ ap (endpoints_in b0) (gone-removed k i r.endpoints) ∙ endpoints-without b0 i r.endpoints)
 
-pub same-places : (r r' : Records) (q q' : Requests) (b : Book) (p : Pool) → r.number ≡ r'.number → all_waiting r'.endpoints ≡ all_waiting r.endpoints → handed_slots q'.standing ≡ handed_slots q.standing → AreInPlaces r q b p → AreInPlaces r' q' b p
+pub same-places : (r r' : Records) (q q' : Requests) (b : Book) (p : Out) → r.number ≡ r'.number → all_waiting r'.endpoints ≡ all_waiting r.endpoints → handed_slots q'.standing ≡ handed_slots q.standing → AreInPlaces r q b p → AreInPlaces r' q' b p
 same-places r r' q q' b p number waits hands places =
     let ss = handed_slots q'.standing in
-    let ns = numbers_on p in
     record {
-      each = subst (λ (n : ℕ). EachInPlace n p.size (slots (all_waiting r'.endpoints) ++ ss) b ns) number
-          (subst (λ (ws : List Waiting). EachInPlace r.number p.size (slots ws ++ ss) b ns) (sym waits)
-          (subst (λ (ts : List Slot). EachInPlace r.number p.size (slots (all_waiting r.endpoints) ++ ts) b ns) (sym hands) places.each));
+      each = subst (λ (n : ℕ). EachInPlace n p (slots (all_waiting r'.endpoints) ++ ss) b []) number
+          (subst (λ (ws : List Waiting). EachInPlace r.number p (slots ws ++ ss) b []) (sym waits)
+          (subst (λ (ts : List Slot). EachInPlace r.number p (slots (all_waiting r.endpoints) ++ ts) b []) (sym hands) places.each));
       priorities = ap (count_by (is_misplaced b)) waits ∙ places.priorities;
     }

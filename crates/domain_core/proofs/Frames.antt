@@ -108,7 +108,7 @@ row_by-other s o p at k w i e1 e2 e3 = ap (λ (x : Option Fault). row_by s x p k
 -- ---- verdicts
 
 pub returned : (peer : ℕ) (h : Held) (frame : List ℕ) (f : Fate) → row_for (keeping h) peer frame ≡ Some (row true f (keeping h)) → keeps_buffer f ≡ false → IsReturned peer h frame f
-returned peer h frame f e back = record { word = ap word_of e; leaves = ap (λ (r : Option Row). held_in (left_by (keeping h) r)) e; returned = back }
+returned peer h frame f e back = record { word = λ letter. ap word_of e; leaves = λ letter. ap (λ (r : Option Row). held_in (left_by (keeping h) r)) e; returned = back }
 
 pub returned-faulty : (peer : ℕ) (h : Held) (frame : List ℕ) (f : Fault) (w : Fate) → fault frame ≡ Some f → w ≡ fault_word f → keeps_buffer w ≡ false → IsReturned peer h frame w
 returned-faulty peer h frame f w e is back =

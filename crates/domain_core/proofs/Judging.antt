@@ -1,9 +1,11 @@
 -- Whether a receive waits for the message of a frame.
-use Rattle.std.proofs.Common.{◌≡◌, ℕ, true, Option, Some, None, refl, sym, ap, ◌∙◌}
-use Rattle.std.specs.Prelude.{find, is_none, is_some, option_and_then, option_map, position, slice_get}
+use Rattle.std.proofs.Common.{◌≡◌, ℕ, true, List, Option, Some, None, refl, sym, ap, ◌∙◌, ne_eqb}
+use Rattle.std.specs.Prelude.{◌==◌, not, find, is_none, is_some, option_and_then, option_map, position, slice_get}
 use Rattle.std.proofs.lemmas.Option.{slice_get-map}
 use Rattle.mc_base.specs.declared.name.Local.{Local}
 use Rattle.mc_base.specs.declared.request.RequestId.{RequestId}
+use Rattle.mc_base.specs.Frame.{destination_of}
+use Rattle.board_model.specs.Dealing.{is_letter}
 use Rattle.board_model.specs.State as state
 use Rattle.board_model.specs.State.{place_of_address, place_of_waiting, place_waiting_for}
 use Rattle.board_model.proofs.MessageLists.{some-position}
@@ -15,6 +17,10 @@ use Rattle.domain_core.specs.Records.{Records}
 use Rattle.domain_core.specs.InBook.{endpoint_in, endpoints_in, held_by}
 use Rattle.domain_core.specs.InRequests.{AreReceives}
 use Rattle.domain_core.proofs.Receives.{found-place, none-position, waiting-place}
+
+-- a frame to any other address is a letter
+pub letter-by : (frame : List ℕ) (dst : ℕ) → dst ≡ destination_of frame → (dst ≡ 53 → ⊥) → is_letter frame ≡ true
+letter-by frame dst is other = ap (λ (d : ℕ). not (d == 53)) (sym is) ∙ ap not (ne_eqb dst 53 other)
 
 some-place : (o : Option ℕ) → is_some o ≡ true → (i : ℕ) × (o ≡ Some i)
 some-place None e = absurd cc

@@ -3,7 +3,8 @@ pub mod Books
 pub mod Placed
 pub mod Slots
 pub mod Strangers
-pub mod Pools
+pub mod Outs
+pub mod OwnLane
 pub mod Opening
 pub mod Waits
 pub mod Queuing
@@ -14,6 +15,7 @@ pub mod Frames
 pub mod Judging
 pub mod Taking
 pub mod Turning
+pub mod Visiting
 pub mod Calling
 pub mod Completing
 pub mod Ending

@@ -1,5 +1,5 @@
 -- A buffer that is queued or received: the table of endpoints after it, and the places.
-use Rattle.std.proofs.Common.{◌≡◌, ℕ, ◌+◌, ◌-◌, ◌<◌, ◌≤◌, Bool, true, false, List, ◌++◌, length, map, Option, None, Some, refl, sym, ap, ◌∙◌, subst, arith, take, drop, eq-eqb}
+use Rattle.std.proofs.Common.{◌≡◌, ℕ, ◌+◌, ◌-◌, ◌<◌, ◌≤◌, Bool, true, false, List, [], ◌++◌, length, map, Option, None, Some, refl, sym, ap, ◌∙◌, subst, arith, take, drop, eq-eqb}
 use Rattle.std.specs.Prelude.{count_by, not, option_map, position, slice_get, slice_index, ◌==◌}
 use Rattle.std.proofs.lemmas.Bool.{eqb-true}
 use Rattle.std.proofs.lemmas.List.{drop-take, get_or-take, length-take, take-take}
@@ -25,14 +25,14 @@ use Rattle.request_set.specs.Requests.{IsPending, Requests, Standing, is_id, req
 use Rattle.domain_core.specs.declared.endpoints.Endpoint.{Endpoint}
 use Rattle.domain_core.specs.Table.{Held, with_held, with_received_at}
 use Rattle.domain_core.specs.Records.{Records, all_waiting, waiting_in, with_best_taken, with_best_taken_at, with_waiting, with_waiting_at}
-use Rattle.domain_core.specs.Pool.{Pool, numbers_on, with_given_back}
+use Rattle.domain_core.specs.Out.{Out, with_one_back}
 use Rattle.domain_core.specs.InBook.{content_in, endpoints_in, held_by, item_at, item_in, priority_in, request_in, requests_in, source_in, table_in}
 use Rattle.domain_core.specs.InRequests.{AreReceives, handed_slots}
 use Rattle.domain_core.specs.InPlaces.{AreInPlaces, AreInPlacesBut, is_misplaced, is_same, one_if, own_slot, slots_of, times_in, times_waiting}
 use Rattle.domain_core.specs.Dealt.{message, message_in}
 use Rattle.domain_core.proofs.Handed.{requests-stay}
 use Rattle.domain_core.proofs.Placed.{enqueued, is-queued, none-left, none-waits, other-slots, queued-here, withdrawn}
-use Rattle.domain_core.proofs.Pools.{placed-given}
+use Rattle.domain_core.proofs.Outs.{placed-given}
 use Rattle.domain_core.proofs.Receives.{complete-at, complete_now, each-complete, handed-more, ids-stay, keys-stay, length-stays, map-changed}
 use Rattle.domain_core.proofs.Slots.{length-all, misplaced-stay, slots, times-all}
 use Rattle.domain_core.proofs.Waits.{endpoints-less, endpoints-more, endpoints-stay, length-less, length-more, waiting-less, waiting-more}
@@ -62,7 +62,7 @@ matched : (n m : ℕ) → n ≡ m → one_if (not (n == m)) ≡ 0
 matched n m same = ap (λ (b : Bool). one_if (not b)) (eq-eqb n m same)
 
 -- a buffer of the lane is put into the book
-module _ (r : Records) (q : Requests) (b b' : Book) (p : Pool) (peer : ℕ) (s : Slot) (buffer : Stored) (size len : ℕ)
+module _ (r : Records) (q : Requests) (b b' : Book) (p : Out) (peer : ℕ) (s : Slot) (buffer : Stored) (size len : ℕ)
     (places : AreInPlacesBut buffer.number r q b p) (own : peer ≡ r.number) (at : s ≡ own_slot peer buffer.number)
     (book : b' ≡ with_queued b s (queued_in buffer 24 size)) (size_fits : size ≤ 488) (fits : 24 + size ≤ length (take len buffer.bytes)) where
   abbrev s' : Slot
@@ -85,7 +85,7 @@ module _ (r : Records) (q : Requests) (b b' : Book) (p : Pool) (peer : ℕ) (s :
 
   -- it stands nowhere yet
   none : times_in s' (slots_of r q) ≡ 0
-  none = none-waits r.number p.size (slots_of r q) b buffer.number (numbers_on p) places.each
+  none = none-waits r.number p (slots_of r q) b buffer.number [] places.each
 
   none-waiting : times_waiting s' ws ≡ 0
   none-waiting = omega (arith, none, times-all s' ws hs)
@@ -94,7 +94,7 @@ module _ (r : Records) (q : Requests) (b b' : Book) (p : Pool) (peer : ℕ) (s :
   none-handed = omega (arith, none, times-all s' ws hs)
 
   here : queued_at (with_queued b s' k) s' ≡ Some k
-  here = queued-here r.number p.size (slots_of r q) b buffer.number (numbers_on p) buffer 24 size places.each
+  here = queued-here r.number p (slots_of r q) b buffer.number [] buffer 24 size places.each
 
   -- what was there stays
   stay : held_by (with_queued b s' k) r q ≡ held_by b r q
@@ -127,7 +127,7 @@ module _ (r : Records) (q : Requests) (b b' : Book) (p : Pool) (peer : ℕ) (s :
         let vs = all_waiting (changed_at (with_waiting w) i r.endpoints) in
         let b'' = with_queued b s' k in
         let long = length-more w r.endpoints i lt in
-        let each = enqueued r.number p.size (slots_of r q) (slots vs ++ hs) b buffer.number (numbers_on p) buffer 24 size places.each size_fits
+        let each = enqueued r.number p (slots_of r q) (slots vs ++ hs) b buffer.number [] buffer 24 size places.each size_fits
         (λ t. let more = waiting-more (λ (x : Waiting). is_same x.slot t) w r.endpoints i lt in omega (arith, more, times-all t vs hs, times-all t ws hs))
         (omega (arith, long, length-all vs hs, length-all ws hs)) in
         let matches : one_if (is_misplaced b'' w) ≡ 0 = ap (λ (o : Option Kept). one_if (not (priority == priority_in o))) here ∙ matched priority (slice_index buffer.bytes 19) priority-is in
@@ -160,7 +160,7 @@ module _ (r : Records) (q : Requests) (b b' : Book) (p : Pool) (peer : ℕ) (s :
         let gs = handed_slots q''.standing in
         let b'' = with_queued b s' k in
         let long : length gs ≡ length hs + 1 = sym (count-every gs) ∙ handed-more (λ (x : Slot). true) id s' max q.standing receives.differ pending ∙ ap (λ (n : ℕ). n + 1) (count-every hs) in
-        let each = enqueued r.number p.size (slots_of r q) (slots ws ++ gs) b buffer.number (numbers_on p) buffer 24 size places.each size_fits
+        let each = enqueued r.number p (slots_of r q) (slots ws ++ gs) b buffer.number [] buffer 24 size places.each size_fits
         (λ t. let more = handed-more (λ (x : Slot). is_same x t) id s' max q.standing receives.differ pending in omega (arith, more, times-all t ws gs, times-all t ws hs))
         (omega (arith, long, length-all ws gs, length-all ws hs)) in
         let placed : AreInPlaces r q'' b'' p = record { each = each; priorities = misplaced-stay b s' (Some k) ws none-waiting ∙ places.priorities } in
@@ -192,7 +192,7 @@ module _ (r : Records) (q : Requests) (b b' : Book) (p : Pool) (peer : ℕ) (s :
 
 -- ---- a message is received
 
-module _ (r : Records) (q : Requests) (b : Book) (p : Pool) (i : ℕ) (w : Waiting) (places : AreInPlaces r q b p) (is : best (λ (x : Waiting). x.priority) (waiting_in (slice_get r.endpoints i)) ≡ Some w) where
+module _ (r : Records) (q : Requests) (b : Book) (p : Out) (i : ℕ) (w : Waiting) (places : AreInPlaces r q b p) (is : best (λ (x : Waiting). x.priority) (waiting_in (slice_get r.endpoints i)) ≡ Some w) where
   abbrev ws2 : List Waiting
   ws2 = all_waiting r.endpoints
 
@@ -210,7 +210,7 @@ module _ (r : Records) (q : Requests) (b : Book) (p : Pool) (i : ℕ) (w : Waiti
 
   -- it was in a queue of the book, with the priority of its frame
   pub received-queued : IsQueued b w.slot
-  received-queued = is-queued r.number p.size (slots ws2 ++ hs2) (slots vs2 ++ hs2) b (numbers_on p) w.slot places.each (less w.slot)
+  received-queued = is-queued r.number p (slots ws2 ++ hs2) (slots vs2 ++ hs2) b [] w.slot places.each (less w.slot)
 
   rest-priorities : count_by (is_misplaced b) vs2 ≡ 0
   rest-priorities = let l = waiting-less (is_misplaced b) w r.endpoints i is in let all = places.priorities in omega (arith, l, all)
@@ -225,7 +225,7 @@ module _ (r : Records) (q : Requests) (b : Book) (p : Pool) (i : ℕ) (w : Waiti
       matches false e = absurd (omega (arith, e))
 
   none-left-there : times_in w.slot (slots vs2 ++ hs2) ≡ 0
-  none-left-there = none-left r.number p.size (slots ws2 ++ hs2) (slots vs2 ++ hs2) b (numbers_on p) w.slot places.each received-queued (less w.slot)
+  none-left-there = none-left r.number p (slots ws2 ++ hs2) (slots vs2 ++ hs2) b [] w.slot places.each received-queued (less w.slot)
 
   left-waiting : times_waiting w.slot vs2 ≡ 0
   left-waiting = omega (arith, none-left-there, times-all w.slot vs2 hs2)
@@ -233,13 +233,14 @@ module _ (r : Records) (q : Requests) (b : Book) (p : Pool) (i : ℕ) (w : Waiti
   left-handed : times_in w.slot hs2 ≡ 0
   left-handed = omega (arith, none-left-there, times-all w.slot vs2 hs2)
 
-  pub received-places : AreInPlaces (with_best_taken_at r i) q (with_away b w.slot) (with_given_back p w.slot.buffer)
-  received-places =
-      let out : AreInPlacesBut w.slot.buffer (with_best_taken_at r i) q (with_away b w.slot) p = record {
-        each = withdrawn r.number p.size (slots ws2 ++ hs2) (slots vs2 ++ hs2) b (numbers_on p) w.slot places.each received-queued less shorter;
-        priorities = misplaced-stay b w.slot None vs2 left-waiting ∙ rest-priorities;
-      } in
-      placed-given (with_best_taken_at r i) q (with_away b w.slot) p w.slot.buffer out
+  pub received-beside : AreInPlacesBut w.slot.buffer (with_best_taken_at r i) q (with_away b w.slot) p
+  received-beside = record {
+    each = withdrawn r.number p (slots ws2 ++ hs2) (slots vs2 ++ hs2) b [] w.slot places.each received-queued less shorter;
+    priorities = misplaced-stay b w.slot None vs2 left-waiting ∙ rest-priorities;
+  }
+
+  pub received-places : AreInPlaces (with_best_taken_at r i) q (with_away b w.slot) (with_one_back p w.slot.buffer)
+  received-places = placed-given (with_best_taken_at r i) q (with_away b w.slot) p w.slot.buffer received-beside
 
   pub received-table : table_in (with_away b w.slot) (with_best_taken_at r i) q ≡ with_received_at (table_in b r q) i
   received-table =
@@ -252,7 +253,7 @@ module _ (r : Records) (q : Requests) (b : Book) (p : Pool) (i : ℕ) (w : Waiti
   moved-places q' more long =
       let gs = handed_slots q'.standing in
       record {
-        each = other-slots r.number p.size (slots ws2 ++ hs2) (slots vs2 ++ gs) b (numbers_on p)
+        each = other-slots r.number p (slots ws2 ++ hs2) (slots vs2 ++ gs) b []
             (λ t. let l = less t in let m = more t in omega (arith, l, m, times-all t vs2 gs, times-all t vs2 hs2))
             (omega (arith, shorter, long, length-all vs2 gs, length-all vs2 hs2)) places.each;
         priorities = rest-priorities;
@@ -260,7 +261,7 @@ module _ (r : Records) (q : Requests) (b : Book) (p : Pool) (i : ℕ) (w : Waiti
 
 -- ---- a message is taken out of its queue, wherever it stands
 
-module _ (r : Records) (q : Requests) (b : Book) (p : Pool) (es : List Endpoint) (w : Waiting) (places : AreInPlaces r q b p)
+module _ (r : Records) (q : Requests) (b : Book) (p : Out) (es : List Endpoint) (w : Waiting) (places : AreInPlaces r q b p)
     (one-less : (test : Waiting → Bool) → count_by test (all_waiting es) + one_if (test w) ≡ count_by test (all_waiting r.endpoints)) where
   abbrev ws4 : List Waiting
   ws4 = all_waiting r.endpoints
@@ -278,10 +279,10 @@ module _ (r : Records) (q : Requests) (b : Book) (p : Pool) (es : List Endpoint)
   shorter4 = let l = one-less (λ (x : Waiting). true) in omega (arith, l, count-every vs4, count-every ws4, length-all vs4 hs4, length-all ws4 hs4)
 
   pub out-queued : IsQueued b w.slot
-  out-queued = is-queued r.number p.size (slots ws4 ++ hs4) (slots vs4 ++ hs4) b (numbers_on p) w.slot places.each (less4 w.slot)
+  out-queued = is-queued r.number p (slots ws4 ++ hs4) (slots vs4 ++ hs4) b [] w.slot places.each (less4 w.slot)
 
   none-left4 : times_in w.slot (slots vs4 ++ hs4) ≡ 0
-  none-left4 = none-left r.number p.size (slots ws4 ++ hs4) (slots vs4 ++ hs4) b (numbers_on p) w.slot places.each out-queued (less4 w.slot)
+  none-left4 = none-left r.number p (slots ws4 ++ hs4) (slots vs4 ++ hs4) b [] w.slot places.each out-queued (less4 w.slot)
 
   pub out-waiting : times_waiting w.slot vs4 ≡ 0
   out-waiting = omega (arith, none-left4, times-all w.slot vs4 hs4)
@@ -294,11 +295,11 @@ module _ (r : Records) (q : Requests) (b : Book) (p : Pool) (es : List Endpoint)
       let l = one-less (is_misplaced b) in
       let all = places.priorities in
       record {
-        each = withdrawn r.number p.size (slots ws4 ++ hs4) (slots vs4 ++ hs4) b (numbers_on p) w.slot places.each out-queued less4 shorter4;
+        each = withdrawn r.number p (slots ws4 ++ hs4) (slots vs4 ++ hs4) b [] w.slot places.each out-queued less4 shorter4;
         priorities = misplaced-stay b w.slot None vs4 out-waiting ∙ omega (arith, l, all);
       }
 
-  pub out-places : AreInPlaces (record r { endpoints = es }) q (with_away b w.slot) (with_given_back p w.slot.buffer)
+  pub out-places : AreInPlaces (record r { endpoints = es }) q (with_away b w.slot) (with_one_back p w.slot.buffer)
   out-places = placed-given (record r { endpoints = es }) q (with_away b w.slot) p w.slot.buffer out-places_but
 
   pub out-table : table_in (with_away b w.slot) (record r { endpoints = es }) q ≡ table_in b (record r { endpoints = es }) q
@@ -308,7 +309,7 @@ module _ (r : Records) (q : Requests) (b : Book) (p : Pool) (es : List Endpoint)
 
 -- ---- what a request held is given back
 
-module _ (r : Records) (q q' : Requests) (b : Book) (p : Pool) (s : Slot) (places : AreInPlaces r q b p)
+module _ (r : Records) (q q' : Requests) (b : Book) (p : Out) (s : Slot) (places : AreInPlaces r q b p)
     (fewer : (t : Slot) → times_in t (handed_slots q'.standing) + one_if (is_same s t) ≡ times_in t (handed_slots q.standing)) (long : length (handed_slots q'.standing) + 1 ≡ length (handed_slots q.standing)) where
   abbrev ws3 : List Waiting
   ws3 = all_waiting r.endpoints
@@ -320,10 +321,10 @@ module _ (r : Records) (q q' : Requests) (b : Book) (p : Pool) (s : Slot) (place
   shorter3 = omega (arith, long, length-all ws3 (handed_slots q'.standing), length-all ws3 (handed_slots q.standing))
 
   pub ended-queued : IsQueued b s
-  ended-queued = is-queued r.number p.size (slots_of r q) (slots_of r q') b (numbers_on p) s places.each (less3 s)
+  ended-queued = is-queued r.number p (slots_of r q) (slots_of r q') b [] s places.each (less3 s)
 
   none-left3 : times_in s (slots_of r q') ≡ 0
-  none-left3 = none-left r.number p.size (slots_of r q) (slots_of r q') b (numbers_on p) s places.each ended-queued (less3 s)
+  none-left3 = none-left r.number p (slots_of r q) (slots_of r q') b [] s places.each ended-queued (less3 s)
 
   left-waiting3 : times_waiting s ws3 ≡ 0
   left-waiting3 = omega (arith, none-left3, times-all s ws3 (handed_slots q'.standing))
@@ -331,13 +332,14 @@ module _ (r : Records) (q q' : Requests) (b : Book) (p : Pool) (s : Slot) (place
   left-handed3 : times_in s (handed_slots q'.standing) ≡ 0
   left-handed3 = omega (arith, none-left3, times-all s ws3 (handed_slots q'.standing))
 
-  pub ended-places : AreInPlaces r q' (with_away b s) (with_given_back p s.buffer)
-  ended-places =
-      let out : AreInPlacesBut s.buffer r q' (with_away b s) p = record {
-        each = withdrawn r.number p.size (slots_of r q) (slots_of r q') b (numbers_on p) s places.each ended-queued less3 shorter3;
-        priorities = misplaced-stay b s None ws3 left-waiting3 ∙ places.priorities;
-      } in
-      placed-given r q' (with_away b s) p s.buffer out
+  pub ended-beside : AreInPlacesBut s.buffer r q' (with_away b s) p
+  ended-beside = record {
+    each = withdrawn r.number p (slots_of r q) (slots_of r q') b [] s places.each ended-queued less3 shorter3;
+    priorities = misplaced-stay b s None ws3 left-waiting3 ∙ places.priorities;
+  }
+
+  pub ended-places : AreInPlaces r q' (with_away b s) (with_one_back p s.buffer)
+  ended-places = placed-given r q' (with_away b s) p s.buffer ended-beside
 
   pub ended-table : table_in (with_away b s) r q' ≡ table_in b r q'
   ended-table =
@@ -346,11 +348,11 @@ module _ (r : Records) (q q' : Requests) (b : Book) (p : Pool) (s : Slot) (place
 
 -- ---- a request that holds nothing is gone
 
-pub cancelled-places : (r : Records) (q q' : Requests) (b : Book) (p : Pool) → ((t : Slot) → times_in t (handed_slots q'.standing) ≡ times_in t (handed_slots q.standing)) → length (handed_slots q'.standing) ≡ length (handed_slots q.standing) → AreInPlaces r q b p → AreInPlaces r q' b p
+pub cancelled-places : (r : Records) (q q' : Requests) (b : Book) (p : Out) → ((t : Slot) → times_in t (handed_slots q'.standing) ≡ times_in t (handed_slots q.standing)) → length (handed_slots q'.standing) ≡ length (handed_slots q.standing) → AreInPlaces r q b p → AreInPlaces r q' b p
 cancelled-places r q q' b p same long places =
     let ws = all_waiting r.endpoints in
     record {
-      each = other-slots r.number p.size (slots_of r q) (slots_of r q') b (numbers_on p)
+      each = other-slots r.number p (slots_of r q) (slots_of r q') b []
           (λ t. let l = same t in omega (arith, l, times-all t ws (handed_slots q'.standing), times-all t ws (handed_slots q.standing)))
           (omega (arith, long, length-all ws (handed_slots q'.standing), length-all ws (handed_slots q.standing))) places.each;
       priorities = places.priorities;

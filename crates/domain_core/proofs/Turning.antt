@@ -92,6 +92,11 @@ All-take zero fs all = tt
 All-take (suc k) [] all = tt
 All-take (suc k) (f ∷ fs) all = (all.0, All-take k fs all.1)
 
+pub All-drop : (k : ℕ) (fs : List (List ℕ)) → AreForEndpoints fs → AreForEndpoints (drop k fs)
+All-drop zero fs all = all
+All-drop (suc k) [] all = tt
+All-drop (suc k) (f ∷ fs) all = All-drop k fs all.1
+
 take-nothing : {X : Type 0} (k : ℕ) → take {A = X} k [] ≡ []
 take-nothing zero = refl
 take-nothing (suc k) = refl
@@ -170,8 +175,8 @@ pub count-within : (n : ℕ) (xs : List Item) → count_by (is_from n) xs ≤ le
 count-within n [] = lit≤ tt
 count-within n (x ∷ xs) = omega (arith, sum_by-cons (λ (i : Item). cond (i.peer == n) 1 0) x xs, one-at-most (x.peer == n), count-within n xs)
 
-pub is-turn : (n nodes : ℕ) (t : Table) (l : Lane) → length (items_in t.held.endpoints) + length (flat_map (λ (r : Request). item_in r.outcome) t.held.requests) + length l.ring + l.returned + l.free ≤ l.size → l.shown ≤ length l.ring → AreForEndpoints l.ring → IsTurn (state_of n nodes t l) (own_turn (alone n nodes t l))
-is-turn n nodes t l places shown letters =
+pub is-turn : (n nodes : ℕ) (t : Table) (l : Lane) → length (items_in t.held.endpoints) + length (flat_map (λ (r : Request). item_in r.outcome) t.held.requests) + length l.ring ≤ l.size → l.free + l.returned ≤ l.size → l.shown ≤ length l.ring → AreForEndpoints l.ring → IsTurn (state_of n nodes t l) (own_turn (alone n nodes t l))
+is-turn n nodes t l places back shown letters =
     let s = state_of n nodes t l in
     let v = visit n t.held l in
     let within = count-within n (items_in t.held.endpoints) in

@@ -6,8 +6,8 @@ use Rattle.board_model.specs.Serial.{Alone}
 use Rattle.domain_core.specs.declared.domain.Domain.TheInside.{Inside}
 use Rattle.domain_core.specs.DomainView.{DomainView}
 use Rattle.domain_core.specs.Table.{Table}
-use Rattle.domain_core.specs.Lane.{Lane}
-use Rattle.domain_core.specs.Pool.{lane_in}
+use Rattle.domain_core.specs.Lane.{Lane, lane_in, AreForEndpoints}
+use Rattle.domain_core.specs.Out.{out_in}
 use Rattle.domain_core.specs.InBook.{table_in}
 use Rattle.domain_core.specs.InRequests.{AreReceives}
 use Rattle.domain_core.specs.InPlaces.{AreInPlaces}
@@ -28,13 +28,13 @@ alone_of d = alone d.number d.nodes (table_in d.book d.endpoints d.requests) (la
 abbrev pub view_of : Inside → DomainView
 view_of d = record { alone = alone_of d; ids = map (λ r. r.id) d.requests.standing }
 
--- each buffer of the lane waits, was handed, is on the lane, on its way back or free
+-- each buffer that is out waits or was handed, and only messages are on the lane
 pub record IsSound (d : Inside) : Type 0 where
-  pub places : AreInPlaces d.endpoints d.requests d.book d.lane
+  pub places : AreInPlaces d.endpoints d.requests d.book (out_in d.lane)
   pub receives : AreReceives d.requests
   pub size : d.lane.size ≤ 256
   pub room : d.lane.size ≤ d.endpoints.room
   pub number : d.endpoints.number ≡ d.number
-  pub shown : d.lane.shown ≤ length d.lane.ring
+  pub letters : AreForEndpoints (lane_in d.lane).ring
   pub given : d.endpoints.given ≤ 60000
   pub few : length d.endpoints.endpoints ≤ 64

@@ -1,4 +1,4 @@
--- What frames that are taken mean for what the domain holds, for the own lane and for the journal.
+-- What frames that are taken mean for what the domain holds, for the lane and for the journal.
 -- Source: docs/PROFILE.md, "What a domain does with a taken frame".
 use Rattle.std.specs.Prelude.{◌≡◌, ℕ, ◌+◌, ◌-◌, ◌≤◌, ◌<◌, false, List, ◌∷◌, [], ◌++◌, length, take, drop, map, position, slice_index, Some, option_map}
 use Rattle.mc_base.specs.Frame.{source_of}
@@ -7,10 +7,10 @@ use Rattle.mc_base.specs.declared.fate.Fate.TheVariants.{Queued, Handed}
 use Rattle.mc_base.specs.declared.name.Local.{Local}
 use Rattle.mc_base.specs.declared.request.RequestId.{RequestId}
 use Rattle.board_model.specs.Lists.{changed, changed_at}
-use Rattle.board_model.specs.Journal.{Line, Taken, taken, taken_line, take_line}
+use Rattle.board_model.specs.Journal.{Line, Taken, taken, taken_line}
 use Rattle.board_model.specs.State.{Item}
 use Rattle.board_model.specs.Dealing.{row_for, after_frame, keeps_buffer, queued_last, complete_with}
-use Rattle.board_model.specs.Serial.{word_of, returned_at_once}
+use Rattle.board_model.specs.Serial.{word_of}
 use Rattle.domain_core.specs.declared.dealing.Verdict.{Verdict}
 use Rattle.domain_core.specs.declared.dealing.Verdict.TheVariants as verdict
 use Rattle.buffer_book.specs.Book.{Book}
@@ -19,7 +19,9 @@ use Rattle.request_set.specs.Requests.{Requests, IsPending, is_id, request_of}
 use Rattle.domain_core.specs.Table.{Held, Table, keeping, held_in, with_held}
 use Rattle.domain_core.specs.Records.{Records}
 use Rattle.domain_core.specs.InBook.{held_by}
-use Rattle.domain_core.specs.Lane.{Lane, with_first_taken, with_returned}
+use Rattle.domain_core.specs.Lane.{IsForEndpoint, AreForEndpoints}
+use Rattle.domain_core.specs.LaneMoves.{LaneMove}
+use Rattle.domain_core.specs.VisitMoves.{taking}
 
 -- the word of a frame from a peer, and what is held after it
 abbrev pub word_at : ℕ → Held → List ℕ → Fate
@@ -28,10 +30,10 @@ word_at peer h frame = word_of (row_for (keeping h) peer frame)
 abbrev pub held_after : ℕ → Held → List ℕ → Held
 held_after peer h frame = held_in (after_frame (keeping h) peer frame)
 
--- a verdict: the buffer is given back, and nothing that is held changes
+-- a verdict: the buffer is given back, and nothing that is held changes. No announcement comes yet
 pub record IsReturned (peer : ℕ) (h : Held) (frame : List ℕ) (fate : Fate) : Type 0 where
-  pub word : word_at peer h frame ≡ fate
-  pub leaves : held_after peer h frame ≡ h
+  pub word : IsForEndpoint frame → word_at peer h frame ≡ fate
+  pub leaves : IsForEndpoint frame → held_after peer h frame ≡ h
   pub returned : keeps_buffer fate ≡ false
 
 abbrev pub message : ℕ → ℕ → ℕ → List ℕ → Item
@@ -79,25 +81,30 @@ abbrev pub held_after_all : ℕ → Held → List (List ℕ) → Held
 held_after_all peer h [] = h
 held_after_all peer h (f ∷ fs) = held_after_all peer (held_after peer h f) fs
 
--- what is held, the own lane and the lines of the journal, while frames are taken
+-- what is held and the lines of the journal, while frames are taken
 pub record Scene : Type 0 where
   pub table : Table
-  pub lane : Lane
   pub lines : List Line
 
-abbrev pub scene : Table → Lane → List Line → Scene
-scene table lane lines = record { table = table; lane = lane; lines = lines }
+abbrev pub scene : Table → List Line → Scene
+scene table lines = record { table = table; lines = lines }
 
--- the oldest frame was taken
-pub record TakesFirst (peer : ℕ) (old new : Scene) : Type 0 where
-  pub frame : List ℕ
-  pub first : old.lane.ring ≡ frame ∷ new.lane.ring
-  pub table : new.table ≡ with_held old.table (held_after peer old.table.held frame)
-  pub lane : new.lane ≡ with_returned (with_first_taken old.lane) (returned_at_once (taken frame (word_at peer old.table.held frame) ∷ []))
-  pub told : new.lines ≡ old.lines ++ take_line peer frame (word_at peer old.table.held frame) ∷ []
+-- taken frames
+abbrev pub frames_of : List Taken → List (List ℕ)
+frames_of takes = map (λ t. t.frame) takes
 
--- so many frames were taken
-pub record Takes (peer : ℕ) (count : ℕ) (old new : Scene) : Type 0 where
-  pub table : new.table ≡ with_held old.table (held_after_all peer old.table.held (take count old.lane.ring))
-  pub lane : new.lane ≡ record old.lane { ring = drop count old.lane.ring; returned = old.lane.returned + returned_at_once (taken_at peer old.table.held (take count old.lane.ring)); shown = old.lane.shown - count }
-  pub told : new.lines ≡ old.lines ++ map (taken_line peer) (taken_at peer old.table.held (take count old.lane.ring))
+-- frames for endpoints have the words that they must, and leave what they must. Nothing but what is held changes
+pub record Deals (peer : ℕ) (takes : List Taken) (old new : Table) : Type 0 where
+  pub words : AreForEndpoints (frames_of takes) → takes ≡ taken_at peer old.held (frames_of takes)
+  pub held : AreForEndpoints (frames_of takes) → new.held ≡ held_after_all peer old.held (frames_of takes)
+  pub rest : new ≡ with_held old new.held
+
+-- the lane's moves, what is held, and the lines, where so many frames were taken
+pub record Takes {L : Type 0} (Moved : L → List LaneMove → L → Type 0) (peer count : ℕ) (old new : Scene) (before after : L) : Type 0 where
+  pub takes : List Taken
+  pub numbers : List ℕ
+  pub many : length takes ≡ count
+  pub each : length numbers ≡ count
+  pub moved : Moved before (taking numbers takes) after
+  pub dealt : Deals peer takes old.table new.table
+  pub told : new.lines ≡ old.lines ++ map (taken_line peer) takes

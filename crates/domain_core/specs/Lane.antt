@@ -1,8 +1,9 @@
--- The lane from a domain to itself, which is its pool.
+-- The lane from a domain to itself, which is its pool, where the numbers of its buffers do not matter.
 -- Source: docs/PROFILE.md, "Lanes".
-use Rattle.std.specs.Prelude.{ℕ, ◌+◌, ◌-◌, true, ◌≡◌, List, [], ◌∷◌, ◌++◌, drop}
+use Rattle.std.specs.Prelude.{ℕ, ◌+◌, ◌-◌, true, ◌≡◌, List, [], ◌∷◌, ◌++◌, length, map}
 use Rattle.std.specs.List.{AllByRecursion}
 use Rattle.board_model.specs.Dealing.{is_letter}
+use Rattle.lane_end.specs.Loop.{Loop}
 
 -- its size, the free buffers, the frames put and not taken, the buffers given back and not shown, and how many frames
 -- were shown and not taken
@@ -13,8 +14,12 @@ pub record Lane : Type 0 where
   pub returned : ℕ
   pub shown : ℕ
 
-abbrev pub with_first_taken : Lane → Lane
-with_first_taken l = record l { ring = drop 1 l.ring; shown = l.shown - 1 }
+-- a frame with its buffer's number
+abbrev pub frame_in : ℕ × List ℕ → List ℕ
+frame_in f = f.1
+
+abbrev pub lane_in : Loop → Lane
+lane_in l = record { size = l.size; free = length l.free; ring = map frame_in l.frames; returned = length l.back; shown = l.shown }
 
 abbrev pub with_one_used : Lane → Lane
 with_one_used l = record l { free = l.free - 1 }

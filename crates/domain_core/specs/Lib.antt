@@ -1,9 +1,12 @@
+pub mod LaneMoves
+pub mod LinkMoved
+pub mod LoopMoved
 pub mod Written
 pub mod Kept
 pub mod Entry
 pub mod Lane
-pub mod Pool
-pub mod InLane
+pub mod Out
+pub mod VisitMoves
 pub mod Table
 pub mod Records
 pub mod InTable

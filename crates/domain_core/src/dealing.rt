@@ -2,7 +2,6 @@
 
 ghost use Rattle.std.specs.Prelude.{◌≡◌, ◌<◌, ◌+◌, ℕ, true, length, option_to_list};
 ghost use Rattle.buffer_book.specs.Book.{Book};
-ghost use Rattle.board_model.specs.Dealing.{is_letter};
 ghost use Rattle.domain_core.specs.InRequests.{AreReceives};
 ghost use Rattle.domain_core.specs.Dealt.{IsVerdict, fate_of};
 
@@ -10,7 +9,7 @@ use crate::endpoints::Endpoints;
 use crate::fates::{frame_fate, letter_fate};
 use crate::requests::oldest_receive;
 use bridge_frame::read_letter;
-use mc_base::{Fate, Letter, Priority, RequestId};
+use mc_base::{Fate, Letter, NAME_SERVICE_ADDRESS, Priority, RequestId};
 use request_set::RequestSet;
 use rpmsg_frame::decode;
 
@@ -46,10 +45,8 @@ impl Verdict {
     }
 }
 
-/// The verdict on a frame to an endpoint. The frame may have any bytes. From whom it came, and what waits in queues, does
-/// not matter.
+/// The verdict on a frame. The frame may have any bytes. From whom it came, and what waits in queues, does not matter.
 pub fn judge(endpoints: &Endpoints, requests: &RequestSet, frame: &[u8]) -> Verdict
-    requires letter { is_letter frame.now ≡ true }
     requires receives { AreReceives requests.now }
     ensures { (peer : ℕ) (b : Book) → IsVerdict peer b endpoints.now requests.now frame.now result }
 {
@@ -57,6 +54,9 @@ pub fn judge(endpoints: &Endpoints, requests: &RequestSet, frame: &[u8]) -> Verd
         Ok(frame) => frame,
         Err(fault) => return Verdict::Returned(frame_fate(fault)),
     };
+    if frame.dst == NAME_SERVICE_ADDRESS {
+        return Verdict::Returned(Fate::State); // Nothing is announced yet.
+    }
     let letter = match read_letter(frame.payload) {
         Ok(letter) => letter,
         Err(fault) => return Verdict::Returned(letter_fate(fault)),

@@ -16,15 +16,17 @@ ghost use Rattle.domain_core.specs.Calls.{Calls, GivesTo, created, deleted, sent
 
 use crate::endpoints::Endpoints;
 use crate::journal::{Entry, Journal};
-use crate::lane::OwnLane;
-use crate::messages::{fill, give, give_at_most};
+use crate::messages::{give, give_at_most, write};
+use crate::own_lane::own_lane;
+use crate::peer_lane::PeerLane;
 use crate::removal::end_endpoint;
 use crate::requests::{Waiters, complete_all, messages_handed, told};
 use crate::turn::make_turn;
 use buffer_book::BufferBook;
+use lane_end::LoopLane;
 use mc_base::{
-    Done, EndName, Got, ITEM_SIZE, Local, MAX_ENDPOINTS_EVER, NoMemory, Priority, Refusal,
-    RequestId,
+    BUFFER_SIZE, Done, EndName, Got, ITEM_SIZE, Local, MAX_ENDPOINTS_EVER, NoMemory, Priority,
+    Refusal, RequestId,
 };
 use request_set::{Ask, Complete, RequestSet};
 use std::alloc::Global;
@@ -54,7 +56,7 @@ pub struct Domain {
     nodes: u8,
     endpoints: Endpoints,
     book: BufferBook,
-    lane: OwnLane,
+    lane: LoopLane,
     requests: RequestSet,
 }
 
@@ -87,7 +89,7 @@ impl Domain {
             nodes,
             endpoints: Endpoints::open(alloc, number, pool)?,
             book: BufferBook::new(alloc, &[(number, pool)])?,
-            lane: OwnLane::open(alloc, pool)?,
+            lane: own_lane(alloc, pool)?,
             requests: RequestSet::new(alloc)?,
         })
     }
@@ -385,15 +387,17 @@ impl Domain {
         if bytes.len() > ITEM_SIZE {
             return Err(Refusal::MsgSize);
         }
-        let Some(buffer) = self.lane.use_free() else {
+        if self.lane.free_len() == 0 {
             return Err(Refusal::NoBuffer);
-        };
-        let carried = fill(buffer, source, destination, priority, bytes);
+        }
+        let mut out = [0; BUFFER_SIZE];
+        let len = write(&mut out, source, destination, priority, bytes);
+        let frame = &out[..len as usize];
         journal.note(Entry::Put {
             peer: to.domain,
-            frame: carried.frame(),
+            frame,
         });
-        self.lane.put(carried);
+        self.lane.put(frame);
         Ok(())
     }
 

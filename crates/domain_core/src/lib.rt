@@ -4,14 +4,15 @@
 #![tactic(auto)]
 
 mod announcements;
-mod carried;
 mod dealing;
 mod domain;
 mod endpoints;
 mod fates;
 mod journal;
-mod lane;
+mod link;
 mod messages;
+mod own_lane;
+mod peer_lane;
 mod removal;
 mod requests;
 mod threads;
@@ -20,6 +21,8 @@ mod turn;
 pub use domain::{CALL_BYTES, CALL_ENTRIES, Domain, Places};
 pub use fates::fault_fate;
 pub use journal::{Answer, Entry, Journal, Told};
+pub use link::Link;
+pub use peer_lane::PeerLane;
 pub use threads::may_cross_threads;
 
 #[cfg(test)]

@@ -2,17 +2,18 @@
 
 ghost use Rattle.std.specs.Prelude.{◌≡◌, ◌<◌, length, map, slice_get};
 ghost use Rattle.domain_core.specs.Table.{with_deleted_at};
-ghost use Rattle.domain_core.specs.Lane.{with_returned};
-ghost use Rattle.domain_core.specs.Pool.{lane_in};
+ghost use Rattle.domain_core.specs.Lane.{lane_in, with_returned};
+ghost use Rattle.domain_core.specs.Out.{out_of};
 ghost use Rattle.domain_core.specs.Records.{waiting_in, without_record_at};
 ghost use Rattle.domain_core.specs.InBook.{table_in};
 ghost use Rattle.domain_core.specs.InRequests.{AreReceives};
 ghost use Rattle.domain_core.specs.InPlaces.{AreInPlaces};
 
 use crate::endpoints::Endpoints;
-use crate::lane::OwnLane;
+use crate::peer_lane::PeerLane;
 use crate::requests::{Waiters, complete_all};
 use buffer_book::BufferBook;
+use lane_end::LoopLane;
 use mc_base::{Local, Refusal};
 use request_set::{Complete, RequestSet};
 
@@ -22,12 +23,12 @@ pub fn end_endpoint(
     endpoints: &mut Endpoints,
     book: &mut BufferBook,
     requests: &mut RequestSet,
-    lane: &mut OwnLane,
+    lane: &mut LoopLane,
     place: usize,
     at: Local,
 ) -> u32
     requires within { place < length endpoints.old.endpoints }
-    requires places { AreInPlaces endpoints.old requests.old book.old lane.old }
+    requires places { AreInPlaces endpoints.old requests.old book.old (out_of lane.old.size lane.old.out) }
     requires receives { AreReceives requests.old }
     ensures dropped { result ≡ length (waiting_in (slice_get endpoints.old.endpoints place)) }
     ensures records { endpoints.new ≡ without_record_at endpoints.old place }
@@ -35,7 +36,7 @@ pub fn end_endpoint(
     ensures lane { lane_in lane.new ≡ with_returned (lane_in lane.old) result }
     ensures receives { AreReceives requests.new }
     ensures ids { map (λ r. r.id) requests.new.standing ≡ map (λ r. r.id) requests.old.standing }
-    ensures places { AreInPlaces endpoints.new requests.new book.new lane.new }
+    ensures places { AreInPlaces endpoints.new requests.new book.new (out_of lane.new.size lane.new.out) }
 {
     let dropped = endpoints.queued_at(place);
     for _ in 0..dropped {

@@ -1,79 +1,103 @@
-//! A turn: the looks at the own lane, and what is done with the frames that they show.
+//! Visits to peers: the looks at a lane, and what is done with the frames that they show.
 
-ghost use Rattle.std.specs.Prelude.{◌≡◌, ◌≤◌, ◌<◌, ◌+◌, ◌*◌, ◌++◌, ◌∷◌, [], length, map};
-ghost use Rattle.board_model.specs.Journal.{is_idle, looked, back_line, see_line, turn_line, taken};
-ghost use Rattle.board_model.specs.Serial.{returned_at_once};
-ghost use Rattle.domain_core.specs.Table.{with_held};
-ghost use Rattle.domain_core.specs.Lane.{with_returned, AreForEndpoints};
-ghost use Rattle.domain_core.specs.Pool.{lane_in};
-ghost use Rattle.domain_core.specs.InLane.{frame_in};
+ghost use Rattle.std.specs.Prelude.{◌≡◌, ◌≤◌, ◌<◌, ◌+◌, ◌*◌, ◌++◌, ◌∷◌, [], false, length, map, take};
+ghost use Rattle.board_model.specs.Journal.{is_idle, looked, back_line, see_line, taken};
+ghost use Rattle.domain_core.specs.Out.{out_of};
+ghost use Rattle.domain_core.specs.Lane.{lane_in, AreForEndpoints};
+ghost use Rattle.domain_core.specs.VisitMoves.{giving_back};
 ghost use Rattle.domain_core.specs.InBook.{held_by, table_in};
 ghost use Rattle.domain_core.specs.InRequests.{AreReceives};
 ghost use Rattle.domain_core.specs.InPlaces.{AreInPlaces, AreInPlacesBut};
-ghost use Rattle.domain_core.specs.Dealt.{IsVerdict, Takes, TakesFirst, scene, held_after, fate_of};
-ghost use Rattle.domain_core.specs.Turned.{MakesTurn, visit};
+ghost use Rattle.domain_core.specs.Dealt.{IsVerdict, Deals, Takes, scene, fate_of};
+ghost use Rattle.domain_core.specs.Turned.{Visits, MakesTurn, before, beginning, visit};
 
-use crate::carried::Carried;
 use crate::dealing::{Verdict, judge};
 use crate::endpoints::Endpoints;
 use crate::journal::{Entry, Journal};
-use crate::lane::OwnLane;
 use crate::messages::CONTENT;
+use crate::peer_lane::PeerLane;
 use buffer_book::BufferBook;
-use mc_base::TURN_FRAMES;
+use lane_end::LoopLane;
+use mc_base::{Buffer, TURN_FRAMES};
 use request_set::{Complete, RequestSet};
 
-/// Makes a turn, and answers whether it was idle. Both looks show all that stands, and the first frames are taken, at most 8.
+/// Makes a turn of a domain that has no peer but itself, and answers whether it was idle.
 pub fn make_turn(
     endpoints: &mut Endpoints,
     book: &mut BufferBook,
     requests: &mut RequestSet,
-    lane: &mut OwnLane,
+    lane: &mut LoopLane,
     journal: &mut Journal,
     peer: u8,
 ) -> bool
     requires peer { peer ≡ endpoints.old.number }
-    requires places { AreInPlaces endpoints.old requests.old book.old lane.old }
+    requires places { AreInPlaces endpoints.old requests.old book.old (out_of lane.old.size lane.old.out) }
     requires receives { AreReceives requests.old }
+    requires letters { AreForEndpoints (lane_in lane.old).ring }
     requires room { lane.old.size ≤ endpoints.old.room }
     requires entry_room { 11 ≤ journal.old.entry_room }
     requires byte_room { 4096 ≤ journal.old.byte_room }
-    ensures turn { MakesTurn peer (scene (table_in book.old endpoints.old requests.old) (lane_in lane.old) journal.old.lines) (scene (table_in book.new endpoints.new requests.new) (lane_in lane.new) journal.new.lines) }
+    ensures turn { MakesTurn peer (length lane.old.out) (scene (table_in book.old endpoints.old requests.old) journal.old.lines) (scene (table_in book.new endpoints.new requests.new) journal.new.lines) (lane_in lane.old) (lane_in lane.new) }
     ensures receives { AreReceives requests.new }
     ensures ids { map (λ r. r.id) requests.new.standing ≡ map (λ r. r.id) requests.old.standing }
-    ensures places { AreInPlaces endpoints.new requests.new book.new lane.new }
-    ensures frames { AreForEndpoints (lane_in lane.old).ring }
+    ensures places { AreInPlaces endpoints.new requests.new book.new (out_of lane.new.size lane.new.out) }
     ensures idle { result ≡ is_idle (visit peer (held_by book.old endpoints.old requests.old) (lane_in lane.old)) }
+    ensures entry_room { journal.old.entry_room ≤ journal.new.entry_room + 11 }
+    ensures byte_room { journal.old.byte_room ≤ journal.new.byte_room + 4096 }
+{
+    if visit_peer(endpoints, book, requests, lane, journal, peer, false) {
+        return false;
+    }
+    journal.note(Entry::Idle { turns: 1 });
+    true
+}
+
+/// Visits a peer to whom nothing is owed: looks at the buffers that came back and at the frames that came, and takes the
+/// first frames, at most 8. Answers whether the turn has begun, which it does at its first visit that is not idle.
+fn visit_peer<P: PeerLane>(
+    endpoints: &mut Endpoints,
+    book: &mut BufferBook,
+    requests: &mut RequestSet,
+    lane: &mut P,
+    journal: &mut Journal,
+    peer: u8,
+    begun: bool,
+) -> bool
+    requires peer { peer ≡ endpoints.old.number }
+    requires places { AreInPlaces endpoints.old requests.old book.old (out_of (P.size_from lane.old) (P.out lane.old)) }
+    requires receives { AreReceives requests.old }
+    requires room { P.size_from lane.old ≤ endpoints.old.room }
+    requires entry_room { 11 ≤ journal.old.entry_room }
+    requires byte_room { 4096 ≤ journal.old.byte_room }
+    ensures visits { Visits P.Moved peer begun result (before (P.size_to lane.old) (length (P.free lane.old)) (P.size_from lane.old) (P.shown lane.old) (length (P.out lane.old))) (scene (table_in book.old endpoints.old requests.old) journal.old.lines) (scene (table_in book.new endpoints.new requests.new) journal.new.lines) lane.old lane.new }
+    ensures receives { AreReceives requests.new }
+    ensures ids { map (λ r. r.id) requests.new.standing ≡ map (λ r. r.id) requests.old.standing }
+    ensures places { AreInPlaces endpoints.new requests.new book.new (out_of (P.size_from lane.new) (P.out lane.new)) }
+    ensures idle { result ≡ false → journal.new.entry_room ≡ journal.old.entry_room }
     ensures entry_room { journal.old.entry_room ≤ journal.new.entry_room + 11 }
     ensures byte_room { journal.old.byte_room ≤ journal.new.byte_room + 4096 }
 {
     let back = lane.look_back();
     let see = lane.look_ahead();
     if back == 0 && see == 0 {
-        journal.note(Entry::Idle { turns: 1 });
-        return true;
+        return begun;
     }
-    note_looks(journal, peer, back, see);
-    take_frames(
-        endpoints,
-        book,
-        requests,
-        lane,
-        journal,
-        peer,
-        TURN_FRAMES.min(see as usize),
-    );
-    false
+    note_looks(journal, peer, begun, back, see);
+    let count = TURN_FRAMES.min(see as usize);
+    take_frames(endpoints, book, requests, lane, journal, peer, count);
+    true
 }
 
-/// Notes the looks of a turn that is not idle.
-fn note_looks(journal: &mut Journal, peer: u8, back: u32, see: u32)
+/// Notes the looks of a visit that is not idle, and that its turn begins with it where no other did before.
+fn note_looks(journal: &mut Journal, peer: u8, begun: bool, back: u32, see: u32)
     requires entry_room { 3 ≤ journal.old.entry_room }
-    ensures lines { journal.new.lines ≡ journal.old.lines ++ turn_line ∷ (looked (back_line peer) back ++ looked (see_line peer) see) }
+    ensures lines { journal.new.lines ≡ journal.old.lines ++ (beginning begun ++ (looked (back_line peer) back ++ looked (see_line peer) see)) }
     ensures entry_room { journal.old.entry_room ≤ journal.new.entry_room + 3 }
     ensures byte_room { journal.old.byte_room ≤ journal.new.byte_room }
 {
-    journal.note(Entry::Turn);
+    if !begun {
+        journal.note(Entry::Turn);
+    }
     if back != 0 {
         journal.note(Entry::Back { peer, count: back });
     }
@@ -83,27 +107,26 @@ fn note_looks(journal: &mut Journal, peer: u8, back: u32, see: u32)
 }
 
 /// Takes the oldest frames that were shown.
-fn take_frames(
+fn take_frames<P: PeerLane>(
     endpoints: &mut Endpoints,
     book: &mut BufferBook,
     requests: &mut RequestSet,
-    lane: &mut OwnLane,
+    lane: &mut P,
     journal: &mut Journal,
     peer: u8,
     count: usize,
 )
     requires peer { peer ≡ endpoints.old.number }
-    requires count { count ≤ lane.old.shown }
-    requires shown { lane.old.shown ≤ length lane.old.ring }
-    requires places { AreInPlaces endpoints.old requests.old book.old lane.old }
+    requires count { count ≤ P.shown lane.old }
+    requires places { AreInPlaces endpoints.old requests.old book.old (out_of (P.size_from lane.old) (P.out lane.old)) }
     requires receives { AreReceives requests.old }
-    requires room { lane.old.size ≤ endpoints.old.room }
+    requires room { P.size_from lane.old ≤ endpoints.old.room }
     requires entry_room { count ≤ journal.old.entry_room }
     requires byte_room { 512 * count ≤ journal.old.byte_room }
-    ensures takes { Takes peer count (scene (table_in book.old endpoints.old requests.old) (lane_in lane.old) journal.old.lines) (scene (table_in book.new endpoints.new requests.new) (lane_in lane.new) journal.new.lines) }
+    ensures takes { Takes P.Moved peer count (scene (table_in book.old endpoints.old requests.old) journal.old.lines) (scene (table_in book.new endpoints.new requests.new) journal.new.lines) lane.old lane.new }
     ensures receives { AreReceives requests.new }
     ensures ids { map (λ r. r.id) requests.new.standing ≡ map (λ r. r.id) requests.old.standing }
-    ensures places { AreInPlaces endpoints.new requests.new book.new lane.new }
+    ensures places { AreInPlaces endpoints.new requests.new book.new (out_of (P.size_from lane.new) (P.out lane.new)) }
     ensures entry_room { journal.old.entry_room ≤ journal.new.entry_room + count }
     ensures byte_room { journal.old.byte_room ≤ journal.new.byte_room + 512 * count }
 {
@@ -113,61 +136,66 @@ fn take_frames(
 }
 
 /// Takes the oldest frame that was shown.
-fn take_frame(
+fn take_frame<P: PeerLane>(
     endpoints: &mut Endpoints,
     book: &mut BufferBook,
     requests: &mut RequestSet,
-    lane: &mut OwnLane,
+    lane: &mut P,
     journal: &mut Journal,
     peer: u8,
 )
     requires peer { peer ≡ endpoints.old.number }
-    requires some { 0 < lane.old.shown }
-    requires shown { lane.old.shown ≤ length lane.old.ring }
-    requires places { AreInPlaces endpoints.old requests.old book.old lane.old }
+    requires shown { 0 < P.shown lane.old }
+    requires places { AreInPlaces endpoints.old requests.old book.old (out_of (P.size_from lane.old) (P.out lane.old)) }
     requires receives { AreReceives requests.old }
-    requires room { lane.old.size ≤ endpoints.old.room }
+    requires room { P.size_from lane.old ≤ endpoints.old.room }
     requires entry_room { 1 ≤ journal.old.entry_room }
     requires byte_room { 512 ≤ journal.old.byte_room }
-    ensures takes { TakesFirst peer (scene (table_in book.old endpoints.old requests.old) (lane_in lane.old) journal.old.lines) (scene (table_in book.new endpoints.new requests.new) (lane_in lane.new) journal.new.lines) }
+    ensures takes { Takes P.Moved peer 1 (scene (table_in book.old endpoints.old requests.old) journal.old.lines) (scene (table_in book.new endpoints.new requests.new) journal.new.lines) lane.old lane.new }
+    ensures shown { P.shown lane.old ≡ P.shown lane.new + 1 }
+    ensures size_from { P.size_from lane.new ≡ P.size_from lane.old }
     ensures receives { AreReceives requests.new }
     ensures ids { map (λ r. r.id) requests.new.standing ≡ map (λ r. r.id) requests.old.standing }
-    ensures places { AreInPlaces endpoints.new requests.new book.new lane.new }
+    ensures places { AreInPlaces endpoints.new requests.new book.new (out_of (P.size_from lane.new) (P.out lane.new)) }
     ensures entry_room { journal.old.entry_room ≤ journal.new.entry_room + 1 }
     ensures byte_room { journal.old.byte_room ≤ journal.new.byte_room + 512 }
 {
-    let carried = lane.take();
-    let verdict = judge(endpoints, requests, carried.frame());
+    let (buffer, len) = lane.take();
+    let (frame, _) = buffer.bytes().split_at(len as usize);
+    let verdict = judge(endpoints, requests, frame);
     journal.note(Entry::Take {
         peer,
-        frame: carried.frame(),
+        frame,
         fate: verdict.fate(),
     });
-    settle(endpoints, book, requests, lane, peer, carried, verdict);
+    settle(endpoints, book, requests, lane, peer, buffer, len, verdict);
 }
 
-/// Queues the message of a frame, hands it to the receive that waits, or gives its buffer back.
-fn settle(
+/// Queues the message of a frame, which has so many bytes of the buffer, hands it to the receive that waits, or gives the
+/// buffer back.
+fn settle<P: PeerLane>(
     endpoints: &mut Endpoints,
     book: &mut BufferBook,
     requests: &mut RequestSet,
-    lane: &mut OwnLane,
+    lane: &mut P,
     peer: u8,
-    carried: Carried,
+    buffer: Buffer,
+    len: u32,
     verdict: Verdict,
 )
     requires peer { peer ≡ endpoints.old.number }
-    requires verdict { IsVerdict peer book.old endpoints.old requests.old (frame_in carried) verdict }
-    requires places { AreInPlacesBut carried.buffer.number endpoints.old requests.old book.old lane.old }
+    requires verdict { IsVerdict peer book.old endpoints.old requests.old (take len buffer.bytes) verdict }
+    requires places { AreInPlacesBut buffer.number endpoints.old requests.old book.old (out_of (P.size_from lane.old) (P.out lane.old)) }
     requires receives { AreReceives requests.old }
-    requires room { lane.old.size ≤ endpoints.old.room }
-    ensures table { table_in book.new endpoints.new requests.new ≡ with_held (table_in book.old endpoints.old requests.old) (held_after peer (held_by book.old endpoints.old requests.old) (frame_in carried)) }
-    ensures lane { lane_in lane.new ≡ with_returned (lane_in lane.old) (returned_at_once (taken (frame_in carried) (fate_of verdict) ∷ [])) }
+    requires room { P.size_from lane.old ≤ endpoints.old.room }
+    ensures dealt { Deals peer (taken (take len buffer.bytes) (fate_of verdict) ∷ []) (table_in book.old endpoints.old requests.old) (table_in book.new endpoints.new requests.new) }
+    ensures moved { P.Moved lane.old (giving_back buffer.number (fate_of verdict)) lane.new }
+    ensures shown { P.shown lane.new ≡ P.shown lane.old }
+    ensures size_from { P.size_from lane.new ≡ P.size_from lane.old }
     ensures receives { AreReceives requests.new }
     ensures ids { map (λ r. r.id) requests.new.standing ≡ map (λ r. r.id) requests.old.standing }
-    ensures places { AreInPlaces endpoints.new requests.new book.new lane.new }
+    ensures places { AreInPlaces endpoints.new requests.new book.new (out_of (P.size_from lane.new) (P.out lane.new)) }
 {
-    let Carried { buffer, .. } = carried;
     match verdict {
         Verdict::Queued {
             place,

@@ -1,5 +1,5 @@
 use Rattle.std.proofs.Common.{◌≡◌, ◌<◌, ◌∙◌, ◌+◌, ◌∷◌, [], refl, ℕ, Bool, List, Some, ap, sym, subst, arith, drop, length, map}
-use Rattle.std.specs.Prelude.{IsSome, count_by, option_map, slice_get}
+use Rattle.std.specs.Prelude.{Contains, IsSome, count_by, option_map, slice_get}
 use Rattle.std.proofs.lemmas.List.{drop_all, length-drop}
 use Rattle.mc_base.specs.declared.request.Slot.{Slot}
 use Rattle.mc_base.specs.declared.refusal.Refusal.TheVariants.{EndpInvalid}
@@ -13,16 +13,19 @@ use Rattle.request_set.specs.Requests.{Requests, Standing}
 use Rattle.domain_core.specs.declared.requests.Waiters.{Waiters}
 use Rattle.domain_core.specs.declared.requests.Waiters.TheVariants as waiters
 use Rattle.domain_core.specs.declared.endpoints.Endpoint.{Endpoint}
-use Rattle.domain_core.specs.Lane.{Lane, with_returned}
-use Rattle.domain_core.specs.Pool.{Pool, lane_in, with_given_back}
+use Rattle.lane_end.specs.Loop.{Loop, loop_after_receive}
+use Rattle.lane_end.specs.ReceiveMoves.{Gave}
+use Rattle.domain_core.specs.Lane.{Lane, lane_in, with_returned}
+use Rattle.domain_core.specs.Out.{out_in}
 use Rattle.domain_core.specs.Records.{Records, all_waiting, waiting_in, with_oldest_taken, with_oldest_taken_at, without_record_at}
 use Rattle.domain_core.specs.InBook.{table_in}
 use Rattle.domain_core.specs.InRequests.{AreReceives, with_all_complete}
 use Rattle.domain_core.specs.InPlaces.{AreInPlaces, one_if}
 use Rattle.domain_core.proofs.Completing.{handed-all, ids-all, receives-all}
 use Rattle.domain_core.proofs.Deleting.{deleted-table, first-of, gone-more, gone-none, gone-removed, gone-waiting, oldest-less, oldest-table, same-places, some-first, waiting-without, with_first_gone, with_gone_at}
-use Rattle.domain_core.proofs.Pools.{lane-returned}
-use Rattle.domain_core.proofs.Queuing.{out-places, out-queued, out-table}
+use Rattle.domain_core.proofs.Outs.{is-out}
+use Rattle.domain_core.proofs.OwnLane.{lane-returned}
+use Rattle.domain_core.proofs.Queuing.{out-places, out-places_but, out-queued, out-table}
 use Rattle.domain_core.proofs.Tables.{length-changed}
 use Rattle.domain_core.proofs.removal.end_endpoint.Goals as goal
 
@@ -62,7 +65,15 @@ withdraw-requires c =
     let r = c.loop.endpoints in
     let i = c.args.place in
     let t = taken r i c.unwrap-slot.result (sym c.unwrap-slot.ensures ∙ c.take_oldest.ensures.oldest) in
-    subst (IsQueued c.loop.book) t.2 (out-queued r c.args.requests.now c.loop.book c.loop.lane (left r i) t.0 c.loop.invariant.places (λ test. oldest-less test t.0 r.endpoints i t.1))
+    subst (IsQueued c.loop.book) t.2 (out-queued r c.args.requests.now c.loop.book (out_in c.loop.lane) (left r i) t.0 c.loop.invariant.places (λ test. oldest-less test t.0 r.endpoints i t.1))
+
+pub give_back-requires : goal.give_back-requires
+give_back-requires c =
+    let r = c.loop.endpoints in
+    let i = c.args.place in
+    let t = taken r i c.unwrap-slot.result (sym c.unwrap-slot.ensures ∙ c.take_oldest.ensures.oldest) in
+    let beside = out-places_but r c.args.requests.now c.loop.book (out_in c.loop.lane) (left r i) t.0 c.loop.invariant.places (λ test. oldest-less test t.0 r.endpoints i t.1) in
+    subst (Contains c.loop.lane.out) (ap (λ (s : Slot). s.buffer) t.2 ∙ sym c.withdraw.ensures.number) (is-out _ _ _ _ _ beside)
 
 pub loop-preserved : goal.loop-preserved
 loop-preserved c =
@@ -77,18 +88,19 @@ loop-preserved c =
     let less : (test : Waiting → Bool) → count_by test (all_waiting (left r i)) + one_if (test w) ≡ count_by test (all_waiting r.endpoints) = λ test. oldest-less test w r.endpoints i t.1 in
     let rest = c.take_oldest.ensures.rest in
     let book : c.withdraw.new.self ≡ with_away b w.slot = c.withdraw.ensures.book ∙ ap (with_away b) (sym slot) in
-    let lane : c.give_back.new.self ≡ with_given_back p w.slot.buffer = c.give_back.ensures ∙ ap (with_given_back p) (c.withdraw.ensures.number ∙ ap (λ (s : Slot). s.buffer) (sym slot)) in
+    let o = out_in p in
+    let lane : c.give_back.new.self ≡ loop_after_receive p (Gave w.slot.buffer) = c.give_back.ensures.moved.1 ∙ ap (λ (n : ℕ). loop_after_receive p (Gave n)) (c.withdraw.ensures.number ∙ ap (λ (s : Slot). s.buffer) (sym slot)) in
     record {
       endpoints = rest ∙ ap (λ (x : Records). with_oldest_taken_at x i) c.loop.invariant.endpoints ∙ ap (λ (es : List Endpoint). record c.args.endpoints.now { endpoints = es }) (gone-more c.loop.counter i c.args.endpoints.now.endpoints);
       table = ap (λ (x : Records). table_in c.withdraw.new.self x q) rest
           ∙ ap (λ (x : Book). table_in x (with_oldest_taken_at r i) q) book
-          ∙ out-table r q b p (left r i) w c.loop.invariant.places less
+          ∙ out-table r q b o (left r i) w c.loop.invariant.places less
           ∙ oldest-table b c.args.book.now r q i c.loop.invariant.table
           ∙ ap (λ (x : Records). table_in c.args.book.now x q) (sym rest);
       lane = ap lane_in lane ∙ lane-returned p w.slot.buffer ∙ ap (λ (l : Lane). with_returned l 1) c.loop.invariant.lane ∙ ap (λ (k : ℕ). record (lane_in c.args.lane.now) { returned = k }) (omega arith);
-      places = subst (λ (x : Records). AreInPlaces x q c.withdraw.new.self c.give_back.new.self) (sym rest)
-          (subst (λ (x : Book). AreInPlaces (with_oldest_taken_at r i) q x c.give_back.new.self) (sym book)
-          (subst (λ (x : Pool). AreInPlaces (with_oldest_taken_at r i) q (with_away b w.slot) x) (sym lane) (out-places r q b p (left r i) w c.loop.invariant.places less)));
+      places = subst (λ (x : Records). AreInPlaces x q c.withdraw.new.self (out_in c.give_back.new.self)) (sym rest)
+          (subst (λ (x : Book). AreInPlaces (with_oldest_taken_at r i) q x (out_in c.give_back.new.self)) (sym book)
+          (subst (λ (x : Loop). AreInPlaces (with_oldest_taken_at r i) q (with_away b w.slot) (out_in x)) (sym lane) (out-places r q b o (left r i) w c.loop.invariant.places less)));
     }
 
 -- ---- then it is gone
@@ -142,5 +154,5 @@ returns-clause-places c =
     let first = waiting_in (slice_get c.args.endpoints.now.endpoints i) in
     let left : waiting_in (slice_get r.endpoints i) ≡ drop c.loop.counter first = ap (λ (x : Records). waiting_in (slice_get x.endpoints i)) c.loop.invariant.endpoints ∙ gone-waiting c.loop.counter i c.args.endpoints.now.endpoints in
     let none : waiting_in (slice_get r.endpoints i) ≡ [] = left ∙ drop_all c.loop.counter first (omega (arith, c.queued_at-dropped.ensures, c.loop-test.false)) in
-    let placed : AreInPlaces (without_record_at r i) (with_all_complete q (who c) how) c.loop.book c.loop.lane = same-places r (without_record_at r i) q (with_all_complete q (who c) how) c.loop.book c.loop.lane refl (waiting-without i r.endpoints none) (handed-all (who c) how q.standing tt) c.loop.invariant.places in
-    subst (λ (x : Records). AreInPlaces x c.complete_all.new.requests c.loop.book c.loop.lane) (sym c.remove.ensures) (subst (λ (x : Requests). AreInPlaces (without_record_at r i) x c.loop.book c.loop.lane) (sym c.complete_all.ensures) placed)
+    let placed : AreInPlaces (without_record_at r i) (with_all_complete q (who c) how) c.loop.book (out_in c.loop.lane) = same-places r (without_record_at r i) q (with_all_complete q (who c) how) c.loop.book (out_in c.loop.lane) refl (waiting-without i r.endpoints none) (handed-all (who c) how q.standing tt) c.loop.invariant.places in
+    subst (λ (x : Records). AreInPlaces x c.complete_all.new.requests c.loop.book (out_in c.loop.lane)) (sym c.remove.ensures) (subst (λ (x : Requests). AreInPlaces (without_record_at r i) x c.loop.book (out_in c.loop.lane)) (sym c.complete_all.ensures) placed)

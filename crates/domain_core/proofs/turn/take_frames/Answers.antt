@@ -1,27 +1,35 @@
-use Rattle.std.proofs.Common.{◌∙◌, ap, arith, length}
-use Rattle.std.proofs.lemmas.List.{length-map}
+use Rattle.std.proofs.Common.{◌∙◌, refl, ap, arith}
 use Rattle.domain_core.specs.Table.{Table}
-use Rattle.domain_core.specs.Lane.{Lane}
-use Rattle.domain_core.specs.Pool.{Framed}
-use Rattle.domain_core.proofs.Taking.{Takes-more}
+use Rattle.domain_core.proofs.Taking.{Takes-more, Takes-none}
 use Rattle.domain_core.proofs.turn.take_frames.Goals as goal
 
+pub loop-init : goal.loop-init
+loop-init g c = record {
+  takes = Takes-none g.P.PeerLane.Moved g.met.P.PeerLane.none g.met.P.PeerLane.both _ _ _;
+  places = c.requires.places;
+  receives = c.requires.receives;
+  ids = refl;
+  number = refl;
+  room = refl;
+  size = refl;
+  shown = omega arith;
+  entry_room = omega arith;
+  byte_room = omega arith;
+}
+
 pub loop-preserved : goal.loop-preserved
-loop-preserved c =
+loop-preserved g c =
     let i = c.loop.invariant in
     let e = c.take_frame.ensures in
-    let before = length-map c.loop.lane.ring (λ (f : Framed). f.frame) in
-    let after = length-map c.take_frame.new.lane.ring (λ (f : Framed). f.frame) in
     record {
-      takes = Takes-more _ _ _ _ _ i.takes e.takes;
+      takes = Takes-more g.P.PeerLane.Moved g.met.P.PeerLane.none g.met.P.PeerLane.both _ _ _ _ _ _ _ _ i.takes e.takes;
       places = e.places;
       receives = e.receives;
       ids = e.ids ∙ i.ids;
-      number = ap (λ (t : Table). t.number) e.takes.table ∙ i.number;
-      room = ap (λ (t : Table). t.room) e.takes.table ∙ i.room;
-      size = ap (λ (l : Lane). l.size) e.takes.lane ∙ i.size;
-      shown = omega (arith, ap (λ (l : Lane). l.shown) e.takes.lane);
-      ring = omega (arith, before, after, ap length e.takes.first);
+      number = ap (λ (t : Table). t.number) e.takes.dealt.rest ∙ i.number;
+      room = ap (λ (t : Table). t.room) e.takes.dealt.rest ∙ i.room;
+      size = e.size_from ∙ i.size;
+      shown = omega (arith, e.shown, i.shown);
       entry_room = omega arith;
       byte_room = omega arith;
     }

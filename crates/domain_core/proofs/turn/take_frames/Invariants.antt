@@ -1,6 +1,6 @@
-use Rattle.std.proofs.Common.{◌≡◌, ◌≤◌, ◌+◌, ◌*◌, length, map}
+use Rattle.std.proofs.Common.{◌≡◌, ◌≤◌, ◌+◌, ◌*◌, map}
 use Rattle.request_set.specs.Requests.{Standing}
-use Rattle.domain_core.specs.Pool.{lane_in}
+use Rattle.domain_core.specs.Out.{out_of}
 use Rattle.domain_core.specs.InBook.{table_in}
 use Rattle.domain_core.specs.InRequests.{AreReceives}
 use Rattle.domain_core.specs.InPlaces.{AreInPlaces}
@@ -8,16 +8,15 @@ use Rattle.domain_core.specs.Dealt.{Takes, scene}
 use Rattle.domain_core.proofs.turn.take_frames.Given as goal
 
 abbrev pub invariant-loop : goal.invariant-loop
-invariant-loop l = record {
-  takes : Takes l.peer l.counter (scene (table_in l.fn.book l.fn.endpoints l.fn.requests) (lane_in l.fn.lane) l.fn.journal.lines) (scene (table_in l.book l.endpoints l.requests) (lane_in l.lane) l.journal.lines);
-  places : AreInPlaces l.endpoints l.requests l.book l.lane;
+invariant-loop g l = record {
+  takes : Takes g.P.PeerLane.Moved l.peer l.counter (scene (table_in l.fn.book l.fn.endpoints l.fn.requests) l.fn.journal.lines) (scene (table_in l.book l.endpoints l.requests) l.journal.lines) l.fn.lane l.lane;
+  places : AreInPlaces l.endpoints l.requests l.book (out_of (g.P.PeerLane.size_from l.lane) (g.P.PeerLane.out l.lane));
   receives : AreReceives l.requests;
   ids : map (λ (r : Standing). r.id) l.requests.standing ≡ map (λ (r : Standing). r.id) l.fn.requests.standing;
   number : l.endpoints.number ≡ l.fn.endpoints.number;
   room : l.endpoints.room ≡ l.fn.endpoints.room;
-  size : l.lane.size ≡ l.fn.lane.size;
-  shown : l.lane.shown + l.counter ≡ l.fn.lane.shown;
-  ring : length l.lane.ring + l.counter ≡ length l.fn.lane.ring;
+  size : g.P.PeerLane.size_from l.lane ≡ g.P.PeerLane.size_from l.fn.lane;
+  shown : g.P.PeerLane.shown l.lane + l.counter ≡ g.P.PeerLane.shown l.fn.lane;
   entry_room : l.fn.journal.entry_room ≤ l.journal.entry_room + l.counter;
   byte_room : l.fn.journal.byte_room ≤ l.journal.byte_room + 512 * l.counter;
 }

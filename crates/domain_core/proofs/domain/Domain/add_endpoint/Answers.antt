@@ -13,7 +13,8 @@ use Rattle.domain_core.specs.declared.requests.Waiters.{Waiters}
 use Rattle.domain_core.specs.declared.requests.Waiters.TheVariants as waiters
 use Rattle.domain_core.specs.DomainView.{DomainView}
 use Rattle.domain_core.specs.Records.{Records, new_record, with_record}
-use Rattle.domain_core.specs.Pool.{lane_in}
+use Rattle.domain_core.specs.Lane.{lane_in}
+use Rattle.domain_core.specs.Out.{out_in}
 use Rattle.domain_core.specs.InBook.{endpoint_in, table_in}
 use Rattle.domain_core.specs.InRequests.{AreReceives, with_all_complete}
 use Rattle.domain_core.specs.InPlaces.{AreInPlaces}
@@ -41,7 +42,7 @@ invariant_of-self c =
     let r' = c.add-address.new.self in
     let q = c.self.inside.requests in
     let b = c.self.inside.book in
-    let p = c.self.inside.lane in
+    let p = out_in c.self.inside.lane in
     let more = c.add-address.ensures.added in
     let new = new_record r.room c.args.at (1024 + r.given) in
     let room : r'.room ≡ r.room = ap (λ (x : Records). x.room) more in
@@ -55,7 +56,7 @@ invariant_of-self c =
       size = i.size;
       room = omega (arith, i.room, room);
       number = number ∙ i.number;
-      shown = i.shown;
+      letters = i.letters;
       given = omega (arith, given, c.given.ensures, c.if-given-ge-MAX_ENDPOINTS_EVER.false);
       few = omega (arith, long, few c);
     }

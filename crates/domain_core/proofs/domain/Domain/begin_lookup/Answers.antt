@@ -14,7 +14,8 @@ use Rattle.request_set.specs.declared.ask.Complete.{Complete}
 use Rattle.request_set.specs.declared.ask.Complete.TheVariants as complete
 use Rattle.request_set.specs.Requests.{Requests, Standing, no_key, with_complete}
 use Rattle.domain_core.specs.DomainView.{DomainView}
-use Rattle.domain_core.specs.Pool.{lane_in}
+use Rattle.domain_core.specs.Lane.{lane_in}
+use Rattle.domain_core.specs.Out.{out_in}
 use Rattle.domain_core.specs.InBook.{request_in, table_in}
 use Rattle.domain_core.specs.InRequests.{AreReceives}
 use Rattle.domain_core.specs.InPlaces.{AreInPlaces}
@@ -50,12 +51,12 @@ invariant_of-self-in-Some c =
     let d = c.self.inside in
     let q = d.requests in
     record {
-      places = subst (λ (x : Requests). AreInPlaces d.endpoints x d.book d.lane) (sym (requests-are c)) (asked-places d.endpoints q d.book d.lane c.in-Ok.id (asks c) (Some (how c)) refl i.places);
+      places = subst (λ (x : Requests). AreInPlaces d.endpoints x d.book (out_in d.lane)) (sym (requests-are c)) (asked-places d.endpoints q d.book (out_in d.lane) c.in-Ok.id (asks c) (Some (how c)) refl i.places);
       receives = subst AreReceives (sym (requests-are c)) (last-receives q c.in-Ok.id (asks c) (Some (how c)) i.receives tt c.in-Ok.ensures.fresh (few c));
       size = i.size;
       room = i.room;
       number = i.number;
-      shown = i.shown;
+      letters = i.letters;
       given = i.given;
       few = i.few;
     }
@@ -104,12 +105,12 @@ invariant_of-self-in_default-address c =
     let d = c.self.inside in
     let q = d.requests in
     record {
-      places = subst (λ (x : Requests). AreInPlaces d.endpoints x d.book d.lane) (sym c.in-Ok.ensures.added) (asked-places d.endpoints q d.book d.lane c.in-Ok.id (pending c) None refl i.places);
+      places = subst (λ (x : Requests). AreInPlaces d.endpoints x d.book (out_in d.lane)) (sym c.in-Ok.ensures.added) (asked-places d.endpoints q d.book (out_in d.lane) c.in-Ok.id (pending c) None refl i.places);
       receives = subst AreReceives (sym c.in-Ok.ensures.added) (last-receives q c.in-Ok.id (pending c) None i.receives tt c.in-Ok.ensures.fresh (none-few c));
       size = i.size;
       room = i.room;
       number = i.number;
-      shown = i.shown;
+      letters = i.letters;
       given = i.given;
       few = i.few;
     }

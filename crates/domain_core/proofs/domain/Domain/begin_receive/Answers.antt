@@ -20,7 +20,8 @@ use Rattle.request_set.specs.Requests.{Requests, Standing, no_key, with_complete
 use Rattle.domain_core.specs.declared.endpoints.Endpoint.{Endpoint}
 use Rattle.domain_core.specs.DomainView.{DomainView}
 use Rattle.domain_core.specs.Records.{Records, with_best_taken, with_best_taken_at}
-use Rattle.domain_core.specs.Pool.{lane_in}
+use Rattle.domain_core.specs.Lane.{lane_in}
+use Rattle.domain_core.specs.Out.{out_in}
 use Rattle.domain_core.specs.InBook.{endpoints_in, item_in, request_in, table_in}
 use Rattle.domain_core.specs.InRequests.{AreReceives}
 use Rattle.domain_core.specs.InPlaces.{AreInPlaces}
@@ -33,6 +34,16 @@ use Rattle.domain_core.proofs.Calling.{alone-done, alone-refused, alone-requeste
 use Rattle.domain_core.proofs.domain.Domain.begin_receive.Goals as goal
 
 -- ---- the endpoint is not live, or too many requests stand
+
+pub returns-in_default-clause-answer : goal.returns-in_default-clause-answer
+returns-in_default-clause-answer c =
+    let call : DomainCall = request_at c.args.at.port c.args.max in
+    let node = c.args.at.node in
+    let a = alone_of c.self.inside in
+    let b = c.self.inside.book in
+    let e1 = ap (λ (o : Option ℕ). is_some o) (sym (c.in_default.ensures.place b)) in
+    let e = request-is a.state node c.args.at.port c.args.max false _ e1 (c.in_default.ensures.channel b) refl in
+    answer-refused a.state node call EndpInvalid e ∙ ap (λ (x : DomainView). answer x.alone.state node call) c.self.view_is
 
 pub returns-in_default-clause-alone : goal.returns-in_default-clause-alone
 returns-in_default-clause-alone c =
@@ -84,7 +95,7 @@ invariant_of-self-in-Some-take_best c =
     let r' = c.take_best.new.self in
     let q = c.self.inside.requests in
     let b = c.self.inside.book in
-    let p = c.self.inside.lane in
+    let p = out_in c.self.inside.lane in
     let gone = c.take_best.ensures.rest in
     let q' = with_last q c.in-Ok.id (asks c) (Some (how c)) in
     let same : length r'.endpoints ≡ length r.endpoints = ap (λ (x : Records). length x.endpoints) gone ∙ length-changed with_best_taken c.in-Some.place r.endpoints in
@@ -98,7 +109,7 @@ invariant_of-self-in-Some-take_best c =
       size = i.size;
       room = omega (arith, i.room, room);
       number = number ∙ i.number;
-      shown = i.shown;
+      letters = i.letters;
       given = omega (arith, given', i.given);
       few = omega (arith, same, i.few);
     }
@@ -137,7 +148,7 @@ returns-in-Some-take_best-clause-alone c =
     let call : DomainCall = request_at c.args.at.port c.args.max in
     let w = waiting c.in-Some-take_best.slot c.in-Some-take_best.field-0-1 in
     let q' = with_last q c.in-Ok.id (asks c) (Some (how c)) in
-    let item = given-item r q b d.lane c.in-Some.place c.in-Some-take_best.slot c.in-Some-take_best.field-0-1 c.args.max c.in-Ok.id c.args.at c.self.invariant.places c.in-Some-take_best.ensures.best in
+    let item = given-item r q b (out_in d.lane) c.in-Some.place c.in-Some-take_best.slot c.in-Some-take_best.field-0-1 c.args.max c.in-Ok.id c.args.at c.self.invariant.places c.in-Some-take_best.ensures.best in
     let table = ap (λ (x : Records). table_in b x c.complete.new.self) c.take_best.ensures.rest
     ∙ ap (λ (x : Requests). table_in b (with_best_taken_at r c.in-Some.place) x) (requests-are c)
     ∙ requested-table b r q c.in-Some.place c.in-Ok.id (asks c) (Some (how c)) c.in-Ok.ensures.serial
@@ -174,7 +185,7 @@ invariant_of-self-in_default-take_best c =
     let r' = c.take_best.new.self in
     let q = c.self.inside.requests in
     let b = c.self.inside.book in
-    let p = c.self.inside.lane in
+    let p = out_in c.self.inside.lane in
     let none = c.take_best.ensures.none (ap (λ o. is_some o) (none-from c.take_best.result c.in_default-take_best.not-Some)) in
     let gone : r' ≡ r = c.take_best.ensures.rest ∙ ap (λ (es : List Endpoint). record r { endpoints = es }) (taken-none r.endpoints c.in-Some.place none) in
     let same : length r'.endpoints ≡ length r.endpoints = ap (λ (x : Records). length x.endpoints) gone in
@@ -187,7 +198,7 @@ invariant_of-self-in_default-take_best c =
       size = i.size;
       room = omega (arith, i.room, room);
       number = number ∙ i.number;
-      shown = i.shown;
+      letters = i.letters;
       given = omega (arith, given', i.given);
       few = omega (arith, same, i.few);
     }

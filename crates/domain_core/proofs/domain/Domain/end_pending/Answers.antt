@@ -9,7 +9,8 @@ use Rattle.request_set.specs.Requests.{Requests, Standing, progress_of, without_
 use Rattle.board_model.proofs.ListsCounts.{count-every}
 use Rattle.domain_core.specs.Calls.{cancelled, place_ended}
 use Rattle.domain_core.specs.DomainView.{DomainView, place_of_id}
-use Rattle.domain_core.specs.Pool.{lane_in}
+use Rattle.domain_core.specs.Lane.{lane_in}
+use Rattle.domain_core.specs.Out.{out_in}
 use Rattle.domain_core.specs.InBook.{table_in}
 use Rattle.domain_core.specs.InRequests.{AreReceives, handed_slots}
 use Rattle.domain_core.specs.InPlaces.{AreInPlaces, is_same}
@@ -76,14 +77,14 @@ invariant_of-self-2 c =
     let q' = without_request q c.args.id in
     let gone = ended c in
     let counts = λ (test : Slot → Bool). cancelled-same q c.args.id test i.receives (pending c) in
-    let placed = cancelled-places d.endpoints q q' d.book d.lane (λ t. counts (λ (x : Slot). is_same x t)) (sym (count-every (handed_slots q'.standing)) ∙ counts (λ (x : Slot). true) ∙ count-every (handed_slots q.standing)) i.places in
+    let placed = cancelled-places d.endpoints q q' d.book (out_in d.lane) (λ t. counts (λ (x : Slot). is_same x t)) (sym (count-every (handed_slots q'.standing)) ∙ counts (λ (x : Slot). true) ∙ count-every (handed_slots q.standing)) i.places in
     record {
-      places = subst (λ (x : Requests). AreInPlaces d.endpoints x d.book d.lane) (sym gone) placed;
+      places = subst (λ (x : Requests). AreInPlaces d.endpoints x d.book (out_in d.lane)) (sym gone) placed;
       receives = subst AreReceives (sym gone) (left-receives q c.args.id i.receives);
       size = i.size;
       room = i.room;
       number = i.number;
-      shown = i.shown;
+      letters = i.letters;
       given = i.given;
       few = i.few;
     }

@@ -1,5 +1,5 @@
 use Rattle.std.proofs.Common.{rules, ◌≡◌, ◌∙◌, ap, sym, subst, arith, length, map, take, ℕ, Some, None, List, Bool, true}
-use Rattle.std.specs.Prelude.{Err}
+use Rattle.std.specs.Prelude.{Contains, Err}
 use Rattle.board_model.specs.DomainCall.{DomainCall, test_of}
 use Rattle.board_model.specs.Journal.{PlainResult, brought, completes}
 use Rattle.board_model.specs.Lists.{without}
@@ -13,7 +13,10 @@ use Rattle.request_set.specs.declared.ask.Complete.TheVariants as complete
 use Rattle.request_set.specs.Requests.{Requests, Standing, progress_of, without_request}
 use Rattle.domain_core.specs.Calls.{place_ended, result_of_done, tested}
 use Rattle.domain_core.specs.DomainView.{DomainView, place_of_id}
-use Rattle.domain_core.specs.Pool.{Pool, lane_in, with_given_back}
+use Rattle.lane_end.specs.Loop.{Loop, loop_after_receive}
+use Rattle.lane_end.specs.ReceiveMoves.{Gave}
+use Rattle.domain_core.specs.Lane.{lane_in, AreForEndpoints}
+use Rattle.domain_core.specs.Out.{out_in}
 use Rattle.domain_core.specs.InBook.{content_in, table_in}
 use Rattle.domain_core.specs.InRequests.{AreReceives, handed_slots}
 use Rattle.domain_core.specs.InPlaces.{AreInPlaces, is_same}
@@ -21,8 +24,9 @@ use Rattle.domain_core.specs.Alone.{IsSound, alone, alone_of, view_of}
 use Rattle.domain_core.proofs.Calling.{alone-told, alone-done, alone-refused, alone-tested, answer-done, answer-refused}
 use Rattle.domain_core.proofs.Ending.{held-message, quiet-result, quiet-returns, quiet-same, quiet-slots, test-complete, ended-done, ended-refused, left-ids, left-receives, left-table, place-is, test-done, test-refused, tested-fewer, tested-result, tested-returns, tested-shorter}
 use Rattle.board_model.proofs.ListsCounts.{count-every}
-use Rattle.domain_core.proofs.Pools.{lane-returned}
-use Rattle.domain_core.proofs.Queuing.{cancelled-places, content-of, ended-places, ended-queued, ended-table}
+use Rattle.domain_core.proofs.Outs.{is-out}
+use Rattle.domain_core.proofs.OwnLane.{lane-returned}
+use Rattle.domain_core.proofs.Queuing.{cancelled-places, content-of, ended-beside, ended-places, ended-queued, ended-table}
 use Rattle.domain_core.proofs.domain.Domain.end_request.Goals as goal
 
 -- ---- it is not complete
@@ -87,14 +91,14 @@ invariant_of-self-in_default c =
     let q = d.requests in
     let q' = without_request q c.args.id in
     let counts = λ (test : Slot → Bool). quiet-same d c.args.id i.receives c.in_ok-how.how (now-held c) c.in_default.not-Message test in
-    let placed = cancelled-places d.endpoints q q' d.book d.lane (λ t. counts (λ (x : Slot). is_same x t)) (sym (count-every (handed_slots q'.standing)) ∙ counts (λ (x : Slot). true) ∙ count-every (handed_slots q.standing)) i.places in
+    let placed = cancelled-places d.endpoints q q' d.book (out_in d.lane) (λ t. counts (λ (x : Slot). is_same x t)) (sym (count-every (handed_slots q'.standing)) ∙ counts (λ (x : Slot). true) ∙ count-every (handed_slots q.standing)) i.places in
     record {
-      places = subst (λ (x : Requests). AreInPlaces d.endpoints x d.book d.lane) (sym (ended c)) placed;
+      places = subst (λ (x : Requests). AreInPlaces d.endpoints x d.book (out_in d.lane)) (sym (ended c)) placed;
       receives = subst AreReceives (sym (ended c)) (left-receives q c.args.id i.receives);
       size = i.size;
       room = i.room;
       number = i.number;
-      shown = i.shown;
+      letters = i.letters;
       given = i.given;
       few = i.few;
     }
@@ -131,9 +135,20 @@ bytes-requires c =
     let d = c.self.inside in
     let i = c.self.invariant in
     let slot = c.in-Message.slot in
-    ended-queued d.endpoints d.requests (without_request d.requests c.args.id) d.book d.lane slot i.places
+    ended-queued d.endpoints d.requests (without_request d.requests c.args.id) d.book (out_in d.lane) slot i.places
     (λ t. tested-fewer d c.args.id i.receives slot c.in-Message.max (held-message (progress_of d.requests c.args.id) c.in_ok-how.how slot c.in-Message.max (sym c.test.ensures.answer ∙ c.in_ok-how.was) c.in-Message.is) (λ (x : Slot). is_same x t))
     (tested-shorter d c.args.id i.receives slot c.in-Message.max (held-message (progress_of d.requests c.args.id) c.in_ok-how.how slot c.in-Message.max (sym c.test.ensures.answer ∙ c.in_ok-how.was) c.in-Message.is))
+
+pub give_back-requires : goal.give_back-requires
+give_back-requires c =
+    let d = c.self.inside in
+    let i = c.self.invariant in
+    let slot = c.in-Message.slot in
+    let holds = held-message (progress_of d.requests c.args.id) c.in_ok-how.how slot c.in-Message.max (sym c.test.ensures.answer ∙ c.in_ok-how.was) c.in-Message.is in
+    let beside = ended-beside d.endpoints d.requests (without_request d.requests c.args.id) d.book (out_in d.lane) slot i.places
+    (λ t. tested-fewer d c.args.id i.receives slot c.in-Message.max holds (λ (x : Slot). is_same x t))
+    (tested-shorter d c.args.id i.receives slot c.in-Message.max holds) in
+    subst (λ (n : ℕ). Contains d.lane.out n) (sym c.withdraw.ensures.number) (is-out _ _ _ _ _ beside)
 
 held : (c : goal.After-give_back) → progress_of c.self.inside.requests c.args.id ≡ Some (Some (complete.Message c.in-Message.slot c.in-Message.max))
 held c = (held-message (progress_of c.self.inside.requests c.args.id) c.in_ok-how.how c.in-Message.slot c.in-Message.max (sym c.test.ensures.answer ∙ c.in_ok-how.was) c.in-Message.is)
@@ -153,19 +168,17 @@ invariant_of-self-2 c =
     let slot = c.in-Message.slot in
     let p = d.lane in
     let p' = c.give_back.new.self in
-    let back : p' ≡ with_given_back p slot.buffer = c.give_back.ensures ∙ ap (λ (n : ℕ). with_given_back p n) c.withdraw.ensures.number in
+    let back : p' ≡ loop_after_receive p (Gave slot.buffer) = c.give_back.ensures.moved.1 ∙ ap (λ (n : ℕ). loop_after_receive p (Gave n)) c.withdraw.ensures.number in
     let shorter = tested-shorter d c.args.id i.receives slot c.in-Message.max (held c) in
-    let placed = ended-places d.endpoints q q' d.book p slot i.places (λ t. tested-fewer d c.args.id i.receives slot c.in-Message.max (held c) (λ (x : Slot). is_same x t)) shorter in
-    let size : p'.size ≡ p.size = ap (λ (x : Pool). x.size) back in
-    let ring : length p'.ring ≡ length p.ring = ap (λ (x : Pool). length x.ring) back in
-    let shown : p'.shown ≡ p.shown = ap (λ (x : Pool). x.shown) back in
+    let placed = ended-places d.endpoints q q' d.book (out_in p) slot i.places (λ t. tested-fewer d c.args.id i.receives slot c.in-Message.max (held c) (λ (x : Slot). is_same x t)) shorter in
+    let size : p'.size ≡ p.size = ap (λ (x : Loop). x.size) back in
     record {
-      places = subst (λ (x : Requests). AreInPlaces d.endpoints x c.withdraw.new.self p') (sym (gone c)) (subst (λ (x : Book). AreInPlaces d.endpoints q' x p') (sym c.withdraw.ensures.book) (subst (λ (x : Pool). AreInPlaces d.endpoints q' (with_away d.book slot) x) (sym back) placed));
+      places = subst (λ (x : Requests). AreInPlaces d.endpoints x c.withdraw.new.self (out_in p')) (sym (gone c)) (subst (λ (x : Book). AreInPlaces d.endpoints q' x (out_in p')) (sym c.withdraw.ensures.book) (subst (λ (x : Loop). AreInPlaces d.endpoints q' (with_away d.book slot) (out_in x)) (sym back) placed));
       receives = subst AreReceives (sym (gone c)) (left-receives q c.args.id i.receives);
       size = omega (arith, i.size, size);
       room = omega (arith, i.room, size);
       number = i.number;
-      shown = omega (arith, shown, ring, i.shown);
+      letters = subst (λ (x : Loop). AreForEndpoints (lane_in x).ring) (sym back) i.letters;
       given = i.given;
       few = i.few;
     }
@@ -195,9 +208,9 @@ returns-clause-alone c =
     let call : DomainCall = test_of place in
     let table = ap (λ (x : Requests). table_in c.withdraw.new.self d.endpoints x) (gone c)
     ∙ ap (λ (x : Book). table_in x d.endpoints q') c.withdraw.ensures.book
-    ∙ ended-table d.endpoints q q' d.book d.lane slot i.places (λ t. tested-fewer d c.args.id i.receives slot c.in-Message.max (held c) (λ (x : Slot). is_same x t)) (tested-shorter d c.args.id i.receives slot c.in-Message.max (held c))
+    ∙ ended-table d.endpoints q q' d.book (out_in d.lane) slot i.places (λ t. tested-fewer d c.args.id i.receives slot c.in-Message.max (held c) (λ (x : Slot). is_same x t)) (tested-shorter d c.args.id i.receives slot c.in-Message.max (held c))
     ∙ left-table d.book d.endpoints q c.args.id place i.receives (place-is d c.args.id) in
-    let lane = ap lane_in c.give_back.ensures ∙ lane-returned d.lane c.withdraw.result.number in
+    let lane = ap lane_in c.give_back.ensures.moved.1 ∙ lane-returned d.lane c.withdraw.result.number in
     alone-tested d.number d.nodes (table_in d.book d.endpoints q) (table_in c.withdraw.new.self d.endpoints c.test.new.self) (lane_in d.lane) (lane_in c.give_back.new.self) place (held_by (request_at_place (alone_of d).state place)) table lane (tested-returns d c.args.id i.receives slot c.in-Message.max (held c))
     ∙ sym (alone-done (alone_of d) 0 call (done c))
     ∙ ap (λ (x : DomainView). after_own_call x.alone 0 (test_of (place_of_id x c.args.id))) c.self.view_is

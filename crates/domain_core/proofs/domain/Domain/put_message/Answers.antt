@@ -1,6 +1,5 @@
-use Rattle.std.proofs.Common.{◌≡◌, ◌<◌, ◌≤◌, ◌∙◌, ◌∷◌, [], ◌++◌, ap, sym, refl, arith, length, List, ℕ, map, Some, None, Option, true, false, zero, suc, ◌+◌, drop, subst}
+use Rattle.std.proofs.Common.{◌≡◌, ◌<◌, ◌≤◌, ◌∙◌, ◌∷◌, [], ◌++◌, ap, sym, refl, arith, length, List, ℕ, map, Some, None, Option, true, false, zero, suc, ◌+◌, take}
 use Rattle.std.specs.Prelude.{is_some, nat_lt, unwrap_or}
-use Rattle.mc_base.specs.Stored.{Stored}
 use Rattle.mc_base.specs.Frame.{made}
 use Rattle.mc_base.specs.Letter.{spelling, msg}
 use Rattle.mc_base.specs.declared.refusal.Refusal.TheVariants.{EndpInvalid, PeerInvalid, MsgSize, NoBuffer}
@@ -10,16 +9,14 @@ use Rattle.board_model.specs.Journal.{noted_all, put_line}
 use Rattle.board_model.specs.State.{address_at}
 use Rattle.board_model.specs.Answer.{answer, puts, refusal, address_of, local, lacks_buffers, success_puts}
 use Rattle.board_model.specs.Serial.{after_own_call, put_entry}
-use Rattle.domain_core.specs.Lane.{with_frame, with_one_used}
-use Rattle.domain_core.specs.Pool.{Pool, lane_in, with_first_used, with_put}
-use Rattle.domain_core.specs.InLane.{frame_in, framed_in}
+use Rattle.lane_end.specs.Loop.{Loop, loop_after_send}
+use Rattle.lane_end.specs.SendMoves.{Sent}
+use Rattle.domain_core.specs.Lane.{lane_in, with_frame, with_one_used}
 use Rattle.domain_core.specs.InBook.{table_in}
-use Rattle.domain_core.specs.InPlaces.{AreInPlaces}
 use Rattle.domain_core.specs.DomainView.{DomainView}
 use Rattle.domain_core.specs.Alone.{alone_of}
-use Rattle.std.proofs.lemmas.List.{length_push}
 use Rattle.domain_core.proofs.Frames.{none-from}
-use Rattle.domain_core.proofs.Pools.{lane-sent, placed-sent}
+use Rattle.domain_core.proofs.OwnLane.{lane-sent}
 use Rattle.domain_core.proofs.Calling.{answer-refused, alone-refused, puts-refused, answer-done, alone-done, puts-done, send-is, own-free, alone-sent}
 use Rattle.domain_core.proofs.domain.Domain.put_message.Goals as goal
 
@@ -83,14 +80,11 @@ some-free : (free : ℕ) → (free ≡ 0 → ⊥) → 0 < free
 some-free zero h = absurd (h refl)
 some-free (suc k) h = omega arith
 
-absurd-some : true ≡ false → ⊥
-absurd-some e = cc
-
 short : (size : ℕ) → size ≤ 488 → nat_lt 488 size ≡ false
 short size le = grind arith
 
-pub returns-in_default-use_free-clause-answer : goal.returns-in_default-use_free-clause-answer
-returns-in_default-use_free-clause-answer c =
+pub returns-then-free_len-eq0-clause-answer : goal.returns-then-free_len-eq0-clause-answer
+returns-then-free_len-eq0-clause-answer c =
     let call : DomainCall = send_from c.args.from.port c.args.to c.args.priority c.args.bytes.now in
     let a = alone_of c.self.inside in
     let n = c.self.inside.number in
@@ -98,7 +92,7 @@ returns-in_default-use_free-clause-answer c =
     let e3 = ap (λ (x : DomainView). is_some (address_of x.alone.state c.args.to)) c.self.view_is ∙ ap (λ (o : Option ℕ). is_some o) (sym c.in-Some-address_of.ensures.address) in
     let e4 = short (length c.args.bytes.now) (omega (arith, c.if-bytes-gt-ITEM_SIZE.false)) in
     let own : c.args.to.domain ≡ n = c.in-Some-address_of.ensures.own refl ∙ ap (λ (x : DomainView). x.alone.state.number) (sym c.self.view_is) in
-    let none : l.free ≡ 0 = c.use_free.ensures.none.0 (ap (λ (o : Option Stored). is_some o) (none-from c.use_free.result c.in_default-use_free.not-Some)) in
+    let none : l.free ≡ 0 = sym c.free_len.ensures.free ∙ c.if-free_len-eq0.true in
     let e5 : lacks_buffers a.state (success_puts a.state c.args.from.node call) ≡ true = ap (λ (k : ℕ). nat_lt k 1) (own-free n c.self.inside.nodes (table_in c.self.inside.book c.self.inside.endpoints c.self.inside.requests) l c.args.to.domain own) ∙ lacks l.free none in
     let e = send-is a.state c.args.from.node c.args.from.port c.args.to c.args.priority c.args.bytes.now _ _ _ _ (sym (c.in-Some.ensures.live c.self.inside.book)) (c.in-Some.ensures.channel c.self.inside.book) e3 e4 e5 in
     answer-refused a.state c.args.from.node call NoBuffer e ∙ ap (λ (x : DomainView). answer x.alone.state c.args.from.node call) c.self.view_is
@@ -115,45 +109,19 @@ unrefused c =
     let e3 = ap (λ (x : DomainView). is_some (address_of x.alone.state c.args.to)) c.self.view_is ∙ ap (λ (o : Option ℕ). is_some o) (sym c.in-Some-address_of.ensures.address) in
     let e4 = short (length c.args.bytes.now) (omega (arith, c.if-bytes-gt-ITEM_SIZE.false)) in
     let own : c.args.to.domain ≡ n = c.in-Some-address_of.ensures.own refl ∙ ap (λ (x : DomainView). x.alone.state.number) (sym c.self.view_is) in
-    let some : 0 < l.free = some-free l.free (λ (none : l.free ≡ 0). absurd-some (c.in-Some-use_free.ensures.none.1 none)) in
+    let some : 0 < l.free = some-free l.free (λ (none : l.free ≡ 0). c.if-free_len-eq0.false (c.free_len.ensures.free ∙ none)) in
     let e5 : lacks_buffers a.state (success_puts a.state c.args.from.node call) ≡ false = ap (λ (k : ℕ). nat_lt k 1) (own-free n c.self.inside.nodes (table_in c.self.inside.book c.self.inside.endpoints c.self.inside.requests) l c.args.to.domain own) ∙ suffices l.free some in
     send-is a.state c.args.from.node c.args.from.port c.args.to c.args.priority c.args.bytes.now _ _ _ _ (sym (c.in-Some.ensures.live c.self.inside.book)) (c.in-Some.ensures.channel c.self.inside.book) e3 e4 e5
 
 -- what is put is the frame of success
-put-frame : (c : goal.After-put) → frame_in c.fill-carried.result ≡ made (unwrap_or (address_at (alone_of c.self.inside).state (local c.args.from.node c.args.from.port)) 0) (unwrap_or (address_of (alone_of c.self.inside).state c.args.to) 0) (spelling (msg c.args.priority c.args.bytes.now))
+put-frame : (c : goal.After-put) → take c.write-len.result c.write-len.new.out ≡ made (unwrap_or (address_at (alone_of c.self.inside).state (local c.args.from.node c.args.from.port)) 0) (unwrap_or (address_of (alone_of c.self.inside).state c.args.to) 0) (spelling (msg c.args.priority c.args.bytes.now))
 put-frame c =
     let text = spelling (msg c.args.priority c.args.bytes.now) in
     let source : address_at (alone_of c.self.inside).state (local c.args.from.node c.args.from.port) ≡ Some c.in-Some.source = sym (c.in-Some.ensures.address c.self.inside.book) in
     let destination : address_of (alone_of c.self.inside).state c.args.to ≡ Some c.in-Some-address_of.destination = ap (λ (x : DomainView). address_of x.alone.state c.args.to) c.self.view_is ∙ sym c.in-Some-address_of.ensures.address in
-    c.fill-carried.ensures.frame
+    c.write-len.ensures.frame
     ∙ ap (λ (o : Option ℕ). made (unwrap_or o 0) c.in-Some-address_of.destination text) (sym source)
     ∙ ap (λ (o : Option ℕ). made (unwrap_or (address_at (alone_of c.self.inside).state (local c.args.from.node c.args.from.port)) 0) (unwrap_or o 0) text) (sym destination)
-
-put-pool : (c : goal.After-put) → c.put.new.self ≡ with_put (with_first_used c.self.inside.lane) (framed_in c.fill-carried.result)
-put-pool c = c.put.ensures ∙ ap (λ (p : Pool). with_put p (framed_in c.fill-carried.result)) c.in-Some-use_free.ensures.pool
-
-pub invariant_of-self-2 : goal.invariant_of-self-2
-invariant_of-self-2 c =
-    let i = c.self.invariant in
-    let r = c.self.inside.endpoints in
-    let b = c.self.inside.book in
-    let p = c.self.inside.lane in
-    let f = framed_in c.fill-carried.result in
-    let first : p.free ≡ f.number ∷ drop 1 p.free
-    = c.in-Some-use_free.ensures.first ∙ ap (λ (n : ℕ). n ∷ c.use_free.new.self.free) (sym c.fill-carried.ensures.number) ∙ ap (λ (q : Pool). f.number ∷ q.free) c.in-Some-use_free.ensures.pool in
-    let size : c.put.new.self.size ≡ p.size = ap (λ (q : Pool). q.size) (put-pool c) in
-    let shown : c.put.new.self.shown ≡ p.shown = ap (λ (q : Pool). q.shown) (put-pool c) in
-    let ring : length c.put.new.self.ring ≡ length p.ring + 1 = ap (λ (q : Pool). length q.ring) (put-pool c) ∙ length_push p.ring f in
-    record {
-      places = subst (λ (x : Pool). AreInPlaces r c.self.inside.requests b x) (sym (put-pool c)) (placed-sent r c.self.inside.requests b p f first i.places);
-      receives = i.receives;
-      size = omega (arith, i.size, size);
-      room = omega (arith, i.room, size);
-      number = i.number;
-      shown = omega (arith, i.shown, shown, ring);
-      given = i.given;
-      few = i.few;
-    }
 
 pub returns-clause-answer : goal.returns-clause-answer
 returns-clause-answer c =
@@ -167,7 +135,7 @@ returns-clause-alone c =
     let n = c.self.inside.number in
     let own : c.args.to.domain ≡ n = c.in-Some-address_of.ensures.own refl ∙ ap (λ (x : DomainView). x.alone.state.number) (sym c.self.view_is) in
     let p = c.self.inside.lane in
-    let lane = ap lane_in (put-pool c) ∙ lane-sent p (framed_in c.fill-carried.result) ∙ ap (λ (f : List ℕ). with_frame (with_one_used (lane_in p)) f) (put-frame c) in
+    let lane = ap lane_in c.put.ensures.moved.1 ∙ lane-sent p (take c.write-len.result c.write-len.new.out) ∙ ap (λ (f : List ℕ). with_frame (with_one_used (lane_in p)) f) (put-frame c) in
     alone-sent n c.self.inside.nodes (table_in c.self.inside.book c.self.inside.endpoints c.self.inside.requests) (lane_in p) (lane_in c.put.new.self) c.args.to.domain _ own lane
     ∙ sym (alone-done a c.args.from.node call (unrefused c))
     ∙ ap (λ (x : DomainView). after_own_call x.alone c.args.from.node call) c.self.view_is
@@ -177,5 +145,5 @@ returns-clause-told c =
     let call : DomainCall = send_from c.args.from.port c.args.to c.args.priority c.args.bytes.now in
     let lines = c.args.journal.now.lines in
     c.note.ensures.lines
-    ∙ ap (λ (f : List ℕ). lines ++ put_line c.args.to.domain f ∷ []) (c.frame.ensures.value ∙ put-frame c)
+    ∙ ap (λ (f : List ℕ). lines ++ put_line c.args.to.domain f ∷ []) (put-frame c)
     ∙ ap (λ (ps : List (ℕ × List ℕ)). noted_all lines (map put_entry ps)) (sym (puts-done (alone_of c.self.inside).state c.args.from.node call (unrefused c)) ∙ ap (λ (x : DomainView). puts x.alone.state c.args.from.node call) c.self.view_is)

@@ -1,4 +1,4 @@
-use Rattle.std.proofs.Common.{◌≡◌, ◌∙◌, ap, sym, arith, length, ℕ, Option, None, true}
+use Rattle.std.proofs.Common.{◌≡◌, ◌∙◌, ap, sym, subst, arith, length, ℕ, Option, None, true}
 use Rattle.std.specs.Prelude.{is_some, option_and_then, slice_get, unwrap_or}
 use Rattle.std.proofs.lemmas.List.{length-map}
 use Rattle.board_model.specs.DomainCall.{DomainCall, delete_at}
@@ -8,8 +8,7 @@ use Rattle.board_model.specs.Answer.{answer, local, refusal}
 use Rattle.board_model.specs.Serial.{after_own_call}
 use Rattle.domain_core.specs.DomainView.{DomainView}
 use Rattle.domain_core.specs.Records.{Records, waiting_in}
-use Rattle.domain_core.specs.Lane.{Lane}
-use Rattle.domain_core.specs.Pool.{Framed, lane_in}
+use Rattle.domain_core.specs.Lane.{Lane, lane_in, AreForEndpoints}
 use Rattle.domain_core.specs.InBook.{endpoints_in, item_in, table_in}
 use Rattle.domain_core.specs.Alone.{alone_of}
 use Rattle.domain_core.proofs.Calling.{alone-deleted, alone-done, answer-done, delete-is}
@@ -41,8 +40,6 @@ invariant_of-self c =
     let gone = c.end_endpoint.ensures.records in
     let lane = c.end_endpoint.ensures.lane in
     let size : p'.size ≡ p.size = ap (λ (l : Lane). l.size) lane in
-    let shown : p'.shown ≡ p.shown = ap (λ (l : Lane). l.shown) lane in
-    let ring : length p'.ring ≡ length p.ring = sym (length-map p'.ring (λ (f : Framed). f.frame)) ∙ ap (λ (l : Lane). length l.ring) lane ∙ length-map p.ring (λ (f : Framed). f.frame) in
     let room : r'.room ≡ r.room = ap (λ (x : Records). x.room) gone in
     let given : r'.given ≡ r.given = ap (λ (x : Records). x.given) gone in
     let number : r'.number ≡ r.number = ap (λ (x : Records). x.number) gone in
@@ -52,7 +49,7 @@ invariant_of-self c =
       size = omega (arith, i.size, size);
       room = omega (arith, i.room, size, room);
       number = number ∙ i.number;
-      shown = omega (arith, i.shown, shown, ring);
+      letters = subst (λ (l : Lane). AreForEndpoints l.ring) (sym lane) i.letters;
       given = omega (arith, i.given, given);
       few = omega (arith, i.few, ap (λ (x : Records). length x.endpoints) gone, length-without c.in-Some.place r.endpoints c.in-Some.ensures.within);
     }

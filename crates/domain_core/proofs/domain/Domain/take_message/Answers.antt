@@ -1,5 +1,5 @@
 use Rattle.std.proofs.Common.{◌≡◌, ◌<◌, ◌∙◌, ap, sym, subst, arith, length, take, List, ℕ, Some, None, Option, true, false, [], ◌∷◌}
-use Rattle.std.specs.Prelude.{is_some, option_and_then, slice_get, ◌==◌}
+use Rattle.std.specs.Prelude.{Contains, is_some, option_and_then, slice_get, ◌==◌}
 use Rattle.mc_base.specs.declared.refusal.Refusal.TheVariants.{Empty}
 use Rattle.board_model.specs.DomainCall.{DomainCall}
 use Rattle.board_model.specs.DomainCall.{receive_at}
@@ -12,17 +12,20 @@ use Rattle.buffer_book.specs.Book.{Book, queued_at, with_away}
 use Rattle.message_queue.specs.Queue.{waiting}
 use Rattle.domain_core.specs.declared.endpoints.Endpoint.{Endpoint}
 use Rattle.domain_core.specs.Table.{with_received_at}
-use Rattle.domain_core.specs.Lane.{with_returned}
+use Rattle.lane_end.specs.Loop.{Loop, loop_after_receive}
+use Rattle.lane_end.specs.ReceiveMoves.{Gave}
+use Rattle.domain_core.specs.Lane.{lane_in, with_returned, AreForEndpoints}
 use Rattle.domain_core.specs.Records.{Records, with_best_taken, with_best_taken_at}
-use Rattle.domain_core.specs.Pool.{Pool, lane_in, with_given_back}
+use Rattle.domain_core.specs.Out.{out_in}
 use Rattle.domain_core.specs.InBook.{content_in, endpoints_in, item_in, table_in}
 use Rattle.domain_core.specs.InPlaces.{AreInPlaces}
 use Rattle.domain_core.specs.DomainView.{DomainView}
 use Rattle.domain_core.specs.Alone.{IsSound, alone, alone_of}
 use Rattle.domain_core.proofs.Frames.{none-from}
 use Rattle.domain_core.proofs.Tables.{length-changed, taken-none}
-use Rattle.domain_core.proofs.Pools.{lane-returned}
-use Rattle.domain_core.proofs.Queuing.{content-of, received-places, received-queued, received-table}
+use Rattle.domain_core.proofs.Outs.{is-out}
+use Rattle.domain_core.proofs.OwnLane.{lane-returned}
+use Rattle.domain_core.proofs.Queuing.{content-of, received-beside, received-places, received-queued, received-table}
 use Rattle.domain_core.proofs.Waits.{best-there, none-there}
 use Rattle.domain_core.proofs.Calling.{alone-refused, answer-refused, answer-done, alone-done, recv-is, alone-received}
 use Rattle.domain_core.proofs.domain.Domain.take_message.Goals as goal
@@ -70,7 +73,17 @@ returns-in_default-take_best-clause-alone c =
 pub bytes-requires : goal.bytes-requires
 bytes-requires c =
     let w = waiting c.in-Some-take_best.slot c.in-Some-take_best.field-0-1 in
-    received-queued c.self.inside.endpoints c.self.inside.requests c.self.inside.book c.self.inside.lane c.in-Some.place w c.self.invariant.places c.in-Some-take_best.ensures.best
+    received-queued c.self.inside.endpoints c.self.inside.requests c.self.inside.book (out_in c.self.inside.lane) c.in-Some.place w c.self.invariant.places c.in-Some-take_best.ensures.best
+
+pub give_back-requires : goal.give_back-requires
+give_back-requires c =
+    let r = c.self.inside.endpoints in
+    let b = c.self.inside.book in
+    let q = c.self.inside.requests in
+    let p = c.self.inside.lane in
+    let w = waiting c.in-Some-take_best.slot c.in-Some-take_best.field-0-1 in
+    let beside = received-beside r q b (out_in p) c.in-Some.place w c.self.invariant.places c.in-Some-take_best.ensures.best in
+    subst (λ (n : ℕ). Contains p.out n) (sym c.withdraw.ensures.number) (is-out _ _ _ _ _ beside)
 
 pub invariant_of-self-2 : goal.invariant_of-self-2
 invariant_of-self-2 c =
@@ -82,23 +95,21 @@ invariant_of-self-2 c =
     let p' = c.give_back.new.self in
     let w = waiting c.in-Some-take_best.slot c.in-Some-take_best.field-0-1 in
     let gone = c.take_best.ensures.rest in
-    let back : p' ≡ with_given_back p w.slot.buffer = c.give_back.ensures ∙ ap (λ (n : ℕ). with_given_back p n) c.withdraw.ensures.number in
+    let back : p' ≡ loop_after_receive p (Gave w.slot.buffer) = c.give_back.ensures.moved.1 ∙ ap (λ (n : ℕ). loop_after_receive p (Gave n)) c.withdraw.ensures.number in
     let q = c.self.inside.requests in
-    let placed = received-places r c.self.inside.requests b p c.in-Some.place w i.places c.in-Some-take_best.ensures.best in
+    let placed = received-places r c.self.inside.requests b (out_in p) c.in-Some.place w i.places c.in-Some-take_best.ensures.best in
     let same : length r'.endpoints ≡ length r.endpoints = ap (λ (x : Records). length x.endpoints) gone ∙ length-changed with_best_taken c.in-Some.place r.endpoints in
-    let size : p'.size ≡ p.size = ap (λ (x : Pool). x.size) back in
-    let ring : length p'.ring ≡ length p.ring = ap (λ (x : Pool). length x.ring) back in
-    let shown : p'.shown ≡ p.shown = ap (λ (x : Pool). x.shown) back in
+    let size : p'.size ≡ p.size = ap (λ (x : Loop). x.size) back in
     let room : r'.room ≡ r.room = ap (λ (x : Records). x.room) gone in
     let given' : r'.given ≡ r.given = ap (λ (x : Records). x.given) gone in
     let number : r'.number ≡ r.number = ap (λ (x : Records). x.number) gone in
     record {
-      places = subst (λ (x : Records). AreInPlaces x q c.withdraw.new.self p') (sym gone) (subst (λ (x : Book). AreInPlaces (with_best_taken_at r c.in-Some.place) q x p') (sym c.withdraw.ensures.book) (subst (λ (x : Pool). AreInPlaces (with_best_taken_at r c.in-Some.place) q (with_away b c.in-Some-take_best.slot) x) (sym back) placed));
+      places = subst (λ (x : Records). AreInPlaces x q c.withdraw.new.self (out_in p')) (sym gone) (subst (λ (x : Book). AreInPlaces (with_best_taken_at r c.in-Some.place) q x (out_in p')) (sym c.withdraw.ensures.book) (subst (λ (x : Loop). AreInPlaces (with_best_taken_at r c.in-Some.place) q (with_away b c.in-Some-take_best.slot) (out_in x)) (sym back) placed));
       receives = i.receives;
       size = omega (arith, i.size, size);
       room = omega (arith, i.room, size, room);
       number = number ∙ i.number;
-      shown = omega (arith, shown, ring, i.shown);
+      letters = subst (λ (x : Loop). AreForEndpoints (lane_in x).ring) (sym back) i.letters;
       given = omega (arith, given', i.given);
       few = omega (arith, same, i.few);
     }
@@ -149,8 +160,8 @@ returns-clause-alone c =
     let table : table_in c.withdraw.new.self c.take_best.new.self q ≡ with_received_at (table_in b r q) c.in-Some.place
     = ap (λ (x : Records). table_in c.withdraw.new.self x q) c.take_best.ensures.rest
     ∙ ap (λ (x : Book). table_in x (with_best_taken_at r c.in-Some.place) q) c.withdraw.ensures.book
-    ∙ received-table r q b p c.in-Some.place w c.self.invariant.places c.in-Some-take_best.ensures.best in
-    let lane : lane_in c.give_back.new.self ≡ with_returned (lane_in p) 1 = ap lane_in c.give_back.ensures ∙ lane-returned p c.withdraw.result.number in
+    ∙ received-table r q b (out_in p) c.in-Some.place w c.self.invariant.places c.in-Some-take_best.ensures.best in
+    let lane : lane_in c.give_back.new.self ≡ with_returned (lane_in p) 1 = ap lane_in c.give_back.ensures.moved.1 ∙ lane-returned p c.withdraw.result.number in
     alone-received c.self.inside.number c.self.inside.nodes (table_in b r q) (table_in c.withdraw.new.self c.take_best.new.self q) (lane_in p) (lane_in c.give_back.new.self) c.in-Some.place _ _ _ table lane (c.in-Some.ensures.place b) (best-is c)
     ∙ sym (alone-done (alone_of c.self.inside) node call (unrefused c))
     ∙ ap (λ (x : DomainView). after_own_call x.alone node call) c.self.view_is

@@ -4,8 +4,7 @@ use Rattle.board_model.specs.Journal.{Visit, noted, turned}
 use Rattle.board_model.specs.Turn.{IsTurn}
 use Rattle.board_model.specs.Serial.{own_turn, after_own_turn}
 use Rattle.domain_core.specs.Table.{Table}
-use Rattle.domain_core.specs.Lane.{Lane}
-use Rattle.domain_core.specs.Pool.{Framed, lane_in}
+use Rattle.domain_core.specs.Lane.{Lane, lane_in, AreForEndpoints}
 use Rattle.domain_core.specs.InBook.{endpoint_in, table_in}
 use Rattle.domain_core.specs.Turned.{count_taken, frames_taken, table_after}
 use Rattle.domain_core.specs.DomainView.{DomainView}
@@ -13,9 +12,8 @@ use Rattle.domain_core.specs.Records.{all_waiting}
 use Rattle.domain_core.specs.InRequests.{handed_slots}
 use Rattle.domain_core.specs.Alone.{alone}
 use Rattle.domain_core.proofs.Handed.{length-handed}
-use Rattle.domain_core.proofs.Slots.{length-all}
-use Rattle.domain_core.proofs.Pools.{length-on}
-use Rattle.domain_core.proofs.Turning.{All-take, is-turn, alone-after, turn-is, length-after}
+use Rattle.domain_core.proofs.Outs.{held-are}
+use Rattle.domain_core.proofs.Turning.{All-drop, All-take, is-turn, alone-after, turn-is, length-after}
 use Rattle.domain_core.proofs.Waits.{length-items}
 use Rattle.domain_core.proofs.domain.Domain.take_turn.Goals as goal
 
@@ -30,20 +28,18 @@ invariant_of-self c =
     let r' = c.make_turn.new.endpoints in
     let p' = c.make_turn.new.lane in
     let same : length r'.endpoints ≡ length r.endpoints
-    = sym (length-map r'.endpoints (endpoint_in c.make_turn.new.book)) ∙ ap (λ (x : Table). length x.held.endpoints) m.table ∙ length-after (frames_taken l) n t.held (All-take (count_taken l) l.ring c.make_turn.ensures.frames) ∙ length-map r.endpoints (endpoint_in c.self.inside.book) in
-    let size : p'.size ≡ l.size = ap (λ (x : Lane). x.size) m.lane in
+    = sym (length-map r'.endpoints (endpoint_in c.make_turn.new.book)) ∙ ap (λ (x : Table). length x.held.endpoints) m.table ∙ length-after (frames_taken l) n t.held (All-take (count_taken l) l.ring c.self.invariant.letters) ∙ length-map r.endpoints (endpoint_in c.self.inside.book) in
+    let size : p'.size ≡ l.size = ap (λ (x : Lane). x.size) m.lane_is in
     let room : r'.room ≡ r.room = ap (λ (x : Table). x.room) m.table in
     let given : r'.given ≡ r.given = ap (λ (x : Table). x.given) m.table in
     let number : r'.number ≡ r.number = ap (λ (x : Table). x.number) m.table in
-    let shown : p'.shown ≡ length l.ring - count_taken l = ap (λ (x : Lane). x.shown) m.lane in
-    let ring : length p'.ring ≡ length l.ring - count_taken l = sym (length-map p'.ring (λ (f : Framed). f.frame)) ∙ ap (λ (x : Lane). length x.ring) m.lane ∙ length-drop (count_taken l) l.ring in
     record {
       places = c.make_turn.ensures.places;
       receives = c.make_turn.ensures.receives;
       size = omega (arith, i.size, size);
       room = omega (arith, i.room, size, room);
       number = number ∙ i.number;
-      shown = omega (arith, shown, ring);
+      letters = subst (λ (x : Lane). AreForEndpoints x.ring) (sym m.lane_is) (All-drop (count_taken l) l.ring i.letters);
       given = omega (arith, given, i.given);
       few = omega (arith, same, i.few);
     }
@@ -53,10 +49,9 @@ returns-clause-allowed c =
     let i = c.self.invariant in
     let p = c.self.inside.lane in
     let items = length-items c.self.inside.book c.self.inside.endpoints.endpoints in
-    let ring = length-map p.ring (λ (f : Framed). f.frame) in
     let handed = length-handed c.self.inside.book c.self.inside.requests.standing in
-    let all = length-all (all_waiting c.self.inside.endpoints.endpoints) (handed_slots c.self.inside.requests.standing) in
-    let is = is-turn c.self.inside.number c.self.inside.nodes (table_in c.self.inside.book c.self.inside.endpoints c.self.inside.requests) (lane_in p) (omega (arith, i.places.each.all, length-on p, items, ring, handed, all)) (omega (arith, i.shown, ring)) c.make_turn.ensures.frames in
+    let m = c.make_turn.ensures.turn in
+    let is = is-turn c.self.inside.number c.self.inside.nodes (table_in c.self.inside.book c.self.inside.endpoints c.self.inside.requests) (lane_in p) (omega (arith, held-are _ _ _ _ i.places, m.see_fits, items, handed)) m.back_fits m.sees_shown i.letters in
     subst (λ (x : DomainView). IsTurn x.alone.state (own_turn x.alone)) c.self.view_is is
 
 pub returns-clause-alone : goal.returns-clause-alone
@@ -67,8 +62,8 @@ returns-clause-alone c =
     let l = lane_in c.self.inside.lane in
     let m = c.make_turn.ensures.turn in
     ap (λ (x : Table). alone n nodes x (lane_in c.make_turn.new.lane)) m.table
-    ∙ ap (λ (x : Lane). alone n nodes (table_after n t l) x) m.lane
-    ∙ sym (alone-after n nodes t l c.make_turn.ensures.frames)
+    ∙ ap (λ (x : Lane). alone n nodes (table_after n t l) x) m.lane_is
+    ∙ sym (alone-after n nodes t l c.self.invariant.letters)
     ∙ ap (λ (x : DomainView). after_own_turn x.alone) c.self.view_is
 
 pub returns-clause-told : goal.returns-clause-told
@@ -76,5 +71,5 @@ returns-clause-told c =
     let t = table_in c.self.inside.book c.self.inside.endpoints c.self.inside.requests in
     let l = lane_in c.self.inside.lane in
     c.make_turn.ensures.turn.told
-    ∙ ap (λ (vs : List Visit). noted c.args.journal.now.lines (turned vs)) (sym (turn-is c.self.inside.number c.self.inside.nodes t l c.make_turn.ensures.frames))
+    ∙ ap (λ (vs : List Visit). noted c.args.journal.now.lines (turned vs)) (sym (turn-is c.self.inside.number c.self.inside.nodes t l c.self.invariant.letters))
     ∙ ap (λ (x : DomainView). noted c.args.journal.now.lines (turned (own_turn x.alone))) c.self.view_is
