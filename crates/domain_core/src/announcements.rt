@@ -32,6 +32,7 @@ pub fn take_announcement(
     ensures receives { AreReceives requests.new }
     ensures ids { map (λ r. r.id) requests.new.standing ≡ map (λ r. r.id) requests.old.standing }
     ensures handed { handed_slots requests.new.standing ≡ handed_slots requests.old.standing }
+    ensures given { requests.new.given ≡ requests.old.given }
 {
     let ns = match read_ns(payload) {
         Ok(ns) => ns,
