@@ -1,16 +1,18 @@
 //! What a board is and does: scenarios as plain types, and in `specs/` the definitions that everything is proved
 //! against. It has no code of its own beyond the types and the laws.
 //!
-//! `specs/` is to be read in this order: Scenario, Grammar, Words, Journal, State, Choice, Dealing, Turn, DomainCall, Answer,
-//! Effect, Labels, Step, Run, Traffic, Board, Channels, Messages, Takings, Drops, Totals, Places, Serial, Report, Headline,
-//! Laws.
+//! `specs/` is to be read in this order: Scenario, Grammar, FileLines, FileWords, Forms, LineReasons, Language, Words,
+//! Journal, State, Choice, Dealing, Turn, DomainCall, Answer, Effect, Labels, Step, Run, Traffic, Board, Channels, Messages,
+//! Takings, Drops, Totals, Places, Serial, Report, Headline, Laws.
 #![tactic(auto)]
 
 pub mod laws;
+mod reason;
 mod scenario;
 mod seq;
 mod totals;
 
+pub use reason::LineReason;
 pub use scenario::{Call, CallLine, DomainLine, Label, LinkLine, Scenario};
 pub use seq::Seq;
 pub use totals::{LanePlaces, Totals};

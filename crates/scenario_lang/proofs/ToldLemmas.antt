@@ -13,7 +13,7 @@ use Rattle.std.proofs.lemmas.Map.Text.{is_eq-slice_cmp}
 use Rattle.std.proofs.lemmas.Map.Lookups.{exact_bytes}
 use Rattle.std.proofs.lemmas.Map.Views.{Contains-from_any, list_any-from_Contains}
 use Rattle.board_model.specs.declared.scenario.Call.{Call}
-use Rattle.board_model.specs.declared.scenario.Call.TheVariants.{Create, MsgSend, MsgRecv, MsgRecvI, MsgAvailable, Test, Cancel}
+use Rattle.board_model.specs.declared.scenario.Call.TheVariants.{Create, Delete, Lookup, MsgSend, MsgRecv, MsgRecvI, MsgAvailable, Test, Cancel, Turn}
 use Rattle.board_model.specs.declared.scenario.CallLine.{CallLine}
 use Rattle.board_model.specs.Scenario.{label_in}
 use Rattle.board_model.specs.Grammar.{LabelFits, told_after, IsLawfulLine, AreLawfulLines}
@@ -117,6 +117,9 @@ told_has told label h = Contains-from_any (λ (x y : List ℕ). λ e. (bytes_eq-
 
 fits_lawful : (told : List (List ℕ)) (label : Option (List ℕ)) (c : Call) → IsLabelledRight label c → (is_known told (label_named c) && is_new told label) ≡ true → LabelFits told label c
 fits_lawful told None (Create port) right fits = tt
+fits_lawful told None (Delete port) right fits = tt
+fits_lawful told None (Lookup name) right fits = tt
+fits_lawful told None Turn right fits = tt
 fits_lawful told None (MsgSend port to priority bytes) right fits = tt
 fits_lawful told None (MsgRecv port max) right fits = tt
 fits_lawful told None (MsgRecvI port max) right fits = right
@@ -124,6 +127,9 @@ fits_lawful told None (MsgAvailable port) right fits = tt
 fits_lawful told None (Test l) right fits = told_has told l.items (both_hold (is_told told l.items) true fits).0
 fits_lawful told None (Cancel l) right fits = told_has told l.items (both_hold (is_told told l.items) true fits).0
 fits_lawful told (Some label) (Create port) right fits = right
+fits_lawful told (Some label) (Delete port) right fits = right
+fits_lawful told (Some label) (Lookup name) right fits = right
+fits_lawful told (Some label) Turn right fits = right
 fits_lawful told (Some label) (MsgSend port to priority bytes) right fits = right
 fits_lawful told (Some label) (MsgRecv port max) right fits = right
 fits_lawful told (Some label) (MsgRecvI port max) right fits = (right, told_not_false told label (not_true (is_told told label) fits))
@@ -133,6 +139,9 @@ fits_lawful told (Some label) (Cancel l) right fits = right
 
 right_lawful : (told : List (List ℕ)) (label : Option (List ℕ)) (c : Call) → LabelFits told label c → IsLabelledRight label c
 right_lawful told None (Create port) h = tt
+right_lawful told None (Delete port) h = tt
+right_lawful told None (Lookup name) h = tt
+right_lawful told None Turn h = tt
 right_lawful told None (MsgSend port to priority bytes) h = tt
 right_lawful told None (MsgRecv port max) h = tt
 right_lawful told None (MsgRecvI port max) h = h
@@ -140,6 +149,9 @@ right_lawful told None (MsgAvailable port) h = tt
 right_lawful told None (Test l) h = tt
 right_lawful told None (Cancel l) h = tt
 right_lawful told (Some label) (Create port) h = h
+right_lawful told (Some label) (Delete port) h = h
+right_lawful told (Some label) (Lookup name) h = h
+right_lawful told (Some label) Turn h = h
 right_lawful told (Some label) (MsgSend port to priority bytes) h = h
 right_lawful told (Some label) (MsgRecv port max) h = h
 right_lawful told (Some label) (MsgRecvI port max) h = h.0
@@ -158,6 +170,9 @@ new_label told label absent = elim (cases_bool (is_told told label)) [
 
 lawful_fits : (told : List (List ℕ)) (label : Option (List ℕ)) (c : Call) → LabelFits told label c → (is_known told (label_named c) && is_new told label) ≡ true
 lawful_fits told None (Create port) h = refl
+lawful_fits told None (Delete port) h = refl
+lawful_fits told None (Lookup name) h = refl
+lawful_fits told None Turn h = refl
 lawful_fits told None (MsgSend port to priority bytes) h = refl
 lawful_fits told None (MsgRecv port max) h = refl
 lawful_fits told None (MsgRecvI port max) h = refl
@@ -165,6 +180,9 @@ lawful_fits told None (MsgAvailable port) h = refl
 lawful_fits told None (Test l) h = has_told told l.items h
 lawful_fits told None (Cancel l) h = has_told told l.items h
 lawful_fits told (Some label) (Create port) h = absurd h
+lawful_fits told (Some label) (Delete port) h = absurd h
+lawful_fits told (Some label) (Lookup name) h = absurd h
+lawful_fits told (Some label) Turn h = absurd h
 lawful_fits told (Some label) (MsgSend port to priority bytes) h = absurd h
 lawful_fits told (Some label) (MsgRecv port max) h = absurd h
 lawful_fits told (Some label) (MsgRecvI port max) h = new_label told label h.1

@@ -5,7 +5,7 @@ ghost use Rattle.std.specs.List.{flat_map};
 ghost use Rattle.mc_base.specs.Text.{hex_text};
 ghost use Rattle.outer_io.specs.Puts.{Puts};
 ghost use Rattle.board_model.specs.Scenario.{label_in};
-ghost use Rattle.scenario_lang.specs.Lines.{label_front};
+ghost use Rattle.scenario_lang.specs.Lines.{label_front, tries_front};
 ghost use Rattle.board_model.specs.Grammar.{canonical, domain_text, link_text, call_text, call_words, caller_text, name_text, spaced, line_of};
 
 use board_model::{Call, CallLine, DomainLine, LinkLine, Scenario};
@@ -75,6 +75,7 @@ fn put_call_line<K: Sink>(out: &mut Writer<'_, K>, line: &CallLine)
     put_caller(out, line.domain, line.node);
     out.put(b" ");
     put_label(out, line);
+    put_tries(out, line.tries);
     put_call(out, &line.call);
     out.put(b"\n");
 }
@@ -97,11 +98,24 @@ fn put_label<K: Sink>(out: &mut Writer<'_, K>, line: &CallLine)
     }
 }
 
+/// Puts how often the call of a line is made at most, where the line tells it.
+fn put_tries<K: Sink>(out: &mut Writer<'_, K>, tries: Option<u32>)
+    ensures { Puts K.Sink out.old out.new (tries_front tries) }
+{
+    if let Some(tries) = tries {
+        out.put(b"try ");
+        out.put_number(tries as u64);
+        out.put(b" ");
+    }
+}
+
 fn put_call<K: Sink>(out: &mut Writer<'_, K>, call: &Call)
     ensures { Puts K.Sink out.old out.new (spaced (call_words call.now)) }
 {
     match call {
         Call::Create { port } => put_create(out, *port),
+        Call::Delete { port } => put_delete(out, *port),
+        Call::Lookup { name } => put_lookup(out, *name),
         Call::MsgSend {
             port,
             to,
@@ -113,6 +127,7 @@ fn put_call<K: Sink>(out: &mut Writer<'_, K>, call: &Call)
         Call::MsgAvailable { port } => put_available(out, *port),
         Call::Test { label } => put_test(out, label.as_slice()),
         Call::Cancel { label } => put_cancel(out, label.as_slice()),
+        Call::Turn => out.put(b"turn"),
     }
 }
 
@@ -121,6 +136,20 @@ fn put_create<K: Sink>(out: &mut Writer<'_, K>, port: u16)
 {
     out.put(b"create ");
     out.put_number(port as u64);
+}
+
+fn put_delete<K: Sink>(out: &mut Writer<'_, K>, port: u16)
+    ensures { Puts K.Sink out.old out.new (spaced (codes "delete" ∷ decimal port ∷ [])) }
+{
+    out.put(b"delete ");
+    out.put_number(port as u64);
+}
+
+fn put_lookup<K: Sink>(out: &mut Writer<'_, K>, name: EndName)
+    ensures { Puts K.Sink out.old out.new (spaced (codes "lookup" ∷ name_text name ∷ [])) }
+{
+    out.put(b"lookup ");
+    put_name(out, name);
 }
 
 fn put_send<K: Sink>(
