@@ -1,14 +1,12 @@
 -- What the readers tell of the line of a call is what the table of reasons says.
-use Rattle.std.proofs.Common.{◌≡◌, ℕ, length, Bool, true, false, ◌&&◌, ◌||◌, not, List, [], ◌∷◌, ◌++◌, Option, Some, None, refl, sym, ap, ◌∙◌, inl, inr, true≢false}
-use Rattle.std.specs.Prelude.{codes, bytes_eq, nat_le, Result, Ok, Err, if◌then◌else◌, ◌==◌, option_map}
-use Rattle.std.specs.List.{list_all, list_any}
-use Rattle.std.proofs.lemmas.List.Folds.{list_all-append}
-use Rattle.board_model.specs.declared.scenario.Scenario.{Scenario}
+use Rattle.std.proofs.Common.{◌≡◌, ℕ, length, true, false, List, [], ◌∷◌, refl, sym, inl, inr, true≢false}
+use Rattle.std.specs.Prelude.{codes, bytes_eq, nat_le, Result, Ok, Err, if◌then◌else◌, option_map}
+use Rattle.std.specs.List.{list_all}
 use Rattle.board_model.specs.declared.scenario.Call.{Call}
 use Rattle.board_model.specs.declared.scenario.Call.TheVariants.{Create, Delete, Lookup, MsgSend, MsgRecv, MsgRecvI, MsgAvailable, Test, Cancel, Turn}
 use Rattle.arrayvec.specs.ArrayVec.{ArrayVec}
 use Rattle.board_model.specs.declared.reason.LineReason.{LineReason}
-use Rattle.board_model.specs.declared.reason.LineReason.TheVariants.{Form, Number, Bytes}
+use Rattle.board_model.specs.declared.reason.LineReason.TheVariants.{Number, Bytes}
 use Rattle.board_model.specs.FileLines.{parts_at}
 use Rattle.board_model.specs.FileWords.{Numeral, numeral, number, is_number, are_bytes, bytes, is_dash, pairs_of, is_label}
 use Rattle.board_model.specs.Forms.{port, name, priority, content, maximum, label, argument, name_in, label_of, form_in, forms, arguments_fit, are_three, arguments_numerals, arguments_contents}

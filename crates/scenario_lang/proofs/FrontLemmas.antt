@@ -1,11 +1,10 @@
 -- Fronts of a text: lines, words, and the parts of a word.
-use Rattle.std.proofs.Common.{◌≡◌, ◌≢◌, ℕ, zero, suc, ◌+◌, ◌-◌, ◌<◌, ◌≤◌, length, take, drop, get_or, Bool, true, false, ◌&&◌, ◌||◌, not, List, [], ◌∷◌, ◌++◌, Option, None, true≢false, append-nil, append_assoc, Bor, refl, sym, ap, ◌∙◌, arith, inl, inr}
+use Rattle.std.proofs.Common.{◌≡◌, ◌≢◌, ℕ, zero, suc, ◌+◌, ◌-◌, ◌≤◌, length, take, drop, get_or, Bool, true, false, ◌&&◌, not, List, [], ◌∷◌, ◌++◌, None, true≢false, append-nil, append_assoc, Bor, refl, sym, ap, ◌∙◌, arith, inl, inr}
 use Rattle.std.proofs.lemmas.Bool.Decides.{nat_tests}
-use Rattle.std.specs.Prelude.{◌==◌, if◌then◌else◌}
+use Rattle.std.specs.Prelude.{◌==◌}
 use Rattle.std.specs.List.{list_all}
 use Rattle.std.proofs.lemmas.List.{take-append-drop, take_rest, map-append}
 use Rattle.board_model.specs.FileLines.{onto_first, begins_with, lines_of, is_blank, ends_word, words_of, parts_at}
-use Rattle.board_model.specs.LineReasons.{is_empty}
 use Rattle.scenario_lang.specs.Fronts.{is_other, ends_at, unreturned, two_parts, three_parts}
 use Rattle.scenario_lang.specs.Reading.{seen}
 use Rattle.scenario_lang.proofs.Options.{cases_bool, both_hold}

@@ -1,8 +1,6 @@
 -- A call line that is read has its label, and gives a request where its label is in place.
-use Rattle.std.proofs.Common.{◌≡◌, ℕ, Bool, true, false, ◌&&◌, ◌||◌, not, List, [], ◌∷◌, ◌++◌, Option, Some, None, refl, sym, ap, ◌∙◌, Bor, subst, inl, inr}
-use Rattle.std.specs.Prelude.{bytes_eq, ◌==◌, Result, Ok, Err, IfSome, option_map}
-use Rattle.std.specs.List.{list_any}
-use Rattle.std.proofs.lemmas.List.Folds.{list_any-append}
+use Rattle.std.proofs.Common.{◌≡◌, ℕ, Bool, true, false, List, Option, Some, None, refl, sym, ap, ◌∙◌, subst, inl, inr}
+use Rattle.std.specs.Prelude.{Result, Ok, Err, IfSome, option_map}
 use Rattle.arrayvec.specs.ArrayVec.{ArrayVec}
 use Rattle.board_model.specs.declared.scenario.Call.{Call}
 use Rattle.board_model.specs.declared.scenario.CallLine.{CallLine}
@@ -10,14 +8,13 @@ use Rattle.board_model.specs.declared.scenario.Scenario.{Scenario}
 use Rattle.board_model.specs.declared.reason.LineReason.{LineReason}
 use Rattle.board_model.specs.declared.reason.LineReason.TheVariants.{Form}
 use Rattle.board_model.specs.FileWords.{numeral, is_label}
-use Rattle.board_model.specs.Forms.{says_call, label_of}
-use Rattle.board_model.specs.LineReasons.{is_label_in, tells, gives_request, is_told, is_request, tells_wrong_label, with_statement}
+use Rattle.board_model.specs.Forms.{label_of}
+use Rattle.board_model.specs.LineReasons.{gives_request, tells_wrong_label}
 use Rattle.board_model.specs.Scenario.{label_in}
 use Rattle.scenario_lang.specs.declared.callee.Callee.{Callee}
 use Rattle.scenario_lang.specs.declared.callee.Callee.TheVariants as callee
 use Rattle.scenario_lang.specs.Reading.{◌>>=◌, ReadParts, row, made, call_in, told_in, number_in, tries_in, call_line_in}
 use Rattle.scenario_lang.specs.Reading.{label_in as label_read}
-use Rattle.scenario_lang.specs.Telling.{has_label, Keeps}
 use Rattle.scenario_lang.proofs.Options.{cases_bool}
 
 -- each reader of a chain that gives a value has given one

@@ -1,11 +1,11 @@
 -- Numbers and bytes, digit by digit.
-use Rattle.std.proofs.Common.{◌≡◌, ℕ, zero, suc, ◌+◌, ◌-◌, ◌*◌, ◌<◌, ◌≤◌, length, take, drop, get_or, Bool, true, false, List, [], ◌∷◌, ◌++◌, Option, Some, None, append_assoc, refl, sym, ap, ◌∙◌, arith, inl, inr}
-use Rattle.std.specs.Prelude.{nat_le, if◌then◌else◌}
+use Rattle.std.proofs.Common.{◌≡◌, ℕ, ◌+◌, ◌-◌, ◌*◌, ◌<◌, ◌≤◌, length, take, drop, get_or, true, false, List, [], ◌∷◌, ◌++◌, Option, Some, None, append_assoc, refl, sym, ap, ◌∙◌, arith, inl, inr}
+use Rattle.std.specs.Prelude.{nat_le}
 use Rattle.std.proofs.lemmas.Bool.Decides.{nat_tests}
 use Rattle.std.proofs.lemmas.List.{take_rest}
 use Rattle.board_model.specs.FileWords.{is_digit, number_from, digit_value, byte_and, pairs_of}
 use Rattle.scenario_lang.specs.Reading.{at_most, byte_of, after_bytes}
-use Rattle.scenario_lang.proofs.Options.{cases_bool, cases_option}
+use Rattle.scenario_lang.proofs.Options.{cases_bool}
 
 -- a number that is too large stays so, whatever digits follow
 grows : (most n : ℕ) (rest : List ℕ) → most < n → at_most most (number_from n rest) ≡ None

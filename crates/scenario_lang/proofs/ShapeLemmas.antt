@@ -1,9 +1,7 @@
 -- What the readers tell of the lines of domains and links is what the table of reasons says.
-use Rattle.std.proofs.Common.{◌≡◌, ℕ, Bool, true, false, ◌&&◌, ◌||◌, not, List, [], ◌∷◌, ◌++◌, Option, Some, None, refl, sym, ap, ◌∙◌, inl, inr}
-use Rattle.std.specs.Prelude.{codes, bytes_eq, Result, Ok, Err, if◌then◌else◌, ◌==◌}
-use Rattle.std.specs.List.{list_all, list_any}
+use Rattle.std.proofs.Common.{◌≡◌, ℕ, true, List, [], ◌∷◌, refl, inl, inr}
+use Rattle.std.specs.Prelude.{codes, bytes_eq}
 use Rattle.board_model.specs.declared.scenario.Scenario.{Scenario}
-use Rattle.board_model.specs.declared.scenario.DomainLine.{DomainLine}
 use Rattle.board_model.specs.declared.scenario.LinkLine.{LinkLine}
 use Rattle.board_model.specs.FileWords.{numeral, number, is_number}
 use Rattle.board_model.specs.Forms.{domain_form, link_form, says_domain, says_link}

@@ -1,13 +1,13 @@
 -- What the readers tell of a line, and of the lines of a file one after the other, is what the table of reasons says.
-use Rattle.std.proofs.Common.{◌≡◌, ℕ, ◌+◌, length, Bool, true, false, ◌&&◌, ◌||◌, not, List, [], ◌∷◌, ◌++◌, Option, Some, None, refl, sym, ap, ◌∙◌, inl, inr, true≢false}
-use Rattle.std.specs.Prelude.{codes, bytes_eq, nat_lt, Result, Ok, Err, if◌then◌else◌, ◌==◌, option_map}
-use Rattle.std.specs.List.{list_all, list_any}
+use Rattle.std.proofs.Common.{◌≡◌, ℕ, ◌+◌, length, Bool, true, false, List, [], ◌∷◌, Option, Some, None, refl, sym, ap, ◌∙◌, inl, inr}
+use Rattle.std.specs.Prelude.{codes, bytes_eq, nat_lt, Result, Ok, Err}
+use Rattle.std.specs.List.{list_all}
 use Rattle.board_model.specs.declared.scenario.Scenario.{Scenario}
 use Rattle.board_model.specs.declared.scenario.CallLine.{CallLine}
 use Rattle.board_model.specs.declared.reason.LineReason.{LineReason}
 use Rattle.board_model.specs.FileLines.{begins_with, words_of, parts_at}
 use Rattle.board_model.specs.FileWords.{numeral, number, is_number, are_bytes, is_label}
-use Rattle.board_model.specs.Forms.{CallParts, LineParts, call_parts, numerals, contents, arguments_numerals, arguments_contents, call_line, told_fits, arguments_fit, callee_form, call_form, told_at, tries_at, parts_of}
+use Rattle.board_model.specs.Forms.{CallParts, call_parts, numerals, contents, arguments_numerals, arguments_contents, call_line, told_fits, arguments_fit, callee_form, call_form, told_at, tries_at, parts_of}
 use Rattle.board_model.specs.LineReasons.{is_domain, is_text_byte, tells_wrong_label, uses_wrong_label, line_reason, with_parts}
 use Rattle.board_model.specs.Language.{RefusedLine, refused, unless_refused, told_from}
 use Rattle.scenario_lang.specs.declared.callee.Callee.{Callee}
@@ -18,7 +18,7 @@ use Rattle.scenario_lang.specs.Refused.{IfRefused}
 use Rattle.scenario_lang.specs.Fronts.{two_parts}
 use Rattle.scenario_lang.specs.Reading.{◌>>=◌, Fails, or_form, next_word, ReadParts, row, callee_of, if_fits, parts_in, call_line_in}
 use Rattle.scenario_lang.specs.Telling.{tell_call, call_told, used_word, is_no_request, words_told, line_told, answered, parts_told, fault_at}
-use Rattle.scenario_lang.proofs.Options.{cases_bool, cases_option, both_hold}
+use Rattle.scenario_lang.proofs.Options.{cases_bool, cases_option}
 use Rattle.scenario_lang.proofs.CallLemmas.{checked, form_in-callee, call_checked}
 use Rattle.scenario_lang.proofs.ShapeLemmas.{domain_bridge, link_bridge}
 

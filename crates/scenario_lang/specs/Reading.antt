@@ -1,6 +1,6 @@
 -- What the readers of the whole language give: a value, or the first reason of refusal of what they are handed.
 -- Source: docs/FORMATS.md, "Scenario files"; `board_model` has the definitions.
-use Rattle.std.specs.Prelude.{◌≡◌, ℕ, ◌+◌, ◌*◌, ◌++◌, ◌&&◌, Bool, true, false, List, [], ◌∷◌, map, length, codes, bytes_eq, Option, None, Some, unwrap_or, Result, Ok, Err, nat_le, if◌then◌else◌}
+use Rattle.std.specs.Prelude.{◌≡◌, ℕ, ◌+◌, ◌*◌, ◌++◌, ◌&&◌, false, List, [], ◌∷◌, map, length, codes, bytes_eq, Option, None, Some, unwrap_or, Result, Ok, Err, nat_le, if◌then◌else◌}
 use Rattle.std.specs.Borrow.{Bor}
 use Rattle.arrayvec.specs.ArrayVec.{ArrayVec}
 use Rattle.mc_base.specs.declared.name.EndName.{EndName}

@@ -330,6 +330,13 @@ fn is_refused(alloc: Global, text: &[u8], line: u32, reason: LineReason) -> bool
     }
 }
 
+fn is_read(alloc: Global, text: &[u8]) -> bool {
+    if text.len() >= 1_000_000 {
+        return false;
+    }
+    read_scenario(alloc, text).is_ok()
+}
+
 fn is_read_as(alloc: Global, text: &[u8], canonical: &[u8]) -> bool {
     if text.len() >= 1_000_000 {
         return false;
@@ -393,14 +400,14 @@ fn message(alloc: Global, bytes: u32, blanks: u32) -> Result<Vec<u8>, Fail> {
 #[test]
 fn bytes_and_lines_at_their_limits(rt: HostRuntime) -> Result<(), Fail> {
     let alloc = rt.alloc();
-    assert!(rt; read_scenario(alloc, &message(alloc, 9000, 0)?).is_ok());
+    assert!(rt; is_read(alloc, &message(alloc, 9000, 0)?));
     assert!(rt; is_refused(alloc, &message(alloc, 9001, 0)?, 2, LineReason::Bytes));
-    assert!(rt; read_scenario(alloc, &message(alloc, 9000, 1977)?).is_ok());
+    assert!(rt; is_read(alloc, &message(alloc, 9000, 1977)?));
     assert!(rt; is_refused(alloc, &message(alloc, 9000, 1978)?, 2, LineReason::Long));
     assert!(rt; is_refused(alloc, &message(alloc, 9999, 0)?, 2, LineReason::Long));
     let mut text = message(alloc, 9000, 1977)?;
     text.extend_from_slice(b"\r\n#")?;
-    assert!(rt; read_scenario(alloc, &text).is_ok());
+    assert!(rt; is_read(alloc, &text));
     for _ in 0..20_000 {
         text.push(b'x')?;
     }

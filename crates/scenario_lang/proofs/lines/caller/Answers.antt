@@ -1,4 +1,4 @@
-use Rattle.std.proofs.Common.{sym, ap, ◌∙◌, subst}
+use Rattle.std.proofs.Common.{subst}
 use Rattle.scenario_lang.specs.Fronts.{Cuts}
 use Rattle.scenario_lang.proofs.FrontLemmas.{more_than_two}
 use Rattle.scenario_lang.proofs.lines.caller.Goals as goal

@@ -1,6 +1,4 @@
-use Rattle.std.proofs.Common.{arith, ap, sym, ◌∙◌, length, ◌∷◌, List, ℕ}
-use Rattle.board_model.specs.FileLines.{lines_of}
-use Rattle.scenario_lang.specs.Fronts.{unreturned}
+use Rattle.std.proofs.Common.{arith, ap, length, List, ℕ}
 use Rattle.scenario_lang.proofs.FrontLemmas.{first_line-ended, first_line-open}
 use Rattle.scenario_lang.proofs.lines.first_line.Goals as goal
 

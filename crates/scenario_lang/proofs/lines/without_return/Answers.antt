@@ -1,4 +1,4 @@
-use Rattle.std.proofs.Common.{arith, ap, ◌≡◌, ◌≢◌, ◌+◌, ◌-◌, ◌≤◌, length, get_or, drop, List, ℕ}
+use Rattle.std.proofs.Common.{arith, ◌≡◌, ◌≢◌, ◌-◌, ◌≤◌, length, get_or, drop}
 use Rattle.std.proofs.lemmas.Bool.Decides.{nat_tests}
 use Rattle.scenario_lang.proofs.FrontLemmas.{unreturned-last, unreturned-other}
 use Rattle.scenario_lang.proofs.lines.without_return.Goals as goal
