@@ -11,3 +11,4 @@ pub mod ShapeLemmas
 pub mod LabelledLines
 pub mod CallLemmas
 pub mod TellingLemmas
+pub mod FewCalls

@@ -1,6 +1,6 @@
 //! The whole language: every call that is built, with labels and tries, domains and links.
 
-ghost use Rattle.std.specs.Prelude.{◌≡◌, ◌<◌, IfOk, Ok, Err, length};
+ghost use Rattle.std.specs.Prelude.{◌≡◌, ◌≤◌, ◌<◌, IfOk, Ok, Err, length};
 ghost use Rattle.board_model.specs.Language.{told_by, refused};
 ghost use Rattle.scenario_lang.specs.Refused.{IfRefused};
 ghost use Rattle.scenario_lang.specs.Telling.{fault_at};
@@ -18,6 +18,16 @@ use std::alloc::Global;
 /// It takes time in proportion to the size of the text, and the logarithm of the number of labels. Want of memory may come
 /// at any time. The text has fewer than 4,294,967,295 bytes, so that its lines can be numbered in a `u32`.
 pub fn read_scenario(alloc: Global, text: &[u8]) -> Result<Scenario, ScenarioFault>
+    requires { length text.now < 4_294_967_295 }
+    ensures told { IfOk result (λ s. told_by text.now ≡ Ok s) }
+    ensures refused { IfRefused result (λ line reason. told_by text.now ≡ Err (refused line reason)) }
+    ensures few { IfOk result (λ s. length s.calls ≤ length text.now) }
+{
+    lines_told(alloc, text)
+}
+
+/// The scenario that the lines of a text tell one after the other.
+fn lines_told(alloc: Global, text: &[u8]) -> Result<Scenario, ScenarioFault>
     requires { length text.now < 4_294_967_295 }
     ensures told { IfOk result (λ s. told_by text.now ≡ Ok s) }
     ensures refused { IfRefused result (λ line reason. told_by text.now ≡ Err (refused line reason)) }
@@ -42,7 +52,7 @@ pub fn read_scenario(alloc: Global, text: &[u8]) -> Result<Scenario, ScenarioFau
     Ok(above.into_scenario())
 }
 
-/// The fault of a line in the file.
+/// The fault of a line in its file.
 fn at_line(line: u32, fault: LineFault) -> ScenarioFault
     ensures { result ≡ fault_at line fault }
 {
