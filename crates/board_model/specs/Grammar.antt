@@ -51,12 +51,17 @@ abbrev pub label_words : Option (List ℕ) → List (List ℕ)
 label_words None = []
 label_words (Some label) = label ∷ codes "=" ∷ []
 
+-- how often a call is made at most
+abbrev pub tries_words : Option ℕ → List (List ℕ)
+tries_words None = []
+tries_words (Some tries) = codes "try" ∷ decimal tries ∷ []
+
 -- D.N
 abbrev pub caller_text : CallLine → List ℕ
 caller_text c = decimal c.domain ++ (46 ∷ decimal c.node)
 
 abbrev pub call_text : CallLine → List ℕ
-call_text c = line_of (caller_text c ∷ (label_words (label_in c) ++ call_words c.call))
+call_text c = line_of (caller_text c ∷ (label_words (label_in c) ++ (tries_words c.tries ++ call_words c.call)))
 
 -- the canonical text of a scenario
 abbrev pub canonical : Scenario → List ℕ

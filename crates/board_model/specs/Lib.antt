@@ -1,6 +1,11 @@
 pub mod Lists
 pub mod Scenario
 pub mod Grammar
+pub mod FileLines
+pub mod FileWords
+pub mod Forms
+pub mod LineReasons
+pub mod Language
 pub mod Words
 pub mod LinkedBoard
 pub mod Journal

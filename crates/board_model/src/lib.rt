@@ -1,16 +1,18 @@
 //! What a board is and does: scenarios as plain types, and in `specs/` the definitions that everything is proved
 //! against. It has no code of its own beyond the types and the laws.
 //!
-//! `specs/` is to be read in this order: Scenario, Grammar, LinkedBoard, Words, Journal, State, Choice, Dealing, Turn,
-//! DomainCall, Answer, Effect, Labels, Step, Run, Traffic, Board, Channels, Messages, Takings, Drops, Totals, Places, Serial,
-//! Loads, SerialRun, Report, Headline, Laws, MessageLaws, SerialLaws.
+//! `specs/` is to be read in this order: Scenario, Grammar, FileLines, FileWords, Forms, LineReasons, Language, LinkedBoard,
+//! Words, Journal, State, Choice, Dealing, Turn, DomainCall, Answer, Effect, Labels, Step, Run, Traffic, Board, Channels,
+//! Messages, Takings, Drops, Totals, Places, Serial, Loads, SerialRun, Report, Headline, Laws, MessageLaws, SerialLaws.
 #![tactic(auto)]
 
 pub mod laws;
+mod reason;
 mod scenario;
 mod seq;
 mod totals;
 
+pub use reason::LineReason;
 pub use scenario::{Call, CallLine, DomainLine, Label, LinkLine, Scenario};
 pub use seq::Seq;
 pub use totals::{LanePlaces, Totals};

@@ -1,45 +1,62 @@
 -- The text of a line, piece by piece.
 use Rattle.std.proofs.Common.{◌≡◌, List, ℕ, [], ◌∷◌, ◌++◌, append_assoc, Option, None, Some, refl, sym, ap, ◌∙◌}
+use Rattle.std.specs.Prelude.{codes, decimal}
 use Rattle.board_model.specs.declared.scenario.Call.{Call}
 use Rattle.board_model.specs.declared.scenario.Call.TheVariants.{Create, Delete, Lookup, MsgSend, MsgRecv, MsgRecvI, MsgAvailable, Test, Cancel, Turn}
-use Rattle.board_model.specs.Grammar.{spaced, line_of, call_words, label_words}
-use Rattle.scenario_lang.specs.Lines.{label_front}
+use Rattle.board_model.specs.Grammar.{spaced, line_of, call_words, label_words, tries_words}
+use Rattle.scenario_lang.specs.Lines.{label_front, tries_front}
 
 -- a line begins with its caller and a blank
 caller_then : (caller words : List ℕ) → (caller ++ 32 ∷ words) ++ (10 ∷ []) ≡ caller ++ (32 ∷ (words ++ (10 ∷ [])))
 caller_then caller words = append_assoc caller (32 ∷ words) (10 ∷ [])
 
-pub spaced_after : (w : List ℕ) (label : Option (List ℕ)) (c : Call) → spaced (w ∷ (label_words label ++ call_words c)) ≡ w ++ 32 ∷ spaced (label_words label ++ call_words c)
-spaced_after w (Some label) c = refl
-spaced_after w None (Create port) = refl
-spaced_after w None (Delete port) = refl
-spaced_after w None (Lookup name) = refl
-spaced_after w None (MsgSend port to priority bytes) = refl
-spaced_after w None (MsgRecv port max) = refl
-spaced_after w None (MsgRecvI port max) = refl
-spaced_after w None (MsgAvailable port) = refl
-spaced_after w None (Test label) = refl
-spaced_after w None (Cancel label) = refl
-spaced_after w None Turn = refl
+-- words that are not none
+pub record AreSome (words : List (List ℕ)) : Type 0 where
+  pub first : List ℕ
+  pub others : List (List ℕ)
+  pub whole : words ≡ first ∷ others
 
-sign_then : (c : Call) → spaced ((61 ∷ []) ∷ call_words c) ≡ 61 ∷ 32 ∷ spaced (call_words c)
-sign_then (Create port) = refl
-sign_then (Delete port) = refl
-sign_then (Lookup name) = refl
-sign_then (MsgSend port to priority bytes) = refl
-sign_then (MsgRecv port max) = refl
-sign_then (MsgRecvI port max) = refl
-sign_then (MsgAvailable port) = refl
-sign_then (Test label) = refl
-sign_then (Cancel label) = refl
-sign_then Turn = refl
+pub some_call : (c : Call) → AreSome (call_words c)
+some_call (Create port) = record { first = _; others = _; whole = refl }
+some_call (Delete port) = record { first = _; others = _; whole = refl }
+some_call (Lookup name) = record { first = _; others = _; whole = refl }
+some_call (MsgSend port to priority bytes) = record { first = _; others = _; whole = refl }
+some_call (MsgRecv port max) = record { first = _; others = _; whole = refl }
+some_call (MsgRecvI port max) = record { first = _; others = _; whole = refl }
+some_call (MsgAvailable port) = record { first = _; others = _; whole = refl }
+some_call (Test label) = record { first = _; others = _; whole = refl }
+some_call (Cancel label) = record { first = _; others = _; whole = refl }
+some_call Turn = record { first = _; others = _; whole = refl }
 
-pub front_then : (label : Option (List ℕ)) (c : Call) → spaced (label_words label ++ call_words c) ≡ label_front label ++ spaced (call_words c)
-front_then None c = refl
-front_then (Some label) c = ap (λ (t : List ℕ). label ++ 32 ∷ t) (sign_then c) ∙ sym (append_assoc label (32 ∷ 61 ∷ 32 ∷ []) (spaced (call_words c)))
+some_tried : (tries : Option ℕ) (words : List (List ℕ)) → AreSome words → AreSome (tries_words tries ++ words)
+some_tried None words s = s
+some_tried (Some n) words s = record { first = _; others = _; whole = refl }
 
-pub line_of-call : (caller : List ℕ) (label : Option (List ℕ)) (c : Call) → line_of (caller ∷ (label_words label ++ call_words c)) ≡ caller ++ (32 ∷ (label_front label ++ (spaced (call_words c) ++ (10 ∷ []))))
-line_of-call caller label c =
-    ap (λ (t : List ℕ). t ++ 10 ∷ []) (spaced_after caller label c ∙ ap (λ (t : List ℕ). caller ++ 32 ∷ t) (front_then label c))
-    ∙ caller_then caller (label_front label ++ spaced (call_words c))
-    ∙ ap (λ (t : List ℕ). caller ++ 32 ∷ t) (append_assoc (label_front label) (spaced (call_words c)) (10 ∷ []))
+pub some_told : (label : Option (List ℕ)) (words : List (List ℕ)) → AreSome words → AreSome (label_words label ++ words)
+some_told None words s = s
+some_told (Some l) words s = record { first = _; others = _; whole = refl }
+
+-- a word before others
+pub spaced_then : (w : List ℕ) (words : List (List ℕ)) → AreSome words → spaced (w ∷ words) ≡ w ++ 32 ∷ spaced words
+spaced_then w words s = rw s.whole refl
+
+tries_then : (tries : Option ℕ) (words : List (List ℕ)) → AreSome words → spaced (tries_words tries ++ words) ≡ tries_front tries ++ spaced words
+tries_then None words s = refl
+tries_then (Some n) words s =
+    ap (λ (t : List ℕ). codes "try " ++ t) (spaced_then (decimal n) words s ∙ sym (append_assoc (decimal n) (32 ∷ []) (spaced words)))
+
+label_then : (label : Option (List ℕ)) (words : List (List ℕ)) → AreSome words → spaced (label_words label ++ words) ≡ label_front label ++ spaced words
+label_then None words s = refl
+label_then (Some l) words s =
+    ap (λ (t : List ℕ). l ++ 32 ∷ t) (spaced_then (61 ∷ []) words s) ∙ sym (append_assoc l (32 ∷ 61 ∷ 32 ∷ []) (spaced words))
+
+pub line_of-call : (caller : List ℕ) (label : Option (List ℕ)) (tries : Option ℕ) (c : Call) → line_of (caller ∷ (label_words label ++ (tries_words tries ++ call_words c))) ≡ caller ++ (32 ∷ (label_front label ++ (tries_front tries ++ (spaced (call_words c) ++ (10 ∷ [])))))
+line_of-call caller label tries c =
+    let call = some_call c in
+    let tried = some_tried tries (call_words c) call in
+    let told = some_told label (tries_words tries ++ call_words c) tried in
+    let spelled : spaced (caller ∷ (label_words label ++ (tries_words tries ++ call_words c))) ≡ caller ++ 32 ∷ (label_front label ++ (tries_front tries ++ spaced (call_words c))) =
+    spaced_then caller _ told ∙ ap (λ (t : List ℕ). caller ++ 32 ∷ t) (label_then label _ tried ∙ ap (λ (t : List ℕ). label_front label ++ t) (tries_then tries _ call)) in
+    ap (λ (t : List ℕ). t ++ 10 ∷ []) spelled
+    ∙ caller_then caller (label_front label ++ (tries_front tries ++ spaced (call_words c)))
+    ∙ ap (λ (t : List ℕ). caller ++ 32 ∷ t) (append_assoc (label_front label) (tries_front tries ++ spaced (call_words c)) (10 ∷ []) ∙ ap (λ (t : List ℕ). label_front label ++ t) (append_assoc (tries_front tries) (spaced (call_words c)) (10 ∷ [])))

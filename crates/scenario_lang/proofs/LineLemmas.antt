@@ -11,7 +11,7 @@ use Rattle.board_model.specs.declared.scenario.Call.{Call}
 use Rattle.board_model.specs.declared.scenario.Call.TheVariants.{Create, Delete, Lookup, MsgSend, MsgRecv, MsgRecvI, MsgAvailable, Test, Cancel, Turn}
 use Rattle.board_model.specs.declared.scenario.CallLine.{CallLine}
 use Rattle.board_model.specs.Scenario.{label_in}
-use Rattle.board_model.specs.Grammar.{spaced, domain_text, name_text, call_words, caller_text, call_text, IsLawfulName, IsLabel, IsLawfulCall, IsLawfulDomain}
+use Rattle.board_model.specs.Grammar.{spaced, line_of, domain_text, name_text, call_words, label_words, tries_words, caller_text, call_text, IsLawfulName, IsLabel, IsLawfulCall, IsLawfulDomain}
 use Rattle.scenario_lang.specs.Words.{after_word}
 use Rattle.scenario_lang.specs.Lines.{domain_at, name_at, create_at, send_at, receive_at, request_at, available_at, test_at, cancel_at, query_at, label_of, label_front, or_else, call_at, named_at, labelled_at, plain_at, labelled_call_at, own_at, line_at, IsLabelledRight, IsFormedLine}
 use Rattle.scenario_lang.proofs.Options.{bind_some, if_some, some_is, carried}
@@ -168,9 +168,9 @@ labelled_call_at-text (Some l) Turn rest right h = absurd right
 regroup_line : (domain node label call rest : List ℕ) → ((domain ++ (46 ∷ node)) ++ (32 ∷ (label ++ (call ++ (10 ∷ []))))) ++ rest ≡ domain ++ 46 ∷ (node ++ 32 ∷ (label ++ (call ++ 10 ∷ rest)))
 regroup_line domain node label call rest = simp append_assoc
 
-pub call_text-is : (c : CallLine) (rest : List ℕ) → call_text c ++ rest ≡ decimal c.domain ++ 46 ∷ (decimal c.node ++ 32 ∷ (label_front (label_in c) ++ (spaced (call_words c.call) ++ 10 ∷ rest)))
-call_text-is c rest =
-    ap (λ (ds : List ℕ). ds ++ rest) (line_of-call (caller_text c) (label_in c) c.call)
+pub call_text-is : (c : CallLine) (rest : List ℕ) → c.tries ≡ None → call_text c ++ rest ≡ decimal c.domain ++ 46 ∷ (decimal c.node ++ 32 ∷ (label_front (label_in c) ++ (spaced (call_words c.call) ++ 10 ∷ rest)))
+call_text-is c rest untried =
+    ap (λ (ds : List ℕ). ds ++ rest) (ap (λ (t : Option ℕ). line_of (caller_text c ∷ (label_words (label_in c) ++ (tries_words t ++ call_words c.call)))) untried ∙ line_of-call (caller_text c) (label_in c) None c.call)
     ∙ regroup_line (decimal c.domain) (decimal c.node) (label_front (label_in c)) (spaced (call_words c.call)) rest
 
 own_at-text : (domain : ℕ) (rest : List ℕ) → domain ≤ 7 → own_at domain (decimal domain ++ 46 ∷ rest) ≡ Some (46 ∷ rest)
@@ -190,7 +190,7 @@ line_is-made domain c h = rw (← h.told_domain, ← h.no_tries) refl
 pub line_at-text : (domain : ℕ) (c : CallLine) (rest : List ℕ) → domain ≤ 7 → IsFormedLine domain c → line_at domain (call_text c ++ rest) ≡ Some (c, rest)
 unfolding line_at made_line
 line_at-text domain c rest small h =
-    let own : call_text c ++ rest ≡ decimal domain ++ 46 ∷ (decimal c.node ++ 32 ∷ (label_front (label_in c) ++ (spaced (call_words c.call) ++ 10 ∷ rest))) = call_text-is c rest ∙ ap (λ (d : ℕ). decimal d ++ 46 ∷ (decimal c.node ++ 32 ∷ (label_front (label_in c) ++ (spaced (call_words c.call) ++ 10 ∷ rest)))) h.told_domain in
+    let own : call_text c ++ rest ≡ decimal domain ++ 46 ∷ (decimal c.node ++ 32 ∷ (label_front (label_in c) ++ (spaced (call_words c.call) ++ 10 ∷ rest))) = call_text-is c rest h.no_tries ∙ ap (λ (d : ℕ). decimal d ++ 46 ∷ (decimal c.node ++ 32 ∷ (label_front (label_in c) ++ (spaced (call_words c.call) ++ 10 ∷ rest)))) h.told_domain in
     ap (line_at domain) own
     ∙ rw (
       own_at-text domain (decimal c.node ++ 32 ∷ (label_front (label_in c) ++ (spaced (call_words c.call) ++ 10 ∷ rest))) small,
@@ -492,6 +492,6 @@ line_at-spelled domain text c rest h =
     let r2 = bind_some _ _ _ d.2 in
     let w2 = after_word-spelled (codes "\n") d.0.1 r2.0 r2.1 in
     let told : CallLine = record { domain = domain; node = b.0.0; label = d.0.0.0; tries = None; call = d.0.0.1 } in
-    let spelled : text ≡ call_text told ++ r2.0 = own ∙ ap (λ (t : List ℕ). decimal domain ++ t) (w0 ∙ ap (λ (t : List ℕ). 46 ∷ t) (node.spelled ∙ ap (λ (t : List ℕ). decimal b.0.0 ++ t) (w1 ∙ ap (λ (t : List ℕ). 32 ∷ t) (call.spelled ∙ ap (λ (t : List ℕ). label_front (label_items d.0.0.0) ++ (spaced (call_words d.0.0.1) ++ t)) w2)))) ∙ sym (call_text-is told r2.0) in
+    let spelled : text ≡ call_text told ++ r2.0 = own ∙ ap (λ (t : List ℕ). decimal domain ++ t) (w0 ∙ ap (λ (t : List ℕ). 46 ∷ t) (node.spelled ∙ ap (λ (t : List ℕ). decimal b.0.0 ++ t) (w1 ∙ ap (λ (t : List ℕ). 32 ∷ t) (call.spelled ∙ ap (λ (t : List ℕ). label_front (label_items d.0.0.0) ++ (spaced (call_words d.0.0.1) ++ t)) w2)))) ∙ sym (call_text-is told r2.0 refl) in
     let all : IsLine domain text told r2.0 = record { spelled = spelled; formed = record { told_domain = refl; node_fits = node.within; label_right = call.right; no_tries = refl; call_fits = call.lawful } } in
     carried (IsLine domain text) told c r2.0 rest r2.2 all

@@ -8,7 +8,7 @@ use Rattle.board_model.specs.declared.scenario.DomainLine.{DomainLine}
 use Rattle.board_model.specs.declared.scenario.CallLine.{CallLine}
 use Rattle.board_model.specs.declared.scenario.Scenario.{Scenario}
 use Rattle.board_model.specs.Scenario.{label_in}
-use Rattle.board_model.specs.Grammar.{spaced, call_words, label_words, domain_text, call_text, canonical, IsLawful, IsScenario}
+use Rattle.board_model.specs.Grammar.{spaced, call_words, label_words, tries_words, domain_text, call_text, canonical, IsLawful, IsScenario}
 use Rattle.scenario_lang.specs.declared.fault.LineFault.{LineFault}
 use Rattle.scenario_lang.specs.declared.fault.LineFault.TheVariants.{Refused, NoMemory}
 use Rattle.scenario_lang.specs.Words.{Fails}
@@ -40,7 +40,7 @@ found_more domain text found rest c after so_far read =
 
 -- a line has a byte at least
 some_bytes : (c : CallLine) → 1 ≤ length (call_text c)
-some_bytes c = omega (arith, length-append (spaced ((decimal c.domain ++ (46 ∷ decimal c.node)) ∷ (label_words (label_in c) ++ call_words c.call))) (10 ∷ []))
+some_bytes c = omega (arith, length-append (spaced ((decimal c.domain ++ (46 ∷ decimal c.node)) ∷ (label_words (label_in c) ++ (tries_words c.tries ++ call_words c.call)))) (10 ∷ []))
 
 pub shorter : (domain : ℕ) (rest : List ℕ) (c : CallLine) (after : List ℕ) → line_at domain rest ≡ Some (c, after) → length after < length rest
 shorter domain rest c after read =

@@ -119,45 +119,45 @@ fits_lawful : (told : List (List ℕ)) (label : Option (List ℕ)) (c : Call) �
 fits_lawful told None (Create port) right fits = tt
 fits_lawful told None (Delete port) right fits = tt
 fits_lawful told None (Lookup name) right fits = tt
+fits_lawful told None Turn right fits = tt
 fits_lawful told None (MsgSend port to priority bytes) right fits = tt
 fits_lawful told None (MsgRecv port max) right fits = tt
 fits_lawful told None (MsgRecvI port max) right fits = right
 fits_lawful told None (MsgAvailable port) right fits = tt
 fits_lawful told None (Test l) right fits = told_has told l.items (both_hold (is_told told l.items) true fits).0
 fits_lawful told None (Cancel l) right fits = told_has told l.items (both_hold (is_told told l.items) true fits).0
-fits_lawful told None Turn right fits = tt
 fits_lawful told (Some label) (Create port) right fits = right
 fits_lawful told (Some label) (Delete port) right fits = right
 fits_lawful told (Some label) (Lookup name) right fits = right
+fits_lawful told (Some label) Turn right fits = right
 fits_lawful told (Some label) (MsgSend port to priority bytes) right fits = right
 fits_lawful told (Some label) (MsgRecv port max) right fits = right
 fits_lawful told (Some label) (MsgRecvI port max) right fits = (right, told_not_false told label (not_true (is_told told label) fits))
 fits_lawful told (Some label) (MsgAvailable port) right fits = right
 fits_lawful told (Some label) (Test l) right fits = right
 fits_lawful told (Some label) (Cancel l) right fits = right
-fits_lawful told (Some label) Turn right fits = right
 
 right_lawful : (told : List (List ℕ)) (label : Option (List ℕ)) (c : Call) → LabelFits told label c → IsLabelledRight label c
 right_lawful told None (Create port) h = tt
 right_lawful told None (Delete port) h = tt
 right_lawful told None (Lookup name) h = tt
+right_lawful told None Turn h = tt
 right_lawful told None (MsgSend port to priority bytes) h = tt
 right_lawful told None (MsgRecv port max) h = tt
 right_lawful told None (MsgRecvI port max) h = h
 right_lawful told None (MsgAvailable port) h = tt
 right_lawful told None (Test l) h = tt
 right_lawful told None (Cancel l) h = tt
-right_lawful told None Turn h = tt
 right_lawful told (Some label) (Create port) h = h
 right_lawful told (Some label) (Delete port) h = h
 right_lawful told (Some label) (Lookup name) h = h
+right_lawful told (Some label) Turn h = h
 right_lawful told (Some label) (MsgSend port to priority bytes) h = h
 right_lawful told (Some label) (MsgRecv port max) h = h
 right_lawful told (Some label) (MsgRecvI port max) h = h.0
 right_lawful told (Some label) (MsgAvailable port) h = h
 right_lawful told (Some label) (Test l) h = h
 right_lawful told (Some label) (Cancel l) h = h
-right_lawful told (Some label) Turn h = h
 
 has_told : (told : List (List ℕ)) (label : List ℕ) → Contains told label → (is_told told label && true) ≡ true
 has_told told label h = rw (list_any-from_Contains nat_list_eq_equiv label told h) refl
@@ -172,23 +172,23 @@ lawful_fits : (told : List (List ℕ)) (label : Option (List ℕ)) (c : Call) �
 lawful_fits told None (Create port) h = refl
 lawful_fits told None (Delete port) h = refl
 lawful_fits told None (Lookup name) h = refl
+lawful_fits told None Turn h = refl
 lawful_fits told None (MsgSend port to priority bytes) h = refl
 lawful_fits told None (MsgRecv port max) h = refl
 lawful_fits told None (MsgRecvI port max) h = refl
 lawful_fits told None (MsgAvailable port) h = refl
 lawful_fits told None (Test l) h = has_told told l.items h
 lawful_fits told None (Cancel l) h = has_told told l.items h
-lawful_fits told None Turn h = refl
 lawful_fits told (Some label) (Create port) h = absurd h
 lawful_fits told (Some label) (Delete port) h = absurd h
 lawful_fits told (Some label) (Lookup name) h = absurd h
+lawful_fits told (Some label) Turn h = absurd h
 lawful_fits told (Some label) (MsgSend port to priority bytes) h = absurd h
 lawful_fits told (Some label) (MsgRecv port max) h = absurd h
 lawful_fits told (Some label) (MsgRecvI port max) h = new_label told label h.1
 lawful_fits told (Some label) (MsgAvailable port) h = absurd h
 lawful_fits told (Some label) (Test l) h = absurd h
 lawful_fits told (Some label) (Cancel l) h = absurd h
-lawful_fits told (Some label) Turn h = absurd h
 
 -- formed lines in order are lawful
 pub lawful_lines : (domain : ℕ) (told : List (List ℕ)) (lines : List CallLine) → AllByRecursion (IsFormedLine domain) lines → in_order told lines ≡ true → AreLawfulLines domain told lines

@@ -1,7 +1,7 @@
 -- The lines of a scenario file, each read from the front of the bytes as its words are.
 -- Source: docs/FORMATS.md, "Scenario files": one domain line, and then lines of the calls that there are, by nodes of that
 -- domain, without tries. A call that gives a request has a label before it, and no other call has one.
-use Rattle.std.specs.Prelude.{◌≡◌, ℕ, ◌≤◌, List, ◌++◌, [], codes, Option, None, Some, ◌==◌, if◌then◌else◌}
+use Rattle.std.specs.Prelude.{◌≡◌, ℕ, ◌≤◌, List, ◌++◌, [], ◌∷◌, codes, decimal, Option, None, Some, ◌==◌, if◌then◌else◌}
 use Rattle.std.specs.List.{flat_map, AllByRecursion}
 use Rattle.arrayvec.specs.ArrayVec.{ArrayVec}
 use Rattle.mc_base.specs.declared.name.EndName.{EndName}
@@ -140,6 +140,11 @@ line_at domain text = do
 abbrev pub label_front : Option (List ℕ) → List ℕ
 label_front None = []
 label_front (Some label) = label ++ codes " = "
+
+-- and what stands there for its tries
+abbrev pub tries_front : Option ℕ → List ℕ
+tries_front None = []
+tries_front (Some tries) = codes "try " ++ (decimal tries ++ (32 ∷ []))
 
 -- a call that gives a request is made under a label, and no other call
 abbrev pub IsLabelledRight : Option (List ℕ) → Call → Type 0

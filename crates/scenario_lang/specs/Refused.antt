@@ -1,7 +1,7 @@
 -- What is said of a refusal alone, and not of want of memory.
 -- Source: docs/PROFILE.md: want of memory is the one answer that may come at any time.
 use Rattle.std.specs.Prelude.{ℕ, Result, Ok, Err}
-use Rattle.scenario_lang.specs.declared.fault.LineReason.{LineReason}
+use Rattle.board_model.specs.declared.reason.LineReason.{LineReason}
 use Rattle.scenario_lang.specs.declared.fault.LineFault.{LineFault}
 use Rattle.scenario_lang.specs.declared.fault.LineFault.TheVariants as line_fault
 use Rattle.scenario_lang.specs.declared.fault.ScenarioFault.{ScenarioFault}

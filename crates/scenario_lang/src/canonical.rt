@@ -5,7 +5,7 @@ ghost use Rattle.std.specs.List.{flat_map};
 ghost use Rattle.mc_base.specs.Text.{hex_text};
 ghost use Rattle.outer_io.specs.Puts.{Puts};
 ghost use Rattle.board_model.specs.Scenario.{label_in};
-ghost use Rattle.scenario_lang.specs.Lines.{label_front};
+ghost use Rattle.scenario_lang.specs.Lines.{label_front, tries_front};
 ghost use Rattle.board_model.specs.Grammar.{canonical, domain_text, link_text, call_text, call_words, caller_text, name_text, spaced, line_of};
 
 use board_model::{Call, CallLine, DomainLine, LinkLine, Scenario};
@@ -75,6 +75,7 @@ fn put_call_line<K: Sink>(out: &mut Writer<'_, K>, line: &CallLine)
     put_caller(out, line.domain, line.node);
     out.put(b" ");
     put_label(out, line);
+    put_tries(out, line.tries);
     put_call(out, &line.call);
     out.put(b"\n");
 }
@@ -94,6 +95,17 @@ fn put_label<K: Sink>(out: &mut Writer<'_, K>, line: &CallLine)
     if let Some(label) = &line.label {
         out.put(label.as_slice());
         out.put(b" = ");
+    }
+}
+
+/// Puts how often the call of a line is made at most, where the line tells it.
+fn put_tries<K: Sink>(out: &mut Writer<'_, K>, tries: Option<u32>)
+    ensures { Puts K.Sink out.old out.new (tries_front tries) }
+{
+    if let Some(tries) = tries {
+        out.put(b"try ");
+        out.put_number(tries as u64);
+        out.put(b" ");
     }
 }
 

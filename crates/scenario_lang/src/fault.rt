@@ -1,11 +1,6 @@
 //! Why a scenario file is not read.
 
-/// Why a line of a scenario file is refused.
-#[derive(Clone, Copy, Debug, PartialEq, Eq)]
-pub enum LineReason {
-    /// The text is not one of the grammar that is built.
-    Unbuilt,
-}
+use board_model::LineReason;
 
 /// Why a scenario file is not read.
 #[derive(Clone, Copy, Debug, PartialEq, Eq)]

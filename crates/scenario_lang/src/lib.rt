@@ -5,17 +5,28 @@
 //! grammar is proved, and the contract of `read_scenario` says so without them.
 #![tactic(auto)]
 
+mod above;
+mod callee;
+mod calls;
 mod canonical;
 mod fault;
+mod forms;
+mod labels;
+pub mod language;
+mod lines;
+mod numerals;
 mod reading;
 mod told;
 mod words;
 mod writing;
 
+pub use board_model::LineReason;
 pub use canonical::put_scenario;
-pub use fault::{LineReason, ScenarioFault};
+pub use fault::ScenarioFault;
 pub use reading::read_scenario;
 pub use writing::write_scenario;
 
+#[cfg(test)]
+mod language_tests;
 #[cfg(test)]
 mod tests;

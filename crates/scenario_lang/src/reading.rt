@@ -5,15 +5,15 @@ ghost use Rattle.board_model.specs.declared.scenario.Scenario.{Scenario as Told}
 ghost use Rattle.board_model.specs.declared.scenario.CallLine.{CallLine as Line};
 ghost use Rattle.board_model.specs.Grammar.{IsScenario};
 ghost use Rattle.scenario_lang.specs.declared.fault.LineFault.TheVariants.{Refused as refused};
-ghost use Rattle.scenario_lang.specs.declared.fault.LineReason.TheVariants.{Unbuilt as unbuilt};
+ghost use Rattle.board_model.specs.declared.reason.LineReason.TheVariants.{Unbuilt as unbuilt};
 ghost use Rattle.scenario_lang.specs.Words.{Gives};
 ghost use Rattle.scenario_lang.specs.Lines.{domain_at, name_at, create_at, send_at, receive_at, request_at, available_at, test_at, cancel_at, query_at, call_at, named_at, labelled_at, plain_at, labelled_call_at, own_at, line_at, AreLines};
 ghost use Rattle.scenario_lang.specs.Refused.{OnRefused, OnStopped, IfRefused};
 
-use crate::fault::{LineFault, LineReason, ScenarioFault};
+use crate::fault::{LineFault, ScenarioFault};
 use crate::told::tell_in_order;
 use crate::words::{bytes, label, number, positive, skip};
-use board_model::{Call, CallLine, DomainLine, Label, Scenario, Seq};
+use board_model::{Call, CallLine, DomainLine, Label, LineReason, Scenario, Seq};
 use mc_base::{EndName, Priority};
 use std::alloc::Global;
 
@@ -327,7 +327,10 @@ pub fn read_scenario(alloc: Global, text: &[u8]) -> Result<Scenario, ScenarioFau
 {
     match board(alloc, text) {
         Ok(scenario) => Ok(scenario),
-        Err(LineFault::Refused(reason)) => Err(ScenarioFault::Refused { line: 1, reason }),
+        Err(LineFault::Refused(_)) => Err(ScenarioFault::Refused {
+            line: 1,
+            reason: LineReason::Unbuilt,
+        }),
         Err(LineFault::NoMemory) => Err(ScenarioFault::NoMemory),
     }
 }

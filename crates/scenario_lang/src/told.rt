@@ -6,8 +6,8 @@ ghost use Rattle.scenario_lang.specs.Told.{label_named, is_known, is_new, fits_t
 ghost use Rattle.board_model.specs.Scenario.{label_in};
 ghost use Rattle.board_model.specs.Grammar.{told_after};
 
-use crate::fault::{LineFault, LineReason};
-use board_model::{Call, CallLine};
+use crate::fault::LineFault;
+use board_model::{Call, CallLine, LineReason};
 use std::alloc::Global;
 use std::collections::BTreeSet;
 

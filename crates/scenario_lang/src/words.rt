@@ -2,12 +2,12 @@
 
 ghost use Rattle.std.specs.Prelude.{◌≡◌, ◌≤◌, ◌<◌, Some, IfSome, IfOk, IfErr, option_map};
 ghost use Rattle.scenario_lang.specs.declared.fault.LineFault.TheVariants.{Refused as refused};
-ghost use Rattle.scenario_lang.specs.declared.fault.LineReason.TheVariants.{Unbuilt as unbuilt};
+ghost use Rattle.board_model.specs.declared.reason.LineReason.TheVariants.{Unbuilt as unbuilt};
 ghost use Rattle.board_model.specs.Grammar.{is_label_byte as is_of_label};
 ghost use Rattle.scenario_lang.specs.Words.{Gives, after_word, digits_at, number_at, positive_at, hex_value, byte_value, pairs_at, within_limit, bytes_at, label_at};
 
-use crate::fault::{LineFault, LineReason};
-use board_model::Label;
+use crate::fault::LineFault;
+use board_model::{Label, LineReason};
 use std::alloc::Global;
 
 /// The most bytes that a message of a scenario file has.

@@ -1,0 +1,26 @@
+/// Why a line of a scenario file is refused. Where several reasons hold of a line, the first in this order counts.
+#[derive(Clone, Copy, Debug, PartialEq, Eq)]
+pub enum LineReason {
+    /// A byte is outside 0x20 to 0x7e, and no tab.
+    Byte,
+    /// The line has more than 20,000 bytes.
+    Long,
+    /// The words fit no form.
+    Form,
+    /// A number isn't written in decimal without leading zeros, or is out of its range.
+    Number,
+    /// Bytes have an odd number of digits or other digits, or are more than 9,000.
+    Bytes,
+    /// A domain line stands after a link or call line, or a link line after a call line.
+    Order,
+    /// A domain is told twice, or is named by a link or as the domain of a call line and not told above. A file that tells
+    /// no domain has this reason at the line after its last.
+    Domain,
+    /// A domain is linked to itself, a pair is linked twice, or a size is no power of two from 2 to 256.
+    Link,
+    /// A label is told twice in its domain or told where no label stands, or is used and was not told above by the same
+    /// domain for a request.
+    Label,
+    /// The text isn't one of the small grammar.
+    Unbuilt,
+}

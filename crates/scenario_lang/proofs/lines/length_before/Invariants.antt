@@ -1,0 +1,13 @@
+use Rattle.std.proofs.Common.{◌≡◌, ◌≤◌, ◌-◌, true, length, take}
+use Rattle.std.specs.List.{list_all}
+use Rattle.scenario_lang.specs.Fronts.{is_other}
+use Rattle.scenario_lang.proofs.lines.length_before.Given as goal
+
+abbrev pub invariant-loop-count : goal.invariant-loop-count
+invariant-loop-count l = record {
+  front : list_all (is_other l.stop) (take l.count l.text) ≡ true;
+  within : l.count ≤ length l.text;
+}
+
+abbrev pub decreases-loop-count : goal.decreases-loop-count
+decreases-loop-count l = length l.text - l.count

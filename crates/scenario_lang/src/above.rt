@@ -1,0 +1,272 @@
+//! What the lines of a file have told so far, and what one more line tells.
+
+ghost use Rattle.std.specs.Prelude.{◌≡◌, true, OnOk, IfErr, IfSome, option_map};
+ghost use Rattle.std.specs.List.{list_any, list_all};
+ghost use Rattle.board_model.specs.LineReasons.{tells_wrong_label, is_same_pair, gives_request, with_statement};
+ghost use Rattle.board_model.specs.LineReasons.{is_domain as tells_domain, is_text_byte as is_of_text, is_link_size as is_size};
+ghost use Rattle.board_model.specs.Forms.{says_call};
+ghost use Rattle.board_model.specs.FileLines.{begins_with};
+ghost use Rattle.board_model.specs.Language.{nothing_told};
+ghost use Rattle.board_model.specs.Scenario.{label_in};
+ghost use Rattle.scenario_lang.specs.declared.fault.LineFault.TheVariants.{NoMemory as no_memory};
+ghost use Rattle.scenario_lang.specs.Reading.{Answers, seen, row};
+ghost use Rattle.scenario_lang.specs.Telling.{used_word, is_no_request, Keeps, domain_told, link_told, call_told, words_told, line_told};
+
+use crate::callee::Callee;
+use crate::calls::{call_line, call_parts};
+use crate::fault::LineFault;
+use crate::forms::{domain_line, link_line};
+use crate::labels::Labels;
+use crate::lines::words;
+use board_model::{CallLine, LineReason, LinkLine, Scenario, Seq};
+use std::alloc::Global;
+
+/// The most bytes of a line.
+const LONGEST_LINE: usize = 20_000;
+
+/// What was told so far.
+#[derive(Drop)]
+pub(crate) struct Above<'a> {
+    pub told: Scenario,
+    pub labels: Labels<'a>,
+}
+
+fn is_text_byte(byte: u8) -> bool
+    ensures { result ≡ is_of_text byte }
+{
+    matches!(byte, b' '..=b'~' | b'\t')
+}
+
+fn is_text(line: &[u8]) -> bool
+    ensures { result ≡ list_all is_of_text line.now }
+{
+    line.iter().all(|byte| is_text_byte(*byte))
+}
+
+fn is_domain(told: &Scenario, domain: u8) -> bool
+    ensures { result ≡ tells_domain told.now domain }
+{
+    told.domains
+        .as_slice()
+        .iter()
+        .any(|line| line.domain == domain)
+}
+
+/// Whether two domains are linked, whichever is the driver.
+fn is_linked(told: &Scenario, driver: u8, device: u8) -> bool
+    ensures { result ≡ list_any (is_same_pair (record { driver = driver; device = device; size = 0 })) told.now.links }
+{
+    told.links.as_slice().iter().any(|other| {
+        (driver == other.driver && device == other.device)
+            || (driver == other.device && device == other.driver)
+    })
+}
+
+fn is_link_size(size: u64) -> bool
+    ensures { result ≡ is_size size }
+{
+    matches!(size, 2 | 4 | 8 | 16 | 32 | 64 | 128 | 256)
+}
+
+/// The label that a call names.
+fn used<'a>(callee: Callee, words: &[&'a [u8]]) -> Option<&'a [u8]>
+    ensures { option_map (λ l. l.now) result ≡ used_word callee (seen words.now) }
+{
+    match callee {
+        Callee::Test | Callee::Cancel => words.first().copied(),
+        _ => None,
+    }
+}
+
+fn is_comment(word: &[u8]) -> bool
+    ensures { result ≡ begins_with 35 word.now }
+{
+    match word {
+        [first, ..] => *first == b'#',
+        [] => false,
+    }
+}
+
+impl<'a> Above<'a> {
+    pub fn new(alloc: Global) -> Above<'a>
+        ensures told { result.told ≡ nothing_told }
+        ensures keeps { Keeps result.labels.told.keys result.told }
+    {
+        Above {
+            told: Scenario {
+                domains: Seq::new(Vec::new(alloc)),
+                links: Seq::new(Vec::new(alloc)),
+                calls: Seq::new(Vec::new(alloc)),
+            },
+            labels: Labels::new(alloc),
+        }
+    }
+
+    /// Whether a label stands before a call that has none, or was told before in its domain.
+    fn is_told_wrong(&self, callee: Callee, domain: u8, told: Option<&'a [u8]>) -> bool
+        requires { Keeps self.now.labels.told.keys self.now.told }
+        ensures { result ≡ tells_wrong_label self.now.told (row callee).labelled domain (option_map (λ w. w.now) told.entry) }
+    {
+        match told {
+            Some(label) => !callee.is_labelled() || self.labels.has(domain, label),
+            None => false,
+        }
+    }
+
+    /// Whether a label is named that its domain has not told.
+    fn is_used_wrong(&self, domain: u8, used: Option<&'a [u8]>) -> bool
+        requires { Keeps self.now.labels.told.keys self.now.told }
+        ensures { result ≡ is_no_request self.now.told domain (option_map (λ w. w.now) used.entry) }
+    {
+        match used {
+            Some(label) => !self.labels.has(domain, label),
+            None => false,
+        }
+    }
+
+    /// Tells the line of a domain, by its words after the first.
+    #[tactic(auto, unfolding(crate::specs::Telling::domain_told))]
+    fn tell_domain(&mut self, words: &[&[u8]]) -> Result<(), LineFault>
+        ensures told { Answers (λ _. self.new.told) result (domain_told self.old.told (seen words.now)) }
+        ensures labels { self.new.labels ≡ self.old.labels }
+        ensures calls { OnOk result (self.new.told.calls ≡ self.old.told.calls) }
+    {
+        let line = domain_line(words)?;
+        if !self.told.links.as_slice().is_empty() || !self.told.calls.as_slice().is_empty() {
+            return Err(LineFault::Refused(LineReason::Order));
+        }
+        if is_domain(&self.told, line.domain) {
+            return Err(LineFault::Refused(LineReason::Domain));
+        }
+        if self.told.domains.push(line).is_err() {
+            return Err(LineFault::NoMemory);
+        }
+        Ok(())
+    }
+
+    /// Tells the line of a link, by its words after the first.
+    #[tactic(auto, unfolding(crate::specs::Telling::link_told))]
+    fn tell_link(&mut self, words: &[&[u8]]) -> Result<(), LineFault>
+        ensures told { Answers (λ _. self.new.told) result (link_told self.old.told (seen words.now)) }
+        ensures labels { self.new.labels ≡ self.old.labels }
+        ensures calls { OnOk result (self.new.told.calls ≡ self.old.told.calls) }
+    {
+        let (driver, device, size) = link_line(words)?;
+        if !self.told.calls.as_slice().is_empty() {
+            return Err(LineFault::Refused(LineReason::Order));
+        }
+        if !is_domain(&self.told, driver) || !is_domain(&self.told, device) {
+            return Err(LineFault::Refused(LineReason::Domain));
+        }
+        if driver == device || is_linked(&self.told, driver, device) || !is_link_size(size) {
+            return Err(LineFault::Refused(LineReason::Link));
+        }
+        let link = LinkLine {
+            driver,
+            device,
+            size: size as u32,
+        };
+        if self.told.links.push(link).is_err() {
+            return Err(LineFault::NoMemory);
+        }
+        Ok(())
+    }
+
+    /// Tells the line of a call, by its first word and the others.
+    #[tactic(auto, unfolding(crate::specs::Telling::call_told))]
+    fn tell_call(
+        &mut self,
+        alloc: Global,
+        first: &'a [u8],
+        words: &[&'a [u8]],
+    ) -> Result<(), LineFault>
+        requires { Keeps self.old.labels.told.keys self.old.told }
+        ensures told { Answers (λ _. self.new.told) result (call_told self.old.told first.now (seen words.now)) }
+        ensures keeps { OnOk result (Keeps self.new.labels.told.keys self.new.told) }
+    {
+        let parts = call_parts(first, words)?;
+        let line = call_line(alloc, &parts)?;
+        if !is_domain(&self.told, line.domain) {
+            return Err(LineFault::Refused(LineReason::Domain));
+        }
+        if self.is_told_wrong(parts.callee, line.domain, parts.told)
+            || self.is_used_wrong(line.domain, used(parts.callee, parts.arguments))
+        {
+            return Err(LineFault::Refused(LineReason::Label));
+        }
+        self.add(parts.told, line)
+    }
+
+    /// Adds a line of a call and its label.
+    fn add(&mut self, told: Option<&'a [u8]>, line: CallLine) -> Result<(), LineFault>
+        requires keeps { Keeps self.old.labels.told.keys self.old.told }
+        requires label { label_in line ≡ option_map (λ w. w.now) told }
+        requires request { IfSome (label_in line) (λ label. gives_request line.call ≡ true) }
+        ensures told { OnOk result (self.new.told ≡ with_statement self.old.told (says_call line)) }
+        ensures keeps { OnOk result (Keeps self.new.labels.told.keys self.new.told) }
+        ensures memory { IfErr result (λ e. e ≡ no_memory) }
+    {
+        if let Some(label) = told {
+            self.labels.tell(line.domain, label)?;
+            return self.push(line);
+        }
+        self.push(line)
+    }
+
+    fn push(&mut self, line: CallLine) -> Result<(), LineFault>
+        ensures told { OnOk result (self.new.told ≡ with_statement self.old.told (says_call line)) }
+        ensures labels { self.new.labels ≡ self.old.labels }
+        ensures memory { IfErr result (λ e. e ≡ no_memory) }
+    {
+        match self.told.calls.push(line) {
+            Ok(()) => Ok(()),
+            Err(_) => Err(LineFault::NoMemory),
+        }
+    }
+
+    /// Tells a line by its words.
+    fn tell_words(&mut self, alloc: Global, words: &[&'a [u8]]) -> Result<(), LineFault>
+        requires { Keeps self.old.labels.told.keys self.old.told }
+        ensures told { Answers (λ _. self.new.told) result (words_told self.old.told (seen words.now)) }
+        ensures keeps { OnOk result (Keeps self.new.labels.told.keys self.new.told) }
+    {
+        let [first, rest @ ..] = words else {
+            return Ok(());
+        };
+        if is_comment(first) {
+            return Ok(());
+        }
+        if *first == b"domain".as_slice() {
+            return self.tell_domain(rest);
+        }
+        if *first == b"link".as_slice() {
+            return self.tell_link(rest);
+        }
+        self.tell_call(alloc, first, rest)
+    }
+
+    /// Tells a line.
+    pub fn tell_line(&mut self, alloc: Global, line: &'a [u8]) -> Result<(), LineFault>
+        requires { Keeps self.old.labels.told.keys self.old.told }
+        ensures told { Answers (λ _. self.new.told) result (line_told self.old.told line.now) }
+        ensures keeps { OnOk result (Keeps self.new.labels.told.keys self.new.told) }
+    {
+        if !is_text(line) {
+            return Err(LineFault::Refused(LineReason::Byte));
+        }
+        if line.len() > LONGEST_LINE {
+            return Err(LineFault::Refused(LineReason::Long));
+        }
+        let words = words(alloc, line)?;
+        self.tell_words(alloc, &words)
+    }
+
+    /// All that was told.
+    pub fn into_scenario(self) -> Scenario
+        ensures { result ≡ self.entry.told }
+    {
+        let Above { told, labels } = self;
+        drop(labels);
+        told
+    }
+}

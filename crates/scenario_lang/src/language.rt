@@ -1,0 +1,63 @@
+//! The whole language: every call that is built, with labels and tries, domains and links.
+
+ghost use Rattle.std.specs.Prelude.{◌≡◌, ◌≤◌, ◌<◌, IfOk, Ok, Err, length};
+ghost use Rattle.board_model.specs.Language.{told_by, refused};
+ghost use Rattle.scenario_lang.specs.Refused.{IfRefused};
+ghost use Rattle.scenario_lang.specs.Telling.{fault_at};
+
+use crate::above::Above;
+use crate::fault::{LineFault, ScenarioFault};
+use crate::lines::first_line;
+use board_model::{LineReason, Scenario};
+use std::alloc::Global;
+
+/// Reads a scenario file of the whole language. A text that tells no scenario is refused at the first line that has a reason,
+/// counted from 1, with the first reason of that line, in the order of `LineReason`. A file that tells no domain is refused
+/// as `Domain` at the line after its last.
+///
+/// It takes time in proportion to the size of the text, and the logarithm of the number of labels. Want of memory may come
+/// at any time. The text has fewer than 4,294,967,295 bytes, so that its lines can be numbered in a `u32`.
+pub fn read_scenario(alloc: Global, text: &[u8]) -> Result<Scenario, ScenarioFault>
+    requires { length text.now < 4_294_967_295 }
+    ensures told { IfOk result (λ s. told_by text.now ≡ Ok s) }
+    ensures refused { IfRefused result (λ line reason. told_by text.now ≡ Err (refused line reason)) }
+    ensures few { IfOk result (λ s. length s.calls ≤ length text.now) }
+{
+    lines_told(alloc, text)
+}
+
+/// The scenario that the lines of a text tell one after the other.
+fn lines_told(alloc: Global, text: &[u8]) -> Result<Scenario, ScenarioFault>
+    requires { length text.now < 4_294_967_295 }
+    ensures told { IfOk result (λ s. told_by text.now ≡ Ok s) }
+    ensures refused { IfRefused result (λ line reason. told_by text.now ≡ Err (refused line reason)) }
+{
+    let mut above = Above::new(alloc);
+    let mut number = 1u32;
+    let mut rest = text;
+    while !rest.is_empty() {
+        let (line, after) = first_line(rest);
+        if let Err(fault) = above.tell_line(alloc, line) {
+            return Err(at_line(number, fault));
+        }
+        number += 1;
+        rest = after;
+    }
+    if above.told.domains.as_slice().is_empty() {
+        return Err(ScenarioFault::Refused {
+            line: number,
+            reason: LineReason::Domain,
+        });
+    }
+    Ok(above.into_scenario())
+}
+
+/// The fault of a line in its file.
+fn at_line(line: u32, fault: LineFault) -> ScenarioFault
+    ensures { result ≡ fault_at line fault }
+{
+    match fault {
+        LineFault::Refused(reason) => ScenarioFault::Refused { line, reason },
+        LineFault::NoMemory => ScenarioFault::NoMemory,
+    }
+}

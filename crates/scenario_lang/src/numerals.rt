@@ -1,0 +1,167 @@
+//! What a word says: a number, bytes or a label.
+
+ghost use Rattle.std.specs.Prelude.{◌≡◌, ◌≤◌, ◌^◌, ◌<◌, ℕ, List, Some, None, IfOk, IfErr, IfSome, option_map};
+ghost use Rattle.board_model.specs.FileWords.{numeral, number_from, number_of, digit_value, pairs_of, bytes_of};
+ghost use Rattle.board_model.specs.FileWords.{is_digit as is_a_digit};
+ghost use Rattle.board_model.specs.FileWords.{is_label as spells_label, is_dash as spells_none};
+ghost use Rattle.std.specs.List.{list_all};
+ghost use Rattle.board_model.specs.declared.reason.LineReason.TheVariants.{Number as wrong_number};
+ghost use Rattle.scenario_lang.specs.declared.fault.LineFault.TheVariants.{Refused as refused};
+ghost use Rattle.scenario_lang.specs.Reading.{Answers, at_most, number_in, byte_of, pairs_in, bytes_in};
+ghost use Rattle.board_model.specs.Grammar.{is_letter_byte, is_label_byte as is_of_label};
+
+use crate::fault::LineFault;
+use board_model::LineReason;
+use std::alloc::Global;
+
+/// The most bytes that a message has.
+const MOST_BYTES: usize = 9000;
+
+fn is_digit(byte: u8) -> bool
+    ensures { result ≡ is_a_digit byte }
+{
+    matches!(byte, b'0'..=b'9')
+}
+
+/// The number that digits write, if it is at most this large.
+fn digits(most: u64, word: &[u8]) -> Option<u64>
+    ensures { result ≡ at_most most (number_from 0 word.now) }
+{
+    let mut value = 0u64;
+    let mut rest = word;
+    while let [byte, after @ ..] = rest {
+        if !is_digit(*byte) {
+            return None;
+        }
+        let digit = u64::from(*byte - b'0');
+        if digit > most {
+            return None;
+        }
+        if value > (most - digit) / 10 {
+            return None;
+        }
+        value = value * 10 + digit;
+        rest = after;
+    }
+    Some(value)
+}
+
+/// The number that a word writes, if it is at most this large.
+fn number_to(most: u64, word: &[u8]) -> Option<u64>
+    ensures { result ≡ at_most most (number_of word.now) }
+{
+    match word {
+        [] => None,
+        [b'0'] => Some(0),
+        [b'0', ..] => None,
+        _ => digits(most, word),
+    }
+}
+
+/// The number that a word writes, in its range.
+pub fn number(least: u64, most: u64, word: &[u8]) -> Result<u64, LineFault>
+    ensures number { Answers (λ n. n) result (number_in (numeral least most word.now)) }
+    ensures refused { IfErr result (λ e. e ≡ refused wrong_number) }
+    ensures within { IfOk result (λ n. n ≤ most) }
+{
+    match number_to(most, word) {
+        Some(value) if value >= least => Ok(value),
+        _ => Err(LineFault::Refused(LineReason::Number)),
+    }
+}
+
+/// The value of a hexadecimal digit of either case.
+fn hex(digit: u8) -> Option<u8>
+    ensures value { result ≡ digit_value digit }
+    ensures small { IfSome result (λ v. v < 16) }
+{
+    match digit {
+        b'0'..=b'9' => Some(digit - b'0'),
+        b'a'..=b'f' => Some(digit - b'a' + 10),
+        b'A'..=b'F' => Some(digit - b'A' + 10),
+        _ => None,
+    }
+}
+
+/// The byte that two digits write.
+fn byte(high: u8, low: u8) -> Option<u8>
+    ensures { result ≡ byte_of (digit_value high) (digit_value low) }
+{
+    let high = hex(high)?;
+    let low = hex(low)?;
+    Some(high * 16 + low)
+}
+
+/// The bytes that pairs of digits write.
+fn pairs(alloc: Global, word: &[u8]) -> Result<Vec<u8>, LineFault>
+    ensures { Answers (λ v. v.items) result (pairs_in word.now) }
+{
+    let Ok(mut bytes) = Vec::with_capacity(alloc, word.len() / 2) else {
+        return Err(LineFault::NoMemory);
+    };
+    let mut rest = word;
+    while let [high, low, after @ ..] = rest {
+        let Some(value) = byte(*high, *low) else {
+            return Err(LineFault::Refused(LineReason::Bytes));
+        };
+        if bytes.push(value).is_err() {
+            return Err(LineFault::NoMemory);
+        }
+        rest = after;
+    }
+    if !rest.is_empty() {
+        return Err(LineFault::Refused(LineReason::Bytes));
+    }
+    Ok(bytes)
+}
+
+fn is_dash(word: &[u8]) -> bool
+    ensures { result ≡ spells_none word.now }
+{
+    match word {
+        [byte] => *byte == b'-',
+        _ => false,
+    }
+}
+
+/// The bytes that a word writes, of which there are at most 9,000.
+pub fn bytes(alloc: Global, word: &[u8]) -> Result<Vec<u8>, LineFault>
+    ensures { Answers (λ v. v.items) result (bytes_in word.now) }
+{
+    if is_dash(word) {
+        return Ok(Vec::new(alloc));
+    }
+    let bytes = pairs(alloc, word)?;
+    if bytes.len() > MOST_BYTES {
+        return Err(LineFault::Refused(LineReason::Bytes));
+    }
+    Ok(bytes)
+}
+
+fn is_label_byte(byte: u8) -> bool
+    ensures { result ≡ is_of_label byte }
+{
+    matches!(byte, b'a'..=b'z' | b'0'..=b'9' | b'_')
+}
+
+fn are_label_bytes(bytes: &[u8]) -> bool
+    ensures { result ≡ list_all is_of_label bytes.now }
+{
+    bytes.iter().all(|byte| is_label_byte(*byte))
+}
+
+fn is_letter(byte: u8) -> bool
+    ensures { result ≡ is_letter_byte byte }
+{
+    matches!(byte, b'a'..=b'z')
+}
+
+/// Whether a word is a label.
+pub fn is_label(word: &[u8]) -> bool
+    ensures { result ≡ spells_label word.now }
+{
+    match word {
+        [first, rest @ ..] => is_letter(*first) && rest.len() <= 15 && are_label_bytes(rest),
+        [] => false,
+    }
+}
