@@ -13,6 +13,14 @@ pub mod LaneRuns
 pub mod LaneSends
 pub mod LaneStates
 pub mod LaneTakes
+pub mod LawfulBoards
+pub mod LawfulForms
+pub mod LawfulLines
+pub mod LawfulParts
+pub mod LawfulRuns
+pub mod LawfulSteps
+pub mod LawfulTests
+pub mod LawfulWords
 pub mod ListsApart
 pub mod ListsCounts
 pub mod ListsJoined

@@ -36,3 +36,4 @@ pub mod Headline
 pub mod Laws
 pub mod MessageLaws
 pub mod SerialLaws
+pub mod LanguageLaws

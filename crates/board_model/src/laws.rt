@@ -2,6 +2,7 @@
 ghost use Rattle.board_model.specs.Laws.{PlaceLaw, SerialIsBoardRun, HeadlineLaw};
 ghost use Rattle.board_model.specs.MessageLaws.{ReceivesTakeTheBest, NoMessageIsLost, CancelledRequestsTookNothing};
 ghost use Rattle.board_model.specs.SerialLaws.{LinkedSerialIsBoardRun};
+ghost use Rattle.board_model.specs.LanguageLaws.{LawfulIsLinked, LawfulSerialIsBoardRun, LawfulSerialHeadline};
 
 /// At the end of every run of a board, each buffer of each lane is at exactly one place.
 pub fn every_buffer_in_its_place()
@@ -36,4 +37,19 @@ pub fn serial_run_is_a_board_run()
 /// The serial run of a board of linked domains is a run of the board, and runs every script whole.
 pub fn linked_serial_run_is_a_board_run()
     ensures { LinkedSerialIsBoardRun }
+{}
+
+/// The board of every scenario of the language is one of linked domains.
+pub fn lawful_board_is_linked()
+    ensures { LawfulIsLinked }
+{}
+
+/// The serial run of every scenario of the language is a run of its board, and runs every script whole.
+pub fn lawful_serial_run_is_a_board_run()
+    ensures { LawfulSerialIsBoardRun }
+{}
+
+/// The headline holds of the serial run of every scenario of the language.
+pub fn lawful_serial_run_keeps_the_headline()
+    ensures { LawfulSerialHeadline }
 {}

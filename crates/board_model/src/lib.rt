@@ -3,7 +3,8 @@
 //!
 //! `specs/` is to be read in this order: Scenario, Grammar, FileLines, FileWords, Forms, LineReasons, Language, LinkedBoard,
 //! Words, Journal, State, Choice, Dealing, Turn, DomainCall, Answer, Effect, Labels, Step, Run, Traffic, Board, Channels,
-//! Messages, Takings, Drops, Totals, Places, Serial, Loads, SerialRun, Report, Headline, Laws, MessageLaws, SerialLaws.
+//! Messages, Takings, Drops, Totals, Places, Serial, Loads, SerialRun, Report, Headline, Laws, MessageLaws, SerialLaws,
+//! LanguageLaws.
 #![tactic(auto)]
 
 pub mod laws;
