@@ -6,10 +6,6 @@ use Rattle.std.proofs.lemmas.Bool.{and_parts, or_parts}
 use Rattle.std.proofs.lemmas.List.Folds.{list_all-append}
 use Rattle.std.proofs.lemmas.List.Elements.{Contains-append_right}
 
-pub all-pass : {A : Type 0} (p : A → Bool) (xs : List A) → list_all p xs ≡ true → AllByRecursion (λ x. p x ≡ true) xs
-all-pass p [] e = tt
-all-pass p (x ∷ xs) e = let parts = and_parts (p x) (list_all p xs) e in (parts.0, all-pass p xs parts.1)
-
 pub none-pass : {A : Type 0} (p : A → Bool) (xs : List A) → list_any p xs ≡ false → AllByRecursion (λ x. p x ≡ false) xs
 none-pass p [] e = tt
 none-pass p (x ∷ xs) e = let parts = or_parts (p x) (list_any p xs) e in (parts.0, none-pass p xs parts.1)

@@ -1,5 +1,9 @@
+pub mod BoardsLanes
 pub mod BoardsLawful
+pub mod BoardsNeighbours
 pub mod BoardsOne
+pub mod BoardsRising
+pub mod BoardsScripts
 pub mod CancelCalls
 pub mod CancelFrames
 pub mod CancelLaw
@@ -17,8 +21,11 @@ pub mod LawfulBoards
 pub mod LawfulForms
 pub mod LawfulLines
 pub mod LawfulParts
+pub mod LawfulRanges
 pub mod LawfulRuns
+pub mod LawfulSizes
 pub mod LawfulSteps
+pub mod LawfulTelling
 pub mod LawfulTests
 pub mod LawfulWords
 pub mod ListsApart

@@ -91,7 +91,7 @@ module _ (f : ℕ → ℕ → ℕ) where
   over_lanes s = total (λ d. total (λ k. f d.domain k.number) (neighbours s d)) (rising s)
 
   -- own lanes, and then those of links
-  lanes_total : (s : Scenario) → IsLinkedBoard s → over_lanes s ≡ total (λ d. f d.domain d.domain) s.domains + total (λ l. f l.driver l.device + f l.device l.driver) s.links
+  pub lanes_total : (s : Scenario) → IsLinkedBoard s → over_lanes s ≡ total (λ d. f d.domain d.domain) s.domains + total (λ l. f l.driver l.device + f l.device l.driver) s.links
   lanes_total s board =
       let parts : total (λ d. total (λ k. f d.domain k.number) (neighbours s d)) s.domains ≡ total (λ d. f d.domain d.domain) s.domains + total (λ d. total (λ l. total (λ k. f d.domain k.number) (linked_by d.domain l)) s.links) s.domains
       = total-sum (λ d. total (λ k. f d.domain k.number) (neighbours s d)) (λ d. f d.domain d.domain) (λ d. total (λ l. total (λ k. f d.domain k.number) (linked_by d.domain l)) s.links)

@@ -35,7 +35,7 @@ joined_back s a b size (inr h) = inr (has-weaken (IsLink a b size) (IsLink b a s
 
 -- ---- lists in rising number have the same items
 
-all-rising : (P : DomainLine → Type 0) (ds : List DomainLine) → AllByRecursion P ds → AllByRecursion P (rising_from ds)
+pub all-rising : (P : DomainLine → Type 0) (ds : List DomainLine) → AllByRecursion P ds → AllByRecursion P (rising_from ds)
 all-rising P [] all = tt
 all-rising P (d ∷ ds) all = placed (rising_from ds) (all-rising P ds all.1)
   where
@@ -47,7 +47,7 @@ all-rising P (d ∷ ds) all = placed (rising_from ds) (all-rising P ds all.1)
         go true more = (all.0, rest)
         go false more = (rest.0, more)
 
-has-rising : (P : DomainLine → Type 0) (ds : List DomainLine) → Has P ds → Has P (rising_from ds)
+pub has-rising : (P : DomainLine → Type 0) (ds : List DomainLine) → Has P ds → Has P (rising_from ds)
 has-rising P [] h = h
 has-rising P (d ∷ ds) h = placed (rising_from ds) (later h (has-rising P ds))
   where
@@ -65,7 +65,7 @@ has-rising P (d ∷ ds) h = placed (rising_from ds) (later h (has-rising P ds))
         go false (inr (inl y)) f = inl y
         go false (inr (inr y)) f = inr (f (inr y))
 
-all-ranked : (P : Neighbour → Type 0) (ns : List Neighbour) → AllByRecursion P ns → AllByRecursion P (all_ranked ns)
+pub all-ranked : (P : Neighbour → Type 0) (ns : List Neighbour) → AllByRecursion P ns → AllByRecursion P (all_ranked ns)
 all-ranked P [] all = tt
 all-ranked P (n ∷ ns) all = placed (all_ranked ns) (all-ranked P ns all.1)
   where
@@ -77,7 +77,7 @@ all-ranked P (n ∷ ns) all = placed (all_ranked ns) (all-ranked P ns all.1)
         go true more = (all.0, rest)
         go false more = (rest.0, more)
 
-has-ranked : (P : Neighbour → Type 0) (ns : List Neighbour) → Has P ns → Has P (all_ranked ns)
+pub has-ranked : (P : Neighbour → Type 0) (ns : List Neighbour) → Has P ns → Has P (all_ranked ns)
 has-ranked P [] h = h
 has-ranked P (n ∷ ns) h = placed (all_ranked ns) (later h (has-ranked P ns))
   where
