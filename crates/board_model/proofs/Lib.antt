@@ -1,3 +1,4 @@
+pub mod BoardsFound
 pub mod BoardsLanes
 pub mod BoardsLawful
 pub mod BoardsNeighbours

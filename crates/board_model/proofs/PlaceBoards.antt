@@ -20,7 +20,7 @@ domain_placed d (e ∷ es) = go (ltb d.domain e.domain) (domain_placed d es)
     go true rest = record { front = []; back = e ∷ es; before = refl; after = refl }
     go false rest = placed_later d e es (ranked_domain d es) rest
 
-rising_all : (P : ℕ → Type 0) (ds : List DomainLine) → AllByRecursion P (map (λ d. d.domain) ds) → AllByRecursion P (map (λ d. d.domain) (rising_from ds))
+pub rising_all : (P : ℕ → Type 0) (ds : List DomainLine) → AllByRecursion P (map (λ d. d.domain) ds) → AllByRecursion P (map (λ d. d.domain) (rising_from ds))
 rising_all P [] all = tt
 rising_all P (d ∷ ds) all = all-placed (λ x. x.domain) d (rising_from ds) (ranked_domain d (rising_from ds)) (domain_placed d (rising_from ds)) P all.0 (rising_all P ds all.1)
 
@@ -46,7 +46,7 @@ neighbour_placed n (m ∷ ms) = go (ltb n.number m.number) (neighbour_placed n m
 abbrev numbers : List Neighbour → List ℕ
 numbers ns = map (λ n. n.number) ns
 
-ranked_all : (P : ℕ → Type 0) (ns : List Neighbour) → AllByRecursion P (numbers ns) → AllByRecursion P (numbers (all_ranked ns))
+pub ranked_all : (P : ℕ → Type 0) (ns : List Neighbour) → AllByRecursion P (numbers ns) → AllByRecursion P (numbers (all_ranked ns))
 ranked_all P [] all = tt
 ranked_all P (n ∷ ns) all = all-placed (λ x. x.number) n (all_ranked ns) (ranked n (all_ranked ns)) (neighbour_placed n (all_ranked ns)) P all.0 (ranked_all P ns all.1)
 
@@ -102,9 +102,12 @@ linked_differ d (l ∷ ls) differ = go (linked_by d l) (ends d l) (linked_differ
         )
     go ns (has_none is) rest = rw is rest
 
+-- before they are put in rising number
+pub neighbours_apart : (s : Scenario) → IsLinkedBoard s → (d : DomainLine) → Differ (numbers (neighbour d.domain d.pool ∷ flat_map (linked_by d.domain) s.links))
+neighbours_apart s board d = (
+  linked_all (λ m. m ≡ d.domain → ⊥) (Joins s) d.domain (λ l joins driver e. joins.two_domains (driver ∙ sym e)) (λ l joins device e. joins.two_domains (e ∙ sym device)) s.links board.links_join,
+  linked_differ d.domain s.links board.pairs_differ,
+)
+
 pub neighbours_differ : (s : Scenario) → IsLinkedBoard s → (d : DomainLine) → Differ (numbers (neighbours s d))
-neighbours_differ s board d =
-    ranked_differ (neighbour d.domain d.pool ∷ flat_map (linked_by d.domain) s.links) (
-      linked_all (λ m. m ≡ d.domain → ⊥) (Joins s) d.domain (λ l joins driver e. joins.two_domains (driver ∙ sym e)) (λ l joins device e. joins.two_domains (e ∙ sym device)) s.links board.links_join,
-      linked_differ d.domain s.links board.pairs_differ,
-    )
+neighbours_differ s board d = ranked_differ (neighbour d.domain d.pool ∷ flat_map (linked_by d.domain) s.links) (neighbours_apart s board d)
