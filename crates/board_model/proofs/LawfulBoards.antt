@@ -1,5 +1,5 @@
 -- A lawful scenario, which a text tells, is a board of linked domains: each line that is not refused leaves one.
-use Rattle.std.proofs.Common.{◌≡◌, ℕ, ◌+◌, ◌≤◌, ◌<◌, ◌^◌, true, false, not, ◌&&◌, ◌||◌, List, [], ◌∷◌, ◌++◌, length, map, Option, Some, None, sym, inl, inr, arith, eq-eqb, length-append}
+use Rattle.std.proofs.Common.{◌≡◌, ℕ, ◌+◌, ◌≤◌, ◌<◌, ◌^◌, true, false, not, ◌&&◌, ◌||◌, List, [], ◌∷◌, ◌++◌, length, map, Option, Some, None, Ok, sym, inl, inr, arith, eq-eqb, length-append}
 use Rattle.std.specs.Prelude.{◌==◌}
 use Rattle.std.specs.List.{AllByRecursion, list_all, list_any}
 use Rattle.std.proofs.lemmas.Bool.{and_parts, and_from, or_parts, or_left, or_right}
@@ -7,10 +7,11 @@ use Rattle.board_model.specs.declared.scenario.DomainLine.{DomainLine}
 use Rattle.board_model.specs.declared.scenario.LinkLine.{LinkLine}
 use Rattle.board_model.specs.declared.scenario.Scenario.{Scenario}
 use Rattle.board_model.specs.LinkedBoard.{IsTold, IsSamePair, IsLinkedBoard}
+use Rattle.board_model.specs.FileLines.{lines_of}
 use Rattle.board_model.specs.FileWords.{numeral, is_number, number, are_bytes}
 use Rattle.board_model.specs.Forms.{LineParts, no_parts, domain_parts, link_parts, call_parts, CallParts, call_line, numerals, contents, tries_numerals, arguments_numerals}
 use Rattle.board_model.specs.LineReasons.{is_domain, is_same_pair, is_link_size, word_reasons, with_parts}
-use Rattle.board_model.specs.Language.{nothing_told, IsLawfulBoard}
+use Rattle.board_model.specs.Language.{nothing_told, told_by, IsLawfulBoard}
 use Rattle.board_model.proofs.MessageAlls.{all-weaken}
 use Rattle.board_model.proofs.ListsApart.{all-map}
 use Rattle.board_model.proofs.LawfulTests.{none-pass, all-both, any-contains}
@@ -106,5 +107,12 @@ goes_on n above p fits none h = record { fewer = omega (arith, one_more above p,
 none_told : IsLinkedBoard nothing_told
 none_told = record { domains_lawful = tt; domains_differ = tt; links_join = tt; pairs_differ = tt; lines_told = tt; nodes_fit = tt; arguments_fit = tt; lines_few = omega arith }
 
+begun_linked : (text : List ℕ) (s : Scenario) → told_by text ≡ Ok s → IsBegun (1 + length (lines_of text)) s
+begun_linked text s told = text-keeps IsBegun goes_on text s told (record { fewer = omega arith; linked = λ few. none_told })
+
+-- a text tells no more calls than it has bytes
+pub calls-few : (text : List ℕ) (s : Scenario) → told_by text ≡ Ok s → length s.calls ≤ length text
+calls-few text s told = omega (arith, (begun_linked text s told).fewer, lines_few text)
+
 pub lawful_is_linked : (s : Scenario) → IsLawfulBoard s → IsLinkedBoard s
-lawful_is_linked s (text, few, told) = (text-keeps IsBegun goes_on text s told (record { fewer = omega arith; linked = λ some. none_told })).linked (omega (arith, few, lines_few text))
+lawful_is_linked s (text, few, told) = (begun_linked text s told).linked (omega (arith, few, lines_few text))

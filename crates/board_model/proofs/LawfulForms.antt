@@ -36,7 +36,7 @@ parts_fit (d ∷ n ∷ p ∷ q ∷ qs) three all = absurd cc
 
 -- ---- forms
 
--- as many words as the form has arguments
+-- a word too many or too few fits no form
 no_more : (b : Bool) → (b && false) ≡ true → ⊥
 no_more true e = cc
 no_more false e = cc
