@@ -1,7 +1,7 @@
 -- What a word of a scenario file says: a number, bytes or a label.
 -- Source: docs/FORMATS.md, "Scenario files": numbers are decimal without leading zeros. Bytes are hexadecimal of either
 -- case, 9,000 at most, or a dash for none. A label is a letter a to z, and then up to 15 of a to z, digits and _.
-use Rattle.std.specs.Prelude.{ℕ, ◌+◌, ◌-◌, ◌*◌, Bool, true, false, ◌&&◌, ◌||◌, List, [], ◌∷◌, length, Option, None, Some, is_some, unwrap_or, nat_le, ◌==◌, if◌then◌else◌}
+use Rattle.std.specs.Prelude.{ℕ, ◌+◌, ◌-◌, ◌*◌, Bool, false, ◌&&◌, List, [], ◌∷◌, length, Option, None, Some, unwrap_or, nat_le, ◌==◌, if◌then◌else◌}
 use Rattle.std.specs.List.{list_all}
 use Rattle.board_model.specs.Grammar.{is_letter_byte, is_label_byte}
 

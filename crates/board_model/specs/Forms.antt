@@ -48,17 +48,17 @@ argument i words = get_or words i []
 
 abbrev pub forms : List CallForm
 forms =
-  form (codes "create") (port ∷ []) false (λ a. Create (number (argument 0 a)))
-  ∷ form (codes "delete") (port ∷ []) false (λ a. Delete (number (argument 0 a)))
-  ∷ form (codes "lookup") (name ∷ []) true (λ a. Lookup (name_in (argument 0 a)))
-  ∷ form (codes "msg_send") (port ∷ name ∷ priority ∷ content ∷ []) false (λ a. MsgSend (number (argument 0 a)) (name_in (argument 1 a)) (number (argument 2 a)) (bytes (argument 3 a)))
-  ∷ form (codes "msg_recv") (port ∷ maximum ∷ []) false (λ a. MsgRecv (number (argument 0 a)) (number (argument 1 a)))
-  ∷ form (codes "msg_recv_i") (port ∷ maximum ∷ []) true (λ a. MsgRecvI (number (argument 0 a)) (number (argument 1 a)))
-  ∷ form (codes "msg_available") (port ∷ []) false (λ a. MsgAvailable (number (argument 0 a)))
-  ∷ form (codes "test") (label ∷ []) false (λ a. Test (label_of (argument 0 a)))
-  ∷ form (codes "cancel") (label ∷ []) false (λ a. Cancel (label_of (argument 0 a)))
-  ∷ form (codes "turn") [] false (λ a. Turn)
-  ∷ []
+    form (codes "create") (port ∷ []) false (λ a. Create (number (argument 0 a)))
+    ∷ form (codes "delete") (port ∷ []) false (λ a. Delete (number (argument 0 a)))
+    ∷ form (codes "lookup") (name ∷ []) true (λ a. Lookup (name_in (argument 0 a)))
+    ∷ form (codes "msg_send") (port ∷ name ∷ priority ∷ content ∷ []) false (λ a. MsgSend (number (argument 0 a)) (name_in (argument 1 a)) (number (argument 2 a)) (bytes (argument 3 a)))
+    ∷ form (codes "msg_recv") (port ∷ maximum ∷ []) false (λ a. MsgRecv (number (argument 0 a)) (number (argument 1 a)))
+    ∷ form (codes "msg_recv_i") (port ∷ maximum ∷ []) true (λ a. MsgRecvI (number (argument 0 a)) (number (argument 1 a)))
+    ∷ form (codes "msg_available") (port ∷ []) false (λ a. MsgAvailable (number (argument 0 a)))
+    ∷ form (codes "test") (label ∷ []) false (λ a. Test (label_of (argument 0 a)))
+    ∷ form (codes "cancel") (label ∷ []) false (λ a. Cancel (label_of (argument 0 a)))
+    ∷ form (codes "turn") [] false (λ a. Turn)
+    ∷ []
 
 abbrev pub form_in : List CallForm → List ℕ → Option CallForm
 form_in [] word = None

@@ -1,8 +1,7 @@
 -- The reasons for which a line is refused, in their order, given what the lines above have told.
 -- Source: docs/FORMATS.md, "Scenario files", the list of reasons. The first that holds counts.
-use Rattle.std.specs.Prelude.{ℕ, Bool, true, false, not, ◌&&◌, ◌||◌, List, [], ◌∷◌, ◌++◌, length, bytes_eq, nat_le, nat_lt, ◌==◌, Option, None, Some, is_none, if◌then◌else◌, Result, Ok, Err}
+use Rattle.std.specs.Prelude.{ℕ, Bool, true, false, not, ◌&&◌, ◌||◌, List, [], ◌∷◌, ◌++◌, length, bytes_eq, nat_le, nat_lt, ◌==◌, Option, None, Some, is_none, if◌then◌else◌}
 use Rattle.std.specs.List.{list_all, list_any}
-use Rattle.board_model.specs.declared.scenario.DomainLine.{DomainLine}
 use Rattle.board_model.specs.declared.scenario.LinkLine.{LinkLine}
 use Rattle.board_model.specs.declared.scenario.Call.{Call}
 use Rattle.board_model.specs.declared.scenario.Call.TheVariants.{Lookup, MsgRecvI, Test, Cancel}
@@ -102,21 +101,21 @@ of_parts p (Some parts) = p parts
 -- the reasons of the words
 abbrev pub word_reasons : Scenario → Option LineParts → List LineTest
 word_reasons above parts =
-  test Form (is_none parts)
-  ∷ test Number (of_parts (λ p. not (list_all is_number (numerals p))) parts)
-  ∷ test Bytes (of_parts (λ p. not (list_all are_bytes (contents p))) parts)
-  ∷ test Order (of_parts (λ p. is_late above (statement p)) parts)
-  ∷ test Domain (of_parts (λ p. has_wrong_domain above (statement p)) parts)
-  ∷ test Link (of_parts (λ p. has_wrong_link above (statement p)) parts)
-  ∷ test Label (of_parts (has_wrong_label above) parts)
-  ∷ []
+    test Form (is_none parts)
+    ∷ test Number (of_parts (λ p. not (list_all is_number (numerals p))) parts)
+    ∷ test Bytes (of_parts (λ p. not (list_all are_bytes (contents p))) parts)
+    ∷ test Order (of_parts (λ p. is_late above (statement p)) parts)
+    ∷ test Domain (of_parts (λ p. has_wrong_domain above (statement p)) parts)
+    ∷ test Link (of_parts (λ p. has_wrong_link above (statement p)) parts)
+    ∷ test Label (of_parts (has_wrong_label above) parts)
+    ∷ []
 
 -- all reasons, those of the bytes first
 abbrev pub reasons : Scenario → List ℕ → List LineTest
 reasons above line =
-  test Byte (not (list_all is_text_byte line))
-  ∷ test Long (nat_lt 20000 (length line))
-  ∷ word_reasons above (parts_of (words_of line))
+    test Byte (not (list_all is_text_byte line))
+    ∷ test Long (nat_lt 20000 (length line))
+    ∷ word_reasons above (parts_of (words_of line))
 
 abbrev pub first_reason : List LineTest → Option LineReason
 first_reason [] = None
