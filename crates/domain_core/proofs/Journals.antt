@@ -1,9 +1,10 @@
 -- Entries that are kept stand for the same lines when more is kept behind them.
-use Rattle.std.proofs.Common.{◌≡◌, ℕ, ◌+◌, ◌-◌, ◌≤◌, List, [], ◌∷◌, ◌++◌, length, take, drop, map, Option, Some, None, refl, sym, ap, ◌∙◌, arith}
+use Rattle.std.proofs.Common.{Bool, true, false, cond, ◌≡◌, ℕ, ◌+◌, ◌-◌, ◌≤◌, List, [], ◌∷◌, ◌++◌, length, take, drop, map, Option, Some, None, refl, sym, ap, ◌∙◌, arith}
 use Rattle.std.specs.List.{AllByRecursion}
 use Rattle.std.specs.Prelude.{slice_get, slice_set}
-use Rattle.std.proofs.lemmas.List.{take-append-le, drop-append-le, length-drop, length-map, map-set, map_push}
-use Rattle.board_model.specs.Journal.{Line, PlainResult, brought, put_line, take_line, call_line, completes, gives, joinable, noted_idle, with_idle}
+use Rattle.std.proofs.lemmas.List.{take-append-le, drop-append-le, length-drop, length-map, map-set, map_push, take-map}
+use Rattle.board_model.specs.Journal.{Line, PlainResult, brought, put_line, take_line, call_line, completes, gives, again_line, is_one_idle, joinable, noted_again, noted_idle, noted_spin, spinning, with_idle, with_spin}
+use Rattle.mc_base.specs.declared.refusal.Refusal.{Refusal}
 use Rattle.domain_core.specs.declared.journal.kept.Piece.{Piece}
 use Rattle.domain_core.specs.declared.journal.kept.KeptResult.{KeptResult}
 use Rattle.domain_core.specs.declared.journal.kept.KeptResult.TheVariants as result
@@ -12,7 +13,7 @@ use Rattle.domain_core.specs.declared.journal.kept.Kept.TheVariants as kept
 use Rattle.domain_core.specs.declared.journal.entry.Entry.{Entry}
 use Rattle.domain_core.specs.declared.journal.entry.Entry.TheVariants as entry
 use Rattle.domain_core.specs.Kept.{AreWithin, IsResultWithin, IsWithin, kept_line, kept_result, piece_of}
-use Rattle.domain_core.specs.Entry.{IsNotIdle, line_of_entry, noted_entry}
+use Rattle.domain_core.specs.Entry.{IsPlain, line_of_entry, noted_entry}
 
 -- ---- bytes behind the others
 
@@ -36,6 +37,8 @@ kept_line-append bytes more (kept.Put peer p) within = ap (λ (xs : List ℕ). p
 kept_line-append bytes more (kept.See peer n) within = refl
 kept_line-append bytes more (kept.Take peer p fate) within = ap (λ (xs : List ℕ). take_line peer xs fate) (piece_of-append bytes more p within)
 kept_line-append bytes more (kept.Idle n) within = refl
+kept_line-append bytes more (kept.Again word) within = refl
+kept_line-append bytes more (kept.Spin n word) within = refl
 kept_line-append bytes more (kept.Refused k word) within = refl
 kept_line-append bytes more (kept.Agreed k) within = refl
 kept_line-append bytes more (kept.Number k n) within = refl
@@ -63,6 +66,8 @@ IsWithin-more m n (kept.Put peer p) le within = omega arith
 IsWithin-more m n (kept.See peer count) le within = tt
 IsWithin-more m n (kept.Take peer p fate) le within = omega arith
 IsWithin-more m n (kept.Idle count) le within = tt
+IsWithin-more m n (kept.Again word) le within = tt
+IsWithin-more m n (kept.Spin count word) le within = tt
 IsWithin-more m n (kept.Refused k word) le within = tt
 IsWithin-more m n (kept.Agreed k) le within = tt
 IsWithin-more m n (kept.Number k count) le within = tt
@@ -87,27 +92,63 @@ idle-begins bytes ks e =
     let e' : None ≡ joinable (slice_get (map (kept_line bytes) ks) (length (map (kept_line bytes) ks) - 1)) = rw len e in
     map_push (kept_line bytes) ks (kept.Idle 1) ∙ ap (λ (o : Option ℕ). with_idle o (map (kept_line bytes) ks)) e'
 
+-- ---- calls that are made again
+
+pub spin-joins : (bytes : List ℕ) (word : Refusal) (ks : List Kept) (n i : ℕ) → i ≡ length ks - 1 → Some n ≡ spinning word (slice_get (map (kept_line bytes) ks) (length ks - 1)) → map (kept_line bytes) (slice_set ks i (kept.Spin (n + 1) word)) ≡ noted_spin word (map (kept_line bytes) ks)
+spin-joins bytes word ks n i at e =
+    let len = length-map ks (kept_line bytes) in
+    let e' : Some n ≡ spinning word (slice_get (map (kept_line bytes) ks) (length (map (kept_line bytes) ks) - 1)) = rw len e in
+    map-set (kept_line bytes) ks i (kept.Spin (n + 1) word) ∙ rw (at, ← len) (ap (λ (o : Option ℕ). with_spin word o (map (kept_line bytes) ks)) e')
+
+pub spin-begins : (bytes : List ℕ) (word : Refusal) (ks : List Kept) → None ≡ spinning word (slice_get (map (kept_line bytes) ks) (length ks - 1)) → map (kept_line bytes) (ks ++ kept.Spin 1 word ∷ []) ≡ noted_spin word (map (kept_line bytes) ks)
+spin-begins bytes word ks e =
+    let len = length-map ks (kept_line bytes) in
+    let e' : None ≡ spinning word (slice_get (map (kept_line bytes) ks) (length (map (kept_line bytes) ks) - 1)) = rw len e in
+    map_push (kept_line bytes) ks (kept.Spin 1 word) ∙ ap (λ (o : Option ℕ). with_spin word o (map (kept_line bytes) ks)) e'
+
+abbrev again_by : Refusal → List Line → Bool → List Line
+again_by word lines b = cond b (noted_spin word (take (length lines - 1) lines)) (lines ++ again_line word ∷ [])
+
+-- after one idle turn, and else
+pub again-spins : (bytes : List ℕ) (word : Refusal) (ks : List Kept) → true ≡ is_one_idle (slice_get (map (kept_line bytes) ks) (length ks - 1)) → noted_spin word (map (kept_line bytes) (take (length ks - 1) ks)) ≡ noted_again word (map (kept_line bytes) ks)
+again-spins bytes word ks one =
+    let lines = map (kept_line bytes) ks in
+    let len = length-map ks (kept_line bytes) in
+    let one' : true ≡ is_one_idle (slice_get lines (length lines - 1)) = rw len one in
+    let front : map (kept_line bytes) (take (length ks - 1) ks) ≡ take (length lines - 1) lines = rw len (sym (take-map (kept_line bytes) (length ks - 1) ks)) in
+    ap (λ (xs : List Line). noted_spin word xs) front ∙ ap (again_by word lines) one'
+
+pub again-stands : (bytes : List ℕ) (word : Refusal) (ks : List Kept) → false ≡ is_one_idle (slice_get (map (kept_line bytes) ks) (length ks - 1)) → map (kept_line bytes) (ks ++ kept.Again word ∷ []) ≡ noted_again word (map (kept_line bytes) ks)
+again-stands bytes word ks e =
+    let len = length-map ks (kept_line bytes) in
+    let e' : false ≡ is_one_idle (slice_get (map (kept_line bytes) ks) (length (map (kept_line bytes) ks) - 1)) = rw len e in
+    map_push (kept_line bytes) ks (kept.Again word) ∙ ap (again_by word (map (kept_line bytes) ks)) e'
+
 -- ---- any other entry
 
-noted_entry-appends : (lines : List Line) (e : Entry) → IsNotIdle e → noted_entry lines (line_of_entry e) ≡ lines ++ line_of_entry e ∷ []
+noted_entry-appends : (lines : List Line) (e : Entry) → IsPlain e → noted_entry lines (line_of_entry e) ≡ lines ++ line_of_entry e ∷ []
 noted_entry-appends lines entry.Turn other = refl
 noted_entry-appends lines (entry.Back peer n) other = refl
 noted_entry-appends lines (entry.Put peer frame) other = refl
 noted_entry-appends lines (entry.See peer n) other = refl
 noted_entry-appends lines (entry.Take peer frame fate) other = refl
 noted_entry-appends lines (entry.Idle n) other = absurd other
+noted_entry-appends lines (entry.Again word) other = absurd other
+noted_entry-appends lines (entry.Spin n word) other = refl
 noted_entry-appends lines (entry.Called k a) other = refl
 
-pub IsNotIdle-from : (e : Entry) → ((n : ℕ) → e ≡ entry.Idle n → ⊥) → IsNotIdle e
-IsNotIdle-from entry.Turn h = tt
-IsNotIdle-from (entry.Back peer n) h = tt
-IsNotIdle-from (entry.Put peer frame) h = tt
-IsNotIdle-from (entry.See peer n) h = tt
-IsNotIdle-from (entry.Take peer frame fate) h = tt
-IsNotIdle-from (entry.Idle n) h = h n refl
-IsNotIdle-from (entry.Called k a) h = tt
+pub IsPlain-from : (e : Entry) → ((n : ℕ) → e ≡ entry.Idle n → ⊥) → ((word : Refusal) → e ≡ entry.Again word → ⊥) → IsPlain e
+IsPlain-from entry.Turn h g = tt
+IsPlain-from (entry.Back peer n) h g = tt
+IsPlain-from (entry.Put peer frame) h g = tt
+IsPlain-from (entry.See peer n) h g = tt
+IsPlain-from (entry.Take peer frame fate) h g = tt
+IsPlain-from (entry.Idle n) h g = h n refl
+IsPlain-from (entry.Again word) h g = g word refl
+IsPlain-from (entry.Spin n word) h g = tt
+IsPlain-from (entry.Called k a) h g = tt
 
-pub lines-push : (old new more : List ℕ) (ks : List Kept) (k : Kept) (e : Entry) → IsNotIdle e → AreWithin old ks → new ≡ old ++ more → kept_line new k ≡ line_of_entry e → map (kept_line new) (ks ++ k ∷ []) ≡ noted_entry (map (kept_line old) ks) (line_of_entry e)
+pub lines-push : (old new more : List ℕ) (ks : List Kept) (k : Kept) (e : Entry) → IsPlain e → AreWithin old ks → new ≡ old ++ more → kept_line new k ≡ line_of_entry e → map (kept_line new) (ks ++ k ∷ []) ≡ noted_entry (map (kept_line old) ks) (line_of_entry e)
 lines-push old new more ks k e other within grown line =
     let pushed = map_push (kept_line new) ks k in
     let front : map (kept_line new) ks ≡ map (kept_line old) ks = rw grown (lines-append old more ks within) in

@@ -1,6 +1,7 @@
 pub mod Journals
 pub mod Books
 pub mod Placed
+pub mod SameWords
 pub mod Slots
 pub mod Strangers
 pub mod Outs

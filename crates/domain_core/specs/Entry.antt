@@ -1,7 +1,7 @@
 -- The line that an entry of the code is, and what noting it does.
 -- Source: docs/FORMATS.md, "Journal text".
 use Rattle.std.specs.Prelude.{◌≡◌, ℕ, List, [], ◌∷◌, ◌++◌, length}
-use Rattle.board_model.specs.Journal.{Line, PlainResult, found_at, was_accepted, was_rejected, brought, ended_by, PlainAnswer, idle_line, turn_line, back_line, put_line, see_line, take_line, call_line, refuses, agrees, tells, gives, completes, noted_idle}
+use Rattle.board_model.specs.Journal.{Line, PlainResult, found_at, was_accepted, was_rejected, brought, ended_by, PlainAnswer, idle_line, again_line, spin_line, turn_line, back_line, put_line, see_line, take_line, call_line, refuses, agrees, tells, gives, completes, noted_idle, noted_again}
 use Rattle.domain_core.specs.declared.journal.entry.Answer.{Answer}
 use Rattle.domain_core.specs.declared.journal.entry.Answer.TheVariants as answer
 use Rattle.domain_core.specs.declared.journal.entry.Told.{Told}
@@ -30,6 +30,8 @@ line_of_entry (entry.Put peer frame) = put_line peer frame.now
 line_of_entry (entry.See peer n) = see_line peer n
 line_of_entry (entry.Take peer frame fate) = take_line peer frame.now fate
 line_of_entry (entry.Idle n) = idle_line n
+line_of_entry (entry.Again word) = again_line word
+line_of_entry (entry.Spin n word) = spin_line n word
 line_of_entry (entry.Called k a) = call_line k (plain_answer a)
 
 -- how many bytes an entry carries
@@ -48,17 +50,20 @@ bytes_in (entry.Take peer frame fate) = length frame.now
 bytes_in (entry.Called k a) = bytes_in_answer a
 bytes_in other = 0
 
--- an idle turn is noted by itself
+-- idle turns and calls that are made again are noted one by one
 abbrev pub IsNotable : Entry → Type 0
 IsNotable (entry.Idle n) = n ≡ 1
+IsNotable (entry.Spin n word) = ⊥
 IsNotable other = Unit {0}
 
--- the lines with one more; an idle turn is joined
+-- the lines with one more; idle turns, and calls that are made again, are joined
 abbrev pub noted_entry : List Line → Line → List Line
 noted_entry lines (idle_line n) = noted_idle lines
+noted_entry lines (again_line word) = noted_again word lines
 noted_entry lines line = lines ++ line ∷ []
 
--- any entry but idle turns
-abbrev pub IsNotIdle : Entry → Type 0
-IsNotIdle (entry.Idle n) = ⊥
-IsNotIdle other = Unit {0}
+-- any entry that is not joined
+abbrev pub IsPlain : Entry → Type 0
+IsPlain (entry.Idle n) = ⊥
+IsPlain (entry.Again word) = ⊥
+IsPlain other = Unit {0}

@@ -2,7 +2,7 @@
 -- Source: the journal's own layout, of which nothing shows outside.
 use Rattle.std.specs.Prelude.{ℕ, ◌+◌, ◌≤◌, List, length, take, drop}
 use Rattle.std.specs.List.{AllByRecursion}
-use Rattle.board_model.specs.Journal.{Line, PlainResult, found_at, was_accepted, was_rejected, brought, ended_by, idle_line, turn_line, back_line, put_line, see_line, take_line, call_line, refuses, agrees, tells, gives, completes}
+use Rattle.board_model.specs.Journal.{Line, PlainResult, found_at, was_accepted, was_rejected, brought, ended_by, idle_line, again_line, spin_line, turn_line, back_line, put_line, see_line, take_line, call_line, refuses, agrees, tells, gives, completes}
 use Rattle.domain_core.specs.declared.journal.kept.Piece.{Piece}
 use Rattle.domain_core.specs.declared.journal.kept.KeptResult.{KeptResult}
 use Rattle.domain_core.specs.declared.journal.kept.KeptResult.TheVariants as result
@@ -26,6 +26,8 @@ kept_line bytes (kept.Put peer p) = put_line peer (piece_of bytes p)
 kept_line bytes (kept.See peer n) = see_line peer n
 kept_line bytes (kept.Take peer p fate) = take_line peer (piece_of bytes p) fate
 kept_line bytes (kept.Idle n) = idle_line n
+kept_line bytes (kept.Again word) = again_line word
+kept_line bytes (kept.Spin n word) = spin_line n word
 kept_line bytes (kept.Refused k word) = call_line k (refuses word)
 kept_line bytes (kept.Agreed k) = call_line k agrees
 kept_line bytes (kept.Number k n) = call_line k (tells n)

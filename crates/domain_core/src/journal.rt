@@ -1,4 +1,5 @@
-//! The journal: what a domain did, entry by entry. Idle turns in a row are joined into one entry.
+//! The journal: what a domain did, entry by entry. Idle turns in a row are joined into one entry, and so are calls that are
+//! made again.
 
 ghost use Rattle.std.specs.Prelude.{◌≡◌, ◌≤◌, ◌<◌, ◌+◌, [], IfOk, OnOk, IsNone, ◌↔◌, length, option_map, slice_get};
 ghost use Rattle.domain_core.specs.Entry.{line_of_entry, bytes_in, noted_entry, IsNotable};
@@ -7,7 +8,7 @@ mod entry;
 mod kept;
 
 pub use entry::{Answer, Entry, Told};
-use kept::{Kept, entry_of, keep, keep_idle};
+use kept::{Kept, entry_of, keep, keep_again, keep_idle};
 use mc_base::NoMemory;
 use std::alloc::Global;
 use std::marker::Model;
@@ -63,8 +64,10 @@ impl Journal {
 
     /// Notes an entry, and copies its bytes once. There has to be room for one entry more and for its bytes.
     ///
-    /// An idle turn is noted by itself, as `Idle` with `turns` 1, and joins the idle turns of the last entry. A count that
-    /// stands at the greatest `u64` is not joined further.
+    /// An idle turn is noted by itself, as `Idle` with `turns` 1, and joins the idle turns of the last entry. A call that is
+    /// made again is noted by itself, as `Again`, and never as `Spin`. Where one idle turn is the last entry, it takes that
+    /// away and is told by `Spin`, or joins one of the same word that stands directly before. A count at the greatest `u64`
+    /// is not joined further.
     pub fn note(&mut self, entry: Entry<'_>)
         requires entry_room { 0 < self.old.entry_room }
         requires byte_room { bytes_in entry ≤ self.old.byte_room }
@@ -73,12 +76,14 @@ impl Journal {
         ensures entry_room { self.old.entry_room ≤ self.new.entry_room + 1 }
         ensures byte_room { self.old.byte_room ≤ self.new.byte_room + bytes_in entry.entry }
     {
-        if let Entry::Idle { .. } = entry {
-            keep_idle(&mut self.entries);
-            return;
+        match entry {
+            Entry::Idle { .. } => keep_idle(&mut self.entries),
+            Entry::Again { word } => keep_again(&mut self.entries, word),
+            _ => {
+                let kept = keep(&mut self.bytes, entry);
+                self.entries.push(kept).unwrap();
+            }
         }
-        let kept = keep(&mut self.bytes, entry);
-        self.entries.push(kept).unwrap();
     }
 
     /// How many entries there are.

@@ -4,6 +4,7 @@ use std::process::Abort;
 use std::test::Fail;
 
 mod announcements;
+mod joins;
 mod requests;
 
 /// A call at node 0 of domain 3, but for what it says. A message has the same byte throughout.
@@ -215,7 +216,7 @@ fn sixty_four_endpoints_at_once(rt: HostRuntime) -> Result<(), Fail> {
     Ok(())
 }
 
-/// An entry as its kind, its peer or its line, its count or its fate, and how many bytes it has.
+/// An entry as its kind, its peer, its line or its word, its count or its fate, and how many bytes it has.
 type Line = (u8, u64, u64, usize);
 
 fn told(entry: Entry<'_>) -> Line {
@@ -233,6 +234,8 @@ fn told(entry: Entry<'_>) -> Line {
             (b'q', u64::from(peer), word, frame.len())
         }
         Entry::Idle { turns } => (b'i', 0, turns, 0),
+        Entry::Again { word } => (b'a', told_word(word), 0, 0),
+        Entry::Spin { times, word } => (b'w', told_word(word), times, 0),
         Entry::Called { number, answer } => match answer {
             Answer::Refused(_) => (b'r', u64::from(number), 0, 0),
             Answer::Ok => (b'o', u64::from(number), 0, 0),
@@ -245,6 +248,14 @@ fn told(entry: Entry<'_>) -> Line {
             ),
             Answer::Done(how) => told_done(number, how),
         },
+    }
+}
+
+fn told_word(word: Refusal) -> u64 {
+    match word {
+        Refusal::Empty => 1,
+        Refusal::NoBuffer => 2,
+        _ => 0,
     }
 }
 

@@ -60,6 +60,15 @@ pub enum Entry<'a> {
     Idle {
         turns: u64,
     },
+    /// A call that was refused with this word and is made again.
+    Again {
+        word: Refusal,
+    },
+    /// Calls in a row that were refused with this word and are made again, each after one idle turn.
+    Spin {
+        times: u64,
+        word: Refusal,
+    },
     /// A call, by the number of its line, and its answer.
     Called {
         number: u32,

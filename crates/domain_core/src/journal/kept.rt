@@ -1,9 +1,10 @@
 //! The entries as the journal keeps them: each of one size, with its bytes in an array that all share.
 
-ghost use Rattle.std.specs.Prelude.{◌≡◌, ◌≤◌, ◌<◌, ◌+◌, ◌-◌, ◌^◌, ◌++◌, ℕ, List, IfSome, length, map, slice_get, vec_len, vec_capacity};
+ghost use Rattle.std.specs.Prelude.{◌≡◌, true, ◌≤◌, ◌<◌, ◌+◌, ◌-◌, ◌^◌, ◌++◌, ℕ, List, IfSome, length, map, slice_get, vec_len, vec_capacity};
 ghost use Rattle.std.specs.List.{AllByRecursion};
-ghost use Rattle.board_model.specs.Journal.{joinable, noted_idle};
-ghost use Rattle.domain_core.specs.Entry.{line_of_entry, bytes_in, bytes_in_told, result_of_told, IsNotIdle};
+ghost use Rattle.board_model.specs.Journal.{is_one_idle, joinable, noted_again, noted_idle, noted_spin, spinning};
+ghost use Rattle.board_model.specs.Words.{same_word};
+ghost use Rattle.domain_core.specs.Entry.{line_of_entry, bytes_in, bytes_in_told, result_of_told};
 ghost use Rattle.domain_core.specs.Kept.{IsResultWithin, IsWithin, kept_line, kept_result, piece_of};
 
 use super::entry::{Answer, Entry, Told};
@@ -35,6 +36,8 @@ pub enum Kept {
     See(u8, u32),
     Take(u8, Piece, Fate),
     Idle(u64),
+    Again(Refusal),
+    Spin(u64, Refusal),
     Refused(u32, Refusal),
     Agreed(u32),
     Number(u32, u64),
@@ -57,6 +60,8 @@ pub fn keep(bytes: &mut Vec<u8>, entry: Entry<'_>) -> Kept
         Entry::See { peer, count } => Kept::See(peer, count),
         Entry::Take { peer, frame, fate } => Kept::Take(peer, keep_bytes(bytes, frame), fate),
         Entry::Idle { turns } => Kept::Idle(turns),
+        Entry::Again { word } => Kept::Again(word),
+        Entry::Spin { times, word } => Kept::Spin(times, word),
         Entry::Called { number, answer } => match answer {
             Answer::Refused(word) => Kept::Refused(number, word),
             Answer::Ok => Kept::Agreed(number),
@@ -123,6 +128,8 @@ pub fn entry_of(bytes: &[u8], kept: Kept) -> Entry<'_>
             fate,
         },
         Kept::Idle(turns) => Entry::Idle { turns },
+        Kept::Again(word) => Entry::Again { word },
+        Kept::Spin(times, word) => Entry::Spin { times, word },
         Kept::Refused(number, word) => Entry::Called {
             number,
             answer: Answer::Refused(word),
@@ -205,4 +212,71 @@ fn turns_to_join(entries: &[Kept]) -> Option<u64>
     } else {
         None
     }
+}
+
+/// Keeps a call that is made again. Where it follows one idle turn it takes that away, and joins those before it that were
+/// refused with the same word, up to the greatest count.
+pub fn keep_again(entries: &mut Vec<Kept>, word: Refusal)
+    requires { vec_len entries.old < vec_capacity entries.old }
+    ensures lines { (bytes : List ℕ) → map (kept_line bytes) entries.new.items ≡ noted_again word (map (kept_line bytes) entries.old.items) }
+    ensures within { (n : ℕ) → AllByRecursion (IsWithin n) entries.old.items → AllByRecursion (IsWithin n) entries.new.items }
+    ensures capacity { vec_capacity entries.old ≤ vec_capacity entries.new }
+    ensures one_more { vec_len entries.new ≤ vec_len entries.old + 1 }
+{
+    if follows_one_idle(entries) {
+        entries.pop();
+        keep_spin(entries, word);
+    } else {
+        entries.push(Kept::Again(word)).unwrap();
+    }
+}
+
+/// Keeps a call that is made again after one idle turn.
+fn keep_spin(entries: &mut Vec<Kept>, word: Refusal)
+    requires { vec_len entries.old < vec_capacity entries.old }
+    ensures lines { (bytes : List ℕ) → map (kept_line bytes) entries.new.items ≡ noted_spin word (map (kept_line bytes) entries.old.items) }
+    ensures within { (n : ℕ) → AllByRecursion (IsWithin n) entries.old.items → AllByRecursion (IsWithin n) entries.new.items }
+    ensures capacity { vec_capacity entries.old ≤ vec_capacity entries.new }
+    ensures one_more { vec_len entries.new ≤ vec_len entries.old + 1 }
+{
+    match times_to_join(entries, word) {
+        Some(times) => {
+            let last = entries.len() - 1;
+            entries[last] = Kept::Spin(times + 1, word);
+        }
+        None => entries.push(Kept::Spin(1, word)).unwrap(),
+    }
+}
+
+/// Whether the last entry is one idle turn.
+fn follows_one_idle(entries: &[Kept]) -> bool
+    ensures value { (bytes : List ℕ) → result ≡ is_one_idle (slice_get (map (kept_line bytes) entries.now) (length entries.now - 1)) }
+    ensures some { (result ≡ true) → 0 < length entries.now }
+{
+    match entries.last() {
+        Some(Kept::Idle(turns)) => *turns == 1,
+        _ => false,
+    }
+}
+
+/// The count of the last entry, where one more call that was refused with this word can join it.
+fn times_to_join(entries: &[Kept], word: Refusal) -> Option<u64>
+    ensures value { (bytes : List ℕ) → result ≡ spinning word (slice_get (map (kept_line bytes) entries.now) (length entries.now - 1)) }
+    ensures within { IfSome result (λ n. (0 < length entries.now) × (n < 2 ^ 64 - 1)) }
+{
+    let Some(Kept::Spin(times, kept)) = entries.last() else {
+        return None;
+    };
+    if is_same_word(*kept, word) && *times < u64::MAX {
+        Some(*times)
+    } else {
+        None
+    }
+}
+
+/// Whether two words are the same, as they are written.
+fn is_same_word(one: Refusal, other: Refusal) -> bool
+    ensures { result ≡ same_word one other }
+{
+    one == other
 }
