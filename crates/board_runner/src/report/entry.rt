@@ -11,7 +11,7 @@ ghost use Rattle.domain_core.specs.Entry.{line_of_entry, plain_answer, result_of
 
 use crate::report::words::{fate_word, reason_word, refusal_word};
 use domain_core::{Answer, Entry, Told};
-use mc_base::{Fate, Reason};
+use mc_base::{Fate, Reason, Refusal};
 use outer_io::{Sink, Writer};
 
 /// Puts the line of an entry.
@@ -25,6 +25,8 @@ pub fn put_entry<K: Sink>(out: &mut Writer<'_, K>, entry: Entry<'_>)
         Entry::See { peer, count } => put_look(out, b"see ", peer, count),
         Entry::Take { peer, frame, fate } => put_take(out, peer, frame, fate),
         Entry::Idle { turns } => put_idle(out, turns),
+        Entry::Again { word } => put_again(out, word),
+        Entry::Spin { times, word } => put_spin(out, times, word),
         Entry::Called { number, answer } => put_call(out, number, answer),
     }
 }
@@ -34,6 +36,24 @@ fn put_idle<K: Sink>(out: &mut Writer<'_, K>, turns: u64)
 {
     out.put(b"idle ");
     out.put_number(turns);
+    out.put(b"\n");
+}
+
+fn put_again<K: Sink>(out: &mut Writer<'_, K>, word: Refusal)
+    ensures { Puts K.Sink out.old out.new (line_of (codes "again" ∷ refusal_text word ∷ [])) }
+{
+    out.put(b"again ");
+    out.put(refusal_word(word));
+    out.put(b"\n");
+}
+
+fn put_spin<K: Sink>(out: &mut Writer<'_, K>, times: u64, word: Refusal)
+    ensures { Puts K.Sink out.old out.new (line_of (codes "spin" ∷ decimal times ∷ refusal_text word ∷ [])) }
+{
+    out.put(b"spin ");
+    out.put_number(times);
+    out.put(b" ");
+    out.put(refusal_word(word));
     out.put(b"\n");
 }
 
