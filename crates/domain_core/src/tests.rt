@@ -5,7 +5,7 @@ use std::test::Fail;
 
 mod announcements;
 mod joins;
-mod requests;
+mod steps;
 
 /// A call at node 0 of domain 3, but for what it says. A message has the same byte throughout.
 #[derive(Clone, Copy, Debug)]

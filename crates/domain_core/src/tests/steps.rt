@@ -1,0 +1,178 @@
+//! Calls one after the other, some of which name a request that an earlier one began.
+
+use super::*;
+use mc_base::{Done, RequestId};
+use std::alloc::Global;
+
+mod endpoints;
+mod requests;
+
+/// A call. A request is named by its serial.
+#[derive(Clone, Copy, Debug)]
+enum Step {
+    /// A call that names no request.
+    Plain(Call),
+    /// Deletes the endpoint at a node and port.
+    Delete(u8, u16),
+    /// Requests a message at a port, for at most so many bytes.
+    Begin(u16, u32),
+    /// Looks up the endpoint of a domain at a port.
+    Lookup(u8, u16),
+    /// Asks how many messages wait at a port.
+    Available(u16),
+    /// Tests a request. The message that comes has this byte throughout.
+    Test(u64, u8),
+    /// Cancels a request.
+    Cancel(u64),
+    /// Makes a turn.
+    Turn,
+}
+
+use Step::{Available, Begin, Cancel, Delete, Lookup, Plain, Test, Turn};
+
+/// What a call tells that is not refused.
+#[derive(Clone, Copy, Debug, PartialEq, Eq)]
+enum Said {
+    /// The number that it answers, the serial of a request that was begun, or 0.
+    Number(u64),
+    /// The size of the message that a request held, and how many of its bytes were given.
+    Message(u32, u32),
+    /// The address of the endpoint that was looked up.
+    Address(u32),
+    /// The word that a request ended with.
+    Ended(Refusal),
+    /// Whether a turn was idle.
+    Idle(bool),
+}
+
+use Said::{Address, Ended, Idle, Message, Number};
+
+/// What a call answers.
+type Answered = Result<Said, Refusal>;
+
+/// The id with this serial, or one that was never given.
+fn id_of(ids: &[RequestId], serial: u64) -> RequestId {
+    for id in ids {
+        if id.serial == serial {
+            return *id;
+        }
+    }
+    RequestId { key: 0, serial }
+}
+
+/// Makes a call. Answers `None` where a message has other bytes than it must.
+fn stepped(
+    domain: &mut Domain,
+    journal: &mut Journal,
+    ids: &mut Vec<RequestId>,
+    step: Step,
+) -> Result<Option<Answered>, NoMemory> {
+    journal.reserve(160, 67_584)?;
+    match step {
+        Plain(call) => {
+            let answer = made(domain, journal, call)?;
+            Ok(answer.map(number))
+        }
+        Delete(node, port) => {
+            let answer = domain.delete(journal, Local { node, port });
+            Ok(Some(number(answer)))
+        }
+        Begin(port, max) => {
+            let answer = domain.msg_recv_i(journal, Local { node: 0, port }, max);
+            begun(ids, answer).map(Some)
+        }
+        Lookup(number, port) => {
+            let name = EndName {
+                domain: number,
+                node: 0,
+                port,
+            };
+            let answer = domain.lookup(journal, name);
+            begun(ids, answer).map(Some)
+        }
+        Available(port) => {
+            let answer = domain.msg_available(journal, Local { node: 0, port });
+            Ok(Some(number(answer)))
+        }
+        Test(serial, byte) => tested(domain, journal, id_of(ids, serial), byte),
+        Cancel(serial) => {
+            let answer = domain.cancel(journal, id_of(ids, serial));
+            Ok(Some(answer.map(|()| Number(0))))
+        }
+        Turn => Ok(Some(Ok(Idle(domain.turn(journal))))),
+    }
+}
+
+fn number(answer: Result<u32, Refusal>) -> Answered {
+    answer.map(|n| Number(u64::from(n)))
+}
+
+/// Keeps the id of a request that was begun.
+fn begun(
+    ids: &mut Vec<RequestId>,
+    answer: Result<RequestId, Refusal>,
+) -> Result<Answered, NoMemory> {
+    match answer {
+        Ok(id) => {
+            if ids.push(id).is_err() {
+                return Err(NoMemory);
+            }
+            Ok(Ok(Number(id.serial)))
+        }
+        Err(word) => Ok(Err(word)),
+    }
+}
+
+/// Tests a request. What lies behind the bytes that are given must stay.
+fn tested(
+    domain: &mut Domain,
+    journal: &mut Journal,
+    id: RequestId,
+    byte: u8,
+) -> Result<Option<Answered>, NoMemory> {
+    journal.reserve(160, 67_584)?;
+    let mut out = [0xee; 488];
+    let answer = domain.test(journal, id, &mut out);
+    let (answer, given) = match answer {
+        Ok(Done::Message(got)) => (Ok(Message(got.size, got.given)), got.given),
+        Ok(Done::Address(address)) => (Ok(Address(address)), 0),
+        Ok(Done::Ended(word)) => (Ok(Ended(word)), 0),
+        Ok(_) => return Ok(None),
+        Err(word) => (Err(word), 0),
+    };
+    if !is_given(&out, given as usize, byte) {
+        return Ok(None);
+    }
+    Ok(Some(answer))
+}
+
+/// A call, its answer, and how many buffers stand in queues and how many are lent from then on.
+type Row = (Step, Answered, (u32, u32));
+
+fn places((queue, lent): (u32, u32)) -> Option<Places> {
+    Some(Places { queue, lent })
+}
+
+/// Asserts what each call answers, and what is held from then on.
+fn assert_rows(
+    rt: &impl Abort,
+    domain: &mut Domain,
+    journal: &mut Journal,
+    ids: &mut Vec<RequestId>,
+    rows: &[Row],
+) -> Result<(), Fail> {
+    for (step, due, held) in rows {
+        let answer = stepped(domain, journal, ids, *step)?;
+        assert_eq!(rt; answer, Some(*due), "{step:?}");
+        assert_eq!(rt; domain.places(3), places(*held), "{step:?}");
+    }
+    Ok(())
+}
+
+/// The same in a new domain, whose pool has two buffers.
+fn assert_all(rt: &impl Abort, alloc: Global, rows: &[Row]) -> Result<(), Fail> {
+    let mut domain = Domain::open(alloc, 3, 1, 2)?;
+    let mut journal = Journal::new(alloc)?;
+    let mut ids = Vec::new(alloc);
+    assert_rows(rt, &mut domain, &mut journal, &mut ids, rows)
+}
