@@ -23,7 +23,7 @@ use Rattle.mc_base.specs.declared.fate.Fate.TheVariants as fate
 use Rattle.mc_base.specs.declared.name.EndName.{EndName}
 use Rattle.board_model.specs.Lists.{changed, changed_at}
 use Rattle.board_model.specs.State.{DomainState, Peer, Request, place_of_peer}
-use Rattle.board_model.specs.Dealing.{Row, row, fault_row, first_row, row_for, rows, left_by, is_announcement, is_known, known_from, names_of, of_domain, knowing, with_known, found_for, announced_address, announced_name, tells_creation, with_created, with_destroyed, fault_word, keeps_buffer}
+use Rattle.board_model.specs.Dealing.{Row, row, fault_row, first_row, row_for, left_by, is_announcement, is_known, known_from, names_of, of_domain, knowing, with_known, found_for, announced_address, announced_name, tells_creation, with_created, with_destroyed, fault_word, keeps_buffer}
 use Rattle.buffer_book.specs.Book.{Book}
 use Rattle.request_set.specs.declared.ask.Complete.TheVariants as complete
 use Rattle.request_set.specs.Requests.{Requests}
@@ -128,7 +128,7 @@ known-same None ps = refl
 known-same (Some i) ps = changed-same (knowing (names_of (slice_get ps i))) i ps (λ p e. knowing-known p (slice_get ps i) e)
 
 -- the names that are known already, and the requests that stand already
-all-known : (s : DomainState) (peer : ℕ) (names : Names) (rs : List Request) → known_from s peer ≡ names → s.requests ≡ rs → s ≡ knowing_with s peer names rs
+pub all-known : (s : DomainState) (peer : ℕ) (names : Names) (rs : List Request) → known_from s peer ≡ names → s.requests ≡ rs → s ≡ knowing_with s peer names rs
 all-known s peer names rs known stand =
     ap (λ (ps : List Peer). record s { peers = ps }) (sym (known-same (place_of_peer s peer) s.peers))
     ∙ ap (λ (ks : Names). with_known s peer ks) known

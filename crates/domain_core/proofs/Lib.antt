@@ -17,6 +17,7 @@ pub mod Judging
 pub mod Taking
 pub mod Turning
 pub mod Visiting
+pub mod Seeing
 pub mod Calling
 pub mod Completing
 pub mod Ending

@@ -1,15 +1,15 @@
 -- The buffers that are out, as they are taken and given back.
 use Rattle.std.proofs.Common.{◌≡◌, ℕ, ◌+◌, ◌<◌, ◌≤◌, List, [], ◌∷◌, ◌++◌, length, refl, sym, ap, ◌∙◌, subst, arith, length-append}
-use Rattle.std.specs.Prelude.{Contains, is_some}
-use Rattle.lane_end.specs.Numbers.{often, inside, AreApart}
+use Rattle.std.specs.Prelude.{Contains}
+use Rattle.lane_end.specs.Numbers.{often, AreApart}
 use Rattle.lane_end.specs.ReceiverContract.{without}
 use Rattle.lane_end.proofs.CountLemmas.{tick, contained-often, length-apart, length-without, often-append, often-without}
-use Rattle.buffer_book.specs.Book.{Book, kept_at}
+use Rattle.buffer_book.specs.Book.{Book}
 use Rattle.request_set.specs.Requests.{Requests}
 use Rattle.domain_core.specs.Records.{Records, all_waiting}
 use Rattle.domain_core.specs.Out.{Out, out_of, with_one_back}
 use Rattle.domain_core.specs.InRequests.{handed_slots}
-use Rattle.domain_core.specs.InPlaces.{AreInPlaces, AreInPlacesBut, one_if, own_slot, slots_of}
+use Rattle.domain_core.specs.InPlaces.{AreInPlaces, AreInPlacesBut, slots_of}
 use Rattle.domain_core.proofs.Placed.{often-own}
 use Rattle.domain_core.proofs.Slots.{length-all}
 

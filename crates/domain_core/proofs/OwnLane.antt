@@ -1,9 +1,8 @@
 -- The own lane, where the numbers of its buffers do not matter.
-use Rattle.std.proofs.Common.{◌≡◌, ℕ, zero, suc, ◌+◌, ◌-◌, ◌<◌, Bool, true, false, cond, List, [], ◌∷◌, ◌++◌, length, map, drop, take, refl, sym, ap, ◌∙◌, subst, arith}
+use Rattle.std.proofs.Common.{◌≡◌, ℕ, ◌+◌, ◌-◌, Bool, true, false, cond, List, [], ◌∷◌, ◌++◌, length, map, drop, take, refl, sym, ap, ◌∙◌, subst, arith}
 use Rattle.std.specs.Prelude.{not, slice_get, slice_index, Some}
-use Rattle.std.proofs.lemmas.List.{length-append, length-map, length_push, map_push, append-nil}
+use Rattle.std.proofs.lemmas.List.{length-append, length-map, length_push, map_push}
 use Rattle.board_model.proofs.ListsCounts.{count-cons}
-use Rattle.mc_base.specs.declared.fate.Fate.{Fate}
 use Rattle.board_model.specs.Journal.{Visit, Taken}
 use Rattle.board_model.specs.Dealing.{keeps_buffer}
 use Rattle.board_model.specs.Serial.{returned_at_once}
@@ -12,7 +11,7 @@ use Rattle.lane_end.specs.SendMoves.{Sent}
 use Rattle.lane_end.specs.ReceiveMoves.{Took, Gave}
 use Rattle.domain_core.specs.LaneMoves.{LaneMove, receiver}
 use Rattle.domain_core.specs.LoopMoved.{LoopMoved}
-use Rattle.domain_core.specs.VisitMoves.{giving_back, taking, visit_moves}
+use Rattle.domain_core.specs.VisitMoves.{taking, visit_moves}
 use Rattle.domain_core.specs.Lane.{Lane, frame_in, lane_in, with_frame, with_one_used, with_returned}
 use Rattle.domain_core.specs.Dealt.{frames_of}
 

@@ -26,7 +26,7 @@ use Rattle.domain_core.proofs.Tables.{length-changed}
 
 -- ---- a frame changes endpoints and requests alone, and its row hangs on them alone
 
-abbrev with_both : DomainState → Held → DomainState
+abbrev pub with_both : DomainState → Held → DomainState
 with_both s h = record s { endpoints = h.endpoints; requests = h.requests }
 
 after-same : (s : DomainState) (o : Option Fault) (p : Option ℕ) (k : Bool) (w : Option ℕ) (i : Item) → left_by s (row_by s o p k w i) ≡ with_both s (held_in (left_by (keeping (held_in s)) (row_by (keeping (held_in s)) o p k w i)))
@@ -43,14 +43,14 @@ word-same s None (Some at) true (Some j) i = refl
 word-same s None (Some at) true None i = refl
 word-same s None (Some at) false w i = refl
 
-frame-after : (s : DomainState) (peer : ℕ) (f : List ℕ) → IsForEndpoint f → after_frame s peer f ≡ with_both s (held_after peer (held_in s) f)
+pub frame-after : (s : DomainState) (peer : ℕ) (f : List ℕ) → IsForEndpoint f → after_frame s peer f ≡ with_both s (held_after peer (held_in s) f)
 frame-after s peer f letter =
     let h = held_in s in
     ap (left_by s) (row_is s peer f letter)
     ∙ after-same s (fault f) (place_of_address s (destination_of f)) (slice_index (payload_of f) 2 == 1) (place_waiting_for s (destination_of f)) (item_of peer f)
     ∙ ap (λ (o : Option Row). with_both s (held_in (left_by (keeping h) o))) (sym (row_is (keeping h) peer f letter))
 
-word-told : (s : DomainState) (peer : ℕ) (f : List ℕ) → IsForEndpoint f → option_map (λ (r : Row). r.word) (row_for s peer f) ≡ Some (word_at peer (held_in s) f)
+pub word-told : (s : DomainState) (peer : ℕ) (f : List ℕ) → IsForEndpoint f → option_map (λ (r : Row). r.word) (row_for s peer f) ≡ Some (word_at peer (held_in s) f)
 word-told s peer f letter =
     let h = held_in s in
     ap (option_map (λ (r : Row). r.word)) (row_is s peer f letter)

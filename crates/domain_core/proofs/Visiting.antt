@@ -12,9 +12,12 @@ use Rattle.domain_core.specs.Table.{Held, Table, with_held}
 use Rattle.domain_core.specs.Lane.{Lane, lane_in, AreForEndpoints}
 use Rattle.domain_core.specs.LaneMoves.{LaneMove, sender, receiver}
 use Rattle.domain_core.specs.LoopMoved.{LoopMoved}
-use Rattle.domain_core.specs.VisitMoves.{taking, visit_moves}
+use Rattle.domain_core.specs.VisitMoves.{taking}
 use Rattle.domain_core.specs.Dealt.{Scene, scene, Deals, Takes, frames_of, taken_at, held_after_all}
 use Rattle.domain_core.specs.Turned.{Before, before, Visits, MakesTurn, beginning, told_of, visit, count_taken, frames_taken}
+use Rattle.mc_base.specs.NameMap.{Names}
+use Rattle.domain_core.specs.Seen.{DealsIn}
+use Rattle.domain_core.proofs.Seeing.{DealsIn-none}
 use Rattle.domain_core.proofs.Taking.{Deals-none}
 use Rattle.domain_core.proofs.OwnLane.{IsVisited, loop-visited}
 use Rattle.domain_core.proofs.Turning.{All-take}
@@ -45,8 +48,8 @@ not-idle peer back see takes some = go (back == 0) (see == 0) refl refl
 
 module _ {L : Type 0} (M : L → List LaneMove → L → Type 0) (m-both : (a b c : L) (xs ys : List LaneMove) → M a xs b → M b ys c → M a (xs ++ ys) c) where
   -- nothing is shown
-  pub idle-visits : (peer back see : ℕ) (begun : Bool) (at : Before) (s : Scene) (x y z : L) → back ≡ 0 → see ≡ 0 → M x (sender (Looked back) ∷ []) y → M y (receiver (receiving.Looked see) ∷ []) z → at.free + back ≤ at.size_to → at.shown ≤ see → at.out + see ≤ at.size_from → Visits M peer begun begun at s s x z
-  idle-visits peer back see begun at s x y z no-back no-see looked-back looked-ahead fits shown room =
+  pub idle-visits : (peer back see : ℕ) (begun : Bool) (at : Before) (s : Scene) (known : Names) (x y z : L) → back ≡ 0 → see ≡ 0 → M x (sender (Looked back) ∷ []) y → M y (receiver (receiving.Looked see) ∷ []) z → at.free + back ≤ at.size_to → at.shown ≤ see → at.out + see ≤ at.size_from → Visits M peer begun begun at s s known known x z
+  idle-visits peer back see begun at s known x y z no-back no-see looked-back looked-ahead fits shown room =
       let idle : is_idle (looks peer back see []) ≡ true = ap (λ (n : ℕ). (n == 0) && ((see == 0) && true)) no-back ∙ ap (λ (n : ℕ). (n == 0) && true) no-see in
       record {
         visit = looks peer back see [];
@@ -60,14 +63,16 @@ module _ {L : Type 0} (M : L → List LaneMove → L → Type 0) (m-both : (a b 
         see_fits = room;
         moved = m-both x y z (sender (Looked back) ∷ []) (receiver (receiving.Looked see) ∷ []) looked-back looked-ahead;
         dealt = Deals-none peer s.table;
+        unknown = λ all. refl;
+        seen = DealsIn-none peer s.table.held known;
         told = rw idle (sym (append-nil s.lines));
         begins = rw idle (or-false begun);
       }
 
   -- something is shown, and the first frames are taken
-  pub taken-visits : (peer back see count : ℕ) (begun : Bool) (at : Before) (s s' t : Scene) (x y z w : L) → (back ≡ 0 → see ≡ 0 → ⊥) → M x (sender (Looked back) ∷ []) y → M y (receiver (receiving.Looked see) ∷ []) z → at.free + back ≤ at.size_to → at.shown ≤ see → at.out + see ≤ at.size_from
-      → s'.table ≡ s.table → s'.lines ≡ s.lines ++ (beginning begun ++ (looked (back_line peer) back ++ looked (see_line peer) see)) → count ≡ min 8 see → Takes M peer count s' t z w → Visits M peer begun true at s t x w
-  taken-visits peer back see count begun at s s' t x y z w some looked-back looked-ahead fits shown room table lines counted takes =
+  pub taken-visits : (peer back see count : ℕ) (begun : Bool) (at : Before) (s s' t : Scene) (known known' : Names) (x y z w : L) → (back ≡ 0 → see ≡ 0 → ⊥) → M x (sender (Looked back) ∷ []) y → M y (receiver (receiving.Looked see) ∷ []) z → at.free + back ≤ at.size_to → at.shown ≤ see → at.out + see ≤ at.size_from
+      → s'.table ≡ s.table → s'.lines ≡ s.lines ++ (beginning begun ++ (looked (back_line peer) back ++ looked (see_line peer) see)) → count ≡ min 8 see → Takes M peer count s' t known known' z w → Visits M peer begun true at s t known known' x w
+  taken-visits peer back see count begun at s s' t known known' x y z w some looked-back looked-ahead fits shown room table lines counted takes =
       let v = looks peer back see takes.takes in
       let idle : is_idle v ≡ false = not-idle peer back see takes.takes some in
       let both = m-both x y z (sender (Looked back) ∷ []) (receiver (receiving.Looked see) ∷ []) looked-back looked-ahead in
@@ -86,6 +91,8 @@ module _ {L : Type 0} (M : L → List LaneMove → L → Type 0) (m-both : (a b 
         see_fits = room;
         moved = m-both x z w (sender (Looked back) ∷ receiver (receiving.Looked see) ∷ []) (taking takes.numbers takes.takes) both takes.moved;
         dealt = subst (λ (a : Table). Deals peer takes.takes a t.table) table takes.dealt;
+        unknown = takes.unknown;
+        seen = subst (λ (a : Table). DealsIn peer takes.takes a.held t.table.held known known') table takes.seen;
         told = rw idle (takes.told ∙ ap (λ (ls : List Line). ls ++ last) lines
             ∙ append_assoc s.lines (beginning begun ++ (front ++ ahead)) last
             ∙ ap (λ (ls : List Line). s.lines ++ ls) (append_assoc (beginning begun) (front ++ ahead) last ∙ ap (λ (ls : List Line). beginning begun ++ ls) (append_assoc front ahead last)));
@@ -115,7 +122,7 @@ not-not true = refl
 not-not false = refl
 
 -- the visit is that to itself, which looks show all
-module _ (peer : ℕ) (a b : Scene) (begun : Bool) (l l' : Loop) (letters : AreForEndpoints (lane_in l).ring) (m : Visits LoopMoved peer false begun (before l.size (length l.free) l.size l.shown (length l.out)) a b l l') where
+module _ (peer : ℕ) (a b : Scene) (begun : Bool) (known known' : Names) (l l' : Loop) (letters : AreForEndpoints (lane_in l).ring) (m : Visits LoopMoved peer false begun (before l.size (length l.free) l.size l.shown (length l.out)) a b known known' l l') where
   abbrev lane : Lane
   lane = lane_in l
 
@@ -152,10 +159,11 @@ module _ (peer : ℕ) (a b : Scene) (begun : Bool) (l l' : Loop) (letters : AreF
   pub turn-idle : not begun ≡ is_idle (visit peer h lane)
   turn-idle = ap not m.begins ∙ not-not (is_idle m.visit) ∙ ap is_idle own-is
 
-  pub turn-made : (lines : List Line) → (begun ≡ true → lines ≡ b.lines) → (begun ≡ false → lines ≡ noted_idle b.lines) → MakesTurn peer (length l.out) a (scene b.table lines) lane (lane_in l')
+  pub turn-made : (lines : List Line) → (begun ≡ true → lines ≡ b.lines) → (begun ≡ false → lines ≡ noted_idle b.lines) → MakesTurn peer (length l.out) a (scene b.table lines) known known' lane (lane_in l')
   turn-made lines went idled =
       let v = m.visit in
       record {
+        unknown = m.unknown taken-letters;
         table = m.dealt.rest ∙ ap (λ (x : Held). with_held a.table x) held;
         lane_is = is.lane
             ∙ ap (λ (k : ℕ). record { size = lane.size; free = lane.free + lane.returned; ring = drop k lane.ring; returned = returned_at_once v.takes; shown = length lane.ring - k }) long

@@ -35,6 +35,7 @@ pub record IsSound (d : Inside) : Type 0 where
   pub size : d.lane.size ≤ 256
   pub room : d.lane.size ≤ d.endpoints.room
   pub number : d.endpoints.number ≡ d.number
+  pub unknown : d.known ≡ []
   pub letters : AreForEndpoints (lane_in d.lane).ring
   pub given : d.endpoints.given ≤ 60000
   pub few : length d.endpoints.endpoints ≤ 64

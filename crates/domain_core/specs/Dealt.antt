@@ -1,6 +1,6 @@
 -- What frames that are taken mean for what the domain holds, for the lane and for the journal.
 -- Source: docs/PROFILE.md, "What a domain does with a taken frame".
-use Rattle.std.specs.Prelude.{◌≡◌, ℕ, ◌+◌, ◌-◌, ◌≤◌, ◌<◌, false, List, ◌∷◌, [], ◌++◌, length, take, drop, map, position, slice_index, Some, option_map}
+use Rattle.std.specs.Prelude.{◌≡◌, ℕ, ◌+◌, ◌≤◌, ◌<◌, true, false, List, ◌∷◌, [], ◌++◌, length, take, drop, map, position, slice_index, Some, option_map}
 use Rattle.mc_base.specs.Frame.{source_of}
 use Rattle.mc_base.specs.declared.fate.Fate.{Fate}
 use Rattle.mc_base.specs.declared.fate.Fate.TheVariants.{Queued, Handed}
@@ -22,6 +22,8 @@ use Rattle.domain_core.specs.InBook.{held_by}
 use Rattle.domain_core.specs.Lane.{IsForEndpoint, AreForEndpoints}
 use Rattle.domain_core.specs.LaneMoves.{LaneMove}
 use Rattle.domain_core.specs.VisitMoves.{taking}
+use Rattle.mc_base.specs.NameMap.{Names}
+use Rattle.domain_core.specs.Seen.{DealsIn}
 
 -- the word of a frame from a peer, and what is held after it
 abbrev pub word_at : ℕ → Held → List ℕ → Fate
@@ -72,6 +74,14 @@ fate_of (verdict.Queued place priority size) = Queued
 fate_of (verdict.Handed id max size) = Handed
 fate_of (verdict.Returned fate) = fate
 
+-- a frame is dealt with: by a verdict where it is a letter, and by what is heard where it is an announcement. Only a letter's
+-- buffer is kept, and only an announcement changes what is known
+pub record IsDealt (peer : ℕ) (b : Book) (r : Records) (q q' : Requests) (names names' : Names) (frame : List ℕ) (v : Verdict) : Type 0 where
+  pub verdict : IsVerdict peer b r q' frame v
+  pub letter : IsForEndpoint frame → (q' ≡ q) × (names' ≡ names)
+  pub kept : keeps_buffer (fate_of v) ≡ true → IsForEndpoint frame
+  pub seen : keeps_buffer (fate_of v) ≡ false → DealsIn peer (taken frame (fate_of v) ∷ []) (held_by b r q) (held_by b r q') names names'
+
 -- frames one after the other: with their words, and what is held after them
 abbrev pub taken_at : ℕ → Held → List (List ℕ) → List Taken
 taken_at peer h [] = []
@@ -99,12 +109,14 @@ pub record Deals (peer : ℕ) (takes : List Taken) (old new : Table) : Type 0 wh
   pub held : AreForEndpoints (frames_of takes) → new.held ≡ held_after_all peer old.held (frames_of takes)
   pub rest : new ≡ with_held old new.held
 
--- the lane's moves, what is held, and the lines, where so many frames were taken
-pub record Takes {L : Type 0} (Moved : L → List LaneMove → L → Type 0) (peer count : ℕ) (old new : Scene) (before after : L) : Type 0 where
+-- the lane's moves, what is held and known, and the lines, where so many frames were taken
+pub record Takes {L : Type 0} (Moved : L → List LaneMove → L → Type 0) (peer count : ℕ) (old new : Scene) (names names' : Names) (before after : L) : Type 0 where
   pub takes : List Taken
   pub numbers : List ℕ
   pub many : length takes ≡ count
   pub each : length numbers ≡ count
   pub moved : Moved before (taking numbers takes) after
   pub dealt : Deals peer takes old.table new.table
+  pub unknown : AreForEndpoints (frames_of takes) → names' ≡ names
+  pub seen : DealsIn peer takes old.table.held new.table.held names names'
   pub told : new.lines ≡ old.lines ++ map (taken_line peer) takes

@@ -13,6 +13,7 @@ pub mod InTable
 pub mod InBook
 pub mod InRequests
 pub mod InPlaces
+pub mod Seen
 pub mod Dealt
 pub mod Announced
 pub mod Turned

@@ -1,11 +1,9 @@
 -- The moves of both sides of a lane to oneself, in their order.
 -- Source: docs/PROFILE.md, "Lanes".
-use Rattle.std.specs.Prelude.{◌≡◌, List, [], ◌++◌, refl}
+use Rattle.std.specs.Prelude.{◌≡◌, List, ◌++◌, refl}
 use Rattle.lane_end.specs.Moves.{Lead}
 use Rattle.lane_end.specs.MoveLaws.{Lead-append, Lead-keeps}
 use Rattle.lane_end.specs.Loop.{Loop, MayLoopSend, loop_after_send, MayLoopReceive, loop_after_receive}
-use Rattle.lane_end.specs.SendMoves as sending
-use Rattle.lane_end.specs.ReceiveMoves as receiving
 use Rattle.domain_core.specs.LaneMoves.{LaneMove, sender, receiver}
 
 abbrev pub MayLoop : Loop → LaneMove → Type 0

@@ -5,10 +5,12 @@ use Rattle.board_model.specs.Journal.{Line, Visit, turn_line, visit_lines, is_id
 use Rattle.board_model.specs.Turn.{turn_limit}
 use Rattle.board_model.specs.Serial.{returned_at_once}
 use Rattle.domain_core.specs.Table.{Held, Table, with_held}
-use Rattle.domain_core.specs.Lane.{Lane}
+use Rattle.mc_base.specs.NameMap.{Names}
+use Rattle.domain_core.specs.Lane.{Lane, AreForEndpoints}
+use Rattle.domain_core.specs.Seen.{DealsIn}
 use Rattle.domain_core.specs.LaneMoves.{LaneMove}
 use Rattle.domain_core.specs.VisitMoves.{visit_moves}
-use Rattle.domain_core.specs.Dealt.{Scene, Deals, taken_at, held_after_all}
+use Rattle.domain_core.specs.Dealt.{Scene, Deals, frames_of, taken_at, held_after_all}
 
 -- a lane before a visit: the sizes of both ways, and how many buffers are free, frames shown, and buffers out
 pub record Before : Type 0 where
@@ -32,8 +34,8 @@ told_of begun v = if is_idle v then [] else beginning begun ++ visit_lines v
 abbrev pub has_begun : Bool → Visit → Bool
 has_begun begun v = begun || not (is_idle v)
 
--- the visit to a peer to whom nothing is owed: its moves, what is held, and the lines
-pub record Visits {L : Type 0} (Moved : L → List LaneMove → L → Type 0) (peer : ℕ) (begun begun' : Bool) (at : Before) (old new : Scene) (lane after : L) : Type 0 where
+-- the visit to a peer to whom nothing is owed: its moves, what is held and known, and the lines
+pub record Visits {L : Type 0} (Moved : L → List LaneMove → L → Type 0) (peer : ℕ) (begun begun' : Bool) (at : Before) (old new : Scene) (names names' : Names) (lane after : L) : Type 0 where
   pub visit : Visit
   pub numbers : List ℕ
   pub peer_is : visit.peer ≡ peer
@@ -45,6 +47,8 @@ pub record Visits {L : Type 0} (Moved : L → List LaneMove → L → Type 0) (p
   pub see_fits : at.out + visit.see ≤ at.size_from
   pub moved : Moved lane (visit_moves visit numbers) after
   pub dealt : Deals peer visit.takes old.table new.table
+  pub unknown : AreForEndpoints (frames_of visit.takes) → names' ≡ names
+  pub seen : DealsIn peer visit.takes old.table.held new.table.held names names'
   pub told : new.lines ≡ old.lines ++ told_of begun visit
   pub begins : begun' ≡ has_begun begun visit
 
@@ -69,7 +73,8 @@ abbrev pub lane_after : ℕ → Held → Lane → Lane
 lane_after peer h l = record { size = l.size; free = l.free + l.returned; ring = drop (count_taken l) l.ring; returned = returned_at_once (taken_at peer h (frames_taken l)); shown = length l.ring - count_taken l }
 
 -- where so many buffers are out
-pub record MakesTurn (peer out : ℕ) (old new : Scene) (lane after : Lane) : Type 0 where
+pub record MakesTurn (peer out : ℕ) (old new : Scene) (names names' : Names) (lane after : Lane) : Type 0 where
+  pub unknown : names' ≡ names
   pub table : new.table ≡ table_after peer old.table lane
   pub lane_is : after ≡ lane_after peer old.table.held lane
   pub told : new.lines ≡ noted old.lines (turned (visit peer old.table.held lane ∷ []))

@@ -28,6 +28,7 @@ use mc_base::{
     BUFFER_SIZE, Done, EndName, Got, ITEM_SIZE, Local, MAX_ENDPOINTS_EVER, NoMemory, Priority,
     Refusal, RequestId,
 };
+use name_service::KnownNames;
 use request_set::{Ask, Complete, RequestSet};
 use std::alloc::Global;
 use std::marker::Model;
@@ -57,6 +58,7 @@ pub struct Domain {
     endpoints: Endpoints,
     book: BufferBook,
     lane: LoopLane,
+    known: KnownNames,
     requests: RequestSet,
 }
 
@@ -90,6 +92,7 @@ impl Domain {
             endpoints: Endpoints::open(alloc, number, pool)?,
             book: BufferBook::new(alloc, &[(number, pool)])?,
             lane: own_lane(alloc, pool)?,
+            known: KnownNames::new(alloc)?,
             requests: RequestSet::new(alloc)?,
         })
     }
@@ -289,6 +292,7 @@ impl Domain {
             &mut self.book,
             &mut self.requests,
             &mut self.lane,
+            &mut self.known,
             journal,
             self.number,
         )

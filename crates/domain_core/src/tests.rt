@@ -5,6 +5,8 @@ use std::test::Fail;
 
 mod announcements;
 mod joins;
+mod joins;
+mod lanes;
 mod steps;
 
 /// A call at node 0 of domain 3, but for what it says. A message has the same byte throughout.

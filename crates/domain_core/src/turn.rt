@@ -2,6 +2,7 @@
 
 ghost use Rattle.std.specs.Prelude.{◌≡◌, ◌≤◌, ◌<◌, ◌+◌, ◌*◌, ◌++◌, ◌∷◌, [], false, length, map, take};
 ghost use Rattle.board_model.specs.Journal.{is_idle, looked, back_line, see_line, taken};
+ghost use Rattle.board_model.specs.Dealing.{keeps_buffer};
 ghost use Rattle.domain_core.specs.Out.{out_of};
 ghost use Rattle.domain_core.specs.Lane.{lane_in, AreForEndpoints};
 ghost use Rattle.domain_core.specs.VisitMoves.{giving_back};
@@ -11,7 +12,7 @@ ghost use Rattle.domain_core.specs.InPlaces.{AreInPlaces, AreInPlacesBut};
 ghost use Rattle.domain_core.specs.Dealt.{IsVerdict, Deals, Takes, scene, fate_of};
 ghost use Rattle.domain_core.specs.Turned.{Visits, MakesTurn, before, beginning, visit};
 
-use crate::dealing::{Verdict, judge};
+use crate::dealing::{Verdict, deal};
 use crate::endpoints::Endpoints;
 use crate::journal::{Entry, Journal};
 use crate::messages::CONTENT;
@@ -19,6 +20,7 @@ use crate::peer_lane::PeerLane;
 use buffer_book::BufferBook;
 use lane_end::LoopLane;
 use mc_base::{Buffer, TURN_FRAMES};
+use name_service::KnownNames;
 use request_set::{Complete, RequestSet};
 
 /// Makes a turn of a domain that has no peer but itself, and answers whether it was idle.
@@ -27,6 +29,7 @@ pub fn make_turn(
     book: &mut BufferBook,
     requests: &mut RequestSet,
     lane: &mut LoopLane,
+    known: &mut KnownNames,
     journal: &mut Journal,
     peer: u8,
 ) -> bool
@@ -37,7 +40,7 @@ pub fn make_turn(
     requires room { lane.old.size ≤ endpoints.old.room }
     requires entry_room { 11 ≤ journal.old.entry_room }
     requires byte_room { 4096 ≤ journal.old.byte_room }
-    ensures turn { MakesTurn peer (length lane.old.out) (scene (table_in book.old endpoints.old requests.old) journal.old.lines) (scene (table_in book.new endpoints.new requests.new) journal.new.lines) (lane_in lane.old) (lane_in lane.new) }
+    ensures turn { MakesTurn peer (length lane.old.out) (scene (table_in book.old endpoints.old requests.old) journal.old.lines) (scene (table_in book.new endpoints.new requests.new) journal.new.lines) known.old known.new (lane_in lane.old) (lane_in lane.new) }
     ensures receives { AreReceives requests.new }
     ensures ids { map (λ r. r.id) requests.new.standing ≡ map (λ r. r.id) requests.old.standing }
     ensures places { AreInPlaces endpoints.new requests.new book.new (out_of lane.new.size lane.new.out) }
@@ -45,7 +48,7 @@ pub fn make_turn(
     ensures entry_room { journal.old.entry_room ≤ journal.new.entry_room + 11 }
     ensures byte_room { journal.old.byte_room ≤ journal.new.byte_room + 4096 }
 {
-    if visit_peer(endpoints, book, requests, lane, journal, peer, false) {
+    if visit_peer(endpoints, book, requests, lane, known, journal, peer, false) {
         return false;
     }
     journal.note(Entry::Idle { turns: 1 });
@@ -59,6 +62,7 @@ fn visit_peer<P: PeerLane>(
     book: &mut BufferBook,
     requests: &mut RequestSet,
     lane: &mut P,
+    known: &mut KnownNames,
     journal: &mut Journal,
     peer: u8,
     begun: bool,
@@ -69,7 +73,7 @@ fn visit_peer<P: PeerLane>(
     requires room { P.size_from lane.old ≤ endpoints.old.room }
     requires entry_room { 11 ≤ journal.old.entry_room }
     requires byte_room { 4096 ≤ journal.old.byte_room }
-    ensures visits { Visits P.Moved peer begun result (before (P.size_to lane.old) (length (P.free lane.old)) (P.size_from lane.old) (P.shown lane.old) (length (P.out lane.old))) (scene (table_in book.old endpoints.old requests.old) journal.old.lines) (scene (table_in book.new endpoints.new requests.new) journal.new.lines) lane.old lane.new }
+    ensures visits { Visits P.Moved peer begun result (before (P.size_to lane.old) (length (P.free lane.old)) (P.size_from lane.old) (P.shown lane.old) (length (P.out lane.old))) (scene (table_in book.old endpoints.old requests.old) journal.old.lines) (scene (table_in book.new endpoints.new requests.new) journal.new.lines) known.old known.new lane.old lane.new }
     ensures receives { AreReceives requests.new }
     ensures ids { map (λ r. r.id) requests.new.standing ≡ map (λ r. r.id) requests.old.standing }
     ensures places { AreInPlaces endpoints.new requests.new book.new (out_of (P.size_from lane.new) (P.out lane.new)) }
@@ -84,7 +88,7 @@ fn visit_peer<P: PeerLane>(
     }
     note_looks(journal, peer, begun, back, see);
     let count = TURN_FRAMES.min(see as usize);
-    take_frames(endpoints, book, requests, lane, journal, peer, count);
+    take_frames(endpoints, book, requests, lane, known, journal, peer, count);
     true
 }
 
@@ -112,6 +116,7 @@ fn take_frames<P: PeerLane>(
     book: &mut BufferBook,
     requests: &mut RequestSet,
     lane: &mut P,
+    known: &mut KnownNames,
     journal: &mut Journal,
     peer: u8,
     count: usize,
@@ -123,7 +128,7 @@ fn take_frames<P: PeerLane>(
     requires room { P.size_from lane.old ≤ endpoints.old.room }
     requires entry_room { count ≤ journal.old.entry_room }
     requires byte_room { 512 * count ≤ journal.old.byte_room }
-    ensures takes { Takes P.Moved peer count (scene (table_in book.old endpoints.old requests.old) journal.old.lines) (scene (table_in book.new endpoints.new requests.new) journal.new.lines) lane.old lane.new }
+    ensures takes { Takes P.Moved peer count (scene (table_in book.old endpoints.old requests.old) journal.old.lines) (scene (table_in book.new endpoints.new requests.new) journal.new.lines) known.old known.new lane.old lane.new }
     ensures receives { AreReceives requests.new }
     ensures ids { map (λ r. r.id) requests.new.standing ≡ map (λ r. r.id) requests.old.standing }
     ensures places { AreInPlaces endpoints.new requests.new book.new (out_of (P.size_from lane.new) (P.out lane.new)) }
@@ -131,7 +136,7 @@ fn take_frames<P: PeerLane>(
     ensures byte_room { journal.old.byte_room ≤ journal.new.byte_room + 512 * count }
 {
     for _ in 0..count {
-        take_frame(endpoints, book, requests, lane, journal, peer);
+        take_frame(endpoints, book, requests, lane, known, journal, peer);
     }
 }
 
@@ -141,6 +146,7 @@ fn take_frame<P: PeerLane>(
     book: &mut BufferBook,
     requests: &mut RequestSet,
     lane: &mut P,
+    known: &mut KnownNames,
     journal: &mut Journal,
     peer: u8,
 )
@@ -151,7 +157,7 @@ fn take_frame<P: PeerLane>(
     requires room { P.size_from lane.old ≤ endpoints.old.room }
     requires entry_room { 1 ≤ journal.old.entry_room }
     requires byte_room { 512 ≤ journal.old.byte_room }
-    ensures takes { Takes P.Moved peer 1 (scene (table_in book.old endpoints.old requests.old) journal.old.lines) (scene (table_in book.new endpoints.new requests.new) journal.new.lines) lane.old lane.new }
+    ensures takes { Takes P.Moved peer 1 (scene (table_in book.old endpoints.old requests.old) journal.old.lines) (scene (table_in book.new endpoints.new requests.new) journal.new.lines) known.old known.new lane.old lane.new }
     ensures shown { P.shown lane.old ≡ P.shown lane.new + 1 }
     ensures size_from { P.size_from lane.new ≡ P.size_from lane.old }
     ensures receives { AreReceives requests.new }
@@ -162,7 +168,7 @@ fn take_frame<P: PeerLane>(
 {
     let (buffer, len) = lane.take();
     let (frame, _) = buffer.bytes().split_at(len as usize);
-    let verdict = judge(endpoints, requests, frame);
+    let verdict = deal(endpoints, requests, known, peer, frame);
     journal.note(Entry::Take {
         peer,
         frame,
@@ -189,6 +195,7 @@ fn settle<P: PeerLane>(
     requires receives { AreReceives requests.old }
     requires room { P.size_from lane.old ≤ endpoints.old.room }
     ensures dealt { Deals peer (taken (take len buffer.bytes) (fate_of verdict) ∷ []) (table_in book.old endpoints.old requests.old) (table_in book.new endpoints.new requests.new) }
+    ensures stays { keeps_buffer (fate_of verdict) ≡ false → table_in book.new endpoints.new requests.new ≡ table_in book.old endpoints.old requests.old }
     ensures moved { P.Moved lane.old (giving_back buffer.number (fate_of verdict)) lane.new }
     ensures shown { P.shown lane.new ≡ P.shown lane.old }
     ensures size_from { P.size_from lane.new ≡ P.size_from lane.old }

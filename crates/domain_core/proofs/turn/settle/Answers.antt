@@ -1,13 +1,10 @@
-use Rattle.std.proofs.Common.{◌≡◌, ◌<◌, ℕ, ap, sym, refl, subst, arith, ◌∙◌, length, List, [], ◌∷◌, take}
+use Rattle.std.proofs.Common.{refl, ◌<◌, ℕ, ap, sym, subst, arith, ◌∙◌, length, [], take}
 use Rattle.std.proofs.lemmas.List.{length-map}
 use Rattle.mc_base.specs.declared.fate.Fate.TheVariants.{Queued, Handed}
 use Rattle.buffer_book.specs.Book.{IsAway}
-use Rattle.board_model.specs.Journal.{Taken, taken}
 use Rattle.domain_core.specs.Table.{Held, with_held}
-use Rattle.domain_core.specs.Out.{Out, out_of}
-use Rattle.domain_core.specs.InBook.{endpoint_in, held_by, table_in}
-use Rattle.domain_core.specs.InPlaces.{AreInPlaces, AreInPlacesBut, own_slot, slots_of}
-use Rattle.domain_core.specs.Dealt.{Deals}
+use Rattle.domain_core.specs.InBook.{endpoint_in, table_in}
+use Rattle.domain_core.specs.InPlaces.{own_slot, slots_of}
 use Rattle.domain_core.proofs.Placed.{is-away}
 use Rattle.domain_core.proofs.Outs.{given-places, is-out, room-for_one}
 use Rattle.domain_core.proofs.Queuing.{handed-ids, handed-places, handed-receives, handed-table, queued-places, queued-table}
@@ -89,3 +86,12 @@ returns-in-Queued-clause-moved g c = rw c.in-Queued.is (g.met.P.PeerLane.none _)
 
 pub returns-in-Handed-clause-moved : goal.returns-in-Handed-clause-moved
 returns-in-Handed-clause-moved g c = rw c.in-Handed.is (g.met.P.PeerLane.none _)
+
+pub returns-in-Queued-clause-stays : goal.returns-in-Queued-clause-stays
+returns-in-Queued-clause-stays g c = rw c.in-Queued.is (λ lost. absurd cc)
+
+pub returns-in-Handed-clause-stays : goal.returns-in-Handed-clause-stays
+returns-in-Handed-clause-stays g c = rw c.in-Handed.is (λ lost. absurd cc)
+
+pub returns-in-Returned-clause-stays : goal.returns-in-Returned-clause-stays
+returns-in-Returned-clause-stays g c = λ lost. refl

@@ -5,7 +5,7 @@ use Rattle.domain_core.proofs.turn.take_frames.Goals as goal
 
 pub loop-init : goal.loop-init
 loop-init g c = record {
-  takes = Takes-none g.P.PeerLane.Moved g.met.P.PeerLane.none g.met.P.PeerLane.both _ _ _;
+  takes = Takes-none g.P.PeerLane.Moved g.met.P.PeerLane.none g.met.P.PeerLane.both _ _ _ _;
   places = c.requires.places;
   receives = c.requires.receives;
   ids = refl;
@@ -22,7 +22,7 @@ loop-preserved g c =
     let i = c.loop.invariant in
     let e = c.take_frame.ensures in
     record {
-      takes = Takes-more g.P.PeerLane.Moved g.met.P.PeerLane.none g.met.P.PeerLane.both _ _ _ _ _ _ _ _ i.takes e.takes;
+      takes = Takes-more g.P.PeerLane.Moved g.met.P.PeerLane.none g.met.P.PeerLane.both _ _ _ _ _ _ _ _ _ _ _ i.takes e.takes;
       places = e.places;
       receives = e.receives;
       ids = e.ids ∙ i.ids;

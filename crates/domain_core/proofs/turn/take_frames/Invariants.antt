@@ -9,7 +9,7 @@ use Rattle.domain_core.proofs.turn.take_frames.Given as goal
 
 abbrev pub invariant-loop : goal.invariant-loop
 invariant-loop g l = record {
-  takes : Takes g.P.PeerLane.Moved l.peer l.counter (scene (table_in l.fn.book l.fn.endpoints l.fn.requests) l.fn.journal.lines) (scene (table_in l.book l.endpoints l.requests) l.journal.lines) l.fn.lane l.lane;
+  takes : Takes g.P.PeerLane.Moved l.peer l.counter (scene (table_in l.fn.book l.fn.endpoints l.fn.requests) l.fn.journal.lines) (scene (table_in l.book l.endpoints l.requests) l.journal.lines) l.fn.known l.known l.fn.lane l.lane;
   places : AreInPlaces l.endpoints l.requests l.book (out_of (g.P.PeerLane.size_from l.lane) (g.P.PeerLane.out l.lane));
   receives : AreReceives l.requests;
   ids : map (λ (r : Standing). r.id) l.requests.standing ≡ map (λ (r : Standing). r.id) l.fn.requests.standing;

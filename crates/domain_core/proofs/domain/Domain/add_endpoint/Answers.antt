@@ -56,6 +56,7 @@ invariant_of-self c =
       size = i.size;
       room = omega (arith, i.room, room);
       number = number ∙ i.number;
+      unknown = i.unknown;
       letters = i.letters;
       given = omega (arith, given, c.given.ensures, c.if-given-ge-MAX_ENDPOINTS_EVER.false);
       few = omega (arith, long, few c);

@@ -32,7 +32,7 @@ answers : (c : goal.After-from_residual) → c.from_residual.result ≡ Err c.in
 answers c = search rules
 
 pub invariant_of-self : goal.invariant_of-self
-invariant_of-self c = subst (λ (q : Requests). IsSound (record { number = c.self.inside.number; nodes = c.self.inside.nodes; endpoints = c.self.inside.endpoints; book = c.self.inside.book; lane = c.self.inside.lane; requests = q })) (sym (same c)) c.self.invariant
+invariant_of-self c = subst (λ (q : Requests). IsSound (record { number = c.self.inside.number; nodes = c.self.inside.nodes; endpoints = c.self.inside.endpoints; book = c.self.inside.book; lane = c.self.inside.lane; known = c.self.inside.known; requests = q })) (sym (same c)) c.self.invariant
 
 pub returns-in_err-cancel-clause-answer : goal.returns-in_err-cancel-clause-answer
 returns-in_err-cancel-clause-answer c =
@@ -84,6 +84,7 @@ invariant_of-self-2 c =
       size = i.size;
       room = i.room;
       number = i.number;
+      unknown = i.unknown;
       letters = i.letters;
       given = i.given;
       few = i.few;

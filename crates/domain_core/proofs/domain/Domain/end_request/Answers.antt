@@ -41,7 +41,7 @@ answers : (c : goal.After-from_residual) → c.from_residual.result ≡ Err c.in
 answers c = search rules
 
 pub invariant_of-self : goal.invariant_of-self
-invariant_of-self c = subst (λ (q : Requests). IsSound (record { number = c.self.inside.number; nodes = c.self.inside.nodes; endpoints = c.self.inside.endpoints; book = c.self.inside.book; lane = c.self.inside.lane; requests = q })) (sym (same c)) c.self.invariant
+invariant_of-self c = subst (λ (q : Requests). IsSound (record { number = c.self.inside.number; nodes = c.self.inside.nodes; endpoints = c.self.inside.endpoints; book = c.self.inside.book; lane = c.self.inside.lane; known = c.self.inside.known; requests = q })) (sym (same c)) c.self.invariant
 
 pub returns-in_err-how-clause-answer : goal.returns-in_err-how-clause-answer
 returns-in_err-how-clause-answer c =
@@ -98,6 +98,7 @@ invariant_of-self-in_default c =
       size = i.size;
       room = i.room;
       number = i.number;
+      unknown = i.unknown;
       letters = i.letters;
       given = i.given;
       few = i.few;
@@ -178,6 +179,7 @@ invariant_of-self-2 c =
       size = omega (arith, i.size, size);
       room = omega (arith, i.room, size);
       number = i.number;
+      unknown = i.unknown;
       letters = subst (λ (x : Loop). AreForEndpoints (lane_in x).ring) (sym back) i.letters;
       given = i.given;
       few = i.few;

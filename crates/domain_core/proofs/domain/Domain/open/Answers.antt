@@ -18,7 +18,7 @@ invariant_of-result c =
     let records = c.in_ok-open.ensures in
     let book = c.in_ok-new.ensures in
     let lane = c.in_ok-own_lane.ensures in
-    let requests = c.in_ok-new-2.ensures in
+    let requests = c.in_ok-new-3.ensures in
     let r' = opening_records c.args.number c.args.pool in
     let b' = opening_book ((c.args.number, c.args.pool) ∷ []) in
     let placed = placed-opening c.args.number c.args.pool c.args.pool in
@@ -27,11 +27,12 @@ invariant_of-result c =
     let size : l.size ≡ c.args.pool = ap (λ (x : Loop). x.size) lane in
     let none : AreReceives no_requests = record { each = tt; differ = tt; few = omega arith } in
     record {
-      places = subst (λ (r : Records). AreInPlaces r c.in_ok-new-2.field-0 c.in_ok-new.field-0 (out_in l)) (sym records) (subst (λ (q : Requests). AreInPlaces r' q c.in_ok-new.field-0 (out_in l)) (sym requests) (subst (λ (b : Book). AreInPlaces r' no_requests b (out_in l)) (sym book) (subst (λ (x : Loop). AreInPlaces r' no_requests b' (out_in x)) (sym lane) placed)));
+      places = subst (λ (r : Records). AreInPlaces r c.in_ok-new-3.field-0 c.in_ok-new.field-0 (out_in l)) (sym records) (subst (λ (q : Requests). AreInPlaces r' q c.in_ok-new.field-0 (out_in l)) (sym requests) (subst (λ (b : Book). AreInPlaces r' no_requests b (out_in l)) (sym book) (subst (λ (x : Loop). AreInPlaces r' no_requests b' (out_in x)) (sym lane) placed)));
       receives = subst AreReceives (sym requests) none;
       size = omega (arith, size, c.requires.pool);
       room = omega (arith, size, ap (λ (r : Records). r.room) records);
       number = ap (λ (r : Records). r.number) records;
+      unknown = c.in_ok-new-2.ensures;
       letters = subst (λ (x : Loop). AreForEndpoints (lane_in x).ring) (sym lane) tt;
       given = omega (arith, ap (λ (r : Records). r.given) records);
       few = omega (arith, few);
@@ -43,11 +44,11 @@ returns-clause-alone c =
     let nodes = c.args.nodes in
     let r' = opening_records n c.args.pool in
     let b' = opening_book ((n, c.args.pool) ∷ []) in
-    ap (λ (r : Records). alone n nodes (table_in c.in_ok-new.field-0 r c.in_ok-new-2.field-0) (lane_in c.in_ok-own_lane.field-0)) c.in_ok-open.ensures
-    ∙ ap (λ (q : Requests). alone n nodes (table_in c.in_ok-new.field-0 r' q) (lane_in c.in_ok-own_lane.field-0)) c.in_ok-new-2.ensures
+    ap (λ (r : Records). alone n nodes (table_in c.in_ok-new.field-0 r c.in_ok-new-3.field-0) (lane_in c.in_ok-own_lane.field-0)) c.in_ok-open.ensures
+    ∙ ap (λ (q : Requests). alone n nodes (table_in c.in_ok-new.field-0 r' q) (lane_in c.in_ok-own_lane.field-0)) c.in_ok-new-3.ensures
     ∙ ap (λ (b : Book). alone n nodes (table_in b r' no_requests) (lane_in c.in_ok-own_lane.field-0)) c.in_ok-new.ensures
     ∙ ap (λ (l : Loop). alone n nodes (table_in b' r' no_requests) (lane_in l)) c.in_ok-own_lane.ensures
     ∙ ap (λ (free : ℕ). alone n nodes (table_in b' r' no_requests) (record (lane_in (new_loop c.args.pool)) { free = free })) (length-range_with_len 0 c.args.pool)
 
 pub returns-clause-ids : goal.returns-clause-ids
-returns-clause-ids c = ap (λ (q : Requests). map (λ (r : Standing). r.id) q.standing) c.in_ok-new-2.ensures
+returns-clause-ids c = ap (λ (q : Requests). map (λ (r : Standing). r.id) q.standing) c.in_ok-new-3.ensures

@@ -1,4 +1,4 @@
-use Rattle.std.proofs.Common.{◌≡◌, ◌<◌, ◌≤◌, ◌∙◌, ◌∷◌, [], ◌++◌, ap, sym, refl, arith, length, List, ℕ, map, Some, None, Option, true, false, zero, suc, ◌+◌, take}
+use Rattle.std.proofs.Common.{◌≡◌, ◌<◌, ◌≤◌, ◌∙◌, ◌∷◌, [], ◌++◌, ap, sym, refl, arith, length, List, ℕ, map, Some, None, Option, true, false, zero, suc, take}
 use Rattle.std.specs.Prelude.{is_some, nat_lt, unwrap_or}
 use Rattle.mc_base.specs.Frame.{made}
 use Rattle.mc_base.specs.Letter.{spelling, msg}
@@ -9,8 +9,6 @@ use Rattle.board_model.specs.Journal.{noted_all, put_line}
 use Rattle.board_model.specs.State.{address_at}
 use Rattle.board_model.specs.Answer.{answer, puts, refusal, address_of, local, lacks_buffers, success_puts}
 use Rattle.board_model.specs.Serial.{after_own_call, put_entry}
-use Rattle.lane_end.specs.Loop.{Loop, loop_after_send}
-use Rattle.lane_end.specs.SendMoves.{Sent}
 use Rattle.domain_core.specs.Lane.{lane_in, with_frame, with_one_used}
 use Rattle.domain_core.specs.InBook.{table_in}
 use Rattle.domain_core.specs.DomainView.{DomainView}

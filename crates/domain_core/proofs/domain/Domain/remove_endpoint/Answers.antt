@@ -49,6 +49,7 @@ invariant_of-self c =
       size = omega (arith, i.size, size);
       room = omega (arith, i.room, size, room);
       number = number ∙ i.number;
+      unknown = i.unknown;
       letters = subst (λ (l : Lane). AreForEndpoints l.ring) (sym lane) i.letters;
       given = omega (arith, i.given, given);
       few = omega (arith, i.few, ap (λ (x : Records). length x.endpoints) gone, length-without c.in-Some.place r.endpoints c.in-Some.ensures.within);

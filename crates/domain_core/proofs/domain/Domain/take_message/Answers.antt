@@ -37,7 +37,7 @@ invariant_of-self c =
     let r = c.self.inside.endpoints in
     let none = c.take_best.ensures.none (ap (λ o. is_some o) (none-from c.take_best.result c.in_default-take_best.not-Some)) in
     let same : c.take_best.new.self ≡ r = c.take_best.ensures.rest ∙ ap (λ (es : List Endpoint). record r { endpoints = es }) (taken-none r.endpoints c.in-Some.place none) in
-    subst (λ (x : Records). IsSound (record { number = c.self.inside.number; nodes = c.self.inside.nodes; endpoints = x; book = c.self.inside.book; lane = c.self.inside.lane; requests = c.self.inside.requests })) (sym same) c.self.invariant
+    subst (λ (x : Records). IsSound (record { number = c.self.inside.number; nodes = c.self.inside.nodes; endpoints = x; book = c.self.inside.book; lane = c.self.inside.lane; known = c.self.inside.known; requests = c.self.inside.requests })) (sym same) c.self.invariant
 
 pub returns-in_default-take_best-clause-answer : goal.returns-in_default-take_best-clause-answer
 returns-in_default-take_best-clause-answer c =
@@ -109,6 +109,7 @@ invariant_of-self-2 c =
       size = omega (arith, i.size, size);
       room = omega (arith, i.room, size, room);
       number = number ∙ i.number;
+      unknown = i.unknown;
       letters = subst (λ (x : Loop). AreForEndpoints (lane_in x).ring) (sym back) i.letters;
       given = omega (arith, given', i.given);
       few = omega (arith, same, i.few);

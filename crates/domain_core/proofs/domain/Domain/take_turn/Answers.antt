@@ -1,5 +1,5 @@
-use Rattle.std.proofs.Common.{◌≡◌, ◌∙◌, ◌-◌, ap, sym, subst, arith, length, List}
-use Rattle.std.proofs.lemmas.List.{length-drop, length-map}
+use Rattle.std.proofs.Common.{◌≡◌, ◌∙◌, ap, sym, subst, arith, length, List}
+use Rattle.std.proofs.lemmas.List.{length-map}
 use Rattle.board_model.specs.Journal.{Visit, noted, turned}
 use Rattle.board_model.specs.Turn.{IsTurn}
 use Rattle.board_model.specs.Serial.{own_turn, after_own_turn}
@@ -8,8 +8,6 @@ use Rattle.domain_core.specs.Lane.{Lane, lane_in, AreForEndpoints}
 use Rattle.domain_core.specs.InBook.{endpoint_in, table_in}
 use Rattle.domain_core.specs.Turned.{count_taken, frames_taken, table_after}
 use Rattle.domain_core.specs.DomainView.{DomainView}
-use Rattle.domain_core.specs.Records.{all_waiting}
-use Rattle.domain_core.specs.InRequests.{handed_slots}
 use Rattle.domain_core.specs.Alone.{alone}
 use Rattle.domain_core.proofs.Handed.{length-handed}
 use Rattle.domain_core.proofs.Outs.{held-are}
@@ -39,6 +37,7 @@ invariant_of-self c =
       size = omega (arith, i.size, size);
       room = omega (arith, i.room, size, room);
       number = number ∙ i.number;
+      unknown = m.unknown ∙ i.unknown;
       letters = subst (λ (x : Lane). AreForEndpoints x.ring) (sym m.lane_is) (All-drop (count_taken l) l.ring i.letters);
       given = omega (arith, given, i.given);
       few = omega (arith, same, i.few);
