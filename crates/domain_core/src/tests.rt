@@ -5,7 +5,6 @@ use std::test::Fail;
 
 mod announcements;
 mod joins;
-mod joins;
 mod lanes;
 mod steps;
 
