@@ -12,3 +12,14 @@ pub mod LabelledLines
 pub mod CallLemmas
 pub mod TellingLemmas
 pub mod FewCalls
+pub mod DecimalLemmas
+pub mod SpacedLemmas
+pub mod PlainLemmas
+pub mod NameWordLemmas
+pub mod ByteWordLemmas
+pub mod CanonicalCalls
+pub mod CanonicalLines
+pub mod CanonicalCallLines
+pub mod ToldParts
+pub mod LinesTold
+pub mod ReadBack

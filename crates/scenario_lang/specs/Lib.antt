@@ -6,3 +6,4 @@ pub mod Reading
 pub mod Fronts
 pub mod Parts
 pub mod Telling
+pub mod LanguageLaws

@@ -4,6 +4,7 @@ ghost use Rattle.std.specs.Prelude.{◌≡◌, ◌≤◌, ◌<◌, IfOk, Ok, Err
 ghost use Rattle.board_model.specs.Language.{told_by, refused};
 ghost use Rattle.scenario_lang.specs.Refused.{IfRefused};
 ghost use Rattle.scenario_lang.specs.Telling.{fault_at};
+ghost use Rattle.scenario_lang.specs.LanguageLaws.{CanonicalIsReadBack};
 
 use crate::above::Above;
 use crate::fault::{LineFault, ScenarioFault};
@@ -25,6 +26,12 @@ pub fn read_scenario(alloc: Global, text: &[u8]) -> Result<Scenario, ScenarioFau
 {
     lines_told(alloc, text)
 }
+
+/// What `write_scenario` gives of a lawful scenario is read back as the same scenario. The function has no code: its
+/// contract is the law.
+pub fn canonical_text_is_read_back()
+    ensures { CanonicalIsReadBack }
+{}
 
 /// The scenario that the lines of a text tell one after the other.
 fn lines_told(alloc: Global, text: &[u8]) -> Result<Scenario, ScenarioFault>

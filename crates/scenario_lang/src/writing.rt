@@ -32,7 +32,8 @@ impl Sink for TextSink {
     }
 }
 
-/// The canonical text of a scenario. Want of memory is the only refusal.
+/// The canonical text of a scenario. For a scenario that a text tells, it is read back as the same scenario:
+/// `language::canonical_text_is_read_back`. Want of memory is the only refusal.
 pub fn write_scenario(alloc: Global, scenario: &Scenario) -> Result<Vec<u8>, NoMemory>
     ensures { IfOk result (λ v. v.items ≡ canonical scenario.now) }
 {
