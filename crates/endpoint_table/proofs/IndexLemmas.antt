@@ -6,7 +6,7 @@ use Rattle.std.proofs.lemmas.Bool.{cases_Bool, cases_eq, eq-eqb, ne_eqb, eqb-tru
 use Rattle.std.proofs.lemmas.Bool.Decides.{nat_tests}
 use Rattle.mc_base.specs.declared.name.EndName.{EndName}
 use Rattle.mc_base.specs.declared.name.Local.{Local}
-use Rattle.name_service.specs.KnownNames.{Names, IsRising as AreRising, rank, learned, forgotten, address_in}
+use Rattle.mc_base.specs.NameMap.{Names, IsRising as AreRising, rank, learned, forgotten, address_in}
 use Rattle.name_service.proofs.NameLists.{IsUnknown, forgotten-unknown, unknown-above, learned-before, learned_has_its_address, learned_leaves_others, all-learned, rising-learned}
 use Rattle.endpoint_table.specs.declared.record.Record.{Record}
 use Rattle.endpoint_table.specs.declared.announced.Announced.{Announced}

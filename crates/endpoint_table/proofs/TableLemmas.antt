@@ -6,7 +6,7 @@ use Rattle.std.specs.VecDeque.{deque_capacity}
 use Rattle.std.specs.Vec.{with_items}
 use Rattle.std.proofs.lemmas.List.{length_push, length-map, with_items_is}
 use Rattle.mc_base.specs.declared.name.Local.{Local}
-use Rattle.name_service.specs.KnownNames.{learned, forgotten}
+use Rattle.mc_base.specs.NameMap.{learned, forgotten}
 use Rattle.endpoint_table.specs.declared.record.Record.{Record}
 use Rattle.endpoint_table.specs.declared.announced.Announced.{Announced}
 use Rattle.endpoint_table.specs.declared.debts.Debt.{Debt}

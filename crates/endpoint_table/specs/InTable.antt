@@ -5,7 +5,7 @@ use Rattle.std.specs.List.{AllByRecursion, HoldsAt, list_any}
 use Rattle.std.specs.VecDeque.{deque_capacity}
 use Rattle.mc_base.specs.declared.name.EndName.{EndName}
 use Rattle.mc_base.specs.declared.name.Local.{Local}
-use Rattle.name_service.specs.KnownNames.{Names, learned}
+use Rattle.mc_base.specs.NameMap.{Names, learned}
 use Rattle.endpoint_table.specs.declared.record.Record.{Record}
 use Rattle.endpoint_table.specs.declared.announced.Announced.{Announced}
 use Rattle.endpoint_table.specs.declared.debts.Debt.{Debt}

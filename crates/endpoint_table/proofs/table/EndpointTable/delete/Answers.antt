@@ -2,7 +2,7 @@ use Rattle.std.proofs.Common.{rules, arith, ◌≡◌, ◌<◌, ap, refl, false,
 use Rattle.std.specs.Prelude.{option_map}
 use Rattle.std.specs.List.{AllByRecursion}
 use Rattle.std.specs.Vec.{with_items}
-use Rattle.name_service.specs.KnownNames.{forgotten}
+use Rattle.mc_base.specs.NameMap.{forgotten}
 use Rattle.endpoint_table.specs.declared.debts.Debt.{Debt}
 use Rattle.endpoint_table.specs.declared.announced.Announced.{Announced}
 use Rattle.endpoint_table.specs.declared.table.EndpointTable.TheInside.{Inside}

@@ -1,6 +1,6 @@
 use Rattle.std.proofs.Common.{◌∙◌, ap, arith}
 use Rattle.std.specs.Prelude.{option_map}
-use Rattle.name_service.specs.KnownNames.{Names, address_in}
+use Rattle.mc_base.specs.NameMap.{Names, address_in}
 use Rattle.endpoint_table.specs.Table.{Table, live_at}
 use Rattle.endpoint_table.specs.InTable.{name_in}
 use Rattle.endpoint_table.proofs.IndexLemmas.{address-found}
