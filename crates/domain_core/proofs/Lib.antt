@@ -18,6 +18,7 @@ pub mod Taking
 pub mod Turning
 pub mod Visiting
 pub mod Seeing
+pub mod Owing
 pub mod Calling
 pub mod Completing
 pub mod Ending

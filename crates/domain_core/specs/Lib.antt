@@ -17,6 +17,7 @@ pub mod Seen
 pub mod Dealt
 pub mod Announced
 pub mod Turned
+pub mod Owed
 pub mod DomainView
 pub mod Alone
 pub mod Calls

@@ -11,6 +11,7 @@ mod fates;
 mod journal;
 mod link;
 mod messages;
+mod owed;
 mod own_lane;
 mod peer_lane;
 mod removal;

@@ -10,6 +10,7 @@ ghost use Rattle.domain_core.specs.InBook.{held_by, table_in};
 ghost use Rattle.domain_core.specs.InRequests.{AreReceives};
 ghost use Rattle.domain_core.specs.InPlaces.{AreInPlaces, AreInPlacesBut};
 ghost use Rattle.domain_core.specs.Dealt.{IsVerdict, Deals, Takes, scene, fate_of};
+ghost use Rattle.domain_core.specs.Owed.{room_for};
 ghost use Rattle.domain_core.specs.Turned.{Visits, MakesTurn, before, beginning, visit};
 
 use crate::dealing::{Verdict, deal};
@@ -99,14 +100,25 @@ fn note_looks(journal: &mut Journal, peer: u8, begun: bool, back: u32, see: u32)
     ensures entry_room { journal.old.entry_room ≤ journal.new.entry_room + 3 }
     ensures byte_room { journal.old.byte_room ≤ journal.new.byte_room }
 {
-    if !begun {
-        journal.note(Entry::Turn);
-    }
+    begin_turn(journal, begun);
     if back != 0 {
         journal.note(Entry::Back { peer, count: back });
     }
     if see != 0 {
         journal.note(Entry::See { peer, count: see });
+    }
+}
+
+/// Notes that a turn begins, where it did not before.
+pub fn begin_turn(journal: &mut Journal, begun: bool)
+    requires entry_room { 1 ≤ journal.old.entry_room }
+    ensures lines { journal.new.lines ≡ journal.old.lines ++ beginning begun }
+    ensures entry_room { journal.old.entry_room ≤ journal.new.entry_room + 1 }
+    ensures used { journal.old.entry_room + 1 ≤ journal.new.entry_room + room_for begun }
+    ensures byte_room { journal.old.byte_room ≤ journal.new.byte_room }
+{
+    if !begun {
+        journal.note(Entry::Turn);
     }
 }
 

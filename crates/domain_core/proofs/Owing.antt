@@ -1,0 +1,129 @@
+-- Announcements that are owed and put.
+use Rattle.std.proofs.Common.{◌≡◌, ℕ, zero, suc, ◌+◌, ◌-◌, ◌≤◌, Bool, true, false, cond, List, [], ◌∷◌, ◌++◌, length, map, take, drop, Option, None, Some, refl, sym, ap, ◌∙◌, subst, arith, min, append_assoc}
+use Rattle.std.specs.Prelude.{◌==◌, not, ◌||◌, find, option_map, option_and_then, slice_get}
+use Rattle.std.proofs.lemmas.List.{append-nil, drop-drop, length-drop, length-take, length_push, map-append}
+use Rattle.board_model.specs.Journal.{Line, put_line, turn_line}
+use Rattle.lane_end.specs.SendMoves.{Sent}
+use Rattle.domain_core.specs.LaneMoves.{LaneMove, sender}
+use Rattle.domain_core.specs.VisitMoves.{putting}
+use Rattle.mc_base.specs.Limits.{name_service_address}
+use Rattle.mc_base.specs.Frame.{made}
+use Rattle.mc_base.specs.Announcement.{announcement}
+use Rattle.endpoint_table.specs.Table.{Owing, Table, announcement_of, paid_to, told_oldest}
+use Rattle.domain_core.specs.Owed.{PutsOwed, frame_of, owed_by, owed_frames, paid_times, put_lines, room_for}
+
+-- the oldest that is owed is the first of the frames
+pub oldest-frame : (o : Option Owing) (domain address : ℕ) (name : List ℕ) (create : Bool) → Some (name, address, create) ≡ option_map (announcement_of domain) (option_and_then (λ (x : Owing). slice_get x.owed 0) o)
+    → made address name_service_address (announcement name address create) ∷ [] ≡ take 1 (map (frame_of domain) (owed_by o))
+oldest-frame None domain address name create e = absurd cc
+oldest-frame (Some o) domain address name create e = elim o.owed as (λ xs. Some (name, address, create) ≡ option_map (announcement_of domain) (slice_get xs 0) → made address name_service_address (announcement name address create) ∷ [] ≡ take 1 (map (frame_of domain) xs)) [
+  | [] ↦ λ h. absurd cc
+  | a ∷ xs ↦ λ h.
+      let same : (name, address, create) ≡ announcement_of domain a = cc in
+      let n = ap (λ (z : List ℕ × ℕ × Bool). z.0) same in
+      let at = ap (λ (z : List ℕ × ℕ × Bool). z.1) same in
+      let there = ap (λ (z : List ℕ × ℕ × Bool). z.2) same in
+      ap (λ (x : List ℕ). made address name_service_address (announcement x address create) ∷ []) n
+      ∙ ap (λ (x : ℕ). made x name_service_address (announcement (announcement_of domain a).0 x create) ∷ []) at
+      ∙ ap (λ (x : Bool). made a.address name_service_address (announcement (announcement_of domain a).0 a.address x) ∷ []) there
+] e
+
+-- none is owed
+pub none-owed : (o : Option Owing) (domain : ℕ) → None ≡ option_map (announcement_of domain) (option_and_then (λ (x : Owing). slice_get x.owed 0) o) → length (map (frame_of domain) (owed_by o)) ≡ 0
+none-owed None domain e = refl
+none-owed (Some o) domain e = elim o.owed as (λ xs. None ≡ option_map (announcement_of domain) (slice_get xs 0) → length (map (frame_of domain) xs) ≡ 0) [
+  | [] ↦ λ h. refl
+  | a ∷ xs ↦ λ h. absurd cc
+] e
+
+-- ---- one after the other
+
+drop_one-map : {X Y : Type 0} (g : X → Y) (xs : List X) → map g (drop 1 xs) ≡ drop 1 (map g xs)
+drop_one-map g [] = refl
+drop_one-map g (x ∷ xs) = refl
+
+told-first : (domain peer : ℕ) (os : List Owing) → map (frame_of domain) (owed_by (find (λ o. o.peer == peer) (map (told_oldest peer) os))) ≡ drop 1 (map (frame_of domain) (owed_by (find (λ o. o.peer == peer) os)))
+told-first domain peer [] = refl
+told-first domain peer (o ∷ os) = go (o.peer == peer) refl (told-first domain peer os)
+  where
+    go : (b : Bool) → (o.peer == peer) ≡ b → map (frame_of domain) (owed_by (find (λ o. o.peer == peer) (map (told_oldest peer) os))) ≡ drop 1 (map (frame_of domain) (owed_by (find (λ o. o.peer == peer) os)))
+        → map (frame_of domain) (owed_by (cond ((cond b (record o { owed = drop 1 o.owed }) o).peer == peer) (Some (cond b (record o { owed = drop 1 o.owed }) o)) (find (λ o. o.peer == peer) (map (told_oldest peer) os)))) ≡ drop 1 (map (frame_of domain) (owed_by (cond b (Some o) (find (λ o. o.peer == peer) os))))
+    go true e all = ap (λ (b : Bool). map (frame_of domain) (owed_by (cond b (Some (record o { owed = drop 1 o.owed })) (find (λ o. o.peer == peer) (map (told_oldest peer) os))))) e ∙ drop_one-map (frame_of domain) o.owed
+    go false e all = ap (λ (b : Bool). map (frame_of domain) (owed_by (cond b (Some o) (find (λ o. o.peer == peer) (map (told_oldest peer) os))))) e ∙ all
+
+owed-paid : (t : Table) (peer : ℕ) → owed_frames (paid_to t peer) peer ≡ drop 1 (owed_frames t peer)
+owed-paid t peer = told-first t.domain peer t.owing
+
+one-more : (n : ℕ) → 1 + n ≡ suc n
+one-more n = omega arith
+
+pub owed-left : (n : ℕ) (t : Table) (peer : ℕ) → owed_frames (paid_times n t peer) peer ≡ drop n (owed_frames t peer)
+owed-left zero t peer = refl
+owed-left (suc n) t peer = owed-left n (paid_to t peer) peer ∙ ap (drop n) (owed-paid t peer) ∙ drop-drop n 1 (owed_frames t peer) ∙ ap (λ (k : ℕ). drop k (owed_frames t peer)) (one-more n)
+
+paid-last : (n : ℕ) (t : Table) (peer : ℕ) → paid_to (paid_times n t peer) peer ≡ paid_times (suc n) t peer
+paid-last zero t peer = refl
+paid-last (suc n) t peer = paid-last n (paid_to t peer) peer
+
+take-last : {X : Type 0} (n : ℕ) (xs : List X) → take n xs ++ take 1 (drop n xs) ≡ take (suc n) xs
+take-last zero xs = refl
+take-last (suc n) [] = refl
+take-last {X} (suc n) (x ∷ xs) = ap (λ (ys : List X). x ∷ ys) (take-last n xs)
+
+putting-push : (fs : List (List ℕ)) (f : List ℕ) → putting (fs ++ f ∷ []) ≡ putting fs ++ putting (f ∷ [])
+putting-push [] f = refl
+putting-push (g ∷ fs) f = ap (λ (ms : List LaneMove). sender (Sent g) ∷ ms) (putting-push fs f)
+
+some-frames : (n : ℕ) → (suc n == 0) ≡ false
+some-frames n = grind arith
+
+lines-push : (begun : Bool) (peer : ℕ) (fs : List (List ℕ)) (f : List ℕ) → put_lines begun peer (fs ++ f ∷ []) ≡ put_lines begun peer fs ++ put_lines (begun || not (length fs == 0)) peer (f ∷ [])
+lines-push true peer [] f = refl
+lines-push false peer [] f = refl
+lines-push true peer (g ∷ fs) f = map-append (put_line peer) (g ∷ fs) (f ∷ [])
+lines-push false peer (g ∷ fs) f =
+    ap (λ (ls : List Line). turn_line ∷ ls) (map-append (put_line peer) (g ∷ fs) (f ∷ []))
+    ∙ ap (λ (b : Bool). put_lines false peer (g ∷ fs) ++ put_lines (not b) peer (f ∷ [])) (sym (some-frames (length fs)))
+
+module _ {L : Type 0} (M : L → List LaneMove → L → Type 0) (m-none : (l : L) → M l [] l) (m-both : (a b c : L) (xs ys : List LaneMove) → M a xs b → M b ys c → M a (xs ++ ys) c) where
+  pub PutsOwed-none : (peer : ℕ) (begun : Bool) (t : Table) (lines : List Line) (l : L) → PutsOwed M peer begun [] t t lines lines l l
+  PutsOwed-none peer begun t lines l = record { first = refl; moved = m-none l; table = refl; told = sym (append-nil lines) }
+
+  pub PutsOwed-more : (peer : ℕ) (begun begun' : Bool) (fs : List (List ℕ)) (f : List ℕ) (a b c : Table) (ls ls' ls'' : List Line) (x y z : L) → begun' ≡ (begun || not (length fs == 0)) → PutsOwed M peer begun fs a b ls ls' x y → PutsOwed M peer begun' (f ∷ []) b c ls' ls'' y z → PutsOwed M peer begun (fs ++ f ∷ []) a c ls ls'' x z
+  PutsOwed-more peer begun begun' fs f a b c ls ls' ls'' x y z begins so_far one =
+      let long : length (fs ++ f ∷ []) ≡ suc (length fs) = length_push fs f ∙ omega arith in
+      record {
+        first = ap (λ (xs : List (List ℕ)). xs ++ f ∷ []) so_far.first
+            ∙ ap (λ (xs : List (List ℕ)). take (length fs) (owed_frames a peer) ++ xs) (one.first ∙ ap (λ (t : Table). take 1 (owed_frames t peer)) so_far.table ∙ ap (take 1) (owed-left (length fs) a peer))
+            ∙ take-last (length fs) (owed_frames a peer)
+            ∙ ap (λ (k : ℕ). take k (owed_frames a peer)) (sym long);
+        moved = subst (λ (ms : List LaneMove). M x ms z) (sym (putting-push fs f)) (m-both x y z (putting fs) (putting (f ∷ [])) so_far.moved one.moved);
+        table = one.table ∙ ap (λ (t : Table). paid_to t peer) so_far.table ∙ paid-last (length fs) a peer ∙ ap (λ (k : ℕ). paid_times k a peer) (sym long);
+        told = one.told
+            ∙ ap (λ (xs : List Line). xs ++ put_lines begun' peer (f ∷ [])) so_far.told
+            ∙ append_assoc ls (put_lines begun peer fs) (put_lines begun' peer (f ∷ []))
+            ∙ ap (λ (g : Bool). ls ++ (put_lines begun peer fs ++ put_lines g peer (f ∷ []))) begins
+            ∙ ap (λ (xs : List Line). ls ++ xs) (sym (lines-push begun peer fs f));
+      }
+
+-- no more are owed, or no buffer is free
+pub all-due : (k free : ℕ) (owed : List (List ℕ)) → k ≤ 8 → k ≤ free → min (length (drop k owed)) (free - k) ≡ 0 → k ≤ length owed → k ≡ min 8 (min free (length owed))
+all-due k free owed few within none first = let left = length-drop k owed in omega (arith, left, none, few, within, first)
+
+pub eight-due : (k free : ℕ) (owed : List (List ℕ)) → k ≡ 8 → k ≤ free → k ≤ length owed → k ≡ min 8 (min free (length owed))
+eight-due k free owed all within first = omega (arith, all, within, first)
+
+pub first-within : (fs owed : List (List ℕ)) → fs ≡ take (length fs) owed → length fs ≤ length owed
+first-within fs owed e = let cut = length-take (length fs) owed in let same = ap length e in omega (arith, cut, same)
+
+pub room-range : (b : Bool) → (1 ≤ room_for b) × (room_for b ≤ 2)
+room-range true = (omega arith, omega arith)
+room-range false = (omega arith, omega arith)
+
+pub some-put : (b : Bool) (k : ℕ) → true ≡ (b || not (k + 1 == 0))
+some-put true k = refl
+some-put false k = let e : (k + 1 == 0) ≡ false = grind arith in ap not (sym e)
+
+pub puts-same : {L : Type 0} (M : L → List LaneMove → L → Type 0) (peer : ℕ) (begun : Bool) (fs : List (List ℕ)) (a b c : Table) (ls ls' ls'' : List Line) (x y z : L) → c ≡ b → ls'' ≡ ls' → z ≡ y → PutsOwed M peer begun fs a b ls ls' x y → PutsOwed M peer begun fs a c ls ls'' x z
+puts-same {L} M peer begun fs a b c ls ls' ls'' x y z table lines lane so_far =
+    subst (λ (t : Table). PutsOwed M peer begun fs a t ls ls'' x z) (sym table) (subst (λ (k : List Line). PutsOwed M peer begun fs a b ls k x z) (sym lines) (subst (λ (l : L). PutsOwed M peer begun fs a b ls ls' x l) (sym lane) so_far))
