@@ -1,11 +1,9 @@
 -- The headline, from its parts. There are no channels yet, so those parts speak of empty lists.
 use Rattle.std.proofs.Common.{[], List, refl}
 use Rattle.board_model.specs.declared.scenario.Scenario.{Scenario}
-use Rattle.board_model.specs.Grammar.{IsLawful}
 use Rattle.board_model.specs.LinkedBoard.{IsLinkedBoard}
 use Rattle.board_model.specs.Board.{DomainJournal, IsBoardRun}
 use Rattle.board_model.specs.Headline.{Headline}
-use Rattle.board_model.proofs.BoardsLawful.{lawful_linked}
 use Rattle.board_model.proofs.PlaceCounts.{every_lane}
 use Rattle.board_model.proofs.MessageRuns.{receives_best}
 use Rattle.board_model.proofs.MessageBoard.{no-message-lost}
@@ -20,7 +18,3 @@ linked_headline s js board run = record {
   messages_kept = no-message-lost s js board run;
   buffers_kept = every_lane s js board run;
 }
-
--- a board of one domain is one of linked domains
-pub headline : (s : Scenario) (js : List DomainJournal) → IsLawful s → IsBoardRun s js → Headline s js
-headline s js lawful run = linked_headline s js (lawful_linked s lawful) run

@@ -40,9 +40,6 @@ pub some_place : (o : Option ℕ) → is_some o ≡ true → (i : ℕ) × (o ≡
 some_place None e = absurd cc
 some_place (Some i) e = (i, refl)
 
-pub position_one : {A : Type 0} (p : A → Bool) (x : A) → position p (x ∷ []) ≡ cond (p x) (Some 0) None
-position_one p x = position_from-zero p (x ∷ [])
-
 -- a search that finds nothing fails at each item
 pub find-none : {A : Type 0} (p : A → Bool) (xs : List A) → find p xs ≡ None → AllByRecursion (λ x. p x ≡ false) xs
 find-none p [] e = tt

@@ -21,7 +21,7 @@ use Rattle.board_model.specs.Board.{DomainJournal, IsBoardRun}
 use Rattle.board_model.specs.Messages.{accepted_in, accepted}
 use Rattle.board_model.proofs.MessageSums.{count-append}
 use Rattle.board_model.proofs.MessageRuns.{AllAllowed, run_allowed}
-use Rattle.board_model.proofs.MessageCounts.{puts_message, length-accepted}
+use Rattle.board_model.proofs.MessageAccepted.{puts_message, length-accepted}
 use Rattle.board_model.proofs.MessageAlls.{all-with}
 use Rattle.board_model.proofs.MessageOnce.{total, total-each, length-joined}
 use Rattle.board_model.proofs.MessageCarries.{PutCarries}

@@ -10,7 +10,7 @@ use Rattle.mc_base.specs.declared.refusal.Refusal.{Refusal}
 use Rattle.board_model.specs.declared.scenario.Call.{Call}
 use Rattle.board_model.specs.declared.scenario.Call.TheVariants.{Create, Delete, Lookup, MsgSend, MsgRecv, MsgRecvI, MsgAvailable, Test, Cancel, Turn}
 use Rattle.board_model.specs.declared.scenario.CallLine.{CallLine}
-use Rattle.board_model.specs.Journal.{PlainAnswer, tells, PlainEntry, turned, put, again, called, Visit, Taken, Line, turn_line, back_line, put_line, see_line, call_line, taken_line, looked, visit_lines, joined}
+use Rattle.board_model.specs.Journal.{PlainAnswer, PlainEntry, turned, put, again, called, Visit, Taken, Line, turn_line, back_line, put_line, see_line, call_line, taken_line, looked, visit_lines, joined}
 use Rattle.board_model.specs.State.{DomainState, Endpoint, is_at, endpoint_at, queue_in}
 use Rattle.board_model.specs.Labels.{Labelled, call_of}
 use Rattle.board_model.specs.Answer.{local, refusal, success, answer_by, answer}
@@ -26,24 +26,8 @@ use Rattle.board_model.proofs.MessageSums.{count-append}
 use Rattle.board_model.proofs.MessageRuns.{AllAllowed, stands_entry}
 use Rattle.board_model.proofs.MessageBalance.{found_stands}
 use Rattle.board_model.proofs.MessageLines.{joined-count}
-use Rattle.board_model.proofs.MessageTold.{is_lost_line, turned_count, dropped_visits}
-
--- how many messages a delete dropped, by its line of the script and its answer
-abbrev is_delete : Call → Bool
-is_delete (Delete port) = true
-is_delete other = false
-
-abbrev deletes_line : Option CallLine → Bool
-deletes_line None = false
-deletes_line (Some line) = is_delete line.call
-
-abbrev number_told : PlainAnswer → ℕ
-number_told (tells n) = n
-number_told other = 0
-
-abbrev pub deleted_in : List CallLine → Line → ℕ
-deleted_in lines (call_line k a) = cond (deletes_line (slice_get lines (k - 1))) (number_told a) 0
-deleted_in lines other = 0
+use Rattle.board_model.specs.Tallies.{is_lost_line, is_delete, deletes_line, number_told, deleted_in}
+use Rattle.board_model.proofs.MessageTold.{turned_count, dropped_visits}
 
 -- ---- a delete
 

@@ -18,8 +18,9 @@ use Rattle.board_model.proofs.MessageRuns.{stands_start, run_allowed}
 use Rattle.board_model.proofs.MessageBalance.{carried_in}
 use Rattle.board_model.proofs.MessageOnce.{total, total-each, total-same, length-joined}
 use Rattle.board_model.proofs.MessageLinked.{numbers_of}
-use Rattle.board_model.proofs.MessageTold.{is_sent_line, is_brought_line, is_lost_line, sent-told, brought-told}
-use Rattle.board_model.proofs.MessageDeleted.{deleted_in, dropped-told}
+use Rattle.board_model.specs.Tallies.{is_sent_line, is_brought_line, is_lost_line, deleted_in}
+use Rattle.board_model.proofs.MessageTold.{sent-told, brought-told}
+use Rattle.board_model.proofs.MessageDeleted.{dropped-told}
 use Rattle.board_model.proofs.MessageJournals.{run_fits}
 use Rattle.board_model.proofs.MessageBoard.{brought_by, accepted-parts, no-message-lost}
 

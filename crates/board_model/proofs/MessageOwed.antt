@@ -135,10 +135,6 @@ owing_entry lines d r q e fit allowed owing = record {
   owes = owes_entry lines d r q e fit allowed owing;
 }
 
--- with what stands at its addresses
-abbrev pub OwingIn : ℕ → RunState → Type 0
-OwingIn d r = (q : Standing) × Owing d r.state q
-
 -- ---- what is put
 
 due_honest : (d : ℕ) (p : Peer) (back : ℕ) → OwesWell d p → AllHonest (due_frames d p back)

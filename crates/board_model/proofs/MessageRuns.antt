@@ -90,6 +90,6 @@ each_takes_best : (s : Scenario) (js : List DomainJournal) → AllByRecursion (�
 each_takes_best s [] runs = tt
 each_takes_best s (j ∷ js) runs = (run_takes_best s j runs.0, each_takes_best s js runs.1)
 
--- on every board, and not only on those of one domain
+-- on every board
 pub receives_best : (s : Scenario) (js : List DomainJournal) → IsBoardRun s js → AllByRecursion (ReceivesBest s) js
 receives_best s js run = each_takes_best s js run.domain_runs

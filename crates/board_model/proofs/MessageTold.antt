@@ -1,11 +1,12 @@
 -- What the lines of a domain's journal tell of messages: those that it put, and those of the frames that it took and dropped.
-use Rattle.std.proofs.Common.{◌≡◌, ℕ, ◌+◌, Bool, false, ◌&&◌, cond, List, [], ◌∷◌, map, length, refl, sym, ap, ◌∙◌, arith}
+use Rattle.std.proofs.Common.{◌≡◌, ℕ, ◌+◌, Bool, false, cond, List, [], ◌∷◌, map, length, refl, sym, ap, ◌∙◌, arith}
 use Rattle.std.specs.Prelude.{count_by}
 use Rattle.std.specs.List.{AllByRecursion, flat_map}
 use Rattle.std.proofs.lemmas.List.{length-append}
-use Rattle.board_model.specs.Journal.{PlainEntry, turned, put, again, called, Visit, Taken, Line, turn_line, back_line, put_line, see_line, take_line, taken_line, visit_lines, joined}
+use Rattle.board_model.specs.Journal.{PlainEntry, turned, put, again, called, Visit, Taken, Line, turn_line, back_line, put_line, see_line, taken_line, visit_lines, joined}
 use Rattle.board_model.specs.Messages.{carries_message, accepted_in}
-use Rattle.board_model.specs.Drops.{drops, dropped_at}
+use Rattle.board_model.specs.Drops.{dropped_at}
+use Rattle.board_model.specs.Tallies.{is_sent_line, is_brought_line, is_lost_line}
 use Rattle.board_model.proofs.ListsJoined.{entry_lines}
 use Rattle.board_model.proofs.MessageBest.{count-cons}
 use Rattle.board_model.proofs.MessageSums.{count-append, carried_at}
@@ -14,19 +15,6 @@ use Rattle.board_model.proofs.MessageLines.{joined-count}
 use Rattle.board_model.proofs.MessageSilent.{AllSilent}
 use Rattle.board_model.proofs.MessageLinked.{Fits}
 use Rattle.board_model.proofs.MessageVisitLines.{count-map, count-never, visit_lines_count, length-messages, length-dropped}
-
--- a line of a frame that was put with a message, that was taken with one, and whose message was dropped
-abbrev pub is_sent_line : Line → Bool
-is_sent_line (put_line peer frame) = carries_message frame
-is_sent_line other = false
-
-abbrev pub is_brought_line : Line → Bool
-is_brought_line (take_line peer frame fate) = carries_message frame
-is_brought_line other = false
-
-abbrev pub is_lost_line : Line → Bool
-is_lost_line (take_line peer frame fate) = drops fate && carries_message frame
-is_lost_line other = false
 
 -- ---- an entry
 

@@ -1,7 +1,6 @@
 -- What the lines of a visit count: those of the frames that it puts, and those of the frames that it takes.
-use Rattle.std.proofs.Common.{◌≡◌, ℕ, suc, ◌+◌, Bool, true, false, ◌&&◌, cond, List, [], ◌∷◌, ◌++◌, map, length, refl, sym, ap, ◌∙◌, arith}
+use Rattle.std.proofs.Common.{◌≡◌, ℕ, ◌+◌, Bool, true, false, ◌&&◌, cond, List, [], ◌∷◌, ◌++◌, map, length, refl, sym, ap, ◌∙◌, arith}
 use Rattle.std.specs.Prelude.{count_by, filter, ◌==◌}
-use Rattle.std.specs.List.{AllByRecursion}
 use Rattle.std.proofs.lemmas.List.{length-map}
 use Rattle.std.proofs.lemmas.List.Sums.{length-filter}
 use Rattle.std.proofs.lemmas.Bool.{cond_both}
@@ -21,17 +20,9 @@ none_more : (b : Bool) (n : ℕ) → b ≡ false → n ≡ 0 → cond b 1 0 + n 
 none_more true n never e = absurd cc
 none_more false n never e = omega arith
 
-one_more : (b : Bool) (n m : ℕ) → b ≡ true → n ≡ m → cond b 1 0 + n ≡ suc m
-one_more true n m always e = omega arith
-one_more false n m always e = absurd cc
-
 pub count-never : {A : Type 0} (test : A → Bool) (never : (x : A) → test x ≡ false) (xs : List A) → count_by test xs ≡ 0
 count-never test never [] = refl
 count-never test never (x ∷ xs) = count-cons test x xs ∙ none_more (test x) (count_by test xs) (never x) (count-never test never xs)
-
-pub count-always : {A : Type 0} (test : A → Bool) (xs : List A) → AllByRecursion (λ x. test x ≡ true) xs → count_by test xs ≡ length xs
-count-always test [] all = refl
-count-always test (x ∷ xs) all = count-cons test x xs ∙ one_more (test x) (count_by test xs) (length xs) all.0 (count-always test xs all.1)
 
 pub length-messages : (sender receiver : ℕ) (fs : List (List ℕ)) → length (messages_in sender receiver fs) ≡ count_by carries_message fs
 length-messages sender receiver fs = length-map (filter carries_message fs) (message_in sender receiver) ∙ length-filter carries_message fs

@@ -1,5 +1,5 @@
 -- The four numbers of each lane of a board of linked domains add up to its size.
-use Rattle.std.proofs.Common.{◌≡◌, ℕ, ◌+◌, ◌-◌, ◌≤◌, List, [], ◌∷◌, length, map, sum, find, Option, Some, None, option_map, refl, sym, ap, ◌∙◌, subst, arith, length-append}
+use Rattle.std.proofs.Common.{◌≡◌, ℕ, ◌+◌, ◌-◌, ◌≤◌, Bool, List, [], ◌∷◌, length, map, sum, find, Option, Some, None, option_map, refl, sym, ap, ◌∙◌, subst, arith, length-append}
 use Rattle.std.specs.Prelude.{◌==◌, unwrap_or}
 use Rattle.std.proofs.lemmas.List.{length-map}
 use Rattle.std.specs.List.{AllByRecursion}
@@ -18,7 +18,6 @@ use Rattle.board_model.proofs.MessageAlls.{all-with, all-found}
 use Rattle.board_model.proofs.ListsApart.{all-map, all-unmap, all-joined, differ-found}
 use Rattle.board_model.proofs.LanePeers.{free_in, free_found}
 use Rattle.board_model.proofs.LaneRuns.{sums_run, waiting_none}
-use Rattle.board_model.proofs.BoardsOne.{is_of}
 use Rattle.board_model.proofs.PlaceBoards.{rising_differ, neighbours_differ}
 
 -- ---- a run
@@ -52,6 +51,9 @@ receives : (s : Scenario) (o : Option DomainJournal) (n : ℕ) → ((j : DomainJ
 receives s None n runs = record { held = refl }
 receives s (Some j) n runs =
     record { held = omega (arith, (run_ends s j.line j.entries n (runs j refl)).held, length-map (takes_from n j.entries) (λ t. t.frame)) }
+
+abbrev pub is_of : ℕ → DomainJournal → Bool
+is_of n j = j.line.domain == n
 
 -- every buffer of the lane from a domain whose journal is this one
 pub lane_buffers : (s : Scenario) (js : List DomainJournal) (l : Lane) (j : DomainJournal) → AllByRecursion (λ k. IsDomainRun s k.line k.entries) js → find (is_of l.sender) js ≡ Some j → free_to (start s j.line).state l.receiver ≡ l.size → LaneFits s js l → EveryBuffer s js l

@@ -27,10 +27,6 @@ frames_many n (p ∷ ps) = go (p.0 == n) refl (frames_many n ps)
     go true e rest = omega (arith, count-cons (goes_to n) p ps, ap one_if e, rest)
     go false e rest = omega (arith, count-cons (goes_to n) p ps, ap one_if e, rest)
 
--- a load with more frames behind, and more buffers returned
-abbrev pub loaded_more : List (List ℕ) → ℕ → Load → Load
-loaded_more frames n l = record l { frames = l.frames ++ frames; returned = l.returned + n }
-
 put_one : (x y : Bool) (frame : List ℕ) (frames more : List (List ℕ)) → (frames ++ cond (x && y) (frame ∷ []) []) ++ cond x more [] ≡ frames ++ cond x (cond y (frame ∷ more) more) []
 put_one true true frame frames more = append_assoc frames (frame ∷ []) more
 put_one true false frame frames more = ap (λ xs. xs ++ more) (append-nil frames)

@@ -6,7 +6,7 @@ use Rattle.mc_base.specs.declared.name.Local.{Local}
 use Rattle.mc_base.specs.declared.refusal.Refusal.{Refusal}
 use Rattle.mc_base.specs.declared.refusal.Refusal.TheVariants.{EndpInvalid}
 use Rattle.board_model.specs.DomainCall.{DomainCall, create_at, delete_at, lookup_of, send_from, receive_at, request_at, available_at, test_of, cancel_of, turn_alone}
-use Rattle.board_model.specs.Lists.{changed, without}
+use Rattle.board_model.specs.Lists.{changed, without, with_rising}
 use Rattle.board_model.specs.State.{DomainState, Endpoint, Item, Announcement, Peer, Asked, name_of, message_at, Outcome, has_address, has_item, has_ended, Request, request_at_place, item_in, place_at, address_at, queue_at, place_of_peer, waits_at}
 use Rattle.board_model.specs.Choice.{best, without_best}
 use Rattle.board_model.specs.Dealing.{with_found}
@@ -33,7 +33,7 @@ abbrev pub ended_by_word : Refusal → Local → Request → Request
 ended_by_word word at r = if waits_at at r then record r { outcome = Some (has_ended word) } else r
 
 abbrev pub without_endpoint : DomainState → Local → ℕ → DomainState
-without_endpoint s at address = with_announced (record s { endpoints = without (place_at s at) s.endpoints; ended = s.ended ++ address ∷ []; requests = map (ended_by_word EndpInvalid at) s.requests }) (record { local = at; address = address; create = false })
+without_endpoint s at address = with_announced (record s { endpoints = without (place_at s at) s.endpoints; ended = with_rising address s.ended; requests = map (ended_by_word EndpInvalid at) s.requests }) (record { local = at; address = address; create = false })
 
 -- one buffer of the lane to a peer is used
 abbrev pub used_one : Peer → Peer

@@ -1,8 +1,7 @@
--- Which texts are scenarios, and of which board: a text is the scenario whose canonical text it is.
--- Source: docs/FORMATS.md, "Scenario files": one domain line, and then lines of the calls that there are, by nodes of that
--- domain, without tries.
-use Rattle.std.specs.Prelude.{◌≡◌, ℕ, ◌<◌, ◌≤◌, ◌^◌, Bool, ◌&&◌, ◌||◌, ◌==◌, nat_le, IsTrue, List, [], ◌∷◌, ◌++◌, length, codes, decimal, Contains, Option, None, Some, option_to_list}
-use Rattle.std.specs.List.{flat_map, list_all, AllByRecursion}
+-- How a scenario is written: its canonical text, the bytes of its labels, and the ranges of its names and domains.
+-- Source: docs/FORMATS.md, "Scenario files".
+use Rattle.std.specs.Prelude.{ℕ, ◌<◌, ◌≤◌, ◌^◌, Bool, ◌&&◌, ◌||◌, ◌==◌, nat_le, List, [], ◌∷◌, ◌++◌, codes, decimal, Option, None, Some}
+use Rattle.std.specs.List.{flat_map}
 use Rattle.mc_base.specs.Text.{hex_text}
 use Rattle.mc_base.specs.declared.name.EndName.{EndName}
 use Rattle.board_model.specs.declared.scenario.DomainLine.{DomainLine}
@@ -67,75 +66,21 @@ call_text c = line_of (caller_text c ∷ (label_words (label_in c) ++ (tries_wor
 abbrev pub canonical : Scenario → List ℕ
 canonical s = flat_map domain_text s.domains ++ (flat_map link_text s.links ++ flat_map call_text s.calls)
 
--- ranges of the arguments
+-- the ranges of a name
 abbrev pub IsLawfulName : EndName → Type 0
 IsLawfulName n = (n.domain ≤ 7) × (n.node ≤ 15) × (n.port < 2 ^ 16)
 
--- a letter a to z, and then up to 15 of a to z, digits and _
+-- the bytes of a label: first a to z, and then a to z, digits and _
 abbrev pub is_letter_byte : ℕ → Bool
 is_letter_byte b = nat_le 97 b && nat_le b 122
 
 abbrev pub is_label_byte : ℕ → Bool
 is_label_byte b = is_letter_byte b || ((nat_le 48 b && nat_le b 57) || b == 95)
 
-abbrev pub IsLabel : List ℕ → Type 0
-IsLabel [] = ⊥
-IsLabel (b ∷ bs) = IsTrue (is_letter_byte b) × (length bs ≤ 15) × IsTrue (list_all is_label_byte bs)
-
-abbrev pub IsLawfulCall : Call → Type 0
-IsLawfulCall (Create port) = port < 2 ^ 16
-IsLawfulCall (Delete port) = ⊥
-IsLawfulCall (Lookup name) = ⊥
-IsLawfulCall (MsgSend port to priority bytes) = (port < 2 ^ 16) × IsLawfulName to × (priority ≤ 3) × (length bytes ≤ 9000) × AllByRecursion (λ b. b < 256) bytes
-IsLawfulCall (MsgRecv port max) = (port < 2 ^ 16) × (max ≤ 9000)
-IsLawfulCall (MsgRecvI port max) = (port < 2 ^ 16) × (max ≤ 9000)
-IsLawfulCall (MsgAvailable port) = port < 2 ^ 16
-IsLawfulCall (Test label) = IsLabel label.items
-IsLawfulCall (Cancel label) = IsLabel label.items
-IsLawfulCall Turn = ⊥
-
--- a call that gives a request is made under a label that was not told before, and no other call under any; a call on a
--- request names a label that was told before
-abbrev pub LabelFits : List (List ℕ) → Option (List ℕ) → Call → Type 0
-LabelFits told None (MsgRecvI port max) = ⊥
-LabelFits told (Some label) (MsgRecvI port max) = IsLabel label × (Contains told label → ⊥)
-LabelFits told None (Test label) = Contains told label.items
-LabelFits told None (Cancel label) = Contains told label.items
-LabelFits told None call = Unit {0}
-LabelFits told (Some label) call = ⊥
-
-abbrev pub told_after : List (List ℕ) → CallLine → List (List ℕ)
-told_after told c = told ++ option_to_list (label_in c)
-
-pub record IsLawfulLine (domain : ℕ) (told : List (List ℕ)) (c : CallLine) : Type 0 where
-  pub told_domain : c.domain ≡ domain
-  pub node_fits : c.node ≤ 15
-  pub label_fits : LabelFits told (label_in c) c.call
-  pub no_tries : c.tries ≡ None
-  pub call_fits : IsLawfulCall c.call
-
--- the labels are told one after the other
-abbrev pub AreLawfulLines : ℕ → List (List ℕ) → List CallLine → Type 0
-AreLawfulLines domain told [] = Unit {0}
-AreLawfulLines domain told (c ∷ cs) = IsLawfulLine domain told c × AreLawfulLines domain (told_after told c) cs
-
+-- the ranges of a domain line
 pub record IsLawfulDomain (d : DomainLine) : Type 0 where
   pub domain_fits : d.domain ≤ 7
   pub some_nodes : 1 ≤ d.nodes
   pub nodes_fit : d.nodes ≤ 16
   pub some_pool : 1 ≤ d.pool
   pub pool_fits : d.pool ≤ 256
-
--- a board of one domain with the calls that there are, in a file of less than 2^32 lines
-pub record IsLawful (s : Scenario) : Type 0 where
-  pub domain : DomainLine
-  pub one_domain : s.domains ≡ domain ∷ []
-  pub no_links : s.links ≡ []
-  pub domain_lawful : IsLawfulDomain domain
-  pub lines_lawful : AreLawfulLines domain.domain [] s.calls
-  pub lines_fit : length s.calls < 2 ^ 32
-
--- the text is a scenario of the grammar, and tells this board
-pub record IsScenario (text : List ℕ) (s : Scenario) : Type 0 where
-  pub lawful : IsLawful s
-  pub spelled : text ≡ canonical s

@@ -4,21 +4,15 @@ use Rattle.std.specs.Prelude.{List}
 use Rattle.std.specs.List.{AllByRecursion}
 use Rattle.board_model.specs.declared.scenario.Scenario.{Scenario}
 use Rattle.board_model.specs.Scenario.{lanes}
-use Rattle.board_model.specs.Grammar.{IsLawful}
 use Rattle.board_model.specs.LinkedBoard.{IsLinkedBoard}
-use Rattle.board_model.specs.Board.{DomainJournal, IsBoardRun, AreWhole}
+use Rattle.board_model.specs.Board.{DomainJournal, IsBoardRun}
 use Rattle.board_model.specs.Places.{EveryBuffer}
-use Rattle.board_model.specs.Serial.{serial}
 use Rattle.board_model.specs.Headline.{Headline}
 
 -- at the end of every run of a board of linked domains, each buffer of each lane is at exactly one place: free, in the ring,
 -- queued or lent
 abbrev pub PlaceLaw : Type 0
 PlaceLaw = (s : Scenario) (js : List DomainJournal) → IsLinkedBoard s → IsBoardRun s js → AllByRecursion (EveryBuffer s js) (lanes s)
-
--- the serial run of a board of one domain is a run of the board, and runs every script whole
-abbrev pub SerialIsBoardRun : Type 0
-SerialIsBoardRun = (s : Scenario) → IsLawful s → IsBoardRun s (serial s) × AreWhole s (serial s)
 
 -- the headline holds of every run of a board of linked domains
 abbrev pub HeadlineLaw : Type 0

@@ -1,6 +1,6 @@
 -- Words on lists that the other files use.
 -- Source: plain lists, counted from 0.
-use Rattle.std.specs.Prelude.{◌≡◌, ℕ, zero, suc, List, [], ◌∷◌, ◌++◌, Option, Some, None}
+use Rattle.std.specs.Prelude.{◌≡◌, ℕ, zero, suc, nat_lt, List, [], ◌∷◌, ◌++◌, Option, Some, None, if◌then◌else◌}
 
 -- the list with the item at a place changed
 abbrev pub changed_at : {A : Type 0} → (A → A) → ℕ → List A → List A
@@ -22,6 +22,11 @@ without_at (suc i) (x ∷ xs) = x ∷ without_at i xs
 abbrev pub without : {A : Type 0} → Option ℕ → List A → List A
 without None xs = xs
 without (Some i) xs = without_at i xs
+
+-- a number more in a list in rising order
+abbrev pub with_rising : ℕ → List ℕ → List ℕ
+with_rising n [] = n ∷ []
+with_rising n (m ∷ ms) = if nat_lt n m then n ∷ m ∷ ms else m ∷ with_rising n ms
 
 -- the one list begins with the other
 abbrev pub IsPrefix : {A : Type 0} → List A → List A → Type 0

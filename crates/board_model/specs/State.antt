@@ -92,8 +92,8 @@ pub record Peer : Type 0 where
   pub replies : List (List ℕ)
   pub known : Names
 
--- `endpoints` are the live ones in the order of their creation, and `ended` the addresses of those that were deleted and of
--- which some linked domain is still to be told so. A record is in use for each of both
+-- `endpoints` are the live ones in the order of their creation, and `ended` the addresses, in rising order, of those that were
+-- deleted and of which some linked domain is still to be told so. A record is in use for each of both
 pub record DomainState : Type 0 where
   pub number : ℕ
   pub nodes : ℕ

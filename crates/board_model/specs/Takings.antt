@@ -5,7 +5,6 @@ use Rattle.std.specs.Prelude.{◌≡◌, ℕ, Bool, true, false, List, [], ◌�
 use Rattle.std.specs.List.{flat_map}
 use Rattle.mc_base.specs.Frame.{destination_of}
 use Rattle.mc_base.specs.declared.fate.Fate.TheVariants.{Queued, Handed}
-use Rattle.board_model.specs.declared.scenario.DomainLine.{DomainLine}
 use Rattle.board_model.specs.declared.scenario.CallLine.{CallLine}
 use Rattle.board_model.specs.declared.scenario.Scenario.{Scenario}
 use Rattle.board_model.specs.DomainCall.{DomainCall, delete_at, receive_at, request_at, cancel_of}
@@ -72,13 +71,6 @@ standing_after script d r q (again word) address = q address
 standing_after script d r q (called k a) address =
     if is_address (receives_in (next_line script r) r a) address then without_best (λ m. m.priority) (q address)
     else (if is_address (deletes_in (next_line script r) r a) address then [] else q address)
-
-abbrev pub standing_from : List CallLine → ℕ → RunState → Standing → List PlainEntry → Standing
-standing_from script d r q [] = q
-standing_from script d r q (e ∷ es) = standing_from script d (after script r e) (standing_after script d r q e) es
-
-abbrev pub standing : Scenario → DomainLine → List PlainEntry → Standing
-standing s d entries = standing_from (script s d.domain) d.domain (start s d) none_standing entries
 
 -- ---- takings
 

@@ -1,5 +1,5 @@
 //! What is proved of the definitions themselves. Each function has no code: its contract is the law.
-ghost use Rattle.board_model.specs.Laws.{PlaceLaw, SerialIsBoardRun, HeadlineLaw};
+ghost use Rattle.board_model.specs.Laws.{PlaceLaw, HeadlineLaw};
 ghost use Rattle.board_model.specs.MessageLaws.{ReceivesTakeTheBest, NoMessageIsLost, CancelledRequestsTookNothing};
 ghost use Rattle.board_model.specs.SerialLaws.{LinkedSerialIsBoardRun};
 ghost use Rattle.board_model.specs.LanguageLaws.{LawfulIsLinked, LawfulSerialIsBoardRun, LawfulSerialHeadline};
@@ -27,11 +27,6 @@ pub fn cancelled_requests_took_nothing()
 /// The headline holds of every run of a board.
 pub fn headline()
     ensures { HeadlineLaw }
-{}
-
-/// The serial run is a run of the board, and runs every script whole.
-pub fn serial_run_is_a_board_run()
-    ensures { SerialIsBoardRun }
 {}
 
 /// The serial run of a board of linked domains is a run of the board, and runs every script whole.

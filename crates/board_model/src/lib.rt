@@ -1,10 +1,10 @@
 //! What a board is and does: scenarios as plain types, and in `specs/` the definitions that everything is proved
 //! against. It has no code of its own beyond the types and the laws.
 //!
-//! `specs/` is to be read in this order: Scenario, Grammar, FileLines, FileWords, Forms, LineReasons, Language, LinkedBoard,
-//! Words, Journal, State, Choice, Dealing, Turn, DomainCall, Answer, Effect, Labels, Step, Run, Traffic, Board, Channels,
-//! Messages, Takings, Drops, Totals, Places, Serial, Loads, SerialRun, Report, Headline, Laws, MessageLaws, SerialLaws,
-//! LanguageLaws.
+//! `specs/` is to be read in this order: Lists, Scenario, Grammar, FileLines, FileWords, Forms, LineReasons, Language,
+//! LinkedBoard, Words, Journal, State, Choice, Dealing, Turn, DomainCall, Answer, Effect, Labels, Step, Run, Traffic,
+//! Board, Channels, Messages, Takings, Drops, Totals, Tallies, Places, Serial, Loads, SerialRun, Report, Headline,
+//! Laws, MessageLaws, SerialLaws, LanguageLaws.
 #![tactic(auto)]
 
 pub mod laws;

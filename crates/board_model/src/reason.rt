@@ -21,6 +21,4 @@ pub enum LineReason {
     /// A label is told twice in its domain or told where no label stands, or is used and was not told above by the same
     /// domain for a request.
     Label,
-    /// The text isn't one of the small grammar.
-    Unbuilt,
 }
