@@ -5,15 +5,15 @@ use Rattle.std.proofs.lemmas.Bool.{eqb-true, eqb-false, and_parts, and_from, bot
 use Rattle.mc_base.specs.declared.request.Slot.{Slot}
 use Rattle.buffer_book.specs.Book.{Book, Kept, if_queued, kept_at, place_at, queued_at, with_place}
 use Rattle.buffer_book.proofs.PlaceLemmas.{at-other_number, at-other_peer}
-use Rattle.domain_core.specs.InPlaces.{is_same, own_slot}
+use Rattle.domain_core.specs.InPlaces.{is_same, slot_at}
 
 pub itself : (s : Slot) → is_same s s ≡ true
 itself s = and_from _ _ (eq-eqb s.peer s.peer refl) (eq-eqb s.buffer s.buffer refl)
 
-same-slot : (s t : Slot) → is_same s t ≡ true → s ≡ t
+pub same-slot : (s t : Slot) → is_same s t ≡ true → s ≡ t
 same-slot s t same =
     let parts = and_parts (s.peer == t.peer) (s.buffer == t.buffer) same in
-    ap (λ (n : ℕ). own_slot n s.buffer) (eqb-true s.peer t.peer parts.0) ∙ ap (λ (n : ℕ). own_slot t.peer n) (eqb-true s.buffer t.buffer parts.1)
+    ap (λ (n : ℕ). slot_at n s.buffer) (eqb-true s.peer t.peer parts.0) ∙ ap (λ (n : ℕ). slot_at t.peer n) (eqb-true s.buffer t.buffer parts.1)
 
 pub differ-back : (s t : Slot) → is_same s t ≡ false → is_same t s ≡ false
 differ-back s t differ =

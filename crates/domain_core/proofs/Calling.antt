@@ -1,42 +1,21 @@
 -- What a call answers and leaves, by the first word of refusal that holds.
-use Rattle.std.proofs.Common.{◌≡◌, ℕ, ◌+◌, ◌<◌, ◌≤◌, Bool, true, false, cond, List, [], ◌∷◌, ◌++◌, length, map, Option, Some, None, refl, sym, ap, ◌∙◌, arith, eq-eqb}
-use Rattle.std.specs.Prelude.{filter, is_some, not, nat_le, nat_lt, ◌==◌, ◌%◌, ◌^◌, option_map, option_to_list, unwrap_or}
+use Rattle.std.proofs.Common.{◌≡◌, ℕ, ◌+◌, ◌<◌, ◌≤◌, Bool, true, false, cond, List, [], ◌++◌, length, Option, Some, None, refl, sym, ap, ◌∙◌, arith}
+use Rattle.std.specs.Prelude.{is_some, not, nat_le, nat_lt, ◌==◌}
 use Rattle.std.proofs.lemmas.List.{append-nil}
 use Rattle.mc_base.specs.declared.name.EndName.{EndName}
 use Rattle.mc_base.specs.declared.refusal.Refusal.{Refusal}
 use Rattle.mc_base.specs.declared.refusal.Refusal.TheVariants.{NodeInvalid, ExistsAlready, EndpLimit, AddressSpent, EndpInvalid, PeerInvalid, OnChannel, ChanConnected, MsgSize, NoBuffer, Empty, RequestLimit, RequestInvalid, Pending, TooLate}
 use Rattle.board_model.specs.DomainCall.{DomainCall, create_at, delete_at, lookup_of, send_from, receive_at, request_at, available_at, test_of, cancel_of}
 use Rattle.board_model.specs.Journal.{refuses}
-use Rattle.board_model.specs.Lists.{changed, changed_at, without}
-use Rattle.board_model.specs.State.{DomainState, Announcement, is_owed_end, Peer, Item, Request, Asked, Outcome, has_item, request_at_place, place_at, endpoint_at, queue_at, free_to, place_of_peer}
+use Rattle.board_model.specs.Lists.{without}
+use Rattle.board_model.specs.State.{DomainState, Request, request_at_place, place_at, endpoint_at, queue_at}
 use Rattle.board_model.specs.Answer.{is_complete, answer, answer_by, puts, refusal, success, success_puts, unless_refused, has_channel, address_of, local, lacks_buffers}
-use Rattle.board_model.specs.Dealing.{found_for}
-use Rattle.board_model.specs.Effect.{also_owed, ended_by_word, success_effect, success_returns, with_announced, with_endpoint, with_request, with_used, used_one, received}
-use Rattle.board_model.specs.Serial.{Alone, after_own_call, frame_put}
-use Rattle.mc_base.specs.FullName.{end_name}
-use Rattle.mc_base.specs.declared.name.Local.{Local}
-use Rattle.domain_core.specs.Table.{Table, with_deleted_at, with_received_at, with_requests}
-use Rattle.domain_core.specs.Lane.{Lane, with_frame, with_one_used, with_returned}
 use Rattle.mc_base.specs.declared.request.RequestId.{RequestId}
 use Rattle.domain_core.specs.Calls.{place_ended, success_ends}
-use Rattle.domain_core.specs.Alone.{own_peer, state_of, alone}
-use Rattle.domain_core.proofs.Turning.{own-known, own-place}
-
--- a call by its refusal
-abbrev pub after_by : Alone → ℕ → DomainCall → Option Refusal → Alone
-after_by a node call o = record { state = unless_refused o a.state (success_effect a.state node call); ring = a.ring ++ map frame_put (unless_refused o [] (success_puts a.state node call)); returned = a.returned + length (unless_refused o [] (success_returns a.state node call)) }
-
-pub nothing-more : (a : Alone) → a ≡ record { state = a.state; ring = a.ring ++ []; returned = a.returned + 0 }
-nothing-more a =
-    let zero-more : a.returned ≡ a.returned + 0 = omega arith in
-    ap (λ (r : List (List ℕ)). record a { ring = r }) (sym (append-nil a.ring)) ∙ ap (λ (k : ℕ). record { state = a.state; ring = a.ring ++ []; returned = k }) zero-more
 
 -- a refused call
 pub answer-refused : (s : DomainState) (node : ℕ) (call : DomainCall) (word : Refusal) → refusal s node call ≡ Some word → refuses word ≡ answer s node call
 answer-refused s node call word e = sym (ap (λ (o : Option Refusal). answer_by o (success s node call)) e)
-
-pub alone-refused : (a : Alone) (node : ℕ) (call : DomainCall) (word : Refusal) → refusal a.state node call ≡ Some word → a ≡ after_own_call a node call
-alone-refused a node call word e = nothing-more a ∙ sym (ap (λ (o : Option Refusal). after_by a node call o) e)
 
 pub puts-refused : (s : DomainState) (node : ℕ) (call : DomainCall) (word : Refusal) → refusal s node call ≡ Some word → puts s node call ≡ []
 puts-refused s node call word e = ap (λ (o : Option Refusal). unless_refused o [] (success_puts s node call)) e
@@ -44,9 +23,6 @@ puts-refused s node call word e = ap (λ (o : Option Refusal). unless_refused o 
 -- a call that is not refused
 pub answer-done : (s : DomainState) (node : ℕ) (call : DomainCall) → refusal s node call ≡ None → answer s node call ≡ success s node call
 answer-done s node call e = ap (λ (o : Option Refusal). answer_by o (success s node call)) e
-
-pub alone-done : (a : Alone) (node : ℕ) (call : DomainCall) → refusal a.state node call ≡ None → after_own_call a node call ≡ after_by a node call None
-alone-done a node call e = ap (λ (o : Option Refusal). after_by a node call o) e
 
 pub puts-done : (s : DomainState) (node : ℕ) (call : DomainCall) → refusal s node call ≡ None → puts s node call ≡ success_puts s node call
 puts-done s node call e = ap (λ (o : Option Refusal). unless_refused o [] (success_puts s node call)) e
@@ -182,101 +158,3 @@ cancel_by o = cond (not (is_some o)) (Some RequestInvalid) (cond (is_complete o)
 
 pub cancel-is : (s : DomainState) (place : Option ℕ) (o : Option Request) → request_at_place s place ≡ o → refusal s 0 (cancel_of place) ≡ cancel_by o
 cancel-is s place o e = ap cancel_by e
-
--- ---- one domain alone
-
--- its own lane has its free buffers
-pub own-free : (n nodes : ℕ) (t : Table) (l : Lane) (d : ℕ) → d ≡ n → free_to (state_of n nodes t l) d ≡ l.free
-own-free n nodes t l d e =
-    let s = state_of n nodes t l in
-    ap (λ (k : ℕ). free_to s k) e ∙ ap (λ (o : Option Peer). unwrap_or (option_map (λ (p : Peer). p.free) o) 0) (own-known n nodes t l)
-
--- a message was put
-pub alone-sent : (n nodes : ℕ) (t : Table) (l l' : Lane) (d : ℕ) (frame : List ℕ) → d ≡ n → l' ≡ with_frame (with_one_used l) frame → alone n nodes t l' ≡ record { state = with_used (state_of n nodes t l) d; ring = l.ring ++ frame ∷ []; returned = l.returned + 0 }
-alone-sent n nodes t l l' d frame e put =
-    let s = state_of n nodes t l in
-    let place : place_of_peer s d ≡ Some 0 = ap (λ (k : ℕ). place_of_peer s k) e ∙ own-place n nodes t l in
-    let zero-more : l.returned ≡ l.returned + 0 = omega arith in
-    ap (λ (x : Lane). alone n nodes t x) put
-    ∙ ap (λ (k : ℕ). record (alone n nodes t (with_frame (with_one_used l) frame)) { returned = k }) zero-more
-    ∙ ap (λ (o : Option ℕ). record { state = record s { peers = changed used_one o s.peers }; ring = l.ring ++ frame ∷ []; returned = l.returned + 0 }) (sym place)
-
--- a message was received
-pub alone-received : (n nodes : ℕ) (t t' : Table) (l l' : Lane) (i : ℕ) (at : Option ℕ) (best-one : Option Item) (item : Item) → t' ≡ with_received_at t i → l' ≡ with_returned l 1 → Some i ≡ at → best-one ≡ Some item
-    → alone n nodes t' l' ≡ record { state = record (state_of n nodes t l) { endpoints = changed received at t.held.endpoints }; ring = l.ring ++ []; returned = l.returned + length (option_to_list best-one) }
-alone-received n nodes t t' l l' i at best-one item gone back place best-is =
-    let s = state_of n nodes t l in
-    ap (λ (x : Table). alone n nodes x l') gone
-    ∙ ap (λ (x : Lane). alone n nodes (with_received_at t i) x) back
-    ∙ ap (λ (r : List (List ℕ)). record (alone n nodes (with_received_at t i) (with_returned l 1)) { ring = r }) (sym (append-nil l.ring))
-    ∙ ap (λ (o : Option ℕ). record { state = record s { endpoints = changed received o t.held.endpoints }; ring = l.ring ++ []; returned = l.returned + 1 }) place
-    ∙ ap (λ (o : Option Item). record { state = record s { endpoints = changed received at t.held.endpoints }; ring = l.ring ++ []; returned = l.returned + length (option_to_list o) }) (sym best-is)
-
--- a receive was begun, which is complete with the best item where there is one
-pub alone-requested : (n nodes : ℕ) (t t' : Table) (l : Lane) (i : ℕ) (at : Option ℕ) (asked : Asked) (best-one : Option Item) → t' ≡ record t { held = record { endpoints = changed_at received i t.held.endpoints; requests = t.held.requests ++ record { serial = t.requests_given; asked = asked; outcome = option_map has_item best-one } ∷ [] }; requests_given = (t.requests_given + 1) % 2 ^ 64 } → Some i ≡ at
-    → alone n nodes t' l ≡ record { state = record (state_of n nodes t l) { endpoints = changed received at t.held.endpoints; requests = t.held.requests ++ record { serial = t.requests_given; asked = asked; outcome = option_map has_item best-one } ∷ []; requests_given = (t.requests_given + 1) % 2 ^ 64 }; ring = l.ring ++ []; returned = l.returned + 0 }
-alone-requested n nodes t t' l i at asked best-one is place =
-    let r : Request = record { serial = t.requests_given; asked = asked; outcome = option_map has_item best-one } in
-    let t'' : Table = record t { held = record { endpoints = changed_at received i t.held.endpoints; requests = t.held.requests ++ r ∷ [] }; requests_given = (t.requests_given + 1) % 2 ^ 64 } in
-    ap (λ (x : Table). alone n nodes x l) is
-    ∙ nothing-more (alone n nodes t'' l)
-    ∙ ap (λ (o : Option ℕ). record { state = record (state_of n nodes t l) { endpoints = changed received o t.held.endpoints; requests = t.held.requests ++ r ∷ []; requests_given = (t.requests_given + 1) % 2 ^ 64 }; ring = l.ring ++ []; returned = l.returned + 0 }) place
-
--- a request was tested off, which held an item
-pub alone-tested : (n nodes : ℕ) (t t' : Table) (l l' : Lane) (place : Option ℕ) (held : List Item) → t' ≡ with_requests t (without place t.held.requests) → l' ≡ with_returned l 1 → length held ≡ 1
-    → alone n nodes t' l' ≡ record { state = record (state_of n nodes t l) { requests = without place t.held.requests }; ring = l.ring ++ []; returned = l.returned + length held }
-alone-tested n nodes t t' l l' place held is back one =
-    let t'' = with_requests t (without place t.held.requests) in
-    ap (λ (x : Table). alone n nodes x l') is
-    ∙ ap (λ (x : Lane). alone n nodes t'' x) back
-    ∙ ap (λ (r : List (List ℕ)). record (alone n nodes t'' (with_returned l 1)) { ring = r }) (sym (append-nil l.ring))
-    ∙ ap (λ (k : ℕ). record { state = record (state_of n nodes t l) { requests = without place t.held.requests }; ring = l.ring ++ []; returned = l.returned + k }) (sym one)
-
--- a request was cancelled
-pub alone-cancelled : (n nodes : ℕ) (t t' : Table) (l : Lane) (place : Option ℕ) → t' ≡ with_requests t (without place t.held.requests)
-    → alone n nodes t' l ≡ record { state = record (state_of n nodes t l) { requests = without place t.held.requests }; ring = l.ring ++ []; returned = l.returned + 0 }
-alone-cancelled n nodes t t' l place is =
-    ap (λ (x : Table). alone n nodes x l) is ∙ nothing-more (alone n nodes (with_requests t (without place t.held.requests)) l)
-
--- a request was made that is complete or not, and holds nothing
-pub alone-asked : (n nodes : ℕ) (t t' : Table) (l : Lane) (asked : Asked) (outcome : Option Outcome) → t' ≡ record t { held = record t.held { requests = t.held.requests ++ record { serial = t.requests_given; asked = asked; outcome = outcome } ∷ [] }; requests_given = (t.requests_given + 1) % 2 ^ 64 }
-    → alone n nodes t' l ≡ record { state = with_request (state_of n nodes t l) asked outcome; ring = l.ring ++ []; returned = l.returned + 0 }
-alone-asked n nodes t t' l asked outcome is =
-    let r : Request = record { serial = t.requests_given; asked = asked; outcome = outcome } in
-    let t'' : Table = record t { held = record t.held { requests = t.held.requests ++ r ∷ [] }; requests_given = (t.requests_given + 1) % 2 ^ 64 } in
-    ap (λ (x : Table). alone n nodes x l) is ∙ nothing-more (alone n nodes t'' l)
-
--- nothing is announced to the domain itself
-own-told : (n : ℕ) (l : Lane) (a : Announcement) → map (also_owed n a) (own_peer n l ∷ []) ≡ own_peer n l ∷ []
-own-told n l a = ap (λ (b : Bool). cond b (own_peer n l) (record (own_peer n l) { announcements = a ∷ [] }) ∷ []) (eq-eqb n n refl)
-
--- an endpoint was made
-pub alone-created : (n nodes : ℕ) (t t' : Table) (l : Lane) (at : Local) → t' ≡ record t { held = record { endpoints = t.held.endpoints ++ record { local = at; address = 1024 + t.given; queue = []; channel = None } ∷ []; requests = map (found_for (end_name n at) (1024 + t.given)) t.held.requests }; given = t.given + 1 }
-    → alone n nodes t' l ≡ record { state = with_endpoint (state_of n nodes t l) at; ring = l.ring ++ []; returned = l.returned + 0 }
-alone-created n nodes t t' l at is =
-    let address = 1024 + t.given in
-    let t'' : Table = record t { held = record { endpoints = t.held.endpoints ++ record { local = at; address = address; queue = []; channel = None } ∷ []; requests = map (found_for (end_name n at) address) t.held.requests }; given = t.given + 1 } in
-    ap (λ (x : Table). alone n nodes x l) is
-    ∙ nothing-more (alone n nodes t'' l)
-    ∙ ap (λ (ps : List Peer). record { state = record (state_of n nodes t'' l) { peers = ps }; ring = l.ring ++ []; returned = l.returned + 0 }) (sym (own-told n l (record { local = at; address = address; create = true })))
-
--- an endpoint is gone, and its messages were dropped
-pub alone-deleted : (n nodes : ℕ) (t t' : Table) (l l' : Lane) (i dropped : ℕ) (at : Local) (place : Option ℕ) (address : ℕ) (q : List Item) → t' ≡ with_deleted_at t i at → l' ≡ with_returned l dropped → Some i ≡ place → length q ≡ dropped
-    → alone n nodes t' l' ≡ record { state = with_announced (record (state_of n nodes t l) { endpoints = without place t.held.endpoints; ended = address ∷ []; requests = map (ended_by_word EndpInvalid at) t.held.requests }) (record { local = at; address = address; create = false }); ring = l.ring ++ []; returned = l.returned + length q }
-alone-deleted n nodes t t' l l' i dropped at place address q gone back there long =
-    let s = state_of n nodes t l in
-    let requests = map (ended_by_word EndpInvalid at) t.held.requests in
-    let with_ring : DomainState → ℕ → Alone = λ x k. record { state = x; ring = l.ring ++ []; returned = l.returned + k } in
-    ap (λ (x : Table). alone n nodes x l') gone
-    ∙ ap (λ (x : Lane). alone n nodes (with_deleted_at t i at) x) back
-    ∙ ap (λ (r : List (List ℕ)). record (alone n nodes (with_deleted_at t i at) (with_returned l dropped)) { ring = r }) (sym (append-nil l.ring))
-    ∙ ap (λ (o : Option ℕ). with_ring (record s { endpoints = without o t.held.endpoints; requests = requests }) dropped) there
-    ∙ ap (λ (k : ℕ). with_ring (record s { endpoints = without place t.held.endpoints; requests = requests }) k) (sym long)
-    ∙ ap (λ (ps : List Peer). with_ring (record s { endpoints = without place t.held.endpoints; ended = filter (is_owed_end ps) (address ∷ []); peers = ps; requests = requests }) (length q)) (sym (own-told n l (record { local = at; address = address; create = false })))
-
--- a request was tested off, which held nothing
-pub alone-told : (n nodes : ℕ) (t t' : Table) (l : Lane) (place : Option ℕ) (held : List Item) → t' ≡ with_requests t (without place t.held.requests) → length held ≡ 0
-    → alone n nodes t' l ≡ record { state = record (state_of n nodes t l) { requests = without place t.held.requests }; ring = l.ring ++ []; returned = l.returned + length held }
-alone-told n nodes t t' l place held is none =
-    alone-cancelled n nodes t t' l place is
-    ∙ ap (λ (k : ℕ). record { state = record (state_of n nodes t l) { requests = without place t.held.requests }; ring = l.ring ++ []; returned = l.returned + k }) (sym none)

@@ -1,56 +1,172 @@
--- An endpoint that is made, and lookups.
-use Rattle.std.proofs.Common.{◌≡◌, ℕ, ◌+◌, ◌<◌, Bool, true, false, List, [], ◌∷◌, ◌++◌, map, Option, None, sym, ap, ◌∙◌, arith}
-use Rattle.std.specs.Prelude.{count_by, nat_le, option_map, ◌%◌, ◌^◌}
-use Rattle.std.proofs.lemmas.List.{map_push}
+-- An endpoint that is made: the words of the call, what it leaves, and what is kept.
+use Rattle.std.proofs.Common.{◌≡◌, ℕ, ◌+◌, ◌<◌, Bool, true, false, cond, List, [], ◌++◌, length, map, Option, Some, None, refl, sym, ap, ◌∙◌, subst, arith}
+use Rattle.std.specs.Prelude.{is_some, not, nat_le, nat_lt, Result, Ok, Err}
+use Rattle.std.proofs.lemmas.List.{length-map}
 use Rattle.mc_base.specs.FullName.{end_name}
 use Rattle.mc_base.specs.declared.name.Local.{Local}
-use Rattle.mc_base.specs.declared.request.RequestId.{RequestId}
+use Rattle.mc_base.specs.declared.refusal.Refusal.{Refusal}
+use Rattle.mc_base.specs.declared.refusal.Refusal.TheVariants.{NodeInvalid, ExistsAlready, EndpLimit, AddressSpent}
 use Rattle.mc_base.specs.declared.request.Slot.{Slot}
-use Rattle.board_model.specs.State as state
-use Rattle.board_model.specs.Dealing.{found_for}
-use Rattle.board_model.proofs.ListsCounts.{count-every}
+use Rattle.endpoint_table.specs.Table.{Table, create_answer, created, live_at}
+use Rattle.endpoint_table.proofs.RecordLemmas.{all-weaken}
+use Rattle.board_model.specs.DomainCall.{DomainCall, create_at}
+use Rattle.board_model.specs.Journal.{tells}
+use Rattle.board_model.specs.State.{DomainState, Item, place_at}
+use Rattle.board_model.specs.Answer.{refusal, unless_refused}
+use Rattle.board_model.specs.Effect.{success_effect}
 use Rattle.buffer_book.specs.Book.{Book}
-use Rattle.request_set.specs.declared.ask.Ask.{Ask}
+use Rattle.message_queue.specs.Queue.{Waiting}
 use Rattle.request_set.specs.declared.ask.Complete.{Complete}
 use Rattle.request_set.specs.declared.ask.Complete.TheVariants as complete
-use Rattle.request_set.specs.Requests.{Requests}
+use Rattle.request_set.specs.Requests.{Requests, Standing}
+use Rattle.domain_core.specs.declared.peer.Peer.{Peer}
+use Rattle.domain_core.specs.declared.requests.Waiters.{Waiters}
 use Rattle.domain_core.specs.declared.requests.Waiters.TheVariants as waiters
-use Rattle.domain_core.specs.Records.{Records, new_record, with_record}
-use Rattle.domain_core.specs.Out.{Out}
-use Rattle.domain_core.specs.InBook.{asked_in, endpoint_in, endpoints_in, outcome_in, request_in, requests_in, table_in}
-use Rattle.domain_core.specs.InRequests.{completed_with, handed_slots, slots_in, with_all_complete}
-use Rattle.domain_core.specs.InPlaces.{AreInPlaces, is_same}
-use Rattle.domain_core.proofs.Beginning.{new_standing, with_last}
-use Rattle.domain_core.proofs.Completing.{requests-found}
-use Rattle.domain_core.proofs.Queuing.{cancelled-places}
-use Rattle.domain_core.proofs.Receives.{handed-new}
+use Rattle.domain_core.specs.AllMoved.{numbers_of}
+use Rattle.domain_core.specs.Calls.{Does}
+use Rattle.domain_core.specs.DomainView.{domain_in}
+use Rattle.domain_core.specs.InBook.{endpoint_in}
+use Rattle.domain_core.specs.InPlaces.{AreInPlaces, slots_of}
+use Rattle.domain_core.specs.InRequests.{handed_slots, with_all_complete}
+use Rattle.domain_core.specs.LaneMoves.{LaneMove}
+use Rattle.domain_core.specs.Peers.{EndsView, state_in}
+use Rattle.domain_core.specs.Records.{Records, all_waiting, new_record, with_record}
+use Rattle.domain_core.specs.Sound.{AreRising, AreSound, out_at}
+use Rattle.domain_core.specs.Tied.{AreTied}
+use Rattle.domain_core.proofs.CallLemmas.{quiet-moved}
+use Rattle.domain_core.proofs.Calling.{answer-done, puts-nothing, same-ids}
+use Rattle.domain_core.proofs.Completing.{handed-all, ids-all, receives-all}
+use Rattle.domain_core.proofs.Queuing.{same-held}
+use Rattle.domain_core.proofs.Slots.{slots}
+use Rattle.domain_core.proofs.TiedStates.{made-state}
+use Rattle.domain_core.proofs.Tying.{length-records, live-some, tied-created}
+use Rattle.domain_core.proofs.Waits.{waiting-new}
 
-pub few-of : (n : ℕ) → nat_le 64 n ≡ false → n < 64
-few-of n e = grind (arith, e)
+-- ---- the words, by their conditions
 
--- a new endpoint, and lookups of it that are complete
-pub created-table : (b : Book) (r : Records) (q : Requests) (n : ℕ) (at : Local) (address : ℕ) → address ≡ 1024 + r.given
-    → table_in b (with_record r at) (with_all_complete q (waiters.Lookups (end_name n at)) (complete.Address address))
-    ≡ record (table_in b r q) { held = record { endpoints = endpoints_in b r.endpoints ++ record { local = at; address = 1024 + r.given; queue = []; channel = None } ∷ []; requests = map (found_for (end_name n at) (1024 + r.given)) (requests_in b q.standing) }; given = r.given + 1 }
-created-table b r q n at address is =
-    let t = table_in b r q in
-    let new = new_record r.room at (1024 + r.given) in
-    ap (λ (a : ℕ). table_in b (with_record r at) (with_all_complete q (waiters.Lookups (end_name n at)) (complete.Address a))) is
-    ∙ ap (λ (es : List state.Endpoint). record t { held = record { endpoints = es; requests = requests_in b (map (completed_with (waiters.Lookups (end_name n at)) (complete.Address (1024 + r.given))) q.standing) }; given = r.given + 1 }) (map_push (endpoint_in b) r.endpoints new)
-    ∙ ap (λ (rs : List state.Request). record t { held = record { endpoints = endpoints_in b r.endpoints ++ endpoint_in b new ∷ []; requests = rs }; given = r.given + 1 }) (requests-found b (end_name n at) (1024 + r.given) q.standing)
+abbrev word_of : Result ℕ Refusal → Option Refusal
+word_of (Ok address) = None
+word_of (Err word) = Some word
 
--- a request more that holds nothing
-pub asked-places : (r : Records) (q : Requests) (b : Book) (p : Out) (id : RequestId) (a : Ask) (o : Option Complete) → slots_in o ≡ [] → AreInPlaces r q b p → AreInPlaces r (with_last q id a o) b p
-asked-places r q b p id a o none places =
-    let new = new_standing id a o in
-    let hs = handed_slots (q.standing ++ new ∷ []) in
-    let same : (test : Slot → Bool) → count_by test hs ≡ count_by test (handed_slots q.standing) = λ test. let more = handed-new test new q.standing in let zero = ap (count_by test) none in omega (arith, more, zero) in
-    cancelled-places r q (with_last q id a o) b p (λ t. same (λ (x : Slot). is_same x t)) (sym (count-every hs) ∙ same (λ (x : Slot). true) ∙ count-every (handed_slots q.standing)) places
+abbrev result_by : Bool → Bool → Bool → Bool → ℕ → Result ℕ Refusal
+result_by b1 b2 b3 b4 address = cond b1 (Err NodeInvalid) (cond b2 (Err ExistsAlready) (cond b3 (Err EndpLimit) (cond b4 (Err AddressSpent) (Ok address))))
 
-pub asked-table : (b : Book) (r : Records) (q : Requests) (id : RequestId) (a : Ask) (o : Option Complete) → id.serial ≡ q.given
-    → table_in b r (with_last q id a o) ≡ record (table_in b r q) { held = record (table_in b r q).held { requests = requests_in b q.standing ++ record { serial = q.given; asked = asked_in a; outcome = option_map (outcome_in b) o } ∷ [] }; requests_given = (q.given + 1) % 2 ^ 64 }
-asked-table b r q id a o serial =
-    let t = table_in b r q in
-    let g = (q.given + 1) % 2 ^ 64 in
-    ap (λ (rs : List state.Request). record t { held = record t.held { requests = rs }; requests_given = g }) (map_push (request_in b) q.standing (new_standing id a o))
-    ∙ ap (λ (n : ℕ). record t { held = record t.held { requests = requests_in b q.standing ++ record { serial = n; asked = asked_in a; outcome = option_map (outcome_in b) o } ∷ [] }; requests_given = g }) serial
+abbrev word_by : Bool → Bool → Bool → Bool → Option Refusal
+word_by b1 b2 b3 b4 = cond b1 (Some NodeInvalid) (cond b2 (Some ExistsAlready) (cond b3 (Some EndpLimit) (cond b4 (Some AddressSpent) None)))
+
+word-by : (b1 b2 b3 b4 : Bool) (address : ℕ) → word_by b1 b2 b3 b4 ≡ word_of (result_by b1 b2 b3 b4 address)
+word-by true b2 b3 b4 address = refl
+word-by false true b3 b4 address = refl
+word-by false false true b4 address = refl
+word-by false false false true address = refl
+word-by false false false false address = refl
+
+ok-parts : (b1 b2 b3 b4 : Bool) (address a : ℕ) → result_by b1 b2 b3 b4 address ≡ Ok a → (b3 ≡ false) × (b4 ≡ false) × (a ≡ address)
+ok-parts true b2 b3 b4 address a e = absurd cc
+ok-parts false true b3 b4 address a e = absurd cc
+ok-parts false false true b4 address a e = absurd cc
+ok-parts false false false true address a e = absurd cc
+ok-parts false false false false address a e = (refl, refl, cc)
+
+past-last : (node nodes : ℕ) → nat_le nodes node ≡ not (nat_lt node nodes)
+past-last node nodes = by (nat_lt node nodes) refl
+  where
+    by : (b : Bool) → nat_lt node nodes ≡ b → nat_le nodes node ≡ not b
+    by true is = grind (arith, is)
+    by false is = grind (arith, is)
+
+fewer-than : (limit n : ℕ) → nat_le limit n ≡ false → n < limit
+fewer-than limit n is = grind (arith, is)
+
+-- ---- where all three parts became others
+
+moved-to : (P : Records → Requests → Table → Type 0) (r r' : Records) (q q' : Requests) (t t' : Table) → r' ≡ r → q' ≡ q → t' ≡ t → P r q t → P r' q' t'
+moved-to P r r' q q' t t' er eq et p = subst (λ (x : Records). P x q' t') (sym er) (subst (λ (x : Requests). P r x t') (sym eq) (subst (λ (x : Table). P r q x) (sym et) p))
+
+module _ {L : Type 0} (v : EndsView L) (b : Book) (r : Records) (q : Requests) (t : Table) (ps : List (Peer L)) (at : Local) where
+  abbrev s : DomainState
+  s = state_in v b r q t ps
+
+  abbrev call : DomainCall
+  call = create_at at.port
+
+  abbrev who : Waiters
+  who = waiters.Lookups (end_name t.domain at)
+
+  abbrev how : Complete
+  how = complete.Address (1024 + t.given)
+
+  abbrev made_requests : Requests
+  made_requests = with_all_complete q who how
+
+  word-is : AreTied r t (numbers_of ps) → refusal s at.node call ≡ word_of (create_answer t at)
+  word-is tie =
+      let exists = is_some (place_at s at) in
+      let full = nat_le 64 (length s.endpoints + length s.ended) in
+      ap (λ (x : Bool). word_by x exists full (nat_le 60000 t.given)) (past-last at.node t.nodes)
+      ∙ ap (λ (x : Bool). word_by (not (nat_lt at.node t.nodes)) x full (nat_le 60000 t.given)) (sym (live-some r t (numbers_of ps) b at tie))
+      ∙ ap (λ (n : ℕ). word_by (not (nat_lt at.node t.nodes)) (is_some (live_at t at)) (nat_le 64 n) (nat_le 60000 t.given)) (length-records r t (numbers_of ps) b tie)
+      ∙ word-by (not (nat_lt at.node t.nodes)) (is_some (live_at t at)) (nat_le 64 (length t.records)) (nat_le 60000 t.given) (1024 + t.given)
+
+  pub create-refused : AreTied r t (numbers_of ps) → (word : Refusal) → create_answer t at ≡ Err word → refusal s at.node call ≡ Some word
+  create-refused tie word is = word-is tie ∙ ap word_of is
+
+  module _ (a : ℕ) (is : create_answer t at ≡ Ok a) where
+    parts : (nat_le 64 (length t.records) ≡ false) × (nat_le 60000 t.given ≡ false) × (a ≡ 1024 + t.given)
+    parts = ok-parts (not (nat_lt at.node t.nodes)) (is_some (live_at t at)) (nat_le 64 (length t.records)) (nat_le 60000 t.given) (1024 + t.given) a is
+
+    create-address : a ≡ 1024 + t.given
+    create-address = parts.2
+
+    pub create-few : AreTied r t (numbers_of ps) → length r.endpoints < 64
+    create-few tie = omega (arith, fewer-than 64 (length t.records) parts.0, length-records r t (numbers_of ps) b tie, length-map r.endpoints (endpoint_in b))
+
+    create-given : AreTied r t (numbers_of ps) → r.given < 60000
+    create-given tie = omega (arith, fewer-than 60000 t.given parts.1, tie.given)
+
+    -- lookups of its name are complete
+    pub made-requests : (q' : Requests) (n : ℕ) → q' ≡ with_all_complete q (waiters.Lookups (end_name n at)) (complete.Address a) → n ≡ t.domain → q' ≡ made_requests
+    made-requests q' n is number =
+        is
+        ∙ ap (λ (x : ℕ). with_all_complete q (waiters.Lookups (end_name x at)) (complete.Address a)) number
+        ∙ ap (λ (x : ℕ). with_all_complete q who (complete.Address x)) create-address
+
+    unrefused : AreTied r t (numbers_of ps) → refusal s at.node call ≡ None
+    unrefused tie = word-is tie ∙ ap word_of is
+
+    -- ---- what is kept
+
+    waits-same : all_waiting (with_record r at).endpoints ≡ all_waiting r.endpoints
+    waits-same = waiting-new r.endpoints (new_record r.room at (1024 + r.given)) refl
+
+    handed-same : handed_slots made_requests.standing ≡ handed_slots q.standing
+    handed-same = handed-all who how q.standing tt
+
+    slots-same : slots_of (with_record r at) made_requests ≡ slots_of r q
+    slots-same = ap (λ (ws : List Waiting). slots ws ++ handed_slots made_requests.standing) waits-same ∙ ap (λ (hs : List Slot). slots (all_waiting r.endpoints) ++ hs) handed-same
+
+    pub made-sound : (r' : Records) (q' : Requests) (t' : Table) → r' ≡ with_record r at → q' ≡ made_requests → t' ≡ created t at → AreSound v b r q t ps → AreSound v b r' q' t' ps
+    made-sound r' q' t' er eq et sound = moved-to (λ (x : Records) (y : Requests) (z : Table). AreSound v b x y z ps) (with_record r at) r' made_requests q' (created t at) t' er eq et (record {
+      peers = sound.peers;
+      places = all-weaken (λ (p : Peer L). AreInPlaces p.number r q b (out_at v p)) (λ (p : Peer L). AreInPlaces p.number (with_record r at) made_requests b (out_at v p)) (λ p places. same-held r (with_record r at) q made_requests b p.number (out_at v p) waits-same handed-same places) ps sound.places;
+      total = ap length slots-same ∙ sound.total;
+      room = sound.room;
+      receives = receives-all q who how tt sound.receives;
+      tied = tied-created r t (numbers_of ps) at sound.tied;
+      given = let lt = create-given sound.tied in omega (arith, lt);
+    })
+
+    -- ---- what the call does
+
+    pub made-does : (M : L → List LaneMove → L → Type 0) → ((l : L) → M l [] l) → (r' : Records) (q' : Requests) (t' : Table) → r' ≡ with_record r at → q' ≡ made_requests → t' ≡ created t at → AreRising (numbers_of ps) → AreTied r t (numbers_of ps)
+        → Does M at.node call (domain_in v b r q t ps) (domain_in v b r' q' t' ps) (tells a) None
+    made-does M m-none r' q' t' er eq et rising tie = moved-to (λ (x : Records) (y : Requests) (z : Table). Does M at.node call (domain_in v b r q t ps) (domain_in v b x y z ps) (tells a) None) (with_record r at) r' made_requests q' (created t at) t' er eq et (record {
+      answer = ap tells create-address ∙ sym (answer-done s at.node call (unrefused tie));
+      state = made-state v b b r q q t ps ps rising tie at ∙ sym (ap (λ (o : Option Refusal). unless_refused o s (success_effect s at.node call)) (unrefused tie));
+      slots = [];
+      returned = sym (ap (λ (o : Option Refusal). unless_refused {A = List Item} o [] []) (unrefused tie));
+      moved = quiet-moved M m-none v b r q t ps _ (puts-nothing s at.node call refl);
+      stays = λ slot queued other. refl;
+      ids = same-ids s at.node call (map (λ (x : Standing). x.id) q.standing) (map (λ (x : Standing). x.id) made_requests.standing) refl (ids-all who how q.standing);
+      fresh = tt;
+    })

@@ -1,6 +1,6 @@
 -- A request that is tested off or cancelled.
-use Rattle.std.proofs.Common.{◌≡◌, ℕ, ◌+◌, Bool, true, cond, List, [], length, map, take, Option, Some, None, refl, sym, ap, ◌∙◌, subst, arith}
-use Rattle.std.specs.Prelude.{count_by, is_some, not, option_map, position, Ok, Err}
+use Rattle.std.proofs.Common.{◌≡◌, ℕ, cond, List, [], ◌∷◌, length, map, take, Option, Some, None, refl, sym, ap, ◌∙◌, subst, arith}
+use Rattle.std.specs.Prelude.{count_by, is_some, not, option_and_then, option_map, position, slice_get, Ok, Err}
 use Rattle.mc_base.specs.declared.refusal.Refusal.{Refusal}
 use Rattle.mc_base.specs.declared.refusal.Refusal.TheVariants.{RequestInvalid, Pending, TooLate}
 use Rattle.mc_base.specs.declared.request.RequestId.{RequestId}
@@ -9,10 +9,10 @@ use Rattle.board_model.specs.DomainCall.{DomainCall, test_of, cancel_of}
 use Rattle.board_model.specs.Journal.{PlainResult, brought}
 use Rattle.board_model.specs.Lists.{without}
 use Rattle.board_model.specs.State as state
-use Rattle.board_model.specs.State.{DomainState, request_at_place}
+use Rattle.board_model.specs.State.{DomainState, Request, request_at_place}
 use Rattle.board_model.specs.Answer.{refusal, result_by, result_of, unless_refused}
 use Rattle.board_model.specs.Effect.{held_by}
-use Rattle.board_model.proofs.ListsCounts.{count-cons, count-every}
+use Rattle.board_model.proofs.ListsCounts.{count-cons}
 use Rattle.buffer_book.specs.Book.{Book, queued_at}
 use Rattle.request_set.specs.declared.ask.Ask.{Ask}
 use Rattle.request_set.specs.declared.ask.Ask.TheVariants as ask
@@ -20,72 +20,74 @@ use Rattle.request_set.specs.declared.ask.Complete.{Complete}
 use Rattle.request_set.specs.declared.ask.Complete.TheVariants as complete
 use Rattle.request_set.specs.Requests as set
 use Rattle.request_set.specs.Requests.{Requests, Standing, is_id, progress_of, request_of, without_request}
-use Rattle.domain_core.specs.declared.domain.Domain.TheInside.{Inside}
 use Rattle.domain_core.specs.Calls.{place_ended, success_ends}
 use Rattle.domain_core.specs.DomainView.{place_of_id}
 use Rattle.domain_core.specs.Table.{with_requests}
 use Rattle.domain_core.specs.Records.{Records}
 use Rattle.domain_core.specs.InBook.{asked_in, item_at, content_in, outcome_in, request_in, requests_in, table_in}
 use Rattle.domain_core.specs.InRequests.{AreReceives, Receives, handed_slots, slots_in}
-use Rattle.domain_core.specs.InPlaces.{one_if}
-use Rattle.domain_core.specs.Alone.{alone_of, view_of}
-use Rattle.domain_core.proofs.Handed.{item-in}
 use Rattle.domain_core.proofs.Calling.{cancel_by, cancel-is, test_by, test-is}
+use Rattle.domain_core.proofs.Handed.{item-in}
+use Rattle.domain_core.proofs.Placed.{HasMore, HaveSame}
 use Rattle.domain_core.proofs.Receives.{differ-filter, each-filter, found-receives, gone-at, handed-less, length-filter, map-without, place-of_id, request-there}
 
 -- ---- the request that a call names
 
-module _ (d : Inside) (id : RequestId) where
-  abbrev s : DomainState
-  s = (alone_of d).state
+abbrev pub ids_in : Requests → List RequestId
+ids_in q = map (λ (r : Standing). r.id) q.standing
 
+-- of a state that has the requests that stand
+module _ (b : Book) (q : Requests) (s : DomainState) (stand : s.requests ≡ requests_in b q.standing) (id : RequestId) where
   abbrev place : Option ℕ
-  place = place_of_id (view_of d) id
+  place = place_of_id (ids_in q) id
 
-  pub place-is : place ≡ position (is_id id) d.requests.standing
-  place-is = sym (place-of_id id d.requests.standing)
+  pub place-is : place ≡ position (is_id id) q.standing
+  place-is = sym (place-of_id id q.standing)
 
-  pub request-at : request_at_place s place ≡ option_map (request_in d.book) (request_of d.requests id)
-  request-at = ap (request_at_place s) place-is ∙ request-there d.book id d.requests.standing
+  pub request-at : request_at_place s place ≡ option_map (request_in b) (request_of q id)
+  request-at =
+      ap (λ (rs : List Request). option_and_then (λ i. slice_get rs i) place) stand
+      ∙ ap (λ (o : Option ℕ). option_and_then (λ i. slice_get (requests_in b q.standing) i) o) place-is
+      ∙ request-there b id q.standing
 
-  test-word : (r : Standing) (o : Option Complete) (word : Refusal) → r.complete ≡ o → set.tested (Some o) ≡ Err word → test_by (Some (request_in d.book r)) ≡ Some word
-  test-word r None word e t = let same : Pending ≡ word = cc in ap (λ (x : Option Complete). cond (not (is_some (option_map (outcome_in d.book) x))) (Some Pending) None) e ∙ ap (λ (x : Refusal). Some x) same
+  test-word : (r : Standing) (o : Option Complete) (word : Refusal) → r.complete ≡ o → set.tested (Some o) ≡ Err word → test_by (Some (request_in b r)) ≡ Some word
+  test-word r None word e t = let same : Pending ≡ word = cc in ap (λ (x : Option Complete). cond (not (is_some (option_map (outcome_in b) x))) (Some Pending) None) e ∙ ap (λ (x : Refusal). Some x) same
   test-word r (Some c) word e t = absurd cc
 
-  test-words : (o : Option Standing) (word : Refusal) → set.tested (option_map (λ (r : Standing). r.complete) o) ≡ Err word → test_by (option_map (request_in d.book) o) ≡ Some word
+  test-words : (o : Option Standing) (word : Refusal) → set.tested (option_map (λ (r : Standing). r.complete) o) ≡ Err word → test_by (option_map (request_in b) o) ≡ Some word
   test-words None word t = let same : RequestInvalid ≡ word = cc in ap (λ (x : Refusal). Some x) same
   test-words (Some r) word t = test-word r r.complete word refl t
 
-  pub test-refused : (word : Refusal) → set.tested (progress_of d.requests id) ≡ Err word → refusal s 0 (test_of place) ≡ Some word
-  test-refused word t = test-is s place _ request-at ∙ test-words (request_of d.requests id) word t
+  pub test-refused : (word : Refusal) → set.tested (progress_of q id) ≡ Err word → refusal s 0 (test_of place) ≡ Some word
+  test-refused word t = test-is s place _ request-at ∙ test-words (request_of q id) word t
 
-  test-none : (r : Standing) (o : Option Complete) (c : Complete) → r.complete ≡ o → o ≡ Some c → test_by (Some (request_in d.book r)) ≡ None
-  test-none r o c e t = ap (λ (x : Option Complete). cond (not (is_some (option_map (outcome_in d.book) x))) (Some Pending) None) (e ∙ t)
+  test-none : (r : Standing) (o : Option Complete) (c : Complete) → r.complete ≡ o → o ≡ Some c → test_by (Some (request_in b r)) ≡ None
+  test-none r o c e t = ap (λ (x : Option Complete). cond (not (is_some (option_map (outcome_in b) x))) (Some Pending) None) (e ∙ t)
 
-  test-nones : (o : Option Standing) (c : Complete) → option_map (λ (r : Standing). r.complete) o ≡ Some (Some c) → test_by (option_map (request_in d.book) o) ≡ None
+  test-nones : (o : Option Standing) (c : Complete) → option_map (λ (r : Standing). r.complete) o ≡ Some (Some c) → test_by (option_map (request_in b) o) ≡ None
   test-nones None c t = absurd cc
   test-nones (Some r) c t = let same : r.complete ≡ Some c = cc in test-none r r.complete c refl same
 
-  pub test-done : (c : Complete) → progress_of d.requests id ≡ Some (Some c) → refusal s 0 (test_of place) ≡ None
-  test-done c t = test-is s place _ request-at ∙ test-nones (request_of d.requests id) c t
+  pub test-done : (c : Complete) → progress_of q id ≡ Some (Some c) → refusal s 0 (test_of place) ≡ None
+  test-done c t = test-is s place _ request-at ∙ test-nones (request_of q id) c t
 
-  cancel-word : (r : Standing) (o : Option Complete) (word : Refusal) → r.complete ≡ o → set.cancelled (Some o) ≡ Err word → cancel_by (Some (request_in d.book r)) ≡ Some word
+  cancel-word : (r : Standing) (o : Option Complete) (word : Refusal) → r.complete ≡ o → set.cancelled (Some o) ≡ Err word → cancel_by (Some (request_in b r)) ≡ Some word
   cancel-word r None word e t = absurd cc
-  cancel-word r (Some c) word e t = let same : TooLate ≡ word = cc in ap (λ (x : Option Complete). cond (is_some (option_map (outcome_in d.book) x)) (Some TooLate) None) e ∙ ap (λ (x : Refusal). Some x) same
+  cancel-word r (Some c) word e t = let same : TooLate ≡ word = cc in ap (λ (x : Option Complete). cond (is_some (option_map (outcome_in b) x)) (Some TooLate) None) e ∙ ap (λ (x : Refusal). Some x) same
 
-  cancel-words : (o : Option Standing) (word : Refusal) → set.cancelled (option_map (λ (r : Standing). r.complete) o) ≡ Err word → cancel_by (option_map (request_in d.book) o) ≡ Some word
+  cancel-words : (o : Option Standing) (word : Refusal) → set.cancelled (option_map (λ (r : Standing). r.complete) o) ≡ Err word → cancel_by (option_map (request_in b) o) ≡ Some word
   cancel-words None word t = let same : RequestInvalid ≡ word = cc in ap (λ (x : Refusal). Some x) same
   cancel-words (Some r) word t = cancel-word r r.complete word refl t
 
-  pub cancel-refused : (word : Refusal) → set.cancelled (progress_of d.requests id) ≡ Err word → refusal s 0 (cancel_of place) ≡ Some word
-  cancel-refused word t = cancel-is s place _ request-at ∙ cancel-words (request_of d.requests id) word t
+  pub cancel-refused : (word : Refusal) → set.cancelled (progress_of q id) ≡ Err word → refusal s 0 (cancel_of place) ≡ Some word
+  cancel-refused word t = cancel-is s place _ request-at ∙ cancel-words (request_of q id) word t
 
-  cancel-nones : (o : Option Standing) → option_map (λ (r : Standing). r.complete) o ≡ Some None → cancel_by (option_map (request_in d.book) o) ≡ None
+  cancel-nones : (o : Option Standing) → option_map (λ (r : Standing). r.complete) o ≡ Some None → cancel_by (option_map (request_in b) o) ≡ None
   cancel-nones None t = absurd cc
-  cancel-nones (Some r) t = let same : r.complete ≡ None = cc in ap (λ (x : Option Complete). cond (is_some (option_map (outcome_in d.book) x)) (Some TooLate) None) same
+  cancel-nones (Some r) t = let same : r.complete ≡ None = cc in ap (λ (x : Option Complete). cond (is_some (option_map (outcome_in b) x)) (Some TooLate) None) same
 
-  pub cancel-done : progress_of d.requests id ≡ Some None → refusal s 0 (cancel_of place) ≡ None
-  cancel-done t = cancel-is s place _ request-at ∙ cancel-nones (request_of d.requests id) t
+  pub cancel-done : progress_of q id ≡ Some None → refusal s 0 (cancel_of place) ≡ None
+  cancel-done t = cancel-is s place _ request-at ∙ cancel-nones (request_of q id) t
 
 -- what may be cancelled is pending
 pub cancel-pending : (o : Option (Option Complete)) → set.cancelled o ≡ Ok tt → o ≡ Some None
@@ -112,36 +114,33 @@ result-is b (ask.Lookup name) slot max is = absurd is
 result-is b (ask.Connect channel) slot max is = absurd is
 result-is b (ask.Packet at) slot max is = absurd is
 
-module _ (d : Inside) (id : RequestId) (receives : AreReceives d.requests) (slot : Slot) (max : ℕ) (held : progress_of d.requests id ≡ Some (Some (complete.Message slot max))) where
+module _ (b : Book) (q : Requests) (s : DomainState) (stand : s.requests ≡ requests_in b q.standing) (id : RequestId) (receives : AreReceives q) (slot : Slot) (max : ℕ) (held : progress_of q id ≡ Some (Some (complete.Message slot max))) where
   abbrev how : Option Complete
   how = Some (complete.Message slot max)
 
-  found : (r : Standing) × (request_of d.requests id ≡ Some r) × (r.complete ≡ how)
-  found = request-found (request_of d.requests id) how held
+  found : (r : Standing) × (request_of q id ≡ Some r) × (r.complete ≡ how)
+  found = request-found (request_of q id) how held
 
   -- what a test answers
-  pub tested-result : result_of (request_at_place (alone_of d).state (place_of_id (view_of d) id)) ≡ brought (length (content_in (queued_at d.book slot))) (take max (content_in (queued_at d.book slot)))
+  pub tested-result : result_of (request_at_place s (place_of_id (ids_in q) id)) ≡ brought (length (content_in (queued_at b slot))) (take max (content_in (queued_at b slot)))
   tested-result =
       let r = found.0 in
-      let is : Receives r.ask how = subst (λ (o : Option Complete). Receives r.ask o) found.2 (found-receives (is_id id) r d.requests.standing receives.each found.1) in
-      ap result_of (request-at d id ∙ ap (option_map (request_in d.book)) found.1)
-      ∙ ap (λ (o : Option Complete). result_by (asked_in r.ask) (option_map (outcome_in d.book) o)) found.2
-      ∙ result-is d.book r.ask slot max is
+      let is : Receives r.ask how = subst (λ (o : Option Complete). Receives r.ask o) found.2 (found-receives (is_id id) r q.standing receives.each found.1) in
+      ap result_of (request-at b q s stand id ∙ ap (option_map (request_in b)) found.1)
+      ∙ ap (λ (o : Option Complete). result_by (asked_in r.ask) (option_map (outcome_in b) o)) found.2
+      ∙ result-is b r.ask slot max is
 
   -- and what it gives back
-  pub tested-returns : length (held_by (request_at_place (alone_of d).state (place_of_id (view_of d) id))) ≡ 1
-  tested-returns =
-      ap (λ (o : Option state.Request). length (held_by o)) (request-at d id ∙ ap (option_map (request_in d.book)) found.1)
-      ∙ ap (λ (o : Option Complete). length (state.item_in (option_map (outcome_in d.book) o))) found.2
+  pub tested-items : held_by (request_at_place s (place_of_id (ids_in q) id)) ≡ item_at b slot ∷ []
+  tested-items =
+      ap (λ (o : Option state.Request). held_by o) (request-at b q s stand id ∙ ap (option_map (request_in b)) found.1)
+      ∙ ap (λ (o : Option Complete). state.item_in (option_map (outcome_in b) o)) found.2
 
-  pub tested-fewer : (test : Slot → Bool) → count_by test (handed_slots (without_request d.requests id).standing) + one_if (test slot) ≡ count_by test (handed_slots d.requests.standing)
+  pub tested-fewer : HasMore slot (handed_slots (without_request q id).standing) (handed_slots q.standing)
   tested-fewer test =
-      let less = handed-less test id how d.requests.standing receives.differ held in
+      let less = handed-less test id how q.standing receives.differ held in
       let one = count-cons test slot [] in
       omega (arith, less, one)
-
-  pub tested-shorter : length (handed_slots (without_request d.requests id).standing) + 1 ≡ length (handed_slots d.requests.standing)
-  tested-shorter = ap (λ (k : ℕ). k + 1) (sym (count-every (handed_slots (without_request d.requests id).standing))) ∙ tested-fewer (λ (x : Slot). true) ∙ count-every (handed_slots d.requests.standing)
 
 -- ---- what is left
 
@@ -163,8 +162,8 @@ left-ids q id o receives at =
     ∙ map-without (λ (r : Standing). r.id) (position (is_id id) q.standing) q.standing
     ∙ ap (λ (o : Option ℕ). without o (map (λ (r : Standing). r.id) q.standing)) (sym at)
 
-pub cancelled-same : (q : Requests) (id : RequestId) (test : Slot → Bool) → AreReceives q → progress_of q id ≡ Some None → count_by test (handed_slots (without_request q id).standing) ≡ count_by test (handed_slots q.standing)
-cancelled-same q id test receives pending = let less = handed-less test id None q.standing receives.differ pending in omega (arith, less)
+pub cancelled-same : (q : Requests) (id : RequestId) → AreReceives q → progress_of q id ≡ Some None → HaveSame (handed_slots q.standing) (handed_slots (without_request q id).standing)
+cancelled-same q id receives pending test = let less = handed-less test id None q.standing receives.differ pending in omega (arith, less)
 
 -- ---- a request that ended and held no message
 
@@ -185,31 +184,32 @@ no-slots (ask.Message at max) (complete.Packet slot) is other = absurd is
 no-slots (ask.Packet at) (complete.Packet slot) is other = absurd is
 no-slots a (complete.Ended word) is other = refl
 
-module _ (d : Inside) (id : RequestId) (receives : AreReceives d.requests) (how : Complete) (held : progress_of d.requests id ≡ Some (Some how)) (other : (slot : Slot) (max : ℕ) → how ≡ complete.Message slot max → ⊥) where
-  there : (r : Standing) × (request_of d.requests id ≡ Some r) × (r.complete ≡ Some how)
-  there = request-found (request_of d.requests id) (Some how) held
+module _ (b : Book) (q : Requests) (s : DomainState) (stand : s.requests ≡ requests_in b q.standing) (id : RequestId) (receives : AreReceives q) (how : Complete) (held : progress_of q id ≡ Some (Some how)) (other : (slot : Slot) (max : ℕ) → how ≡ complete.Message slot max → ⊥) where
+  there : (r : Standing) × (request_of q id ≡ Some r) × (r.complete ≡ Some how)
+  there = request-found (request_of q id) (Some how) held
 
   pub quiet-slots : slots_in (Some how) ≡ []
   quiet-slots =
       let r = there.0 in
-      no-slots r.ask how (subst (λ (o : Option Complete). Receives r.ask o) there.2 (found-receives (is_id id) r d.requests.standing receives.each there.1)) other
+      no-slots r.ask how (subst (λ (o : Option Complete). Receives r.ask o) there.2 (found-receives (is_id id) r q.standing receives.each there.1)) other
 
-  pub quiet-result : (told : PlainResult) → ((asked : state.Asked) → told ≡ result_by asked (Some (outcome_in d.book how))) → told ≡ result_of (request_at_place (alone_of d).state (place_of_id (view_of d) id))
+  pub quiet-result : (told : PlainResult) → ((asked : state.Asked) → told ≡ result_by asked (Some (outcome_in b how))) → told ≡ result_of (request_at_place s (place_of_id (ids_in q) id))
   quiet-result told is =
       let r = there.0 in
       is (asked_in r.ask)
-      ∙ sym (ap result_of (request-at d id ∙ ap (option_map (request_in d.book)) there.1)
-      ∙ ap (λ (o : Option Complete). result_by (asked_in r.ask) (option_map (outcome_in d.book) o)) there.2)
+      ∙ sym (ap result_of (request-at b q s stand id ∙ ap (option_map (request_in b)) there.1)
+      ∙ ap (λ (o : Option Complete). result_by (asked_in r.ask) (option_map (outcome_in b) o)) there.2)
 
-  pub quiet-returns : length (held_by (request_at_place (alone_of d).state (place_of_id (view_of d) id))) ≡ 0
-  quiet-returns =
-      ap (λ (o : Option state.Request). length (held_by o)) (request-at d id ∙ ap (option_map (request_in d.book)) there.1)
-      ∙ ap (λ (o : Option Complete). length (state.item_in (option_map (outcome_in d.book) o))) there.2
-      ∙ ap length (item-in d.book (Some how) ∙ ap (map (item_at d.book)) quiet-slots)
+  pub quiet-items : held_by (request_at_place s (place_of_id (ids_in q) id)) ≡ []
+  quiet-items =
+      ap (λ (o : Option state.Request). held_by o) (request-at b q s stand id ∙ ap (option_map (request_in b)) there.1)
+      ∙ ap (λ (o : Option Complete). state.item_in (option_map (outcome_in b) o)) there.2
+      ∙ item-in b (Some how)
+      ∙ ap (map (item_at b)) quiet-slots
 
-  pub quiet-same : (test : Slot → Bool) → count_by test (handed_slots (without_request d.requests id).standing) ≡ count_by test (handed_slots d.requests.standing)
+  pub quiet-same : HaveSame (handed_slots q.standing) (handed_slots (without_request q id).standing)
   quiet-same test =
-      let less = handed-less test id (Some how) d.requests.standing receives.differ held in
+      let less = handed-less test id (Some how) q.standing receives.differ held in
       let none = ap (count_by test) quiet-slots in
       omega (arith, less, none)
 

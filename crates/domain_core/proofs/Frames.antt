@@ -125,6 +125,7 @@ returned-other peer h frame at e1 e2 e3 e4 =
 -- a message of a frame without faults, to the live endpoint at a place
 pub record IsMessage (peer : ℕ) (h : Held) (frame : List ℕ) (at priority size : ℕ) : Type 0 where
   pub row : (v : Option ℕ) → place_waiting_for (keeping h) (destination_of frame) ≡ v → row_for (keeping h) peer frame ≡ row_by (keeping h) None (Some at) true v (message_in peer frame size)
+  pub item : message_in peer frame size ≡ item_of peer frame
   pub says : slice_index frame 19 ≡ priority
   pub size_fits : size ≤ 488
   pub content_fits : 24 + size ≤ length frame
@@ -132,7 +133,7 @@ pub record IsMessage (peer : ℕ) (h : Held) (frame : List ℕ) (at priority siz
 pub queued : (peer : ℕ) (h : Held) (frame : List ℕ) (at priority size : ℕ) → IsMessage peer h frame at priority size → place_waiting_for (keeping h) (destination_of frame) ≡ None → at < length h.endpoints → IsQueued peer h frame at priority size
 queued peer h frame at priority size m none lt =
     let e = m.row None none in
-    record { word = ap word_of e; leaves = ap (λ (r : Option Row). held_in (left_by (keeping h) r)) e; says = m.says; within = lt; size_fits = m.size_fits; content_fits = m.content_fits }
+    record { word = ap word_of e; leaves = ap (λ (r : Option Row). held_in (left_by (keeping h) r)) e; item = m.item; says = m.says; within = lt; size_fits = m.size_fits; content_fits = m.content_fits }
 
 pub handed : (peer : ℕ) (h : Held) (q : Requests) (frame : List ℕ) (at priority size place : ℕ) (id : RequestId) (max : ℕ) → IsMessage peer h frame at priority size → place_waiting_for (keeping h) (destination_of frame) ≡ Some place → position (is_id id) q.standing ≡ Some place → IsPending q id → ((l : Local) × (option_map (λ r. r.ask) (request_of q id) ≡ Some (Message l max))) → IsHanded peer h q frame id max size
 handed peer h q frame at priority size place id max m some there pending asks =
@@ -140,6 +141,7 @@ handed peer h q frame at priority size place id max m some there pending asks =
     record {
       word = ap word_of e;
       leaves = ap (λ (r : Option Row). held_in (left_by (keeping h) r)) e ∙ ap (λ (o : Option ℕ). record h { requests = changed (complete_with (message_in peer frame size)) o h.requests }) (sym there);
+      item = m.item;
       pending = pending;
       asks = asks;
       size_fits = m.size_fits;
@@ -196,6 +198,7 @@ is-message peer h frame at src dst priority payload content f letter sound fault
     let there = ap (λ (d : ℕ). place_of_address (keeping h) d) (sym f.destination) ∙ sym place in
     record {
       row = λ v e. row_is (keeping h) peer frame letter ∙ row_by-message (keeping h) (fault frame) (place_of_address (keeping h) (destination_of frame)) at (slice_index (payload_of frame) 2 == 1) (place_waiting_for (keeping h) (destination_of frame)) v (item_of peer frame) (message_in peer frame (length content)) none there kind e item;
+      item = sym item;
       says = sym argument ∙ priority';
       size_fits = l.lawful.1;
       content_fits = lies.1;

@@ -1,14 +1,14 @@
 -- Messages that complete requests hold, by the book of buffers.
-use Rattle.std.proofs.Common.{◌≡◌, ℕ, zero, suc, ◌+◌, ◌≤◌, Bool, true, false, List, [], ◌∷◌, ◌++◌, length, map, take, Option, Some, None, refl, sym, ap, ◌∙◌, arith, eq-eqb, length-append, add-one}
-use Rattle.std.specs.Prelude.{count_by, option_map, slice_get, ◌==◌}
+use Rattle.std.proofs.Common.{◌≡◌, ℕ, zero, suc, ◌+◌, ◌≤◌, false, List, [], ◌∷◌, ◌++◌, length, map, take, Option, Some, None, refl, sym, ap, ◌∙◌, arith}
+use Rattle.std.specs.Prelude.{count_by, option_map, slice_get}
 use Rattle.std.specs.List.{flat_map}
-use Rattle.std.proofs.lemmas.Bool.{eqb-true}
-use Rattle.std.proofs.lemmas.List.{length-map, map-append, take_all}
+use Rattle.std.proofs.lemmas.List.{length-map, map-append}
 use Rattle.mc_base.specs.declared.request.RequestId.{RequestId}
 use Rattle.mc_base.specs.declared.request.Slot.{Slot}
 use Rattle.board_model.specs.State as state
 use Rattle.board_model.specs.State.{Item, Request, is_from}
 use Rattle.board_model.proofs.ListsCounts.{count-append, count-cons}
+use Rattle.board_model.proofs.MessageVisitLines.{count-map}
 use Rattle.buffer_book.specs.Book.{Book, Kept, with_place}
 use Rattle.request_set.specs.declared.ask.Ask.{Ask}
 use Rattle.request_set.specs.declared.ask.Complete.{Complete}
@@ -16,8 +16,8 @@ use Rattle.request_set.specs.declared.ask.Complete.TheVariants as complete
 use Rattle.request_set.specs.Requests.{Standing}
 use Rattle.domain_core.specs.InBook.{content_in, item_at, outcome_in, priority_in, request_in, requests_in, source_in}
 use Rattle.domain_core.specs.InRequests.{handed_slots, slots_in}
-use Rattle.domain_core.specs.InPlaces.{is_same, one_if, times_in}
-use Rattle.domain_core.proofs.Books.{differ-back, itself, queued-there}
+use Rattle.domain_core.specs.InPlaces.{is_of, is_same, times_in}
+use Rattle.domain_core.proofs.Books.{differ-back, queued-there}
 use Rattle.domain_core.proofs.Placed.{no-one}
 
 -- ---- what was handed in other buffers than the one that changed stays
@@ -57,7 +57,7 @@ item-in b (Some (complete.Message slot max)) = refl
 item-in b (Some (complete.Packet slot)) = refl
 item-in b (Some (complete.Ended word)) = refl
 
-items-handed : (b : Book) (rs : List Standing) → flat_map (λ (r : Request). state.item_in r.outcome) (requests_in b rs) ≡ map (item_at b) (handed_slots rs)
+pub items-handed : (b : Book) (rs : List Standing) → flat_map (λ (r : Request). state.item_in r.outcome) (requests_in b rs) ≡ map (item_at b) (handed_slots rs)
 items-handed b [] = refl
 items-handed b (r ∷ rs) =
     ap (λ (xs : List Item). xs ++ flat_map (λ (x : Request). state.item_in x.outcome) (requests_in b rs)) (item-in b r.complete)
@@ -67,53 +67,21 @@ items-handed b (r ∷ rs) =
 pub length-handed : (b : Book) (rs : List Standing) → length (flat_map (λ (r : Request). state.item_in r.outcome) (requests_in b rs)) ≡ length (handed_slots rs)
 length-handed b rs = ap length (items-handed b rs) ∙ length-map (handed_slots rs) (item_at b)
 
-own_slots : (b : Book) (number : ℕ) (ss : List Slot) → ((s : Slot) → (number == s.peer) ≡ false → times_in s ss ≡ 0) → count_by (is_from number) (map (item_at b) ss) ≡ length ss
-own_slots b number [] strangers = refl
-own_slots b number (t ∷ ss) strangers =
-    let sum = λ (s : Slot). count-cons (λ (x : Slot). is_same x s) t ss in
-    let rest = own_slots b number ss (λ s stranger. let none = strangers s stranger in let part = sum s in omega (arith, none, part)) in
-    count-cons (is_from number) (item_at b t) (map (item_at b) ss) ∙ go (number == t.peer) refl rest
-  where
-    go : (x : Bool) → (number == t.peer) ≡ x → count_by (is_from number) (map (item_at b) ss) ≡ length ss → one_if (t.peer == number) + count_by (is_from number) (map (item_at b) ss) ≡ suc (length ss)
-    go true own rest = ap (λ (y : Bool). one_if y + count_by (is_from number) (map (item_at b) ss)) (eq-eqb t.peer number (sym (eqb-true number t.peer own))) ∙ omega (arith, rest)
-    go false stranger rest = absurd (let none = strangers t stranger in let part = count-cons (λ (x : Slot). is_same x t) t ss in let own : one_if (is_same t t) ≡ 1 = ap one_if (itself t) in omega (arith, none, part, own))
+-- those from a peer are as many as its slots that were handed
+pub handed-from : (b : Book) (number : ℕ) (rs : List Standing) → count_by (is_from number) (flat_map (λ (r : Request). state.item_in r.outcome) (requests_in b rs)) ≡ count_by (is_of number) (handed_slots rs)
+handed-from b number rs = ap (count_by (is_from number)) (items-handed b rs) ∙ count-map (is_from number) (item_at b) (handed_slots rs)
 
--- all of them are of the domain itself
-pub own-handed : (b : Book) (number : ℕ) (rs : List Standing) → ((s : Slot) → (number == s.peer) ≡ false → times_in s (handed_slots rs) ≡ 0) → count_by (is_from number) (flat_map (λ (r : Request). state.item_in r.outcome) (requests_in b rs)) ≡ length (handed_slots rs)
-own-handed b number rs strangers = ap (count_by (is_from number)) (items-handed b rs) ∙ own_slots b number (handed_slots rs) strangers
+-- ---- the requests one after the other
 
--- ---- how many
-
-abbrev pub held_at : Option Standing → ℕ
-held_at None = 0
-held_at (Some r) = length (slots_in r.complete)
-
-nothing-there : (k : ℕ) → take {A = Standing} k [] ≡ []
+pub nothing-there : (k : ℕ) → take {A = Standing} k [] ≡ []
 nothing-there zero = refl
 nothing-there (suc k) = refl
-
--- one request more
-handed-take : (rs : List Standing) (k : ℕ) → length (handed_slots (take (suc k) rs)) ≡ length (handed_slots (take k rs)) + held_at (slice_get rs k)
-handed-take [] k = ap (λ (xs : List Standing). length (handed_slots xs) + 0) (sym (nothing-there k))
-handed-take (r ∷ rs) zero = length-append (slots_in r.complete) [] ∙ omega arith
-handed-take (r ∷ rs) (suc k) =
-    let rest = handed-take rs k in
-    let now = length-append (slots_in r.complete) (handed_slots (take (suc k) rs)) in
-    let before = length-append (slots_in r.complete) (handed_slots (take k rs)) in
-    omega (arith, rest, now, before)
-
-pub handed-next : (rs : List Standing) (k : ℕ) → length (handed_slots (take (k + 1) rs)) ≡ length (handed_slots (take k rs)) + held_at (slice_get rs k)
-handed-next rs k = rw add-one (handed-take rs k)
 
 abbrev pub Listing : Type 0
 Listing = RequestId × Ask × Option Complete
 
 abbrev pub listing : Standing → Listing
 listing r = (r.id, r.ask, r.complete)
-
-pub held-listed : (o : Option Standing) (told : Listing) → Some told ≡ option_map listing o → held_at o ≡ length (slots_in told.2)
-held-listed None told e = absurd cc
-held-listed (Some r) told e = let same : told ≡ listing r = cc in ap (λ (x : Listing). length (slots_in x.2)) (sym same)
 
 -- past the last one
 pub none-past : (rs : List Standing) (k : ℕ) → slice_get rs k ≡ None → length rs ≤ k
@@ -124,9 +92,3 @@ none-past (r ∷ rs) (suc k) e = let rest = none-past rs k e in omega (arith, re
 pub none-listed : (o : Option Standing) → None ≡ option_map listing o → o ≡ None
 none-listed None e = refl
 none-listed (Some r) e = absurd cc
-
-pub all-handed : (rs : List Standing) (k : ℕ) → length rs ≤ k → length (handed_slots (take k rs)) ≡ length (handed_slots rs)
-all-handed rs k le = ap (λ (xs : List Standing). length (handed_slots xs)) (take_all k rs le)
-
-pub all-listed : (rs : List Standing) (k : ℕ) → None ≡ option_map listing (slice_get rs k) → length (handed_slots (take k rs)) ≡ length (handed_slots rs)
-all-listed rs k e = all-handed rs k (none-past rs k (none-listed (slice_get rs k) e))

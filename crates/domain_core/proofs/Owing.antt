@@ -1,7 +1,7 @@
 -- Announcements that are owed and put.
 use Rattle.std.proofs.Common.{◌≡◌, ℕ, zero, suc, ◌+◌, ◌-◌, ◌≤◌, Bool, true, false, cond, List, [], ◌∷◌, ◌++◌, length, map, take, drop, Option, None, Some, refl, sym, ap, ◌∙◌, subst, arith, min, append_assoc}
 use Rattle.std.specs.Prelude.{◌==◌, not, ◌||◌, find, option_map, option_and_then, slice_get}
-use Rattle.std.proofs.lemmas.List.{append-nil, drop-drop, length-drop, length-take, length_push, map-append}
+use Rattle.std.proofs.lemmas.List.{drop-drop, length-drop, length-take, length_push, map-append}
 use Rattle.board_model.specs.Journal.{Line, put_line, turn_line}
 use Rattle.lane_end.specs.SendMoves.{Sent}
 use Rattle.domain_core.specs.LaneMoves.{LaneMove, sender}
@@ -26,14 +26,6 @@ oldest-frame (Some o) domain address name create e = elim o.owed as (λ xs. Some
       ap (λ (x : List ℕ). made address name_service_address (announcement x address create) ∷ []) n
       ∙ ap (λ (x : ℕ). made x name_service_address (announcement (announcement_of domain a).0 x create) ∷ []) at
       ∙ ap (λ (x : Bool). made a.address name_service_address (announcement (announcement_of domain a).0 a.address x) ∷ []) there
-] e
-
--- none is owed
-pub none-owed : (o : Option Owing) (domain : ℕ) → None ≡ option_map (announcement_of domain) (option_and_then (λ (x : Owing). slice_get x.owed 0) o) → length (map (frame_of domain) (owed_by o)) ≡ 0
-none-owed None domain e = refl
-none-owed (Some o) domain e = elim o.owed as (λ xs. None ≡ option_map (announcement_of domain) (slice_get xs 0) → length (map (frame_of domain) xs) ≡ 0) [
-  | [] ↦ λ h. refl
-  | a ∷ xs ↦ λ h. absurd cc
 ] e
 
 -- ---- one after the other
@@ -85,10 +77,7 @@ lines-push false peer (g ∷ fs) f =
     ap (λ (ls : List Line). turn_line ∷ ls) (map-append (put_line peer) (g ∷ fs) (f ∷ []))
     ∙ ap (λ (b : Bool). put_lines false peer (g ∷ fs) ++ put_lines (not b) peer (f ∷ [])) (sym (some-frames (length fs)))
 
-module _ {L : Type 0} (M : L → List LaneMove → L → Type 0) (m-none : (l : L) → M l [] l) (m-both : (a b c : L) (xs ys : List LaneMove) → M a xs b → M b ys c → M a (xs ++ ys) c) where
-  pub PutsOwed-none : (peer : ℕ) (begun : Bool) (t : Table) (lines : List Line) (l : L) → PutsOwed M peer begun [] t t lines lines l l
-  PutsOwed-none peer begun t lines l = record { first = refl; moved = m-none l; table = refl; told = sym (append-nil lines) }
-
+module _ {L : Type 0} (M : L → List LaneMove → L → Type 0) (m-both : (a b c : L) (xs ys : List LaneMove) → M a xs b → M b ys c → M a (xs ++ ys) c) where
   pub PutsOwed-more : (peer : ℕ) (begun begun' : Bool) (fs : List (List ℕ)) (f : List ℕ) (a b c : Table) (ls ls' ls'' : List Line) (x y z : L) → begun' ≡ (begun || not (length fs == 0)) → PutsOwed M peer begun fs a b ls ls' x y → PutsOwed M peer begun' (f ∷ []) b c ls' ls'' y z → PutsOwed M peer begun (fs ++ f ∷ []) a c ls ls'' x z
   PutsOwed-more peer begun begun' fs f a b c ls ls' ls'' x y z begins so_far one =
       let long : length (fs ++ f ∷ []) ≡ suc (length fs) = length_push fs f ∙ omega arith in

@@ -1,12 +1,13 @@
--- Each buffer is in one place, also after a buffer moved to another.
+-- Each buffer is in one place, also after a buffer moved to another. What is told of all slots stays in force for every lane; the
+-- numbers change for the lane of the buffer alone.
 use Rattle.std.proofs.Common.{◌≡◌, ℕ, suc, ◌+◌, ◌≤◌, Bool, true, false, List, ◌∷◌, length, Option, Some, None, refl, sym, ap, ◌∙◌, subst, arith, eq-eqb}
-use Rattle.std.specs.Prelude.{is_some, option_and_then, nat_lt, ◌==◌, ◌&&◌}
-use Rattle.std.proofs.lemmas.Bool.{eqb-true, and_parts, and_from, and_right}
+use Rattle.std.specs.Prelude.{count_by, is_some, option_and_then, nat_lt, ◌==◌, ◌&&◌}
+use Rattle.std.proofs.lemmas.Bool.{eqb-true, and_right, false_from_ne_true}
 use Rattle.mc_base.specs.Stored.{Stored}
 use Rattle.mc_base.specs.declared.request.Slot.{Slot}
-use Rattle.buffer_book.specs.Book.{Book, Kept, IsAway, IsQueued, if_queued, kept_at, place_at, queued_at, queued_in, with_away, with_queued}
-use Rattle.domain_core.specs.InPlaces.{EachInPlace, IsShort, is_same, one_if, own_slot, times_in}
-use Rattle.lane_end.specs.Numbers.{often}
+use Rattle.buffer_book.specs.Book.{Book, Kept, IsAway, IsQueued, if_queued, kept_at, place_at, queued_at, queued_in, with_away, with_place, with_queued}
+use Rattle.domain_core.specs.InPlaces.{EachInPlace, IsShort, is_of, is_same, one_if, slot_at, times_in}
+use Rattle.lane_end.specs.Numbers.{often, AreApart}
 use Rattle.domain_core.specs.Out.{Out}
 use Rattle.buffer_book.proofs.PlaceLemmas.{at-changed, queued-new}
 use Rattle.domain_core.proofs.Books.{each-slot, itself, kept-there, place-there, queued-there}
@@ -27,7 +28,7 @@ often-own n ns = ap (λ (b : Bool). one_if b + often n ns) (eq-eqb n n refl)
 often-other : (n m : ℕ) (ns : List ℕ) → (n == m) ≡ false → often m (n ∷ ns) ≡ often m ns
 often-other n m ns differ = ap (λ (b : Bool). one_if b + often m ns) differ ∙ omega arith
 
-other-slot : (number n m : ℕ) → (n == m) ≡ false → is_same (own_slot number n) (own_slot number m) ≡ false
+other-slot : (number n m : ℕ) → (n == m) ≡ false → is_same (slot_at number n) (slot_at number m) ≡ false
 other-slot number n m differ = and_right (number == number) (n == m) differ
 
 -- what holds of one number and of each that differs from it holds of all
@@ -37,6 +38,42 @@ each-number n P here there m = go (n == m) refl
     go : (b : Bool) → (n == m) ≡ b → P m
     go true same = subst P (eqb-true n m same) here
     go false differ = there m differ
+
+-- ---- the peer of a slot
+
+pub of-own : (peer : ℕ) (s : Slot) → s.peer ≡ peer → is_of peer s ≡ true
+of-own peer s own = eq-eqb s.peer peer own
+
+pub of-other : (peer : ℕ) (s : Slot) → (peer ≡ s.peer → ⊥) → is_of peer s ≡ false
+of-other peer s differ = false_from_ne_true (s.peer == peer) (λ same. differ (sym (eqb-true s.peer peer same)))
+
+other-lane : (peer m : ℕ) (s : Slot) → (peer ≡ s.peer → ⊥) → is_same s (slot_at peer m) ≡ false
+other-lane peer m s differ = ap (λ (b : Bool). b && s.buffer == m) (of-other peer s differ)
+
+-- ---- slots, and one more
+
+-- a slot more is among the second
+abbrev pub HasMore : Slot → List Slot → List Slot → Type 0
+HasMore s ss ts = (test : Slot → Bool) → count_by test ts ≡ count_by test ss + one_if (test s)
+
+-- the same slots, in any order
+abbrev pub HaveSame : List Slot → List Slot → Type 0
+HaveSame ss ts = (test : Slot → Bool) → count_by test ts ≡ count_by test ss
+
+pub times-more : (s t : Slot) (ss ts : List Slot) → HasMore s ss ts → times_in t ts ≡ times_in t ss + one_if (is_same s t)
+times-more s t ss ts more = more (λ (x : Slot). is_same x t)
+
+pub times-there : (s t : Slot) (ss ts : List Slot) → HasMore s ss ts → is_same s t ≡ false → times_in t ts ≡ times_in t ss
+times-there s t ss ts more differ = times-more s t ss ts more ∙ ap (λ (x : Bool). times_in t ss + one_if x) differ ∙ omega arith
+
+pub times-here : (s : Slot) (ss ts : List Slot) → HasMore s ss ts → times_in s ts ≡ times_in s ss + 1
+times-here s ss ts more = times-more s s ss ts more ∙ ap (λ (x : Bool). times_in s ss + one_if x) (itself s)
+
+pub of-more : (peer : ℕ) (s : Slot) (ss ts : List Slot) → HasMore s ss ts → s.peer ≡ peer → count_by (is_of peer) ts ≡ count_by (is_of peer) ss + 1
+of-more peer s ss ts more own = more (is_of peer) ∙ ap (λ (x : Bool). count_by (is_of peer) ss + one_if x) (of-own peer s own)
+
+pub of-same : (peer : ℕ) (s : Slot) (ss ts : List Slot) → HasMore s ss ts → (peer ≡ s.peer → ⊥) → count_by (is_of peer) ts ≡ count_by (is_of peer) ss
+of-same peer s ss ts more differ = more (is_of peer) ∙ ap (λ (x : Bool). count_by (is_of peer) ss + one_if x) (of-other peer s differ) ∙ omega arith
 
 -- ---- what a book has
 
@@ -50,153 +87,219 @@ held None is = absurd cc
 held (Some None) is = absurd cc
 held (Some (Some k)) is = (k, refl)
 
-unknown : (o : Option (Option Kept)) → is_some o ≡ false → one_if (is_some (option_and_then if_queued (option_and_then (λ p. p) o))) ≡ 0
-unknown None none = refl
-unknown (Some p) none = absurd cc
-
 beside_by : (here fits : Bool) (k all : ℕ) → (1 + k) + one_if here ≡ all → all ≤ one_if fits → (here ≡ false) × (fits ≡ true)
 beside_by true true k all once most = absurd (omega (arith, once, most))
 beside_by true false k all once most = absurd (omega (arith, once, most))
 beside_by false true k all once most = (refl, refl)
 beside_by false false k all once most = absurd (omega (arith, once, most))
 
--- a buffer beside the book is one of the domain's own, and not in the book
-pub beside : (number : ℕ) (o : Out) (ws : List Slot) (b : Book) (n : ℕ) (ns : List ℕ) → EachInPlace number o ws b (n ∷ ns) → (is_some (kept_at b (own_slot number n)) ≡ false) × (nat_lt n o.size ≡ true)
+-- a buffer beside the book is one of the lane, and not in the book
+pub beside : (number : ℕ) (o : Out) (ws : List Slot) (b : Book) (n : ℕ) (ns : List ℕ) → EachInPlace number o ws b (n ∷ ns) → (is_some (kept_at b (slot_at number n)) ≡ false) × (nat_lt n o.size ≡ true)
 beside number o ws b n ns e =
-    let here = is_some (kept_at b (own_slot number n)) in
+    let here = is_some (kept_at b (slot_at number n)) in
     beside_by here (nat_lt n o.size) (often n ns) (often n o.numbers) (ap (λ (k : ℕ). k + one_if here) (sym (often-own n ns)) ∙ e.once n) (e.apart n)
 
-pub is-away : (number : ℕ) (o : Out) (ws : List Slot) (b : Book) (n : ℕ) (ns : List ℕ) → EachInPlace number o ws b (n ∷ ns) → IsAway b (own_slot number n)
+pub is-away : (number : ℕ) (o : Out) (ws : List Slot) (b : Book) (n : ℕ) (ns : List ℕ) → EachInPlace number o ws b (n ∷ ns) → IsAway b (slot_at number n)
 is-away number o ws b n ns e =
     let beside_it = beside number o ws b n ns e in
-    not-held (place_at b (own_slot number n)) (e.known (own_slot number n) ∙ and_from _ _ (eq-eqb number number refl) beside_it.1) beside_it.0
+    not-held (place_at b (slot_at number n)) (e.known n ∙ beside_it.1) beside_it.0
 
--- it waits nowhere
-pub none-waits : (number : ℕ) (o : Out) (ws : List Slot) (b : Book) (n : ℕ) (ns : List ℕ) → EachInPlace number o ws b (n ∷ ns) → times_in (own_slot number n) ws ≡ 0
-none-waits number o ws b n ns e =
-    e.stands_once (own_slot number n) ∙ ap (λ (o : Option (Option Kept)). one_if (is_some (option_and_then if_queued (option_and_then (λ p. p) o)))) (is-away number o ws b n ns e)
+-- ---- what is told of all slots
+
+pub record Stands (ss : List Slot) (b : Book) : Type 0 where
+  pub stands_once : (s : Slot) → times_in s ss ≡ one_if (is_some (queued_at b s))
+  pub none_lent : (s : Slot) → is_some (kept_at b s) ≡ is_some (queued_at b s)
+  pub short : (s : Slot) → IsShort (kept_at b s)
+
+-- and of one lane
+pub record IsLane (number : ℕ) (o : Out) (ss : List Slot) (b : Book) (ns : List ℕ) : Type 0 where
+  pub known : (n : ℕ) → is_some (place_at b (slot_at number n)) ≡ nat_lt n o.size
+  pub once : (n : ℕ) → often n ns + one_if (is_some (kept_at b (slot_at number n))) ≡ often n o.numbers
+  pub apart : AreApart o.size o.numbers
+  pub all : count_by (is_of number) ss + length ns ≡ length o.numbers
+
+pub stands-of : (number : ℕ) (o : Out) (ss : List Slot) (b : Book) (ns : List ℕ) → EachInPlace number o ss b ns → Stands ss b
+stands-of number o ss b ns e = record { stands_once = e.stands_once; none_lent = e.none_lent; short = e.short }
+
+pub lane-of : (number : ℕ) (o : Out) (ss : List Slot) (b : Book) (ns : List ℕ) → EachInPlace number o ss b ns → IsLane number o ss b ns
+lane-of number o ss b ns e = record { known = e.known; once = e.once; apart = e.apart; all = e.all }
+
+pub in-place : (number : ℕ) (o : Out) (ss : List Slot) (b : Book) (ns : List ℕ) → Stands ss b → IsLane number o ss b ns → EachInPlace number o ss b ns
+in-place number o ss b ns st l = record { stands_once = st.stands_once; none_lent = st.none_lent; short = st.short; known = l.known; once = l.once; apart = l.apart; all = l.all }
+
+-- what is away stands nowhere
+pub away-none : (ss : List Slot) (b : Book) (s : Slot) → Stands ss b → IsAway b s → times_in s ss ≡ 0
+away-none ss b s st away =
+    st.stands_once s ∙ ap (λ (o : Option (Option Kept)). one_if (is_some (option_and_then if_queued (option_and_then (λ p. p) o)))) away
+
+pub none-waits : (number : ℕ) (o : Out) (ws : List Slot) (b : Book) (n : ℕ) (ns : List ℕ) → EachInPlace number o ws b (n ∷ ns) → times_in (slot_at number n) ws ≡ 0
+none-waits number o ws b n ns e = away-none ws b (slot_at number n) (stands-of number o ws b (n ∷ ns) e) (is-away number o ws b n ns e)
+
+-- what stands is in a queue of the book
+pub one-queued : (ss : List Slot) (b : Book) (s : Slot) (k : ℕ) → Stands ss b → times_in s ss ≡ k + 1 → IsQueued b s
+one-queued ss b s k st stands = some-one (is_some (queued_at b s)) k (sym stands ∙ st.stands_once s)
+
+pub more-queued : (s : Slot) (vs ws : List Slot) (b : Book) → Stands ws b → HasMore s vs ws → IsQueued b s
+more-queued s vs ws b st more = one-queued ws b s (times_in s vs) st (times-here s vs ws more)
+
+-- and stands no more once it is taken
+pub none-left : (s : Slot) (vs ws : List Slot) (b : Book) → Stands ws b → HasMore s vs ws → times_in s vs ≡ 0
+none-left s vs ws b st more =
+    let is = more-queued s vs ws b st more in
+    let was : times_in s ws ≡ 1 = st.stands_once s ∙ ap one_if is in
+    omega (arith, was, times-here s vs ws more)
+
+-- what is kept in a queue of a lane is out of it
+pub queued-out : (number : ℕ) (o : Out) (ss : List Slot) (b : Book) (ns : List ℕ) (n : ℕ) → EachInPlace number o ss b ns → IsQueued b (slot_at number n) → often n o.numbers ≡ often n ns + 1
+queued-out number o ss b ns n e is =
+    sym (e.once n) ∙ ap (λ (x : Bool). often n ns + one_if x) (e.none_lent (slot_at number n) ∙ is)
 
 -- it is in a queue once it is kept
-pub queued-here : (number : ℕ) (o : Out) (ws : List Slot) (b : Book) (n : ℕ) (ns : List ℕ) (buffer : Stored) (start bytes : ℕ) → EachInPlace number o ws b (n ∷ ns) → queued_at (with_queued b (own_slot number n) (queued_in buffer start bytes)) (own_slot number n) ≡ Some (queued_in buffer start bytes)
+pub queued-here : (number : ℕ) (o : Out) (ws : List Slot) (b : Book) (n : ℕ) (ns : List ℕ) (buffer : Stored) (start bytes : ℕ) → EachInPlace number o ws b (n ∷ ns) → queued_at (with_queued b (slot_at number n) (queued_in buffer start bytes)) (slot_at number n) ≡ Some (queued_in buffer start bytes)
 queued-here number o ws b n ns buffer start bytes e =
-    queued-new b (own_slot number n) (queued_in buffer start bytes) (is-away number o ws b n ns e) refl
-
--- what waits is in a queue of the book
-pub is-queued : (number : ℕ) (o : Out) (ws vs : List Slot) (b : Book) (ns : List ℕ) (s : Slot) → EachInPlace number o ws b ns → times_in s vs + one_if (is_same s s) ≡ times_in s ws → IsQueued b s
-is-queued number o ws vs b ns s e less =
-    some-one (is_some (queued_at b s)) (times_in s vs) (ap (λ (x : Bool). times_in s vs + one_if x) (sym (itself s)) ∙ less ∙ e.stands_once s)
-
--- and waits no more once it is taken
-pub none-left : (number : ℕ) (o : Out) (ws vs : List Slot) (b : Book) (ns : List ℕ) (s : Slot) → EachInPlace number o ws b ns → IsQueued b s → times_in s vs + one_if (is_same s s) ≡ times_in s ws → times_in s vs ≡ 0
-none-left number o ws vs b ns s e is less =
-    let was : times_in s ws ≡ 1 = e.stands_once s ∙ ap one_if is in
-    let same : times_in s vs + 1 ≡ times_in s ws = ap (λ (x : Bool). times_in s vs + one_if x) (sym (itself s)) ∙ less in
-    omega (arith, was, same)
-
--- what is of another domain does not wait
-pub strangers-none : (number : ℕ) (o : Out) (ws : List Slot) (b : Book) (ns : List ℕ) → EachInPlace number o ws b ns → (s : Slot) → (number == s.peer) ≡ false → times_in s ws ≡ 0
-strangers-none number o ws b ns e s stranger =
-    e.stands_once s ∙ unknown (place_at b s) (e.known s ∙ ap (λ (x : Bool). x && nat_lt s.buffer o.size) stranger)
+    queued-new b (slot_at number n) (queued_in buffer start bytes) (is-away number o ws b n ns e) refl
 
 -- ---- moves
 
 -- the slots may stand in another order
-pub other-slots : (number : ℕ) (o : Out) (ss ts : List Slot) (b : Book) (ns : List ℕ) → ((s : Slot) → times_in s ts ≡ times_in s ss) → length ts ≡ length ss → EachInPlace number o ss b ns → EachInPlace number o ts b ns
-other-slots number o ss ts b ns same long e =
+pub other-slots : (number : ℕ) (o : Out) (ss ts : List Slot) (b : Book) (ns : List ℕ) → HaveSame ss ts → EachInPlace number o ss b ns → EachInPlace number o ts b ns
+other-slots number o ss ts b ns same e =
     record {
-      stands_once = λ s. same s ∙ e.stands_once s;
+      stands_once = λ s. same (λ (x : Slot). is_same x s) ∙ e.stands_once s;
       none_lent = e.none_lent;
-      known = e.known;
       short = e.short;
+      known = e.known;
       once = e.once;
       apart = e.apart;
-      all = ap (λ (k : ℕ). k + length ns) long ∙ e.all;
+      all = ap (λ (k : ℕ). k + length ns) (same (is_of number)) ∙ e.all;
     }
 
--- beside the book: the numbers may stand in another order
-pub other-numbers : (number : ℕ) (o : Out) (ws : List Slot) (b : Book) (ns ms : List ℕ) → ((n : ℕ) → often n ms ≡ often n ns) → length ms ≡ length ns → EachInPlace number o ws b ns → EachInPlace number o ws b ms
-other-numbers number o ws b ns ms same long e =
+-- a change at a slot leaves every other lane as it is
+pub other-stays : (number : ℕ) (o : Out) (ss ts : List Slot) (b : Book) (ns : List ℕ) (s : Slot) (k : Option Kept) → (number ≡ s.peer → ⊥) → count_by (is_of number) ts ≡ count_by (is_of number) ss → IsLane number o ss b ns → IsLane number o ts (with_place b s k) ns
+other-stays number o ss ts b ns s k differ same l =
     record {
-      stands_once = e.stands_once;
-      none_lent = e.none_lent;
-      known = e.known;
-      short = e.short;
-      once = λ n. ap (λ (k : ℕ). k + one_if (is_some (kept_at b (own_slot number n)))) (same n) ∙ e.once n;
-      apart = e.apart;
-      all = ap (λ (k : ℕ). length ws + k) long ∙ e.all;
+      known = λ n. ap (λ (x : Option (Option Kept)). is_some x) (place-there b s k (slot_at number n) (other-lane number n s differ)) ∙ l.known n;
+      once = λ n. ap (λ (x : Option Kept). often n ns + one_if (is_some x)) (kept-there b s k (slot_at number n) (other-lane number n s differ)) ∙ l.once n;
+      apart = l.apart;
+      all = ap (λ (j : ℕ). j + length ns) same ∙ l.all;
     }
 
--- from beside the book into a queue of it
-pub enqueued : (number : ℕ) (o : Out) (ws vs : List Slot) (b : Book) (n : ℕ) (ns : List ℕ) (buffer : Stored) (start bytes : ℕ) → EachInPlace number o ws b (n ∷ ns) → bytes ≤ 488 → ((s : Slot) → times_in s vs ≡ times_in s ws + one_if (is_same (own_slot number n) s)) → length vs ≡ length ws + 1 → EachInPlace number o vs (with_queued b (own_slot number n) (queued_in buffer start bytes)) ns
-enqueued number o ws vs b n ns buffer start bytes e fits more long =
-    let s = own_slot number n in
+-- ---- from beside the book into a queue of it
+
+pub stands-queued : (s : Slot) (ws vs : List Slot) (b : Book) (buffer : Stored) (start bytes : ℕ) → Stands ws b → IsAway b s → bytes ≤ 488 → HasMore s ws vs → Stands vs (with_queued b s (queued_in buffer start bytes))
+stands-queued s ws vs b buffer start bytes st away fits more =
     let k = queued_in buffer start bytes in
     let b' = with_queued b s k in
-    let away = is-away number o ws b n ns e in
-    let free : kept_at b s ≡ None = ap (λ (o : Option (Option Kept)). option_and_then (λ p. p) o) away in
-    let place : place_at b' s ≡ Some (Some k) = at-changed b s None (Some k) away in
-    let kept : kept_at b' s ≡ Some k = ap (λ (o : Option (Option Kept)). option_and_then (λ p. p) o) place in
+    let kept : kept_at b' s ≡ Some k = ap (λ (o : Option (Option Kept)). option_and_then (λ p. p) o) (at-changed b s None (Some k) away) in
     let queued : queued_at b' s ≡ Some k = ap (λ (o : Option Kept). option_and_then if_queued o) kept in
-    let none : times_in s ws ≡ 0 = e.stands_once s ∙ ap (λ (o : Option Kept). one_if (is_some (option_and_then if_queued o))) free in
-    let once_now : times_in s vs ≡ 1 = more s ∙ ap (λ (j : ℕ). j + one_if (is_same s s)) none ∙ ap (λ (x : Bool). 0 + one_if x) (itself s) in
-    let before : often n (n ∷ ns) + 0 ≡ often n o.numbers = sym (ap (λ (o : Option Kept). often n (n ∷ ns) + one_if (is_some o)) free) ∙ e.once n in
-    let after : often n ns + 1 ≡ often n o.numbers = omega (arith, before, often-own n ns) in
+    let once_now : times_in s vs ≡ 1 = omega (arith, times-here s ws vs more, away-none ws b s st away) in
     record {
       stands_once = each-slot s (λ t. times_in t vs ≡ one_if (is_some (queued_at b' t)))
           (once_now ∙ sym (ap (λ (o : Option Kept). one_if (is_some o)) queued))
-          (λ t differ. more t ∙ ap (λ (x : Bool). times_in t ws + one_if x) differ ∙ omega arith ∙ e.stands_once t ∙ sym (ap (λ (o : Option Kept). one_if (is_some o)) (queued-there b s (Some k) t differ)));
+          (λ t differ. times-there s t ws vs more differ ∙ st.stands_once t ∙ sym (ap (λ (o : Option Kept). one_if (is_some o)) (queued-there b s (Some k) t differ)));
       none_lent = each-slot s (λ t. is_some (kept_at b' t) ≡ is_some (queued_at b' t))
           (ap (λ (o : Option Kept). is_some o) kept ∙ sym (ap (λ (o : Option Kept). is_some o) queued))
-          (λ t differ. ap (λ (o : Option Kept). is_some o) (kept-there b s (Some k) t differ) ∙ e.none_lent t ∙ sym (ap (λ (o : Option Kept). is_some o) (queued-there b s (Some k) t differ)));
-      known = each-slot s (λ t. is_some (place_at b' t) ≡ (number == t.peer && nat_lt t.buffer o.size))
-          (ap (λ (o : Option (Option Kept)). is_some o) place ∙ sym (ap (λ (o : Option (Option Kept)). is_some o) away) ∙ e.known s)
-          (λ t differ. ap (λ (o : Option (Option Kept)). is_some o) (place-there b s (Some k) t differ) ∙ e.known t);
+          (λ t differ. ap (λ (o : Option Kept). is_some o) (kept-there b s (Some k) t differ) ∙ st.none_lent t ∙ sym (ap (λ (o : Option Kept). is_some o) (queued-there b s (Some k) t differ)));
       short = each-slot s (λ t. IsShort (kept_at b' t))
           (subst (λ (o : Option Kept). IsShort o) (sym kept) fits)
-          (λ t differ. subst (λ (o : Option Kept). IsShort o) (sym (kept-there b s (Some k) t differ)) (e.short t));
-      once = each-number n (λ m. often m ns + one_if (is_some (kept_at b' (own_slot number m))) ≡ often m o.numbers)
-          (ap (λ (o : Option Kept). often n ns + one_if (is_some o)) kept ∙ after)
-          (λ m differ. ap (λ (o : Option Kept). often m ns + one_if (is_some o)) (kept-there b s (Some k) (own_slot number m) (other-slot number n m differ)) ∙ ap (λ (j : ℕ). j + one_if (is_some (kept_at b (own_slot number m)))) (sym (often-other n m ns differ)) ∙ e.once m);
-      apart = e.apart;
-      all = let before_all : length ws + suc (length ns) ≡ length o.numbers = e.all in omega (arith, long, before_all);
+          (λ t differ. subst (λ (o : Option Kept). IsShort o) (sym (kept-there b s (Some k) t differ)) (st.short t));
     }
 
--- out of a queue of the book
-pub withdrawn : (number : ℕ) (o : Out) (ws vs : List Slot) (b : Book) (ns : List ℕ) (s : Slot) → EachInPlace number o ws b ns → IsQueued b s → ((t : Slot) → times_in t vs + one_if (is_same s t) ≡ times_in t ws) → length vs + 1 ≡ length ws → EachInPlace number o vs (with_away b s) (s.buffer ∷ ns)
-withdrawn number o ws vs b ns s e is less long =
-    let n = s.buffer in
+-- the lane from which it was taken
+pub lane-queued : (number : ℕ) (o : Out) (ws vs : List Slot) (b : Book) (n : ℕ) (ns : List ℕ) (k : Kept) → EachInPlace number o ws b (n ∷ ns) → HasMore (slot_at number n) ws vs → IsLane number o vs (with_queued b (slot_at number n) k) ns
+lane-queued number o ws vs b n ns k e more =
+    let s = slot_at number n in
+    let b' = with_queued b s k in
+    let away = is-away number o ws b n ns e in
+    let free : kept_at b s ≡ None = ap (λ (x : Option (Option Kept)). option_and_then (λ p. p) x) away in
+    let place : place_at b' s ≡ Some (Some k) = at-changed b s None (Some k) away in
+    let kept : kept_at b' s ≡ Some k = ap (λ (x : Option (Option Kept)). option_and_then (λ p. p) x) place in
+    let before : often n (n ∷ ns) + 0 ≡ often n o.numbers = sym (ap (λ (x : Option Kept). often n (n ∷ ns) + one_if (is_some x)) free) ∙ e.once n in
+    let after : often n ns + 1 ≡ often n o.numbers = omega (arith, before, often-own n ns) in
+    record {
+      known = each-number n (λ m. is_some (place_at b' (slot_at number m)) ≡ nat_lt m o.size)
+          (ap (λ (x : Option (Option Kept)). is_some x) place ∙ sym (ap (λ (x : Option (Option Kept)). is_some x) away) ∙ e.known n)
+          (λ m differ. ap (λ (x : Option (Option Kept)). is_some x) (place-there b s (Some k) (slot_at number m) (other-slot number n m differ)) ∙ e.known m);
+      once = each-number n (λ m. often m ns + one_if (is_some (kept_at b' (slot_at number m))) ≡ often m o.numbers)
+          (ap (λ (x : Option Kept). often n ns + one_if (is_some x)) kept ∙ after)
+          (λ m differ. ap (λ (x : Option Kept). often m ns + one_if (is_some x)) (kept-there b s (Some k) (slot_at number m) (other-slot number n m differ)) ∙ ap (λ (j : ℕ). j + one_if (is_some (kept_at b (slot_at number m)))) (sym (often-other n m ns differ)) ∙ e.once m);
+      apart = e.apart;
+      all = let was : count_by (is_of number) ws + suc (length ns) ≡ length o.numbers = e.all in omega (arith, was, of-more number s ws vs more refl);
+    }
+
+pub enqueued : (number : ℕ) (o : Out) (ws vs : List Slot) (b : Book) (n : ℕ) (ns : List ℕ) (buffer : Stored) (start bytes : ℕ) → EachInPlace number o ws b (n ∷ ns) → bytes ≤ 488 → HasMore (slot_at number n) ws vs → EachInPlace number o vs (with_queued b (slot_at number n) (queued_in buffer start bytes)) ns
+enqueued number o ws vs b n ns buffer start bytes e fits more =
+    let s = slot_at number n in
+    let k = queued_in buffer start bytes in
+    in-place number o vs (with_queued b s k) ns
+    (stands-queued s ws vs b buffer start bytes (stands-of number o ws b (n ∷ ns) e) (is-away number o ws b n ns e) fits more)
+    (lane-queued number o ws vs b n ns k e more)
+
+-- every other lane
+pub enqueued-other : (number : ℕ) (o : Out) (ws vs : List Slot) (b : Book) (ns : List ℕ) (s : Slot) (buffer : Stored) (start bytes : ℕ) → (number ≡ s.peer → ⊥) → EachInPlace number o ws b ns → IsAway b s → bytes ≤ 488 → HasMore s ws vs → EachInPlace number o vs (with_queued b s (queued_in buffer start bytes)) ns
+enqueued-other number o ws vs b ns s buffer start bytes differ e away fits more =
+    let k = queued_in buffer start bytes in
+    in-place number o vs (with_queued b s k) ns
+    (stands-queued s ws vs b buffer start bytes (stands-of number o ws b ns e) away fits more)
+    (other-stays number o ws vs b ns s (Some k) differ (of-same number s ws vs more differ) (lane-of number o ws b ns e))
+
+-- ---- out of a queue of the book
+
+pub stands-away : (s : Slot) (vs ws : List Slot) (b : Book) → Stands ws b → HasMore s vs ws → Stands vs (with_away b s)
+stands-away s vs ws b st more =
     let b' = with_away b s in
-    let there = held (place_at b s) is in
-    let k = there.0 in
-    let was : place_at b s ≡ Some (Some k) = there.1 in
-    let was_kept : kept_at b s ≡ Some k = ap (λ (o : Option (Option Kept)). option_and_then (λ p. p) o) was in
-    let own : number ≡ s.peer = eqb-true number s.peer (and_parts (number == s.peer) (nat_lt n o.size) (sym (e.known s) ∙ ap (λ (o : Option (Option Kept)). is_some o) was)).0 in
-    let slot : s ≡ own_slot number n = ap (λ (m : ℕ). own_slot m n) (sym own) in
-    let place : place_at b' s ≡ Some None = at-changed b s (Some k) None was in
-    let free : kept_at b' s ≡ None = ap (λ (o : Option (Option Kept)). option_and_then (λ p. p) o) place in
+    let there = held (place_at b s) (more-queued s vs ws b st more) in
+    let free : kept_at b' s ≡ None = ap (λ (o : Option (Option Kept)). option_and_then (λ p. p) o) (at-changed b s (Some there.0) None there.1) in
     let queued : queued_at b' s ≡ None = ap (λ (o : Option Kept). option_and_then if_queued o) free in
-    let none = none-left number o ws vs b ns s e is (less s) in
-    let before : often n ns + 1 ≡ often n o.numbers = sym (ap (λ (o : Option Kept). often n ns + one_if (is_some o)) (subst (λ (x : Slot). kept_at b x ≡ Some k) slot was_kept)) ∙ e.once n in
-    let after : often n (n ∷ ns) + 0 ≡ often n o.numbers = omega (arith, before, often-own n ns) in
-    let once_is : (m : ℕ) → often m (n ∷ ns) + one_if (is_some (kept_at b' (own_slot number m))) ≡ often m o.numbers = each-number n (λ m. often m (n ∷ ns) + one_if (is_some (kept_at b' (own_slot number m))) ≡ often m o.numbers)
-    (ap (λ (o : Option Kept). often n (n ∷ ns) + one_if (is_some o)) (subst (λ (x : Slot). kept_at b' x ≡ None) slot free) ∙ after)
-    (λ m differ. ap (λ (o : Option Kept). often m (n ∷ ns) + one_if (is_some o)) (kept-there b s None (own_slot number m) (subst (λ (x : Slot). is_same x (own_slot number m) ≡ false) (sym slot) (other-slot number n m differ))) ∙ ap (λ (j : ℕ). j + one_if (is_some (kept_at b (own_slot number m)))) (often-other n m ns differ) ∙ e.once m) in
     record {
       stands_once = each-slot s (λ t. times_in t vs ≡ one_if (is_some (queued_at b' t)))
-          (none ∙ sym (ap (λ (o : Option Kept). one_if (is_some o)) queued))
-          (λ t differ. let stays : times_in t vs + 0 ≡ times_in t ws = ap (λ (x : Bool). times_in t vs + one_if x) (sym differ) ∙ less t in
-          let stays' : times_in t vs ≡ times_in t ws = omega (arith, stays) in
-          stays' ∙ e.stands_once t ∙ sym (ap (λ (o : Option Kept). one_if (is_some o)) (queued-there b s None t differ)));
+          (none-left s vs ws b st more ∙ sym (ap (λ (o : Option Kept). one_if (is_some o)) queued))
+          (λ t differ. sym (times-there s t vs ws more differ) ∙ st.stands_once t ∙ sym (ap (λ (o : Option Kept). one_if (is_some o)) (queued-there b s None t differ)));
       none_lent = each-slot s (λ t. is_some (kept_at b' t) ≡ is_some (queued_at b' t))
           (ap (λ (o : Option Kept). is_some o) free ∙ sym (ap (λ (o : Option Kept). is_some o) queued))
-          (λ t differ. ap (λ (o : Option Kept). is_some o) (kept-there b s None t differ) ∙ e.none_lent t ∙ sym (ap (λ (o : Option Kept). is_some o) (queued-there b s None t differ)));
-      known = each-slot s (λ t. is_some (place_at b' t) ≡ (number == t.peer && nat_lt t.buffer o.size))
-          (ap (λ (o : Option (Option Kept)). is_some o) place ∙ sym (ap (λ (o : Option (Option Kept)). is_some o) was) ∙ e.known s)
-          (λ t differ. ap (λ (o : Option (Option Kept)). is_some o) (place-there b s None t differ) ∙ e.known t);
+          (λ t differ. ap (λ (o : Option Kept). is_some o) (kept-there b s None t differ) ∙ st.none_lent t ∙ sym (ap (λ (o : Option Kept). is_some o) (queued-there b s None t differ)));
       short = each-slot s (λ t. IsShort (kept_at b' t))
           (subst (λ (o : Option Kept). IsShort o) (sym free) tt)
-          (λ t differ. subst (λ (o : Option Kept). IsShort o) (sym (kept-there b s None t differ)) (e.short t));
-      once = once_is;
-      apart = e.apart;
-      all = let before_all : length ws + length ns ≡ length o.numbers = e.all in let goal : length vs + suc (length ns) ≡ length o.numbers = omega (arith, long, before_all) in goal;
+          (λ t differ. subst (λ (o : Option Kept). IsShort o) (sym (kept-there b s None t differ)) (st.short t));
     }
+
+-- its lane
+pub lane-away : (number n : ℕ) (o : Out) (vs ws : List Slot) (b : Book) (ns : List ℕ) → EachInPlace number o ws b ns → HasMore (slot_at number n) vs ws → IsLane number o vs (with_away b (slot_at number n)) (n ∷ ns)
+lane-away number n o vs ws b ns e more =
+    let s = slot_at number n in
+    let b' = with_away b s in
+    let there = held (place_at b s) (more-queued s vs ws b (stands-of number o ws b ns e) more) in
+    let k = there.0 in
+    let was : place_at b s ≡ Some (Some k) = there.1 in
+    let place : place_at b' s ≡ Some None = at-changed b s (Some k) None was in
+    let free : kept_at b' s ≡ None = ap (λ (x : Option (Option Kept)). option_and_then (λ p. p) x) place in
+    let before : often n ns + 1 ≡ often n o.numbers = sym (ap (λ (x : Option (Option Kept)). often n ns + one_if (is_some (option_and_then (λ p. p) x))) was) ∙ e.once n in
+    let after : often n (n ∷ ns) + 0 ≡ often n o.numbers = omega (arith, before, often-own n ns) in
+    record {
+      known = each-number n (λ m. is_some (place_at b' (slot_at number m)) ≡ nat_lt m o.size)
+          (ap (λ (x : Option (Option Kept)). is_some x) place ∙ sym (ap (λ (x : Option (Option Kept)). is_some x) was) ∙ e.known n)
+          (λ m differ. ap (λ (x : Option (Option Kept)). is_some x) (place-there b s None (slot_at number m) (other-slot number n m differ)) ∙ e.known m);
+      once = each-number n (λ m. often m (n ∷ ns) + one_if (is_some (kept_at b' (slot_at number m))) ≡ often m o.numbers)
+          (ap (λ (x : Option Kept). often n (n ∷ ns) + one_if (is_some x)) free ∙ after)
+          (λ m differ. ap (λ (x : Option Kept). often m (n ∷ ns) + one_if (is_some x)) (kept-there b s None (slot_at number m) (other-slot number n m differ)) ∙ ap (λ (j : ℕ). j + one_if (is_some (kept_at b (slot_at number m)))) (often-other n m ns differ) ∙ e.once m);
+      apart = e.apart;
+      all = let was_all : count_by (is_of number) ws + length ns ≡ length o.numbers = e.all in let goal : count_by (is_of number) vs + suc (length ns) ≡ length o.numbers = omega (arith, was_all, of-more number s vs ws more refl) in goal;
+    }
+
+pub withdrawn : (number : ℕ) (o : Out) (vs ws : List Slot) (b : Book) (ns : List ℕ) (s : Slot) → s.peer ≡ number → EachInPlace number o ws b ns → HasMore s vs ws → EachInPlace number o vs (with_away b s) (s.buffer ∷ ns)
+withdrawn number o vs ws b ns s own e more =
+    let n = s.buffer in
+    let slot : s ≡ slot_at number n = ap (λ (m : ℕ). slot_at m n) own in
+    let more' : HasMore (slot_at number n) vs ws = subst (λ (x : Slot). HasMore x vs ws) slot more in
+    subst (λ (x : Slot). EachInPlace number o vs (with_away b x) (n ∷ ns)) (sym slot) (
+    in-place number o vs (with_away b (slot_at number n)) (n ∷ ns)
+    (stands-away (slot_at number n) vs ws b (stands-of number o ws b ns e) more')
+    (lane-away number n o vs ws b ns e more')
+    )
+
+-- every other lane
+pub withdrawn-other : (number : ℕ) (o : Out) (vs ws : List Slot) (b : Book) (ns : List ℕ) (s : Slot) → (number ≡ s.peer → ⊥) → EachInPlace number o ws b ns → HasMore s vs ws → EachInPlace number o vs (with_away b s) ns
+withdrawn-other number o vs ws b ns s differ e more =
+    in-place number o vs (with_away b s) ns
+    (stands-away s vs ws b (stands-of number o ws b ns e) more)
+    (other-stays number o ws vs b ns s None differ (sym (of-same number s vs ws more differ)) (lane-of number o ws b ns e))

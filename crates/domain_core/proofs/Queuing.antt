@@ -1,11 +1,12 @@
 -- A buffer that is queued or received: the table of endpoints after it, and the places.
-use Rattle.std.proofs.Common.{◌≡◌, ℕ, ◌+◌, ◌-◌, ◌<◌, ◌≤◌, Bool, true, false, List, [], ◌++◌, length, map, Option, None, Some, refl, sym, ap, ◌∙◌, subst, arith, take, drop, eq-eqb}
-use Rattle.std.specs.Prelude.{count_by, not, option_map, position, slice_get, slice_index, ◌==◌}
+use Rattle.std.proofs.Common.{◌≡◌, ℕ, ◌+◌, ◌-◌, ◌<◌, ◌≤◌, Bool, true, false, List, [], ◌∷◌, ◌++◌, length, map, Option, None, Some, refl, sym, ap, ◌∙◌, subst, arith, take, drop, eq-eqb}
+use Rattle.std.specs.Prelude.{Contains, count_by, is_some, not, option_map, position, slice_get, slice_index, ◌==◌}
 use Rattle.std.proofs.lemmas.Bool.{eqb-true}
 use Rattle.std.proofs.lemmas.List.{drop-take, get_or-take, length-take, take-take}
 use Rattle.byteorder.specs.Numbers.{little_from-take}
 use Rattle.mc_base.specs.Stored.{Stored}
 use Rattle.mc_base.specs.Frame.{source_of}
+use Rattle.mc_base.specs.declared.fate.Fate.{Fate}
 use Rattle.mc_base.specs.declared.name.Local.{Local}
 use Rattle.mc_base.specs.declared.request.RequestId.{RequestId}
 use Rattle.mc_base.specs.declared.request.Slot.{Slot}
@@ -13,10 +14,9 @@ use Rattle.board_model.specs.Lists.{changed, changed_at}
 use Rattle.board_model.specs.State as state
 use Rattle.board_model.specs.State.{Item}
 use Rattle.board_model.specs.Choice.{best}
-use Rattle.board_model.specs.Dealing.{complete_with, queued_last}
-use Rattle.board_model.specs.Effect.{received}
-use Rattle.board_model.proofs.ListsCounts.{count-every}
-use Rattle.buffer_book.specs.Book.{AllDiffer, Book, IsQueued, Kept, content, queued_at, queued_in, with_away, with_queued}
+use Rattle.board_model.specs.Dealing.{complete_with, item_of, queued_last}
+use Rattle.board_model.specs.Journal.{taken}
+use Rattle.buffer_book.specs.Book.{AllDiffer, Book, IsAway, IsQueued, Kept, content, queued_at, queued_in, with_away, with_queued}
 use Rattle.message_queue.specs.Queue.{Waiting, waiting}
 use Rattle.request_set.specs.declared.ask.Ask.TheVariants as ask
 use Rattle.request_set.specs.declared.ask.Complete.{Complete}
@@ -28,14 +28,16 @@ use Rattle.domain_core.specs.Records.{Records, all_waiting, waiting_in, with_bes
 use Rattle.domain_core.specs.Out.{Out, with_one_back}
 use Rattle.domain_core.specs.InBook.{content_in, endpoints_in, held_by, item_at, item_in, priority_in, request_in, requests_in, source_in, table_in}
 use Rattle.domain_core.specs.InRequests.{AreReceives, handed_slots}
-use Rattle.domain_core.specs.InPlaces.{AreInPlaces, AreInPlacesBut, is_misplaced, is_same, one_if, own_slot, slots_of, times_in, times_waiting}
+use Rattle.domain_core.specs.InPlaces.{AreInPlaces, AreInPlacesBut, EachInPlace, KeepOthers, is_misplaced, one_if, slot_at, slots_of, times_in, times_waiting}
+use Rattle.domain_core.specs.Stores.{Stores}
 use Rattle.domain_core.specs.Dealt.{message, message_in}
 use Rattle.domain_core.proofs.Handed.{requests-stay}
-use Rattle.domain_core.proofs.Placed.{enqueued, is-queued, none-left, none-waits, other-slots, queued-here, withdrawn}
-use Rattle.domain_core.proofs.Outs.{placed-given}
+use Rattle.domain_core.proofs.Placed.{HasMore, HaveSame, enqueued, enqueued-other, is-away, none-waits, other-slots, queued-here}
+use Rattle.domain_core.proofs.Leaving.{left-beside, left-length, left-others, left-out, left-places, left-queued, left-table}
 use Rattle.domain_core.proofs.Receives.{complete-at, complete_now, each-complete, handed-more, ids-stay, keys-stay, length-stays, map-changed}
-use Rattle.domain_core.proofs.Slots.{length-all, misplaced-stay, slots, times-all}
-use Rattle.domain_core.proofs.Waits.{endpoints-less, endpoints-more, endpoints-stay, length-less, length-more, waiting-less, waiting-more}
+use Rattle.domain_core.proofs.Slots.{handed-has, handed-same, length-more, length-same, misplaced-stay, slots, times-all, waiting-has}
+use Rattle.domain_core.proofs.Storing.{keeps-queued}
+use Rattle.domain_core.proofs.Waits.{endpoints-less, endpoints-more, endpoints-stay, waiting-less, waiting-more}
 
 -- ---- what a frame says lies in its buffer
 
@@ -61,12 +63,12 @@ priority-in_buffer bytes len size fits =
 matched : (n m : ℕ) → n ≡ m → one_if (not (n == m)) ≡ 0
 matched n m same = ap (λ (b : Bool). one_if (not b)) (eq-eqb n m same)
 
--- a buffer of the lane is put into the book
+-- a buffer of the lane from a peer is put into the book
 module _ (r : Records) (q : Requests) (b b' : Book) (p : Out) (peer : ℕ) (s : Slot) (buffer : Stored) (size len : ℕ)
-    (places : AreInPlacesBut buffer.number r q b p) (own : peer ≡ r.number) (at : s ≡ own_slot peer buffer.number)
+    (places : AreInPlacesBut buffer.number peer r q b p) (at : s ≡ slot_at peer buffer.number)
     (book : b' ≡ with_queued b s (queued_in buffer 24 size)) (size_fits : size ≤ 488) (fits : 24 + size ≤ length (take len buffer.bytes)) where
   abbrev s' : Slot
-  s' = own_slot r.number buffer.number
+  s' = slot_at peer buffer.number
 
   abbrev k : Kept
   k = queued_in buffer 24 size
@@ -77,15 +79,18 @@ module _ (r : Records) (q : Requests) (b b' : Book) (p : Out) (peer : ℕ) (s : 
   abbrev hs : List Slot
   hs = handed_slots q.standing
 
-  slot-is : s ≡ s'
-  slot-is = at ∙ ap (λ (n : ℕ). own_slot n buffer.number) own
+  abbrev frame : List ℕ
+  frame = take len buffer.bytes
 
   book-is : b' ≡ with_queued b s' k
-  book-is = book ∙ ap (λ (x : Slot). with_queued b x k) slot-is
+  book-is = book ∙ ap (λ (x : Slot). with_queued b x k) at
+
+  away : IsAway b s'
+  away = is-away peer p (slots_of r q) b buffer.number [] places.each
 
   -- it stands nowhere yet
   none : times_in s' (slots_of r q) ≡ 0
-  none = none-waits r.number p (slots_of r q) b buffer.number [] places.each
+  none = none-waits peer p (slots_of r q) b buffer.number [] places.each
 
   none-waiting : times_waiting s' ws ≡ 0
   none-waiting = omega (arith, none, times-all s' ws hs)
@@ -94,7 +99,7 @@ module _ (r : Records) (q : Requests) (b b' : Book) (p : Out) (peer : ℕ) (s : 
   none-handed = omega (arith, none, times-all s' ws hs)
 
   here : queued_at (with_queued b s' k) s' ≡ Some k
-  here = queued-here r.number p (slots_of r q) b buffer.number [] buffer 24 size places.each
+  here = queued-here peer p (slots_of r q) b buffer.number [] buffer 24 size places.each
 
   -- what was there stays
   stay : held_by (with_queued b s' k) r q ≡ held_by b r q
@@ -103,43 +108,68 @@ module _ (r : Records) (q : Requests) (b b' : Book) (p : Out) (peer : ℕ) (s : 
       ∙ ap (λ (rs : List state.Request). record { endpoints = endpoints_in b r.endpoints; requests = rs }) (requests-stay b s' (Some k) q.standing none-handed)
 
   -- the message of the frame, as many of whose bytes as it has stand in the buffer
-  message-is : message r.number (source_of buffer.bytes) (slice_index buffer.bytes 19) (take size (drop 24 buffer.bytes)) ≡ message_in peer (take len buffer.bytes) size
+  message-is : message peer (source_of buffer.bytes) (slice_index buffer.bytes 19) (take size (drop 24 buffer.bytes)) ≡ message_in peer frame size
   message-is =
-      ap (λ (n : ℕ). message n (source_of buffer.bytes) (slice_index buffer.bytes 19) (take size (drop 24 buffer.bytes))) (sym own)
-      ∙ ap (λ (n : ℕ). message peer n (slice_index buffer.bytes 19) (take size (drop 24 buffer.bytes))) (sym (source-in_buffer buffer.bytes len size fits))
-      ∙ ap (λ (n : ℕ). message peer (source_of (take len buffer.bytes)) n (take size (drop 24 buffer.bytes))) (sym (priority-in_buffer buffer.bytes len size fits))
-      ∙ ap (λ (xs : List ℕ). message peer (source_of (take len buffer.bytes)) (slice_index (take len buffer.bytes) 19) xs) (sym (content-in_buffer buffer.bytes len size fits))
+      ap (λ (n : ℕ). message peer n (slice_index buffer.bytes 19) (take size (drop 24 buffer.bytes))) (sym (source-in_buffer buffer.bytes len size fits))
+      ∙ ap (λ (n : ℕ). message peer (source_of frame) n (take size (drop 24 buffer.bytes))) (sym (priority-in_buffer buffer.bytes len size fits))
+      ∙ ap (λ (xs : List ℕ). message peer (source_of frame) (slice_index frame 19) xs) (sym (content-in_buffer buffer.bytes len size fits))
+
+  item-here : item_at (with_queued b s' k) s' ≡ message_in peer frame size
+  item-here = ap (λ (o : Option Kept). message peer (source_in o) (priority_in o) (content_in o)) here ∙ message-is
+
+  -- the buffer holds the message
+  pub enqueued-stored : (fate : Fate) → message_in peer frame size ≡ item_of peer frame → Stores peer (buffer.number ∷ []) (taken frame fate ∷ []) b b'
+  enqueued-stored fate item = subst (λ (x : Book). Stores peer (buffer.number ∷ []) (taken frame fate ∷ []) b x) (sym book-is) (record {
+    stays = keeps-queued b s' (Some k) away;
+    stored = (λ keeps. record { queued = ap (λ (o : Option Kept). is_some o) here; item = item-here ∙ item }, tt);
+  })
 
   -- ---- into a queue
 
-  module _ (r' : Records) (i priority : ℕ) (says : slice_index (take len buffer.bytes) 19 ≡ priority) (records : r' ≡ with_waiting_at r i (waiting s priority)) where
+  module _ (r' : Records) (i priority : ℕ) (says : slice_index frame 19 ≡ priority) (records : r' ≡ with_waiting_at r i (waiting s priority)) where
     abbrev w : Waiting
     w = waiting s' priority
+
+    abbrev vs : List Waiting
+    vs = all_waiting (changed_at (with_waiting w) i r.endpoints)
 
     priority-is : priority ≡ slice_index buffer.bytes 19
     priority-is = sym says ∙ priority-in_buffer buffer.bytes len size fits
 
     records-are : r' ≡ with_waiting_at r i w
-    records-are = records ∙ ap (λ (x : Slot). with_waiting_at r i (waiting x priority)) slot-is
+    records-are = records ∙ ap (λ (x : Slot). with_waiting_at r i (waiting x priority)) at
 
-    pub queued-places : i < length r.endpoints → AreInPlaces r' q b' p
-    queued-places lt =
-        let vs = all_waiting (changed_at (with_waiting w) i r.endpoints) in
-        let b'' = with_queued b s' k in
-        let long = length-more w r.endpoints i lt in
-        let each = enqueued r.number p (slots_of r q) (slots vs ++ hs) b buffer.number [] buffer 24 size places.each size_fits
-        (λ t. let more = waiting-more (λ (x : Waiting). is_same x.slot t) w r.endpoints i lt in omega (arith, more, times-all t vs hs, times-all t ws hs))
-        (omega (arith, long, length-all vs hs, length-all ws hs)) in
-        let matches : one_if (is_misplaced b'' w) ≡ 0 = ap (λ (o : Option Kept). one_if (not (priority == priority_in o))) here ∙ matched priority (slice_index buffer.bytes 19) priority-is in
-        let priorities : count_by (is_misplaced b'') vs ≡ 0 = omega (arith, waiting-more (is_misplaced b'') w r.endpoints i lt, misplaced-stay b s' (Some k) ws none-waiting, places.priorities, matches) in
-        let placed : AreInPlaces (with_waiting_at r i w) q b'' p = record { each = each; priorities = priorities } in
-        subst (λ (x : Records). AreInPlaces x q b' p) (sym records-are) (subst (λ (x : Book). AreInPlaces (with_waiting_at r i w) q x p) (sym book-is) placed)
+    more : i < length r.endpoints → HasMore s' (slots ws ++ hs) (slots vs ++ hs)
+    more lt = waiting-has w ws vs hs (λ test. waiting-more test w r.endpoints i lt)
 
-    pub queued-table : table_in b' r' q ≡ with_held (table_in b r q) (record (held_by b r q) { endpoints = changed_at (queued_last (message_in peer (take len buffer.bytes) size)) i (endpoints_in b r.endpoints) })
+    priorities : i < length r.endpoints → count_by (is_misplaced (with_queued b s' k)) vs ≡ 0
+    priorities lt =
+        let matches : one_if (is_misplaced (with_queued b s' k) w) ≡ 0 = ap (λ (o : Option Kept). one_if (not (priority == priority_in o))) here ∙ matched priority (slice_index buffer.bytes 19) priority-is in
+        omega (arith, waiting-more (is_misplaced (with_queued b s' k)) w r.endpoints i lt, misplaced-stay b s' (Some k) ws none-waiting, places.priorities, matches)
+
+    queued-moved : (n : ℕ) (o : Out) → AreInPlaces n (with_waiting_at r i w) q (with_queued b s' k) o → AreInPlaces n r' q b' o
+    queued-moved n o placed = subst (λ (x : Records). AreInPlaces n x q b' o) (sym records-are) (subst (λ (x : Book). AreInPlaces n (with_waiting_at r i w) q x o) (sym book-is) placed)
+
+    pub queued-places : i < length r.endpoints → AreInPlaces peer r' q b' p
+    queued-places lt = queued-moved peer p (record {
+      each = enqueued peer p (slots_of r q) (slots vs ++ hs) b buffer.number [] buffer 24 size places.each size_fits (more lt);
+      priorities = priorities lt;
+    })
+
+    pub queued-others : i < length r.endpoints → KeepOthers peer r q b r' q b'
+    queued-others lt n o differ placed = queued-moved n o (record {
+      each = enqueued-other n o (slots_of r q) (slots vs ++ hs) b [] s' buffer 24 size differ placed.each away size_fits (more lt);
+      priorities = priorities lt;
+    })
+
+    pub queued-total : i < length r.endpoints → length (slots_of r' q) ≡ length (slots_of r q) + 1
+    queued-total lt = ap (λ (x : Records). length (slots_of x q)) records-are ∙ length-more s' (slots ws ++ hs) (slots vs ++ hs) (more lt)
+
+    pub queued-table : table_in b' r' q ≡ with_held (table_in b r q) (record (held_by b r q) { endpoints = changed_at (queued_last (message_in peer frame size)) i (endpoints_in b r.endpoints) })
     queued-table =
         let b'' = with_queued b s' k in
         let es = r.endpoints in
-        let item : item_in b'' w ≡ message r.number (source_of buffer.bytes) (slice_index buffer.bytes 19) (take size (drop 24 buffer.bytes)) = ap (λ (o : Option Kept). message r.number (source_in o) priority (content_in o)) here ∙ ap (λ (n : ℕ). message r.number (source_of buffer.bytes) n (take size (drop 24 buffer.bytes))) priority-is in
+        let item : item_in b'' w ≡ message peer (source_of buffer.bytes) (slice_index buffer.bytes 19) (take size (drop 24 buffer.bytes)) = ap (λ (o : Option Kept). message peer (source_in o) priority (content_in o)) here ∙ ap (λ (n : ℕ). message peer (source_of buffer.bytes) n (take size (drop 24 buffer.bytes))) priority-is in
         ap (λ (x : Records). table_in b' x q) records-are
         ∙ ap (λ (x : Book). table_in x (with_waiting_at r i w) q) book-is
         ∙ ap (λ (xs : List state.Endpoint). with_held (table_in b r q) (record { endpoints = xs; requests = requests_in b'' q.standing })) (endpoints-more b'' w es i)
@@ -152,32 +182,44 @@ module _ (r : Records) (q : Requests) (b b' : Book) (p : Out) (peer : ℕ) (s : 
     abbrev q'' : Requests
     q'' = with_complete q id (complete.Message s' max)
 
+    abbrev gs : List Slot
+    gs = handed_slots q''.standing
+
     requests-are : q' ≡ q''
-    requests-are = requests ∙ ap (λ (x : Slot). with_complete q id (complete.Message x max)) slot-is
+    requests-are = requests ∙ ap (λ (x : Slot). with_complete q id (complete.Message x max)) at
 
-    pub handed-places : AreInPlaces r q' b' p
-    handed-places =
-        let gs = handed_slots q''.standing in
-        let b'' = with_queued b s' k in
-        let long : length gs ≡ length hs + 1 = sym (count-every gs) ∙ handed-more (λ (x : Slot). true) id s' max q.standing receives.differ pending ∙ ap (λ (n : ℕ). n + 1) (count-every hs) in
-        let each = enqueued r.number p (slots_of r q) (slots ws ++ gs) b buffer.number [] buffer 24 size places.each size_fits
-        (λ t. let more = handed-more (λ (x : Slot). is_same x t) id s' max q.standing receives.differ pending in omega (arith, more, times-all t ws gs, times-all t ws hs))
-        (omega (arith, long, length-all ws gs, length-all ws hs)) in
-        let placed : AreInPlaces r q'' b'' p = record { each = each; priorities = misplaced-stay b s' (Some k) ws none-waiting ∙ places.priorities } in
-        subst (λ (x : Requests). AreInPlaces r x b' p) (sym requests-are) (subst (λ (x : Book). AreInPlaces r q'' x p) (sym book-is) placed)
+    one-handed : HasMore s' (slots ws ++ hs) (slots ws ++ gs)
+    one-handed = handed-has s' ws hs gs (λ test. handed-more test id s' max q.standing receives.differ pending)
 
-    pub handed-table : table_in b' r q' ≡ with_held (table_in b r q) (record (held_by b r q) { requests = changed (complete_with (message_in peer (take len buffer.bytes) size)) (position (is_id id) q.standing) (requests_in b q.standing) })
+    handed-moved : (n : ℕ) (o : Out) → AreInPlaces n r q'' (with_queued b s' k) o → AreInPlaces n r q' b' o
+    handed-moved n o placed = subst (λ (x : Requests). AreInPlaces n r x b' o) (sym requests-are) (subst (λ (x : Book). AreInPlaces n r q'' x o) (sym book-is) placed)
+
+    pub handed-places : AreInPlaces peer r q' b' p
+    handed-places = handed-moved peer p (record {
+      each = enqueued peer p (slots_of r q) (slots ws ++ gs) b buffer.number [] buffer 24 size places.each size_fits one-handed;
+      priorities = misplaced-stay b s' (Some k) ws none-waiting ∙ places.priorities;
+    })
+
+    pub handed-others : KeepOthers peer r q b r q' b'
+    handed-others n o differ placed = handed-moved n o (record {
+      each = enqueued-other n o (slots_of r q) (slots ws ++ gs) b [] s' buffer 24 size differ placed.each away size_fits one-handed;
+      priorities = misplaced-stay b s' (Some k) ws none-waiting ∙ places.priorities;
+    })
+
+    pub handed-total : length (slots_of r q') ≡ length (slots_of r q) + 1
+    handed-total = ap (λ (x : Requests). length (slots_of r x)) requests-are ∙ length-more s' (slots ws ++ hs) (slots ws ++ gs) one-handed
+
+    pub handed-table : table_in b' r q' ≡ with_held (table_in b r q) (record (held_by b r q) { requests = changed (complete_with (message_in peer frame size)) (position (is_id id) q.standing) (requests_in b q.standing) })
     handed-table =
         let b'' = with_queued b s' k in
         let how : Complete = complete.Message s' max in
         let place = position (is_id id) q.standing in
-        let item : item_at b'' s' ≡ message r.number (source_of buffer.bytes) (slice_index buffer.bytes 19) (take size (drop 24 buffer.bytes)) = ap (λ (o : Option Kept). message r.number (source_in o) (priority_in o) (content_in o)) here in
         ap (λ (x : Requests). table_in b' r x) requests-are
         ∙ ap (λ (x : Book). table_in x r q'') book-is
         ∙ ap (λ (xs : List Standing). with_held (table_in b r q) (record { endpoints = endpoints_in b'' r.endpoints; requests = requests_in b'' xs })) (complete-at id how q.standing receives.differ)
         ∙ ap (λ (xs : List state.Request). with_held (table_in b r q) (record { endpoints = endpoints_in b'' r.endpoints; requests = xs })) (map-changed (request_in b'') (complete_now how) (complete_with (item_at b'' s')) (λ x. refl) place q.standing)
         ∙ ap (λ (h : Held). with_held (table_in b r q) (record h { requests = changed (complete_with (item_at b'' s')) place h.requests })) stay
-        ∙ ap (λ (x : Item). with_held (table_in b r q) (record (held_by b r q) { requests = changed (complete_with x) place (requests_in b q.standing) })) (item ∙ message-is)
+        ∙ ap (λ (x : Item). with_held (table_in b r q) (record (held_by b r q) { requests = changed (complete_with x) place (requests_in b q.standing) })) item-here
 
     pub handed-receives : ((l : Local) × (option_map (λ x. x.ask) (request_of q id) ≡ Some (ask.Message l max))) → AreReceives q'
     handed-receives asks =
@@ -192,7 +234,7 @@ module _ (r : Records) (q : Requests) (b b' : Book) (p : Out) (peer : ℕ) (s : 
 
 -- ---- a message is received
 
-module _ (r : Records) (q : Requests) (b : Book) (p : Out) (i : ℕ) (w : Waiting) (places : AreInPlaces r q b p) (is : best (λ (x : Waiting). x.priority) (waiting_in (slice_get r.endpoints i)) ≡ Some w) where
+module _ (r : Records) (q : Requests) (b : Book) (i : ℕ) (w : Waiting) (is : best (λ (x : Waiting). x.priority) (waiting_in (slice_get r.endpoints i)) ≡ Some w) where
   abbrev ws2 : List Waiting
   ws2 = all_waiting r.endpoints
 
@@ -202,161 +244,139 @@ module _ (r : Records) (q : Requests) (b : Book) (p : Out) (i : ℕ) (w : Waitin
   abbrev hs2 : List Slot
   hs2 = handed_slots q.standing
 
-  less : (t : Slot) → times_in t (slots vs2 ++ hs2) + one_if (is_same w.slot t) ≡ times_in t (slots ws2 ++ hs2)
-  less t = let l = waiting-less (λ (x : Waiting). is_same x.slot t) w r.endpoints i is in omega (arith, l, times-all t vs2 hs2, times-all t ws2 hs2)
+  -- one slot more was there
+  pub received-more : HasMore w.slot (slots vs2 ++ hs2) (slots ws2 ++ hs2)
+  received-more = waiting-has w vs2 ws2 hs2 (λ test. sym (waiting-less test w r.endpoints i is))
 
-  shorter : length (slots vs2 ++ hs2) + 1 ≡ length (slots ws2 ++ hs2)
-  shorter = let l = length-less w r.endpoints i is in omega (arith, l, length-all vs2 hs2, length-all ws2 hs2)
+  pub received-fewer : count_by (is_misplaced b) vs2 ≤ count_by (is_misplaced b) ws2
+  received-fewer = let l = waiting-less (is_misplaced b) w r.endpoints i is in omega (arith, l)
 
-  -- it was in a queue of the book, with the priority of its frame
-  pub received-queued : IsQueued b w.slot
-  received-queued = is-queued r.number p (slots ws2 ++ hs2) (slots vs2 ++ hs2) b [] w.slot places.each (less w.slot)
+  pub received-length : length (slots_of (with_best_taken_at r i) q) + 1 ≡ length (slots_of r q)
+  received-length = left-length r (with_best_taken_at r i) q q b w.slot received-more
 
-  rest-priorities : count_by (is_misplaced b) vs2 ≡ 0
-  rest-priorities = let l = waiting-less (is_misplaced b) w r.endpoints i is in let all = places.priorities in omega (arith, l, all)
+  -- every other lane stays in order
+  pub received-others : KeepOthers w.slot.peer r q b (with_best_taken_at r i) q (with_away b w.slot)
+  received-others = left-others r (with_best_taken_at r i) q q b w.slot received-more received-fewer
 
-  pub received-priority : w.priority ≡ priority_in (queued_at b w.slot)
-  received-priority =
-      let none : one_if (is_misplaced b w) ≡ 0 = let l = waiting-less (is_misplaced b) w r.endpoints i is in let all = places.priorities in omega (arith, l, all) in
-      eqb-true w.priority (priority_in (queued_at b w.slot)) (matches (w.priority == priority_in (queued_at b w.slot)) none)
-    where
-      matches : (x : Bool) → one_if (not x) ≡ 0 → x ≡ true
-      matches true e = refl
-      matches false e = absurd (omega (arith, e))
+  module _ (number : ℕ) (p : Out) (places : AreInPlaces number r q b p) where
+    -- it was in a queue of the book, with the priority of its frame, and out at the lane of its peer
+    pub received-queued : IsQueued b w.slot
+    received-queued = left-queued r (with_best_taken_at r i) q q b w.slot received-more number p places
 
-  none-left-there : times_in w.slot (slots vs2 ++ hs2) ≡ 0
-  none-left-there = none-left r.number p (slots ws2 ++ hs2) (slots vs2 ++ hs2) b [] w.slot places.each received-queued (less w.slot)
+    pub received-out : w.slot.peer ≡ number → Contains p.numbers w.slot.buffer
+    received-out own = left-out r (with_best_taken_at r i) q q b w.slot received-more number p places own
 
-  left-waiting : times_waiting w.slot vs2 ≡ 0
-  left-waiting = omega (arith, none-left-there, times-all w.slot vs2 hs2)
+    pub received-priority : w.priority ≡ priority_in (queued_at b w.slot)
+    received-priority =
+        let none : one_if (is_misplaced b w) ≡ 0 = let l = waiting-less (is_misplaced b) w r.endpoints i is in let all = places.priorities in omega (arith, l, all) in
+        eqb-true w.priority (priority_in (queued_at b w.slot)) (matches (w.priority == priority_in (queued_at b w.slot)) none)
+      where
+        matches : (x : Bool) → one_if (not x) ≡ 0 → x ≡ true
+        matches true e = refl
+        matches false e = absurd (omega (arith, e))
 
-  left-handed : times_in w.slot hs2 ≡ 0
-  left-handed = omega (arith, none-left-there, times-all w.slot vs2 hs2)
+    pub received-beside : w.slot.peer ≡ number → AreInPlacesBut w.slot.buffer number (with_best_taken_at r i) q (with_away b w.slot) p
+    received-beside own = left-beside r (with_best_taken_at r i) q q b w.slot received-more received-fewer number p own places
 
-  pub received-beside : AreInPlacesBut w.slot.buffer (with_best_taken_at r i) q (with_away b w.slot) p
-  received-beside = record {
-    each = withdrawn r.number p (slots ws2 ++ hs2) (slots vs2 ++ hs2) b [] w.slot places.each received-queued less shorter;
-    priorities = misplaced-stay b w.slot None vs2 left-waiting ∙ rest-priorities;
-  }
+    pub received-places : w.slot.peer ≡ number → AreInPlaces number (with_best_taken_at r i) q (with_away b w.slot) (with_one_back p w.slot.buffer)
+    received-places own = left-places r (with_best_taken_at r i) q q b w.slot received-more received-fewer number p own places
 
-  pub received-places : AreInPlaces (with_best_taken_at r i) q (with_away b w.slot) (with_one_back p w.slot.buffer)
-  received-places = placed-given (with_best_taken_at r i) q (with_away b w.slot) p w.slot.buffer received-beside
+    pub received-table : table_in (with_away b w.slot) (with_best_taken_at r i) q ≡ with_received_at (table_in b r q) i
+    received-table =
+        left-table r (with_best_taken_at r i) q q b w.slot received-more number p places
+        ∙ ap (λ (xs : List state.Endpoint). with_held (table_in b r q) (record { endpoints = xs; requests = requests_in b q.standing })) (endpoints-less b r.endpoints i)
 
-  pub received-table : table_in (with_away b w.slot) (with_best_taken_at r i) q ≡ with_received_at (table_in b r q) i
-  received-table =
-      ap (λ (xs : List state.Endpoint). with_held (table_in b r q) (record { endpoints = xs; requests = requests_in (with_away b w.slot) q.standing }))
-      (endpoints-stay b w.slot None (changed_at with_best_taken i r.endpoints) left-waiting ∙ endpoints-less b r.endpoints i)
-      ∙ ap (λ (xs : List state.Request). with_held (table_in b r q) (record { endpoints = changed_at received i (endpoints_in b r.endpoints); requests = xs })) (requests-stay b w.slot None q.standing left-handed)
-
-  -- it goes from its queue to a request that is new
-  pub moved-places : (q' : Requests) → ((t : Slot) → times_in t (handed_slots q'.standing) ≡ times_in t hs2 + one_if (is_same w.slot t)) → length (handed_slots q'.standing) ≡ length hs2 + 1 → AreInPlaces (with_best_taken_at r i) q' b p
-  moved-places q' more long =
-      let gs = handed_slots q'.standing in
-      record {
-        each = other-slots r.number p (slots ws2 ++ hs2) (slots vs2 ++ gs) b []
-            (λ t. let l = less t in let m = more t in omega (arith, l, m, times-all t vs2 gs, times-all t vs2 hs2))
-            (omega (arith, shorter, long, length-all vs2 gs, length-all vs2 hs2)) places.each;
-        priorities = rest-priorities;
-      }
+    -- it goes from its queue to a request that is new
+    pub moved-places : (q' : Requests) → HasMore w.slot hs2 (handed_slots q'.standing) → AreInPlaces number (with_best_taken_at r i) q' b p
+    moved-places q' more =
+        let gs = handed_slots q'.standing in
+        record {
+          each = other-slots number p (slots ws2 ++ hs2) (slots vs2 ++ gs) b []
+              (λ test. let l = received-more test in let m = handed-has w.slot vs2 hs2 gs more test in omega (arith, l, m)) places.each;
+          priorities = let was = places.priorities in let few = received-fewer in omega (arith, was, few);
+        }
 
 -- ---- a message is taken out of its queue, wherever it stands
 
-module _ (r : Records) (q : Requests) (b : Book) (p : Out) (es : List Endpoint) (w : Waiting) (places : AreInPlaces r q b p)
+module _ (r : Records) (q : Requests) (b : Book) (es : List Endpoint) (w : Waiting)
     (one-less : (test : Waiting → Bool) → count_by test (all_waiting es) + one_if (test w) ≡ count_by test (all_waiting r.endpoints)) where
-  abbrev ws4 : List Waiting
-  ws4 = all_waiting r.endpoints
+  abbrev r4 : Records
+  r4 = record r { endpoints = es }
 
-  abbrev vs4 : List Waiting
-  vs4 = all_waiting es
+  pub out-more : HasMore w.slot (slots_of r4 q) (slots_of r q)
+  out-more = waiting-has w (all_waiting es) (all_waiting r.endpoints) (handed_slots q.standing) (λ test. sym (one-less test))
 
-  abbrev hs4 : List Slot
-  hs4 = handed_slots q.standing
+  pub out-fewer : count_by (is_misplaced b) (all_waiting es) ≤ count_by (is_misplaced b) (all_waiting r.endpoints)
+  out-fewer = let l = one-less (is_misplaced b) in omega (arith, l)
 
-  less4 : (t : Slot) → times_in t (slots vs4 ++ hs4) + one_if (is_same w.slot t) ≡ times_in t (slots ws4 ++ hs4)
-  less4 t = let l = one-less (λ (x : Waiting). is_same x.slot t) in omega (arith, l, times-all t vs4 hs4, times-all t ws4 hs4)
+  pub out-length : length (slots_of r4 q) + 1 ≡ length (slots_of r q)
+  out-length = left-length r r4 q q b w.slot out-more
 
-  shorter4 : length (slots vs4 ++ hs4) + 1 ≡ length (slots ws4 ++ hs4)
-  shorter4 = let l = one-less (λ (x : Waiting). true) in omega (arith, l, count-every vs4, count-every ws4, length-all vs4 hs4, length-all ws4 hs4)
+  pub out-others : KeepOthers w.slot.peer r q b r4 q (with_away b w.slot)
+  out-others = left-others r r4 q q b w.slot out-more out-fewer
 
-  pub out-queued : IsQueued b w.slot
-  out-queued = is-queued r.number p (slots ws4 ++ hs4) (slots vs4 ++ hs4) b [] w.slot places.each (less4 w.slot)
+  module _ (number : ℕ) (p : Out) (places : AreInPlaces number r q b p) where
+    pub out-queued : IsQueued b w.slot
+    out-queued = left-queued r r4 q q b w.slot out-more number p places
 
-  none-left4 : times_in w.slot (slots vs4 ++ hs4) ≡ 0
-  none-left4 = none-left r.number p (slots ws4 ++ hs4) (slots vs4 ++ hs4) b [] w.slot places.each out-queued (less4 w.slot)
+    pub out-out : w.slot.peer ≡ number → Contains p.numbers w.slot.buffer
+    out-out own = left-out r r4 q q b w.slot out-more number p places own
 
-  pub out-waiting : times_waiting w.slot vs4 ≡ 0
-  out-waiting = omega (arith, none-left4, times-all w.slot vs4 hs4)
+    pub out-places_but : w.slot.peer ≡ number → AreInPlacesBut w.slot.buffer number r4 q (with_away b w.slot) p
+    out-places_but own = left-beside r r4 q q b w.slot out-more out-fewer number p own places
 
-  out-handed : times_in w.slot hs4 ≡ 0
-  out-handed = omega (arith, none-left4, times-all w.slot vs4 hs4)
+    pub out-places : w.slot.peer ≡ number → AreInPlaces number r4 q (with_away b w.slot) (with_one_back p w.slot.buffer)
+    out-places own = left-places r r4 q q b w.slot out-more out-fewer number p own places
 
-  pub out-places_but : AreInPlacesBut w.slot.buffer (record r { endpoints = es }) q (with_away b w.slot) p
-  out-places_but =
-      let l = one-less (is_misplaced b) in
-      let all = places.priorities in
-      record {
-        each = withdrawn r.number p (slots ws4 ++ hs4) (slots vs4 ++ hs4) b [] w.slot places.each out-queued less4 shorter4;
-        priorities = misplaced-stay b w.slot None vs4 out-waiting ∙ omega (arith, l, all);
-      }
-
-  pub out-places : AreInPlaces (record r { endpoints = es }) q (with_away b w.slot) (with_one_back p w.slot.buffer)
-  out-places = placed-given (record r { endpoints = es }) q (with_away b w.slot) p w.slot.buffer out-places_but
-
-  pub out-table : table_in (with_away b w.slot) (record r { endpoints = es }) q ≡ table_in b (record r { endpoints = es }) q
-  out-table =
-      ap (λ (xs : List state.Endpoint). with_held (table_in b r q) (record { endpoints = xs; requests = requests_in (with_away b w.slot) q.standing })) (endpoints-stay b w.slot None es out-waiting)
-      ∙ ap (λ (xs : List state.Request). with_held (table_in b r q) (record { endpoints = endpoints_in b es; requests = xs })) (requests-stay b w.slot None q.standing out-handed)
+    pub out-table : table_in (with_away b w.slot) r4 q ≡ table_in b r4 q
+    out-table = left-table r r4 q q b w.slot out-more number p places
 
 -- ---- what a request held is given back
 
-module _ (r : Records) (q q' : Requests) (b : Book) (p : Out) (s : Slot) (places : AreInPlaces r q b p)
-    (fewer : (t : Slot) → times_in t (handed_slots q'.standing) + one_if (is_same s t) ≡ times_in t (handed_slots q.standing)) (long : length (handed_slots q'.standing) + 1 ≡ length (handed_slots q.standing)) where
-  abbrev ws3 : List Waiting
-  ws3 = all_waiting r.endpoints
+module _ (r : Records) (q q' : Requests) (b : Book) (s : Slot) (fewer : HasMore s (handed_slots q'.standing) (handed_slots q.standing)) where
+  pub ended-more : HasMore s (slots_of r q') (slots_of r q)
+  ended-more = handed-has s (all_waiting r.endpoints) (handed_slots q'.standing) (handed_slots q.standing) fewer
 
-  less3 : (t : Slot) → times_in t (slots_of r q') + one_if (is_same s t) ≡ times_in t (slots_of r q)
-  less3 t = let l = fewer t in omega (arith, l, times-all t ws3 (handed_slots q'.standing), times-all t ws3 (handed_slots q.standing))
+  pub ended-length : length (slots_of r q') + 1 ≡ length (slots_of r q)
+  ended-length = left-length r r q q' b s ended-more
 
-  shorter3 : length (slots_of r q') + 1 ≡ length (slots_of r q)
-  shorter3 = omega (arith, long, length-all ws3 (handed_slots q'.standing), length-all ws3 (handed_slots q.standing))
+  pub ended-others : KeepOthers s.peer r q b r q' (with_away b s)
+  ended-others = left-others r r q q' b s ended-more (omega arith)
 
-  pub ended-queued : IsQueued b s
-  ended-queued = is-queued r.number p (slots_of r q) (slots_of r q') b [] s places.each (less3 s)
+  module _ (number : ℕ) (p : Out) (places : AreInPlaces number r q b p) where
+    pub ended-queued : IsQueued b s
+    ended-queued = left-queued r r q q' b s ended-more number p places
 
-  none-left3 : times_in s (slots_of r q') ≡ 0
-  none-left3 = none-left r.number p (slots_of r q) (slots_of r q') b [] s places.each ended-queued (less3 s)
+    pub ended-out : s.peer ≡ number → Contains p.numbers s.buffer
+    ended-out own = left-out r r q q' b s ended-more number p places own
 
-  left-waiting3 : times_waiting s ws3 ≡ 0
-  left-waiting3 = omega (arith, none-left3, times-all s ws3 (handed_slots q'.standing))
+    pub ended-beside : s.peer ≡ number → AreInPlacesBut s.buffer number r q' (with_away b s) p
+    ended-beside own = left-beside r r q q' b s ended-more (omega arith) number p own places
 
-  left-handed3 : times_in s (handed_slots q'.standing) ≡ 0
-  left-handed3 = omega (arith, none-left3, times-all s ws3 (handed_slots q'.standing))
+    pub ended-places : s.peer ≡ number → AreInPlaces number r q' (with_away b s) (with_one_back p s.buffer)
+    ended-places own = left-places r r q q' b s ended-more (omega arith) number p own places
 
-  pub ended-beside : AreInPlacesBut s.buffer r q' (with_away b s) p
-  ended-beside = record {
-    each = withdrawn r.number p (slots_of r q) (slots_of r q') b [] s places.each ended-queued less3 shorter3;
-    priorities = misplaced-stay b s None ws3 left-waiting3 ∙ places.priorities;
-  }
+    pub ended-table : table_in (with_away b s) r q' ≡ table_in b r q'
+    ended-table = left-table r r q q' b s ended-more number p places
 
-  pub ended-places : AreInPlaces r q' (with_away b s) (with_one_back p s.buffer)
-  ended-places = placed-given r q' (with_away b s) p s.buffer ended-beside
+-- ---- a request that holds nothing is gone, or is new
 
-  pub ended-table : table_in (with_away b s) r q' ≡ table_in b r q'
-  ended-table =
-      ap (λ (xs : List state.Endpoint). with_held (table_in b r q') (record { endpoints = xs; requests = requests_in (with_away b s) q'.standing })) (endpoints-stay b s None r.endpoints left-waiting3)
-      ∙ ap (λ (xs : List state.Request). with_held (table_in b r q') (record { endpoints = endpoints_in b r.endpoints; requests = xs })) (requests-stay b s None q'.standing left-handed3)
+pub cancelled-places : (r : Records) (q q' : Requests) (b : Book) (number : ℕ) (p : Out) → HaveSame (handed_slots q.standing) (handed_slots q'.standing) → AreInPlaces number r q b p → AreInPlaces number r q' b p
+cancelled-places r q q' b number p same places = record {
+  each = other-slots number p (slots_of r q) (slots_of r q') b [] (handed-same (all_waiting r.endpoints) (handed_slots q.standing) (handed_slots q'.standing) same) places.each;
+  priorities = places.priorities;
+}
 
--- ---- a request that holds nothing is gone
+pub cancelled-length : (r : Records) (q q' : Requests) → HaveSame (handed_slots q.standing) (handed_slots q'.standing) → length (slots_of r q') ≡ length (slots_of r q)
+cancelled-length r q q' same = length-same (slots_of r q) (slots_of r q') (handed-same (all_waiting r.endpoints) (handed_slots q.standing) (handed_slots q'.standing) same)
 
-pub cancelled-places : (r : Records) (q q' : Requests) (b : Book) (p : Out) → ((t : Slot) → times_in t (handed_slots q'.standing) ≡ times_in t (handed_slots q.standing)) → length (handed_slots q'.standing) ≡ length (handed_slots q.standing) → AreInPlaces r q b p → AreInPlaces r q' b p
-cancelled-places r q q' b p same long places =
-    let ws = all_waiting r.endpoints in
-    record {
-      each = other-slots r.number p (slots_of r q) (slots_of r q') b []
-          (λ t. let l = same t in omega (arith, l, times-all t ws (handed_slots q'.standing), times-all t ws (handed_slots q.standing)))
-          (omega (arith, long, length-all ws (handed_slots q'.standing), length-all ws (handed_slots q.standing))) places.each;
-      priorities = places.priorities;
-    }
+-- what waits and what was handed are the same
+pub same-held : (r r' : Records) (q q' : Requests) (b : Book) (number : ℕ) (p : Out) → all_waiting r'.endpoints ≡ all_waiting r.endpoints → handed_slots q'.standing ≡ handed_slots q.standing → AreInPlaces number r q b p → AreInPlaces number r' q' b p
+same-held r r' q q' b number p waits hands places = record {
+  each = subst (λ (ws : List Waiting). EachInPlace number p (slots ws ++ handed_slots q'.standing) b []) (sym waits)
+      (subst (λ (hs : List Slot). EachInPlace number p (slots (all_waiting r.endpoints) ++ hs) b []) (sym hands) places.each);
+  priorities = ap (count_by (is_misplaced b)) waits ∙ places.priorities;
+}
 
 -- the content that is told
 pub content-of : (o : Option Kept) (xs : List ℕ) → Some xs ≡ option_map content o → content_in o ≡ xs

@@ -22,7 +22,7 @@ use Rattle.domain_core.specs.Dealt.{IsDealt, IsReturned, IsVerdict, fate_of, wor
 use Rattle.domain_core.specs.Announced.{Hears, knowing_with}
 use Rattle.domain_core.specs.Seen.{Holds, holding_now, DealsIn}
 use Rattle.domain_core.proofs.Announcing.{all-known}
-use Rattle.domain_core.proofs.Turning.{frame-after, word-told, with_both}
+use Rattle.domain_core.proofs.Letters.{frame-after, word-told, with_both}
 
 -- ---- the peer with other names
 

@@ -1,30 +1,46 @@
 -- The slots that wait or were handed: how often each stands among them.
-use Rattle.std.proofs.Common.{◌≡◌, ℕ, ◌+◌, Bool, List, [], ◌∷◌, ◌++◌, length, map, Option, refl, sym, ap, ◌∙◌, arith, length-append}
-use Rattle.std.specs.Prelude.{count_by}
+use Rattle.std.proofs.Common.{◌≡◌, ℕ, ◌+◌, Bool, true, List, [], ◌∷◌, ◌++◌, length, map, Option, refl, sym, ap, ◌∙◌, arith, length-append}
+use Rattle.std.specs.Prelude.{count_by, not, ◌==◌}
 use Rattle.std.proofs.lemmas.List.{length-map}
 use Rattle.mc_base.specs.declared.request.Slot.{Slot}
-use Rattle.board_model.proofs.ListsCounts.{count-append, count-cons}
+use Rattle.board_model.proofs.ListsCounts.{count-append, count-cons, count-every}
+use Rattle.board_model.proofs.MessageVisitLines.{count-map}
 use Rattle.buffer_book.specs.Book.{Book, Kept, with_place}
 use Rattle.message_queue.specs.Queue.{Waiting}
 use Rattle.domain_core.specs.InBook.{priority_in}
 use Rattle.domain_core.specs.InPlaces.{is_misplaced, is_same, one_if, times_in, times_waiting}
 use Rattle.domain_core.proofs.Books.{differ-back, queued-there}
-use Rattle.domain_core.proofs.Placed.{no-one}
-use Rattle.std.specs.Prelude.{not, ◌==◌}
+use Rattle.domain_core.proofs.Placed.{HasMore, HaveSame, no-one}
 
 abbrev pub slots : List Waiting → List Slot
 slots ws = map (λ (w : Waiting). w.slot) ws
 
-times-slots : (s : Slot) (ws : List Waiting) → times_in s (slots ws) ≡ times_waiting s ws
-times-slots s [] = refl
-times-slots s (w ∷ ws) = count-cons (λ (t : Slot). is_same t s) w.slot (slots ws) ∙ ap (λ (k : ℕ). one_if (is_same w.slot s) + k) (times-slots s ws) ∙ sym (count-cons (λ (x : Waiting). is_same x.slot s) w ws)
+-- how many of them pass a test: of what waits, and of what was handed
+pub count-all : (test : Slot → Bool) (ws : List Waiting) (hs : List Slot) → count_by test (slots ws ++ hs) ≡ count_by (λ (w : Waiting). test w.slot) ws + count_by test hs
+count-all test ws hs = count-append test (slots ws) hs ∙ ap (λ (k : ℕ). k + count_by test hs) (count-map test (λ (w : Waiting). w.slot) ws)
 
--- what waits, and what was handed
 pub times-all : (s : Slot) (ws : List Waiting) (hs : List Slot) → times_in s (slots ws ++ hs) ≡ times_waiting s ws + times_in s hs
-times-all s ws hs = count-append (λ (t : Slot). is_same t s) (slots ws) hs ∙ ap (λ (k : ℕ). k + times_in s hs) (times-slots s ws)
+times-all s ws hs = count-all (λ (t : Slot). is_same t s) ws hs
 
 pub length-all : (ws : List Waiting) (hs : List Slot) → length (slots ws ++ hs) ≡ length ws + length hs
 length-all ws hs = length-append (slots ws) hs ∙ ap (λ (k : ℕ). k + length hs) (length-map ws (λ (w : Waiting). w.slot))
+
+-- one more waits, or was handed
+pub waiting-has : (w : Waiting) (ws vs : List Waiting) (hs : List Slot) → ((test : Waiting → Bool) → count_by test vs ≡ count_by test ws + one_if (test w)) → HasMore w.slot (slots ws ++ hs) (slots vs ++ hs)
+waiting-has w ws vs hs more test = let m = more (λ (x : Waiting). test x.slot) in omega (arith, m, count-all test ws hs, count-all test vs hs)
+
+pub handed-has : (s : Slot) (ws : List Waiting) (hs gs : List Slot) → HasMore s hs gs → HasMore s (slots ws ++ hs) (slots ws ++ gs)
+handed-has s ws hs gs more test = let m = more test in omega (arith, m, count-all test ws hs, count-all test ws gs)
+
+pub handed-same : (ws : List Waiting) (hs gs : List Slot) → HaveSame hs gs → HaveSame (slots ws ++ hs) (slots ws ++ gs)
+handed-same ws hs gs same test = let m = same test in omega (arith, m, count-all test ws hs, count-all test ws gs)
+
+-- as many as all
+pub length-more : (s : Slot) (ss ts : List Slot) → HasMore s ss ts → length ts ≡ length ss + 1
+length-more s ss ts more = let m = more (λ (x : Slot). true) in omega (arith, m, count-every ss, count-every ts)
+
+pub length-same : (ss ts : List Slot) → HaveSame ss ts → length ts ≡ length ss
+length-same ss ts same = sym (count-every ts) ∙ same (λ (x : Slot). true) ∙ count-every ss
 
 -- what waits in other buffers than the one that changed has the priority that it had
 pub misplaced-stay : (b : Book) (s : Slot) (k : Option Kept) (ws : List Waiting) → times_waiting s ws ≡ 0 → count_by (is_misplaced (with_place b s k)) ws ≡ count_by (is_misplaced b) ws

@@ -1,178 +1,150 @@
--- A visit by its parts, and a turn of a domain that has no peer but itself.
-use Rattle.std.proofs.Common.{◌≡◌, ℕ, ◌+◌, ◌-◌, ◌≤◌, Bool, true, false, List, [], ◌∷◌, ◌++◌, length, map, refl, sym, ap, ◌∙◌, subst, arith, append_assoc, min, take, drop, ◌⊎◌, inl, inr}
-use Rattle.std.proofs.lemmas.Bool.{eqb-true}
-use Rattle.std.specs.Prelude.{not, ◌&&◌, ◌||◌, ◌==◌}
-use Rattle.std.proofs.lemmas.List.{append-nil}
+-- A visit by its parts.
+use Rattle.std.proofs.Common.{◌≡◌, ℕ, ◌+◌, ◌≤◌, Bool, true, false, List, [], ◌∷◌, ◌++◌, length, map, take, refl, sym, ap, ◌∙◌, arith, append_assoc, min}
+use Rattle.std.specs.Prelude.{not, ◌&&◌, ◌||◌, ◌==◌, if◌then◌else◌}
+use Rattle.std.proofs.lemmas.Bool.{and_parts, eqb-true, true≢false}
+use Rattle.std.proofs.lemmas.List.{append-nil, take_min}
 use Rattle.lane_end.specs.SendMoves.{Looked}
 use Rattle.lane_end.specs.ReceiveMoves as receiving
-use Rattle.lane_end.specs.Loop.{Loop}
-use Rattle.board_model.specs.Journal.{Line, Visit, Taken, taken_line, looked, back_line, see_line, is_idle, noted, noted_idle, turned, turn_line, visit_lines}
-use Rattle.board_model.specs.Serial.{returned_at_once}
-use Rattle.domain_core.specs.Table.{Held, Table, with_held}
-use Rattle.domain_core.specs.Lane.{Lane, lane_in, AreForEndpoints}
-use Rattle.domain_core.specs.LaneMoves.{LaneMove, sender, receiver}
-use Rattle.domain_core.specs.LoopMoved.{LoopMoved}
-use Rattle.domain_core.specs.VisitMoves.{taking}
-use Rattle.domain_core.specs.Dealt.{Scene, scene, Deals, Takes, frames_of, taken_at, held_after_all}
-use Rattle.domain_core.specs.Turned.{Before, before, Visits, MakesTurn, beginning, told_of, visit, count_taken, frames_taken}
+use Rattle.buffer_book.specs.Book.{Book}
+use Rattle.endpoint_table.specs.Table as endpoint_table
 use Rattle.mc_base.specs.NameMap.{Names}
-use Rattle.domain_core.specs.Seen.{DealsIn}
-use Rattle.domain_core.proofs.Seeing.{DealsIn-none}
-use Rattle.domain_core.proofs.Taking.{Deals-none}
-use Rattle.domain_core.proofs.OwnLane.{IsVisited, loop-visited}
-use Rattle.domain_core.proofs.Turning.{All-take}
+use Rattle.board_model.specs.Journal.{Line, Visit, Taken, back_line, put_line, see_line, taken_line}
+use Rattle.domain_core.specs.LaneMoves.{LaneMove, sender, receiver}
+use Rattle.domain_core.specs.VisitMoves.{putting, taking}
+use Rattle.domain_core.specs.Beginning.{beginning, look_lines}
+use Rattle.domain_core.specs.Dealt.{Scene, scene, Takes}
+use Rattle.domain_core.specs.Owed.{PutsDue, owed_frames, put_lines}
+use Rattle.domain_core.specs.Turned.{Standing, Visits}
+use Rattle.domain_core.proofs.ToldTurns.{none-in}
 
-or-false : (b : Bool) → b ≡ (b || false)
-or-false true = refl
-or-false false = refl
+-- ---- lines, of which the turn's own is noted before the first
 
-or-true : (b : Bool) → true ≡ (b || true)
-or-true true = refl
-or-true false = refl
+-- two parts of a visit: n and m tell whether they have no lines
+two-told : (begun n m : Bool) (xs ys : List Line) → (m ≡ true → ys ≡ [])
+    → (if n then [] else beginning begun ++ xs) ++ (if m then [] else beginning (begun || not n) ++ ys) ≡ (if n && m then [] else beginning begun ++ ((if n then [] else xs) ++ ys))
+two-told begun true true xs ys none = refl
+two-told true true false xs ys none = refl
+two-told false true false xs ys none = refl
+two-told begun false true xs ys none =
+    append-nil (beginning begun ++ xs)
+    ∙ ap (λ (ls : List Line). beginning begun ++ ls) (sym (append-nil xs))
+    ∙ ap (λ (ls : List Line). beginning begun ++ (xs ++ ls)) (sym (none refl))
+two-told true false false xs ys none = refl
+two-told false false false xs ys none = refl
 
-pub not-both : (b s : ℕ) → ((b ≡ 0) × (s ≡ 0 → ⊥)) ⊎ (b ≡ 0 → ⊥) → b ≡ 0 → s ≡ 0 → ⊥
-not-both b s (inl w) none none' = w.1 none'
-not-both b s (inr some) none none' = some none
+-- parts without lines have none together
+rest-none : (n m : Bool) (xs ys : List Line) → (n ≡ true → xs ≡ []) → (m ≡ true → ys ≡ []) → (n && m) ≡ true → xs ++ ys ≡ []
+rest-none n m xs ys none none' e = let both = and_parts n m e in ap (λ (ls : List Line). ls ++ ys) (none both.0) ∙ none' both.1
 
--- the visit of such looks and takes
-abbrev looks : ℕ → ℕ → ℕ → List Taken → Visit
-looks peer back see takes = record { peer = peer; back = back; owed = []; see = see; takes = takes }
+if-none : (n : Bool) (xs : List Line) → (n ≡ true → xs ≡ []) → (if n then [] else xs) ≡ xs
+if-none true xs none = sym (none refl)
+if-none false xs none = refl
 
-not-idle : (peer back see : ℕ) (takes : List Taken) → (back ≡ 0 → see ≡ 0 → ⊥) → is_idle (looks peer back see takes) ≡ false
-not-idle peer back see takes some = go (back == 0) (see == 0) refl refl
-  where
-    go : (b s : Bool) → (back == 0) ≡ b → (see == 0) ≡ s → (b && (s && (length takes == 0))) ≡ false
-    go true true b s = absurd (some (eqb-true back 0 b) (eqb-true see 0 s))
-    go true false b s = refl
-    go false s' b s = refl
+if-some : (n : Bool) (xs : List Line) → n ≡ true → (if n then [] else xs) ≡ []
+if-some n xs e = ap (λ (b : Bool). if b then [] else xs) e
+
+-- announcements that are put
+puts-told : (begun : Bool) (peer : ℕ) (fs : List (List ℕ)) → put_lines begun peer fs ≡ (if length fs == 0 then [] else beginning begun ++ map (put_line peer) fs)
+puts-told begun peer [] = refl
+puts-told begun peer (f ∷ fs) =
+    let some : (length (f ∷ fs) == 0) ≡ false = grind arith in
+    ap (λ (b : Bool). if b then [] else beginning begun ++ map (put_line peer) (f ∷ fs)) (sym some)
+
+-- frames that are taken, which are some only where the turn has begun
+takes-told : (begun z t : Bool) (ts : List Line) → (z ≡ true → t ≡ true) → (t ≡ true → ts ≡ []) → ts ≡ (if t then [] else beginning (begun || not z) ++ ts)
+takes-told begun z true ts seen none = none refl
+takes-told true z false ts seen none = refl
+takes-told false true false ts seen none = absurd (true≢false (sym (seen refl)))
+takes-told false false false ts seen none = refl
+
+-- the parts of a visit: b, o, z and t tell whether they have no lines
+all-told : (begun b o z t : Bool) (bs os zs ts : List Line) → (o ≡ true → os ≡ []) → (z ≡ true → t ≡ true) → (t ≡ true → ts ≡ [])
+    → (if b then [] else beginning begun ++ bs) ++ ((if o then [] else beginning (begun || not b) ++ os) ++ ((if z then [] else beginning ((begun || not b) || not o) ++ zs) ++ ts))
+    ≡ (if b && (o && (z && t)) then [] else beginning begun ++ ((if b then [] else bs) ++ (os ++ ((if z then [] else zs) ++ ts))))
+all-told begun b o z t bs os zs ts no_puts seen no_takes =
+    let has_put : Bool = (begun || not b) || not o in
+    let front : List Line = if b then [] else beginning begun ++ bs in
+    let puts : List Line = if o then [] else beginning (begun || not b) ++ os in
+    let sees : List Line = if z then [] else beginning has_put ++ zs in
+    let seen_lines : List Line = if z then [] else zs in
+    let rest : List Line = seen_lines ++ ts in
+    let none : (z && t) ≡ true → rest ≡ [] = rest-none z t seen_lines ts (if-some z zs) no_takes in
+    ap (λ (ls : List Line). front ++ (puts ++ (sees ++ ls))) (takes-told has_put z t ts seen no_takes)
+    ∙ ap (λ (ls : List Line). front ++ (puts ++ ls)) (two-told has_put z t zs ts no_takes)
+    ∙ ap (λ (ls : List Line). front ++ ls) (two-told (begun || not b) o (z && t) os rest none)
+    ∙ ap (λ (ls : List Line). front ++ (if o && (z && t) then [] else beginning (begun || not b) ++ (ls ++ rest))) (if-none o os no_puts)
+    ∙ two-told begun b (o && (z && t)) bs (os ++ rest) (rest-none o (z && t) os rest no_puts none)
+
+all-begun : (begun b o z t : Bool) → (z ≡ true → t ≡ true) → (((begun || not b) || not o) || not z) ≡ (begun || not (b && (o && (z && t))))
+all-begun true b o z t seen = refl
+all-begun false false o z t seen = refl
+all-begun false true false z t seen = refl
+all-begun false true true false t seen = refl
+all-begun false true true true t seen = ap not (sym (seen refl))
+
+after-four : (ls bs cs ds es : List Line) → (((ls ++ bs) ++ cs) ++ ds) ++ es ≡ ls ++ (bs ++ (cs ++ (ds ++ es)))
+after-four ls bs cs ds es = append_assoc ((ls ++ bs) ++ cs) ds es ∙ append_assoc (ls ++ bs) cs (ds ++ es) ∙ append_assoc ls bs (cs ++ (ds ++ es))
+
+-- ---- the visit
+
+none-seen : (see : ℕ) (takes : List Taken) → length takes ≡ min 8 see → (see == 0) ≡ true → (length takes == 0) ≡ true
+none-seen see takes many e =
+    let none = eqb-true see 0 e in
+    let no_takes : length takes ≡ 0 = omega (arith, many, none) in
+    ap (λ (n : ℕ). n == 0) no_takes
+
+-- as many as are due are the first that are owed
+due-first : (free : ℕ) (fs owed : List (List ℕ)) → fs ≡ take (length fs) owed → length fs ≡ min 8 (min free (length owed)) → fs ≡ take (min 8 free) owed
+due-first free fs owed first many =
+    let same : length fs ≡ min (min 8 free) (length owed) = omega (arith, many) in
+    first ∙ ap (λ (n : ℕ). take n owed) same ∙ take_min (min 8 free) owed
 
 module _ {L : Type 0} (M : L → List LaneMove → L → Type 0) (m-both : (a b c : L) (xs ys : List LaneMove) → M a xs b → M b ys c → M a (xs ++ ys) c) where
-  -- nothing is shown
-  pub idle-visits : (peer back see : ℕ) (begun : Bool) (at : Before) (s : Scene) (known : Names) (x y z : L) → back ≡ 0 → see ≡ 0 → M x (sender (Looked back) ∷ []) y → M y (receiver (receiving.Looked see) ∷ []) z → at.free + back ≤ at.size_to → at.shown ≤ see → at.out + see ≤ at.size_from → Visits M peer begun begun at s s known known x z
-  idle-visits peer back see begun at s known x y z no-back no-see looked-back looked-ahead fits shown room =
-      let idle : is_idle (looks peer back see []) ≡ true = ap (λ (n : ℕ). (n == 0) && ((see == 0) && true)) no-back ∙ ap (λ (n : ℕ). (n == 0) && true) no-see in
-      record {
-        visit = looks peer back see [];
-        numbers = [];
-        peer_is = refl;
-        nothing_owed = refl;
-        many = omega (arith, no-see);
-        each = refl;
-        back_fits = fits;
-        sees_shown = shown;
-        see_fits = room;
-        moved = m-both x y z (sender (Looked back) ∷ []) (receiver (receiving.Looked see) ∷ []) looked-back looked-ahead;
-        dealt = Deals-none peer s.table;
-        unknown = λ all. refl;
-        seen = DealsIn-none peer s.table.held known;
-        told = rw idle (sym (append-nil s.lines));
-        begins = rw idle (or-false begun);
-      }
-
-  -- something is shown, and the first frames are taken
-  pub taken-visits : (peer back see count : ℕ) (begun : Bool) (at : Before) (s s' t : Scene) (known known' : Names) (x y z w : L) → (back ≡ 0 → see ≡ 0 → ⊥) → M x (sender (Looked back) ∷ []) y → M y (receiver (receiving.Looked see) ∷ []) z → at.free + back ≤ at.size_to → at.shown ≤ see → at.out + see ≤ at.size_from
-      → s'.table ≡ s.table → s'.lines ≡ s.lines ++ (beginning begun ++ (looked (back_line peer) back ++ looked (see_line peer) see)) → count ≡ min 8 see → Takes M peer count s' t known known' z w → Visits M peer begun true at s t known known' x w
-  taken-visits peer back see count begun at s s' t known known' x y z w some looked-back looked-ahead fits shown room table lines counted takes =
-      let v = looks peer back see takes.takes in
-      let idle : is_idle v ≡ false = not-idle peer back see takes.takes some in
-      let both = m-both x y z (sender (Looked back) ∷ []) (receiver (receiving.Looked see) ∷ []) looked-back looked-ahead in
-      let last = map (taken_line peer) takes.takes in
-      let front = looked (back_line peer) back in
-      let ahead = looked (see_line peer) see in
+  -- a look at the buffers, what is put, a look at the frames, and what is taken, with the lines after each
+  pub visited : (peer back see count : ℕ) (begun begun1 begun2 begun3 : Bool) (at at' : Standing) (free free' : ℕ) (s t : Scene) (lines1 lines2 lines3 : List Line) (owing owing' : endpoint_table.Table) (names names' : Names) (b b' : Book) (x y z w u : L)
+      → M x (sender (Looked back) ∷ []) y → lines1 ≡ s.lines ++ look_lines begun (back_line peer) back → begun1 ≡ (begun || not (back == 0))
+      → PutsDue M peer begun1 begun2 free free' owing owing' lines1 lines2 y z
+      → M z (receiver (receiving.Looked see) ∷ []) w → lines3 ≡ lines2 ++ look_lines begun2 (see_line peer) see → begun3 ≡ (begun2 || not (see == 0))
+      → Takes M peer count (scene s.table lines3) t names names' b b' w u → count ≡ min 8 see
+      → free ≡ at.free + back → at'.free ≡ free' → at.free + back ≤ at.size_to → at.shown ≤ see → at.out + see ≤ at.size_from → see ≡ at'.shown + count → at'.size_to ≡ at.size_to → at'.size_from ≡ at.size_from
+      → Visits M peer begun begun3 at at' s t owing owing' names names' b b' x u
+  visited peer back see count begun begun1 begun2 begun3 at at' free free' s t lines1 lines2 lines3 owing owing' names names' b b' x y z w u looked-back told1 begins1 due looked-ahead told3 begins3 took counted free_is left fits shown room left_shown size_to size_from =
+      let fs = due.frames in
+      let v : Visit = record { peer = peer; back = back; owed = fs; see = see; takes = took.takes } in
+      let many : length took.takes ≡ min 8 see = took.many ∙ counted in
+      let last : List Line = map (taken_line peer) took.takes in
+      let first : List Line = look_lines begun (back_line peer) back in
+      let no_takes : (length took.takes == 0) ≡ true → last ≡ [] = λ e. ap (λ (ts : List Taken). map (taken_line peer) ts) (none-in took.takes e) in
+      let no_puts : (length fs == 0) ≡ true → map (put_line peer) fs ≡ [] = λ e. ap (λ (gs : List (List ℕ)). map (put_line peer) gs) (none-in fs e) in
+      let begins2 : begun2 ≡ ((begun || not (back == 0)) || not (length fs == 0)) = due.begins ∙ ap (λ (c : Bool). c || not (length fs == 0)) begins1 in
       record {
         visit = v;
-        numbers = takes.numbers;
+        numbers = took.numbers;
         peer_is = refl;
-        nothing_owed = refl;
-        many = takes.many ∙ counted;
-        each = takes.each ∙ sym takes.many;
+        many = many;
+        each = took.each ∙ sym took.many;
         back_fits = fits;
+        puts_due = due-first free fs (owed_frames owing peer) due.puts.first due.many ∙ ap (λ (n : ℕ). take (min 8 n) (owed_frames owing peer)) free_is;
         sees_shown = shown;
         see_fits = room;
-        moved = m-both x z w (sender (Looked back) ∷ receiver (receiving.Looked see) ∷ []) (taking takes.numbers takes.takes) both takes.moved;
-        dealt = subst (λ (a : Table). Deals peer takes.takes a t.table) table takes.dealt;
-        unknown = takes.unknown;
-        seen = subst (λ (a : Table). DealsIn peer takes.takes a.held t.table.held known known') table takes.seen;
-        told = rw idle (takes.told ∙ ap (λ (ls : List Line). ls ++ last) lines
-            ∙ append_assoc s.lines (beginning begun ++ (front ++ ahead)) last
-            ∙ ap (λ (ls : List Line). s.lines ++ ls) (append_assoc (beginning begun) (front ++ ahead) last ∙ ap (λ (ls : List Line). beginning begun ++ ls) (append_assoc front ahead last)));
-        begins = rw idle (or-true begun);
+        left_free = let many_put = due.left in omega (arith, left, many_put, free_is);
+        left_shown = omega (arith, left_shown, took.many);
+        size_to = size_to;
+        size_from = size_from;
+        moved = m-both x y u (sender (Looked back) ∷ []) (putting fs ++ receiver (receiving.Looked see) ∷ taking took.numbers took.takes) looked-back
+            (m-both y z u (putting fs) (receiver (receiving.Looked see) ∷ taking took.numbers took.takes) due.puts.moved
+            (m-both z w u (receiver (receiving.Looked see) ∷ []) (taking took.numbers took.takes) looked-ahead took.moved));
+        paid = due.puts.table;
+        seen = took.seen;
+        rest = took.rest;
+        stored = took.stored;
+        told =
+            took.told
+            ∙ ap (λ (ls : List Line). ls ++ last) (told3 ∙ ap (λ (ls : List Line). ls ++ look_lines begun2 (see_line peer) see) (due.puts.told ∙ ap (λ (ls : List Line). ls ++ put_lines begun1 peer fs) told1))
+            ∙ after-four s.lines first (put_lines begun1 peer fs) (look_lines begun2 (see_line peer) see) last
+            ∙ ap (λ (c : Bool). s.lines ++ (first ++ (put_lines c peer fs ++ (look_lines begun2 (see_line peer) see ++ last)))) begins1
+            ∙ ap (λ (c : Bool). s.lines ++ (first ++ (put_lines (begun || not (back == 0)) peer fs ++ (look_lines c (see_line peer) see ++ last)))) begins2
+            ∙ ap (λ (ls : List Line). s.lines ++ (first ++ (ls ++ (look_lines ((begun || not (back == 0)) || not (length fs == 0)) (see_line peer) see ++ last)))) (puts-told (begun || not (back == 0)) peer fs)
+            ∙ ap (λ (ls : List Line). s.lines ++ ls) (all-told begun (back == 0) (length fs == 0) (see == 0) (length took.takes == 0) (back_line peer back ∷ []) (map (put_line peer) fs) (see_line peer see ∷ []) last no_puts (none-seen see took.takes many) no_takes);
+        begins = begins3 ∙ ap (λ (c : Bool). c || not (see == 0)) begins2 ∙ all-begun begun (back == 0) (length fs == 0) (see == 0) (length took.takes == 0) (none-seen see took.takes many);
       }
-
--- ---- a domain that has no peer but itself
-
-idle-one : (v : Visit) (b : Bool) → is_idle v ≡ b → (is_idle v && true) ≡ b
-idle-one v true e = ap (λ (x : Bool). x && true) e
-idle-one v false e = ap (λ (x : Bool). x && true) e
-
--- the line of an idle turn is noted after its visits
-noted-turn : (a b lines : List Line) (begun : Bool) (v : Visit) → b ≡ a ++ told_of false v → begun ≡ not (is_idle v) → (begun ≡ true → lines ≡ b) → (begun ≡ false → lines ≡ noted_idle b) → lines ≡ noted a (turned (v ∷ []))
-noted-turn a b lines begun v told begins went idled = go (is_idle v) refl
-  where
-    go : (i : Bool) → is_idle v ≡ i → lines ≡ noted a (turned (v ∷ []))
-    go true e =
-        let same : b ≡ a = told ∙ rw e (append-nil a) in
-        rw e (idled (begins ∙ ap not e) ∙ ap noted_idle same)
-    go false e =
-        let same : b ≡ a ++ turn_line ∷ visit_lines v = told ∙ rw e refl in
-        rw e (went (begins ∙ ap not e) ∙ same ∙ ap (λ (ls : List Line). a ++ turn_line ∷ ls) (sym (append-nil (visit_lines v))))
-
-not-not : (b : Bool) → not (not b) ≡ b
-not-not true = refl
-not-not false = refl
-
--- the visit is that to itself, which looks show all
-module _ (peer : ℕ) (a b : Scene) (begun : Bool) (known known' : Names) (l l' : Loop) (letters : AreForEndpoints (lane_in l).ring) (m : Visits LoopMoved peer false begun (before l.size (length l.free) l.size l.shown (length l.out)) a b known known' l l') where
-  abbrev lane : Lane
-  lane = lane_in l
-
-  abbrev h : Held
-  h = a.table.held
-
-  is : IsVisited lane (lane_in l') m.visit
-  is = loop-visited l l' m.visit m.numbers m.nothing_owed m.each m.moved
-
-  long : length m.visit.takes ≡ count_taken lane
-  long = m.many ∙ ap (min 8) is.see
-
-  frames : frames_of m.visit.takes ≡ frames_taken lane
-  frames = is.frames ∙ ap (λ (k : ℕ). take k lane.ring) long
-
-  taken-letters : AreForEndpoints (frames_of m.visit.takes)
-  taken-letters = subst AreForEndpoints (sym frames) (All-take (count_taken lane) lane.ring letters)
-
-  words : m.visit.takes ≡ taken_at peer h (frames_taken lane)
-  words = m.dealt.words taken-letters ∙ ap (λ (fs : List (List ℕ)). taken_at peer h fs) frames
-
-  held : b.table.held ≡ held_after_all peer h (frames_taken lane)
-  held = m.dealt.held taken-letters ∙ ap (λ (fs : List (List ℕ)). held_after_all peer h fs) frames
-
-  own-is : m.visit ≡ visit peer h lane
-  own-is =
-      let v = m.visit in
-      ap (λ (n : ℕ). record v { peer = n }) m.peer_is
-      ∙ ap (λ (n : ℕ). record v { peer = peer; back = n }) is.back
-      ∙ ap (λ (fs : List (List ℕ)). record v { peer = peer; back = lane.returned; owed = fs }) m.nothing_owed
-      ∙ ap (λ (n : ℕ). record v { peer = peer; back = lane.returned; owed = []; see = n }) is.see
-      ∙ ap (λ (ts : List Taken). record { peer = peer; back = lane.returned; owed = []; see = length lane.ring; takes = ts }) words
-
-  pub turn-idle : not begun ≡ is_idle (visit peer h lane)
-  turn-idle = ap not m.begins ∙ not-not (is_idle m.visit) ∙ ap is_idle own-is
-
-  pub turn-made : (lines : List Line) → (begun ≡ true → lines ≡ b.lines) → (begun ≡ false → lines ≡ noted_idle b.lines) → MakesTurn peer (length l.out) a (scene b.table lines) known known' lane (lane_in l')
-  turn-made lines went idled =
-      let v = m.visit in
-      record {
-        unknown = m.unknown taken-letters;
-        table = m.dealt.rest ∙ ap (λ (x : Held). with_held a.table x) held;
-        lane_is = is.lane
-            ∙ ap (λ (k : ℕ). record { size = lane.size; free = lane.free + lane.returned; ring = drop k lane.ring; returned = returned_at_once v.takes; shown = length lane.ring - k }) long
-            ∙ ap (λ (ts : List Taken). record { size = lane.size; free = lane.free + lane.returned; ring = drop (count_taken lane) lane.ring; returned = returned_at_once ts; shown = length lane.ring - count_taken lane }) words;
-        told = noted-turn a.lines b.lines lines begun v m.told m.begins went idled ∙ ap (λ (x : Visit). noted a.lines (turned (x ∷ []))) own-is;
-        back_fits = let fits = m.back_fits in omega (arith, fits, is.back);
-        sees_shown = let shown = m.sees_shown in omega (arith, shown, is.see);
-        see_fits = let room = m.see_fits in omega (arith, room, is.see);
-      }
-
-pub true-not-false : (b : Bool) → b ≡ true → b ≡ false → ⊥
-true-not-false b yes' no' = cc

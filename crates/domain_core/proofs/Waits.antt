@@ -1,7 +1,6 @@
 -- What waits at endpoints: how much, and what the book of buffers says of it.
-use Rattle.std.proofs.Common.{◌≡◌, ℕ, zero, suc, ◌+◌, ◌<◌, ◌≤◌, Bool, true, false, cond, List, [], ◌∷◌, ◌++◌, length, map, Option, Some, refl, sym, ap, ◌∙◌, arith, length-append, eq-eqb}
-use Rattle.std.specs.Prelude.{count_by, option_map, option_to_list, slice_get, sum_by, ◌==◌}
-use Rattle.std.proofs.lemmas.Bool.{eqb-true}
+use Rattle.std.proofs.Common.{◌≡◌, ℕ, zero, suc, ◌+◌, ◌<◌, ◌≤◌, Bool, true, cond, List, [], ◌∷◌, ◌++◌, length, map, Option, Some, refl, sym, ap, ◌∙◌, arith, length-append}
+use Rattle.std.specs.Prelude.{count_by, option_map, option_to_list, slice_get, sum_by}
 use Rattle.std.proofs.lemmas.List.{length-map, map-append, map_push}
 use Rattle.std.proofs.lemmas.List.Concat.{length-flat_map}
 use Rattle.std.proofs.lemmas.List.Sums.{sum_by_push}
@@ -12,6 +11,7 @@ use Rattle.board_model.specs.Choice.{best, without_best}
 use Rattle.board_model.specs.Dealing.{queued_last}
 use Rattle.board_model.specs.Effect.{received}
 use Rattle.board_model.proofs.ListsCounts.{count-append, count-cons, count-every}
+use Rattle.board_model.proofs.MessageVisitLines.{count-map}
 use Rattle.board_model.proofs.MessageBest.{best-map, count-best, without_best-map}
 use Rattle.mc_base.specs.declared.request.Slot.{Slot}
 use Rattle.buffer_book.specs.Book.{Book, Kept, with_place}
@@ -20,8 +20,8 @@ use Rattle.domain_core.specs.declared.endpoints.Endpoint.{Endpoint}
 use Rattle.domain_core.specs.Table.{items_in}
 use Rattle.domain_core.specs.Records.{all_waiting, waiting_in, with_best_taken, with_waiting}
 use Rattle.domain_core.specs.InBook.{content_in, endpoint_in, endpoints_in, item_in, source_in}
-use Rattle.domain_core.specs.InPlaces.{is_same, one_if, times_waiting}
-use Rattle.domain_core.proofs.Books.{differ-back, itself, queued-there}
+use Rattle.domain_core.specs.InPlaces.{is_of, is_same, one_if, times_waiting}
+use Rattle.domain_core.proofs.Books.{differ-back, queued-there}
 use Rattle.domain_core.proofs.Placed.{no-one}
 
 -- ---- how much waits
@@ -117,24 +117,13 @@ none-there b es i none = ap length (queue-there b es i ∙ ap (map (item_in b)) 
 
 -- ---- all items
 
-items-are : (b : Book) (es : List Endpoint) → items_in (endpoints_in b es) ≡ map (item_in b) (all_waiting es)
+pub items-are : (b : Book) (es : List Endpoint) → items_in (endpoints_in b es) ≡ map (item_in b) (all_waiting es)
 items-are b [] = refl
 items-are b (e ∷ es) = ap (λ (xs : List Item). map (item_in b) e.queue.waiting ++ xs) (items-are b es) ∙ sym (map-append (item_in b) e.queue.waiting (all_waiting es))
 
 pub length-items : (b : Book) (es : List Endpoint) → length (items_in (endpoints_in b es)) ≡ length (all_waiting es)
 length-items b es = ap length (items-are b es) ∙ length-map (all_waiting es) (item_in b)
 
-own_waiting : (b : Book) (number : ℕ) (ws : List Waiting) → ((s : Slot) → (number == s.peer) ≡ false → times_waiting s ws ≡ 0) → count_by (is_from number) (map (item_in b) ws) ≡ length ws
-own_waiting b number [] strangers = refl
-own_waiting b number (w ∷ ws) strangers =
-    let sum = λ (s : Slot). count-cons (λ (x : Waiting). is_same x.slot s) w ws in
-    let rest = own_waiting b number ws (λ s stranger. let none = strangers s stranger in let part = sum s in omega (arith, none, part)) in
-    count-cons (is_from number) (item_in b w) (map (item_in b) ws) ∙ go (number == w.slot.peer) refl rest
-  where
-    go : (x : Bool) → (number == w.slot.peer) ≡ x → count_by (is_from number) (map (item_in b) ws) ≡ length ws → one_if (w.slot.peer == number) + count_by (is_from number) (map (item_in b) ws) ≡ suc (length ws)
-    go true own rest = ap (λ (y : Bool). one_if y + count_by (is_from number) (map (item_in b) ws)) (eq-eqb w.slot.peer number (sym (eqb-true number w.slot.peer own))) ∙ omega (arith, rest)
-    go false stranger rest = absurd (let none = strangers w.slot stranger in let part = count-cons (λ (x : Waiting). is_same x.slot w.slot) w ws in let own : one_if (is_same w.slot w.slot) ≡ 1 = ap one_if (itself w.slot) in omega (arith, none, part, own))
-
--- all items are of the domain itself
-pub own-items : (b : Book) (number : ℕ) (es : List Endpoint) → ((s : Slot) → (number == s.peer) ≡ false → times_waiting s (all_waiting es) ≡ 0) → count_by (is_from number) (items_in (endpoints_in b es)) ≡ length (items_in (endpoints_in b es))
-own-items b number es strangers = ap (count_by (is_from number)) (items-are b es) ∙ own_waiting b number (all_waiting es) strangers ∙ sym (length-items b es)
+-- those from a peer are as many as its slots that wait
+pub items-from : (b : Book) (number : ℕ) (es : List Endpoint) → count_by (is_from number) (items_in (endpoints_in b es)) ≡ count_by (λ (w : Waiting). is_of number w.slot) (all_waiting es)
+items-from b number es = ap (count_by (is_from number)) (items-are b es) ∙ count-map (is_from number) (item_in b) (all_waiting es)

@@ -1,21 +1,27 @@
 -- What every call of a domain does.
--- Source: docs/PROFILE.md, "Calls" and "Serial run". One turn, whose looks show all that stands; then the frames that the
--- call puts; the answer of the state after the turn; and the effect of the call.
-use Rattle.std.specs.Prelude.{◌≡◌, ◌≢◌, ◌≤◌, ℕ, List, ◌++◌, length, map, take, drop, Contains, IfSome, Option, None, Some, option_to_list, Result, Ok, Err}
+-- Source: docs/PROFILE.md, "Calls". One turn; then the frames that the call puts; the answer of the state after the turn; and the
+-- effect of the call.
+use Rattle.std.specs.Prelude.{◌≡◌, ◌≢◌, ◌≤◌, ℕ, List, ◌∷◌, ◌++◌, length, map, take, drop, Contains, IfSome, Option, None, Some, option_to_list, Result, Ok, Err}
 use Rattle.mc_base.specs.declared.refusal.Refusal.{Refusal}
 use Rattle.mc_base.specs.declared.refusal.Refusal.TheVariants.{Pending}
 use Rattle.mc_base.specs.declared.request.Done.{Done}
 use Rattle.mc_base.specs.declared.request.Done.TheVariants as done
 use Rattle.mc_base.specs.declared.request.Got.{Got}
 use Rattle.mc_base.specs.declared.request.RequestId.{RequestId}
+use Rattle.mc_base.specs.declared.request.Slot.{Slot}
 use Rattle.board_model.specs.DomainCall.{DomainCall, test_of, cancel_of}
-use Rattle.board_model.specs.Journal.{Line, noted_all, PlainResult, found_at, was_accepted, was_rejected, brought, ended_by, PlainAnswer, refuses, agrees, tells, gives, completes}
+use Rattle.board_model.specs.Journal.{Line, Visit, turned, noted_all, PlainResult, found_at, was_accepted, was_rejected, brought, ended_by, PlainAnswer, refuses, agrees, tells, gives, completes}
 use Rattle.board_model.specs.Lists.{without}
 use Rattle.board_model.specs.State.{DomainState}
-use Rattle.board_model.specs.Turn.{IsTurn}
-use Rattle.board_model.specs.Answer.{answer, refusal, unless_refused}
-use Rattle.board_model.specs.Serial.{own_turn, after_own_turn, after_own_call, before_answer}
+use Rattle.board_model.specs.Answer.{answer, puts, refusal, unless_refused}
+use Rattle.board_model.specs.Effect.{effect, returns}
+use Rattle.board_model.specs.Serial.{put_entry}
 use Rattle.domain_core.specs.DomainView.{DomainView}
+use Rattle.domain_core.specs.LaneMoves.{LaneMove}
+use Rattle.domain_core.specs.InBook.{item_at}
+use Rattle.domain_core.specs.Stores.{KeepsBut}
+use Rattle.domain_core.specs.AllMoved.{AllMoved, call_moves}
+use Rattle.domain_core.specs.Turned.{Turns}
 
 -- the place of the request that success ends
 abbrev pub success_ends : DomainCall → Option ℕ
@@ -28,18 +34,31 @@ abbrev pub place_ended : DomainState → ℕ → DomainCall → Option ℕ
 place_ended s node call = unless_refused (refusal s node call) None (success_ends call)
 
 -- a key that no request has, and the serial of the next request
-pub record IsFresh (old : DomainView) (id : RequestId) : Type 0 where
-  pub differs : Contains (map (λ i. i.key) old.ids) id.key → ⊥
+pub record IsFresh (ids : List RequestId) (s : DomainState) (id : RequestId) : Type 0 where
+  pub differs : Contains (map (λ i. i.key) ids) id.key → ⊥
   pub is_key : id.key ≢ 4294967295
-  pub serial : id.serial ≡ (after_own_turn old.alone).state.requests_given
+  pub serial : id.serial ≡ s.requests_given
 
-pub record Calls (node : ℕ) (call : DomainCall) (old new : DomainView) (lines lines' : List Line) (answered : PlainAnswer) (given : Option RequestId) : Type 0 where
-  pub turn : IsTurn old.alone.state (own_turn old.alone)
-  pub answer : answered ≡ answer (after_own_turn old.alone).state node call
-  pub state : new.alone ≡ after_own_call (after_own_turn old.alone) node call
-  pub told : lines' ≡ noted_all lines (before_answer old.alone node call)
-  pub ids : new.ids ≡ without (place_ended (after_own_turn old.alone).state node call) old.ids ++ option_to_list given
-  pub fresh : IfSome given (IsFresh old)
+-- A call after its turn. Its answer and its effect are those of the state; at the ends towards each peer it makes the moves of the
+-- frames that it puts there, and then those of the buffers that it gives back there, which held the items that it returns
+pub record Does {L : Type 0} (Moved : L → List LaneMove → L → Type 0) (node : ℕ) (call : DomainCall) (old new : DomainView L) (answered : PlainAnswer) (given : Option RequestId) : Type 0 where
+  pub answer : answered ≡ answer old.state node call
+  pub state : new.state ≡ effect old.state node call
+  pub slots : List Slot
+  pub returned : map (item_at old.book) slots ≡ returns old.state node call
+  pub moved : AllMoved Moved old.ends (call_moves (puts old.state node call) slots (map (λ p. p.number) old.state.peers)) new.ends
+  pub stays : KeepsBut slots old.book new.book
+  pub ids : new.ids ≡ without (place_ended old.state node call) old.ids ++ option_to_list given
+  pub fresh : IfSome given (IsFresh old.ids old.state)
+
+-- a call with its turn, and with the lines of both
+pub record Calls {L : Type 0} (Moved : L → List LaneMove → L → Type 0) (node : ℕ) (call : DomainCall) (old new : DomainView L) (lines lines' : List Line) (answered : PlainAnswer) (given : Option RequestId) : Type 0 where
+  pub visits : List Visit
+  pub numbers : List (List ℕ)
+  pub turned_to : DomainView L
+  pub turns : Turns Moved visits numbers old turned_to
+  pub does : Does Moved node call turned_to new answered given
+  pub told : lines' ≡ noted_all lines (turned visits ∷ map put_entry (puts turned_to.state node call))
 
 -- the answers of the calls, as plain answers
 abbrev pub created : Result ℕ Refusal → PlainAnswer

@@ -9,7 +9,7 @@ use Rattle.mc_base.specs.declared.request.RequestId.{RequestId}
 use Rattle.board_model.specs.Lists.{changed, changed_at}
 use Rattle.board_model.specs.Journal.{Line, Taken, taken, taken_line}
 use Rattle.board_model.specs.State.{Item}
-use Rattle.board_model.specs.Dealing.{row_for, after_frame, keeps_buffer, queued_last, complete_with}
+use Rattle.board_model.specs.Dealing.{row_for, after_frame, item_of, keeps_buffer, queued_last, complete_with}
 use Rattle.board_model.specs.Serial.{word_of}
 use Rattle.domain_core.specs.declared.dealing.Verdict.{Verdict}
 use Rattle.domain_core.specs.declared.dealing.Verdict.TheVariants as verdict
@@ -19,11 +19,12 @@ use Rattle.request_set.specs.Requests.{Requests, IsPending, is_id, request_of}
 use Rattle.domain_core.specs.Table.{Held, Table, keeping, held_in, with_held}
 use Rattle.domain_core.specs.Records.{Records}
 use Rattle.domain_core.specs.InBook.{held_by}
-use Rattle.domain_core.specs.Lane.{IsForEndpoint, AreForEndpoints}
+use Rattle.domain_core.specs.Lane.{IsForEndpoint}
 use Rattle.domain_core.specs.LaneMoves.{LaneMove}
 use Rattle.domain_core.specs.VisitMoves.{taking}
 use Rattle.mc_base.specs.NameMap.{Names}
 use Rattle.domain_core.specs.Seen.{DealsIn}
+use Rattle.domain_core.specs.Stores.{Stores}
 
 -- the word of a frame from a peer, and what is held after it
 abbrev pub word_at : ℕ → Held → List ℕ → Fate
@@ -49,6 +50,7 @@ message_in peer frame size = message peer (source_of frame) (slice_index frame 1
 pub record IsQueued (peer : ℕ) (h : Held) (frame : List ℕ) (place priority size : ℕ) : Type 0 where
   pub word : word_at peer h frame ≡ Queued
   pub leaves : held_after peer h frame ≡ record h { endpoints = changed_at (queued_last (message_in peer frame size)) place h.endpoints }
+  pub item : message_in peer frame size ≡ item_of peer frame
   pub says : slice_index frame 19 ≡ priority
   pub within : place < length h.endpoints
   pub size_fits : size ≤ 488
@@ -58,6 +60,7 @@ pub record IsQueued (peer : ℕ) (h : Held) (frame : List ℕ) (place priority s
 pub record IsHanded (peer : ℕ) (h : Held) (q : Requests) (frame : List ℕ) (id : RequestId) (max size : ℕ) : Type 0 where
   pub word : word_at peer h frame ≡ Handed
   pub leaves : held_after peer h frame ≡ record h { requests = changed (complete_with (message_in peer frame size)) (position (is_id id) q.standing) h.requests }
+  pub item : message_in peer frame size ≡ item_of peer frame
   pub pending : IsPending q id
   pub asks : (at : Local) × (option_map (λ r. r.ask) (request_of q id) ≡ Some (Message at max))
   pub size_fits : size ≤ 488
@@ -82,15 +85,6 @@ pub record IsDealt (peer : ℕ) (b : Book) (r : Records) (q q' : Requests) (name
   pub kept : keeps_buffer (fate_of v) ≡ true → IsForEndpoint frame
   pub seen : keeps_buffer (fate_of v) ≡ false → DealsIn peer (taken frame (fate_of v) ∷ []) (held_by b r q) (held_by b r q') names names'
 
--- frames one after the other: with their words, and what is held after them
-abbrev pub taken_at : ℕ → Held → List (List ℕ) → List Taken
-taken_at peer h [] = []
-taken_at peer h (f ∷ fs) = taken f (word_at peer h f) ∷ taken_at peer (held_after peer h f) fs
-
-abbrev pub held_after_all : ℕ → Held → List (List ℕ) → Held
-held_after_all peer h [] = h
-held_after_all peer h (f ∷ fs) = held_after_all peer (held_after peer h f) fs
-
 -- what is held and the lines of the journal, while frames are taken
 pub record Scene : Type 0 where
   pub table : Table
@@ -103,20 +97,20 @@ scene table lines = record { table = table; lines = lines }
 abbrev pub frames_of : List Taken → List (List ℕ)
 frames_of takes = map (λ t. t.frame) takes
 
--- frames for endpoints have the words that they must, and leave what they must. Nothing but what is held changes
-pub record Deals (peer : ℕ) (takes : List Taken) (old new : Table) : Type 0 where
-  pub words : AreForEndpoints (frames_of takes) → takes ≡ taken_at peer old.held (frames_of takes)
-  pub held : AreForEndpoints (frames_of takes) → new.held ≡ held_after_all peer old.held (frames_of takes)
+-- a frame for an endpoint has the word that it must, and leaves what it must. Nothing but what is held changes
+pub record Deals (peer : ℕ) (frame : List ℕ) (fate : Fate) (old new : Table) : Type 0 where
+  pub word : IsForEndpoint frame → word_at peer old.held frame ≡ fate
+  pub held : IsForEndpoint frame → new.held ≡ held_after peer old.held frame
   pub rest : new ≡ with_held old new.held
 
 -- the lane's moves, what is held and known, and the lines, where so many frames were taken
-pub record Takes {L : Type 0} (Moved : L → List LaneMove → L → Type 0) (peer count : ℕ) (old new : Scene) (names names' : Names) (before after : L) : Type 0 where
+pub record Takes {L : Type 0} (Moved : L → List LaneMove → L → Type 0) (peer count : ℕ) (old new : Scene) (names names' : Names) (b b' : Book) (before after : L) : Type 0 where
   pub takes : List Taken
   pub numbers : List ℕ
   pub many : length takes ≡ count
   pub each : length numbers ≡ count
   pub moved : Moved before (taking numbers takes) after
-  pub dealt : Deals peer takes old.table new.table
-  pub unknown : AreForEndpoints (frames_of takes) → names' ≡ names
   pub seen : DealsIn peer takes old.table.held new.table.held names names'
+  pub rest : new.table ≡ with_held old.table new.table.held
+  pub stored : Stores peer numbers takes b b'
   pub told : new.lines ≡ old.lines ++ map (taken_line peer) takes

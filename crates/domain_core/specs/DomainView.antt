@@ -1,17 +1,31 @@
 -- What contracts see of a domain.
--- Source: docs/PROFILE.md, "A domain" and "Requests".
-use Rattle.std.specs.Prelude.{ℕ, Bool, ◌&&◌, ◌==◌, List, position, Option}
+-- Source: docs/PROFILE.md, "A domain", "Lanes" and "Requests".
+use Rattle.std.specs.Prelude.{ℕ, Bool, ◌&&◌, ◌==◌, List, map, position, Option}
 use Rattle.mc_base.specs.declared.request.RequestId.{RequestId}
-use Rattle.board_model.specs.Serial.{Alone}
+use Rattle.buffer_book.specs.Book.{Book}
+use Rattle.board_model.specs.State.{DomainState}
+use Rattle.request_set.specs.Requests.{Requests}
+use Rattle.endpoint_table.specs.Table as endpoint_table
+use Rattle.domain_core.specs.declared.peer.Peer.{Peer}
+use Rattle.domain_core.specs.Records.{Records}
+use Rattle.domain_core.specs.Peers.{EndsView, state_in}
+use Rattle.domain_core.specs.AllMoved.{ends_of}
 
--- the domain with its lane, and the ids of the requests that stand, in their order
-pub record DomainView : Type 0 where
-  pub alone : Alone
+-- the state; the ends towards each peer, in the order of the state's peers; the ids of the requests that stand, in their order;
+-- and the book of the buffers that are held
+pub record DomainView (L : Type 0) : Type 0 where
+  pub state : DomainState
+  pub ends : List L
   pub ids : List RequestId
+  pub book : Book
+
+-- what its parts show
+abbrev pub domain_in : {L : Type 0} → EndsView L → Book → Records → Requests → endpoint_table.Table → List (Peer L) → DomainView L
+domain_in v b r q t ps = record { state = state_in v b r q t ps; ends = ends_of ps; ids = map (λ r. r.id) q.standing; book = b }
 
 abbrev pub has_id : RequestId → RequestId → Bool
 has_id id i = i.key == id.key && i.serial == id.serial
 
 -- the place of the request with this id
-abbrev pub place_of_id : DomainView → RequestId → Option ℕ
-place_of_id view id = position (has_id id) view.ids
+abbrev pub place_of_id : List RequestId → RequestId → Option ℕ
+place_of_id ids id = position (has_id id) ids

@@ -1,6 +1,6 @@
 -- The announcements that a visit puts: frames of what the table of endpoints owes to a linked domain.
 -- Source: docs/PROFILE.md, "A turn" and "Names".
-use Rattle.std.specs.Prelude.{◌≡◌, ℕ, zero, suc, Bool, List, [], ◌∷◌, ◌++◌, min, not, ◌||◌, length, map, take, ◌==◌, Option, None, Some, if◌then◌else◌}
+use Rattle.std.specs.Prelude.{◌≡◌, ℕ, zero, suc, ◌+◌, Bool, List, [], ◌∷◌, ◌++◌, min, not, ◌||◌, length, map, take, ◌==◌, Option, None, Some, if◌then◌else◌}
 use Rattle.mc_base.specs.Limits.{name_service_address}
 use Rattle.mc_base.specs.Frame.{made}
 use Rattle.mc_base.specs.Announcement.{announcement}
@@ -10,7 +10,7 @@ use Rattle.board_model.specs.Journal.{Line, put_line}
 use Rattle.board_model.specs.Turn.{turn_limit}
 use Rattle.domain_core.specs.LaneMoves.{LaneMove}
 use Rattle.domain_core.specs.VisitMoves.{putting}
-use Rattle.domain_core.specs.Turned.{beginning}
+use Rattle.domain_core.specs.Beginning.{beginning}
 
 -- the frame of an announcement: from the endpoint's address to the name service
 abbrev pub frame_of : ℕ → Announced → List ℕ
@@ -41,11 +41,12 @@ pub record PutsOwed {L : Type 0} (Moved : L → List LaneMove → L → Type 0) 
   pub table : new ≡ paid_times (length frames) old peer
   pub told : lines' ≡ lines ++ put_lines begun peer frames
 
--- all that a visit must put: as many as are owed and as buffers are free, and not over 8
-pub record PutsDue {L : Type 0} (Moved : L → List LaneMove → L → Type 0) (peer : ℕ) (begun begun' : Bool) (free : ℕ) (old new : Table) (lines lines' : List Line) (before after : L) : Type 0 where
+-- all that a visit must put: as many as are owed and as buffers are free, and not over 8. Each takes a free buffer
+pub record PutsDue {L : Type 0} (Moved : L → List LaneMove → L → Type 0) (peer : ℕ) (begun begun' : Bool) (free free' : ℕ) (old new : Table) (lines lines' : List Line) (before after : L) : Type 0 where
   pub frames : List (List ℕ)
   pub puts : PutsOwed Moved peer begun frames old new lines lines' before after
   pub many : length frames ≡ min turn_limit (min free (length (owed_frames old peer)))
+  pub left : free ≡ free' + length frames
   pub begins : begun' ≡ (begun || not (length frames == 0))
 
 -- the room that an entry needs, with the line of a turn that begins with it

@@ -1,9 +1,10 @@
 -- The endpoints of a domain, as the table of them is seen: their names and addresses, and the buffers that wait there.
 -- Source: docs/PROFILE.md, "A domain". Of a buffer that waits stand its slot and its priority here; what it holds is told
 -- in the book of buffers.
-use Rattle.std.specs.Prelude.{ℕ, ◌+◌, List, [], ◌∷◌, ◌++◌, Option, None, Some}
+use Rattle.std.specs.Prelude.{ℕ, ◌+◌, List, [], ◌∷◌, ◌++◌, map, slice_get, Option, None, Some}
 use Rattle.std.specs.List.{flat_map}
 use Rattle.mc_base.specs.declared.name.Local.{Local}
+use Rattle.mc_base.specs.declared.request.Slot.{Slot}
 use Rattle.message_queue.specs.Queue.{Waiting, empty_queue, pushed, popped_best, popped_oldest}
 use Rattle.board_model.specs.Lists.{changed_at, without_at}
 use Rattle.domain_core.specs.declared.endpoints.Endpoint.{Endpoint}
@@ -57,3 +58,7 @@ waiting_in (Some e) = e.queue.waiting
 
 abbrev pub all_waiting : List Endpoint → List Waiting
 all_waiting es = flat_map (λ e. e.queue.waiting) es
+
+-- their buffers, the oldest first, where they wait at the endpoint at a place
+abbrev pub slots_at : Records → ℕ → List Slot
+slots_at r i = map (λ w. w.slot) (waiting_in (slice_get r.endpoints i))

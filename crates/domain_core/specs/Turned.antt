@@ -1,83 +1,99 @@
--- What a visit to a peer does, and a turn of a domain that has no peer but itself.
--- Source: docs/PROFILE.md, "A turn".
-use Rattle.std.specs.Prelude.{◌≡◌, ℕ, ◌+◌, ◌-◌, ◌≤◌, min, Bool, not, ◌||◌, List, [], ◌∷◌, ◌++◌, length, take, drop, if◌then◌else◌}
-use Rattle.board_model.specs.Journal.{Line, Visit, turn_line, visit_lines, is_idle, noted, turned}
-use Rattle.board_model.specs.Turn.{turn_limit}
-use Rattle.board_model.specs.Serial.{returned_at_once}
-use Rattle.domain_core.specs.Table.{Held, Table, with_held}
+-- What a domain does where it visits a peer, and in a turn.
+-- Source: docs/PROFILE.md, "A turn". The numbers of the buffers of the frames that are taken, which no entry tells, are given
+-- beside each visit.
+use Rattle.std.specs.Prelude.{◌≡◌, ℕ, ◌+◌, ◌-◌, ◌≤◌, min, Bool, false, List, [], ◌∷◌, ◌++◌, length, take}
+use Rattle.std.specs.List.{list_all}
+use Rattle.buffer_book.specs.Book.{Book}
+use Rattle.endpoint_table.specs.Table as endpoint_table
+use Rattle.request_set.specs.Requests.{Requests}
+use Rattle.board_model.specs.Journal.{Line, Visit, Taken, turn_line, visit_lines, is_idle, noted, turned}
+use Rattle.board_model.specs.Turn.{turn_limit, IsTurn, AreVisits, after_turn}
 use Rattle.mc_base.specs.NameMap.{Names}
-use Rattle.domain_core.specs.Lane.{Lane, AreForEndpoints}
+use Rattle.domain_core.specs.declared.peer.Peer.{Peer}
+use Rattle.domain_core.specs.Table.{Held}
+use Rattle.domain_core.specs.Records.{Records}
+use Rattle.domain_core.specs.Dealt.{Scene}
 use Rattle.domain_core.specs.Seen.{DealsIn}
+use Rattle.domain_core.specs.Stores.{Stores, KeepsQueued, AreStored}
 use Rattle.domain_core.specs.LaneMoves.{LaneMove}
 use Rattle.domain_core.specs.VisitMoves.{visit_moves}
-use Rattle.domain_core.specs.Dealt.{Scene, Deals, frames_of, taken_at, held_after_all}
+use Rattle.domain_core.specs.Owed.{owed_frames, paid_times}
+use Rattle.domain_core.specs.Beginning.{told_of, has_begun, told_of_all, has_begun_after}
+use Rattle.domain_core.specs.Peers.{EndsView, state_in}
+use Rattle.domain_core.specs.AllMoved.{AllMoved, ends_of, numbers_of, turn_moves}
+use Rattle.domain_core.specs.DomainView.{DomainView}
 
--- a lane before a visit: the sizes of both ways, and how many buffers are free, frames shown, and buffers out
-pub record Before : Type 0 where
+-- how ends towards a peer stand: the sizes of both ways, and how many buffers are free, frames shown, and buffers out
+pub record Standing : Type 0 where
   pub size_to : ℕ
   pub free : ℕ
   pub size_from : ℕ
   pub shown : ℕ
   pub out : ℕ
 
-abbrev pub before : ℕ → ℕ → ℕ → ℕ → ℕ → Before
-before size_to free size_from shown out = record { size_to = size_to; free = free; size_from = size_from; shown = shown; out = out }
+abbrev pub standing : {L : Type 0} → EndsView L → L → Standing
+standing v e = record { size_to = v.size_to e; free = length (v.free e); size_from = v.size_from e; shown = v.shown e; out = length (v.out e) }
 
--- a turn begins with the line of its first visit that is not idle
-abbrev pub beginning : Bool → List Line
-beginning begun = if begun then [] else turn_line ∷ []
-
-abbrev pub told_of : Bool → Visit → List Line
-told_of begun v = if is_idle v then [] else beginning begun ++ visit_lines v
-
--- whether a turn has begun after a visit
-abbrev pub has_begun : Bool → Visit → Bool
-has_begun begun v = begun || not (is_idle v)
-
--- the visit to a peer to whom nothing is owed: its moves, what is held and known, and the lines
-pub record Visits {L : Type 0} (Moved : L → List LaneMove → L → Type 0) (peer : ℕ) (begun begun' : Bool) (at : Before) (old new : Scene) (names names' : Names) (lane after : L) : Type 0 where
+-- a visit to a peer: its moves, what is owed after it, what is held and known, and its lines
+pub record Visits {L : Type 0} (Moved : L → List LaneMove → L → Type 0) (peer : ℕ) (begun begun' : Bool) (at at' : Standing) (old new : Scene) (owing owing' : endpoint_table.Table) (names names' : Names) (b b' : Book) (before after : L) : Type 0 where
   pub visit : Visit
   pub numbers : List ℕ
   pub peer_is : visit.peer ≡ peer
-  pub nothing_owed : visit.owed ≡ []
   pub many : length visit.takes ≡ min turn_limit visit.see
   pub each : length numbers ≡ length visit.takes
   pub back_fits : at.free + visit.back ≤ at.size_to
+  pub puts_due : visit.owed ≡ take (min turn_limit (at.free + visit.back)) (owed_frames owing peer)
   pub sees_shown : at.shown ≤ visit.see
   pub see_fits : at.out + visit.see ≤ at.size_from
-  pub moved : Moved lane (visit_moves visit numbers) after
-  pub dealt : Deals peer visit.takes old.table new.table
-  pub unknown : AreForEndpoints (frames_of visit.takes) → names' ≡ names
+  pub left_free : at'.free ≡ at.free + visit.back - length visit.owed
+  pub left_shown : at'.shown ≡ visit.see - length visit.takes
+  pub size_to : at'.size_to ≡ at.size_to
+  pub size_from : at'.size_from ≡ at.size_from
+  pub moved : Moved before (visit_moves visit numbers) after
+  pub paid : owing' ≡ paid_times (length visit.owed) owing peer
   pub seen : DealsIn peer visit.takes old.table.held new.table.held names names'
+  pub rest : new.table ≡ record old.table { held = new.table.held }
+  pub stored : Stores peer numbers visit.takes b b'
   pub told : new.lines ≡ old.lines ++ told_of begun visit
   pub begins : begun' ≡ has_begun begun visit
 
--- ---- a domain that has no peer but itself
+-- ---- turns
 
--- how many frames it takes, and which
-abbrev pub count_taken : Lane → ℕ
-count_taken l = min turn_limit (length l.ring)
+-- all frames that stay are stored
+abbrev pub AllStored : List Visit → List (List ℕ) → Book → Type 0
+AllStored [] numbers b = Unit {0}
+AllStored (v ∷ vs) [] b = Unit {0}
+AllStored (v ∷ vs) (ns ∷ numbers) b = AreStored v.peer ns v.takes b × AllStored vs numbers b
 
-abbrev pub frames_taken : Lane → List (List ℕ)
-frames_taken l = take (count_taken l) l.ring
+-- each visit has the numbers of as many buffers as it takes frames
+abbrev pub HaveNumbers : List Visit → List (List ℕ) → Type 0
+HaveNumbers [] [] = Unit {0}
+HaveNumbers (v ∷ vs) (ns ∷ numbers) = (length ns ≡ length v.takes) × HaveNumbers vs numbers
+HaveNumbers visits numbers = ⊥
 
--- the visit to itself
-abbrev pub visit : ℕ → Held → Lane → Visit
-visit peer h l = record { peer = peer; back = l.returned; owed = []; see = length l.ring; takes = taken_at peer h (frames_taken l) }
+-- A turn: the visits are those that the lanes allow, and at the ends towards each peer just the moves of the visit to it are made.
+-- What was held stays, and so do the requests' ids
+pub record Turns {L : Type 0} (Moved : L → List LaneMove → L → Type 0) (visits : List Visit) (numbers : List (List ℕ)) (old new : DomainView L) : Type 0 where
+  pub allowed : IsTurn old.state visits
+  pub state : new.state ≡ after_turn old.state visits
+  pub each : HaveNumbers visits numbers
+  pub moved : AllMoved Moved old.ends (turn_moves visits numbers) new.ends
+  pub stays : KeepsQueued old.book new.book
+  pub stored : AllStored visits numbers new.book
+  pub ids : new.ids ≡ old.ids
 
--- what it leaves
-abbrev pub table_after : ℕ → Table → Lane → Table
-table_after peer t l = with_held t (held_after_all peer t.held (frames_taken l))
+-- a turn with the lines of its visits, of which the first that is not idle begins it; and whether one was not idle
+pub record VisitsAll {L : Type 0} (Moved : L → List LaneMove → L → Type 0) (old new : DomainView L) (lines lines' : List Line) (begun : Bool) : Type 0 where
+  pub visits : List Visit
+  pub numbers : List (List ℕ)
+  pub turns : Turns Moved visits numbers old new
+  pub told : lines' ≡ lines ++ told_of_all false visits
+  pub begins : begun ≡ has_begun_after false visits
 
-abbrev pub lane_after : ℕ → Held → Lane → Lane
-lane_after peer h l = record { size = l.size; free = l.free + l.returned; ring = drop (count_taken l) l.ring; returned = returned_at_once (taken_at peer h (frames_taken l)); shown = length l.ring - count_taken l }
-
--- where so many buffers are out
-pub record MakesTurn (peer out : ℕ) (old new : Scene) (names names' : Names) (lane after : Lane) : Type 0 where
-  pub unknown : names' ≡ names
-  pub table : new.table ≡ table_after peer old.table lane
-  pub lane_is : after ≡ lane_after peer old.table.held lane
-  pub told : new.lines ≡ noted old.lines (turned (visit peer old.table.held lane ∷ []))
-  pub back_fits : lane.free + lane.returned ≤ lane.size
-  pub sees_shown : lane.shown ≤ length lane.ring
-  pub see_fits : out + length lane.ring ≤ lane.size
+-- a turn with its line, and whether it was idle
+pub record MakesTurn {L : Type 0} (Moved : L → List LaneMove → L → Type 0) (old new : DomainView L) (lines lines' : List Line) (idle : Bool) : Type 0 where
+  pub visits : List Visit
+  pub numbers : List (List ℕ)
+  pub turns : Turns Moved visits numbers old new
+  pub told : lines' ≡ noted lines (turned visits)
+  pub idle_is : idle ≡ list_all is_idle visits

@@ -64,6 +64,13 @@ impl Endpoints {
         })
     }
 
+    /// The domain's number.
+    pub fn number(&self) -> u8
+        ensures { result ≡ self.now.number }
+    {
+        self.number
+    }
+
     /// The place of the endpoint of this name.
     pub fn place_at(&self, at: Local) -> Option<usize>
         ensures place { (b : Book) → result ≡ place_at (holding (endpoints_in b self.now.endpoints)) at }
@@ -185,7 +192,7 @@ impl Endpoints {
 
     /// How many messages wait.
     pub fn queued(&self) -> usize
-        requires { length (all_waiting self.now.endpoints) ≤ 256 }
+        requires { length (all_waiting self.now.endpoints) < 2 ^ 64 }
         ensures { result ≡ length (all_waiting self.now.endpoints) }
     {
         count_waiting(&self.records)

@@ -1,28 +1,39 @@
-//! One domain alone over its own lane, and the journal of what it does.
+//! One domain over its own lane and its links, and the journal of what it does.
 //!
 //! A domain takes memory where it is opened, and a journal where room is reserved in it. No other call takes any.
 #![tactic(auto)]
 
 mod announcements;
+mod carrying;
 mod dealing;
 mod domain;
 mod endpoints;
+mod ends;
 mod fates;
 mod journal;
 mod link;
+mod link_room;
+mod linking;
 mod messages;
 mod owed;
 mod own_lane;
+mod peer;
 mod peer_lane;
+mod peers;
 mod removal;
 mod requests;
+mod taking;
 mod threads;
 mod turn;
+mod visit;
 
-pub use domain::{CALL_BYTES, CALL_ENTRIES, Domain, Places};
+pub use carrying::{calls_move_ends, domains_stay_linked};
+pub use domain::{CALL_BYTES, CALL_ENTRIES, Domain, Places, carry};
+pub use ends::Ends;
 pub use fates::fault_fate;
 pub use journal::{Answer, Entry, Journal, Told};
 pub use link::Link;
+pub use peer::Peer;
 pub use peer_lane::PeerLane;
 pub use threads::may_cross_threads;
 

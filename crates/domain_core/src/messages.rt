@@ -3,28 +3,22 @@
 ghost use Rattle.std.specs.Prelude.{◌≡◌, ◌≤◌, ◌<◌, ◌++◌, min, length, take, drop};
 ghost use Rattle.mc_base.specs.Frame.{made};
 ghost use Rattle.mc_base.specs.Letter.{spelling, msg};
-ghost use Rattle.domain_core.specs.Lane.{IsForEndpoint};
 
 use bridge_frame::write_letter;
 use mc_base::{FRAME_HEADER_SIZE, Got, LETTER_HEADER_SIZE, Letter, Priority};
-use rpmsg_frame::{made_is_frame, write_header};
+use rpmsg_frame::write_header;
 
 /// Where the content lies in the buffer of a message.
 pub const CONTENT: u32 = (FRAME_HEADER_SIZE + LETTER_HEADER_SIZE) as u32;
 
-/// Writes the frame of a message of at most 488 bytes, and answers its length. The destination is an endpoint's address,
-/// which is 1024 or more. The rest of `out` stays.
+/// Writes the frame of a message of at most 488 bytes, and answers its length. The rest of `out` stays.
 pub fn write(out: &mut [u8], source: u32, destination: u32, priority: Priority, bytes: &[u8]) -> u32
     requires size { length bytes.now ≤ 488 }
-    requires destination { 1024 ≤ destination }
     requires room { length out.old ≡ 512 }
     ensures frame { take result out.new ≡ made source destination (spelling (msg priority bytes.now)) }
-    ensures letter { IsForEndpoint (take result out.new) }
     ensures some { 0 < result }
     ensures len { result ≤ 512 }
 {
-    // So the destination of what is written reads back.
-    made_is_frame();
     let len = write_payload(out, priority, bytes);
     write_header(source, destination, len as u16, out);
     (FRAME_HEADER_SIZE + len) as u32

@@ -8,7 +8,7 @@ ghost use Rattle.domain_core.specs.Owed.{PutsDue, PutsOwed, owed_frames, room_fo
 
 use crate::journal::{Entry, Journal};
 use crate::peer_lane::PeerLane;
-use crate::turn::begin_turn;
+use crate::visit::begin_turn;
 use endpoint_table::EndpointTable;
 use mc_base::{BUFFER_SIZE, NAME_SERVICE_ADDRESS, NS_SIZE, Ns, TURN_FRAMES};
 use name_service::write_ns;
@@ -25,9 +25,9 @@ pub fn put_owed<P: PeerLane>(
 ) -> bool
     requires entry_room { 9 ≤ journal.old.entry_room }
     requires byte_room { 4096 ≤ journal.old.byte_room }
-    ensures puts { PutsDue P.Moved peer begun result (length (P.free lane.old)) table.old table.new journal.old.lines journal.new.lines lane.old lane.new }
+    ensures puts { PutsDue P.Moved peer begun result (length (P.free lane.old)) (length (P.free lane.new)) table.old table.new journal.old.lines journal.new.lines lane.old lane.new }
     ensures kept { (P.shown lane.new ≡ P.shown lane.old) × (P.out lane.new ≡ P.out lane.old) × (P.size_to lane.new ≡ P.size_to lane.old) × (P.size_from lane.new ≡ P.size_from lane.old) }
-    ensures entry_room { journal.old.entry_room ≤ journal.new.entry_room + 9 }
+    ensures entry_room { journal.old.entry_room + room_for result ≤ journal.new.entry_room + 8 + room_for begun }
     ensures byte_room { journal.old.byte_room ≤ journal.new.byte_room + 4096 }
 {
     let mut has_begun = begun;
@@ -56,7 +56,7 @@ fn put_oldest<P: PeerLane>(
     ensures none { result ≡ false → min (length (owed_frames table.old peer)) (length (P.free lane.old)) ≡ 0 }
     ensures table { result ≡ false → table.new ≡ table.old }
     ensures lane { result ≡ false → lane.new ≡ lane.old }
-    ensures lines { result ≡ false → journal.new.lines ≡ journal.old.lines }
+    ensures journal { result ≡ false → journal.new ≡ journal.old }
     ensures kept { (P.shown lane.new ≡ P.shown lane.old) × (P.out lane.new ≡ P.out lane.old) × (P.size_to lane.new ≡ P.size_to lane.old) × (P.size_from lane.new ≡ P.size_from lane.old) }
     ensures entry_room { journal.old.entry_room ≤ journal.new.entry_room + room_for begun }
     ensures byte_room { journal.old.byte_room ≤ journal.new.byte_room + 512 }

@@ -1,6 +1,6 @@
 //! Requests that wait, and those that are complete.
 
-ghost use Rattle.std.specs.Prelude.{◌≡◌, ◌≤◌, ℕ, [], List, Some, IfSome, ◌&&◌, is_none, length, option_map};
+ghost use Rattle.std.specs.Prelude.{◌≡◌, ◌≤◌, ℕ, [], List, Some, IfSome, ◌&&◌, is_none, count_by, ◌==◌, option_map};
 ghost use Rattle.mc_base.specs.declared.name.Local.{Local};
 ghost use Rattle.board_model.specs.State.{Asked};
 ghost use Rattle.board_model.specs.Answer.{result_by};
@@ -92,28 +92,28 @@ pub fn told(how: Complete) -> Done
     }
 }
 
-/// How many messages complete requests hold.
-pub fn messages_handed(requests: &RequestSet) -> u32
+/// How many messages from a peer complete requests hold.
+pub fn messages_handed_from(requests: &RequestSet, peer: u8) -> u32
     requires { AreReceives requests.now }
-    ensures { result ≡ length (handed_slots requests.now.standing) }
+    ensures { result ≡ count_by (λ s. s.peer == peer) (handed_slots requests.now.standing) }
 {
     let mut count = 0;
     for at in 0..MAX_REQUESTS as u32 {
         let Some((_, _, complete)) = requests.listed(at) else {
             break;
         };
-        count += held(complete);
+        count += held_from(complete, peer);
     }
     count
 }
 
-/// How many messages a request holds.
-fn held(complete: Option<Complete>) -> u32
-    ensures count { result ≡ length (slots_in complete) }
+/// How many messages from a peer a request holds.
+fn held_from(complete: Option<Complete>, peer: u8) -> u32
+    ensures count { result ≡ count_by (λ s. s.peer == peer) (slots_in complete) }
     ensures most { result ≤ 1 }
 {
     match complete {
-        Some(Complete::Message(..) | Complete::Packet(_)) => 1,
+        Some(Complete::Message(slot, _) | Complete::Packet(slot)) if slot.peer == peer => 1,
         _ => 0,
     }
 }

@@ -1,19 +1,28 @@
+ghost use Rattle.std.specs.Prelude.{◌≤◌};
+ghost use Rattle.domain_core.specs.Ends.{EndsMoved};
+ghost use Rattle.domain_core.specs.Going.{Goes};
+
 use super::*;
+use lane_end::{AnyRecv, AnySend, RecvEnd, SendEnd};
 use mc_base::{EndName, Fate, Local, NoMemory, Priority, Reason, Refusal};
+use std::alloc::Global;
 use std::process::Abort;
 use std::test::Fail;
 
 mod announcements;
+mod boards;
+mod frames;
 mod joins;
 mod lanes;
+mod limits;
 mod steps;
 
-/// A call at node 0 of domain 3, but for what it says. A message has the same byte throughout.
+/// A call at node 0, but for what it says. A message has the same byte throughout.
 #[derive(Clone, Copy, Debug)]
 enum Call {
     /// Makes an endpoint at a node and port.
     Create(u8, u16),
-    /// Sends from a port to a port: the priority, the byte, and how often it stands.
+    /// Sends from a port to a port of domain 3: the priority, the byte, and how often it stands.
     Send(u16, u16, u8, u8, usize),
     /// Sends two bytes from a port to a port of domain 4.
     SendAbroad(u16, u16),
@@ -26,17 +35,28 @@ use Call::{Create, Receive, Send, SendAbroad};
 /// A call, and what it answers: the address, 0 for a message that was sent, or the size of one that was received.
 type Answered = (Call, Result<u32, Refusal>);
 
+/// A domain without links: its number is 3.
+fn alone(alloc: Global, nodes: u8, pool: u32) -> Result<Domain<AnySend, AnyRecv>, NoMemory>
+    requires some_nodes { 1 ≤ nodes }
+    requires nodes { nodes ≤ 16 }
+    requires some_pool { 1 ≤ pool }
+    requires pool { pool ≤ 256 }
+{
+    Domain::open(alloc, 3, nodes, pool, Vec::new(alloc))
+}
+
 /// Makes a call. Answers `None` where a message has other bytes than it must.
-fn made(
-    domain: &mut Domain,
+fn made<S: SendEnd, R: RecvEnd>(
+    domain: &mut Domain<S, R>,
     journal: &mut Journal,
     call: Call,
-) -> Result<Option<Result<u32, Refusal>>, NoMemory> {
+) -> Option<Result<u32, Refusal>>
+    requires entry_room { 160 ≤ journal.old.entry_room }
+    requires byte_room { 67584 ≤ journal.old.byte_room }
+    ensures { Goes (EndsMoved S.Moved R.Moved) domain.old domain.new }
+{
     match call {
-        Create(node, port) => {
-            journal.reserve(160, 67_584)?;
-            Ok(Some(domain.create(journal, Local { node, port })))
-        }
+        Create(node, port) => Some(domain.create(journal, Local { node, port })),
         Send(from, to, priority, byte, size) => sent(
             domain,
             journal,
@@ -51,18 +71,22 @@ fn made(
     }
 }
 
-fn sent(
-    domain: &mut Domain,
+fn sent<S: SendEnd, R: RecvEnd>(
+    domain: &mut Domain<S, R>,
     journal: &mut Journal,
     from: u16,
-    (number, to): (u8, u16),
+    to: (u8, u16),
     priority: u8,
     byte: u8,
     size: usize,
-) -> Result<Option<Result<u32, Refusal>>, NoMemory> {
-    journal.reserve(160, 67_584)?;
+) -> Option<Result<u32, Refusal>>
+    requires entry_room { 160 ≤ journal.old.entry_room }
+    requires byte_room { 67584 ≤ journal.old.byte_room }
+    ensures { Goes (EndsMoved S.Moved R.Moved) domain.old domain.new }
+{
     let Some(priority) = Priority::new(priority) else {
-        return Ok(None);
+        domain.turn(journal);
+        return None;
     };
     let content = [byte; 489];
     let (bytes, _) = content.split_at(size.min(489));
@@ -70,24 +94,28 @@ fn sent(
         node: 0,
         port: from,
     };
+    let (number, port) = to;
     let to = EndName {
         domain: number,
         node: 0,
-        port: to,
+        port,
     };
     let answer = domain.msg_send(journal, from, to, priority, bytes);
-    Ok(Some(answer.map(|()| 0)))
+    Some(answer.map(|()| 0))
 }
 
 /// What lies behind the bytes that are given must stay.
-fn received(
-    domain: &mut Domain,
+fn received<S: SendEnd, R: RecvEnd>(
+    domain: &mut Domain<S, R>,
     journal: &mut Journal,
     port: u16,
     max: usize,
     byte: u8,
-) -> Result<Option<Result<u32, Refusal>>, NoMemory> {
-    journal.reserve(160, 67_584)?;
+) -> Option<Result<u32, Refusal>>
+    requires entry_room { 160 ≤ journal.old.entry_room }
+    requires byte_room { 67584 ≤ journal.old.byte_room }
+    ensures { Goes (EndsMoved S.Moved R.Moved) domain.old domain.new }
+{
     let mut buffer = [0xee; 488];
     let (out, _) = buffer.split_at_mut(max.min(488));
     let answer = domain.msg_recv(journal, Local { node: 0, port }, out);
@@ -96,9 +124,9 @@ fn received(
         Err(_) => 0,
     };
     if !is_given(out, given, byte) {
-        return Ok(None);
+        return None;
     }
-    Ok(Some(answer.map(|got| got.size)))
+    Some(answer.map(|got| got.size))
 }
 
 /// Whether the first bytes are this one, and the others what they were.
@@ -114,12 +142,13 @@ fn is_given(out: &[u8], given: usize, byte: u8) -> bool {
 /// Asserts what each call answers.
 fn assert_answers(
     rt: &impl Abort,
-    domain: &mut Domain,
+    domain: &mut Domain<AnySend, AnyRecv>,
     journal: &mut Journal,
     rows: &[Answered],
 ) -> Result<(), Fail> {
     for (call, due) in rows {
-        assert_eq!(rt; made(domain, journal, *call)?, Some(*due), "{call:?}");
+        journal.reserve(160, 67_584)?;
+        assert_eq!(rt; made(domain, journal, *call), Some(*due), "{call:?}");
     }
     Ok(())
 }
@@ -149,7 +178,7 @@ const ANSWERS_OF_CALLS: [Answered; 20] = [
 
 #[test]
 fn calls_answer(rt: HostRuntime) -> Result<(), Fail> {
-    let mut domain = Domain::open(rt.alloc(), 3, 2, 2)?;
+    let mut domain = alone(rt.alloc(), 2, 2)?;
     let mut journal = Journal::new(rt.alloc())?;
     assert_answers(&rt, &mut domain, &mut journal, &ANSWERS_OF_CALLS)
 }
@@ -167,7 +196,7 @@ const FOUR_PRIORITIES: [Answered; 8] = [
 
 #[test]
 fn the_best_priority_comes_first(rt: HostRuntime) -> Result<(), Fail> {
-    let mut domain = Domain::open(rt.alloc(), 3, 1, 4)?;
+    let mut domain = alone(rt.alloc(), 1, 4)?;
     let mut journal = Journal::new(rt.alloc())?;
     assert_answers(&rt, &mut domain, &mut journal, &FOUR_PRIORITIES)?;
     assert_eq!(rt; domain.messages_queued(), 1);
@@ -194,7 +223,7 @@ const MESSAGES_APART: [Answered; 12] = [
 
 #[test]
 fn each_message_keeps_its_own_bytes(rt: HostRuntime) -> Result<(), Fail> {
-    let mut domain = Domain::open(rt.alloc(), 3, 1, 2)?;
+    let mut domain = alone(rt.alloc(), 1, 2)?;
     let mut journal = Journal::new(rt.alloc())?;
     assert_answers(&rt, &mut domain, &mut journal, &MESSAGES_APART)?;
     assert_eq!(rt; domain.messages_queued(), 0);
@@ -203,18 +232,14 @@ fn each_message_keeps_its_own_bytes(rt: HostRuntime) -> Result<(), Fail> {
 
 #[test]
 fn sixty_four_endpoints_at_once(rt: HostRuntime) -> Result<(), Fail> {
-    let mut domain = Domain::open(rt.alloc(), 3, 1, 1)?;
+    let mut domain = alone(rt.alloc(), 1, 1)?;
     let mut journal = Journal::new(rt.alloc())?;
     for port in 0..64 {
-        let due = Ok(1024 + u32::from(port));
-        assert_eq!(rt;
-            made(&mut domain, &mut journal, Create(0, port))?,
-            Some(due)
-        );
+        let row = (Create(0, port), Ok(1024 + u32::from(port)));
+        assert_answers(&rt, &mut domain, &mut journal, &[row])?;
     }
-    let due = Err(Refusal::EndpLimit);
-    assert_eq!(rt; made(&mut domain, &mut journal, Create(0, 64))?, Some(due));
-    Ok(())
+    let row = (Create(0, 64), Err(Refusal::EndpLimit));
+    assert_answers(&rt, &mut domain, &mut journal, &[row])
 }
 
 /// An entry as its kind, its peer, its line or its word, its count or its fate, and how many bytes it has.
@@ -303,10 +328,11 @@ const LINES_OF_CALLS: [Line; 7] = [
 
 #[test]
 fn what_happens_is_noted(rt: HostRuntime) -> Result<(), Fail> {
-    let mut domain = Domain::open(rt.alloc(), 3, 1, 2)?;
+    let mut domain = alone(rt.alloc(), 1, 2)?;
     let mut journal = Journal::new(rt.alloc())?;
     for call in &CALLS {
-        made(&mut domain, &mut journal, *call)?;
+        journal.reserve(160, 67_584)?;
+        made(&mut domain, &mut journal, *call);
     }
     assert_lines(&rt, &journal, &LINES_OF_CALLS)
 }

@@ -1,15 +1,18 @@
 //! Calls one after the other, some of which name a request that an earlier one began.
 
+ghost use Rattle.std.specs.Prelude.{◌≤◌};
+ghost use Rattle.domain_core.specs.Ends.{EndsMoved};
+ghost use Rattle.domain_core.specs.Going.{Goes};
+
 use super::*;
 use mc_base::{Done, RequestId};
-use std::alloc::Global;
 
 mod endpoints;
 mod requests;
 
 /// A call. A request is named by its serial.
 #[derive(Clone, Copy, Debug)]
-enum Step {
+pub enum Step {
     /// A call that names no request.
     Plain(Call),
     /// Deletes the endpoint at a node and port.
@@ -32,7 +35,7 @@ use Step::{Available, Begin, Cancel, Delete, Lookup, Plain, Test, Turn};
 
 /// What a call tells that is not refused.
 #[derive(Clone, Copy, Debug, PartialEq, Eq)]
-enum Said {
+pub enum Said {
     /// The number that it answers, the serial of a request that was begun, or 0.
     Number(u64),
     /// The size of the message that a request held, and how many of its bytes were given.
@@ -48,7 +51,7 @@ enum Said {
 use Said::{Address, Ended, Idle, Message, Number};
 
 /// What a call answers.
-type Answered = Result<Said, Refusal>;
+pub type Answered = Result<Said, Refusal>;
 
 /// The id with this serial, or one that was never given.
 fn id_of(ids: &[RequestId], serial: u64) -> RequestId {
@@ -61,18 +64,18 @@ fn id_of(ids: &[RequestId], serial: u64) -> RequestId {
 }
 
 /// Makes a call. Answers `None` where a message has other bytes than it must.
-fn stepped(
-    domain: &mut Domain,
+pub fn stepped<S: SendEnd, R: RecvEnd>(
+    domain: &mut Domain<S, R>,
     journal: &mut Journal,
     ids: &mut Vec<RequestId>,
     step: Step,
-) -> Result<Option<Answered>, NoMemory> {
-    journal.reserve(160, 67_584)?;
+) -> Result<Option<Answered>, NoMemory>
+    requires entry_room { 160 ≤ journal.old.entry_room }
+    requires byte_room { 67584 ≤ journal.old.byte_room }
+    ensures { Goes (EndsMoved S.Moved R.Moved) domain.old domain.new }
+{
     match step {
-        Plain(call) => {
-            let answer = made(domain, journal, call)?;
-            Ok(answer.map(number))
-        }
+        Plain(call) => Ok(made(domain, journal, call).map(number)),
         Delete(node, port) => {
             let answer = domain.delete(journal, Local { node, port });
             Ok(Some(number(answer)))
@@ -94,7 +97,7 @@ fn stepped(
             let answer = domain.msg_available(journal, Local { node: 0, port });
             Ok(Some(number(answer)))
         }
-        Test(serial, byte) => tested(domain, journal, id_of(ids, serial), byte),
+        Test(serial, byte) => Ok(tested(domain, journal, id_of(ids, serial), byte)),
         Cancel(serial) => {
             let answer = domain.cancel(journal, id_of(ids, serial));
             Ok(Some(answer.map(|()| Number(0))))
@@ -124,26 +127,29 @@ fn begun(
 }
 
 /// Tests a request. What lies behind the bytes that are given must stay.
-fn tested(
-    domain: &mut Domain,
+fn tested<S: SendEnd, R: RecvEnd>(
+    domain: &mut Domain<S, R>,
     journal: &mut Journal,
     id: RequestId,
     byte: u8,
-) -> Result<Option<Answered>, NoMemory> {
-    journal.reserve(160, 67_584)?;
+) -> Option<Answered>
+    requires entry_room { 160 ≤ journal.old.entry_room }
+    requires byte_room { 67584 ≤ journal.old.byte_room }
+    ensures { Goes (EndsMoved S.Moved R.Moved) domain.old domain.new }
+{
     let mut out = [0xee; 488];
     let answer = domain.test(journal, id, &mut out);
     let (answer, given) = match answer {
         Ok(Done::Message(got)) => (Ok(Message(got.size, got.given)), got.given),
         Ok(Done::Address(address)) => (Ok(Address(address)), 0),
         Ok(Done::Ended(word)) => (Ok(Ended(word)), 0),
-        Ok(_) => return Ok(None),
+        Ok(_) => return None,
         Err(word) => (Err(word), 0),
     };
     if !is_given(&out, given as usize, byte) {
-        return Ok(None);
+        return None;
     }
-    Ok(Some(answer))
+    Some(answer)
 }
 
 /// A call, its answer, and how many buffers stand in queues and how many are lent from then on.
@@ -156,12 +162,13 @@ fn places((queue, lent): (u32, u32)) -> Option<Places> {
 /// Asserts what each call answers, and what is held from then on.
 fn assert_rows(
     rt: &impl Abort,
-    domain: &mut Domain,
+    domain: &mut Domain<AnySend, AnyRecv>,
     journal: &mut Journal,
     ids: &mut Vec<RequestId>,
     rows: &[Row],
 ) -> Result<(), Fail> {
     for (step, due, held) in rows {
+        journal.reserve(160, 67_584)?;
         let answer = stepped(domain, journal, ids, *step)?;
         assert_eq!(rt; answer, Some(*due), "{step:?}");
         assert_eq!(rt; domain.places(3), places(*held), "{step:?}");
@@ -171,7 +178,7 @@ fn assert_rows(
 
 /// The same in a new domain, whose pool has two buffers.
 fn assert_all(rt: &impl Abort, alloc: Global, rows: &[Row]) -> Result<(), Fail> {
-    let mut domain = Domain::open(alloc, 3, 1, 2)?;
+    let mut domain = alone(alloc, 1, 2)?;
     let mut journal = Journal::new(alloc)?;
     let mut ids = Vec::new(alloc);
     assert_rows(rt, &mut domain, &mut journal, &mut ids, rows)

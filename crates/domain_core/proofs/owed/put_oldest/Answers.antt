@@ -2,7 +2,7 @@ use Rattle.std.proofs.Common.{◌∙◌, ◌++◌, ◌∷◌, [], ap, List, ℕ,
 use Rattle.board_model.specs.Journal.{Line, put_line}
 use Rattle.endpoint_table.specs.Table.{owing_to}
 use Rattle.domain_core.proofs.Owing.{oldest-frame, room-range}
-use Rattle.domain_core.specs.Turned.{beginning}
+use Rattle.domain_core.specs.Beginning.{beginning}
 use Rattle.domain_core.proofs.owed.put_oldest.Goals as goal
 
 pub returns-clause-puts : goal.returns-clause-puts

@@ -1,30 +1,22 @@
-use Rattle.std.proofs.Common.{◌∙◌, refl, sym, ap, arith}
-use Rattle.std.specs.Prelude.{not}
-use Rattle.domain_core.proofs.Visiting.{turn-idle, turn-made, true-not-false}
+use Rattle.std.proofs.Common.{Bool, subst}
+use Rattle.domain_core.specs.Peers.{seen_by}
+use Rattle.domain_core.specs.DomainView.{domain_in}
+use Rattle.domain_core.specs.Turned.{VisitsAll}
+use Rattle.domain_core.proofs.VisitedAll.{turn-begun-made, turn-idle-made}
 use Rattle.domain_core.proofs.turn.make_turn.Goals as goal
 
-pub returns-then-visit_peer-clause-turn : goal.returns-then-visit_peer-clause-turn
-returns-then-visit_peer-clause-turn c =
-    turn-made c.args.peer _ _ c.visit_peer.result _ _ _ _ c.requires.letters c.visit_peer.ensures.visits _ (λ went. refl) (λ idle. absurd (true-not-false _ c.if-visit_peer.true idle))
-
-pub returns-then-visit_peer-clause-idle : goal.returns-then-visit_peer-clause-idle
-returns-then-visit_peer-clause-idle c =
-    sym (ap not c.if-visit_peer.true) ∙ turn-idle c.args.peer _ _ c.visit_peer.result _ _ _ _ c.requires.letters c.visit_peer.ensures.visits
-
-pub note-requires-clause-entry_room : goal.note-requires-clause-entry_room
-note-requires-clause-entry_room c =
-    let idle = c.visit_peer.ensures.idle c.if-visit_peer.false in
-    omega (arith, idle, c.requires.entry_room)
+pub returns-then-visit_peers-clause-turn : goal.returns-then-visit_peers-clause-turn
+returns-then-visit_peers-clause-turn g c =
+    let v = seen_by g.P.PeerLane.size_to g.P.PeerLane.size_from g.P.PeerLane.free g.P.PeerLane.shown g.P.PeerLane.out in
+    let n = c.visit_peers.new in
+    let old = domain_in v c.args.book.now c.args.endpoints.now c.args.requests.now c.args.table.now c.args.peers.now in
+    let new = domain_in v n.book n.endpoints n.requests n.table n.peers in
+    turn-begun-made g.P.PeerLane.Moved old new c.args.journal.now.lines n.journal.lines (subst (λ (b : Bool). VisitsAll g.P.PeerLane.Moved old new c.args.journal.now.lines n.journal.lines b) c.if-visit_peers.true c.visit_peers.ensures.visits)
 
 pub returns-clause-turn : goal.returns-clause-turn
-returns-clause-turn c =
-    turn-made c.args.peer _ _ c.visit_peer.result _ _ _ _ c.requires.letters c.visit_peer.ensures.visits _ (λ went. absurd (true-not-false _ went c.if-visit_peer.false)) (λ idle. c.note.ensures.lines)
-
-pub returns-clause-idle : goal.returns-clause-idle
-returns-clause-idle c =
-    sym (ap not c.if-visit_peer.false) ∙ turn-idle c.args.peer _ _ c.visit_peer.result _ _ _ _ c.requires.letters c.visit_peer.ensures.visits
-
-pub returns-clause-entry_room : goal.returns-clause-entry_room
-returns-clause-entry_room c =
-    let idle = c.visit_peer.ensures.idle c.if-visit_peer.false in
-    omega (arith, idle, c.note.ensures.entry_room)
+returns-clause-turn g c =
+    let v = seen_by g.P.PeerLane.size_to g.P.PeerLane.size_from g.P.PeerLane.free g.P.PeerLane.shown g.P.PeerLane.out in
+    let n = c.visit_peers.new in
+    let old = domain_in v c.args.book.now c.args.endpoints.now c.args.requests.now c.args.table.now c.args.peers.now in
+    let new = domain_in v n.book n.endpoints n.requests n.table n.peers in
+    turn-idle-made g.P.PeerLane.Moved old new c.args.journal.now.lines n.journal.lines c.note.new.self.lines (subst (λ (b : Bool). VisitsAll g.P.PeerLane.Moved old new c.args.journal.now.lines n.journal.lines b) c.if-visit_peers.false c.visit_peers.ensures.visits) c.note.ensures.lines

@@ -82,7 +82,7 @@ const LIMITS: [Row; 9] = [
 
 #[test]
 fn sixty_four_lookups_and_endpoints(rt: HostRuntime) -> Result<(), Fail> {
-    let mut domain = Domain::open(rt.alloc(), 3, 1, 1)?;
+    let mut domain = alone(rt.alloc(), 1, 1)?;
     let mut journal = Journal::new(rt.alloc())?;
     let mut ids = Vec::new(rt.alloc());
     for port in 0..64u16 {

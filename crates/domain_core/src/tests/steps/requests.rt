@@ -76,10 +76,11 @@ const LIMIT: [Row; 3] = [
 
 #[test]
 fn sixty_four_requests_at_once(rt: HostRuntime) -> Result<(), Fail> {
-    let mut domain = Domain::open(rt.alloc(), 3, 1, 1)?;
+    let mut domain = alone(rt.alloc(), 1, 1)?;
     let mut journal = Journal::new(rt.alloc())?;
     let mut ids = Vec::new(rt.alloc());
-    made(&mut domain, &mut journal, Create(0, 1))?;
+    let row = (Plain(Create(0, 1)), Ok(Number(1024)), (0, 0));
+    assert_rows(&rt, &mut domain, &mut journal, &mut ids, &[row])?;
     for serial in 0..64 {
         let row = (Begin(1, 8), Ok(Number(serial)), (0, 0));
         assert_rows(&rt, &mut domain, &mut journal, &mut ids, &[row])?;
@@ -104,7 +105,7 @@ const LINES_OF_HANDED: [Line; 5] = [
 
 #[test]
 fn a_handed_message_is_noted(rt: HostRuntime) -> Result<(), Fail> {
-    let mut domain = Domain::open(rt.alloc(), 3, 1, 1)?;
+    let mut domain = alone(rt.alloc(), 1, 1)?;
     let mut journal = Journal::new(rt.alloc())?;
     let mut ids = Vec::new(rt.alloc());
     assert_rows(&rt, &mut domain, &mut journal, &mut ids, &HANDED)?;

@@ -1,21 +1,10 @@
-use Rattle.std.proofs.Common.{◌∙◌, ap, sym, refl, List, ℕ, map}
-use Rattle.board_model.specs.DomainCall.{DomainCall, delete_at}
-use Rattle.board_model.specs.Journal.{noted, noted_all, turned}
-use Rattle.board_model.specs.Answer.{answer}
-use Rattle.board_model.specs.Serial.{Alone, own_turn, after_own_turn, after_own_call, put_entry}
-use Rattle.domain_core.proofs.Calling.{puts-nothing, same-ids}
+use Rattle.std.proofs.Common.{refl, None}
+use Rattle.board_model.specs.DomainCall.{delete_at}
+use Rattle.domain_core.specs.Calls.{deleted}
+use Rattle.domain_core.specs.Ends.{EndsMoved}
+use Rattle.domain_core.proofs.CallLemmas.{calls-of}
 use Rattle.domain_core.proofs.domain.Domain.delete.Goals as goal
 
 pub returns : goal.returns
-returns c =
-    let call : DomainCall = delete_at c.args.at.port in
-    let node = c.args.at.node in
-    let old = c.args.self.now.alone in
-    record {
-      turn = c.take_turn.ensures.allowed;
-      answer = c.remove_endpoint.ensures.answer ∙ ap (λ (a : Alone). answer a.state node call) c.take_turn.ensures.alone;
-      state = c.remove_endpoint.ensures.alone ∙ ap (λ (a : Alone). after_own_call a node call) c.take_turn.ensures.alone;
-      told = c.take_turn.ensures.told ∙ ap (λ (ps : List (ℕ × List ℕ)). noted_all (noted c.args.journal.now.lines (turned (own_turn old))) (map put_entry ps)) (sym (puts-nothing (after_own_turn old).state node call refl));
-      ids = same-ids (after_own_turn old).state node call c.args.self.now.ids c.remove_endpoint.new.self.ids refl (c.remove_endpoint.ensures.ids ∙ c.take_turn.ensures.ids);
-      fresh = tt;
-    }
+returns g c =
+    calls-of (EndsMoved g.S.SendEnd.Moved g.R.RecvEnd.Moved) c.args.at.node (delete_at c.args.at.port) c.args.self.now c.take_turn.new.self c.remove_endpoint.new.self c.args.journal.now.lines c.take_turn.new.journal.lines c.take_turn.result (deleted c.remove_endpoint.result) None refl c.take_turn.ensures.turn c.remove_endpoint.ensures

@@ -1,22 +1,10 @@
-use Rattle.std.proofs.Common.{◌∙◌, ap, sym, refl, length, List, ℕ, map}
-use Rattle.board_model.specs.DomainCall.{DomainCall}
+use Rattle.std.proofs.Common.{refl, length, None}
 use Rattle.board_model.specs.DomainCall.{receive_at}
-use Rattle.board_model.specs.Journal.{noted, noted_all, turned}
-use Rattle.board_model.specs.Answer.{answer}
-use Rattle.board_model.specs.Serial.{Alone, own_turn, after_own_turn, after_own_call, put_entry}
-use Rattle.domain_core.proofs.Calling.{puts-nothing, same-ids}
+use Rattle.domain_core.specs.Calls.{received}
+use Rattle.domain_core.specs.Ends.{EndsMoved}
+use Rattle.domain_core.proofs.CallLemmas.{calls-of}
 use Rattle.domain_core.proofs.domain.Domain.msg_recv.Goals as goal
 
 pub returns-clause-call : goal.returns-clause-call
-returns-clause-call c =
-    let call : DomainCall = receive_at c.args.at.port (length c.args.out.now) in
-    let node = c.args.at.node in
-    let old = c.args.self.now.alone in
-    record {
-      turn = c.take_turn.ensures.allowed;
-      answer = c.take_message.ensures.answer ∙ ap (λ (a : Alone). answer a.state node call) c.take_turn.ensures.alone;
-      state = c.take_message.ensures.alone ∙ ap (λ (a : Alone). after_own_call a node call) c.take_turn.ensures.alone;
-      told = c.take_turn.ensures.told ∙ ap (λ (ps : List (ℕ × List ℕ)). noted_all (noted c.args.journal.now.lines (turned (own_turn old))) (map put_entry ps)) (sym (puts-nothing (after_own_turn old).state node call refl));
-      ids = same-ids (after_own_turn old).state node call c.args.self.now.ids c.take_message.new.self.ids refl (c.take_message.ensures.ids ∙ c.take_turn.ensures.ids);
-      fresh = tt;
-    }
+returns-clause-call g c =
+    calls-of (EndsMoved g.S.SendEnd.Moved g.R.RecvEnd.Moved) c.args.at.node (receive_at c.args.at.port (length c.args.out.now)) c.args.self.now c.take_turn.new.self c.take_message.new.self c.args.journal.now.lines c.take_turn.new.journal.lines c.take_turn.result (received c.take_message.result c.take_message.new.out) None refl c.take_turn.ensures.turn c.take_message.ensures.does

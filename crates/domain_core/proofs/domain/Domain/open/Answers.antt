@@ -1,54 +1,51 @@
-use Rattle.std.proofs.Common.{◌≡◌, ◌∙◌, ℕ, [], ◌∷◌, ap, sym, subst, arith, length, map}
-use Rattle.std.proofs.lemmas.List.FromFn.{length-range_with_len}
-use Rattle.buffer_book.specs.Book.{Book, opening_book}
-use Rattle.request_set.specs.Requests.{Requests, Standing, no_requests}
-use Rattle.domain_core.specs.InRequests.{AreReceives}
-use Rattle.domain_core.specs.Records.{Records, opening_records}
-use Rattle.lane_end.specs.Loop.{Loop, new_loop}
-use Rattle.domain_core.specs.Lane.{lane_in, AreForEndpoints}
-use Rattle.domain_core.specs.Out.{out_in}
-use Rattle.domain_core.specs.InBook.{table_in}
-use Rattle.domain_core.specs.InPlaces.{AreInPlaces}
-use Rattle.domain_core.specs.Alone.{alone}
-use Rattle.domain_core.proofs.Opening.{placed-opening}
+use Rattle.std.proofs.Common.{◌<◌, ◌∙◌, ℕ, List, map, ap, sym, subst}
+use Rattle.std.specs.Prelude.{sum_by}
+use Rattle.buffer_book.specs.Book.{AllDiffer, opening_book}
+use Rattle.endpoint_table.specs.Table.{opening_table}
+use Rattle.domain_core.specs.AllMoved.{ends_of}
+use Rattle.domain_core.specs.Opened.{sizes_opened}
+use Rattle.domain_core.specs.Records.{opening_records}
+use Rattle.domain_core.proofs.Opening.{ends-opening, parts-sound, parts-state, room-fits, sizes-apart}
 use Rattle.domain_core.proofs.domain.Domain.open.Goals as goal
 
+pub buffers_in-requires : goal.buffers_in-requires
+buffers_in-requires g c =
+    let sizes = c.deref-3.ensures.value ∙ c.in_ok-sizes.ensures ∙ ap (sizes_opened c.args.number c.args.pool) c.deref-2.ensures.value in
+    subst (λ (xs : List (ℕ × ℕ)). sum_by (λ (x : ℕ × ℕ). x.1) xs < 4294967296) (sym sizes)
+    (room-fits g.S.SendEnd.size g.S.SendEnd.free g.R.RecvEnd.size g.R.RecvEnd.shown g.R.RecvEnd.out c.args.number c.args.nodes c.args.pool c.args.links.items c.requires.number c.requires.pool c.requires.peers c.requires.open)
+
+pub new-requires-2 : goal.new-requires-2
+new-requires-2 g c =
+    let sizes = c.deref-5.ensures.value ∙ c.in_ok-sizes.ensures ∙ ap (sizes_opened c.args.number c.args.pool) c.deref-2.ensures.value in
+    subst (λ (xs : List (ℕ × ℕ)). AllDiffer (map (λ (x : ℕ × ℕ). x.0) xs)) (sym sizes) (sizes-apart c.args.number c.args.pool c.args.links.items c.requires.peers)
+
 pub invariant_of-result : goal.invariant_of-result
-invariant_of-result c =
-    let records = c.in_ok-open.ensures in
-    let book = c.in_ok-new.ensures in
-    let lane = c.in_ok-own_lane.ensures in
-    let requests = c.in_ok-new-3.ensures in
-    let r' = opening_records c.args.number c.args.pool in
-    let b' = opening_book ((c.args.number, c.args.pool) ∷ []) in
-    let placed = placed-opening c.args.number c.args.pool c.args.pool in
-    let few : length c.in_ok-open.field-0.endpoints ≡ 0 = ap (λ (r : Records). length r.endpoints) records in
-    let l = c.in_ok-own_lane.field-0 in
-    let size : l.size ≡ c.args.pool = ap (λ (x : Loop). x.size) lane in
-    let none : AreReceives no_requests = record { each = tt; differ = tt; few = omega arith } in
-    record {
-      places = subst (λ (r : Records). AreInPlaces r c.in_ok-new-3.field-0 c.in_ok-new.field-0 (out_in l)) (sym records) (subst (λ (q : Requests). AreInPlaces r' q c.in_ok-new.field-0 (out_in l)) (sym requests) (subst (λ (b : Book). AreInPlaces r' no_requests b (out_in l)) (sym book) (subst (λ (x : Loop). AreInPlaces r' no_requests b' (out_in x)) (sym lane) placed)));
-      receives = subst AreReceives (sym requests) none;
-      size = omega (arith, size, c.requires.pool);
-      room = omega (arith, size, ap (λ (r : Records). r.room) records);
-      number = ap (λ (r : Records). r.number) records;
-      unknown = c.in_ok-new-2.ensures;
-      letters = subst (λ (x : Loop). AreForEndpoints (lane_in x).ring) (sym lane) tt;
-      given = omega (arith, ap (λ (r : Records). r.given) records);
-      few = omega (arith, few);
-    }
+invariant_of-result g c =
+    let sizes = c.in_ok-sizes.ensures ∙ ap (sizes_opened c.args.number c.args.pool) c.deref-2.ensures.value in
+    let linked = c.in_ok-linked.ensures ∙ ap (map (λ l. l.peer)) c.deref.ensures.value in
+    let room = c.buffers_in.ensures ∙ ap (sum_by (λ (x : ℕ × ℕ). x.1)) (c.deref-3.ensures.value ∙ sizes) in
+    parts-sound g.S.SendEnd.size g.S.SendEnd.free g.R.RecvEnd.size g.R.RecvEnd.shown g.R.RecvEnd.out c.args.number c.args.nodes c.args.pool c.args.links.items c.requires.number c.requires.pool c.requires.peers c.requires.open
+    c.in_ok-new-2.field-0 c.in_ok-open.field-0 c.in_ok-new-3.field-0 c.in_ok-new.field-0 c.in_ok-peers_of.field-0.items
+    (c.in_ok-new-2.ensures ∙ ap opening_book (c.deref-5.ensures.value ∙ sizes))
+    (c.in_ok-open.ensures ∙ ap (opening_records c.args.number) room)
+    c.in_ok-new-3.ensures
+    (c.in_ok-new.ensures ∙ ap (opening_table c.args.number c.args.nodes) (c.deref-4.ensures.value ∙ linked))
+    c.in_ok-peers_of.ensures
 
-pub returns-clause-alone : goal.returns-clause-alone
-returns-clause-alone c =
-    let n = c.args.number in
-    let nodes = c.args.nodes in
-    let r' = opening_records n c.args.pool in
-    let b' = opening_book ((n, c.args.pool) ∷ []) in
-    ap (λ (r : Records). alone n nodes (table_in c.in_ok-new.field-0 r c.in_ok-new-3.field-0) (lane_in c.in_ok-own_lane.field-0)) c.in_ok-open.ensures
-    ∙ ap (λ (q : Requests). alone n nodes (table_in c.in_ok-new.field-0 r' q) (lane_in c.in_ok-own_lane.field-0)) c.in_ok-new-3.ensures
-    ∙ ap (λ (b : Book). alone n nodes (table_in b r' no_requests) (lane_in c.in_ok-own_lane.field-0)) c.in_ok-new.ensures
-    ∙ ap (λ (l : Loop). alone n nodes (table_in b' r' no_requests) (lane_in l)) c.in_ok-own_lane.ensures
-    ∙ ap (λ (free : ℕ). alone n nodes (table_in b' r' no_requests) (record (lane_in (new_loop c.args.pool)) { free = free })) (length-range_with_len 0 c.args.pool)
+pub returns-clause-state : goal.returns-clause-state
+returns-clause-state g c =
+    let sizes = c.in_ok-sizes.ensures ∙ ap (sizes_opened c.args.number c.args.pool) c.deref-2.ensures.value in
+    let linked = c.in_ok-linked.ensures ∙ ap (map (λ l. l.peer)) c.deref.ensures.value in
+    let room = c.buffers_in.ensures ∙ ap (sum_by (λ (x : ℕ × ℕ). x.1)) (c.deref-3.ensures.value ∙ sizes) in
+    parts-state g.S.SendEnd.size g.S.SendEnd.free g.R.RecvEnd.size g.R.RecvEnd.shown g.R.RecvEnd.out c.args.number c.args.nodes c.args.pool c.args.links.items c.requires.number c.requires.pool c.requires.peers c.requires.open
+    c.in_ok-new-2.field-0 c.in_ok-open.field-0 c.in_ok-new-3.field-0 c.in_ok-new.field-0 c.in_ok-peers_of.field-0.items
+    (c.in_ok-new-2.ensures ∙ ap opening_book (c.deref-5.ensures.value ∙ sizes))
+    (c.in_ok-open.ensures ∙ ap (opening_records c.args.number) room)
+    c.in_ok-new-3.ensures
+    (c.in_ok-new.ensures ∙ ap (opening_table c.args.number c.args.nodes) (c.deref-4.ensures.value ∙ linked))
+    c.in_ok-peers_of.ensures
 
-pub returns-clause-ids : goal.returns-clause-ids
-returns-clause-ids c = ap (λ (q : Requests). map (λ (r : Standing). r.id) q.standing) c.in_ok-new-3.ensures
+pub returns-clause-ends : goal.returns-clause-ends
+returns-clause-ends g c =
+    ap ends_of c.in_ok-peers_of.ensures
+    ∙ ends-opening g.S.SendEnd.size g.S.SendEnd.free g.R.RecvEnd.size g.R.RecvEnd.shown g.R.RecvEnd.out c.args.number c.args.nodes c.args.pool c.args.links.items c.requires.number c.requires.pool c.requires.peers c.requires.open

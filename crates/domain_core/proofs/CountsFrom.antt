@@ -1,0 +1,195 @@
+-- How many buffers of one peer wait, were handed and stand in the book.
+use Rattle.std.proofs.Common.{◌≡◌, ℕ, zero, suc, ◌+◌, ◌*◌, ◌<◌, ◌≤◌, Bool, true, false, cond, List, [], ◌∷◌, length, map, take, Option, Some, None, refl, sym, ap, ◌∙◌, subst, arith, ne_eqb, is_some, add-one}
+use Rattle.std.specs.Prelude.{count_by, flat_map, is_none, nat_lt, option_and_then, option_map, option_to_list, position, slice_get, ◌==◌, ◌-◌}
+use Rattle.std.specs.List.{AllByRecursion}
+use Rattle.std.proofs.lemmas.Bool.{ltb-true, ltb-false}
+use Rattle.std.proofs.lemmas.List.{length-map, take_all}
+use Rattle.mc_base.specs.declared.request.Slot.{Slot}
+use Rattle.board_model.specs.State.{is_from, lent_from, queued_from}
+use Rattle.board_model.proofs.ListsCounts.{count-append, count-cons}
+use Rattle.buffer_book.specs.Book as book
+use Rattle.buffer_book.specs.Book.{Book, Kept, Shelf, if_queued, kept_on, shelf_of}
+use Rattle.buffer_book.specs.Shelves.{kept_on_place, stands_in_queue}
+use Rattle.endpoint_table.specs.Table as endpoint_table
+use Rattle.lane_end.specs.Numbers.{often}
+use Rattle.lane_end.specs.ReceiverContract.{without}
+use Rattle.lane_end.proofs.CountLemmas.{tick, tick-same, length-apart, length-without, often-without}
+use Rattle.message_queue.specs.Queue.{Waiting}
+use Rattle.request_set.specs.Requests.{Requests, Standing}
+use Rattle.domain_core.specs.declared.peer.Peer.{Peer}
+use Rattle.domain_core.specs.AllMoved.{numbers_of}
+use Rattle.domain_core.specs.InBook.{item_at, item_in}
+use Rattle.domain_core.specs.InPlaces.{AreInPlaces, EachInPlace, is_of, one_if, slot_at, slots_of}
+use Rattle.domain_core.specs.InRequests.{handed_slots, slots_in}
+use Rattle.domain_core.specs.Out.{Out}
+use Rattle.domain_core.specs.Peers.{EndsView, state_in}
+use Rattle.domain_core.specs.Records.{Records, all_waiting}
+use Rattle.domain_core.specs.Sound.{AreRising, AreSound, IsSized, out_at, outs_count}
+use Rattle.domain_core.proofs.Handed.{Listing, items-handed, listing, none-listed, none-past, nothing-there}
+use Rattle.domain_core.proofs.PeerPlaces.{All-at, peer-at}
+use Rattle.domain_core.proofs.Slots.{length-all, slots}
+use Rattle.domain_core.proofs.Waits.{items-are}
+
+-- ---- what waits, and what was handed
+
+waiting-from : (b : Book) (peer : ℕ) (ws : List Waiting) → count_by (is_from peer) (map (item_in b) ws) ≡ count_by (is_of peer) (slots ws)
+waiting-from b peer [] = refl
+waiting-from b peer (w ∷ ws) =
+    count-cons (is_from peer) (item_in b w) (map (item_in b) ws)
+    ∙ ap (λ (k : ℕ). one_if (w.slot.peer == peer) + k) (waiting-from b peer ws)
+    ∙ sym (count-cons (is_of peer) w.slot (slots ws))
+
+handed-from : (b : Book) (peer : ℕ) (ss : List Slot) → count_by (is_from peer) (map (item_at b) ss) ≡ count_by (is_of peer) ss
+handed-from b peer [] = refl
+handed-from b peer (s ∷ ss) =
+    count-cons (is_from peer) (item_at b s) (map (item_at b) ss)
+    ∙ ap (λ (k : ℕ). one_if (s.peer == peer) + k) (handed-from b peer ss)
+    ∙ sym (count-cons (is_of peer) s ss)
+
+-- as the state tells them
+module _ {L : Type 0} (v : EndsView L) (b : Book) (r : Records) (q : Requests) (t : endpoint_table.Table) (ps : List (Peer L)) (peer : ℕ) where
+  pub queued-is : queued_from peer (state_in v b r q t ps) ≡ count_by (is_of peer) (slots (all_waiting r.endpoints))
+  queued-is = ap (count_by (is_from peer)) (items-are b r.endpoints) ∙ waiting-from b peer (all_waiting r.endpoints)
+
+  pub lent-is : lent_from peer (state_in v b r q t ps) ≡ count_by (is_of peer) (handed_slots q.standing)
+  lent-is = ap (count_by (is_from peer)) (items-handed b q.standing) ∙ handed-from b peer (handed_slots q.standing)
+
+-- ---- what the book has of a peer
+
+none-often : (xs : List ℕ) → ((n : ℕ) → often n xs ≡ 0) → length xs ≡ 0
+none-often [] none = refl
+none-often (x ∷ xs) none = absurd (omega (arith, none x, tick-same x x refl))
+
+is-queued : (k : Kept) → true ≡ is_some (if_queued k) → is_none k.lent ≡ true
+is-queued k = go (is_none k.lent)
+  where
+    go : (b : Bool) → true ≡ is_some (cond b (Some k) None) → b ≡ true
+    go true e = refl
+    go false e = sym e
+
+-- numbers from `a` on that stand once where a place is taken, and no others, are as many as the places that are taken
+places-taken : (places : List (Option Kept)) (a : ℕ) (xs : List ℕ) → ((n : ℕ) → n < a → often n xs ≡ 0) → ((n : ℕ) → often (a + n) xs ≡ one_if (is_some (kept_on_place places n))) → ((n : ℕ) → is_some (kept_on_place places n) ≡ is_some (option_and_then if_queued (kept_on_place places n)))
+    → count_by stands_in_queue (flat_map option_to_list places) ≡ length xs
+places-taken [] a xs below each queued = sym (none-often xs (λ n. go n (nat_lt n a) refl))
+  where
+    go : (n : ℕ) (b : Bool) → nat_lt n a ≡ b → often n xs ≡ 0
+    go n true lt = below n (ltb-true n a lt)
+    go n false ge =
+        let le = ltb-false n a ge in
+        let d = n - a in
+        let is : a + d ≡ n = omega (arith, le) in
+        ap (λ (k : ℕ). often k xs) (sym is) ∙ each d
+places-taken (None ∷ places) a xs below each queued =
+    places-taken places (suc a) xs (λ n lt. go n (n == a) refl lt) (λ n. let is : suc a + n ≡ a + suc n = omega arith in ap (λ (k : ℕ). often k xs) is ∙ each (suc n)) (λ n. queued (suc n))
+  where
+    here : often a xs ≡ 0
+    here = let is : a ≡ a + 0 = omega arith in ap (λ (k : ℕ). often k xs) is ∙ each 0
+
+    go : (n : ℕ) (b : Bool) → (n == a) ≡ b → n < suc a → often n xs ≡ 0
+    go n true same lt = let is : n ≡ a = grind (arith, same) in ap (λ (k : ℕ). often k xs) is ∙ here
+    go n false other lt = below n (let differs : n ≡ a → ⊥ = λ e. both n a e other in omega (arith, lt, differs))
+      where
+        both : (n a : ℕ) → n ≡ a → (n == a) ≡ false → ⊥
+        both n a e f = grind (arith, e, f)
+places-taken (Some k ∷ places) a xs below each queued =
+    let rest = without a xs in
+    let one : often a xs ≡ 1 = here in
+    let some : 0 < often a xs = omega (arith, one) in
+    let next = places-taken places (suc a) rest (λ n lt. go n (n == a) refl lt) (λ n. after n) (λ n. queued (suc n)) in
+    let front = count-cons stands_in_queue k (flat_map option_to_list places) in
+    let counts : one_if (stands_in_queue k) ≡ 1 = ap one_if (is-queued k (queued 0)) in
+    omega (arith, next, front, counts, length-without a xs some)
+  where
+    here : often a xs ≡ 1
+    here = let is : a ≡ a + 0 = omega arith in ap (λ (k : ℕ). often k xs) is ∙ each 0
+
+    left : (n : ℕ) → often n xs ≡ often n (without a xs) + tick a n
+    left n = often-without n a xs (omega (arith, here))
+
+    go : (n : ℕ) (b : Bool) → (n == a) ≡ b → n < suc a → often n (without a xs) ≡ 0
+    go n true same lt = let is : a ≡ n = grind (arith, same) in let was : often n xs ≡ 1 = ap (λ (k : ℕ). often k xs) (sym is) ∙ here in omega (arith, was, left n, tick-same a n is)
+    go n false other lt = let was = below n (let differs : n ≡ a → ⊥ = λ e. both n a e other in omega (arith, lt, differs)) in omega (arith, was, left n)
+      where
+        both : (n a : ℕ) → n ≡ a → (n == a) ≡ false → ⊥
+        both n a e f = grind (arith, e, f)
+
+    after : (n : ℕ) → often (suc a + n) (without a xs) ≡ one_if (is_some (kept_on_place places n))
+    after n =
+        let is : suc a + n ≡ a + suc n = omega arith in
+        let was : often (suc a + n) xs ≡ one_if (is_some (kept_on_place places n)) = ap (λ (k : ℕ). often k xs) is ∙ each (suc n) in
+        let other : tick a (suc a + n) ≡ 0 = ap (λ (b : Bool). cond b 1 0) (ne_eqb a (suc a + n) (λ e. omega (arith, e))) in
+        omega (arith, was, left (suc a + n), other)
+
+shelf-taken : (o : Option Shelf) (xs : List ℕ) → ((n : ℕ) → often n xs ≡ one_if (is_some (option_and_then (λ p. p) (option_and_then (λ s. slice_get s.places n) o)))) → ((n : ℕ) → is_some (option_and_then (λ p. p) (option_and_then (λ s. slice_get s.places n) o)) ≡ is_some (option_and_then if_queued (option_and_then (λ p. p) (option_and_then (λ s. slice_get s.places n) o))))
+    → count_by stands_in_queue (kept_on o) ≡ length xs
+shelf-taken None xs each queued = sym (none-often xs each)
+shelf-taken (Some s) xs each queued =
+    places-taken s.places 0 xs (λ n lt. absurd (omega (arith, lt))) (λ n. let is : 0 + n ≡ n = omega arith in ap (λ (k : ℕ). often k xs) is ∙ each n) queued
+
+-- of a peer the book has as many as wait and were handed
+pub kept-are : (peer : ℕ) (o : Out) (ss : List Slot) (b : Book) → EachInPlace peer o ss b [] → book.queued_from b peer ≡ count_by (is_of peer) ss
+kept-are peer o ss b e =
+    let all = shelf-taken (shelf_of b peer) o.numbers (λ n. let once = e.once n in omega (arith, once)) (λ n. e.none_lent (slot_at peer n)) in
+    let are : count_by (is_of peer) ss + 0 ≡ length o.numbers = e.all in
+    omega (arith, all, are)
+
+-- of each peer of a domain
+pub kept-from : {L : Type 0} (v : EndsView L) (b : Book) (r : Records) (q : Requests) (t : endpoint_table.Table) (ps : List (Peer L)) (peer i : ℕ) → Some i ≡ position (λ (p : Peer L). p.number == peer) ps → AreSound v b r q t ps → book.queued_from b peer ≡ count_by (is_of peer) (slots_of r q)
+kept-from v b r q t ps peer i at sound =
+    let found = peer-at ps peer i at in
+    let places = All-at (λ p. AreInPlaces p.number r q b (out_at v p)) ps i found.0 sound.places found.1 in
+    kept-are peer (out_at v found.0) (slots_of r q) b (subst (λ (n : ℕ). EachInPlace n (out_at v found.0) (slots_of r q) b []) found.2 places.each)
+
+pub both-are : (peer : ℕ) (r : Records) (q : Requests) → count_by (is_of peer) (slots_of r q) ≡ count_by (is_of peer) (slots (all_waiting r.endpoints)) + count_by (is_of peer) (handed_slots q.standing)
+both-are peer r q = count-append (is_of peer) (slots (all_waiting r.endpoints)) (handed_slots q.standing)
+
+-- ---- how many messages from a peer complete requests hold
+
+abbrev pub held_there : ℕ → Option Standing → ℕ
+held_there peer None = 0
+held_there peer (Some r) = count_by (is_of peer) (slots_in r.complete)
+
+-- one request more
+handed-take : (peer : ℕ) (rs : List Standing) (k : ℕ) → count_by (is_of peer) (handed_slots (take (suc k) rs)) ≡ count_by (is_of peer) (handed_slots (take k rs)) + held_there peer (slice_get rs k)
+handed-take peer [] k = ap (λ (xs : List Standing). count_by (is_of peer) (handed_slots xs) + 0) (sym (nothing-there k))
+handed-take peer (r ∷ rs) zero = omega (arith, count-append (is_of peer) (slots_in r.complete) [])
+handed-take peer (r ∷ rs) (suc k) =
+    let rest = handed-take peer rs k in
+    let now = count-append (is_of peer) (slots_in r.complete) (handed_slots (take (suc k) rs)) in
+    let before = count-append (is_of peer) (slots_in r.complete) (handed_slots (take k rs)) in
+    omega (arith, rest, now, before)
+
+pub handed-next : (peer : ℕ) (rs : List Standing) (k : ℕ) → count_by (is_of peer) (handed_slots (take (k + 1) rs)) ≡ count_by (is_of peer) (handed_slots (take k rs)) + held_there peer (slice_get rs k)
+handed-next peer rs k = rw add-one (handed-take peer rs k)
+
+pub held-listed : (peer : ℕ) (o : Option Standing) (told : Listing) → Some told ≡ option_map listing o → held_there peer o ≡ count_by (is_of peer) (slots_in told.2)
+held-listed peer None told e = absurd cc
+held-listed peer (Some r) told e = let same : told ≡ listing r = cc in ap (λ (x : Listing). count_by (is_of peer) (slots_in x.2)) (sym same)
+
+pub all-handed : (peer : ℕ) (rs : List Standing) (k : ℕ) → length rs ≤ k → count_by (is_of peer) (handed_slots (take k rs)) ≡ count_by (is_of peer) (handed_slots rs)
+all-handed peer rs k le = ap (λ (xs : List Standing). count_by (is_of peer) (handed_slots xs)) (take_all k rs le)
+
+pub all-listed : (peer : ℕ) (rs : List Standing) (k : ℕ) → None ≡ option_map listing (slice_get rs k) → count_by (is_of peer) (handed_slots (take k rs)) ≡ count_by (is_of peer) (handed_slots rs)
+all-listed peer rs k e = all-handed peer rs k (none-past rs k (none-listed (slice_get rs k) e))
+
+-- ---- how many are held at most: there are 8 peers at most
+
+few-rising : (n : ℕ) (ns : List ℕ) → n ≤ 7 → AllByRecursion (λ m. n < m) ns → AllByRecursion (λ m. m ≤ 7) ns → AreRising ns → n + length ns ≤ 7
+few-rising n [] few above fits rising = omega (arith, few)
+few-rising n (m ∷ ns) few above fits rising = omega (arith, above.0, few-rising m ns fits.0 rising.0 fits.1 rising.1)
+
+few-peers : (ns : List ℕ) → AllByRecursion (λ m. m ≤ 7) ns → AreRising ns → length ns ≤ 8
+few-peers [] fits rising = omega arith
+few-peers (n ∷ ns) fits rising = omega (arith, few-rising n ns fits.0 rising.0 fits.1 rising.1)
+
+outs-fit : {L : Type 0} (v : EndsView L) (r : Records) (q : Requests) (b : Book) (ps : List (Peer L)) → AllByRecursion (λ p. AreInPlaces p.number r q b (out_at v p)) ps → AllByRecursion (IsSized v) ps → outs_count v ps ≤ 256 * length ps
+outs-fit v r q b [] places sizes = omega arith
+outs-fit v r q b (p ∷ ps) places sizes =
+    let here = length-apart (v.size_from p.ends) (v.out p.ends) places.0.each.apart in
+    omega (arith, here, sizes.0.fits, outs-fit v r q b ps places.1 sizes.1)
+
+pub waiting-fits : {L : Type 0} (v : EndsView L) (b : Book) (r : Records) (q : Requests) (t : endpoint_table.Table) (ps : List (Peer L)) → AreSound v b r q t ps → length (all_waiting r.endpoints) ≤ 2048
+waiting-fits v b r q t ps sound =
+    let few = few-peers (numbers_of ps) sound.peers.few sound.peers.rising in
+    let fit = outs-fit v r q b ps sound.places sound.peers.sizes in
+    omega (arith, few, length-map ps (λ p. p.number), fit, sound.total, length-all (all_waiting r.endpoints) (handed_slots q.standing))

@@ -1,0 +1,10 @@
+use Rattle.std.proofs.Common.{◌≡◌, ◌≤◌, take}
+use Rattle.std.specs.Prelude.{count_by, ◌==◌}
+use Rattle.domain_core.specs.InRequests.{handed_slots}
+use Rattle.domain_core.proofs.requests.messages_handed_from.Given as goal
+
+abbrev pub invariant-loop-at : goal.invariant-loop-at
+invariant-loop-at l = record {
+  count : l.count ≡ count_by (λ s. s.peer == l.peer) (handed_slots (take l.at l.requests.standing));
+  bound : l.count ≤ l.at;
+}

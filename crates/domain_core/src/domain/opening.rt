@@ -1,0 +1,77 @@
+//! How a domain begins and ends.
+
+ghost use Rattle.std.specs.Prelude.{◌≡◌, ◌≤◌, [], IfOk, IfSome};
+ghost use Rattle.std.specs.List.{AllByRecursion};
+ghost use Rattle.board_model.specs.State.{opening};
+ghost use Rattle.domain_core.specs.Carrying.{AreLinked, link_to, with_carried};
+ghost use Rattle.domain_core.specs.Opening.{IsOpenLink, AreLinksOf, neighbours_opened, ends_opened, links_in};
+ghost use Rattle.lane_end.specs.Loop.{new_loop};
+
+use crate::carrying::carry_between;
+use crate::domain::Domain;
+use crate::endpoints::Endpoints;
+use crate::link::Link;
+use crate::link_room::LinkRoom;
+use crate::linking::{buffers_in, links_of, numbers_of, peers_of, sizes_of};
+use buffer_book::BufferBook;
+use endpoint_table::EndpointTable;
+use lane_end::{PlainRecv, PlainSend, RecvEnd, SendEnd};
+use mc_base::NoMemory;
+use request_set::RequestSet;
+use std::alloc::Global;
+
+impl<S: SendEnd + Drop, R: RecvEnd + Drop> Domain<S, R> {
+    /// A domain with its number, 0 to 7, 1 to 16 nodes, 1 to 256 buffers for the messages inside it, and its links in the rising
+    /// order of their peers, none of which is the domain itself. Each link's size is that of both its ends, all buffers of its
+    /// sender are free, and nothing is shown or out at its receiver. It makes room for all that its calls need. Want of memory is
+    /// the only refusal; the links are given up then.
+    pub fn open(
+        alloc: Global,
+        number: u8,
+        nodes: u8,
+        pool: u32,
+        links: Vec<Link<S, R>>,
+    ) -> Result<Domain<S, R>, NoMemory>
+        requires number { number ≤ 7 }
+        requires some_nodes { 1 ≤ nodes }
+        requires nodes { nodes ≤ 16 }
+        requires some_pool { 1 ≤ pool }
+        requires pool { pool ≤ 256 }
+        requires peers { AreLinksOf number links.items }
+        requires open { AllByRecursion (IsOpenLink S.size S.free R.size R.shown R.out) links.items }
+        ensures state { IfOk result (λ d. d.state ≡ opening number nodes (neighbours_opened number pool links.items)) }
+        ensures ends { IfOk result (λ d. d.ends ≡ ends_opened number (new_loop pool) links.items) }
+        ensures ids { IfOk result (λ d. d.ids ≡ []) }
+    {
+        let linked = numbers_of(alloc, &links)?;
+        let sizes = sizes_of(alloc, number, pool, &links)?;
+        Ok(Domain {
+            endpoints: Endpoints::open(alloc, number, buffers_in(&sizes))?,
+            table: EndpointTable::new(alloc, number, nodes, &linked)?,
+            book: BufferBook::new(alloc, &sizes)?,
+            peers: peers_of(alloc, number, pool, links)?,
+            requests: RequestSet::new(alloc)?,
+            room: LinkRoom::new(alloc)?,
+        })
+    }
+
+    /// Its links, in the rising order of their peers, as they are.
+    pub fn into_links(self) -> Vec<Link<S, R>>
+        ensures { result.items ≡ links_in self.ends }
+    {
+        links_of(self.room, self.peers)
+    }
+}
+
+/// Shuttles both lanes of the link between two domains: what each put comes to the other, and what each gave back comes back. The
+/// next looks show it.
+pub fn carry(one: &mut Domain<PlainSend, PlainRecv>, two: &mut Domain<PlainSend, PlainRecv>)
+    requires linked { AreLinked one.old.state.number two.old.state.number one.old.ends two.old.ends }
+    ensures one { IfSome (link_to one.old.state.number two.old.ends) (λ b. one.new ≡ record one.old { ends = with_carried two.old.state.number b one.old.ends }) }
+    ensures two { IfSome (link_to two.old.state.number one.old.ends) (λ a. two.new ≡ record two.old { ends = with_carried one.old.state.number a two.old.ends }) }
+    ensures linked { AreLinked one.new.state.number two.new.state.number one.new.ends two.new.ends }
+{
+    let first = one.endpoints.number();
+    let second = two.endpoints.number();
+    carry_between(&mut one.peers, first, &mut two.peers, second);
+}
