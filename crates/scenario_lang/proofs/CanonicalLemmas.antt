@@ -4,7 +4,7 @@ use Rattle.std.specs.Prelude.{codes, decimal}
 use Rattle.board_model.specs.declared.scenario.Call.{Call}
 use Rattle.board_model.specs.declared.scenario.Call.TheVariants.{Create, Delete, Lookup, MsgSend, MsgRecv, MsgRecvI, MsgAvailable, Test, Cancel, Turn}
 use Rattle.board_model.specs.Grammar.{spaced, line_of, call_words, label_words, tries_words}
-use Rattle.scenario_lang.specs.Lines.{label_front, tries_front}
+use Rattle.scenario_lang.specs.CallFronts.{label_front, tries_front}
 
 -- a line begins with its caller and a blank
 caller_then : (caller words : List ℕ) → (caller ++ 32 ∷ words) ++ (10 ∷ []) ≡ caller ++ (32 ∷ (words ++ (10 ∷ [])))

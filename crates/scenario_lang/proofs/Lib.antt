@@ -1,8 +1,4 @@
 mod Options
-mod ToldLemmas
-mod WordLemmas
-mod LineLemmas
-mod TextLemmas
 pub mod CanonicalLemmas
 pub mod FrontLemmas
 pub mod NumeralLemmas

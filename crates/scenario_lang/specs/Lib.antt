@@ -1,6 +1,4 @@
-pub mod Words
-pub mod Lines
-pub mod Told
+pub mod CallFronts
 pub mod Refused
 pub mod Reading
 pub mod Fronts

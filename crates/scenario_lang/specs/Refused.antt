@@ -2,8 +2,6 @@
 -- Source: docs/PROFILE.md: want of memory is the one answer that may come at any time.
 use Rattle.std.specs.Prelude.{ℕ, Result, Ok, Err}
 use Rattle.board_model.specs.declared.reason.LineReason.{LineReason}
-use Rattle.scenario_lang.specs.declared.fault.LineFault.{LineFault}
-use Rattle.scenario_lang.specs.declared.fault.LineFault.TheVariants as line_fault
 use Rattle.scenario_lang.specs.declared.fault.ScenarioFault.{ScenarioFault}
 use Rattle.scenario_lang.specs.declared.fault.ScenarioFault.TheVariants as scenario_fault
 
@@ -12,16 +10,3 @@ abbrev pub IfRefused : {X : Type 0} → Result X ScenarioFault → (ℕ → Line
 IfRefused (Ok x) P = Unit {0}
 IfRefused (Err scenario_fault.NoMemory) P = Unit {0}
 IfRefused (Err (scenario_fault.Refused line reason)) P = P line reason
-
--- a fact where the text is refused
-abbrev pub OnRefused : {X : Type 0} → Result X ScenarioFault → Type 0 → Type 0
-OnRefused r P = IfRefused r (λ line reason. P)
-
--- the same of a part of the text
-abbrev pub AtRefusal : LineFault → Type 0 → Type 0
-AtRefusal line_fault.NoMemory P = Unit {0}
-AtRefusal (line_fault.Refused reason) P = P
-
-abbrev pub OnStopped : {X : Type 0} → Result X LineFault → Type 0 → Type 0
-OnStopped (Ok x) P = Unit {0}
-OnStopped (Err e) P = AtRefusal e P

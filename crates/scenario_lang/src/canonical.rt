@@ -5,7 +5,7 @@ ghost use Rattle.std.specs.List.{flat_map};
 ghost use Rattle.mc_base.specs.Text.{hex_text};
 ghost use Rattle.outer_io.specs.Puts.{Puts};
 ghost use Rattle.board_model.specs.Scenario.{label_in};
-ghost use Rattle.scenario_lang.specs.Lines.{label_front, tries_front};
+ghost use Rattle.scenario_lang.specs.CallFronts.{label_front, tries_front};
 ghost use Rattle.board_model.specs.Grammar.{canonical, domain_text, link_text, call_text, call_words, caller_text, name_text, spaced, line_of};
 
 use board_model::{Call, CallLine, DomainLine, LinkLine, Scenario};

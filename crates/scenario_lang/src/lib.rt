@@ -1,6 +1,6 @@
 //! Scenario files: a text is read as the scenario that it tells, and a scenario is written as its text.
 //!
-//! What the grammar is stands in `board_model`: `IsScenario` says which texts tell which scenario, and `canonical` is the
+//! What the grammar is stands in `board_model`: `told_by` says what a text tells, and `canonical` is the
 //! text of a scenario. `specs/` here says how the readers go over a text. That they find exactly the scenarios of the
 //! grammar is proved, and the contract of `read_scenario` says so without them.
 #![tactic(auto)]
@@ -12,21 +12,16 @@ mod canonical;
 mod fault;
 mod forms;
 mod labels;
-pub mod language;
 mod lines;
 mod numerals;
 mod reading;
-mod told;
-mod words;
 mod writing;
 
 pub use board_model::LineReason;
 pub use canonical::put_scenario;
 pub use fault::ScenarioFault;
-pub use reading::read_scenario;
+pub use reading::{canonical_text_is_read_back, read_scenario};
 pub use writing::write_scenario;
 
-#[cfg(test)]
-mod language_tests;
 #[cfg(test)]
 mod tests;

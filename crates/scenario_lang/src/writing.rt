@@ -33,7 +33,7 @@ impl Sink for TextSink {
 }
 
 /// The canonical text of a scenario. For a scenario that a text tells, it is read back as the same scenario:
-/// `language::canonical_text_is_read_back`. Want of memory is the only refusal.
+/// `canonical_text_is_read_back`. Want of memory is the only refusal.
 pub fn write_scenario(alloc: Global, scenario: &Scenario) -> Result<Vec<u8>, NoMemory>
     ensures { IfOk result (λ v. v.items ≡ canonical scenario.now) }
 {

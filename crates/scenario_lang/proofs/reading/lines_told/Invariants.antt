@@ -2,7 +2,7 @@ use Rattle.std.proofs.Common.{◌≡◌, ◌≤◌, ◌+◌, length}
 use Rattle.board_model.specs.FileLines.{lines_of}
 use Rattle.board_model.specs.Language.{told_from, told_by}
 use Rattle.scenario_lang.specs.Telling.{Keeps}
-use Rattle.scenario_lang.proofs.language.lines_told.Given as goal
+use Rattle.scenario_lang.proofs.reading.lines_told.Given as goal
 
 abbrev pub invariant-loop-rest : goal.invariant-loop-rest
 invariant-loop-rest l = record {

@@ -4,7 +4,7 @@ use Rattle.board_model.specs.Language.{told_by}
 use Rattle.scenario_lang.specs.Reading.{Answers, Fails}
 use Rattle.scenario_lang.specs.Telling.{line_told}
 use Rattle.scenario_lang.proofs.TellingLemmas.{line_more, text_stops}
-use Rattle.scenario_lang.proofs.language.lines_told.Goals as goal
+use Rattle.scenario_lang.proofs.reading.lines_told.Goals as goal
 
 pub loop-rest-preserved : goal.loop-rest-preserved
 loop-rest-preserved c =

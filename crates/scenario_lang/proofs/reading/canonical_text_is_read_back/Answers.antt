@@ -1,5 +1,5 @@
 use Rattle.scenario_lang.proofs.ReadBack.{canonical_read_back}
-use Rattle.scenario_lang.proofs.language.canonical_text_is_read_back.Goals as goal
+use Rattle.scenario_lang.proofs.reading.canonical_text_is_read_back.Goals as goal
 
 pub returns : goal.returns
 returns c = canonical_read_back
