@@ -1,5 +1,5 @@
--- What a runner holds goes along with the run.
-use Rattle.std.proofs.Common.{◌≡◌, ◌≢◌, ℕ, zero, suc, ◌+◌, Bool, true, false, ◌&&◌, cond, List, [], ◌∷◌, ◌++◌, map, Option, Some, None, position, option_map, option_and_then, option_to_list, refl, sym, ap, ◌∙◌, subst, inl, inr, true≢false}
+-- The ids that a runner holds go along with the labels of the run.
+use Rattle.std.proofs.Common.{◌≡◌, ◌≢◌, ℕ, zero, suc, ◌+◌, ◌<◌, ◌≤◌, ◌^◌, Bool, true, false, ◌&&◌, cond, List, [], ◌∷◌, ◌++◌, length, map, Option, Some, None, position, option_map, option_and_then, option_to_list, refl, sym, ap, ap₂, ◌∙◌, subst, inl, inr, arith, true≢false}
 use Rattle.std.specs.Prelude.{◌==◌, is_some, find, unwrap_or, IfSome}
 use Rattle.std.specs.Option.{option_or}
 use Rattle.std.specs.List.{AllByRecursion, position_from}
@@ -7,24 +7,26 @@ use Rattle.std.specs.Str.{bytes_eq}
 use Rattle.std.specs.Map.{update}
 use Rattle.std.proofs.lemmas.Bool.Decides.{eqb_tells}
 use Rattle.std.proofs.lemmas.Slice.Eq.{bytes_eq-Decides}
+use Rattle.std.proofs.lemmas.List.{map-append}
 use Rattle.std.proofs.lemmas.List.Folds.{find-append}
 use Rattle.std.proofs.lemmas.Iterator.Adapters.{position_from-zero}
 use Rattle.mc_base.specs.declared.request.RequestId.{RequestId}
 use Rattle.board_model.specs.declared.scenario.Call.{Call}
 use Rattle.board_model.specs.declared.scenario.Call.TheVariants.{Create, Delete, Lookup, MsgSend, MsgRecv, MsgRecvI, MsgAvailable, Test, Cancel, Turn}
-use Rattle.board_model.specs.declared.scenario.CallLine.{CallLine}
 use Rattle.board_model.specs.DomainCall.{DomainCall, create_at, delete_at, lookup_of, send_from, receive_at, request_at, available_at, test_of, cancel_of, turn_alone}
 use Rattle.board_model.specs.Lists.{without_at, without}
 use Rattle.board_model.specs.State.{DomainState, place_of_request}
 use Rattle.board_model.specs.Answer.{refusal, unless_refused}
-use Rattle.board_model.specs.Labels.{Labelled, serial_of, place_of_label, call_of, with_label}
-use Rattle.board_model.specs.Serial.{Running, own_turn, after_own_turn, own_call}
-use Rattle.board_model.proofs.MessageAlls.{all-append, all-without}
-use Rattle.board_model.proofs.SerialRequests.{turn_serials, request_ended, success_ended, keyed_place}
+use Rattle.board_model.specs.Effect.{effect}
+use Rattle.board_model.specs.Labels.{Labelled, serial_of, place_of_label, call_of, request_given, with_label}
+use Rattle.board_model.proofs.MessageAlls.{all-append, all-weaken, all-without}
+use Rattle.board_model.proofs.SerialRequests.{serials, call_serials, call_gives, given_is, request_ended, success_ended, keyed_place}
+use Rattle.domain_core.specs.Calls.{place_ended, success_ends, IsFresh}
 use Rattle.domain_core.specs.DomainView.{place_of_id, has_id}
-use Rattle.domain_core.specs.Calls.{place_ended, success_ends}
-use Rattle.board_runner.specs.Held.{Ids, id_for, id_or_none, no_id, no_key, told_for, TellsId, Held, IsKnown, StandsFor}
+use Rattle.board_runner.specs.Held.{Ids, id_for, id_or_none, no_id, no_key, told_for, TellsId}
 use Rattle.board_runner.specs.Lines.{call_by}
+use Rattle.board_runner.specs.Near.{PlainDomain}
+use Rattle.board_runner.specs.Stations.{IsKnown, HoldsIds}
 
 -- ---- the call of a line
 
@@ -41,30 +43,24 @@ nowhere : (ids : List RequestId) → AllByRecursion (λ i. i.key ≢ no_key) ids
 nowhere ids all = position_from-zero (has_id no_id) ids ∙ nowhere_from 0 ids all
 
 -- the id that is held for a label stands where the label's request does
-pub place_held : (h : Held) (r : Running) (k : ℕ) (label : List ℕ) → StandsFor h r k → place_of_id h.domain (id_or_none h.ids label) ≡ place_of_label r.labels (after_own_turn r.alone).state label
-place_held h r k label st = go (id_for h.ids label) (st.told label) (st.known label)
+place_held : (d : PlainDomain) (ids : Ids) (labels : List Labelled) (k : ℕ) (label : List ℕ) → HoldsIds d ids labels k → place_of_id d.ids (id_or_none ids label) ≡ place_of_label labels d.state label
+place_held d ids labels k label h = go (id_for ids label) (h.told label) (h.known label)
   where
-    s : DomainState
-    s = (after_own_turn r.alone).state
+    go : (o : Option RequestId) → option_map (λ i. i.serial) o ≡ serial_of labels label → IfSome o (IsKnown d) → place_of_id d.ids (unwrap_or o no_id) ≡ place_of_label labels d.state label
+    go None told known = nowhere d.ids h.keys ∙ ap (option_and_then (place_of_request d.state)) told
+    go (Some id) told known = keyed_place (λ i. i.key) (λ i. i.serial) d.state labels label id.key id.serial d.ids h.serials known.only (sym told)
 
-    go : (o : Option RequestId) → option_map (λ i. i.serial) o ≡ serial_of r.labels label → IfSome o (IsKnown h.domain) → place_of_id h.domain (unwrap_or o no_id) ≡ place_of_label r.labels s label
-    go None told known = nowhere h.domain.ids st.keys ∙ ap (option_and_then (place_of_request s)) told
-    go (Some id) told known = keyed_place (λ i. i.key) (λ i. i.serial) s r.labels label id.key id.serial h.domain.ids (st.serials ∙ sym (turn_serials r.alone.state (own_turn r.alone))) known.alone (sym told)
-
-pub call_is : (h : Held) (r : Running) (k : ℕ) (line : CallLine) → StandsFor h r k → call_by h.ids h.domain line.call ≡ own_call r line
-call_is h r k line st = go line.call
-  where
-    go : (call : Call) → call_by h.ids h.domain call ≡ call_of r.labels (after_own_turn r.alone).state call
-    go (Create port) = refl
-    go (Delete port) = refl
-    go (Lookup name) = refl
-    go (MsgSend port to priority bytes) = refl
-    go (MsgRecv port max) = refl
-    go (MsgRecvI port max) = refl
-    go (MsgAvailable port) = refl
-    go (Test label) = ap test_of (place_held h r k label.items st)
-    go (Cancel label) = ap cancel_of (place_held h r k label.items st)
-    go Turn = refl
+pub call_is : (d : PlainDomain) (ids : Ids) (labels : List Labelled) (k : ℕ) (call : Call) → HoldsIds d ids labels k → call_by ids d.ids call ≡ call_of labels d.state call
+call_is d ids labels k (Create port) h = refl
+call_is d ids labels k (Delete port) h = refl
+call_is d ids labels k (Lookup name) h = refl
+call_is d ids labels k (MsgSend port to priority bytes) h = refl
+call_is d ids labels k (MsgRecv port max) h = refl
+call_is d ids labels k (MsgRecvI port max) h = refl
+call_is d ids labels k (MsgAvailable port) h = refl
+call_is d ids labels k (Test label) h = ap test_of (place_held d ids labels k label.items h)
+call_is d ids labels k (Cancel label) h = ap cancel_of (place_held d ids labels k label.items h)
+call_is d ids labels k Turn h = refl
 
 -- ---- the ids that stand
 
@@ -73,11 +69,11 @@ map-without_at f i [] = refl
 map-without_at f zero (x ∷ xs) = refl
 map-without_at f (suc i) (x ∷ xs) = ap (λ ys. f x ∷ ys) (map-without_at f i xs)
 
-pub map-without : {A B : Type 0} (f : A → B) (o : Option ℕ) (xs : List A) → map f (without o xs) ≡ without o (map f xs)
+map-without : {A B : Type 0} (f : A → B) (o : Option ℕ) (xs : List A) → map f (without o xs) ≡ without o (map f xs)
 map-without f None xs = refl
 map-without f (Some i) xs = map-without_at f i xs
 
-pub map-option : {A B : Type 0} (f : A → B) (o : Option A) → map f (option_to_list o) ≡ option_to_list (option_map f o)
+map-option : {A B : Type 0} (f : A → B) (o : Option A) → map f (option_to_list o) ≡ option_to_list (option_map f o)
 map-option f None = refl
 map-option f (Some x) = refl
 
@@ -93,11 +89,11 @@ same_ends (test_of p) = refl
 same_ends (cancel_of p) = refl
 same_ends turn_alone = refl
 
-pub same_ended : (s : DomainState) (node : ℕ) (call : DomainCall) → place_ended s node call ≡ request_ended s node call
+same_ended : (s : DomainState) (node : ℕ) (call : DomainCall) → place_ended s node call ≡ request_ended s node call
 same_ended s node call = ap (unless_refused (refusal s node call) None) (same_ends call)
 
 -- ids that were there and one that is given: what holds of them
-pub all_ids : (P : RequestId → Type 0) (p : Option ℕ) (ids more : List RequestId) (given : Option RequestId) → more ≡ without p ids ++ option_to_list given → AllByRecursion P ids → IfSome given P → AllByRecursion P more
+all_ids : (P : RequestId → Type 0) (p : Option ℕ) (ids more : List RequestId) (given : Option RequestId) → more ≡ without p ids ++ option_to_list given → AllByRecursion P ids → IfSome given P → AllByRecursion P more
 all_ids P p ids more given e all new = subst (AllByRecursion P) (sym e) (all-append P (without p ids) (option_to_list given) (all-without P p ids all) (one given new))
   where
     one : (o : Option RequestId) → IfSome o P → AllByRecursion P (option_to_list o)
@@ -113,7 +109,7 @@ one_told label other n = go (bytes_eq label other)
     go true = refl
     go false = refl
 
-pub map-or : {A B : Type 0} (f : A → B) (x y : Option A) → option_map f (option_or x y) ≡ option_or (option_map f x) (option_map f y)
+map-or : {A B : Type 0} (f : A → B) (x y : Option A) → option_map f (option_or x y) ≡ option_or (option_map f x) (option_map f y)
 map-or f None y = refl
 map-or f (Some x) y = refl
 
@@ -122,7 +118,7 @@ or-none None = refl
 or-none (Some x) = refl
 
 -- the serials of the labels after a line
-pub serial_after : (labels : List Labelled) (label : Option (List ℕ)) (given : Option RequestId) (other : List ℕ) →
+serial_after : (labels : List Labelled) (label : Option (List ℕ)) (given : Option RequestId) (other : List ℕ) →
     serial_of (with_label labels label (option_map (λ i. i.serial) given)) other ≡ option_or (serial_of labels other) (option_map (λ i. i.serial) (told_for label given other))
 serial_after labels None given other = sym (or-none (serial_of labels other))
 serial_after labels (Some label) None other = sym (or-none (serial_of labels other))
@@ -136,11 +132,11 @@ serial_after labels (Some label) (Some id) other =
     told false = refl
 
 -- what holds of the ids that were held and of one that is given
-pub if_or : (P : RequestId → Type 0) (x y : Option RequestId) → IfSome x P → IfSome y P → IfSome (option_or x y) P
+if_or : (P : RequestId → Type 0) (x y : Option RequestId) → IfSome x P → IfSome y P → IfSome (option_or x y) P
 if_or P None y a b = b
 if_or P (Some x) y a b = a
 
-pub if_told : (P : RequestId → Type 0) (label : Option (List ℕ)) (given : Option RequestId) (other : List ℕ) → IfSome given P → IfSome (told_for label given other) P
+if_told : (P : RequestId → Type 0) (label : Option (List ℕ)) (given : Option RequestId) (other : List ℕ) → IfSome given P → IfSome (told_for label given other) P
 if_told P None given other h = tt
 if_told P (Some label) None other h = tt
 if_told P (Some label) (Some id) other h = go (bytes_eq label other)
@@ -149,7 +145,7 @@ if_told P (Some label) (Some id) other h = go (bytes_eq label other)
     go true = h
     go false = tt
 
-pub if_weaker : (P Q : RequestId → Type 0) (o : Option RequestId) → ((i : RequestId) → P i → Q i) → IfSome o P → IfSome o Q
+if_weaker : (P Q : RequestId → Type 0) (o : Option RequestId) → ((i : RequestId) → P i → Q i) → IfSome o P → IfSome o Q
 if_weaker P Q None f h = tt
 if_weaker P Q (Some i) f h = f i h
 
@@ -176,3 +172,99 @@ tells_new ids more label id none updated other = updated other ∙ go (bytes_eq 
     go false (Some i) h = refl
     go true None h = refl
     go true (Some i) h = absurd (true≢false (h refl))
+
+-- ---- a call
+
+few_more : (new : Option ℕ) → length (option_to_list new) ≤ 1
+few_more None = omega arith
+few_more (Some m) = omega arith
+
+-- the id that a call gives
+record IsNext (s : DomainState) (more : ℕ) (i : RequestId) : Type 0 where
+  serial : i.serial ≡ s.requests_given
+  is_key : i.key ≢ no_key
+  given : i.serial < more
+
+next_id : (ids : List RequestId) (s : DomainState) (node : ℕ) (call : DomainCall) (more : ℕ) (id : Option RequestId) → option_map (λ i. i.serial) id ≡ request_given s node call → more ≡ s.requests_given + length (option_to_list (request_given s node call)) → IfSome id (IsFresh ids s) → IfSome id (IsNext s more)
+next_id ids s node call more None gave counts fresh = tt
+next_id ids s node call more (Some i) gave counts fresh =
+    let is = given_is s node call i.serial (sym gave) in
+    record { serial = is; is_key = fresh.is_key; given = omega (arith, counts, is, ap (λ (o : Option ℕ). length (option_to_list o)) gave) }
+
+-- the ids that stand have the serials of the requests
+serial_list : (s : DomainState) (node : ℕ) (call : DomainCall) (ids : List RequestId) (id : Option RequestId) → map (λ i. i.serial) ids ≡ serials s → option_map (λ i. i.serial) id ≡ request_given s node call →
+    map (λ (i : RequestId). i.serial) (without (place_ended s node call) ids ++ option_to_list id) ≡ serials (effect s node call)
+serial_list s node call ids id stand gave =
+    let p = place_ended s node call in
+    map-append (λ (i : RequestId). i.serial) (without p ids) (option_to_list id)
+    ∙ ap₂ (λ (xs ys : List ℕ). xs ++ ys) (map-without (λ (i : RequestId). i.serial) p ids ∙ ap (without p) stand) (map-option (λ (i : RequestId). i.serial) id ∙ ap option_to_list gave)
+    ∙ ap (λ (q : Option ℕ). without q (serials s) ++ option_to_list (request_given s node call)) (same_ended s node call)
+    ∙ sym (call_serials s node call)
+
+-- an id that was known is known after a call
+still_known : (old new : PlainDomain) (more : ℕ) (p : Option ℕ) (id : Option RequestId) → new.state.requests_given ≡ more → old.state.requests_given ≤ more →
+    new.ids ≡ without p old.ids ++ option_to_list id → IfSome id (IsNext old.state more) → (i : RequestId) → IsKnown old i → IsKnown new i
+still_known old new more p id now rises stays next i known =
+    let lt = known.given in
+    record {
+      given = omega (arith, lt, now, rises);
+      only = all_ids (λ j. j.serial ≡ i.serial → j.key ≡ i.key) p old.ids new.ids id stays known.only (if_weaker (IsNext old.state more) (λ j. j.serial ≡ i.serial → j.key ≡ i.key) id (λ j n e. let ns = n.serial in absurd (omega (arith, ns, e, lt))) next);
+    }
+
+-- and so is one that is given
+newly_known : (old new : PlainDomain) (more : ℕ) (p : Option ℕ) (id : Option RequestId) → new.state.requests_given ≡ more → new.ids ≡ without p old.ids ++ option_to_list id →
+    AllByRecursion (λ i. i.serial < old.state.requests_given) old.ids → IfSome id (IsNext old.state more) → IfSome id (IsKnown new)
+newly_known old new more p None now stays below next = tt
+newly_known old new more p (Some i) now stays below next =
+    let lt = next.given in
+    let is = next.serial in
+    record {
+      given = omega (arith, lt, now);
+      only = all_ids (λ j. j.serial ≡ i.serial → j.key ≡ i.key) p old.ids new.ids (Some i) stays (all-weaken (λ j. j.serial < old.state.requests_given) (λ j. j.serial ≡ i.serial → j.key ≡ i.key) (λ j less e. absurd (omega (arith, less, e, is))) old.ids below) (λ e. refl);
+    }
+
+-- what is held after a call, once the id that it gives is held for the label of its line
+pub holds_after : (old new : PlainDomain) (ids more : Ids) (labels : List Labelled) (k node : ℕ) (call : DomainCall) (label : Option (List ℕ)) (id : Option RequestId) → k + 1 < 2 ^ 64 → HoldsIds old ids labels k →
+    new.state ≡ effect old.state node call → new.ids ≡ without (place_ended old.state node call) old.ids ++ option_to_list id → IfSome id (IsFresh old.ids old.state) → option_map (λ i. i.serial) id ≡ request_given old.state node call → TellsId label id ids more →
+    HoldsIds new more (with_label labels label (request_given old.state node call)) (k + 1)
+holds_after old new ids more labels k node call label id small h is stays fresh gave tells =
+    let s = old.state in
+    let total = (effect s node call).requests_given in
+    let p = place_ended s node call in
+    let before = h.few in
+    let counts : total ≡ s.requests_given + length (option_to_list (request_given s node call)) = call_gives s node call (omega (arith, small, before)) in
+    let rises : s.requests_given ≤ total = omega (arith, counts) in
+    let now : new.state.requests_given ≡ total = ap (λ (x : DomainState). x.requests_given) is in
+    let next : IfSome id (IsNext s total) = next_id old.ids s node call total id gave counts fresh in
+    record {
+      few = omega (arith, now, counts, before, few_more (request_given s node call));
+      serials = ap (map (λ (i : RequestId). i.serial)) stays ∙ serial_list s node call old.ids id h.serials gave ∙ sym (ap serials is);
+      given = subst (λ (n : ℕ). AllByRecursion (λ (i : RequestId). i.serial < n) new.ids) (sym now)
+          (all_ids (λ i. i.serial < total) p old.ids new.ids id stays (all-weaken (λ (i : RequestId). i.serial < s.requests_given) (λ (i : RequestId). i.serial < total) (λ i lt. omega (arith, lt, rises)) old.ids h.given) (if_weaker (IsNext s total) (λ i. i.serial < total) id (λ i n. n.given) next));
+      keys = all_ids (λ i. i.key ≢ no_key) p old.ids new.ids id stays h.keys (if_weaker (IsNext s total) (λ i. i.key ≢ no_key) id (λ i n. n.is_key) next);
+      told = λ other. ap (option_map (λ (i : RequestId). i.serial)) (tells other) ∙ map-or (λ (i : RequestId). i.serial) (id_for ids other) (told_for label id other)
+          ∙ ap (λ (x : Option ℕ). option_or x (option_map (λ (i : RequestId). i.serial) (told_for label id other))) (h.told other)
+          ∙ sym (serial_after labels label id other) ∙ ap (λ (o : Option ℕ). serial_of (with_label labels label o) other) gave;
+      known = λ other. subst (λ (o : Option RequestId). IfSome o (IsKnown new)) (sym (tells other)) (if_or (IsKnown new) (id_for ids other) (told_for label id other)
+          (if_weaker (IsKnown old) (IsKnown new) (id_for ids other) (still_known old new total p id now rises stays next) (h.known other))
+          (if_told (IsKnown new) label id other (newly_known old new total p id now stays h.given next)));
+    }
+
+-- the same ids of the same requests
+known_same : (old new : PlainDomain) → new.state ≡ old.state → new.ids ≡ old.ids → (i : RequestId) → IsKnown old i → IsKnown new i
+known_same old new state ids i known =
+    let lt = known.given in
+    record { given = omega (arith, lt, ap (λ (x : DomainState). x.requests_given) state); only = subst (AllByRecursion (λ j. j.serial ≡ i.serial → j.key ≡ i.key)) (sym ids) known.only }
+
+pub holds_same : (old new : PlainDomain) (ids : Ids) (labels : List Labelled) (k : ℕ) → HoldsIds old ids labels k → new.state ≡ old.state → new.ids ≡ old.ids → HoldsIds new ids labels k
+holds_same old new ids labels k h state same =
+    let few = h.few in
+    let given_same : old.state.requests_given ≡ new.state.requests_given = sym (ap (λ (x : DomainState). x.requests_given) state) in
+    record {
+      few = omega (arith, few, given_same);
+      serials = ap (map (λ (i : RequestId). i.serial)) same ∙ h.serials ∙ sym (ap serials state);
+      given = subst (λ (n : ℕ). AllByRecursion (λ (i : RequestId). i.serial < n) new.ids) given_same (subst (AllByRecursion (λ (i : RequestId). i.serial < old.state.requests_given)) (sym same) h.given);
+      keys = subst (AllByRecursion (λ (i : RequestId). i.key ≢ no_key)) (sym same) h.keys;
+      told = h.told;
+      known = λ label. if_weaker (IsKnown old) (IsKnown new) (id_for ids label) (known_same old new state same) (h.known label);
+    }

@@ -1,9 +1,8 @@
--- The text of a call's line, piece by piece.
-use Rattle.std.proofs.Common.{◌≡◌, Bool, true, false, refl, List, ℕ, [], ◌∷◌, ◌++◌, length, get_or, append_assoc, append-nil, ap, sym, ◌∙◌, arith}
+-- The text of a call's line, and of journals, piece by piece.
+use Rattle.std.proofs.Common.{◌≡◌, Bool, true, false, refl, List, ℕ, zero, suc, ◌+◌, ◌<◌, [], ◌∷◌, ◌++◌, length, map, take, get_or, append_assoc, append-nil, add-one, ap, sym, ◌∙◌, arith}
 use Rattle.std.specs.Prelude.{codes, decimal, nat_lt, if◌then◌else◌}
 use Rattle.mc_base.specs.Text.{hex_text}
 use Rattle.board_model.specs.declared.scenario.DomainLine.{DomainLine}
-use Rattle.board_model.specs.Scenario.{rising_from}
 use Rattle.board_model.specs.Journal.{PlainResult, found_at, was_accepted, was_rejected, brought, ended_by, PlainAnswer, refuses, agrees, tells, gives, completes}
 use Rattle.board_model.specs.Grammar.{spaced, line_of}
 use Rattle.board_model.specs.Report.{answer_words, result_words, lines_text, journals_text}
@@ -41,12 +40,24 @@ spaced-brought size bytes = go (nat_lt (length bytes) size)
     go true = refl
     go false = refl
 
--- where there is one domain and one journal, they are the first ones
-pub one_journal : (domains : List DomainLine) (journals : List Written) (none : DomainLine) (j : Written) (d : DomainLine) → domains ≡ d ∷ [] → length journals ≡ length domains → j ≡ get_or journals 0 j
-    → journals_text (rising_from domains) (lines_in journals) ≡ line_of (codes "journal" ∷ decimal (get_or domains 0 none).domain ∷ []) ++ lines_text j.lines
-one_journal [] journals none j d one len is = absurd cc
-one_journal (x ∷ []) [] none j d one len is = absurd (omega arith)
-one_journal (x ∷ []) (y ∷ []) none j d one len is =
-    append-nil (line_of (codes "journal" ∷ decimal x.domain ∷ []) ++ lines_text y.lines) ∙ ap (λ (w : Written). line_of (codes "journal" ∷ decimal x.domain ∷ []) ++ lines_text w.lines) (sym is)
-one_journal (x ∷ []) (y ∷ z ∷ journals) none j d one len is = absurd (omega arith)
-one_journal (x ∷ w ∷ domains) journals none j d one len is = absurd cc
+-- ---- journals
+
+abbrev numbers_in : List DomainLine → List ℕ
+numbers_in ds = map (λ d. d.domain) ds
+
+next_journal : (ds : List DomainLine) (js : List Written) (i n m : ℕ) (j : Written) → length js ≡ length ds → i < length (numbers_in ds) → n ≡ get_or (numbers_in ds) i m → j ≡ get_or js i j
+    → journals_text (take (suc i) ds) (lines_in (take (suc i) js)) ≡ journals_text (take i ds) (lines_in (take i js)) ++ (line_of (codes "journal" ∷ decimal n ∷ []) ++ lines_text j.lines)
+next_journal [] js i n m j same within is read = absurd (omega (arith, within))
+next_journal (d ∷ ds) [] i n m j same within is read = absurd (omega (arith, same))
+next_journal (d ∷ ds) (k ∷ js) zero n m j same within is read =
+    append-nil (line_of (codes "journal" ∷ decimal d.domain ∷ []) ++ lines_text k.lines)
+    ∙ ap (λ (x : ℕ). line_of (codes "journal" ∷ decimal x ∷ []) ++ lines_text k.lines) (sym is)
+    ∙ ap (λ (w : Written). line_of (codes "journal" ∷ decimal n ∷ []) ++ lines_text w.lines) (sym read)
+next_journal (d ∷ ds) (k ∷ js) (suc i) n m j same within is read =
+    ap (λ t. (line_of (codes "journal" ∷ decimal d.domain ∷ []) ++ lines_text k.lines) ++ t) (next_journal ds js i n m j (omega (arith, same)) (omega (arith, within)) is read)
+    ∙ sym (append_assoc (line_of (codes "journal" ∷ decimal d.domain ∷ []) ++ lines_text k.lines) (journals_text (take i ds) (lines_in (take i js))) (line_of (codes "journal" ∷ decimal n ∷ []) ++ lines_text j.lines))
+
+-- of the domains and journals before a place, and of the next ones
+pub journals-more : (ds : List DomainLine) (js : List Written) (i n m : ℕ) (j : Written) → length js ≡ length ds → i < length (map (λ d. d.domain) ds) → n ≡ get_or (map (λ d. d.domain) ds) i m → j ≡ get_or js i j
+    → journals_text (take (i + 1) ds) (lines_in (take (i + 1) js)) ≡ journals_text (take i ds) (lines_in (take i js)) ++ (line_of (codes "journal" ∷ decimal n ∷ []) ++ lines_text j.lines)
+journals-more ds js i n m j same within is read = ap (λ k. journals_text (take k ds) (lines_in (take k js))) (add-one i) ∙ next_journal ds js i n m j same within is read

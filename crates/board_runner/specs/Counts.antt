@@ -1,6 +1,34 @@
--- A test as a number to add up.
--- Source: plain counting.
-use Rattle.std.specs.Prelude.{ℕ, Bool, if◌then◌else◌}
+-- What a journal's lines count: the frames put to each domain and taken from it, and the messages sent, brought and lost.
+-- Source: docs/FORMATS.md, "Journal text". The lines that count stand in board_model's `Tallies`.
+use Rattle.std.specs.Prelude.{◌≡◌, ℕ, ◌+◌, ◌<◌, ◌^◌, Bool, List, slice_index, count_by, if◌then◌else◌}
+use Rattle.board_model.specs.Journal.{Line}
+use Rattle.board_model.specs.Tallies.{is_put_to, is_taken_from, is_sent_line, is_brought_line, is_lost_line}
+use Rattle.board_runner.specs.declared.counts.Counts.{Counts}
 
+-- a test as a number to add up
 abbrev pub one_if : Bool → ℕ
 one_if b = if b then 1 else 0
+
+-- the numbers are those of these lines
+pub record AreCounts (c : Counts) (lines : List Line) : Type 0 where
+  pub puts : (n : ℕ) → n < 8 → slice_index c.puts n ≡ count_by (is_put_to n) lines
+  pub takes : (n : ℕ) → n < 8 → slice_index c.takes n ≡ count_by (is_taken_from n) lines
+  pub sent : c.sent ≡ count_by is_sent_line lines
+  pub brought : c.brought ≡ count_by is_brought_line lines
+  pub lost : c.lost ≡ count_by is_lost_line lines
+
+-- one more can be counted
+pub record HaveRoom (c : Counts) : Type 0 where
+  pub puts : (n : ℕ) → n < 8 → slice_index c.puts n + 1 < 2 ^ 64
+  pub takes : (n : ℕ) → n < 8 → slice_index c.takes n + 1 < 2 ^ 64
+  pub sent : c.sent + 1 < 2 ^ 64
+  pub brought : c.brought + 1 < 2 ^ 64
+  pub lost : c.lost + 1 < 2 ^ 64
+
+-- a line was counted
+pub record Counted (l : Line) (old new : Counts) : Type 0 where
+  pub puts : (n : ℕ) → n < 8 → slice_index new.puts n ≡ slice_index old.puts n + one_if (is_put_to n l)
+  pub takes : (n : ℕ) → n < 8 → slice_index new.takes n ≡ slice_index old.takes n + one_if (is_taken_from n l)
+  pub sent : new.sent ≡ old.sent + one_if (is_sent_line l)
+  pub brought : new.brought ≡ old.brought + one_if (is_brought_line l)
+  pub lost : new.lost ≡ old.lost + one_if (is_lost_line l)

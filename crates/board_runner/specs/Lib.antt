@@ -1,4 +1,14 @@
+pub mod Carried
 pub mod Counts
 pub mod Held
 pub mod Lines
+pub mod Meeting
+pub mod Near
+pub mod Runs
+pub mod Shuttled
+pub mod Links
+pub mod Opened
+pub mod Lanes
 pub mod Outcome
+pub mod Stations
+pub mod Tallied

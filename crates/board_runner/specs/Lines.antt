@@ -1,54 +1,104 @@
--- What a runner does with a line: the call with its turn, and the note of its answer.
--- Source: docs/PROFILE.md, "Serial run".
-use Rattle.std.specs.Prelude.{◌≡◌, ℕ, ◌+◌, ◌≤◌, List, [], ◌∷◌, ◌++◌, Option, option_map, option_to_list, IfSome}
-use Rattle.mc_base.specs.declared.request.RequestId.{RequestId}
+-- What a runner does with the call of a line at the line's station.
+-- Source: docs/PROFILE.md, "Serial run" and "Tries".
+use Rattle.std.specs.Prelude.{◌≡◌, ℕ, ◌+◌, ◌≤◌, ◌<◌, ◌^◌, Bool, true, false, ◌&&◌, option_map, if◌then◌else◌}
 use Rattle.mc_base.specs.declared.request.Done.{Done}
 use Rattle.mc_base.specs.declared.request.Done.TheVariants as done
+use Rattle.mc_base.specs.declared.request.RequestId.{RequestId}
+use Rattle.lane_end.specs.PlainSender.{Sends}
+use Rattle.lane_end.specs.PlainReceiver.{Receives}
 use Rattle.board_model.specs.declared.scenario.Call.{Call}
 use Rattle.board_model.specs.declared.scenario.Call.TheVariants.{Create, Delete, Lookup, MsgSend, MsgRecv, MsgRecvI, MsgAvailable, Test, Cancel, Turn}
 use Rattle.board_model.specs.declared.scenario.CallLine.{CallLine}
 use Rattle.board_model.specs.DomainCall.{DomainCall, create_at, delete_at, lookup_of, send_from, receive_at, request_at, available_at, test_of, cancel_of, turn_alone}
-use Rattle.board_model.specs.Journal.{Line, called, noted_all}
-use Rattle.board_model.specs.Lists.{without}
-use Rattle.board_model.specs.Answer.{answer}
+use Rattle.board_model.specs.Journal.{Line, PlainAnswer, again, called, noted}
 use Rattle.board_model.specs.Labels.{request_given}
-use Rattle.board_model.specs.Serial.{Running, after_own_turn, after_own_call, before_answer, line_entries, after_line}
-use Rattle.domain_core.specs.DomainView.{DomainView, place_of_id}
-use Rattle.domain_core.specs.Calls.{place_ended, IsFresh}
-use Rattle.board_runner.specs.Held.{Ids, id_or_none, Held, StandsFor}
+use Rattle.board_model.specs.Scenario.{label_in}
+use Rattle.board_model.specs.Step.{is_tried}
+use Rattle.board_model.specs.SerialRun.{word_in}
+use Rattle.board_model.specs.Tallies.{is_delete, number_told}
+use Rattle.domain_core.specs.Calls.{Calls}
+use Rattle.domain_core.specs.DomainView.{place_of_id}
+use Rattle.domain_core.specs.Ends.{EndsMoved}
+use Rattle.domain_core.specs.Entry.{plain_answer, bytes_in_answer}
+use Rattle.std.specs.Prelude.{List}
+use Rattle.board_runner.specs.declared.station.Station.{Station}
+use Rattle.board_runner.specs.declared.line.Made.{Made}
+use Rattle.board_runner.specs.Held.{Ids, id_or_none, TellsId}
+use Rattle.board_runner.specs.Near.{PlainDomain}
 
 -- the call of a line as the domain knows it, by the ids that are held for labels
-abbrev pub call_by : Ids → DomainView → Call → DomainCall
-call_by ids d (Create port) = create_at port
-call_by ids d (Delete port) = delete_at port
-call_by ids d (Lookup name) = lookup_of name
-call_by ids d (MsgSend port to priority bytes) = send_from port to priority bytes
-call_by ids d (MsgRecv port max) = receive_at port max
-call_by ids d (MsgRecvI port max) = request_at port max
-call_by ids d (MsgAvailable port) = available_at port
-call_by ids d (Test label) = test_of (place_of_id d (id_or_none ids label.items))
-call_by ids d (Cancel label) = cancel_of (place_of_id d (id_or_none ids label.items))
-call_by ids d Turn = turn_alone
+abbrev pub call_by : Ids → List RequestId → Call → DomainCall
+call_by ids standing (Create port) = create_at port
+call_by ids standing (Delete port) = delete_at port
+call_by ids standing (Lookup name) = lookup_of name
+call_by ids standing (MsgSend port to priority bytes) = send_from port to priority bytes
+call_by ids standing (MsgRecv port max) = receive_at port max
+call_by ids standing (MsgRecvI port max) = request_at port max
+call_by ids standing (MsgAvailable port) = available_at port
+call_by ids standing (Test label) = test_of (place_of_id standing (id_or_none ids label.items))
+call_by ids standing (Cancel label) = cancel_of (place_of_id standing (id_or_none ids label.items))
+call_by ids standing Turn = turn_alone
 
--- a call as the domain knows it was made, and its entries stand in the journal
-pub record MakesCall (number node : ℕ) (call : DomainCall) (old new : DomainView) (lines lines' : List Line) (given : Option RequestId) : Type 0 where
-  pub state : new.alone ≡ after_own_call (after_own_turn old.alone) node call
-  pub told : lines' ≡ noted_all lines (before_answer old.alone node call ++ called number (answer (after_own_turn old.alone).state node call) ∷ [])
-  pub ids : new.ids ≡ without (place_ended (after_own_turn old.alone).state node call) old.ids ++ option_to_list given
-  pub fresh : IfSome given (IsFresh old)
-  pub gives : option_map (λ i. i.serial) given ≡ request_given (after_own_turn old.alone).state node call
-
--- the call of this line was made, and its entries stand in the journal. The lines are numbered from 1
-pub record RunsLine (number : ℕ) (line : CallLine) (old new : Held) (lines lines' : List Line) : Type 0 where
-  pub stands : (r : Running) (k : ℕ) → number ≡ k + 1 → StandsFor old r k → StandsFor new (after_line r line) number
-  pub told : (r : Running) (k : ℕ) → number ≡ k + 1 → StandsFor old r k → lines' ≡ noted_all lines (line_entries r number line)
+abbrev pub call_at_station : CallLine → Station → DomainCall
+call_at_station line st = call_by st.ids st.domain.ids line.call
 
 -- a receive asks for so many bytes at most
 abbrev pub AsksAtMost : ℕ → Call → Type 0
 AsksAtMost n (MsgRecv port max) = max ≤ n
 AsksAtMost n other = Unit {0}
 
--- of a message, so many bytes were given at most
+-- how many messages a call dropped, where it is a delete
+abbrev pub dropped_by : Call → PlainAnswer → ℕ
+dropped_by call a = if is_delete call then number_told a else 0
+
+-- of a message, a test gave so many bytes at most
 abbrev pub GivesWithin : ℕ → Done → Type 0
 GivesWithin n (done.Message got) = got.given ≤ n
 GivesWithin n other = Unit {0}
+
+-- a call with its turn at a domain alone: its answer, and the id that it gives
+pub record CallsDomain (node : ℕ) (call : DomainCall) (old new : PlainDomain) (lines lines' : List Line) (m : Made) : Type 0 where
+  pub calls : Calls (EndsMoved Sends Receives) node call old new lines lines' (plain_answer m.answer) m.given
+  pub gives : option_map (λ i. i.serial) m.given ≡ request_given calls.turned_to.state node call
+  pub bytes_fit : bytes_in_answer m.answer ≤ 9000
+
+-- the call of a line, with its turn. Its answer is not noted yet, and the id that it gives is not held
+pub record MakesCall (line : CallLine) (old new : Station) (m : Made) : Type 0 where
+  pub calls : Calls (EndsMoved Sends Receives) line.node (call_at_station line old) old.domain new.domain old.journal.lines new.journal.lines (plain_answer m.answer) m.given
+  pub gives : option_map (λ i. i.serial) m.given ≡ request_given calls.turned_to.state line.node (call_at_station line old)
+  pub ids : new.ids ≡ old.ids
+  pub number : new.number ≡ old.number
+  pub dropped : new.dropped ≡ old.dropped
+  pub domain_number : new.domain_number ≡ old.domain_number
+  pub bytes_fit : bytes_in_answer m.answer ≤ 9000
+  pub drops_fit : dropped_by line.call (plain_answer m.answer) < 2 ^ 32
+
+-- a call that is made again is noted by its word, and all else stays
+pub record NotesAgain (m : Made) (old new : Station) : Type 0 where
+  pub told : new.journal.lines ≡ noted old.journal.lines (again (word_in (plain_answer m.answer)))
+  pub domain : new.domain ≡ old.domain
+  pub ids : new.ids ≡ old.ids
+  pub number : new.number ≡ old.number
+  pub dropped : new.dropped ≡ old.dropped
+  pub domain_number : new.domain_number ≡ old.domain_number
+
+-- the last call of a line is noted by its answer. The line is counted, and so is what it dropped; the id that it gave is held
+pub record NotesCalled (line : CallLine) (m : Made) (old new : Station) : Type 0 where
+  pub told : new.journal.lines ≡ noted old.journal.lines (called (old.number + 1) (plain_answer m.answer))
+  pub domain : new.domain ≡ old.domain
+  pub ids : TellsId (label_in line) m.given old.ids new.ids
+  pub number : new.number ≡ old.number + 1
+  pub dropped : new.dropped ≡ old.dropped + dropped_by line.call (plain_answer m.answer)
+  pub domain_number : new.domain_number ≡ old.domain_number
+
+abbrev pub NotesAnswer : Bool → CallLine → Made → Station → Station → Type 0
+NotesAnswer true line m old new = NotesAgain m old new
+NotesAnswer false line m old new = NotesCalled line m old new
+
+-- the call was made and noted, and is made again where it may be and its word is one of those
+pub record Tries (line : CallLine) (may_try : Bool) (old new : Station) (is_again : Bool) : Type 0 where
+  pub made : Made
+  pub called_to : Station
+  pub makes : MakesCall line old called_to made
+  pub again_is : is_again ≡ (is_tried (plain_answer made.answer) && may_try)
+  pub notes : NotesAnswer is_again line made called_to new

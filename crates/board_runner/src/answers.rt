@@ -1,6 +1,7 @@
 //! The answers of calls, as a journal notes them.
 
-ghost use Rattle.std.specs.Prelude.{◌≡◌, ◌≤◌, IfOk, length, take};
+ghost use Rattle.std.specs.Prelude.{◌≡◌, ◌<◌, ◌≤◌, ◌^◌, IfOk, length, take};
+ghost use Rattle.board_model.specs.Tallies.{number_told};
 ghost use Rattle.domain_core.specs.Calls.{created, deleted, sent, received, requested, available, result_of_done, tested, cancelled};
 ghost use Rattle.domain_core.specs.Entry.{plain_answer, result_of_told, bytes_in_answer, bytes_in_told};
 ghost use Rattle.board_runner.specs.Lines.{GivesWithin};
@@ -25,6 +26,7 @@ pub fn of_number(made: Result<u32, Refusal>) -> Answer<'static>
     ensures created { plain_answer result ≡ created made }
     ensures deleted { plain_answer result ≡ deleted made }
     ensures available { plain_answer result ≡ available made }
+    ensures number { number_told (plain_answer result) < 2 ^ 32 }
     ensures no_bytes { bytes_in_answer result ≡ 0 }
 {
     match made {

@@ -1,63 +1,95 @@
 //! What a journal tells in numbers.
 
-ghost use Rattle.std.specs.Prelude.{◌≡◌, ◌+◌, ◌<◌, ◌^◌, count_by};
-ghost use Rattle.board_model.specs.Tallies.{is_put_line, is_take_line, is_drop_line};
-ghost use Rattle.board_runner.specs.Counts.{one_if};
+ghost use Rattle.std.specs.Prelude.{◌≡◌, ◌+◌, ◌<◌, ◌^◌, ◌==◌, ◌&&◌, ℕ, is_none, slice_index};
+ghost use Rattle.mc_base.specs.FaultRow.{first_fault};
+ghost use Rattle.mc_base.specs.LetterFaults.{letter_faults};
 ghost use Rattle.domain_core.specs.Entry.{line_of_entry};
+ghost use Rattle.board_model.specs.Messages.{carries_message as is_of_message};
 ghost use Rattle.board_model.specs.Drops.{drops};
+ghost use Rattle.board_runner.specs.Counts.{one_if, AreCounts, HaveRoom, Counted};
 
+use bridge_frame::read_letter;
 use domain_core::{Entry, Journal};
-use mc_base::Fate;
+use mc_base::{Fate, NAME_SERVICE_ADDRESS};
+use rpmsg_frame::decode;
 
-/// How many frames were put and taken, and how many messages were dropped.
+/// How many frames were put to each domain and taken from each, by its number; and of how many the messages were sent, were
+/// brought, and were lost, since they came to no endpoint or to one on a channel.
 #[derive(Clone, Copy, Debug, PartialEq, Eq)]
 pub struct Counts {
-    pub puts: u64,
-    pub takes: u64,
-    pub dropped: u64,
+    pub puts: [u64; 8],
+    pub takes: [u64; 8],
+    pub sent: u64,
+    pub brought: u64,
+    pub lost: u64,
 }
 
-/// Counts the entries of a journal.
+/// Counts the entries of a journal, each once.
 pub fn count(journal: &Journal) -> Counts
-    ensures puts { result.puts ≡ count_by is_put_line journal.now.lines }
-    ensures takes { result.takes ≡ count_by is_take_line journal.now.lines }
-    ensures dropped { result.dropped ≡ count_by is_drop_line journal.now.lines }
+    ensures { AreCounts result journal.now.lines }
 {
     let mut counts = Counts {
-        puts: 0,
-        takes: 0,
-        dropped: 0,
+        puts: [0; 8],
+        takes: [0; 8],
+        sent: 0,
+        brought: 0,
+        lost: 0,
     };
     for at in 0..journal.len() {
         let entry = journal.entry(at).unwrap();
-        counts = with_entry(counts, entry);
+        count_entry(&mut counts, entry);
     }
     counts
 }
 
-/// The counts with one entry more.
-fn with_entry(counts: Counts, entry: Entry<'_>) -> Counts
-    requires puts { counts.puts + 1 < 2 ^ 64 }
-    requires takes { counts.takes + 1 < 2 ^ 64 }
-    requires dropped { counts.dropped + 1 < 2 ^ 64 }
-    ensures puts { result.puts ≡ counts.puts + one_if (is_put_line (line_of_entry entry.entry)) }
-    ensures takes { result.takes ≡ counts.takes + one_if (is_take_line (line_of_entry entry.entry)) }
-    ensures dropped { result.dropped ≡ counts.dropped + one_if (is_drop_line (line_of_entry entry.entry)) }
+/// Counts one entry more.
+fn count_entry(counts: &mut Counts, entry: Entry<'_>)
+    requires { HaveRoom counts.old }
+    ensures { Counted (line_of_entry entry.entry) counts.old counts.new }
 {
     match entry {
-        Entry::Put { .. } => Counts {
-            puts: counts.puts + 1,
-            ..counts
-        },
-        Entry::Take { fate, .. } => Counts {
-            takes: counts.takes + 1,
-            dropped: counts.dropped + u64::from(is_drop(fate)),
-            ..counts
-        },
-        _ => counts,
+        Entry::Put { peer, frame } => {
+            add_one(&mut counts.puts, peer);
+            counts.sent += u64::from(carries_message(frame));
+        }
+        Entry::Take { peer, frame, fate } => {
+            add_one(&mut counts.takes, peer);
+            let brings = carries_message(frame);
+            counts.brought += u64::from(brings);
+            counts.lost += u64::from(is_drop(fate) && brings);
+        }
+        _ => {}
     }
 }
 
+/// Adds one to the number of a domain.
+fn add_one(numbers: &mut [u64; 8], domain: u8)
+    requires { (n : ℕ) → n < 8 → slice_index numbers.old n + 1 < 2 ^ 64 }
+    ensures { (n : ℕ) → n < 8 → slice_index numbers.new n ≡ slice_index numbers.old n + one_if (domain == n) }
+{
+    if domain < 8 {
+        numbers[usize::from(domain)] += 1;
+    }
+}
+
+/// Whether a frame is sound and carries a message. An announcement is told by its destination.
+fn carries_message(frame: &[u8]) -> bool
+    ensures { result ≡ is_of_message frame.now }
+{
+    match decode(frame) {
+        Ok(frame) => frame.dst != NAME_SERVICE_ADDRESS && is_message(frame.payload),
+        Err(_) => false,
+    }
+}
+
+/// Whether a payload is a sound letter, and one of kind 1, which is a message.
+fn is_message(payload: &[u8]) -> bool
+    ensures { result ≡ (is_none (first_fault (letter_faults payload.now)) && (slice_index payload.now 2 == 1)) }
+{
+    payload.len() > 2 && payload[2] == 1 && read_letter(payload).is_ok()
+}
+
+/// Whether a message that meets this fate is lost.
 fn is_drop(fate: Fate) -> bool
     ensures { result ≡ drops fate }
 {

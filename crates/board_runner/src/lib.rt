@@ -4,17 +4,26 @@
 //! piece by piece and takes no memory.
 #![tactic(auto)]
 
+mod adding;
 mod answers;
+mod board;
+mod carrying;
 mod counts;
+mod ending;
 mod labels;
 mod line;
+mod links;
 mod numbers;
+mod opening;
 mod outcome;
 mod report;
 mod serial;
+mod station;
+mod stations;
+mod tally;
 #[cfg(test)]
 mod tests;
 
-pub use outcome::Outcome;
+pub use outcome::{ChannelTotals, Outcome};
 pub use report::{fault_word, reason_word, write_report};
 pub use serial::run_serial;

@@ -1,57 +1,153 @@
-//! The call of one line, and the note of its answer.
+//! The calls of a line: each with its turn, and made again as often as the line says where it is refused with one of six words.
 
-ghost use Rattle.std.specs.Prelude.{◌≡◌, ◌<◌, ◌≤◌, ◌^◌, ◌++◌, ◌∷◌, [], IfOk, OnOk, length};
-ghost use Rattle.board_model.specs.Journal.{call_line};
+ghost use Rattle.std.specs.Prelude.{◌≡◌, ◌<◌, ◌≤◌, ◌+◌, ◌*◌, ◌^◌, true, false, IfOk, OnOk, MatchOption, length};
+ghost use Rattle.board_model.specs.Journal.{refuses, noted_again};
+ghost use Rattle.board_model.specs.SerialRun.{more_calls};
+ghost use Rattle.board_model.specs.Step.{is_tried, is_tried_word};
 ghost use Rattle.domain_core.specs.Entry.{plain_answer, bytes_in_answer};
-ghost use Rattle.board_runner.specs.Held.{held};
-ghost use Rattle.board_runner.specs.Lines.{MakesCall, RunsLine, AsksAtMost, call_by};
+ghost use Rattle.board_runner.specs.Lines.{CallsDomain, MakesCall, NotesCalled, Tries, AsksAtMost, call_by, dropped_by};
+ghost use Rattle.board_runner.specs.Runs.{IsSomeNext, MayCount, CountsFit, CallsLine, CountsCall, RunsLine, OneLineMore};
 
 mod messages;
 mod requests;
 
+use crate::carrying::carry_all;
 use crate::labels::{hold, id_of};
+use crate::station::Station;
+use crate::stations::others_turn;
 use board_model::{Call, CallLine};
-use domain_core::{Answer, CALL_BYTES, CALL_ENTRIES, Domain, Entry, Journal, Told};
-use mc_base::{Local, NoMemory, RequestId};
+use domain_core::{Answer, Domain, Entry, Journal, Told};
+use lane_end::{PlainRecv, PlainSend};
+use mc_base::{Local, NoMemory, Refusal, RequestId};
 use messages::{available, create, delete, receive, send, turn};
 use requests::{cancel, lookup, request, test};
 use std::collections::BTreeMap;
 
-/// Makes the call of a line and notes its answer. What is received goes through `room`. Where the call gives a request, its
-/// id is held for the label of the line.
+/// What a call answered, and the request that it gave.
+#[derive(Clone, Copy, Debug)]
+pub struct Made<'r> {
+    pub answer: Answer<'r>,
+    pub given: Option<RequestId>,
+}
+
+/// Runs a line at the station of its domain. Between two of its calls every other domain makes a turn. What is received goes
+/// through `room`. Want of memory is the only refusal.
 pub fn run_line<'a>(
-    domain: &mut Domain,
-    ids: &mut BTreeMap<&'a [u8], RequestId>,
-    journal: &mut Journal,
-    number: u32,
+    stations: &mut [Station<'a>],
+    at: usize,
     line: &'a CallLine,
     room: &mut [u8],
 ) -> Result<(), NoMemory>
+    requires at { at < length stations.old }
+    requires next { IsSomeNext line.now at stations.old }
+    requires counts { CountsFit stations.old }
     requires asks { AsksAtMost 9000 line.now.call }
     requires room { length room.old ≡ 9000 }
-    ensures { OnOk result (RunsLine number line.now (held domain.old ids.old) (held domain.new ids.new) journal.old.lines journal.new.lines) }
+    ensures run { OnOk result (RunsLine line.now at stations.old stations.new) }
+    ensures counts { OnOk result (OneLineMore at stations.old stations.new) }
 {
-    let given = make_call(domain, ids, journal, number, line, room)?;
-    hold(ids, line, given)
+    for _call in 0..more_calls_of(line.tries) {
+        if !call_once(stations, at, line, true, room)? {
+            return Ok(());
+        }
+        others_turn(stations, at)?;
+    }
+    call_once(stations, at, line, false, room)?;
+    Ok(())
 }
 
-/// The request that the call gives, or `None`.
-fn make_call(
-    domain: &mut Domain,
-    ids: &BTreeMap<&[u8], RequestId>,
-    journal: &mut Journal,
-    number: u32,
-    line: &CallLine,
+/// How many calls a line may make after its first.
+fn more_calls_of(tries: Option<u32>) -> u32
+    ensures { result ≡ more_calls tries }
+{
+    match tries {
+        Some(tries) => tries.saturating_sub(1),
+        None => 0,
+    }
+}
+
+/// Makes the call of a line, before which all that stands is carried to its domain, and tells whether it is to be made again.
+fn call_once<'a>(
+    stations: &mut [Station<'a>],
+    at: usize,
+    line: &'a CallLine,
+    may_try: bool,
     room: &mut [u8],
-) -> Result<Option<RequestId>, NoMemory>
+) -> Result<bool, NoMemory>
+    requires at { at < length stations.old }
+    requires next { IsSomeNext line.now at stations.old }
+    requires counts { CountsFit stations.old }
     requires asks { AsksAtMost 9000 line.now.call }
     requires room { length room.old ≡ 9000 }
-    ensures { IfOk result (λ given. MakesCall number line.now.node (call_by ids.now domain.old line.now.call) domain.old domain.new journal.old.lines journal.new.lines given) }
+    ensures run { IfOk result (λ is_again. CallsLine line.now may_try is_again at stations.old stations.new) }
+    ensures counts { IfOk result (λ is_again. CountsCall is_again at stations.old stations.new) }
+{
+    carry_all(stations, at);
+    call_and_note(&mut stations[at], line, may_try, room)
+}
+
+/// Makes the call of a line and notes its answer, and tells whether it is to be made again.
+fn call_and_note<'a>(
+    station: &mut Station<'a>,
+    line: &'a CallLine,
+    may_try: bool,
+    room: &mut [u8],
+) -> Result<bool, NoMemory>
+    requires count { MayCount station.old }
+    requires drops { station.old.dropped ≤ 2 ^ 32 * station.old.number }
+    requires asks { AsksAtMost 9000 line.now.call }
+    requires room { length room.old ≡ 9000 }
+    ensures { IfOk result (λ is_again. Tries line.now may_try station.old station.new is_again) }
+{
+    let made = call_line(station, line, room)?;
+    match word_to_try(made.answer) {
+        Some(word) if may_try => {
+            note_again(&mut station.journal, word)?;
+            Ok(true)
+        }
+        _ => {
+            note_called(station, line, made)?;
+            Ok(false)
+        }
+    }
+}
+
+/// Makes the call of a line. Of a message, the bytes that are given stand in `room`.
+fn call_line<'r>(
+    station: &mut Station<'_>,
+    line: &CallLine,
+    room: &'r mut [u8],
+) -> Result<Made<'r>, NoMemory>
+    requires asks { AsksAtMost 9000 line.now.call }
+    requires room { length room.old ≡ 9000 }
+    ensures { IfOk result (λ made. MakesCall line.now station.old station.new made) }
+{
+    call_domain(
+        &mut station.domain,
+        &mut station.journal,
+        &station.ids,
+        line,
+        room,
+    )
+}
+
+/// Makes the call of a line at its domain. Labels name requests by the ids that are held for them.
+fn call_domain<'r>(
+    domain: &mut Domain<PlainSend, PlainRecv>,
+    journal: &mut Journal,
+    ids: &BTreeMap<&[u8], RequestId>,
+    line: &CallLine,
+    room: &'r mut [u8],
+) -> Result<Made<'r>, NoMemory>
+    requires asks { AsksAtMost 9000 line.now.call }
+    requires room { length room.old ≡ 9000 }
+    ensures call { IfOk result (λ made. CallsDomain line.now.node (call_by ids.now domain.old.ids line.now.call) domain.old domain.new journal.old.lines journal.new.lines made) }
+    ensures drops { IfOk result (λ made. dropped_by line.now.call (plain_answer made.answer) < 2 ^ 32) }
 {
     match &line.call {
-        Call::Create { port } => create(domain, journal, number, local(line, *port))?,
-        Call::Delete { port } => delete(domain, journal, number, local(line, *port))?,
-        Call::Lookup { name } => return lookup(domain, journal, number, *name),
+        Call::Create { port } => create(domain, journal, local(line, *port)),
+        Call::Delete { port } => delete(domain, journal, local(line, *port)),
+        Call::Lookup { name } => lookup(domain, journal, *name),
         Call::MsgSend {
             port,
             to,
@@ -59,29 +155,18 @@ fn make_call(
             bytes,
         } => {
             let from = local(line, *port);
-            send(
-                domain,
-                journal,
-                number,
-                from,
-                *to,
-                *priority,
-                bytes.as_slice(),
-            )?
+            send(domain, journal, from, *to, *priority, bytes.as_slice())
         }
         Call::MsgRecv { port, max } => {
             let (out, _) = room.split_at_mut(*max as usize);
-            receive(domain, journal, number, local(line, *port), out)?
+            receive(domain, journal, local(line, *port), out)
         }
-        Call::MsgRecvI { port, max } => {
-            return request(domain, journal, number, local(line, *port), *max);
-        }
-        Call::MsgAvailable { port } => available(domain, journal, number, local(line, *port))?,
-        Call::Test { label } => test(domain, journal, number, id_of(ids, label), room)?,
-        Call::Cancel { label } => cancel(domain, journal, number, id_of(ids, label))?,
-        Call::Turn => turn(domain, journal, number)?,
+        Call::MsgRecvI { port, max } => request(domain, journal, local(line, *port), *max),
+        Call::MsgAvailable { port } => available(domain, journal, local(line, *port)),
+        Call::Test { label } => test(domain, journal, id_of(ids, label), room),
+        Call::Cancel { label } => cancel(domain, journal, id_of(ids, label)),
+        Call::Turn => turn(domain, journal),
     }
-    Ok(None)
 }
 
 /// The endpoint of a port at the line's node.
@@ -95,14 +180,73 @@ fn local(line: &CallLine, port: u16) -> Local
     }
 }
 
-/// Notes that a line is done.
-fn note_answer(journal: &mut Journal, number: u32, answer: Answer<'_>) -> Result<(), NoMemory>
-    requires { bytes_in_answer answer < 2 ^ 32 }
-    ensures { OnOk result (journal.new.lines ≡ journal.old.lines ++ call_line number (plain_answer answer.entry) ∷ []) }
+/// The word with which a call was refused, where it is one with which calls are made again.
+fn word_to_try(answer: Answer<'_>) -> Option<Refusal>
+    ensures { MatchOption result (is_tried (plain_answer answer.entry) ≡ false) (λ word. (plain_answer answer.entry ≡ refuses word) × (is_tried_word word ≡ true)) }
 {
-    journal.reserve(1, bytes_of(answer))?;
-    journal.note(Entry::Called { number, answer });
+    match answer {
+        Answer::Refused(word) if is_tried_again(word) => Some(word),
+        _ => None,
+    }
+}
+
+/// Whether a call that is refused with this word is made again.
+fn is_tried_again(word: Refusal) -> bool
+    ensures { result ≡ is_tried_word word }
+{
+    matches!(
+        word,
+        Refusal::Empty
+            | Refusal::NoBuffer
+            | Refusal::NotConnected
+            | Refusal::NotOpen
+            | Refusal::ChanConnected
+            | Refusal::Pending
+    )
+}
+
+/// Notes that a call is made again.
+fn note_again(journal: &mut Journal, word: Refusal) -> Result<(), NoMemory>
+    ensures { OnOk result (journal.new.lines ≡ noted_again word journal.old.lines) }
+{
+    journal.reserve(1, 0)?;
+    journal.note(Entry::Again { word });
     Ok(())
+}
+
+/// Notes the last call of a line. The line is counted, and so are the messages that it dropped; the id that it gave is held for
+/// the line's label.
+fn note_called<'a>(
+    station: &mut Station<'a>,
+    line: &'a CallLine,
+    made: Made<'_>,
+) -> Result<(), NoMemory>
+    requires count { MayCount station.old }
+    requires drops { station.old.dropped ≤ 2 ^ 32 * station.old.number }
+    requires bytes_fit { bytes_in_answer made.answer ≤ 9000 }
+    requires drops_fit { dropped_by line.now.call (plain_answer made.answer) < 2 ^ 32 }
+    ensures { OnOk result (NotesCalled line.now made.entry station.old station.new) }
+{
+    let number = station.number + 1;
+    station.journal.reserve(1, bytes_of(made.answer))?;
+    station.journal.note(Entry::Called {
+        number,
+        answer: made.answer,
+    });
+    hold(&mut station.ids, line, made.given)?;
+    station.number = number;
+    station.dropped += dropped_in(&line.call, made.answer);
+    Ok(())
+}
+
+/// How many messages a call dropped.
+fn dropped_in(call: &Call, answer: Answer<'_>) -> u64
+    ensures { result ≡ dropped_by call.now (plain_answer answer.entry) }
+{
+    match (call, answer) {
+        (Call::Delete { .. }, Answer::Number(count)) => count,
+        _ => 0,
+    }
 }
 
 fn bytes_of(answer: Answer<'_>) -> u32

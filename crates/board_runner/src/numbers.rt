@@ -1,86 +1,160 @@
-//! What the outcome tells in numbers.
+//! What the outcome tells in numbers, by the tallies of the domains.
 
-ghost use Rattle.std.specs.Prelude.{◌≡◌, ◌∷◌, [], IfOk, map};
+ghost use Rattle.std.specs.Prelude.{◌≡◌, ◌+◌, ◌-◌, ◌<◌, ◌≤◌, ◌^◌, ◌++◌, IfOk, OnOk, length, map, sum_by, get_or, option_map, option_to_list};
 ghost use Rattle.board_model.specs.Scenario.{lanes};
-ghost use Rattle.board_model.specs.Grammar.{IsLawful};
+ghost use Rattle.board_model.specs.Language.{IsLawfulBoard};
 ghost use Rattle.board_model.specs.Totals.{totals};
 ghost use Rattle.board_model.specs.Places.{places_of as places_of_lane};
-ghost use Rattle.board_model.specs.Serial.{serial};
-ghost use Rattle.board_runner.specs.Outcome.{IsOutcome, IsEnd};
+ghost use Rattle.board_model.specs.SerialRun.{finished, serial_run};
+ghost use Rattle.board_runner.specs.Lanes.{lane_between, lanes_from, numbers_of};
+ghost use Rattle.board_runner.specs.Tallied.{IsTallyOf, AreTallies};
 
-use crate::Outcome;
-use crate::counts::count;
+use crate::adding::add;
+use crate::board::{buffers_between, rising_numbers};
+use crate::tally::Tally;
 use board_model::{LanePlaces, Scenario, Seq, Totals};
-use domain_core::{Domain, Journal};
+use domain_core::Places;
 use mc_base::NoMemory;
 use std::alloc::Global;
 
-/// The outcome of a run that left this domain and its journal.
-pub fn outcome_of(
-    alloc: Global,
-    scenario: &Scenario,
-    domain: &Domain,
-    journal: Journal,
-) -> Result<Outcome, NoMemory>
-    requires lawful { IsLawful scenario.now }
-    requires end { IsEnd scenario.now domain.now.alone journal.lines }
-    ensures { IfOk result (λ o. IsOutcome scenario.now o (serial scenario.now)) }
-{
-    let messages = messages_of(scenario, domain, &journal);
-    let places = own_places(scenario, domain, &journal);
-    Ok(Outcome {
-        journals: only(alloc, journal)?,
-        places: only(alloc, places)?,
-        messages,
-    })
+/// What the tallies of all domains add up to.
+#[derive(Clone, Copy)]
+struct Sum {
+    sent: u64,
+    brought: u64,
+    dropped: u64,
+    queued: u64,
 }
 
 /// How many messages were accepted, taken and dropped, are queued and in the ring. No message is lost, so those that were
 /// taken are the rest.
-fn messages_of(_scenario: &Scenario, domain: &Domain, journal: &Journal) -> Totals
-    requires lawful { IsLawful _scenario.now }
-    requires end { IsEnd _scenario.now domain.now.alone journal.now.lines }
-    ensures { result ≡ totals _scenario.now (serial _scenario.now) }
+pub fn totals_of(_scenario: &Scenario, tallies: &[Tally]) -> Totals
+    requires lawful { IsLawfulBoard _scenario.now }
+    requires tallies { AreTallies _scenario.now (finished _scenario.now).stations tallies.now }
+    ensures { result ≡ totals _scenario.now (serial_run _scenario.now) }
 {
-    let counts = count(journal);
-    let queued = domain.messages_queued() as u64;
-    let ring = counts.puts - counts.takes;
+    let sum = sum_of(tallies);
+    let ring = sum.sent - sum.brought;
     Totals {
-        accepted: counts.puts,
-        taken: counts.puts - counts.dropped - queued - ring,
-        dropped: counts.dropped,
-        queued,
+        accepted: sum.sent,
+        taken: sum.sent - sum.dropped - sum.queued - ring,
+        dropped: sum.dropped,
+        queued: sum.queued,
         ring,
     }
 }
 
-/// Where the buffers of the domain's lane to itself are. Those that are free are the rest.
-fn own_places(scenario: &Scenario, domain: &Domain, journal: &Journal) -> LanePlaces
-    requires lawful { IsLawful scenario.now }
-    requires end { IsEnd scenario.now domain.now.alone journal.now.lines }
-    ensures { result ∷ [] ≡ map (places_of_lane scenario.now (serial scenario.now)) (lanes scenario.now) }
+fn sum_of(tallies: &[Tally]) -> Sum
+    requires sent { sum_by (λ y. y.counts.sent) tallies.now < 2 ^ 64 }
+    requires brought { sum_by (λ y. y.counts.brought) tallies.now < 2 ^ 64 }
+    requires dropped { sum_by (λ y. y.counts.lost + y.deleted) tallies.now < 2 ^ 64 }
+    requires queued { sum_by (λ y. y.held.queued) tallies.now < 2 ^ 64 }
+    ensures sent { result.sent ≡ sum_by (λ y. y.counts.sent) tallies.now }
+    ensures brought { result.brought ≡ sum_by (λ y. y.counts.brought) tallies.now }
+    ensures dropped { result.dropped ≡ sum_by (λ y. y.counts.lost + y.deleted) tallies.now }
+    ensures queued { result.queued ≡ sum_by (λ y. y.held.queued) tallies.now }
 {
-    let line = scenario.domains.as_slice()[0];
-    let counts = count(journal);
-    let ring = (counts.puts - counts.takes) as u32;
-    let held = domain.places(line.domain).unwrap();
+    let mut sum = Sum {
+        sent: 0,
+        brought: 0,
+        dropped: 0,
+        queued: 0,
+    };
+    for tally in tallies {
+        sum.sent += tally.counts.sent;
+        sum.brought += tally.counts.brought;
+        sum.dropped += tally.counts.lost + tally.deleted;
+        sum.queued += u64::from(tally.held.queued);
+    }
+    sum
+}
+
+/// Where the buffers of each lane are, senders rising and then receivers rising.
+pub fn places_of(
+    alloc: Global,
+    scenario: &Scenario,
+    tallies: &[Tally],
+) -> Result<Seq<LanePlaces>, NoMemory>
+    requires lawful { IsLawfulBoard scenario.now }
+    requires tallies { AreTallies scenario.now (finished scenario.now).stations tallies.now }
+    ensures { IfOk result (λ places. places ≡ map (places_of_lane scenario.now (serial_run scenario.now)) (lanes scenario.now)) }
+{
+    let numbers = rising_numbers(scenario);
+    let mut places = Seq::new(Vec::new(alloc));
+    for from in 0..numbers.len() {
+        add_lanes_from(scenario, &numbers, tallies, from, &mut places)?;
+    }
+    Ok(places)
+}
+
+/// Adds the lanes from the domain at this place of the numbers.
+fn add_lanes_from(
+    scenario: &Scenario,
+    numbers: &[u8],
+    tallies: &[Tally],
+    from: usize,
+    places: &mut Seq<LanePlaces>,
+) -> Result<(), NoMemory>
+    requires lawful { IsLawfulBoard scenario.now }
+    requires numbers { numbers.now ≡ numbers_of scenario.now }
+    requires tallies { AreTallies scenario.now (finished scenario.now).stations tallies.now }
+    requires from { from < length numbers.now }
+    ensures { OnOk result (places.new ≡ places.old ++ map (places_of_lane scenario.now (serial_run scenario.now)) (lanes_from scenario.now (get_or numbers.now from 0) numbers.now)) }
+{
+    for to in 0..numbers.len() {
+        let lane = places_between(
+            scenario,
+            numbers[from],
+            numbers[to],
+            &tallies[from],
+            &tallies[to],
+        );
+        add_lane(places, lane)?;
+    }
+    Ok(())
+}
+
+fn add_lane(places: &mut Seq<LanePlaces>, lane: Option<LanePlaces>) -> Result<(), NoMemory>
+    ensures { OnOk result (places.new ≡ places.old ++ option_to_list lane) }
+{
+    match lane {
+        Some(lane) => add(places, lane),
+        None => Ok(()),
+    }
+}
+
+/// Where the buffers of the lane from one domain to another are, by their tallies, or `None` where there is no such lane.
+fn places_between(
+    scenario: &Scenario,
+    from: u8,
+    to: u8,
+    sender: &Tally,
+    receiver: &Tally,
+) -> Option<LanePlaces>
+    requires lawful { IsLawfulBoard scenario.now }
+    requires sender { IsTallyOf scenario.now from sender.now }
+    requires receiver { IsTallyOf scenario.now to receiver.now }
+    ensures { result ≡ option_map (places_of_lane scenario.now (serial_run scenario.now)) (lane_between scenario.now from to) }
+{
+    let size = buffers_between(scenario, from, to)?;
+    let puts = sender.counts.puts[usize::from(to)];
+    let takes = receiver.counts.takes[usize::from(from)];
+    let held = receiver.held.places[usize::from(from)];
+    let ring = (puts - takes) as u32;
+    Some(lane_places(from, to, size, ring, held))
+}
+
+/// The places of a lane with so many buffers. Those that are nowhere else are free.
+fn lane_places(from: u8, to: u8, size: u32, ring: u32, held: Places) -> LanePlaces
+    requires { ring + held.queue + held.lent ≤ size }
+    ensures { result ≡ record { from = from; to = to; free = size - ring - held.queue - held.lent; ring = ring; queue = held.queue; lent = held.lent } }
+{
     LanePlaces {
-        from: line.domain,
-        to: line.domain,
-        free: line.pool - ring - held.queue - held.lent,
+        from,
+        to,
+        free: size - ring - held.queue - held.lent,
         ring,
         queue: held.queue,
         lent: held.lent,
     }
-}
-
-/// A list of one item.
-fn only<T: Drop>(alloc: Global, item: T) -> Result<Seq<T>, NoMemory>
-    ensures { IfOk result (λ items. items ≡ item ∷ []) }
-{
-    let Ok(mut items) = Vec::with_capacity(alloc, 1) else {
-        return Err(NoMemory);
-    };
-    items.push(item).unwrap();
-    Ok(Seq::new(items))
 }

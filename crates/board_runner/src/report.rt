@@ -5,14 +5,17 @@ ghost use Rattle.std.specs.List.{flat_map};
 ghost use Rattle.outer_io.specs.Faults.{HasCause};
 ghost use Rattle.outer_io.specs.Writes.{Writes};
 ghost use Rattle.outer_io.specs.Puts.{Puts};
-ghost use Rattle.board_model.specs.Grammar.{IsLawful, line_of};
-ghost use Rattle.board_model.specs.Report.{report_of, lines_text, messages_text, places_text};
+ghost use Rattle.board_model.specs.Scenario.{rising};
+ghost use Rattle.board_model.specs.Grammar.{line_of};
+ghost use Rattle.board_model.specs.Language.{IsLawfulBoard};
+ghost use Rattle.board_model.specs.Report.{report_of, journals_text, lines_text, messages_text, places_text};
 ghost use Rattle.board_runner.specs.Outcome.{lines_in};
 
 mod entry;
 mod words;
 
 use crate::Outcome;
+use crate::board::rising_numbers;
 use board_model::{LanePlaces, Scenario, Totals};
 use domain_core::Journal;
 use entry::put_entry;
@@ -21,14 +24,14 @@ use scenario_lang::put_scenario;
 pub use words::{fault_word, reason_word};
 
 /// Writes the report: the scenario, the journal of each domain, and what became of messages and buffers. It goes to the
-/// sink piece by piece and takes no memory. The outcome has one journal for each domain of the scenario. `Failed` comes
-/// where a write failed; a proper prefix of the report was written then.
+/// sink piece by piece and takes no memory. The outcome has one journal for each domain of the scenario, in rising number.
+/// `Failed` comes where a write failed; a proper prefix of the report was written then.
 pub fn write_report<K: Sink>(
     scenario: &Scenario,
     outcome: &Outcome,
     sink: &mut K,
 ) -> Result<(), Failed>
-    requires lawful { IsLawful scenario.now }
+    requires lawful { IsLawfulBoard scenario.now }
     requires one_each { length outcome.now.journals ≡ length scenario.now.domains }
     ensures bytes { Writes (K.written sink.old) (K.written sink.new) result (report_of scenario.now (lines_in outcome.now.journals) outcome.now.messages outcome.now.places) }
     ensures cause { HasCause (K.faults sink.old) (K.faults sink.new) result }
@@ -40,17 +43,28 @@ pub fn write_report<K: Sink>(
 }
 
 fn put_report<K: Sink>(out: &mut Writer<'_, K>, scenario: &Scenario, outcome: &Outcome)
-    requires lawful { IsLawful scenario.now }
+    requires lawful { IsLawfulBoard scenario.now }
     requires one_each { length outcome.now.journals ≡ length scenario.now.domains }
     ensures { Puts K.Sink out.old out.new (report_of scenario.now (lines_in outcome.now.journals) outcome.now.messages outcome.now.places) }
 {
-    let domain = scenario.domains.as_slice()[0];
     out.put(b"mcapi-report 1 serial\n");
     put_scenario(out, scenario);
-    put_journal(out, domain.domain, &outcome.journals.as_slice()[0]);
+    put_journals(out, scenario, outcome.journals.as_slice());
     put_messages(out, &outcome.messages);
     put_lanes(out, outcome.places.as_slice());
     out.put(b"end\n");
+}
+
+/// The journals of the domains in rising number.
+fn put_journals<K: Sink>(out: &mut Writer<'_, K>, scenario: &Scenario, journals: &[Journal])
+    requires lawful { IsLawfulBoard scenario.now }
+    requires one_each { length journals.now ≡ length scenario.now.domains }
+    ensures { Puts K.Sink out.old out.new (journals_text (rising scenario.now) (lines_in journals.now)) }
+{
+    let numbers = rising_numbers(scenario);
+    for at in 0..numbers.len() {
+        put_journal(out, numbers[at], &journals[at]);
+    }
 }
 
 /// The journal of a domain.

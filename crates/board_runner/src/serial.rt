@@ -1,61 +1,71 @@
 //! The serial run.
 
-ghost use Rattle.std.specs.Prelude.{◌≡◌, ◌<◌, ◌^◌, [], IfOk, OnOk, length};
-ghost use Rattle.board_model.specs.Grammar.{IsLawful, AreLawfulLines};
-ghost use Rattle.board_model.specs.Journal.{noted_all};
-ghost use Rattle.board_model.specs.Serial.{serial, entries_from, after_lines};
-ghost use Rattle.board_runner.specs.Held.{beginning, IsUnasked};
+ghost use Rattle.std.specs.Prelude.{◌≡◌, ◌<◌, IfOk, OnOk, count_by, length, nat_lt};
+ghost use Rattle.board_model.specs.Language.{IsLawfulBoard};
+ghost use Rattle.board_model.specs.SerialRun.{opened, finished, serial_run};
 ghost use Rattle.board_runner.specs.Outcome.{IsOutcome};
+ghost use Rattle.board_runner.specs.Stations.{IsRun};
 
 use crate::Outcome;
+use crate::ending::outcome_of;
 use crate::line::run_line;
-use crate::numbers::outcome_of;
-use board_model::{CallLine, Scenario};
-use domain_core::{Domain, Journal};
+use crate::opening::open_stations;
+use crate::station::Station;
+use board_model::{DomainLine, Scenario};
 use mc_base::NoMemory;
 use std::alloc::Global;
-use std::collections::BTreeMap;
 
 /// The most bytes that a receive asks for.
 const MAX_ASKED: usize = 9000;
 
-/// Runs the calls of a lawful scenario in the file's order. Each look shows all that stands. Want of memory is the only
-/// refusal; it may come at any time.
+/// Runs a lawful board, and tells what the run left. Its lines are run in the file's order, each look shows all that stands on the
+/// lanes, and between two calls of a line with tries every other domain makes one turn. Want of memory is the only refusal; it
+/// may come at any time.
 pub fn run_serial(alloc: Global, scenario: &Scenario) -> Result<Outcome, NoMemory>
-    requires lawful { IsLawful scenario.now }
-    ensures { IfOk result (λ o. IsOutcome scenario.now o (serial scenario.now)) }
+    requires { IsLawfulBoard scenario.now }
+    ensures { IfOk result (λ o. IsOutcome scenario.now o (serial_run scenario.now)) }
 {
-    let line = scenario.domains.as_slice()[0];
-    let mut domain = Domain::open(alloc, line.domain, line.nodes, line.pool)?;
-    let mut journal = Journal::new(alloc)?;
+    let stations = run_board(alloc, scenario)?;
+    outcome_of(alloc, scenario, stations)
+}
+
+/// Runs the lines of a lawful board in the file's order, and leaves its stations. Each look shows all that stands. Want of
+/// memory is the only refusal; it may come at any time.
+fn run_board<'a>(alloc: Global, scenario: &'a Scenario) -> Result<Vec<Station<'a>>, NoMemory>
+    requires { IsLawfulBoard scenario.now }
+    ensures { IfOk result (λ stations. IsRun scenario.now (finished scenario.now) stations.items) }
+{
+    let mut stations = open_stations(alloc, scenario)?;
     let Ok(mut room) = Vec::from_elem(alloc, 0u8, MAX_ASKED) else {
         return Err(NoMemory);
     };
-    let lines = scenario.calls.as_slice();
-    run_lines(alloc, &mut domain, &mut journal, lines, &mut room)?;
-    outcome_of(alloc, scenario, &domain, journal)
+    run_lines(&mut stations, scenario, &mut room)?;
+    Ok(stations)
 }
 
-/// Runs the lines of a script, which are numbered from 1. What is received goes through `room`.
-fn run_lines(
-    alloc: Global,
-    domain: &mut Domain,
-    journal: &mut Journal,
-    lines: &[CallLine],
+/// Runs all lines at the stations of their domains. What is received goes through `room`.
+fn run_lines<'a>(
+    stations: &mut [Station<'a>],
+    scenario: &'a Scenario,
     room: &mut [u8],
 ) -> Result<(), NoMemory>
-    requires lawful { AreLawfulLines domain.old.alone.state.number [] lines.now }
-    requires few { length lines.now < 2 ^ 32 }
+    requires lawful { IsLawfulBoard scenario.now }
+    requires run { IsRun scenario.now (opened scenario.now) stations.old }
     requires room { length room.old ≡ 9000 }
-    requires unasked { IsUnasked domain.old }
-    ensures state { OnOk result (domain.new.alone ≡ (after_lines (beginning domain.old.alone) lines.now).alone) }
-    ensures told { OnOk result (journal.new.lines ≡ noted_all journal.old.lines (entries_from (beginning domain.old.alone) 1 lines.now)) }
+    ensures { OnOk result (IsRun scenario.now (finished scenario.now) stations.new) }
 {
-    let mut ids = BTreeMap::new(alloc);
-    let mut number = 0;
+    let domains = scenario.domains.as_slice();
+    let lines = scenario.calls.as_slice();
     for line in lines {
-        number += 1;
-        run_line(domain, &mut ids, journal, number, line, room)?;
+        let at = place_of(domains, line.domain);
+        run_line(stations, at, line, room)?;
     }
     Ok(())
+}
+
+/// The place of a domain's station: behind those of the domains with lower numbers.
+fn place_of(domains: &[DomainLine], number: u8) -> usize
+    ensures { result ≡ count_by (λ d. nat_lt d.domain number) domains.now }
+{
+    domains.iter().filter(|line| line.domain < number).count()
 }

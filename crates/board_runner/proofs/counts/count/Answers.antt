@@ -2,7 +2,7 @@ use Rattle.std.proofs.Common.{◌≡◌, Some, Option, ap, sym, ◌∙◌, arith
 use Rattle.std.specs.Prelude.{slice_get, option_map}
 use Rattle.domain_core.specs.Entry.{line_of_entry}
 use Rattle.domain_core.specs.declared.journal.entry.Entry.{Entry}
-use Rattle.board_model.specs.Tallies.{is_put_line, is_take_line, is_drop_line}
+use Rattle.board_model.specs.Tallies.{is_put_to, is_taken_from, is_sent_line, is_brought_line, is_lost_line}
 use Rattle.board_runner.proofs.CountLemmas.{one_more}
 use Rattle.board_runner.proofs.counts.count.Goals as goal
 
@@ -12,8 +12,12 @@ loop-at-preserved c =
     let at = c.loop-at.at in
     let line = line_of_entry c.unwrap-entry.result in
     let here : Some line ≡ slice_get lines at = sym (ap (λ (e : Option Entry). option_map line_of_entry e) c.unwrap-entry.ensures) ∙ c.entry.ensures.value in
+    let before = c.loop-at.invariant in
+    let more = c.count_entry.ensures in
     record {
-      puts = omega (arith, one_more is_put_line lines at line here, c.with_entry-counts.ensures.puts, c.loop-at.invariant.puts);
-      takes = omega (arith, one_more is_take_line lines at line here, c.with_entry-counts.ensures.takes, c.loop-at.invariant.takes);
-      dropped = omega (arith, one_more is_drop_line lines at line here, c.with_entry-counts.ensures.dropped, c.loop-at.invariant.dropped);
+      puts = λ n fits. omega (arith, one_more (is_put_to n) lines at line here, more.puts n fits, before.puts n fits);
+      takes = λ n fits. omega (arith, one_more (is_taken_from n) lines at line here, more.takes n fits, before.takes n fits);
+      sent = omega (arith, one_more is_sent_line lines at line here, more.sent, before.sent);
+      brought = omega (arith, one_more is_brought_line lines at line here, more.brought, before.brought);
+      lost = omega (arith, one_more is_lost_line lines at line here, more.lost, before.lost);
     }

@@ -1,0 +1,284 @@
+-- All has come to a domain once each link of it was shuttled.
+use Rattle.std.proofs.Common.{◌≡◌, ◌≢◌, ℕ, zero, suc, ◌+◌, ◌<◌, Bool, true, false, cond, List, [], ◌∷◌, length, slice_get, slice_set, Contains, IfSome, Option, Some, None, refl, sym, ap, ◌∙◌, subst, inl, inr, arith, eqb-true, eq-eqb, ne_eqb, true≢false}
+use Rattle.std.specs.Prelude.{◌==◌}
+use Rattle.std.specs.List.{AllByRecursion}
+use Rattle.std.proofs.lemmas.Bool.Decides.{eqb_tells}
+use Rattle.std.proofs.lemmas.List.{length-map}
+use Rattle.std.proofs.lemmas.Option.{slice_get_within}
+use Rattle.board_model.specs.declared.scenario.Scenario.{Scenario}
+use Rattle.board_model.specs.Language.{IsLawfulBoard}
+use Rattle.board_model.specs.LinkedBoard.{Differ, IsLinkedBoard}
+use Rattle.board_model.specs.Scenario.{Lane, lanes}
+use Rattle.board_model.specs.SerialRun.{Running}
+use Rattle.board_model.proofs.LawfulBoards.{lawful_is_linked}
+use Rattle.board_model.proofs.WholeHas.{has-gives}
+use Rattle.domain_core.specs.declared.ends.Ends.TheVariants.{Own, Linked}
+use Rattle.domain_core.specs.Carrying.{PlainLink, AreLinked, link_to}
+use Rattle.board_runner.specs.declared.station.Station.{Station}
+use Rattle.board_runner.specs.Near.{Near, nothing_near, PlainEnds, PlainDomain, near_to, near_among, near_of, peers_of, EndsMatch}
+use Rattle.board_runner.specs.Stations.{domain_of, near_in, near, LaneJoins, IsRun}
+use Rattle.board_runner.specs.Carried.{HasCome, IsCarried}
+use Rattle.board_runner.specs.Meeting.{MayMeetAt, MeetAt}
+use Rattle.board_runner.specs.Shuttled.{carried_domain, AreLinkedPeers, Shuttles, linked, apart, MayShuttle, StationsShuttle, domains_of, numbers_of, KeepsRun, ComesFrom, ShuttlesAt}
+use Rattle.board_runner.proofs.PeersLanes.{HasPeer, has-contains, contains-has, lane-to, peer-back}
+use Rattle.board_runner.proofs.RunFinds.{mapped-at, some_same}
+use Rattle.board_runner.proofs.RunStations.{StationAt, station-at, station-number, numbers-differ, domain-at}
+use Rattle.board_runner.proofs.RunCarried.{has-come, come-stays, with_domain, stations_carried, link-come, numbers-carried, counts-carried, are-carried}
+
+abbrev number_in : Station → ℕ
+number_in st = st.domain.state.number
+
+-- ---- stations of a run
+
+module _ (s : Scenario) (board : IsLinkedBoard s) (r : Running) (sts : List Station) (run : IsRun s r sts) where
+  pub matched-at : (i : ℕ) (st : Station) → slice_get sts i ≡ Some st → EndsMatch (number_in st) (peers_of st.domain) st.domain.ends
+  matched-at i st at =
+      let t : StationAt s r.stations i st = station-at s r.stations sts i st run.each at in
+      subst (λ (n : ℕ). EndsMatch n (peers_of st.domain) st.domain.ends) (sym (station-number s t.station st t.is)) t.is.matched
+
+  near_domain : (i : ℕ) (st : Station) → slice_get sts i ≡ Some st → (p : ℕ) → near (domains_of sts) (number_in st) p ≡ near_of st.domain p
+  near_domain i st at p = ap (λ (o : Option PlainDomain). near_in o p) (domain-at sts i st (number_in st) (numbers-differ s board r sts run) at refl)
+
+  -- where one is a peer of the other, there is a link between them
+  pub linked-peers : (i j : ℕ) (one two : Station) → slice_get sts i ≡ Some one → slice_get sts j ≡ Some two → number_in one ≢ number_in two → AreLinkedPeers one.domain two.domain
+  linked-peers i j one two at_one at_two differ has =
+      let differ_all = numbers-differ s board r sts run in
+      has-gives (LaneJoins (domains_of sts)) (λ (l : Lane). (l.sender ≡ number_in one) × (l.receiver ≡ number_in two)) (AreLinked (number_in one) (number_in two) one.domain.ends two.domain.ends)
+      (λ l joins is.
+      subst (λ (x : ℕ). AreLinked x (number_in two) one.domain.ends two.domain.ends) is.0
+      (subst (λ (x : ℕ). AreLinked l.sender x one.domain.ends two.domain.ends) is.1
+      (joins.joined (λ e. differ (sym is.0 ∙ e ∙ is.1)) one.domain two.domain (ap (domain_of (domains_of sts)) is.0 ∙ domain-at sts i one (number_in one) differ_all at_one refl)
+      (ap (domain_of (domains_of sts)) is.1 ∙ domain-at sts j two (number_in two) differ_all at_two refl))))
+      (lanes s) run.joins (lane-to s board r sts run i one at_one (number_in two) (contains-has (peers_of one.domain) (number_in two) has))
+
+nothing_among : (ps : List ℕ) (es : List PlainEnds) (m : ℕ) → (HasPeer ps m → ⊥) → near_among ps es m ≡ nothing_near
+nothing_among [] es m none = refl
+nothing_among (p ∷ ps) [] m none = refl
+nothing_among (p ∷ ps) (e ∷ es) m none = ap (λ (b : Bool). cond b (near_to e) (near_among ps es m)) (ne_eqb p m (λ is. none (inl is))) ∙ nothing_among ps es m (λ later. none (inr later))
+
+come_as : (x y : Near) → x ≡ y → HasCome y → HasCome x
+come_as x y is h = subst HasCome (sym is) h
+
+come_nothing : HasCome nothing_near
+come_nothing = record { put = refl; given = refl }
+
+-- ---- a shuttle
+
+pub keeps-none : (sts : List Station) → KeepsRun sts sts
+keeps-none sts = record { run = λ s r lawful h. h; numbers = refl; counts = refl; stays = λ a b h. h }
+
+pub keeps-both : (one two three : List Station) → KeepsRun one two → KeepsRun two three → KeepsRun one three
+keeps-both one two three first then = record {
+  run = λ s r lawful h. then.run s r lawful (first.run s r lawful h);
+  numbers = then.numbers ∙ first.numbers;
+  counts = then.counts ∙ first.counts;
+  stays = λ a b h. then.stays a b (first.stays a b h);
+}
+
+pub shuttles-back : (i j : ℕ) (old new : List Station) → ShuttlesAt i j old new → ShuttlesAt j i old new
+shuttles-back i j old new h = record { keeps = h.keeps; there = h.back; back = h.there }
+
+-- what is told of the stations at two places
+comes_by : (sts : List Station) (i j n m : ℕ) → slice_get (numbers_of sts) i ≡ Some n → slice_get (numbers_of sts) j ≡ Some m → HasCome (near (domains_of sts) n m) → ComesFrom sts i j
+comes_by sts i j n m at_n at_m h x y at_x at_y =
+    subst (λ (k : ℕ). HasCome (near (domains_of sts) k y)) (some_same (slice_get (numbers_of sts) i) n x at_n at_x)
+    (subst (λ (k : ℕ). HasCome (near (domains_of sts) n k)) (some_same (slice_get (numbers_of sts) j) m y at_m at_y) h)
+
+set_here : {A : Type 0} (xs : List A) (i : ℕ) (x : A) → slice_get xs i ≡ Some x → slice_set xs i x ≡ xs
+set_here [] i x e = refl
+set_here {A} (z ∷ xs) zero x e = let is : z ≡ x = cc in ap (λ (y : A). y ∷ xs) (sym is)
+set_here {A} (z ∷ xs) (suc i) x e = ap (λ (ys : List A). z ∷ ys) (set_here xs i x e)
+
+-- the stations at two places with other domains
+abbrev pub with_domains : List Station → ℕ → ℕ → Station → Station → PlainDomain → PlainDomain → List Station
+with_domains sts i j one two d e = slice_set (slice_set sts i (with_domain one d)) j (with_domain two e)
+
+module _ (s : Scenario) (lawful : IsLawfulBoard s) (r : Running) (sts : List Station) (run : IsRun s r sts) (i j : ℕ) (one two : Station) (at_one : slice_get sts i ≡ Some one) (at_two : slice_get sts j ≡ Some two) (i_j : i ≢ j) where
+  board : IsLinkedBoard s
+  board = lawful_is_linked s lawful
+
+  abbrev n : ℕ
+  n = number_in one
+
+  abbrev m : ℕ
+  m = number_in two
+
+  at_n : slice_get (numbers_of sts) i ≡ Some n
+  at_n = mapped-at number_in sts i one at_one
+
+  at_m : slice_get (numbers_of sts) j ≡ Some m
+  at_m = mapped-at number_in sts j two at_two
+
+  differ : Differ (numbers_of sts)
+  differ = numbers-differ s board r sts run
+
+  -- numbers that differ stand at one place each
+  place_of : (ns : List ℕ) (k : ℕ) → AllByRecursion (λ x. x ≡ n → ⊥) ns → slice_get ns k ≡ Some n → ⊥
+  place_of [] k others at = cc
+  place_of (x ∷ ns) zero others at = let is : x ≡ n = cc in others.0 is
+  place_of (x ∷ ns) (suc k) others at = place_of ns k others.1 at
+
+  once : (ns : List ℕ) (k l : ℕ) → Differ ns → slice_get ns k ≡ Some n → slice_get ns l ≡ Some n → k ≡ l
+  once [] k l apart_all at_k at_l = absurd cc
+  once (x ∷ ns) zero zero apart_all at_k at_l = refl
+  once (x ∷ ns) zero (suc l) apart_all at_k at_l = let is : x ≡ n = cc in absurd (place_of ns l (subst (λ (y : ℕ). AllByRecursion (λ z. z ≡ y → ⊥) ns) is apart_all.0) at_l)
+  once (x ∷ ns) (suc k) zero apart_all at_k at_l = let is : x ≡ n = cc in absurd (place_of ns k (subst (λ (y : ℕ). AllByRecursion (λ z. z ≡ y → ⊥) ns) is apart_all.0) at_k)
+  once (x ∷ ns) (suc k) (suc l) apart_all at_k at_l = ap suc (once ns k l apart_all.1 at_k at_l)
+
+  n_m : n ≢ m
+  n_m e = i_j (once (numbers_of sts) i j differ at_n (at_m ∙ ap (λ (x : ℕ). Some x) (sym e)))
+
+  pub may-shuttle : AreLinkedPeers one.domain two.domain
+  may-shuttle = linked-peers s board r sts run i j one two at_one at_two n_m
+
+  shuttled : (l : AreLinked n m one.domain.ends two.domain.ends) → ShuttlesAt i j sts (stations_carried sts i j one two l.there l.back)
+  shuttled l =
+      let match_one = matched-at s board r sts run i one at_one in
+      let match_two = matched-at s board r sts run j two at_two in
+      let new = stations_carried sts i j one two l.there l.back in
+      let come = link-come sts i j one two differ at_one at_two n_m l match_one match_two in
+      let numbers : numbers_of new ≡ numbers_of sts = numbers-carried sts i j one two differ at_one at_two n_m l match_one match_two in
+      let both = has-come n m (near (domains_of sts)) (near (domains_of new)) come in
+      let new_n : slice_get (numbers_of new) i ≡ Some n = ap (λ (ns : List ℕ). slice_get ns i) numbers ∙ at_n in
+      let new_m : slice_get (numbers_of new) j ≡ Some m = ap (λ (ns : List ℕ). slice_get ns j) numbers ∙ at_m in
+      record {
+        keeps = record {
+          run = λ s' r' lawful' run'. are-carried sts i j one two differ at_one at_two n_m l match_one match_two s' r' run';
+          numbers = numbers;
+          counts = counts-carried sts i j one two differ at_one at_two n_m l match_one match_two;
+          stays = come-stays n m (near (domains_of sts)) (near (domains_of new)) come;
+        };
+        there = comes_by new i j n m new_n new_m both.0;
+        back = comes_by new j i m n new_m new_n both.1;
+      }
+
+  -- where neither is a peer of the other, nothing stands between them
+  apart_come : (Contains (peers_of one.domain) m → ⊥) → ShuttlesAt i j sts sts
+  apart_come none =
+      let none_one : HasPeer (peers_of one.domain) m → ⊥ = λ h. none (has-contains (peers_of one.domain) m h) in
+      let none_two : HasPeer (peers_of two.domain) n → ⊥ = λ h. none_one (peer-back s board r sts run j i two one at_two at_one h) in
+      record {
+        keeps = keeps-none sts;
+        there =
+            comes_by sts i j n m at_n at_m
+            (come_as (near (domains_of sts) n m) nothing_near (near_domain s board r sts run i one at_one m ∙ nothing_among (peers_of one.domain) one.domain.ends m none_one) come_nothing);
+        back =
+            comes_by sts j i m n at_m at_n
+            (come_as (near (domains_of sts) m n) nothing_near (near_domain s board r sts run j two at_two n ∙ nothing_among (peers_of two.domain) two.domain.ends n none_two) come_nothing);
+      }
+
+  pub shuttles-at : (d e : PlainDomain) → Shuttles one.domain two.domain d e → ShuttlesAt i j sts (with_domains sts i j one two d e)
+  shuttles-at d e (linked l one_is two_is) =
+      subst (λ (x : PlainDomain). ShuttlesAt i j sts (with_domains sts i j one two x e)) (sym one_is)
+      (subst (λ (x : PlainDomain). ShuttlesAt i j sts (with_domains sts i j one two (carried_domain m l.back one.domain) x)) (sym two_is) (shuttled l))
+  shuttles-at d e (apart none one_is two_is) =
+      subst (ShuttlesAt i j sts)
+      (sym (ap (λ (x : PlainDomain). with_domains sts i j one two x e) one_is ∙ ap (with_domains sts i j one two one.domain) two_is
+      ∙ ap (λ (xs : List Station). slice_set xs j two) (set_here sts i one at_one) ∙ set_here sts j two at_two))
+      (apart_come none)
+
+-- ---- all shuttles of a station
+
+-- the domain that is found stands at a place
+found_place : (sts : List Station) (q : ℕ) (d : PlainDomain) → domain_of (domains_of sts) q ≡ Some d → (i : ℕ) × (slice_get (numbers_of sts) i ≡ Some q)
+found_place [] q d e = absurd cc
+found_place (x ∷ sts) q d e = go (number_in x == q) refl e (found_place sts q d)
+  where
+    go : (b : Bool) → (number_in x == q) ≡ b → cond b (Some x.domain) (domain_of (domains_of sts) q) ≡ Some d → (domain_of (domains_of sts) q ≡ Some d → (i : ℕ) × (slice_get (numbers_of sts) i ≡ Some q))
+        → (i : ℕ) × (slice_get (numbers_of (x ∷ sts)) i ≡ Some q)
+    go true is here later = (zero, ap (λ (k : ℕ). Some k) (eqb-true (number_in x) q is))
+    go false is there later = let t = later there in (suc t.0, t.1)
+
+own_come : (n : ℕ) (ps : List ℕ) (es : List PlainEnds) → EndsMatch n ps es → HasCome (near_among ps es n)
+own_come n [] [] matched = come_nothing
+own_come n [] (e ∷ es) matched = absurd matched
+own_come n (p ∷ ps) [] matched = absurd matched
+own_come n (p ∷ ps) (Own l ∷ es) matched = come_as (near_among (p ∷ ps) (Own l ∷ es) n) (near_to (Own l)) (ap (λ (b : Bool). cond b (near_to (Own l)) (near_among ps es n)) (eq-eqb p n matched.0)) (record { put = refl; given = refl })
+own_come n (p ∷ ps) (Linked l ∷ es) matched = come_as (near_among (p ∷ ps) (Linked l ∷ es) n) (near_among ps es n) (ap (λ (b : Bool). cond b (near_to (Linked l)) (near_among ps es n)) (ne_eqb p n matched.0)) (own_come n ps es matched.2)
+
+all_every : {A : Type 0} (P : A → Type 0) → ((x : A) → P x) → (xs : List A) → AllByRecursion P xs
+all_every P each [] = tt
+all_every P each (x ∷ xs) = (each x, all_every P each xs)
+
+-- from the domain at each other place
+abbrev pub OthersCome : List Station → ℕ → ℕ → Type 0
+OthersCome sts at count = (j : ℕ) → j < count → j ≢ at → ComesFrom sts j at
+
+pub come-from-all : (s : Scenario) → IsLawfulBoard s → (r : Running) (sts : List Station) (at : ℕ) (st : Station) → IsRun s r sts → slice_get sts at ≡ Some st → ((j : ℕ) → j ≢ at → ComesFrom sts j at) → (p : ℕ) → HasCome (near (domains_of sts) p (number_in st))
+come-from-all s lawful r sts at st run is others p = elim (eqb_tells p (number_in st)) [
+  | inl own ↦
+      come_as (near (domains_of sts) p (number_in st)) (near_of st.domain (number_in st)) (ap (λ (x : ℕ). near (domains_of sts) x (number_in st)) own.1 ∙ near_domain s (lawful_is_linked s lawful) r sts run at st is (number_in st))
+      (own_come (number_in st) (peers_of st.domain) st.domain.ends (matched-at s (lawful_is_linked s lawful) r sts run at st is))
+  | inr other ↦ go (domain_of (domains_of sts) p) refl other.1
+]
+  where
+    go : (o : Option PlainDomain) → domain_of (domains_of sts) p ≡ o → p ≢ number_in st → HasCome (near (domains_of sts) p (number_in st))
+    go None none other = come_as (near (domains_of sts) p (number_in st)) nothing_near (ap (λ (o : Option PlainDomain). near_in o (number_in st)) none) come_nothing
+    go (Some d) found other =
+        let place = found_place sts p d found in
+        let at_n : slice_get (numbers_of sts) at ≡ Some (number_in st) = mapped-at number_in sts at st is in
+        others place.0 (λ e. other (some_same (slice_get (numbers_of sts) at) p (number_in st) (ap (slice_get (numbers_of sts)) (sym e) ∙ place.1) at_n)) p (number_in st) place.1 at_n
+
+pub is-carried : (s : Scenario) → IsLawfulBoard s → (r : Running) (sts : List Station) (at : ℕ) (st : Station) → IsRun s r sts → slice_get sts at ≡ Some st → ((j : ℕ) → j ≢ at → ComesFrom sts j at) → IsCarried (domains_of sts) st.domain
+is-carried s lawful r sts at st run is others = record { come = all_every (λ p. HasCome (near (domains_of sts) p (number_in st))) (come-from-all s lawful r sts at st run is others) (peers_of st.domain) }
+
+-- what a shuttle of the link between two domains tells
+pub shuttles-linked : (one two one' two' : PlainDomain) → AreLinkedPeers one two → Contains (peers_of one) two.state.number → IfSome (link_to one.state.number two.ends) (λ b. one' ≡ carried_domain two.state.number b one)
+    → IfSome (link_to two.state.number one.ends) (λ a. two' ≡ carried_domain one.state.number a two) → Shuttles one two one' two'
+shuttles-linked one two one' two' may has one_is two_is =
+    let l = may has in
+    linked l (subst (λ (o : Option PlainLink). IfSome o (λ b. one' ≡ carried_domain two.state.number b one)) l.two_has one_is) (subst (λ (o : Option PlainLink). IfSome o (λ a. two' ≡ carried_domain one.state.number a two)) l.one_has two_is)
+
+-- ---- the stations at two places
+
+pub may-meet : (s : Scenario) → IsLawfulBoard s → (r : Running) (sts : List Station) → IsRun s r sts → (low high : ℕ) → low < high → MayMeetAt MayShuttle low high sts
+may-meet s lawful r sts run low high order one two at_one at_two =
+    let t : StationAt s r.stations high two = station-at s r.stations sts high two run.each at_two in
+    record { number = t.is.domain_number ∙ sym (station-number s t.station two t.is); peers = may-shuttle s lawful r sts run low high one two at_one at_two (λ e. omega (arith, order, e)) }
+
+pub shuttles-met : (s : Scenario) → IsLawfulBoard s → (r : Running) (sts : List Station) → IsRun s r sts → (low high : ℕ) → low < high → (new : List Station) → MeetAt StationsShuttle low high sts new → ShuttlesAt low high sts new
+shuttles-met s lawful r sts run low high order new h =
+    subst (ShuttlesAt low high sts)
+    (sym (h.new_is ∙ ap (λ (x : Station). slice_set (slice_set sts low x) high h.two') h.met.one_keeps ∙ ap (λ (y : Station). slice_set (slice_set sts low (with_domain h.one h.one'.domain)) high y) h.met.two_keeps))
+    (shuttles-at s lawful r sts run low high h.one h.two h.at_one h.at_two (λ e. omega (arith, order, e)) h.one'.domain h.two'.domain h.met.domains)
+
+-- ---- one station after the other
+
+-- all has come to the station at a place from so many first ones
+pub record CarriedUpTo (at count : ℕ) (old now : List Station) : Type 0 where
+  pub keeps : KeepsRun old now
+  pub come : (j : ℕ) → j < count → j ≢ at → ComesFrom now j at
+
+pub carried-none : (at : ℕ) (sts : List Station) → CarriedUpTo at 0 sts sts
+carried-none at sts = record { keeps = keeps-none sts; come = λ j below. absurd (omega (arith, below)) }
+
+comes_stay : (old new : List Station) (i j : ℕ) → KeepsRun old new → ComesFrom old i j → ComesFrom new i j
+comes_stay old new i j keeps come n m at_n at_m =
+    let was : (k x : ℕ) → slice_get (numbers_of new) k ≡ Some x → slice_get (numbers_of old) k ≡ Some x = λ k x e. ap (λ (ns : List ℕ). slice_get ns k) (sym keeps.numbers) ∙ e in
+    keeps.stays n m (come n m (was i n at_n) (was j m at_m))
+
+pub carried-more : (at count : ℕ) (old now new : List Station) → CarriedUpTo at count old now → ShuttlesAt count at now new → CarriedUpTo at (count + 1) old new
+carried-more at count old now new h shuttles = record {
+  keeps = keeps-both old now new h.keeps shuttles.keeps;
+  come = λ j below other. go j (j == count) refl below other;
+}
+  where
+    go : (j : ℕ) (b : Bool) → (j == count) ≡ b → j < count + 1 → j ≢ at → ComesFrom new j at
+    go j true is below other = subst (λ (k : ℕ). ComesFrom new k at) (sym (eqb-true j count is)) shuttles.there
+    go j false not below other = comes_stay now new j at shuttles.keeps (h.come j (let differ : j ≢ count = λ e. true≢false (sym (eq-eqb j count e) ∙ not) in omega (arith, below, differ)) other)
+
+pub carried-skip : (at count : ℕ) (old now : List Station) → CarriedUpTo at count old now → count ≡ at → CarriedUpTo at (count + 1) old now
+carried-skip at count old now h is = record { keeps = h.keeps; come = λ j below other. h.come j (omega (arith, below, other, is)) other }
+
+pub same-length : (old now : List Station) → KeepsRun old now → length now ≡ length old
+same-length old now keeps = sym (length-map now number_in) ∙ ap length keeps.numbers ∙ length-map old number_in
+
+pub all-carried : (s : Scenario) → IsLawfulBoard s → (r : Running) (old now : List Station) (at : ℕ) → IsRun s r old → CarriedUpTo at (length old) old now → IfSome (slice_get now at) (λ st. IsCarried (domains_of now) st.domain)
+all-carried s lawful r old now at run h = go (slice_get now at) refl
+  where
+    others : (j : ℕ) → j ≢ at → ComesFrom now j at
+    others j other n m at_n at_m = h.come j (let within = slice_get_within (numbers_of now) j n at_n in omega (arith, within, length-map now number_in, same-length old now h.keeps)) other n m at_n at_m
+
+    go : (o : Option Station) → slice_get now at ≡ o → IfSome o (λ st. IsCarried (domains_of now) st.domain)
+    go None none = tt
+    go (Some st) is = is-carried s lawful r now at st (h.keeps.run s r lawful run) is others

@@ -1,0 +1,170 @@
+-- A turn at plain ends: it keeps whose ends they are, and what stands near towards each peer is what its visit left there.
+use Rattle.std.proofs.Common.{◌≡◌, ℕ, Bool, true, false, cond, List, [], ◌∷◌, map, refl, sym, ap, ap₂, ◌∙◌, subst, eq-eqb, ne_eqb, eqb-true, true≢false}
+use Rattle.std.specs.Prelude.{◌==◌}
+use Rattle.std.specs.List.{AllByRecursion}
+use Rattle.lane_end.specs.PlainSender.{Sends}
+use Rattle.lane_end.specs.PlainReceiver.{Receives}
+use Rattle.board_model.specs.Scenario.{Lane}
+use Rattle.board_model.specs.Journal.{Visit}
+use Rattle.board_model.specs.State.{DomainState}
+use Rattle.board_model.specs.Turn.{AreVisits}
+use Rattle.board_model.specs.LinkedBoard.{Differ}
+use Rattle.board_model.specs.Loads.{Load, turn_of, loads_turned, visits_to_all, loads_after}
+use Rattle.board_model.proofs.ListsApart.{all-unmap}
+use Rattle.board_model.proofs.MessageAlls.{all-weaken, all-with}
+use Rattle.board_model.proofs.WholeTurns.{turn_numbers}
+use Rattle.domain_core.specs.declared.ends.Ends.TheVariants.{Own, Linked}
+use Rattle.domain_core.specs.LaneMoves.{LaneMove}
+use Rattle.domain_core.specs.Ends.{EndsMoved}
+use Rattle.domain_core.specs.AllMoved.{AllMoved, turn_moves}
+use Rattle.domain_core.specs.Turned.{HaveNumbers, Turns}
+use Rattle.board_runner.specs.Near.{Near, PlainEnds, PlainDomain, near_to, near_among, near_of, peers_of, EndsMatch}
+use Rattle.board_runner.specs.Carried.{HasCome}
+use Rattle.board_runner.proofs.NearEnds.{NearVisited, link-visited, own-visited}
+use Rattle.board_runner.proofs.LanesNear.{LaneStands, near_now, with_near}
+use Rattle.board_runner.proofs.TurnLanes.{Stands, HasBoth, PeerTurn, peer_in, visits_in, peers_in, IsPeerTurn, near_after, turn-stands}
+
+-- the moves of plain ends
+abbrev pub Moved : PlainEnds → List LaneMove → PlainEnds → Type 0
+Moved = EndsMoved Sends Receives
+
+-- ---- whose ends they are
+
+pub ends-match : (n : ℕ) (ps : List ℕ) (es : List PlainEnds) (moves : List (List LaneMove)) (es' : List PlainEnds) → EndsMatch n ps es → AllMoved Moved es moves es' → EndsMatch n ps es'
+ends-match n [] [] [] [] matched moved = tt
+ends-match n (p ∷ ps) (Own a ∷ es) (ms ∷ moves) (Own b ∷ es') matched moved = (matched.0, ends-match n ps es moves es' matched.1 moved.1)
+ends-match n (p ∷ ps) (Linked a ∷ es) (ms ∷ moves) (Linked b ∷ es') matched moved = (matched.0, moved.0.peer ∙ matched.1, ends-match n ps es moves es' matched.2 moved.1)
+ends-match n [] [] [] (e ∷ es') matched moved = absurd moved
+ends-match n [] [] (ms ∷ moves) es' matched moved = absurd moved
+ends-match n [] (e ∷ es) moves es' matched moved = absurd matched
+ends-match n (p ∷ ps) [] moves es' matched moved = absurd matched
+ends-match n (p ∷ ps) (e ∷ es) [] es' matched moved = absurd moved
+ends-match n (p ∷ ps) (e ∷ es) (ms ∷ moves) [] matched moved = absurd moved
+ends-match n (p ∷ ps) (Own a ∷ es) (ms ∷ moves) (Linked b ∷ es') matched moved = absurd moved.0
+ends-match n (p ∷ ps) (Linked a ∷ es) (ms ∷ moves) (Own b ∷ es') matched moved = absurd moved.0
+
+-- ---- visits with the ends that they are made at
+
+record Zipped (n : ℕ) (es : List PlainEnds) (vs : List Visit) (es' : List PlainEnds) : Type 0 where
+  turns : List PeerTurn
+  each : AllByRecursion (IsPeerTurn n) turns
+  visits : vs ≡ visits_in turns
+  olds : es ≡ map (λ t. t.old) turns
+  news : es' ≡ map (λ t. t.new) turns
+
+abbrev peer_turn : Visit → PlainEnds → PlainEnds → PeerTurn
+peer_turn v e e' = record { visit = v; old = e; new = e' }
+
+zipped-more : (n : ℕ) (e : PlainEnds) (es : List PlainEnds) (v : Visit) (vs : List Visit) (e' : PlainEnds) (es' : List PlainEnds) → IsPeerTurn n (peer_turn v e e') → Zipped n es vs es' → Zipped n (e ∷ es) (v ∷ vs) (e' ∷ es')
+zipped-more n e es v vs e' es' here rest = record {
+  turns = peer_turn v e e' ∷ rest.turns;
+  each = (here, rest.each);
+  visits = ap (λ (us : List Visit). v ∷ us) rest.visits;
+  olds = ap (λ (fs : List PlainEnds). e ∷ fs) rest.olds;
+  news = ap (λ (fs : List PlainEnds). e' ∷ fs) rest.news;
+}
+
+zipped : (n : ℕ) (es : List PlainEnds) (vs : List Visit) (numbers : List (List ℕ)) (es' : List PlainEnds) → EndsMatch n (map (λ v. v.peer) vs) es → HaveNumbers vs numbers → AllMoved Moved es (turn_moves vs numbers) es' → Zipped n es vs es'
+zipped n [] [] numbers [] matched each moved = record { turns = []; each = tt; visits = refl; olds = refl; news = refl }
+zipped n [] [] numbers (e ∷ es') matched each moved = absurd moved
+zipped n (e ∷ es) [] numbers es' matched each moved = absurd matched
+zipped n [] (v ∷ vs) numbers es' matched each moved = absurd matched
+zipped n (e ∷ es) (v ∷ vs) [] es' matched each moved = absurd each
+zipped n (e ∷ es) (v ∷ vs) (ns ∷ numbers) [] matched each moved = absurd moved
+zipped n (Own a ∷ es) (v ∷ vs) (ns ∷ numbers) (Own b ∷ es') matched each moved =
+    zipped-more n (Own a) es v vs (Own b) es'
+    (record {
+      visited = subst (λ (o : Bool). NearVisited o v (near_to (Own a)) (near_to (Own b))) (sym (eq-eqb v.peer n matched.0)) (own-visited v ns a b each.0 moved.0);
+      own_put = λ e. refl;
+      own_given = λ e. refl;
+    })
+    (zipped n es vs numbers es' matched.1 each.1 moved.1)
+zipped n (Linked a ∷ es) (v ∷ vs) (ns ∷ numbers) (Linked b ∷ es') matched each moved =
+    zipped-more n (Linked a) es v vs (Linked b) es'
+    (record {
+      visited = subst (λ (o : Bool). NearVisited o v (near_to (Linked a)) (near_to (Linked b))) (sym (ne_eqb v.peer n matched.0)) (link-visited v ns a b each.0 moved.0);
+      own_put = λ e. absurd (matched.0 (eqb-true v.peer n e));
+      own_given = λ e. absurd (matched.0 (eqb-true v.peer n e));
+    })
+    (zipped n es vs numbers es' matched.2 each.1 moved.1)
+zipped n (Own a ∷ es) (v ∷ vs) (ns ∷ numbers) (Linked b ∷ es') matched each moved = absurd moved.0
+zipped n (Linked a ∷ es) (v ∷ vs) (ns ∷ numbers) (Own b ∷ es') matched each moved = absurd moved.0
+
+-- ---- what stands near
+
+abbrev near_before : List PeerTurn → ℕ → Near
+near_before ts q = near_among (peers_in ts) (map (λ t. t.old) ts) q
+
+abbrev near_then : List PeerTurn → ℕ → Near
+near_then ts q = near_among (peers_in ts) (map (λ t. t.new) ts) q
+
+-- the first of the peers stands nowhere else
+near-each : (ts : List PeerTurn) → Differ (peers_in ts) → AllByRecursion (λ t. near_before ts (peer_in t) ≡ near_to t.old) ts
+near-each [] differ = tt
+near-each (t ∷ ts) differ = (
+  ap (λ (b : Bool). cond b (near_to t.old) (near_before ts (peer_in t))) (eq-eqb (peer_in t) (peer_in t) refl),
+  all-with (λ u. peer_in u ≡ peer_in t → ⊥) (λ u. near_before ts (peer_in u) ≡ near_to u.old) (λ u. near_before (t ∷ ts) (peer_in u) ≡ near_to u.old)
+      (λ u other at. ap (λ (b : Bool). cond b (near_to t.old) (near_before ts (peer_in u))) (ne_eqb (peer_in t) (peer_in u) (λ h. other (sym h))) ∙ at) ts
+      (all-unmap (λ q. q ≡ peer_in t → ⊥) peer_in ts differ.0) (near-each ts differ.1),
+)
+
+-- what stands near towards another peer stays
+near-past : (own : ℕ → Near) (ts : List PeerTurn) (q : ℕ) → AllByRecursion (λ p. p ≡ q → ⊥) (peers_in ts) → near_after own ts q ≡ own q
+near-past own [] q others = refl
+near-past own (t ∷ ts) q others =
+    near-past (with_near (peer_in t) (near_to t.new) own) ts q others.1 ∙ ap (λ (b : Bool). cond b (near_to t.new) (own q)) (ne_eqb q (peer_in t) (λ h. others.0 (sym h)))
+
+near-own : (own : ℕ → Near) (ts : List PeerTurn) (q : ℕ) → Differ (peers_in ts) → own q ≡ near_before ts q → near_after own ts q ≡ near_then ts q
+near-own own [] q differ at = at
+near-own own (t ∷ ts) q differ at = go (peer_in t == q) refl at (λ later. near-own (with_near (peer_in t) (near_to t.new) own) ts q differ.1 later)
+  where
+    go : (b : Bool) → (peer_in t == q) ≡ b → own q ≡ cond b (near_to t.old) (near_before ts q) → (with_near (peer_in t) (near_to t.new) own q ≡ near_before ts q → near_after own (t ∷ ts) q ≡ near_then ts q) → near_after own (t ∷ ts) q ≡ cond b (near_to t.new) (near_then ts q)
+    go true e h later =
+        let is : peer_in t ≡ q = eqb-true (peer_in t) q e in
+        near-past (with_near (peer_in t) (near_to t.new) own) ts q (subst (λ (m : ℕ). AllByRecursion (λ p. p ≡ m → ⊥) (peers_in ts)) is differ.0)
+        ∙ ap (λ (b : Bool). cond b (near_to t.new) (own q)) (eq-eqb q (peer_in t) (sym is))
+    go false e h later =
+        later (ap (λ (b : Bool). cond b (near_to t.new) (own q)) (ne_eqb q (peer_in t) (λ is. true≢false (sym (eq-eqb (peer_in t) q (sym is)) ∙ e))) ∙ h)
+
+-- ---- a turn
+
+stands-same : (n : ℕ) (own other : ℕ → Near) (far : ℕ → ℕ → Near) (loads : List Load) → ((q : ℕ) → own q ≡ other q) → (l : Lane) → Stands n own far loads l → Stands n other far loads l
+stands-same n own other far loads same l h =
+    subst (LaneStands loads l.sender l.receiver (near_now n other far l.sender l.receiver)) (ap (λ (x : Near). cond (l.receiver == n) x (far l.receiver l.sender)) (same l.sender))
+    (subst (λ (x : Near). LaneStands loads l.sender l.receiver x (near_now n own far l.receiver l.sender)) (ap (λ (x : Near). cond (l.sender == n) x (far l.sender l.receiver)) (same l.receiver)) h)
+
+map-peers : (ts : List PeerTurn) → map (λ v. v.peer) (visits_in ts) ≡ peers_in ts
+map-peers [] = refl
+map-peers (t ∷ ts) = ap (λ (ps : List ℕ). peer_in t ∷ ps) (map-peers ts)
+
+-- a turn of a domain at plain ends is that of the serial run, and leaves each lane at its ends
+pub record TurnedLanes (far : ℕ → ℕ → Near) (ls : List Lane) (d d' : PlainDomain) (visits : List Visit) (loads : List Load) : Type 0 where
+  pub visits_are : visits ≡ turn_of d.state loads
+  pub peers : peers_of d' ≡ peers_of d
+  pub matched : EndsMatch d.state.number (peers_of d') d'.ends
+  pub lanes : AllByRecursion (Stands d.state.number (near_of d') far (loads_turned d.state loads)) ls
+
+pub turned-lanes : (far : ℕ → ℕ → Near) (ls : List Lane) (d d' : PlainDomain) (visits : List Visit) (numbers : List (List ℕ)) (loads : List Load)
+    → Turns Moved visits numbers d d' → EndsMatch d.state.number (peers_of d) d.ends → Differ (peers_of d) → AllByRecursion (λ p. HasCome (far p d.state.number)) (peers_of d) → AllByRecursion (HasBoth ls d.state.number) (peers_of d)
+    → AllByRecursion (Stands d.state.number (near_of d) far loads) ls → TurnedLanes far ls d d' visits loads
+turned-lanes far ls d d' visits numbers loads turns matched differ come both stands =
+    let n = d.state.number in
+    let z = zipped n d.ends visits numbers d'.ends (subst (λ (ps : List ℕ). EndsMatch n ps d.ends) (sym turns.allowed.each_peer) matched) turns.each turns.moved in
+    let ps : peers_of d ≡ peers_in z.turns = sym turns.allowed.each_peer ∙ ap (map (λ (v : Visit). v.peer)) z.visits ∙ map-peers z.turns in
+    let apart = subst Differ ps differ in
+    let near_by : List ℕ → List PlainEnds → ℕ → Near = λ qs es q. near_among qs es q in
+    let before : near_of d ≡ near_before z.turns = ap₂ near_by ps z.olds in
+    let peers : peers_of d' ≡ peers_of d = ap (λ (s : DomainState). map (λ p. p.number) s.peers) turns.state ∙ turn_numbers d.state visits in
+    let after : (q : ℕ) → near_after (near_before z.turns) z.turns q ≡ near_of d' q
+    = λ q. near-own (near_before z.turns) z.turns q apart refl ∙ ap₂ (λ (qs : List ℕ) (es : List PlainEnds). near_among qs es q) (sym (peers ∙ ps)) (sym z.news) in
+    let t = turn-stands n far ls z.turns d.state loads (near_before z.turns) refl (subst (AreVisits d.state) z.visits turns.allowed.allowed) z.each apart (near-each z.turns apart)
+    (subst (AllByRecursion (λ p. HasCome (far p n))) ps come) (subst (AllByRecursion (HasBoth ls n)) ps both) (subst (λ (own : ℕ → Near). AllByRecursion (Stands n own far loads) ls) before stands) in
+    record {
+      visits_are = z.visits ∙ t.visits ∙ ap (visits_to_all d.state loads) (sym ps);
+      peers = peers;
+      matched = subst (λ (qs : List ℕ). EndsMatch n qs d'.ends) (sym peers) (ends-match n (peers_of d) d.ends (turn_moves visits numbers) d'.ends matched turns.moved);
+      lanes =
+          all-weaken (Stands n (near_after (near_before z.turns) z.turns) far (loads_turned d.state loads)) (Stands n (near_of d') far (loads_turned d.state loads))
+          (stands-same n (near_after (near_before z.turns) z.turns) (near_of d') far (loads_turned d.state loads) after) ls
+          (subst (λ (qs : List ℕ). AllByRecursion (Stands n (near_after (near_before z.turns) z.turns) far (loads_after d.state loads qs)) ls) (sym ps) t.lanes);
+    }

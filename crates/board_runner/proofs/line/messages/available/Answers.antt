@@ -1,8 +1,0 @@
-use Rattle.std.proofs.Common.{refl}
-use Rattle.board_model.specs.Serial.{after_own_turn}
-use Rattle.board_model.specs.DomainCall.{available_at}
-use Rattle.board_runner.proofs.LineLemmas.{notes, gives_none}
-use Rattle.board_runner.proofs.line.messages.available.Goals as goal
-
-pub returns : goal.returns
-returns c = notes _ _ _ _ _ _ _ _ _ _ _ _ _ c.reserve.ensures.lines c.msg_available-made.ensures (gives_none (after_own_turn c.args.domain.now.alone).state c.args.at.node (available_at c.args.at.port) refl) c.of_number.ensures.available c.note_answer.ensures

@@ -1,0 +1,30 @@
+-- A station before the first line.
+-- Source: docs/PROFILE.md, "Boards" and "Serial run".
+use Rattle.std.specs.Prelude.{◌≡◌, ◌==◌, ℕ, List, [], find, Option, Some, None}
+use Rattle.lane_end.specs.Loop.{new_loop}
+use Rattle.board_model.specs.declared.scenario.DomainLine.{DomainLine}
+use Rattle.board_model.specs.declared.scenario.Scenario.{Scenario}
+use Rattle.board_model.specs.Scenario.{neighbours}
+use Rattle.board_model.specs.State.{opening}
+use Rattle.domain_core.specs.Opening.{ends_opened}
+use Rattle.board_runner.specs.declared.station.Station.{Station}
+use Rattle.board_runner.specs.Held.{id_for}
+use Rattle.board_runner.specs.Links.{links_of}
+
+-- the line of a domain
+abbrev pub line_of : List DomainLine → ℕ → Option DomainLine
+line_of ds number = find (λ d. d.domain == number) ds
+
+abbrev pub IsLineIn : Scenario → DomainLine → Type 0
+IsLineIn s d = line_of s.domains d.domain ≡ Some d
+
+-- the domain of this line is open, and nothing was called
+pub record IsOpened (s : Scenario) (d : DomainLine) (st : Station) : Type 0 where
+  pub state : st.domain.state ≡ opening d.domain d.nodes (neighbours s d)
+  pub ends : st.domain.ends ≡ ends_opened d.domain (new_loop d.pool) (links_of s d)
+  pub requests : st.domain.ids ≡ []
+  pub told : st.journal.lines ≡ []
+  pub number : st.number ≡ 0
+  pub labels : (label : List ℕ) → id_for st.ids label ≡ None
+  pub dropped : st.dropped ≡ 0
+  pub domain_number : st.domain_number ≡ d.domain

@@ -1,0 +1,54 @@
+//! A board by the lines of its scenario: its domains in rising number, and the lanes between them.
+
+ghost use Rattle.std.specs.Prelude.{◌≡◌, find, ◌==◌};
+ghost use Rattle.board_model.specs.Language.{IsLawfulBoard};
+ghost use Rattle.board_runner.specs.Lanes.{numbers_of, line_of_domain, links, buffers_between as buffers_of_lane};
+
+use arrayvec::ArrayVec;
+use board_model::{DomainLine, LinkLine, Scenario};
+use mc_base::MAX_DOMAINS;
+
+/// The numbers of the domains, which rise.
+pub fn rising_numbers(scenario: &Scenario) -> ArrayVec<u8, 8>
+    requires { IsLawfulBoard scenario.now }
+    ensures { result.items ≡ numbers_of scenario.now }
+{
+    let mut numbers = ArrayVec::new();
+    for number in 0..MAX_DOMAINS {
+        if line_of(scenario, number).is_some() {
+            numbers.push(number);
+        }
+    }
+    numbers
+}
+
+/// How many buffers the lane from one domain to another has, or `None` where there is no such lane.
+pub fn buffers_between(scenario: &Scenario, from: u8, to: u8) -> Option<u32>
+    ensures { result ≡ buffers_of_lane scenario.now from to }
+{
+    if from == to {
+        return Some(line_of(scenario, from)?.pool);
+    }
+    Some(link_of(scenario, from, to)?.size)
+}
+
+/// The line of the domain of this number.
+fn line_of(scenario: &Scenario, number: u8) -> Option<DomainLine>
+    ensures { result ≡ line_of_domain scenario.now number }
+{
+    scenario
+        .domains
+        .as_slice()
+        .iter()
+        .copied()
+        .find(|line| line.domain == number)
+}
+
+/// The link between two domains, whichever is the driver.
+fn link_of(scenario: &Scenario, one: u8, other: u8) -> Option<LinkLine>
+    ensures { result ≡ find (links one other) scenario.now.links }
+{
+    scenario.links.as_slice().iter().copied().find(|link| {
+        (link.driver == one && link.device == other) || (link.device == one && link.driver == other)
+    })
+}

@@ -1,0 +1,91 @@
+//! The outcome that a run's stations leave.
+
+ghost use Rattle.std.specs.Prelude.{◌≡◌, IfOk, map};
+ghost use Rattle.board_model.specs.Language.{IsLawfulBoard};
+ghost use Rattle.board_model.specs.SerialRun.{finished, serial_run};
+ghost use Rattle.board_runner.specs.Outcome.{lines_in, IsOutcome};
+ghost use Rattle.board_runner.specs.Stations.{IsRun};
+ghost use Rattle.board_runner.specs.Tallied.{AreHeld, TellsStation, TellStations};
+
+use crate::Outcome;
+use crate::adding::add;
+use crate::counts::count;
+use crate::numbers::{places_of, totals_of};
+use crate::station::Station;
+use crate::tally::{HeldBuffers, Tally};
+use board_model::{Scenario, Seq};
+use domain_core::{Domain, Journal, Places};
+use lane_end::{PlainRecv, PlainSend};
+use mc_base::{MAX_DOMAINS, NoMemory};
+use std::alloc::Global;
+
+/// The outcome of a serial run that left these stations, in rising number. Want of memory is the only refusal.
+pub fn outcome_of(
+    alloc: Global,
+    scenario: &Scenario,
+    stations: Vec<Station<'_>>,
+) -> Result<Outcome, NoMemory>
+    requires lawful { IsLawfulBoard scenario.now }
+    requires run { IsRun scenario.now (finished scenario.now) stations.items }
+    ensures { IfOk result (λ o. IsOutcome scenario.now o (serial_run scenario.now)) }
+{
+    let tallies = tallies_of(alloc, &stations)?;
+    let places = places_of(alloc, scenario, tallies.as_slice())?;
+    let messages = totals_of(scenario, tallies.as_slice());
+    Ok(Outcome {
+        journals: journals_of(alloc, stations)?,
+        places,
+        channels: Seq::new(Vec::new(alloc)),
+        messages,
+    })
+}
+
+/// The tallies of stations.
+fn tallies_of(alloc: Global, stations: &[Station<'_>]) -> Result<Seq<Tally>, NoMemory>
+    ensures { IfOk result (λ tallies. TellStations stations.now tallies) }
+{
+    let mut tallies = Seq::new(Vec::new(alloc));
+    for at in 0..stations.len() {
+        let tally = tally_of(&stations[at]);
+        add(&mut tallies, tally)?;
+    }
+    Ok(tallies)
+}
+
+/// The tally of a station.
+fn tally_of(station: &Station<'_>) -> Tally
+    ensures { TellsStation station.now result }
+{
+    Tally {
+        counts: count(&station.journal),
+        deleted: station.dropped,
+        held: held_by(&station.domain),
+    }
+}
+
+/// How many messages are queued in a domain, and where it holds buffers.
+fn held_by(domain: &Domain<PlainSend, PlainRecv>) -> HeldBuffers
+    ensures { AreHeld domain.now.state result }
+{
+    let mut held = HeldBuffers {
+        queued: domain.messages_queued(),
+        places: [Places { queue: 0, lent: 0 }; 8],
+    };
+    for peer in 0..MAX_DOMAINS {
+        if let Some(places) = domain.places(peer) {
+            held.places[usize::from(peer)] = places;
+        }
+    }
+    held
+}
+
+/// The journals of stations.
+fn journals_of(alloc: Global, stations: Vec<Station<'_>>) -> Result<Seq<Journal>, NoMemory>
+    ensures { IfOk result (λ journals. lines_in journals ≡ map (λ st. st.journal.lines) stations.entry.items) }
+{
+    let mut journals = Seq::new(Vec::new(alloc));
+    for station in stations {
+        add(&mut journals, station.journal)?;
+    }
+    Ok(journals)
+}

@@ -1,0 +1,66 @@
+//! A board at its opening.
+
+ghost use Rattle.std.specs.Prelude.{◌≡◌, IfOk};
+ghost use Rattle.board_model.specs.Language.{IsLawfulBoard};
+ghost use Rattle.board_model.specs.LinkedBoard.{IsLinkedBoard};
+ghost use Rattle.board_model.specs.SerialRun.{opened};
+ghost use Rattle.board_runner.specs.Opened.{line_of, IsLineIn, IsOpened};
+ghost use Rattle.board_runner.specs.Stations.{IsRun};
+
+use crate::links::links_of;
+use crate::station::Station;
+use board_model::{DomainLine, Scenario};
+use domain_core::{Domain, Journal};
+use mc_base::{MAX_DOMAINS, NoMemory};
+use std::alloc::Global;
+use std::collections::BTreeMap;
+
+/// The domains of a lawful board in rising number, before the first line. Want of memory is the only refusal.
+pub(crate) fn open_stations<'a>(
+    alloc: Global,
+    scenario: &Scenario,
+) -> Result<Vec<Station<'a>>, NoMemory>
+    requires { IsLawfulBoard scenario.now }
+    ensures { IfOk result (λ v. IsRun scenario.now (opened scenario.now) v.items) }
+{
+    let Ok(mut stations) = Vec::with_capacity(alloc, MAX_DOMAINS as usize) else {
+        return Err(NoMemory);
+    };
+    for number in 0..MAX_DOMAINS {
+        if let Some(line) = line_of(scenario.domains.as_slice(), number) {
+            let station = open_station(alloc, scenario, line)?;
+            stations.push(station).unwrap();
+        }
+    }
+    Ok(stations)
+}
+
+/// A domain with its links, before its first line.
+fn open_station<'a>(
+    alloc: Global,
+    scenario: &Scenario,
+    line: DomainLine,
+) -> Result<Station<'a>, NoMemory>
+    requires board { IsLinkedBoard scenario.now }
+    requires line { IsLineIn scenario.now line }
+    ensures { IfOk result (λ st. IsOpened scenario.now line st) }
+{
+    let links = links_of(alloc, scenario, line)?;
+    let domain = Domain::open(alloc, line.domain, line.nodes, line.pool, links)?;
+    let journal = Journal::new(alloc)?;
+    Ok(Station {
+        domain,
+        journal,
+        ids: BTreeMap::new(alloc),
+        domain_number: line.domain,
+        number: 0,
+        dropped: 0,
+    })
+}
+
+/// The line of a domain, or `None` where the board has no such domain.
+fn line_of(lines: &[DomainLine], number: u8) -> Option<DomainLine>
+    ensures { result ≡ line_of lines.now number }
+{
+    lines.iter().copied().find(|line| line.domain == number)
+}

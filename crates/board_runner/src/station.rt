@@ -1,0 +1,18 @@
+//! A domain on its way through its script.
+
+use domain_core::{Domain, Journal};
+use lane_end::{PlainRecv, PlainSend};
+use mc_base::RequestId;
+use std::collections::BTreeMap;
+
+/// A domain with its number, its journal, the ids of the requests that were given for labels, how many of its lines were called,
+/// and how many messages its deletes dropped.
+#[derive(Drop)]
+pub struct Station<'a> {
+    pub domain: Domain<PlainSend, PlainRecv>,
+    pub domain_number: u8,
+    pub journal: Journal,
+    pub ids: BTreeMap<&'a [u8], RequestId>,
+    pub number: u32,
+    pub dropped: u64,
+}
