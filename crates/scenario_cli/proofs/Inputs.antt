@@ -1,15 +1,14 @@
 -- What was read, where the source tells its bytes.
-use Rattle.std.proofs.Common.{◌≡◌, ℕ, ◌≤◌, List, ◌++◌, [], length, Option, Some, None, sym, ap, ◌∙◌, append-nil, subst}
+use Rattle.std.proofs.Common.{◌≡◌, ℕ, ◌≤◌, List, ◌++◌, [], length, Option, Some, None, sym, ap, ◌∙◌, append-nil, subst, arith}
 use Rattle.std.specs.Prelude.{IfSome, IsSome}
 use Rattle.std.specs.Io.KnownBytes.{Consumes, IsAtEnd}
 use Rattle.board_model.specs.declared.scenario.Scenario.{Scenario}
-use Rattle.board_model.specs.Grammar.{IsScenario}
-use Rattle.board_model.proofs.SerialBoard.{serial_is_board_run}
-use Rattle.board_model.proofs.Headlines.{headline}
+use Rattle.board_model.specs.Language.{IsLawfulBoard, RefusedLine}
+use Rattle.board_model.proofs.LawfulRuns.{lawful_run, lawful_headline}
 use Rattle.scenario_cli.specs.declared.form.Form.{Form}
 use Rattle.scenario_cli.specs.Words.{input_limit}
 use Rattle.scenario_cli.specs.FrameText.{wrong_in}
-use Rattle.scenario_cli.specs.Due.{IsDue, IsNoScenario, IsSoundReport, IfScenario, IfNoScenario, IfSoundFrame, IfNoSoundFrame, DueFits}
+use Rattle.scenario_cli.specs.Due.{IsDue, IsScenario, IsRefused, IsSoundReport, IfScenario, IfNoScenario, IfSoundFrame, IfNoSoundFrame, DueFits}
 
 -- all that the source had was read
 pub all_read : (all rest text : List ℕ) → all ≡ text ++ rest → rest ≡ [] → all ≡ text
@@ -24,8 +23,8 @@ if_text (Some all) (Some rest) text Q read end h = subst Q (sym (all_read all re
 pub if_scenario : (old new : Option (List ℕ)) (text : List ℕ) (P : Type 0) → Consumes old new text → IsAtEnd new → ((s : Scenario) → IsScenario text s → P) → IfScenario old P
 if_scenario old new text P read end h = if_text old new text (λ t. length t ≤ input_limit → (s : Scenario) → IsScenario t s → P) read end (λ fits. h)
 
-pub if_no_scenario : (old new : Option (List ℕ)) (text : List ℕ) (P : Type 0) → Consumes old new text → IsAtEnd new → (IsNoScenario text → P) → IfNoScenario old P
-if_no_scenario old new text P read end h = if_text old new text (λ t. length t ≤ input_limit → IsNoScenario t → P) read end (λ fits. h)
+pub if_no_scenario : (old new : Option (List ℕ)) (text : List ℕ) (P : Type 0) → Consumes old new text → IsAtEnd new → ((r : RefusedLine) → IsRefused text r → P) → IfNoScenario old P
+if_no_scenario old new text P read end h = if_text old new text (λ t. length t ≤ input_limit → (r : RefusedLine) → IsRefused t r → P) read end (λ fits. h)
 
 pub if_sound : (old new : Option (List ℕ)) (text : List ℕ) (P : Type 0) → Consumes old new text → IsAtEnd new → (wrong_in text ≡ None → P) → IfSoundFrame old P
 if_sound old new text P read end h = if_text old new text (λ t. length t ≤ input_limit → wrong_in t ≡ None → P) read end (λ fits. h)
@@ -42,6 +41,7 @@ due_fits form (Some all) (Some rest) text n read end fits = λ due is. fits due 
 -- the headline holds of the journals of every serial run
 pub sound_report : (rest : Option (List ℕ)) → IsSoundReport rest
 sound_report None = tt
-sound_report (Some text) = λ s is.
-    let run = serial_is_board_run s is.lawful in
-    record { board_run = run.0; whole = run.1; headline = headline s _ is.lawful run.0 }
+sound_report (Some text) = λ fits s is.
+    let lawful : IsLawfulBoard s = (text, omega (arith, fits), is) in
+    let run = lawful_run s lawful in
+    record { board_run = run.0; whole = run.1; headline = lawful_headline s lawful }

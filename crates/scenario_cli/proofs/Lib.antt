@@ -5,3 +5,4 @@ pub mod Statuses
 pub mod HexLemmas
 pub mod FaultPlaces
 pub mod FrameLines
+pub mod RefusalPieces

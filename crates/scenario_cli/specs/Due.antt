@@ -1,34 +1,39 @@
 -- What a status says of the input and the output.
 -- Source: README.md, "Forms and statuses". `rest` is what a source has to come, and `old` and `new` are what a sink holds
 -- before and after, each where it is told.
-use Rattle.std.specs.Prelude.{◌≡◌, ℕ, ◌<◌, ◌≤◌, List, length, Option, None, Some, IfSome, IsSome}
+use Rattle.std.specs.Prelude.{◌≡◌, ℕ, ◌<◌, ◌≤◌, List, length, Option, None, Some, IfSome, IsSome, Ok, Err}
 use Rattle.std.specs.Io.KnownBytes.{Appends}
 use Rattle.board_model.specs.declared.scenario.Scenario.{Scenario}
-use Rattle.board_model.specs.Grammar.{IsScenario}
+use Rattle.board_model.specs.Language.{RefusedLine, told_by}
 use Rattle.board_model.specs.Board.{IsBoardRun, AreWhole}
-use Rattle.board_model.specs.Serial.{serial}
+use Rattle.board_model.specs.SerialRun.{serial_run}
 use Rattle.board_model.specs.Report.{report}
 use Rattle.board_model.specs.Headline.{Headline}
 use Rattle.outer_io.specs.Writes.{AppendsPart}
 use Rattle.scenario_cli.specs.declared.form.Form.{Form}
 use Rattle.scenario_cli.specs.declared.form.Form.TheVariants.{SerialRun, Frame}
-use Rattle.scenario_cli.specs.Words.{refusal_text, input_limit}
+use Rattle.scenario_cli.specs.Words.{input_limit}
+use Rattle.scenario_cli.specs.RefusedText.{refusal_text}
 use Rattle.scenario_cli.specs.FrameText.{TellsRight, TellsWrong, wrong_in}
 
--- no scenario has this text
-abbrev pub IsNoScenario : List ℕ → Type 0
-IsNoScenario text = (s : Scenario) → IsScenario text s → ⊥
+-- the text tells this scenario
+abbrev pub IsScenario : List ℕ → Scenario → Type 0
+IsScenario text s = told_by text ≡ Ok s
+
+-- the text tells none, and is refused at this line with this reason
+abbrev pub IsRefused : List ℕ → RefusedLine → Type 0
+IsRefused text r = told_by text ≡ Err r
 
 -- the output is the report of the serial run of the scenario that the text tells
 pub record IsReport (text output : List ℕ) : Type 0 where
   pub scenario : Scenario
   pub read : IsScenario text scenario
-  pub written : output ≡ report scenario (serial scenario)
+  pub written : output ≡ report scenario (serial_run scenario)
 
 -- the output that is due for a text of a run: the report of its scenario, or the refusal
 pub data IsRunDue (text output : List ℕ) : Type 0 where
   reported : IsReport text output → IsRunDue text output
-  refused : IsNoScenario text → output ≡ refusal_text → IsRunDue text output
+  refused : (r : RefusedLine) → IsRefused text r → output ≡ refusal_text r → IsRunDue text output
 
 -- the output that is due for a text that is to be a frame: what the frame says, or what is wrong
 pub data IsFrameDue (text output : List ℕ) : Type 0 where
@@ -44,9 +49,9 @@ IsDue Frame text output = IsFrameDue text output
 abbrev pub Reports : Option (List ℕ) → Option (List ℕ) → Option (List ℕ) → Type 0
 Reports rest old new = IfSome rest (λ text. (length text ≤ input_limit) × ((output : List ℕ) × IsReport text output × Appends old new output))
 
--- the whole refusal was written, of an input within the limit that is no scenario
+-- the whole refusal was written, of an input within the limit that tells no scenario
 abbrev pub Refuses : Option (List ℕ) → Option (List ℕ) → Option (List ℕ) → Type 0
-Refuses rest old new = IfSome rest (λ text. (length text ≤ input_limit) × IsNoScenario text × Appends old new refusal_text)
+Refuses rest old new = IfSome rest (λ text. (length text ≤ input_limit) × ((r : RefusedLine) × IsRefused text r × Appends old new (refusal_text r)))
 
 -- what the frame says was written, of an input within the limit that is a sound frame
 abbrev pub IsRight : Option (List ℕ) → Option (List ℕ) → Option (List ℕ) → Type 0
@@ -66,19 +71,19 @@ IsTooLong rest = IfSome rest (λ text. input_limit < length text)
 
 -- the journals of the serial run are a whole run of the board, and the headline holds of them
 pub record IsSound (s : Scenario) : Type 0 where
-  pub board_run : IsBoardRun s (serial s)
-  pub whole : AreWhole s (serial s)
-  pub headline : Headline s (serial s)
+  pub board_run : IsBoardRun s (serial_run s)
+  pub whole : AreWhole s (serial_run s)
+  pub headline : Headline s (serial_run s)
 
 abbrev pub IsSoundReport : Option (List ℕ) → Type 0
-IsSoundReport rest = IfSome rest (λ text. (s : Scenario) → IsScenario text s → IsSound s)
+IsSoundReport rest = IfSome rest (λ text. length text ≤ input_limit → (s : Scenario) → IsScenario text s → IsSound s)
 
 -- for an input within the limit: of a scenario, or of none
 abbrev pub IfScenario : Option (List ℕ) → Type 0 → Type 0
 IfScenario rest P = IfSome rest (λ text. length text ≤ input_limit → (s : Scenario) → IsScenario text s → P)
 
 abbrev pub IfNoScenario : Option (List ℕ) → Type 0 → Type 0
-IfNoScenario rest P = IfSome rest (λ text. length text ≤ input_limit → IsNoScenario text → P)
+IfNoScenario rest P = IfSome rest (λ text. length text ≤ input_limit → (r : RefusedLine) → IsRefused text r → P)
 
 -- for an input within the limit: that is a sound frame, or that is none
 abbrev pub IfSoundFrame : Option (List ℕ) → Type 0 → Type 0

@@ -1,4 +1,5 @@
 pub mod Words
+pub mod RefusedText
 pub mod Hex
 pub mod FrameText
 pub mod Due

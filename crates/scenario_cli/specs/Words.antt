@@ -24,10 +24,6 @@ IsNoForm words = (form : Form) → IsForm form words → ⊥
 abbrev pub usage_text : List ℕ
 usage_text = codes "usage: mcrun run | run --serial | check | frame | ring | load N\n"
 
--- what is written where the input is no scenario
-abbrev pub refusal_text : List ℕ
-refusal_text = codes "refused 1 unbuilt\n"
-
 -- the most bytes of an input
 abbrev pub input_limit : ℕ
 input_limit = 8388608

@@ -4,6 +4,7 @@
 mod form;
 mod frame;
 mod hex;
+mod refused;
 mod run;
 mod status;
 #[cfg(test)]

@@ -5,6 +5,7 @@ use std::process::Abort;
 use std::test::Fail;
 use std::thread::Threads;
 
+mod boards;
 mod frame;
 mod payloads;
 mod requests;
@@ -121,7 +122,8 @@ end
 
 const USAGE: &[u8] = b"usage: mcrun run | run --serial | check | frame | ring | load N\n";
 
-const REFUSED: &[u8] = b"refused 1 unbuilt\n";
+/// What comes of an empty text.
+const REFUSED: &[u8] = b"refused 1 domain\n";
 
 /// The number of no call of a source or sink.
 const NEVER: u64 = 1_000_000_000;
@@ -218,10 +220,12 @@ fn assert_outcome<T: Threads + Sync + Abort>(
 /// Words and a text, and the status and the output that come of them.
 type Outcome<'a> = (&'a [&'a str], &'a [u8], u8, &'a [u8]);
 
-const OUTCOMES: [Outcome<'static>; 13] = [
+const OUTCOMES: [Outcome<'static>; 15] = [
     (SERIAL, MESSAGE, 0, MESSAGE_REPORT),
     (SERIAL, ONE_BUFFER, 0, ONE_BUFFER_REPORT),
     (SERIAL, NO_CALL, 0, NO_CALL_REPORT),
+    (SERIAL, b"domain 3 nodes 1 pool 1", 0, NO_CALL_REPORT),
+    (&["run", "fast"], MESSAGE, 2, USAGE),
     (SERIAL, b"", 3, REFUSED),
     (&[], MESSAGE, 2, USAGE),
     (&["run"], MESSAGE, 2, USAGE),
@@ -383,7 +387,7 @@ fn streams_that_fail(rt: HostRuntime) -> Result<(), Fail> {
 fn limit_of_the_input(rt: HostRuntime) -> Result<(), Fail> {
     let alloc = rt.alloc();
     for (length, status, written) in [
-        (8_388_608usize, 3u8, REFUSED),
+        (8_388_608usize, 3u8, b"refused 1 long\n".as_slice()),
         (8_388_609, 7, b"".as_slice()),
     ] {
         let text = Vec::from_elem(alloc, b'7', length)?;
@@ -419,5 +423,5 @@ end
 "
         )
     );
-    assert_outcome(&rt, alloc, serial(&longer), 3, REFUSED)
+    assert_outcome(&rt, alloc, serial(&longer), 3, b"refused 3 bytes\n")
 }

@@ -1,6 +1,6 @@
 //! Requests end to end: texts of scenarios, and what the report tells of their calls.
 
-use super::{MESSAGE, REFUSED, assert_outcome, outcome_of, serial};
+use super::{MESSAGE, assert_outcome, outcome_of, serial};
 use std::alloc::{AllocError, Global};
 use std::process::Abort;
 use std::test::Fail;
@@ -352,22 +352,31 @@ call 70 request_limit
     Ok(())
 }
 
-/// Lines that are in no scenario: of labels, and of a priority.
-const LINES_OF_NONE: [&[u8]; 14] = [
-    b"0.0 msg_recv_i 1 1\n",
-    b"0.0 r = msg_recv_i 1 1\n0.0 r = msg_recv_i 1 1\n",
-    b"0.0 test r\n0.0 r = msg_recv_i 1 1\n",
-    b"0.0 test r\n",
-    b"0.0 cancel r\n",
-    b"0.0 r = create 3\n",
-    b"0.0 r = msg_recv 1 1\n",
-    b"0.0 r= msg_recv_i 1 1\n",
-    b"0.0 R = msg_recv_i 1 1\n",
-    b"0.0 1r = msg_recv_i 1 1\n",
-    b"0.0 r-r = msg_recv_i 1 1\n",
-    b"0.0 abcdefghijklmnopq = msg_recv_i 1 1\n",
-    b"0.0 r = msg_recv_i 1 9001\n",
-    b"0.0 msg_send 1 0:0:2 4 61\n",
+/// Lines that are in no scenario, of labels and of a priority, each with the refusal.
+const LINES_OF_NONE: [(&[u8], &[u8]); 14] = [
+    (b"0.0 msg_recv_i 1 1\n", b"refused 6 form\n"),
+    (
+        b"0.0 r = msg_recv_i 1 1\n0.0 r = msg_recv_i 1 1\n",
+        b"refused 7 label\n",
+    ),
+    (
+        b"0.0 test r\n0.0 r = msg_recv_i 1 1\n",
+        b"refused 6 label\n",
+    ),
+    (b"0.0 test r\n", b"refused 6 label\n"),
+    (b"0.0 cancel r\n", b"refused 6 label\n"),
+    (b"0.0 r = create 3\n", b"refused 6 label\n"),
+    (b"0.0 r = msg_recv 1 1\n", b"refused 6 label\n"),
+    (b"0.0 r= msg_recv_i 1 1\n", b"refused 6 form\n"),
+    (b"0.0 R = msg_recv_i 1 1\n", b"refused 6 form\n"),
+    (b"0.0 1r = msg_recv_i 1 1\n", b"refused 6 form\n"),
+    (b"0.0 r-r = msg_recv_i 1 1\n", b"refused 6 form\n"),
+    (
+        b"0.0 abcdefghijklmnopq = msg_recv_i 1 1\n",
+        b"refused 6 form\n",
+    ),
+    (b"0.0 r = msg_recv_i 1 9001\n", b"refused 6 number\n"),
+    (b"0.0 msg_send 1 0:0:2 4 61\n", b"refused 6 number\n"),
 ];
 
 const LONGEST_LABEL: &[u8] =
@@ -376,9 +385,9 @@ const LONGEST_LABEL: &[u8] =
 #[test]
 fn lines_of_no_scenario(rt: HostRuntime) -> Result<(), Fail> {
     let alloc = rt.alloc();
-    for line in &LINES_OF_NONE {
+    for (line, refusal) in &LINES_OF_NONE {
         let text = joined(alloc, MESSAGE, *line)?;
-        assert_outcome(&rt, alloc, serial(&text), 3, REFUSED)?;
+        assert_outcome(&rt, alloc, serial(&text), 3, *refusal)?;
     }
     let text = joined(alloc, MESSAGE, LONGEST_LABEL)?;
     let (status, _) = outcome_of(&rt, alloc, serial(&text))?;

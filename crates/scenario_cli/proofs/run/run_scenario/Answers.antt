@@ -1,5 +1,5 @@
 use Rattle.std.proofs.Common.{arith}
-use Rattle.scenario_cli.proofs.Written.{whole_text, part_text, no_failure, report_of-outcome}
+use Rattle.scenario_cli.proofs.Written.{whole_text, part_text, no_failure, report_of-outcome, journals-each}
 use Rattle.scenario_cli.proofs.run.run_scenario.Goals as goal
 
 pub returns-in-Ok-clause-reported : goal.returns-in-Ok-clause-reported
@@ -19,3 +19,6 @@ returns-in-Ok-clause-room g c =
     let same = report_of-outcome c.args.scenario.now c.in-Ok.outcome c.in-Ok.ensures in
     let room = rw same at c.write_report.ensures.room in
     λ n fits takes. no_failure c.write_report.result c.after_write.result 0 c.after_write.ensures.whole (omega arith) (room n takes fits)
+
+pub write_report-requires-clause-one_each : goal.write_report-requires-clause-one_each
+write_report-requires-clause-one_each g c = journals-each c.args.scenario.now c.in-Ok.outcome c.requires.lawful c.in-Ok.ensures

@@ -37,7 +37,7 @@ returns-in-SerialRun-clause-scenario g c = λ form.
 
 pub returns-in-SerialRun-clause-no_scenario : goal.returns-in-SerialRun-clause-no_scenario
 returns-in-SerialRun-clause-no_scenario g c = λ form.
-    if_no_scenario _ _ _ _ (rw (← c.deref.ensures.value) at c.in-Ok.ensures.bytes) c.in-Ok.ensures.end (λ no_one. not_zero c.run_text.result c.run_text.ensures.status (c.run_text.ensures.no_scenario no_one))
+    if_no_scenario _ _ _ _ (rw (← c.deref.ensures.value) at c.in-Ok.ensures.bytes) c.in-Ok.ensures.end (λ r is. not_zero c.run_text.result c.run_text.ensures.status (c.run_text.ensures.no_scenario r is))
 
 pub returns-in-SerialRun-clause-sound_sink : goal.returns-in-SerialRun-clause-sound_sink
 returns-in-SerialRun-clause-sound_sink g c = λ f n form fits takes.
