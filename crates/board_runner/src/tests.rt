@@ -7,7 +7,7 @@ use board_model::{LanePlaces, Scenario, Seq, Totals};
 use domain_core::{Answer, Entry, Journal};
 use mc_base::{Fate, Refusal};
 use outer_io::{Failed, MemSink};
-use scenario_lang::language::read_scenario;
+use scenario_lang::read_scenario;
 use std::alloc::Global;
 use std::test::Fail;
 
