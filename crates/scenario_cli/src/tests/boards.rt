@@ -700,22 +700,30 @@ lane 0 0 free 1 ring 0 queue 0 lent 0
 end
 ";
 
-const BOARDS: [Outcome<'static>; 10] = [
+/// Boards of two domains.
+const BOARDS_OF_TWO: [Outcome<'static>; 4] = [
     (SERIAL, RING_OF_TWO, 0, RING_OF_TWO_REPORT),
     (SERIAL, LOOKED_UP_BEFORE, 0, LOOKED_UP_BEFORE_REPORT),
+    (SERIAL, TRIES_OF_TWO, 0, TRIES_OF_TWO_REPORT),
+    (SERIAL, THREE_OWED, 0, THREE_OWED_REPORT),
+];
+
+/// Domains without a link.
+const BOARDS_ALONE: [Outcome<'static>; 5] = [
     (SERIAL, DELETED_WITH_TWO, 0, DELETED_WITH_TWO_REPORT),
     (SERIAL, TRIES_ALONE, 0, TRIES_ALONE_REPORT),
-    (SERIAL, TRIES_OF_TWO, 0, TRIES_OF_TWO_REPORT),
     (SERIAL, OWN_NAME_TWICE, 0, OWN_NAME_TWICE_REPORT),
     (SERIAL, NO_LINK, 0, NO_LINK_REPORT),
-    (SERIAL, EIGHT_LINKED, 0, EIGHT_LINKED_REPORT),
-    (SERIAL, THREE_OWED, 0, THREE_OWED_REPORT),
     (SERIAL, WITH_REMARKS, 0, WITH_REMARKS_REPORT),
 ];
 
+const BOARD_OF_EIGHT: [Outcome<'static>; 1] = [(SERIAL, EIGHT_LINKED, 0, EIGHT_LINKED_REPORT)];
+
 #[test]
 fn boards_of_several_domains(rt: HostRuntime) -> Result<(), Fail> {
-    assert_outcomes(&rt, rt.alloc(), &BOARDS)
+    assert_outcomes(&rt, rt.alloc(), &BOARDS_OF_TWO)?;
+    assert_outcomes(&rt, rt.alloc(), &BOARDS_ALONE)?;
+    assert_outcomes(&rt, rt.alloc(), &BOARD_OF_EIGHT)
 }
 
 /// Texts of no scenario, each with the first line that is refused and its first reason.
