@@ -21,8 +21,6 @@ mod serial;
 mod station;
 mod stations;
 mod tally;
-#[cfg(test)]
-mod tests;
 
 pub use outcome::{ChannelTotals, Outcome};
 pub use report::{fault_word, reason_word, write_report};

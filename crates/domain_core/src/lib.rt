@@ -36,6 +36,3 @@ pub use link::Link;
 pub use peer::Peer;
 pub use peer_lane::PeerLane;
 pub use threads::may_cross_threads;
-
-#[cfg(test)]
-mod tests;

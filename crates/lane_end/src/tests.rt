@@ -1,59 +1,79 @@
-ghost use Rattle.std.specs.Prelude.{◌≡◌, ◌≤◌, ◌<◌, List, length};
+ghost use Rattle.std.specs.Prelude.{List};
 ghost use Rattle.lane_end.specs.SendMoves.{SendMove};
 ghost use Rattle.lane_end.specs.ReceiveMoves.{ReceiveMove};
 
 use super::*;
 use std::alloc::Global;
+use std::process::Abort;
 use std::test::Fail;
 
 mod pair;
 
 use pair::Pair;
 
-// Puts a frame, where a buffer is free.
-fn puts<S: SendEnd>(end: &mut S, frame: &[u8]) -> bool
-    requires some { 0 < length frame.now }
-    requires fits { length frame.now ≤ 512 }
-    ensures { (moves : List SendMove) × S.Moved end.old moves end.new }
-{
-    if end.free_len() == 0 {
-        return false;
-    }
-    end.put(frame);
-    true
+/// What is done with a lane.
+#[derive(Clone, Copy, Debug)]
+pub enum Deed {
+    /// Puts a frame, where a buffer is free: 1 where one was.
+    Put(&'static [u8]),
+    /// The same with the long frame.
+    PutLong,
+    /// Looks, takes the oldest frame, and gives its buffer back: 1 where the frame is this one.
+    Take(&'static [u8]),
+    /// The same with the long frame.
+    TakeLong,
+    /// Takes two frames, and gives the later one's buffer back first: ten times the number of the first buffer, and that of the
+    /// second.
+    TakeTwo,
+    /// Looks at what came back: how many buffers.
+    LookBack,
+    /// Shuttles what was put and given back.
+    Shuttle,
 }
 
-// Looks at what came back.
+use Deed::{LookBack, Put, PutLong, Shuttle, Take, TakeLong, TakeTwo};
+
+/// A deed, and what comes of it.
+type Row = (Deed, u32);
+
+fn puts<S: SendEnd>(end: &mut S, frame: &[u8]) -> u32
+    ensures { (moves : List SendMove) × S.Moved end.old moves end.new }
+{
+    if end.free_len() == 0 || frame.is_empty() || frame.len() > 512 {
+        return 0;
+    }
+    end.put(frame);
+    1
+}
+
 fn looks_back<S: SendEnd>(end: &mut S) -> u32
     ensures { (moves : List SendMove) × S.Moved end.old moves end.new }
 {
     end.look()
 }
 
-// Looks, takes the oldest frame, and gives its buffer back: whether the frame is this one.
-fn takes<R: RecvEnd>(end: &mut R, frame: &[u8]) -> bool
+fn takes<R: RecvEnd>(end: &mut R, frame: &[u8]) -> u32
     ensures { (moves : List ReceiveMove) × R.Moved end.old moves end.new }
 {
     if end.look() == 0 {
-        return false;
+        return 0;
     }
     let (buffer, len) = end.take();
     let (taken, _) = buffer.bytes().split_at(len as usize);
     let same = taken == frame;
     end.give_back(buffer);
-    same
+    u32::from(same)
 }
 
-// Takes two frames, and gives the later one's buffer back first: their buffers' numbers.
-fn takes_two<R: RecvEnd>(end: &mut R) -> (u16, u16)
+fn takes_two<R: RecvEnd>(end: &mut R) -> u32
     ensures { (moves : List ReceiveMove) × R.Moved end.old moves end.new }
 {
     if end.look() < 2 {
-        return (0, 0);
+        return 0;
     }
     let (first, _) = end.take();
     let (second, _) = end.take();
-    let numbers = (first.number(), second.number());
+    let numbers = u32::from(first.number()) * 10 + u32::from(second.number());
     end.give_back(second);
     end.give_back(first);
     numbers
@@ -103,70 +123,123 @@ fn sizes_from_1_to_256_are_made(rt: HostRuntime) -> Result<(), Fail> {
     Ok(())
 }
 
-#[test]
-fn frames_arrive_once_and_in_order(rt: HostRuntime) -> Result<(), Fail> {
-    let long = long_frame();
-    let Ok(mut lane) = Pair::new(rt.alloc(), 2) else {
+/// Asserts what comes of each deed on a plain lane of two buffers.
+fn assert_deeds(rt: &impl Abort, alloc: Global, rows: &[Row]) -> Result<(), Fail> {
+    let Ok(mut lane) = Pair::new(alloc, 2) else {
         return Err("no lane".into());
     };
-    assert!(rt; lane.puts(b"a") && lane.puts(&long));
-    assert!(rt; !lane.takes(b"a"));
-    lane.shuttle();
-    assert!(rt; lane.takes(b"a") && lane.takes(&long) && !lane.takes(&long));
-    Ok(())
-}
-
-#[test]
-fn a_lane_of_two_runs_out_and_goes_on(rt: HostRuntime) -> Result<(), Fail> {
-    let Ok(mut lane) = Pair::new(rt.alloc(), 2) else {
-        return Err("no lane".into());
-    };
-    assert!(rt; lane.puts(b"a") && lane.puts(b"b") && !lane.puts(b"c"));
-    assert_eq!(rt; lane.looks_back(), 0);
-    lane.shuttle();
-    assert!(rt; lane.takes(b"a"));
-    assert_eq!(rt; lane.looks_back(), 0);
-    lane.shuttle();
-    assert!(rt; !lane.puts(b"c"));
-    assert_eq!(rt; lane.looks_back(), 1);
-    assert!(rt; lane.puts(b"c") && !lane.puts(b"d"));
-    lane.shuttle();
-    assert!(rt; lane.takes(b"b") && lane.takes(b"c") && !lane.takes(b"d"));
-    Ok(())
-}
-
-#[test]
-fn buffers_come_back_as_they_were_given(rt: HostRuntime) -> Result<(), Fail> {
-    let Ok(mut lane) = Pair::new(rt.alloc(), 2) else {
-        return Err("no lane".into());
-    };
-    for numbers in [(0, 1), (1, 0), (0, 1)] {
-        assert!(rt; lane.puts(b"a") && lane.puts(b"b"));
-        lane.shuttle();
-        assert_eq!(rt; lane.takes_two(), numbers);
-        lane.shuttle();
-        assert_eq!(rt; lane.looks_back(), 2);
+    for (i, (deed, due)) in rows.iter().enumerate() {
+        assert_eq!(rt; lane.does(*deed), *due, "{i}: {deed:?}");
     }
     Ok(())
 }
 
+const IN_ORDER: [Row; 7] = [
+    (Put(b"a"), 1),
+    (PutLong, 1),
+    (Take(b"a"), 0),
+    (Shuttle, 0),
+    (Take(b"a"), 1),
+    (TakeLong, 1),
+    (TakeLong, 0),
+];
+
+#[test]
+fn frames_arrive_once_and_in_order(rt: HostRuntime) -> Result<(), Fail> {
+    assert_deeds(&rt, rt.alloc(), &IN_ORDER)
+}
+
+const RUNNING_OUT: [Row; 16] = [
+    (Put(b"a"), 1),
+    (Put(b"b"), 1),
+    (Put(b"c"), 0),
+    (LookBack, 0),
+    (Shuttle, 0),
+    (Take(b"a"), 1),
+    (LookBack, 0),
+    (Shuttle, 0),
+    (Put(b"c"), 0),
+    (LookBack, 1),
+    (Put(b"c"), 1),
+    (Put(b"d"), 0),
+    (Shuttle, 0),
+    (Take(b"b"), 1),
+    (Take(b"c"), 1),
+    (Take(b"d"), 0),
+];
+
+#[test]
+fn a_lane_of_two_runs_out_and_goes_on(rt: HostRuntime) -> Result<(), Fail> {
+    assert_deeds(&rt, rt.alloc(), &RUNNING_OUT)
+}
+
+const IN_REVERSE: [Row; 15] = [
+    (Put(b"a"), 1),
+    (Put(b"b"), 1),
+    (Shuttle, 0),
+    (TakeTwo, 1),
+    (Shuttle, 0),
+    (LookBack, 2),
+    (Put(b"a"), 1),
+    (Put(b"b"), 1),
+    (Shuttle, 0),
+    (TakeTwo, 10),
+    (Shuttle, 0),
+    (LookBack, 2),
+    (Put(b"a"), 1),
+    (Shuttle, 0),
+    (TakeTwo, 0),
+];
+
+#[test]
+fn buffers_come_back_as_they_were_given(rt: HostRuntime) -> Result<(), Fail> {
+    assert_deeds(&rt, rt.alloc(), &IN_REVERSE)
+}
+
+/// A deed on a lane to oneself, which needs no shuttle.
+fn does_alone(lane: &mut LoopLane, deed: Deed) -> u32 {
+    match deed {
+        Put(frame) => puts(lane, frame),
+        PutLong => puts(lane, &long_frame()),
+        Take(frame) => takes(lane, frame),
+        TakeLong => takes(lane, &long_frame()),
+        TakeTwo => takes_two(lane),
+        LookBack => looks_back(lane),
+        Shuttle => 0,
+    }
+}
+
+const TO_ONESELF: [Row; 21] = [
+    (Take(b"a"), 0),
+    (Put(b"a"), 1),
+    (PutLong, 1),
+    (Put(b"c"), 0),
+    (LookBack, 0),
+    (Take(b"a"), 1),
+    (Put(b"c"), 0),
+    (LookBack, 1),
+    (Put(b"c"), 1),
+    (TakeLong, 1),
+    (Take(b"c"), 1),
+    (LookBack, 2),
+    (Put(b"a"), 1),
+    (Put(b"b"), 1),
+    (TakeTwo, 10),
+    (LookBack, 2),
+    (Put(b"a"), 1),
+    (Put(b"b"), 1),
+    (TakeTwo, 1),
+    (LookBack, 2),
+    (TakeTwo, 0),
+];
+
 #[test]
 fn a_lane_to_oneself_does_the_same(rt: HostRuntime) -> Result<(), Fail> {
-    let long = long_frame();
     let Ok(mut lane) = LoopLane::new(rt.alloc(), 2) else {
         return Err("no lane".into());
     };
-    assert!(rt; !takes(&mut lane, b"a"));
-    assert!(rt; puts(&mut lane, b"a") && puts(&mut lane, &long) && !puts(&mut lane, b"c"));
-    assert_eq!(rt; looks_back(&mut lane), 0);
-    assert!(rt; takes(&mut lane, b"a") && !puts(&mut lane, b"c"));
-    assert_eq!(rt; looks_back(&mut lane), 1);
-    assert!(rt; puts(&mut lane, b"c") && takes(&mut lane, &long) && takes(&mut lane, b"c"));
-    assert_eq!(rt; looks_back(&mut lane), 2);
-    for numbers in [(1, 0), (0, 1)] {
-        assert!(rt; puts(&mut lane, b"a") && puts(&mut lane, b"b"));
-        assert_eq!(rt; takes_two(&mut lane), numbers);
-        assert_eq!(rt; looks_back(&mut lane), 2);
+    for (i, (deed, due)) in TO_ONESELF.iter().enumerate() {
+        assert_eq!(rt; does_alone(&mut lane, *deed), *due, "{i}: {deed:?}");
     }
     Ok(())
 }
@@ -174,32 +247,46 @@ fn a_lane_to_oneself_does_the_same(rt: HostRuntime) -> Result<(), Fail> {
 // A receiver with one frame, and a sender.
 fn ends(alloc: Global) -> Result<(PlainRecv, PlainSend), LaneFault> {
     let mut lane = Pair::new(alloc, 1)?;
-    lane.puts(b"abc");
-    lane.shuttle();
+    lane.does(Put(b"abc"));
+    lane.does(Shuttle);
     let other = Pair::new(alloc, 1)?;
     Ok((lane.recv, other.send))
 }
 
 #[test]
-fn frames_are_sent_on_over_ends_of_any_kind(rt: HostRuntime) -> Result<(), Fail> {
+fn frames_are_sent_on_over_plain_ends(rt: HostRuntime) -> Result<(), Fail> {
     let Ok((mut from, mut to)) = ends(rt.alloc()) else {
         return Err("no lanes".into());
     };
-    assert_eq!(rt; sends_on(&mut from, &mut to), 3);
-    assert_eq!(rt; sends_on(&mut from, &mut to), 0);
+    for due in [3, 0] {
+        assert_eq!(rt; sends_on(&mut from, &mut to), due);
+    }
+    Ok(())
+}
+
+#[test]
+fn frames_are_sent_on_over_ends_of_any_kind(rt: HostRuntime) -> Result<(), Fail> {
     let Ok((from, to)) = ends(rt.alloc()) else {
         return Err("no lanes".into());
     };
     let (mut from, mut to) = (AnyRecv::Plain(from), AnySend::Plain(to));
-    assert_eq!(rt; sends_on(&mut from, &mut to), 3);
-    assert_eq!(rt; to.free_len(), 0);
-    assert_eq!(rt; to.look(), 0);
+    for due in [3, 0] {
+        assert_eq!(rt; sends_on(&mut from, &mut to), due);
+        assert_eq!(rt; (to.free_len(), to.look()), (0, 0));
+    }
+    Ok(())
+}
+
+#[test]
+fn frames_are_sent_on_over_lanes_to_oneself(rt: HostRuntime) -> Result<(), Fail> {
     let (Ok(mut from), Ok(mut to)) = (LoopLane::new(rt.alloc(), 1), LoopLane::new(rt.alloc(), 1))
     else {
         return Err("no lanes".into());
     };
-    assert!(rt; puts(&mut from, b"abc"));
-    assert_eq!(rt; sends_on(&mut from, &mut to), 3);
-    assert!(rt; takes(&mut to, b"abc"));
+    does_alone(&mut from, Put(b"abc"));
+    for due in [3, 0] {
+        assert_eq!(rt; sends_on(&mut from, &mut to), due);
+    }
+    assert_eq!(rt; does_alone(&mut to, Take(b"abc")), 1);
     Ok(())
 }

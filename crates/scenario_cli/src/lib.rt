@@ -7,8 +7,6 @@ mod hex;
 mod refused;
 mod run;
 mod status;
-#[cfg(test)]
-mod tests;
 mod top;
 
 pub use top::mcrun;

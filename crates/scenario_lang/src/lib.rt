@@ -22,6 +22,3 @@ pub use canonical::put_scenario;
 pub use fault::ScenarioFault;
 pub use reading::{canonical_text_is_read_back, read_scenario};
 pub use writing::write_scenario;
-
-#[cfg(test)]
-mod tests;

@@ -1,7 +1,6 @@
-ghost use Rattle.std.specs.Prelude.{◌≤◌, ◌<◌, length};
 ghost use Rattle.lane_end.specs.PlainLane.{AreOneLane};
 
-use super::{looks_back, puts, takes, takes_two};
+use super::{Deed, long_frame, looks_back, puts, takes, takes_two};
 use crate::{LaneFault, PlainRecv, PlainSend, ends_stay_one_lane, plain_lane, shuttle};
 use std::alloc::Global;
 
@@ -21,30 +20,39 @@ impl Pair {
         }
     }
 
-    pub fn puts(&mut self, frame: &[u8]) -> bool
-        requires some { 0 < length frame.now }
-        requires fits { length frame.now ≤ 512 }
-    {
+    /// Does a deed, and answers what comes of it.
+    pub fn does(&mut self, deed: Deed) -> u32 {
+        match deed {
+            Deed::Put(frame) => self.puts(frame),
+            Deed::PutLong => self.puts(&long_frame()),
+            Deed::Take(frame) => self.takes(frame),
+            Deed::TakeLong => self.takes(&long_frame()),
+            Deed::TakeTwo => self.takes_two(),
+            Deed::LookBack => self.looks_back(),
+            Deed::Shuttle => {
+                shuttle(&mut self.send, &mut self.recv);
+                0
+            }
+        }
+    }
+
+    fn puts(&mut self, frame: &[u8]) -> u32 {
         ends_stay_one_lane();
         puts(&mut self.send, frame)
     }
 
-    pub fn looks_back(&mut self) -> u32 {
+    fn looks_back(&mut self) -> u32 {
         ends_stay_one_lane();
         looks_back(&mut self.send)
     }
 
-    pub fn takes(&mut self, frame: &[u8]) -> bool {
+    fn takes(&mut self, frame: &[u8]) -> u32 {
         ends_stay_one_lane();
         takes(&mut self.recv, frame)
     }
 
-    pub fn takes_two(&mut self) -> (u16, u16) {
+    fn takes_two(&mut self) -> u32 {
         ends_stay_one_lane();
         takes_two(&mut self.recv)
-    }
-
-    pub fn shuttle(&mut self) {
-        shuttle(&mut self.send, &mut self.recv);
     }
 }

@@ -1,0 +1,380 @@
+ghost use Rattle.std.specs.Prelude.{◌≤◌};
+ghost use Rattle.domain_core.specs.Ends.{EndsMoved};
+ghost use Rattle.domain_core.specs.Going.{Goes};
+
+use domain_core::{Answer, Domain, Entry, Journal, Places, Told, may_cross_threads};
+use lane_end::{AnyRecv, AnySend, RecvEnd, SendEnd};
+use mc_base::{EndName, Fate, Local, NoMemory, Priority, Reason, Refusal};
+use std::alloc::Global;
+use std::process::Abort;
+use std::test::Fail;
+
+mod boards;
+mod frames;
+mod joins;
+mod lanes;
+mod limits;
+mod steps;
+
+/// A call at node 0, but for what it says. A message has the same byte throughout.
+#[derive(Clone, Copy, Debug)]
+enum Call {
+    /// Makes an endpoint at a node and port.
+    Create(u8, u16),
+    /// Sends from a port to a port of domain 3: the priority, the byte, and how often it stands.
+    Send(u16, u16, u8, u8, usize),
+    /// Sends two bytes from a port to a port of domain 4.
+    SendAbroad(u16, u16),
+    /// Receives at a port at most so many bytes, each of which must be this one.
+    Receive(u16, usize, u8),
+}
+
+use Call::{Create, Receive, Send, SendAbroad};
+
+/// A call, and what it answers: the address, 0 for a message that was sent, or the size of one that was received.
+type Answered = (Call, Result<u32, Refusal>);
+
+/// A domain without links: its number is 3.
+fn alone(alloc: Global, nodes: u8, pool: u32) -> Result<Domain<AnySend, AnyRecv>, NoMemory>
+    requires some_nodes { 1 ≤ nodes }
+    requires nodes { nodes ≤ 16 }
+    requires some_pool { 1 ≤ pool }
+    requires pool { pool ≤ 256 }
+{
+    Domain::open(alloc, 3, nodes, pool, Vec::new(alloc))
+}
+
+/// Makes a call. Answers `None` where a message has other bytes than it must.
+fn made<S: SendEnd, R: RecvEnd>(
+    domain: &mut Domain<S, R>,
+    journal: &mut Journal,
+    call: Call,
+) -> Option<Result<u32, Refusal>>
+    requires entry_room { 160 ≤ journal.old.entry_room }
+    requires byte_room { 67584 ≤ journal.old.byte_room }
+    ensures { Goes (EndsMoved S.Moved R.Moved) domain.old domain.new }
+{
+    match call {
+        Create(node, port) => Some(domain.create(journal, Local { node, port })),
+        Send(from, to, priority, byte, size) => sent(
+            domain,
+            journal,
+            from,
+            (3, to),
+            priority,
+            byte,
+            size,
+        ),
+        SendAbroad(from, to) => sent(domain, journal, from, (4, to), 0, 0, 2),
+        Receive(port, max, byte) => received(domain, journal, port, max, byte),
+    }
+}
+
+fn sent<S: SendEnd, R: RecvEnd>(
+    domain: &mut Domain<S, R>,
+    journal: &mut Journal,
+    from: u16,
+    to: (u8, u16),
+    priority: u8,
+    byte: u8,
+    size: usize,
+) -> Option<Result<u32, Refusal>>
+    requires entry_room { 160 ≤ journal.old.entry_room }
+    requires byte_room { 67584 ≤ journal.old.byte_room }
+    ensures { Goes (EndsMoved S.Moved R.Moved) domain.old domain.new }
+{
+    let Some(priority) = Priority::new(priority) else {
+        domain.turn(journal);
+        return None;
+    };
+    let content = [byte; 489];
+    let (bytes, _) = content.split_at(size.min(489));
+    let from = Local {
+        node: 0,
+        port: from,
+    };
+    let (number, port) = to;
+    let to = EndName {
+        domain: number,
+        node: 0,
+        port,
+    };
+    let answer = domain.msg_send(journal, from, to, priority, bytes);
+    Some(answer.map(|()| 0))
+}
+
+/// What lies behind the bytes that are given must stay.
+fn received<S: SendEnd, R: RecvEnd>(
+    domain: &mut Domain<S, R>,
+    journal: &mut Journal,
+    port: u16,
+    max: usize,
+    byte: u8,
+) -> Option<Result<u32, Refusal>>
+    requires entry_room { 160 ≤ journal.old.entry_room }
+    requires byte_room { 67584 ≤ journal.old.byte_room }
+    ensures { Goes (EndsMoved S.Moved R.Moved) domain.old domain.new }
+{
+    let mut buffer = [0xee; 488];
+    let (out, _) = buffer.split_at_mut(max.min(488));
+    let answer = domain.msg_recv(journal, Local { node: 0, port }, out);
+    let given = match answer {
+        Ok(got) => got.given as usize,
+        Err(_) => 0,
+    };
+    if !is_given(out, given, byte) {
+        return None;
+    }
+    Some(answer.map(|got| got.size))
+}
+
+/// Whether the first bytes are this one, and the others what they were.
+fn is_given(out: &[u8], given: usize, byte: u8) -> bool {
+    for (i, b) in out.iter().enumerate() {
+        if *b != if i < given { byte } else { 0xee } {
+            return false;
+        }
+    }
+    true
+}
+
+/// Asserts what each call answers.
+fn assert_answers<S: SendEnd, R: RecvEnd>(
+    rt: &impl Abort,
+    domain: &mut Domain<S, R>,
+    journal: &mut Journal,
+    rows: &[Answered],
+) -> Result<(), Fail> {
+    for (call, due) in rows {
+        journal.reserve(160, 67_584)?;
+        assert_eq!(rt; made(domain, journal, *call), Some(*due), "{call:?}");
+    }
+    Ok(())
+}
+
+const ANSWERS_OF_CALLS: [Answered; 20] = [
+    (Create(0, 1), Ok(1024)),
+    (Create(0, 2), Ok(1025)),
+    (Create(1, 1), Ok(1026)),
+    (Create(2, 3), Err(Refusal::NodeInvalid)),
+    (Create(0, 1), Err(Refusal::ExistsAlready)),
+    (Send(9, 2, 1, 0, 2), Err(Refusal::EndpInvalid)),
+    (Send(1, 9, 1, 0, 2), Err(Refusal::PeerInvalid)),
+    (SendAbroad(1, 2), Err(Refusal::PeerInvalid)),
+    (Send(1, 2, 1, 0, 489), Err(Refusal::MsgSize)),
+    (Receive(9, 488, 0), Err(Refusal::EndpInvalid)),
+    (Receive(2, 488, 0), Err(Refusal::Empty)),
+    (Send(1, 2, 0, 0, 0), Ok(0)),
+    (Send(1, 2, 0, 7, 488), Ok(0)),
+    (Send(1, 2, 0, 8, 2), Err(Refusal::NoBuffer)),
+    (Receive(2, 488, 0), Ok(0)),
+    (Send(1, 2, 0, 9, 5), Ok(0)),
+    (Receive(2, 488, 7), Ok(488)),
+    (Receive(2, 2, 9), Ok(5)),
+    (Send(2, 1, 3, 1, 2), Ok(0)),
+    (Receive(1, 0, 1), Ok(2)),
+];
+
+#[test]
+fn calls_answer(rt: HostRuntime) -> Result<(), Fail> {
+    let mut domain = alone(rt.alloc(), 2, 2)?;
+    let mut journal = Journal::new(rt.alloc())?;
+    assert_answers(&rt, &mut domain, &mut journal, &ANSWERS_OF_CALLS)
+}
+
+const FOUR_PRIORITIES: [Answered; 8] = [
+    (Create(0, 1), Ok(1024)),
+    (Send(1, 1, 2, 20, 1), Ok(0)),
+    (Send(1, 1, 0, 1, 2), Ok(0)),
+    (Send(1, 1, 1, 10, 3), Ok(0)),
+    (Send(1, 1, 0, 2, 4), Ok(0)),
+    (Receive(1, 488, 1), Ok(2)),
+    (Receive(1, 488, 2), Ok(4)),
+    (Receive(1, 488, 10), Ok(3)),
+];
+
+#[test]
+fn the_best_priority_comes_first(rt: HostRuntime) -> Result<(), Fail> {
+    let mut domain = alone(rt.alloc(), 1, 4)?;
+    let mut journal = Journal::new(rt.alloc())?;
+    assert_answers(&rt, &mut domain, &mut journal, &FOUR_PRIORITIES)?;
+    assert_eq!(rt; domain.messages_queued(), 1);
+    assert_eq!(rt; domain.places(3), Some(Places { queue: 1, lent: 0 }));
+    assert_eq!(rt; domain.places(4), None);
+    may_cross_threads();
+    Ok(())
+}
+
+const MESSAGES_APART: [Answered; 12] = [
+    (Create(0, 1), Ok(1024)),
+    (Create(0, 2), Ok(1025)),
+    (Send(1, 2, 1, 7, 3), Ok(0)),
+    (Send(2, 1, 1, 9, 5), Ok(0)),
+    (Receive(1, 488, 9), Ok(5)),
+    (Send(2, 2, 0, 8, 4), Ok(0)),
+    (Receive(1, 488, 0), Err(Refusal::Empty)),
+    (Receive(2, 488, 8), Ok(4)),
+    (Send(1, 1, 3, 6, 488), Ok(0)),
+    (Receive(2, 488, 7), Ok(3)),
+    (Receive(1, 488, 6), Ok(488)),
+    (Receive(2, 488, 0), Err(Refusal::Empty)),
+];
+
+#[test]
+fn each_message_keeps_its_own_bytes(rt: HostRuntime) -> Result<(), Fail> {
+    let mut domain = alone(rt.alloc(), 1, 2)?;
+    let mut journal = Journal::new(rt.alloc())?;
+    assert_answers(&rt, &mut domain, &mut journal, &MESSAGES_APART)?;
+    assert_eq!(rt; domain.messages_queued(), 0);
+    Ok(())
+}
+
+#[test]
+fn sixty_four_endpoints_at_once(rt: HostRuntime) -> Result<(), Fail> {
+    let mut domain = alone(rt.alloc(), 1, 1)?;
+    let mut journal = Journal::new(rt.alloc())?;
+    for port in 0..64 {
+        let row = (Create(0, port), Ok(1024 + u32::from(port)));
+        assert_answers(&rt, &mut domain, &mut journal, &[row])?;
+    }
+    let row = (Create(0, 64), Err(Refusal::EndpLimit));
+    assert_answers(&rt, &mut domain, &mut journal, &[row])
+}
+
+/// An entry as its kind, its peer, its line or its word, its count or its fate, and how many bytes it has.
+type Line = (u8, u64, u64, usize);
+
+fn told(entry: Entry<'_>) -> Line {
+    match entry {
+        Entry::Turn => (b't', 0, 0, 0),
+        Entry::Back { peer, count } => (b'b', u64::from(peer), u64::from(count), 0),
+        Entry::Put { peer, frame } => (b'p', u64::from(peer), 0, frame.len()),
+        Entry::See { peer, count } => (b's', u64::from(peer), u64::from(count), 0),
+        Entry::Take { peer, frame, fate } => {
+            let word = match fate {
+                Fate::Queued => 1,
+                Fate::Handed => 2,
+                _ => 0,
+            };
+            (b'q', u64::from(peer), word, frame.len())
+        }
+        Entry::Idle { turns } => (b'i', 0, turns, 0),
+        Entry::Again { word } => (b'a', told_word(word), 0, 0),
+        Entry::Spin { times, word } => (b'w', told_word(word), times, 0),
+        Entry::Called { number, answer } => match answer {
+            Answer::Refused(_) => (b'r', u64::from(number), 0, 0),
+            Answer::Ok => (b'o', u64::from(number), 0, 0),
+            Answer::Number(n) => (b'n', u64::from(number), n, 0),
+            Answer::Bytes { size, bytes } => (
+                b'm',
+                u64::from(number),
+                u64::from(size),
+                bytes.len(),
+            ),
+            Answer::Done(how) => told_done(number, how),
+        },
+    }
+}
+
+fn told_word(word: Refusal) -> u64 {
+    match word {
+        Refusal::Empty => 1,
+        Refusal::NoBuffer => 2,
+        _ => 0,
+    }
+}
+
+/// How a request ended as its kind, its line, its number and how many bytes it has.
+fn told_done(number: u32, how: Told<'_>) -> Line {
+    let line = u64::from(number);
+    match how {
+        Told::Address(address) => (b'A', line, u64::from(address), 0),
+        Told::Accepted => (b'C', line, 0, 0),
+        Told::Rejected(_) => (b'R', line, 0, 0),
+        Told::Bytes { size, bytes } => (b'M', line, u64::from(size), bytes.len()),
+        Told::Ended(_) => (b'E', line, 0, 0),
+    }
+}
+
+/// Asserts that the journal's entries are these.
+fn assert_lines(rt: &impl Abort, journal: &Journal, lines: &[Line]) -> Result<(), Fail> {
+    assert_eq!(rt; journal.len(), lines.len());
+    for (i, line) in lines.iter().enumerate() {
+        let entry = journal.entry(i).ok_or("entry")?;
+        assert_eq!(rt; told(entry), *line, "line {i}");
+    }
+    assert!(rt; journal.entry(lines.len()).is_none());
+    Ok(())
+}
+
+const CALLS: [Call; 5] = [
+    Create(0, 1),
+    Create(0, 2),
+    Send(1, 2, 1, 7, 2),
+    Receive(2, 488, 7),
+    Create(0, 1),
+];
+
+const LINES_OF_CALLS: [Line; 7] = [
+    (b'i', 0, 3, 0),
+    (b'p', 3, 0, 26),
+    (b't', 0, 0, 0),
+    (b's', 3, 1, 0),
+    (b'q', 3, 1, 26),
+    (b't', 0, 0, 0),
+    (b'b', 3, 1, 0),
+];
+
+#[test]
+fn what_happens_is_noted(rt: HostRuntime) -> Result<(), Fail> {
+    let mut domain = alone(rt.alloc(), 1, 2)?;
+    let mut journal = Journal::new(rt.alloc())?;
+    for call in &CALLS {
+        journal.reserve(160, 67_584)?;
+        made(&mut domain, &mut journal, *call);
+    }
+    assert_lines(&rt, &journal, &LINES_OF_CALLS)
+}
+
+const ANSWERS: [Answer<'static>; 9] = [
+    Answer::Refused(Refusal::Empty),
+    Answer::Ok,
+    Answer::Number(1024),
+    Answer::Bytes {
+        size: 5,
+        bytes: b"he",
+    },
+    Answer::Done(Told::Address(1030)),
+    Answer::Done(Told::Accepted),
+    Answer::Done(Told::Rejected(Reason::Busy)),
+    Answer::Done(Told::Bytes {
+        size: 9,
+        bytes: b"hello",
+    }),
+    Answer::Done(Told::Ended(Refusal::ChanClosed)),
+];
+
+const LINES_OF_ANSWERS: [Line; 9] = [
+    (b'r', 1, 0, 0),
+    (b'o', 1, 0, 0),
+    (b'n', 1, 1024, 0),
+    (b'm', 1, 5, 2),
+    (b'A', 1, 1030, 0),
+    (b'C', 1, 0, 0),
+    (b'R', 1, 0, 0),
+    (b'M', 1, 9, 5),
+    (b'E', 1, 0, 0),
+];
+
+#[test]
+fn answers_are_noted(rt: HostRuntime) -> Result<(), Fail> {
+    let mut journal = Journal::new(rt.alloc())?;
+    for answer in &ANSWERS {
+        journal.reserve(1, 488)?;
+        journal.note(Entry::Called {
+            number: 1,
+            answer: *answer,
+        });
+    }
+    assert_lines(&rt, &journal, &LINES_OF_ANSWERS)
+}

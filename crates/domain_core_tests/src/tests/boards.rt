@@ -1,0 +1,195 @@
+//! Two domains that are linked.
+
+ghost use Rattle.std.specs.Prelude.{◌≡◌, ◌≤◌, IfOk};
+ghost use Rattle.domain_core.specs.Carrying.{AreJoined};
+ghost use Rattle.lane_end.specs.Numbers.{IsLaneSize};
+ghost use Rattle.domain_core.specs.Going.{PlainGoes};
+ghost use Rattle.domain_core_tests.specs.NewLinks.{new_link};
+
+use super::steps::Said::{Address, Idle, Message, Number};
+use super::steps::Step::{Available, Begin, Cancel, Delete, Lookup, Plain, Test, Turn};
+use super::steps::{self, Step, stepped};
+use super::*;
+use domain_core::{Link, carry, domains_stay_linked};
+use lane_end::{PlainRecv, PlainSend, plain_lane};
+use mc_base::RequestId;
+use std::marker::Model;
+
+mod announcements;
+mod messages;
+
+/// What one of the domains does, or that their link is carried.
+#[derive(Clone, Copy, Debug)]
+enum Deed {
+    Three(Step),
+    Four(Step),
+    Carry,
+}
+
+use Deed::{Carry, Four, Three};
+
+/// A deed, and what it answers: the number 0 for a link that is carried.
+type Row = (Deed, steps::Answered);
+
+type PlainLink = Link<PlainSend, PlainRecv>;
+
+type PlainDomain = Domain<PlainSend, PlainRecv>;
+
+/// What a domain noted, and the ids of its requests.
+#[derive(Drop)]
+struct Notes {
+    journal: Journal,
+    ids: Vec<RequestId>,
+}
+
+/// Domains 3 and 4, which are linked. Each has one node and a pool of two buffers.
+#[derive(Drop)]
+struct Pair {
+    three: PlainDomain,
+    four: PlainDomain,
+}
+
+impl Model for Pair {
+    ghost use Rattle.domain_core.specs.Going.{AreLinkedDomains};
+
+    ghost Value = { Unit {0} };
+
+    ghost view = { λ p. tt };
+
+    ghost invariant = { λ p. AreLinkedDomains p.three p.four };
+}
+
+impl Pair {
+    /// Whose link has so many buffers each way.
+    fn open(alloc: Global, size: u32) -> Result<Pair, Fail> {
+        let (there, back) = link(alloc, size)?;
+        let mut links_of_three = Vec::new(alloc);
+        links_of_three.push(there)?;
+        let mut links_of_four = Vec::new(alloc);
+        links_of_four.push(back)?;
+        Ok(Pair {
+            three: Domain::open(alloc, 3, 1, 2, links_of_three)?,
+            four: Domain::open(alloc, 4, 1, 2, links_of_four)?,
+        })
+    }
+
+    fn steps_three(&mut self, notes: &mut Notes, step: Step) -> Outcome
+        requires entry_room { 160 ≤ notes.old.journal.entry_room }
+        requires byte_room { 67584 ≤ notes.old.journal.byte_room }
+    {
+        domains_stay_linked();
+        step_of(&mut self.three, notes, step)
+    }
+
+    fn steps_four(&mut self, notes: &mut Notes, step: Step) -> Outcome
+        requires entry_room { 160 ≤ notes.old.journal.entry_room }
+        requires byte_room { 67584 ≤ notes.old.journal.byte_room }
+    {
+        domains_stay_linked();
+        step_of(&mut self.four, notes, step)
+    }
+
+    fn carries(&mut self) {
+        carry(&mut self.three, &mut self.four);
+    }
+}
+
+/// What a call came to.
+type Outcome = Result<Option<steps::Answered>, NoMemory>;
+
+/// The two domains, and what they noted.
+#[derive(Drop)]
+struct Board {
+    pair: Pair,
+    threes: Notes,
+    fours: Notes,
+}
+
+impl Board {
+    fn open(alloc: Global, size: u32) -> Result<Board, Fail> {
+        Ok(Board {
+            pair: Pair::open(alloc, size)?,
+            threes: no_notes(alloc)?,
+            fours: no_notes(alloc)?,
+        })
+    }
+
+    fn does(&mut self, deed: Deed) -> Outcome
+        requires entries_of_three { 160 ≤ self.old.threes.journal.entry_room }
+        requires bytes_of_three { 67584 ≤ self.old.threes.journal.byte_room }
+        requires entries_of_four { 160 ≤ self.old.fours.journal.entry_room }
+        requires bytes_of_four { 67584 ≤ self.old.fours.journal.byte_room }
+    {
+        match deed {
+            Three(step) => self.pair.steps_three(&mut self.threes, step),
+            Four(step) => self.pair.steps_four(&mut self.fours, step),
+            Carry => {
+                self.pair.carries();
+                Ok(Some(Ok(Number(0))))
+            }
+        }
+    }
+}
+
+fn no_notes(alloc: Global) -> Result<Notes, NoMemory> {
+    Ok(Notes {
+        journal: Journal::new(alloc)?,
+        ids: Vec::new(alloc),
+    })
+}
+
+/// The ends of a link between domains 3 and 4.
+fn link(alloc: Global, size: u32) -> Result<(PlainLink, PlainLink), Fail>
+    ensures there { IfOk result (λ r. r.0 ≡ new_link 4 size) }
+    ensures back { IfOk result (λ r. r.1 ≡ new_link 3 size) }
+    ensures size { IfOk result (λ _. IsLaneSize size) }
+    ensures joined { IfOk result (λ r. AreJoined r.0 r.1) }
+{
+    let Ok((send, arriving)) = plain_lane(alloc, size) else {
+        return Err("no lane".into());
+    };
+    let Ok((answering, recv)) = plain_lane(alloc, size) else {
+        return Err("no lane".into());
+    };
+    let there = Link {
+        peer: 4,
+        size,
+        send,
+        recv,
+    };
+    let back = Link {
+        peer: 3,
+        size,
+        send: answering,
+        recv: arriving,
+    };
+    Ok((there, back))
+}
+
+/// Makes a call.
+fn step_of(domain: &mut PlainDomain, notes: &mut Notes, step: Step) -> Outcome
+    requires entry_room { 160 ≤ notes.old.journal.entry_room }
+    requires byte_room { 67584 ≤ notes.old.journal.byte_room }
+    ensures { PlainGoes domain.old domain.new }
+{
+    stepped(domain, &mut notes.journal, &mut notes.ids, step)
+}
+
+/// Asserts what each deed answers.
+fn assert_deeds(rt: &impl Abort, board: &mut Board, rows: &[Row]) -> Result<(), Fail> {
+    for (i, (deed, due)) in rows.iter().enumerate() {
+        board.threes.journal.reserve(160, 67_584)?;
+        board.fours.journal.reserve(160, 67_584)?;
+        assert_eq!(rt; board.does(*deed)?, Some(*due), "{i}: {deed:?}");
+    }
+    Ok(())
+}
+
+/// The same of a new board, whose link has two buffers each way.
+fn assert_all(rt: &impl Abort, alloc: Global, rows: &[Row]) -> Result<Board, Fail> {
+    let mut board = Board::open(alloc, 2)?;
+    assert_deeds(rt, &mut board, rows)?;
+    Ok(board)
+}
+
+const CARRIED: Row = (Carry, Ok(Number(0)));

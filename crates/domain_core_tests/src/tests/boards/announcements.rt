@@ -1,0 +1,203 @@
+//! Names that linked domains tell each other, and how many frames a turn puts and takes.
+
+use super::*;
+
+const LOOKED_UP: [Row; 15] = [
+    (Three(Lookup(4, 1)), Ok(Number(0))),
+    (Three(Test(0, 0)), Err(Refusal::Pending)),
+    (Four(Plain(Create(0, 1))), Ok(Number(1024))),
+    CARRIED,
+    // The creation is announced by the next turn.
+    (Three(Turn), Ok(Idle(true))),
+    (Four(Turn), Ok(Idle(false))),
+    (Three(Turn), Ok(Idle(true))),
+    CARRIED,
+    (Three(Lookup(4, 1)), Ok(Number(1))),
+    (Three(Test(0, 0)), Ok(Address(1024))),
+    (Three(Test(1, 0)), Ok(Address(1024))),
+    (Three(Lookup(4, 2)), Ok(Number(2))),
+    (Three(Test(2, 0)), Err(Refusal::Pending)),
+    (Three(Cancel(2)), Ok(Number(0))),
+    (Four(Turn), Ok(Idle(true))),
+];
+
+#[test]
+fn lookups_before_and_after_the_creation(rt: HostRuntime) -> Result<(), Fail> {
+    assert_all(&rt, rt.alloc(), &LOOKED_UP)?;
+    Ok(())
+}
+
+const DELETED: [Row; 17] = [
+    (Three(Plain(Create(0, 1))), Ok(Number(1024))),
+    (Three(Plain(SendAbroad(1, 1))), Err(Refusal::PeerInvalid)),
+    (Four(Plain(Create(0, 1))), Ok(Number(1024))),
+    (Four(Turn), Ok(Idle(false))),
+    CARRIED,
+    (Three(Plain(SendAbroad(1, 1))), Ok(Number(0))),
+    (Four(Delete(0, 1)), Ok(Number(0))),
+    // The message goes to an address that nobody has any more.
+    CARRIED,
+    (Four(Turn), Ok(Idle(false))),
+    CARRIED,
+    (Three(Plain(SendAbroad(1, 1))), Err(Refusal::PeerInvalid)),
+    (Three(Lookup(4, 1)), Ok(Number(0))),
+    (Three(Test(0, 0)), Err(Refusal::Pending)),
+    (Four(Plain(Create(0, 1))), Ok(Number(1025))),
+    (Four(Turn), Ok(Idle(false))),
+    CARRIED,
+    (Three(Test(0, 0)), Ok(Address(1025))),
+];
+
+#[test]
+fn a_deleted_endpoint_is_no_peer_any_more(rt: HostRuntime) -> Result<(), Fail> {
+    let board = assert_all(&rt, rt.alloc(), &DELETED)?;
+    assert_eq!(rt; board.pair.four.messages_queued(), 0);
+    assert_eq!(rt;
+        board.pair.four.places(3),
+        Some(Places { queue: 0, lent: 0 })
+    );
+    Ok(())
+}
+
+const CREATED_AND_DELETED: [Row; 24] = [
+    (Three(Plain(Create(0, 1))), Ok(Number(1024))),
+    (Three(Plain(Create(0, 2))), Ok(Number(1025))),
+    (Three(Plain(Create(0, 3))), Ok(Number(1026))),
+    (Three(Plain(Create(0, 4))), Ok(Number(1027))),
+    (Three(Delete(0, 4)), Ok(Number(0))),
+    (Four(Lookup(3, 4)), Ok(Number(0))),
+    CARRIED,
+    (Four(Turn), Ok(Idle(false))),
+    CARRIED,
+    (Three(Turn), Ok(Idle(false))),
+    (Four(Test(0, 0)), Err(Refusal::Pending)),
+    CARRIED,
+    (Four(Turn), Ok(Idle(false))),
+    CARRIED,
+    (Three(Turn), Ok(Idle(false))),
+    // It was there for a while, as far as the other domain knows.
+    (Four(Lookup(3, 4)), Ok(Number(1))),
+    CARRIED,
+    (Four(Turn), Ok(Idle(false))),
+    (Four(Lookup(3, 4)), Ok(Number(2))),
+    (Four(Test(0, 0)), Ok(Address(1027))),
+    (Four(Test(1, 0)), Ok(Address(1027))),
+    (Four(Test(2, 0)), Err(Refusal::Pending)),
+    CARRIED,
+    (Three(Turn), Ok(Idle(false))),
+];
+
+#[test]
+fn what_is_owed_is_told_in_order(rt: HostRuntime) -> Result<(), Fail> {
+    let board = assert_all(&rt, rt.alloc(), &CREATED_AND_DELETED)?;
+    for i in 0..board.fours.journal.len() {
+        if let Some(Entry::Take { fate, .. }) = board.fours.journal.entry(i) {
+            assert_eq!(rt; fate, Fate::Acted);
+        }
+    }
+    Ok(())
+}
+
+/// The buffers of the link are carried there and back, and each domain makes a turn.
+const ROUND: [Row; 4] = [
+    CARRIED,
+    (Four(Turn), Ok(Idle(false))),
+    CARRIED,
+    (Three(Turn), Ok(Idle(false))),
+];
+
+const ALL_IN_USE: [Row; 2] = [
+    (Three(Delete(0, 7)), Ok(Number(0))),
+    (Three(Plain(Create(0, 64))), Err(Refusal::EndpLimit)),
+];
+
+const FREED: [Row; 6] = [
+    (Three(Plain(Create(0, 64))), Err(Refusal::EndpLimit)),
+    CARRIED,
+    (Four(Turn), Ok(Idle(false))),
+    CARRIED,
+    // The turn of this call tells the end.
+    (Three(Plain(Create(0, 64))), Ok(Number(1088))),
+    (Three(Plain(Create(0, 65))), Err(Refusal::EndpLimit)),
+];
+
+/// Makes endpoints of domain 3 at the first ports.
+fn create_all(rt: &impl Abort, board: &mut Board, count: u16) -> Result<(), Fail> {
+    for port in 0..count {
+        let address = 1024 + u64::from(port);
+        let row = (Three(Plain(Create(0, port))), Ok(Number(address)));
+        assert_deeds(rt, board, &[row])?;
+    }
+    Ok(())
+}
+
+#[test]
+fn a_record_is_in_use_until_the_end_is_told(rt: HostRuntime) -> Result<(), Fail> {
+    let mut board = Board::open(rt.alloc(), 2)?;
+    create_all(&rt, &mut board, 64)?;
+    assert_deeds(&rt, &mut board, &ALL_IN_USE)?;
+    // 62 creations are owed, and then the end.
+    for _ in 0..31 {
+        assert_deeds(&rt, &mut board, &ROUND)?;
+    }
+    assert_deeds(&rt, &mut board, &FREED)
+}
+
+const NINE: [Row; 7] = [
+    CARRIED,
+    (Four(Turn), Ok(Idle(false))),
+    (Four(Turn), Ok(Idle(false))),
+    CARRIED,
+    (Three(Turn), Ok(Idle(false))),
+    (Three(Turn), Ok(Idle(false))),
+    (Three(Turn), Ok(Idle(true))),
+];
+
+const LINES_OF_NINE_TAKEN: [Line; 13] = [
+    (b't', 0, 0, 0),
+    (b's', 3, 9, 0),
+    (b'q', 3, 0, 56),
+    (b'q', 3, 0, 56),
+    (b'q', 3, 0, 56),
+    (b'q', 3, 0, 56),
+    (b'q', 3, 0, 56),
+    (b'q', 3, 0, 56),
+    (b'q', 3, 0, 56),
+    (b'q', 3, 0, 56),
+    (b't', 0, 0, 0),
+    (b's', 3, 1, 0),
+    (b'q', 3, 0, 56),
+];
+
+/// The last lines, after those of 18 creations.
+const LINES_OF_NINE_OWED: [Line; 13] = [
+    (b't', 0, 0, 0),
+    (b'b', 4, 9, 0),
+    (b'p', 4, 0, 56),
+    (b'p', 4, 0, 56),
+    (b'p', 4, 0, 56),
+    (b'p', 4, 0, 56),
+    (b'p', 4, 0, 56),
+    (b'p', 4, 0, 56),
+    (b'p', 4, 0, 56),
+    (b'p', 4, 0, 56),
+    (b't', 0, 0, 0),
+    (b'p', 4, 0, 56),
+    (b'i', 0, 1, 0),
+];
+
+#[test]
+fn a_turn_puts_and_takes_eight_frames(rt: HostRuntime) -> Result<(), Fail> {
+    let mut board = Board::open(rt.alloc(), 9)?;
+    // Nine are put at once, and nine are owed.
+    create_all(&rt, &mut board, 18)?;
+    assert_deeds(&rt, &mut board, &NINE)?;
+    assert_lines(&rt, &board.fours.journal, &LINES_OF_NINE_TAKEN)?;
+    let journal = &board.threes.journal;
+    for (i, line) in LINES_OF_NINE_OWED.iter().enumerate() {
+        let at = journal.len().saturating_sub(13).saturating_add(i);
+        let entry = journal.entry(at).ok_or("entry")?;
+        assert_eq!(rt; told(entry), *line, "line {i}");
+    }
+    Ok(())
+}

@@ -1,0 +1,130 @@
+//! Messages between linked domains, and the buffers that carry them.
+
+use super::*;
+
+const FULL: [Row; 19] = [
+    (Four(Plain(Create(0, 1))), Ok(Number(1024))),
+    (Four(Turn), Ok(Idle(false))),
+    CARRIED,
+    (Three(Plain(Create(0, 1))), Ok(Number(1024))),
+    // The announcement of the own endpoint takes one of the two buffers.
+    (Three(Plain(SendAbroad(1, 1))), Ok(Number(0))),
+    (Three(Plain(SendAbroad(1, 1))), Err(Refusal::NoBuffer)),
+    CARRIED,
+    (Three(Plain(SendAbroad(1, 1))), Err(Refusal::NoBuffer)),
+    (Four(Turn), Ok(Idle(false))),
+    (Three(Plain(SendAbroad(1, 1))), Err(Refusal::NoBuffer)),
+    CARRIED,
+    (Three(Plain(SendAbroad(1, 1))), Ok(Number(0))),
+    (Three(Plain(SendAbroad(1, 1))), Err(Refusal::NoBuffer)),
+    CARRIED,
+    (Four(Available(1)), Ok(Number(2))),
+    (Three(Plain(SendAbroad(1, 1))), Err(Refusal::NoBuffer)),
+    (Four(Plain(Receive(1, 488, 0))), Ok(Number(2))),
+    CARRIED,
+    (Three(Plain(SendAbroad(1, 1))), Ok(Number(0))),
+];
+
+#[test]
+fn a_link_of_two_runs_out_of_buffers(rt: HostRuntime) -> Result<(), Fail> {
+    let board = assert_all(&rt, rt.alloc(), &FULL)?;
+    assert_eq!(rt;
+        board.pair.four.places(3),
+        Some(Places { queue: 1, lent: 0 })
+    );
+    Ok(())
+}
+
+const FULL_OF_OWED: [Row; 12] = [
+    (Four(Plain(Create(0, 1))), Ok(Number(1024))),
+    (Four(Turn), Ok(Idle(false))),
+    CARRIED,
+    (Three(Plain(Create(0, 1))), Ok(Number(1024))),
+    (Three(Plain(Create(0, 2))), Ok(Number(1025))),
+    (Three(Plain(Create(0, 3))), Ok(Number(1026))),
+    // Two of three announcements have all the buffers.
+    (Three(Plain(SendAbroad(1, 1))), Err(Refusal::NoBuffer)),
+    CARRIED,
+    (Four(Turn), Ok(Idle(false))),
+    CARRIED,
+    (Three(Plain(SendAbroad(1, 1))), Ok(Number(0))),
+    (Three(Plain(SendAbroad(1, 1))), Err(Refusal::NoBuffer)),
+];
+
+#[test]
+fn owed_frames_come_before_messages(rt: HostRuntime) -> Result<(), Fail> {
+    assert_all(&rt, rt.alloc(), &FULL_OF_OWED)?;
+    Ok(())
+}
+
+/// A message in each direction and one inside, on links of one buffer.
+const ONE_BUFFER: [Row; 14] = [
+    (Three(Plain(Create(0, 1))), Ok(Number(1024))),
+    (Four(Plain(Create(0, 1))), Ok(Number(1024))),
+    (Three(Turn), Ok(Idle(false))),
+    (Four(Turn), Ok(Idle(false))),
+    CARRIED,
+    (Three(Plain(SendAbroad(1, 1))), Err(Refusal::NoBuffer)),
+    (Four(Plain(Send(1, 1, 1, 7, 3))), Err(Refusal::NoBuffer)),
+    CARRIED,
+    (Three(Plain(SendAbroad(1, 1))), Ok(Number(0))),
+    (Four(Plain(Send(1, 1, 1, 7, 3))), Ok(Number(0))),
+    (Three(Plain(Send(1, 1, 3, 5, 1))), Ok(Number(0))),
+    CARRIED,
+    (Three(Plain(Receive(1, 488, 7))), Ok(Number(3))),
+    (Four(Plain(Receive(1, 488, 0))), Ok(Number(2))),
+];
+
+#[test]
+fn messages_over_links_of_one_buffer(rt: HostRuntime) -> Result<(), Fail> {
+    let mut board = Board::open(rt.alloc(), 1)?;
+    assert_deeds(&rt, &mut board, &ONE_BUFFER)?;
+    assert_eq!(rt;
+        board.pair.three.places(3),
+        Some(Places { queue: 1, lent: 0 })
+    );
+    assert_eq!(rt;
+        board.pair.three.places(4),
+        Some(Places { queue: 0, lent: 0 })
+    );
+    Ok(())
+}
+
+const HANDED: [Row; 12] = [
+    (Four(Plain(Create(0, 1))), Ok(Number(1024))),
+    (Four(Begin(1, 488)), Ok(Number(0))),
+    (Four(Begin(1, 1)), Ok(Number(1))),
+    CARRIED,
+    (Three(Plain(Create(0, 1))), Ok(Number(1024))),
+    (Three(Plain(SendAbroad(1, 1))), Ok(Number(0))),
+    CARRIED,
+    (Four(Plain(Receive(1, 488, 0))), Err(Refusal::Empty)),
+    (Four(Test(1, 0)), Err(Refusal::Pending)),
+    CARRIED,
+    // The announcement's buffer came back, and the message's is lent until the request is tested.
+    (Three(Plain(SendAbroad(1, 1))), Ok(Number(0))),
+    (Three(Plain(SendAbroad(1, 1))), Err(Refusal::NoBuffer)),
+];
+
+const TESTED: [Row; 5] = [
+    (Four(Test(0, 0)), Ok(Message(2, 2))),
+    CARRIED,
+    (Four(Test(1, 0)), Ok(Message(2, 1))),
+    (Three(Plain(SendAbroad(1, 1))), Ok(Number(0))),
+    (Four(Test(0, 0)), Err(Refusal::RequestInvalid)),
+];
+
+#[test]
+fn a_receive_that_waits_gets_the_message_of_a_link(rt: HostRuntime) -> Result<(), Fail> {
+    let mut board = assert_all(&rt, rt.alloc(), &HANDED)?;
+    assert_eq!(rt;
+        board.pair.four.places(3),
+        Some(Places { queue: 0, lent: 1 })
+    );
+    assert_deeds(&rt, &mut board, &TESTED)?;
+    assert_eq!(rt;
+        board.pair.four.places(3),
+        Some(Places { queue: 0, lent: 0 })
+    );
+    Ok(())
+}

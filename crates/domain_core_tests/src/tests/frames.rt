@@ -1,0 +1,341 @@
+//! What becomes of the frames of a linked domain, whatever bytes they have.
+
+ghost use Rattle.std.specs.Prelude.{◌≡◌, ◌≤◌, ◌<◌, [], IfOk, length};
+ghost use Rattle.lane_end.specs.PlainLane.{AreOneLane};
+ghost use Rattle.lane_end.specs.AnySender as any_sender;
+ghost use Rattle.lane_end.specs.AnyReceiver as any_receiver;
+ghost use Rattle.domain_core.specs.Opening.{IsOpenLink};
+
+use super::*;
+use byteorder::{ByteOrder, LittleEndian};
+use domain_core::Link;
+use lane_end::{LaneFault, PlainRecv, PlainSend, ends_stay_one_lane, plain_lane, shuttle};
+use mc_base::{Done, RequestId};
+
+/// A frame that comes from domain 1.
+#[derive(Clone, Copy, Debug)]
+enum Given {
+    /// A frame of these bytes.
+    Frame(&'static [u8]),
+    /// An announcement of this name, address and flags.
+    Name(&'static [u8], u32, u8),
+    /// The creation of endpoint 1:0:N, where N is from 10 to 99, at an address.
+    Port(u8, u32),
+}
+
+use Given::{Frame, Name, Port};
+
+/// A frame to the name service with an announcement.
+fn announced(name: &[u8], addr: u32, flags: u8) -> [u8; 56] {
+    let mut frame = [0; 56];
+    LittleEndian::write_u32(&mut frame, addr);
+    frame[4] = 53;
+    frame[12] = 40;
+    for (to, b) in frame[16..48].iter_mut().zip(name) {
+        *to = *b;
+    }
+    LittleEndian::write_u32(&mut frame[48..], addr);
+    frame[52] = flags;
+    frame
+}
+
+fn port_announced(port: u8, addr: u32) -> [u8; 56] {
+    let mut frame = announced(b"mcapi:1:0:", addr, 0);
+    frame[26] = b'0' + port / 10 % 10;
+    frame[27] = b'0' + port % 10;
+    frame
+}
+
+/// A lane from domain 1, on which frames have come that no look showed yet.
+#[derive(Drop)]
+struct Feed {
+    send: PlainSend,
+    recv: PlainRecv,
+    ghost size: { recv.size ≡ 256 },
+    ghost lane: { AreOneLane send recv },
+    ghost none_shown: { recv.shown ≡ 0 },
+    ghost none_out: { recv.out ≡ [] },
+}
+
+impl Feed {
+    fn new(alloc: Global) -> Result<Feed, LaneFault> {
+        match plain_lane(alloc, 256) {
+            Err(fault) => Err(fault),
+            Ok((send, recv)) => Ok(Feed { send, recv }),
+        }
+    }
+
+    /// Lets a frame of 1 to 512 bytes come.
+    fn give(&mut self, frame: &[u8]) {
+        if self.send.free_len() == 0 || frame.is_empty() || frame.len() > 512 {
+            return;
+        }
+        self.put(frame);
+        shuttle(&mut self.send, &mut self.recv);
+    }
+
+    fn put(&mut self, frame: &[u8])
+        requires free { 0 < length self.old.send.free }
+        requires some { 0 < length frame.now }
+        requires fits { length frame.now ≤ 512 }
+    {
+        ends_stay_one_lane();
+        self.send.put(frame);
+    }
+
+    /// The link to domain 1.
+    fn into_link(self, alloc: Global) -> Result<Link<AnySend, AnyRecv>, Fail>
+        ensures peer { IfOk result (λ l. l.peer ≡ 1) }
+        ensures open { IfOk result (IsOpenLink any_sender.size_of_any any_sender.free_of_any any_receiver.size_of_any any_receiver.shown_of_any any_receiver.out_of_any) }
+    {
+        let Ok((send, _)) = plain_lane(alloc, 256) else {
+            return Err("no lane".into());
+        };
+        Ok(Link {
+            peer: 1,
+            size: 256,
+            send: AnySend::Plain(send),
+            recv: AnyRecv::Plain(self.recv),
+        })
+    }
+}
+
+/// Domain 0, linked to domain 1, from which these frames have come.
+fn fed(alloc: Global, rows: &[Row]) -> Result<Domain<AnySend, AnyRecv>, Fail> {
+    let Ok(mut feed) = Feed::new(alloc) else {
+        return Err("no lane".into());
+    };
+    for (given, _) in rows {
+        match *given {
+            Frame(bytes) => feed.give(bytes),
+            Name(name, addr, flags) => feed.give(&announced(name, addr, flags)),
+            Port(port, addr) => feed.give(&port_announced(port, addr)),
+        }
+    }
+    let mut links = Vec::new(alloc);
+    links.push(feed.into_link(alloc)?)?;
+    let domain = Domain::open(alloc, 0, 1, 2, links)?;
+    Ok(domain)
+}
+
+/// A frame that comes, and what becomes of it.
+type Row = (Given, Fate);
+
+/// Asserts what became of the frames that were taken.
+fn assert_fates(rt: &impl Abort, journal: &Journal, rows: &[Row]) -> Result<(), Fail> {
+    let mut taken = 0;
+    for i in 0..journal.len() {
+        if let Some(Entry::Take { fate, .. }) = journal.entry(i) {
+            let (given, due) = rows.get(taken).ok_or("no such frame")?;
+            assert_eq!(rt; fate, *due, "{taken}: {given:?}");
+            taken += 1;
+        }
+    }
+    assert_eq!(rt; taken, rows.len());
+    Ok(())
+}
+
+/// Makes an endpoint at port 1, and makes turns until all frames are taken, 8 a turn.
+fn assert_dealt(
+    rt: &impl Abort,
+    alloc: Global,
+    rows: &[Row],
+) -> Result<Domain<AnySend, AnyRecv>, Fail> {
+    let mut domain = fed(alloc, rows)?;
+    let mut journal = Journal::new(alloc)?;
+    assert_answers(rt, &mut domain, &mut journal, &[(Create(0, 1), Ok(1024))])?;
+    for _ in 0..rows.len() / 8 {
+        journal.reserve(160, 67_584)?;
+        domain.turn(&mut journal);
+    }
+    assert_fates(rt, &journal, rows)?;
+    Ok(domain)
+}
+
+/// Asserts that a lookup of endpoint 1:0:N finds an address, or waits.
+fn assert_known(
+    rt: &impl Abort,
+    alloc: Global,
+    domain: &mut Domain<AnySend, AnyRecv>,
+    port: u16,
+    due: Result<Done, Refusal>,
+) -> Result<(), Fail> {
+    let mut journal = Journal::new(alloc)?;
+    journal.reserve(160, 67_584)?;
+    let name = EndName {
+        domain: 1,
+        node: 0,
+        port,
+    };
+    let id = domain.lookup(&mut journal, name)?;
+    assert_eq!(rt; end_of(alloc, domain, id)?, due, "{port}");
+    Ok(())
+}
+
+/// How a request ends, of which no bytes come.
+fn end_of(
+    alloc: Global,
+    domain: &mut Domain<AnySend, AnyRecv>,
+    id: RequestId,
+) -> Result<Result<Done, Refusal>, NoMemory> {
+    let mut journal = Journal::new(alloc)?;
+    journal.reserve(160, 67_584)?;
+    let mut out = [0; 488];
+    Ok(domain.test(&mut journal, id, &mut out))
+}
+
+/// Frames of each kind. The endpoint is there when the ninth is taken.
+const DEALT: [Row; 31] = [
+    (
+        Frame(b"\x00\x04\x00\x00\x00\x04\x00\x00\x00\x00\x00\x00\x00\x00\x00"),
+        Fate::FrameShort,
+    ),
+    (
+        Frame(b"\x00\x04\x00\x00\x00\x04\x00\x00\x00\x00\x00\x00\x01\x00\x00\x00"),
+        Fate::HeaderLen,
+    ),
+    (
+        Frame(
+            b"\x00\x04\x00\x00\x00\x04\x00\x00\x00\x00\x00\x00\x07\x00\x00\x00\x4d\x01\x01\x00\x00\x00\x00",
+        ),
+        Fate::PayloadShort,
+    ),
+    (
+        Frame(
+            b"\x00\x04\x00\x00\x00\x04\x00\x00\x00\x00\x00\x00\x08\x00\x00\x00\x4e\x01\x01\x00\x00\x00\x00\x00",
+        ),
+        Fate::Magic,
+    ),
+    (
+        Frame(
+            b"\x00\x04\x00\x00\x00\x04\x00\x00\x00\x00\x00\x00\x08\x00\x00\x00\x4d\x02\x01\x00\x00\x00\x00\x00",
+        ),
+        Fate::Version,
+    ),
+    (
+        Frame(
+            b"\x00\x04\x00\x00\x00\x04\x00\x00\x00\x00\x00\x00\x08\x00\x00\x00\x4d\x01\x0b\x00\x00\x00\x00\x00",
+        ),
+        Fate::Kind,
+    ),
+    (
+        Frame(
+            b"\x00\x04\x00\x00\x00\x04\x00\x00\x00\x00\x00\x00\x08\x00\x00\x00\x4d\x01\x01\x04\x00\x00\x00\x00",
+        ),
+        Fate::Argument,
+    ),
+    (
+        Frame(
+            b"\x00\x04\x00\x00\x00\x04\x00\x00\x00\x00\x00\x00\x08\x00\x00\x00\x4d\x01\x01\x00\x01\x00\x00\x00",
+        ),
+        Fate::Channel,
+    ),
+    // A connect with content.
+    (
+        Frame(
+            b"\x00\x04\x00\x00\x00\x04\x00\x00\x00\x00\x00\x00\x09\x00\x00\x00\x4d\x01\x02\x00\x01\x00\x00\x00\x00",
+        ),
+        Fate::Size,
+    ),
+    (
+        Frame(
+            b"\x00\x04\x00\x00\x35\x00\x00\x00\x00\x00\x00\x00\x08\x00\x00\x00\x4d\x01\x01\x00\x00\x00\x00\x00",
+        ),
+        Fate::NsSize,
+    ),
+    (Name(b"mcapi:1:0:1", 1030, 2), Fate::NsFlags),
+    (Name(b"", 1030, 0), Fate::NsName),
+    (Name(b"mcapi:1:0:\x7f", 1030, 0), Fate::NsName),
+    (Name(b"console", 1030, 0), Fate::ForeignName),
+    (Name(b"mcapi:0:0:1", 1030, 0), Fate::ForeignName),
+    (Name(b"mcapi:2:0:1", 1030, 0), Fate::ForeignName),
+    (Name(b"mcapi:2:0:1", 1030, 1), Fate::ForeignName),
+    (Name(b"mcapi:1:0:01", 1030, 0), Fate::ForeignName),
+    (Name(b"mcapi:1:16:1", 1030, 0), Fate::ForeignName),
+    (Name(b"mcapi:1:0:2", 1030, 1), Fate::UnknownName),
+    (Name(b"mcapi:1:0:1", 1030, 0), Fate::Acted),
+    (Name(b"mcapi:1:0:1", 1031, 0), Fate::Acted),
+    (Name(b"mcapi:1:0:2", 1032, 0), Fate::Acted),
+    (Name(b"mcapi:1:0:2", 1032, 1), Fate::Acted),
+    (Name(b"mcapi:1:0:2", 1032, 1), Fate::UnknownName),
+    // Messages to an address that nobody has, and to the endpoint, and another letter.
+    (
+        Frame(
+            b"\x06\x04\x00\x00\x01\x04\x00\x00\x00\x00\x00\x00\x0a\x00\x00\x00\x4d\x01\x01\x00\x00\x00\x00\x00\x07\x07",
+        ),
+        Fate::NoEndpoint,
+    ),
+    (
+        Frame(
+            b"\x06\x04\x00\x00\x00\x04\x00\x00\x00\x00\x00\x00\x0a\x00\x00\x00\x4d\x01\x01\x01\x00\x00\x00\x00\x07\x07",
+        ),
+        Fate::Queued,
+    ),
+    (
+        Frame(
+            b"\x06\x04\x00\x00\x00\x04\x00\x00\x00\x00\x00\x00\x08\x00\x00\x00\x4d\x01\x02\x00\x01\x00\x00\x00",
+        ),
+        Fate::State,
+    ),
+    (
+        Frame(
+            b"\x06\x04\x00\x00\x00\x04\x00\x00\x00\x00\x00\x00\x0b\x00\x00\x00\x4d\x01\x01\x00\x00\x00\x00\x00\x08\x08\x08",
+        ),
+        Fate::Queued,
+    ),
+    // Reserved bytes, flags and what lies behind the payload do not matter.
+    (
+        Frame(
+            b"\x06\x04\x00\x00\x00\x04\x00\x00\x09\x09\x09\x09\x08\x00\x09\x09\x4d\x01\x01\x02\x00\x00\x00\x00\xff",
+        ),
+        Fate::Queued,
+    ),
+    (Frame(b"a"), Fate::FrameShort),
+];
+
+const RECEIVED_OF_DEALT: [Answered; 5] = [
+    (Receive(1, 488, 8), Ok(3)),
+    (Receive(1, 488, 7), Ok(2)),
+    (Receive(1, 488, 0), Ok(0)),
+    (Receive(1, 488, 0), Err(Refusal::Empty)),
+    (Create(0, 1), Err(Refusal::ExistsAlready)),
+];
+
+#[test]
+fn each_frame_has_its_word(rt: HostRuntime) -> Result<(), Fail> {
+    let mut domain = assert_dealt(&rt, rt.alloc(), &DEALT)?;
+    assert_eq!(rt; domain.places(1), Some(Places { queue: 3, lent: 0 }));
+    // The name that was announced twice has the later address.
+    assert_known(&rt, rt.alloc(), &mut domain, 1, Ok(Done::Address(1031)))?;
+    assert_known(&rt, rt.alloc(), &mut domain, 2, Err(Refusal::Pending))?;
+    let mut journal = Journal::new(rt.alloc())?;
+    assert_answers(&rt, &mut domain, &mut journal, &RECEIVED_OF_DEALT)
+}
+
+/// 65 names, a known one with another address, one that is gone, and the last again.
+fn many_names() -> [Row; 68] {
+    let mut rows = [(Port(10, 2000), Fate::Acted); 68];
+    for i in 0..65 {
+        rows[i] = (Port(10 + i as u8, 2000 + i as u32), Fate::Acted);
+    }
+    rows[64].1 = Fate::NamesFull;
+    rows[65] = (Port(11, 3000), Fate::Acted);
+    rows[66] = (Name(b"mcapi:1:0:12", 2002, 1), Fate::Acted);
+    rows[67] = (Port(74, 3001), Fate::Acted);
+    rows
+}
+
+#[test]
+fn sixty_five_names_of_a_peer(rt: HostRuntime) -> Result<(), Fail> {
+    let mut domain = assert_dealt(&rt, rt.alloc(), &many_names())?;
+    for (port, due) in [
+        (10, Ok(Done::Address(2000))),
+        (11, Ok(Done::Address(3000))),
+        (12, Err(Refusal::Pending)),
+        (73, Ok(Done::Address(2063))),
+        (74, Ok(Done::Address(3001))),
+    ] {
+        assert_known(&rt, rt.alloc(), &mut domain, port, due)?;
+    }
+    Ok(())
+}

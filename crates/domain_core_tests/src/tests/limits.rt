@@ -1,0 +1,77 @@
+//! The most endpoints that a domain ever makes, and links of each size.
+
+ghost use Rattle.std.specs.Prelude.{◌≡◌, [], ◌∷◌, IfOk};
+ghost use Rattle.lane_end.specs.Numbers.{IsLaneSize};
+ghost use Rattle.domain_core_tests.specs.NewLinks.{new_link};
+
+use super::*;
+use domain_core::Link;
+use lane_end::{PlainRecv, PlainSend, plain_lane};
+
+type PlainLink = Link<PlainSend, PlainRecv>;
+
+/// Ends of a link whose other ends are nowhere.
+fn loose_link(alloc: Global, peer: u8, size: u32) -> Result<PlainLink, Fail>
+    ensures link { IfOk result (λ l. l ≡ new_link peer size) }
+{
+    let Ok((send, _)) = plain_lane(alloc, size) else {
+        return Err("no lane".into());
+    };
+    let Ok((_, recv)) = plain_lane(alloc, size) else {
+        return Err("no lane".into());
+    };
+    Ok(Link {
+        peer,
+        size,
+        send,
+        recv,
+    })
+}
+
+/// Links of domain 3, which stands between two of its peers.
+fn three_links(alloc: Global) -> Result<Vec<PlainLink>, Fail>
+    ensures { IfOk result (λ v. v.items ≡ new_link 0 1 ∷ new_link 2 2 ∷ new_link 5 256 ∷ []) }
+{
+    let mut links = Vec::new(alloc);
+    links.push(loose_link(alloc, 0, 1)?)?;
+    links.push(loose_link(alloc, 2, 2)?)?;
+    links.push(loose_link(alloc, 5, 256)?)?;
+    Ok(links)
+}
+
+#[test]
+fn links_of_each_size_are_opened_and_given_back(rt: HostRuntime) -> Result<(), Fail> {
+    let mut domain = Domain::open(rt.alloc(), 3, 1, 256, three_links(rt.alloc())?)?;
+    let mut journal = Journal::new(rt.alloc())?;
+    assert_answers(&rt, &mut domain, &mut journal, &[(Create(0, 1), Ok(1024))])?;
+    for peer in 0..8u8 {
+        let linked = [0, 2, 3, 5].contains(&peer);
+        assert_eq!(rt; domain.places(peer).is_some(), linked, "{peer}");
+        assert_eq!(rt; domain.has_peer(peer), linked, "{peer}");
+    }
+    journal.reserve(160, 67_584)?;
+    assert!(rt; !domain.turn(&mut journal));
+    let links = domain.into_links();
+    assert_eq!(rt; links.len(), 3);
+    for (link, (peer, size)) in links.iter().zip([(0, 1), (2, 2), (5, 256)]) {
+        assert_eq!(rt; (link.peer, link.size), (peer, size));
+        // The creation was put to each.
+        assert_eq!(rt; link.send.free_len(), size - 1, "{peer}");
+    }
+    Ok(())
+}
+
+#[test]
+fn sixty_thousand_endpoints_one_after_the_other(rt: HostRuntime) -> Result<(), Fail> {
+    let mut domain = alone(rt.alloc(), 1, 1)?;
+    let mut journal = Journal::new(rt.alloc())?;
+    let at = Local { node: 0, port: 1 };
+    for i in 0..60_000 {
+        journal.reserve(160, 67_584)?;
+        assert_eq!(rt; domain.create(&mut journal, at), Ok(1024 + i), "{i}");
+        journal.reserve(160, 67_584)?;
+        assert_eq!(rt; domain.delete(&mut journal, at), Ok(0), "{i}");
+    }
+    let row = (Create(0, 1), Err(Refusal::AddressSpent));
+    assert_answers(&rt, &mut domain, &mut journal, &[row])
+}

@@ -1,0 +1,430 @@
+use outer_io::{MemSink, MemSource};
+use scenario_cli::mcrun;
+use std::alloc::{AllocError, Global};
+use std::process::Abort;
+use std::test::Fail;
+use std::thread::Threads;
+
+mod eight_linked;
+mod frame;
+mod linked;
+mod payloads;
+mod refusals;
+mod requests;
+mod unlinked;
+
+/// Two endpoints and one message.
+const MESSAGE: &[u8] =
+    b"domain 0 nodes 1 pool 2\n0.0 create 1\n0.0 create 2\n0.0 msg_send 1 0:0:2 1 6869\n0.0 msg_recv 2 488\n";
+
+const MESSAGE_REPORT: &[u8] = b"mcapi-report 1 serial
+domain 0 nodes 1 pool 2
+0.0 create 1
+0.0 create 2
+0.0 msg_send 1 0:0:2 1 6869
+0.0 msg_recv 2 488
+journal 0
+idle 1
+call 1 ok 1024
+idle 1
+call 2 ok 1025
+idle 1
+put 0 0004000001040000000000000a0000004d010101000000006869
+call 3 ok
+turn
+see 0 1
+take 0 0004000001040000000000000a0000004d010101000000006869 queued
+call 4 ok 2 6869
+messages accepted 1 taken 1 dropped 0 queued 0 ring 0
+lane 0 0 free 2 ring 0 queue 0 lent 0
+end
+";
+
+/// One buffer, so that each message waits for the one before it. What no call may do is told by its answer.
+const ONE_BUFFER: &[u8] = b"domain 3 nodes 2 pool 1
+3.0 create 1
+3.1 create 7
+3.0 create 1
+3.0 msg_send 2 3:1:7 1 00
+3.0 msg_send 1 3:1:8 1 00
+3.0 msg_send 1 4:1:7 1 00
+3.0 msg_send 1 3:1:7 1 666972737420
+3.0 msg_send 1 3:1:7 1 7365636f6e64
+3.1 msg_recv 7 3
+3.0 msg_send 1 3:1:7 1 -
+3.1 msg_recv 7 0
+3.1 msg_recv 7 9000
+3.0 msg_recv 7 9000
+";
+
+const ONE_BUFFER_REPORT: &[u8] = b"mcapi-report 1 serial
+domain 3 nodes 2 pool 1
+3.0 create 1
+3.1 create 7
+3.0 create 1
+3.0 msg_send 2 3:1:7 1 00
+3.0 msg_send 1 3:1:8 1 00
+3.0 msg_send 1 4:1:7 1 00
+3.0 msg_send 1 3:1:7 1 666972737420
+3.0 msg_send 1 3:1:7 1 7365636f6e64
+3.1 msg_recv 7 3
+3.0 msg_send 1 3:1:7 1 -
+3.1 msg_recv 7 0
+3.1 msg_recv 7 9000
+3.0 msg_recv 7 9000
+journal 3
+idle 1
+call 1 ok 1024
+idle 1
+call 2 ok 1025
+idle 1
+call 3 exists_already
+idle 1
+call 4 endp_invalid
+idle 1
+call 5 peer_invalid
+idle 1
+call 6 peer_invalid
+idle 1
+put 3 0004000001040000000000000e0000004d01010100000000666972737420
+call 7 ok
+turn
+see 3 1
+take 3 0004000001040000000000000e0000004d01010100000000666972737420 queued
+call 8 no_buffer
+idle 1
+call 9 truncated 6 666972
+turn
+back 3 1
+put 3 000400000104000000000000080000004d01010100000000
+call 10 ok
+turn
+see 3 1
+take 3 000400000104000000000000080000004d01010100000000 queued
+call 11 ok 0 -
+turn
+back 3 1
+call 12 empty
+idle 1
+call 13 endp_invalid
+messages accepted 2 taken 2 dropped 0 queued 0 ring 0
+lane 3 3 free 1 ring 0 queue 0 lent 0
+end
+";
+
+/// One domain of another number, without a call.
+const NO_CALL: &[u8] = b"domain 3 nodes 1 pool 1\n";
+
+const NO_CALL_REPORT: &[u8] = b"mcapi-report 1 serial
+domain 3 nodes 1 pool 1
+journal 3
+messages accepted 0 taken 0 dropped 0 queued 0 ring 0
+lane 3 3 free 1 ring 0 queue 0 lent 0
+end
+";
+
+const USAGE: &[u8] = b"usage: mcrun run | run --serial | check | frame | ring | load N\n";
+
+/// What comes of an empty text.
+const REFUSED: &[u8] = b"refused 1 domain\n";
+
+/// The number of no call of a source or sink.
+const NEVER: u64 = 1_000_000_000;
+
+/// A call of the program: the words, the text that comes, and what the streams do.
+#[derive(Clone, Copy)]
+struct Given<'a> {
+    words: &'a [&'a str],
+    text: &'a [u8],
+    failing_read: u64,
+    failing_write: u64,
+    step: usize,
+    room: usize,
+}
+
+const SERIAL: &[&str] = &["run", "--serial"];
+
+/// The form `run --serial` on no text, with streams that fail nowhere.
+const EMPTY: Given<'static> = Given {
+    words: SERIAL,
+    text: b"",
+    failing_read: NEVER,
+    failing_write: NEVER,
+    step: 4096,
+    room: 1_000_000,
+};
+
+/// The form `run --serial` on the scenario of one message.
+const ONE_MESSAGE: Given<'static> = Given {
+    words: SERIAL,
+    text: MESSAGE,
+    failing_read: NEVER,
+    failing_write: NEVER,
+    step: 4096,
+    room: 1_000_000,
+};
+
+/// No words, with a text that is a scenario.
+const NO_WORDS: Given<'static> = Given {
+    words: &[],
+    text: MESSAGE,
+    failing_read: NEVER,
+    failing_write: NEVER,
+    step: 4096,
+    room: 1_000_000,
+};
+
+/// The form `run --serial` on a text, with streams that fail nowhere.
+fn serial(text: &[u8]) -> Given<'_> {
+    Given { text, ..EMPTY }
+}
+
+fn words_of(alloc: Global, texts: &[&str]) -> Result<Vec<String>, AllocError> {
+    let mut words = Vec::new(alloc);
+    for text in texts {
+        words.push(String::from_str(alloc, text)?)?;
+    }
+    Ok(words)
+}
+
+/// The status and the output of a call.
+fn outcome_of<T: Threads + Sync>(
+    rt: &T,
+    alloc: Global,
+    given: Given<'_>,
+) -> Result<(u8, MemSink), AllocError> {
+    let words = words_of(alloc, given.words)?;
+    let text = Vec::from_slice(alloc, given.text)?;
+    let failing_reads = Vec::from_slice(alloc, &[given.failing_read])?;
+    let failing_writes = Vec::from_slice(alloc, &[given.failing_write])?;
+    let step = given.step.max(1);
+    let mut input = MemSource::new(text, failing_reads, step);
+    let Ok(mut output) = MemSink::new(alloc, failing_writes, step, given.room) else {
+        return Err(AllocError);
+    };
+    let status = mcrun(rt, alloc, &words, &mut input, &mut output);
+    Ok((status, output))
+}
+
+/// Asserts the status and the output of a call.
+fn assert_outcome<T: Threads + Sync + Abort>(
+    rt: &T,
+    alloc: Global,
+    given: Given<'_>,
+    status: u8,
+    written: &[u8],
+) -> Result<(), Fail> {
+    let (answer, output) = outcome_of(rt, alloc, given)?;
+    assert_eq!(rt; answer, status);
+    assert_eq!(rt; output.written(), written);
+    Ok(())
+}
+
+/// Words and a text, and the status and the output that come of them.
+type Outcome<'a> = (&'a [&'a str], &'a [u8], u8, &'a [u8]);
+
+const OUTCOMES: [Outcome<'static>; 15] = [
+    (SERIAL, MESSAGE, 0, MESSAGE_REPORT),
+    (SERIAL, ONE_BUFFER, 0, ONE_BUFFER_REPORT),
+    (SERIAL, NO_CALL, 0, NO_CALL_REPORT),
+    (SERIAL, b"domain 3 nodes 1 pool 1", 0, NO_CALL_REPORT),
+    (&["run", "fast"], MESSAGE, 2, USAGE),
+    (SERIAL, b"", 3, REFUSED),
+    (&[], MESSAGE, 2, USAGE),
+    (&["run"], MESSAGE, 2, USAGE),
+    (&["--serial", "run"], MESSAGE, 2, USAGE),
+    (&["run", "--serial", ""], MESSAGE, 2, USAGE),
+    (&["run", "frame"], MESSAGE, 2, USAGE),
+    (&["frame", "x"], MESSAGE, 2, USAGE),
+    (&["frame", "frame"], MESSAGE, 2, USAGE),
+    (&["Frame"], MESSAGE, 2, USAGE),
+    (&["--serial"], MESSAGE, 2, USAGE),
+];
+
+fn assert_outcomes<T: Threads + Sync + Abort>(
+    rt: &T,
+    alloc: Global,
+    rows: &[Outcome<'_>],
+) -> Result<(), Fail> {
+    for (words, text, status, written) in rows {
+        let given = Given {
+            words: *words,
+            ..serial(*text)
+        };
+        assert_outcome(rt, alloc, given, *status, *written)?;
+    }
+    Ok(())
+}
+
+#[test]
+fn statuses_and_outputs(rt: HostRuntime) -> Result<(), Fail> {
+    assert_outcomes(&rt, rt.alloc(), &OUTCOMES)
+}
+
+/// A call, its status, and what was due, of which the first so many bytes come.
+type Cut<'a> = (Given<'a>, u8, &'a [u8], usize);
+
+const CUTS: [Cut<'static>; 11] = [
+    (
+        Given {
+            failing_read: 0,
+            ..ONE_MESSAGE
+        },
+        4,
+        MESSAGE_REPORT,
+        0,
+    ),
+    (
+        Given {
+            failing_read: 1,
+            ..ONE_MESSAGE
+        },
+        4,
+        MESSAGE_REPORT,
+        0,
+    ),
+    (
+        Given {
+            failing_read: 2,
+            ..ONE_MESSAGE
+        },
+        0,
+        MESSAGE_REPORT,
+        MESSAGE_REPORT.len(),
+    ),
+    (
+        Given {
+            failing_write: 0,
+            ..ONE_MESSAGE
+        },
+        5,
+        MESSAGE_REPORT,
+        0,
+    ),
+    (
+        Given {
+            failing_write: 14,
+            step: 1,
+            ..ONE_MESSAGE
+        },
+        5,
+        MESSAGE_REPORT,
+        14,
+    ),
+    (
+        Given {
+            room: MESSAGE_REPORT.len(),
+            ..ONE_MESSAGE
+        },
+        0,
+        MESSAGE_REPORT,
+        MESSAGE_REPORT.len(),
+    ),
+    (
+        Given {
+            room: MESSAGE_REPORT.len() - 1,
+            ..ONE_MESSAGE
+        },
+        5,
+        MESSAGE_REPORT,
+        MESSAGE_REPORT.len() - 1,
+    ),
+    (
+        Given {
+            room: REFUSED.len(),
+            ..EMPTY
+        },
+        3,
+        REFUSED,
+        REFUSED.len(),
+    ),
+    (
+        Given {
+            room: REFUSED.len() - 1,
+            ..EMPTY
+        },
+        5,
+        REFUSED,
+        REFUSED.len() - 1,
+    ),
+    (
+        Given {
+            room: USAGE.len(),
+            ..NO_WORDS
+        },
+        2,
+        USAGE,
+        USAGE.len(),
+    ),
+    (
+        Given {
+            room: USAGE.len() - 1,
+            ..NO_WORDS
+        },
+        5,
+        USAGE,
+        USAGE.len() - 1,
+    ),
+];
+
+fn assert_cuts<T: Threads + Sync + Abort>(
+    rt: &T,
+    alloc: Global,
+    rows: &[Cut<'_>],
+) -> Result<(), Fail> {
+    for (given, status, due, length) in rows {
+        let written = due.get(..*length).ok_or("length")?;
+        assert_outcome(rt, alloc, *given, *status, written)?;
+    }
+    Ok(())
+}
+
+/// What a stream that fails leaves: the status, and the first bytes of what was due.
+#[test]
+fn streams_that_fail(rt: HostRuntime) -> Result<(), Fail> {
+    assert_cuts(&rt, rt.alloc(), &CUTS)
+}
+
+/// An input of the most bytes is read, and one byte more is not.
+#[test]
+fn limit_of_the_input(rt: HostRuntime) -> Result<(), Fail> {
+    let alloc = rt.alloc();
+    for (length, status, written) in [
+        (8_388_608usize, 3u8, b"refused 1 long\n".as_slice()),
+        (8_388_609, 7, b"".as_slice()),
+    ] {
+        let text = Vec::from_elem(alloc, b'7', length)?;
+        assert_outcome(&rt, alloc, serial(&text), status, written)?;
+    }
+    Ok(())
+}
+
+/// A message of 9,000 bytes is a scenario's, though it fits no frame; one of 9,001 is in none.
+#[test]
+fn longest_message(rt: HostRuntime) -> Result<(), Fail> {
+    let alloc = rt.alloc();
+    let mut text = Vec::from_slice(
+        alloc,
+        b"domain 0 nodes 1 pool 1\n0.0 create 0\n0.0 msg_send 0 0:0:0 1 ",
+    )?;
+    for _ in 0..9000 {
+        text.extend_from_slice(b"00")?;
+    }
+    let mut longer = Vec::from_slice(alloc, &text)?;
+    text.push(b'\n')?;
+    longer.extend_from_slice(b"00\n")?;
+    let (answer, output) = outcome_of(&rt, alloc, serial(&text))?;
+    assert_eq!(rt; answer, 0);
+    assert!(rt;
+        output.written().ends_with(
+            b"
+idle 1
+call 2 msg_size
+messages accepted 0 taken 0 dropped 0 queued 0 ring 0
+lane 0 0 free 1 ring 0 queue 0 lent 0
+end
+"
+        )
+    );
+    assert_outcome(&rt, alloc, serial(&longer), 3, b"refused 3 bytes\n")
+}

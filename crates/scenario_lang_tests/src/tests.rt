@@ -1,0 +1,441 @@
+use scenario_lang::{LineReason, ScenarioFault, read_scenario, write_scenario};
+use std::alloc::Global;
+use std::test::Fail;
+
+/// A text, and the line and the reason of its refusal.
+type Refusal = (&'static [u8], u32, LineReason);
+
+/// Texts that are refused before the calls are read.
+const REFUSED_LINES: [Refusal; 48] = [
+    (b"", 1, LineReason::Domain),
+    (b"\n", 2, LineReason::Domain),
+    (b"# nothing\n \t\n", 3, LineReason::Domain),
+    (b"# nothing\n# more", 3, LineReason::Domain),
+    (b"domain 0 nodes 0 pool 2", 1, LineReason::Number),
+    (b"domain 0 nodes 17 pool 2\n", 1, LineReason::Number),
+    (b"domain 8 nodes 1 pool 2\n", 1, LineReason::Number),
+    (b"domain 0 nodes 1 pool 0\n", 1, LineReason::Number),
+    (b"domain 0 nodes 1 pool 257\n", 1, LineReason::Number),
+    (b"domain 00 nodes 1 pool 2\n", 1, LineReason::Number),
+    (b"domain 0 nodes 01 pool 2\n", 1, LineReason::Number),
+    (b"domain -1 nodes 1 pool 2\n", 1, LineReason::Number),
+    (
+        b"domain 0 nodes 1 pool 18446744073709551617\n",
+        1,
+        LineReason::Number,
+    ),
+    (b"domain\n", 1, LineReason::Form),
+    (b"domain 0\n", 1, LineReason::Form),
+    (b"domain 0 nodes 1 pool\n", 1, LineReason::Form),
+    (b"domain 0 nodes 1 pool 2 3\n", 1, LineReason::Form),
+    (b"domain 9 node 1 pool 2\n", 1, LineReason::Form),
+    (b"domain 0 nodes 1 pools 2\n", 1, LineReason::Form),
+    (b"Domain 0 nodes 1 pool 2\n", 1, LineReason::Form),
+    (b"domain 0 nodes 1 pool 2\n\x01\n", 2, LineReason::Byte),
+    (b"domain 0 nodes 1 pool 2\n#\x7f\n", 2, LineReason::Byte),
+    (b"domain 0 nodes 1 pool 2\n#\x80\n", 2, LineReason::Byte),
+    (b"domain 0 nodes 1 pool 2\r", 1, LineReason::Byte),
+    (b"domain 0 nodes 1 pool 2\r\r\n", 1, LineReason::Byte),
+    (b"domain 0\r nodes 1 pool 2\n", 1, LineReason::Byte),
+    (
+        b"domain 0 nodes 1 pool 2\ndomain 0 nodes 1 pool 2\n",
+        2,
+        LineReason::Domain,
+    ),
+    (
+        b"domain 0 nodes 1 pool 2\nlink 0 1 size 2\n",
+        2,
+        LineReason::Domain,
+    ),
+    (
+        b"domain 1 nodes 1 pool 2\nlink 0 1 size 2\n",
+        2,
+        LineReason::Domain,
+    ),
+    (
+        b"link 0 1 size 2\ndomain 0 nodes 1 pool 2\n",
+        1,
+        LineReason::Domain,
+    ),
+    (
+        b"domain 0 nodes 1 pool 2\nlink 0 1 size 3\n",
+        2,
+        LineReason::Domain,
+    ),
+    (
+        b"domain 0 nodes 1 pool 2\nlink 0 0 size 2\n",
+        2,
+        LineReason::Link,
+    ),
+    (
+        b"domain 0 nodes 1 pool 2\ndomain 1 nodes 1 pool 2\nlink 0 1 size 1\n",
+        3,
+        LineReason::Link,
+    ),
+    (
+        b"domain 0 nodes 1 pool 2\ndomain 1 nodes 1 pool 2\nlink 0 1 size 3\n",
+        3,
+        LineReason::Link,
+    ),
+    (
+        b"domain 0 nodes 1 pool 2\ndomain 1 nodes 1 pool 2\nlink 0 1 size 0\n",
+        3,
+        LineReason::Link,
+    ),
+    (
+        b"domain 0 nodes 1 pool 2\ndomain 1 nodes 1 pool 2\nlink 0 1 size 512\n",
+        3,
+        LineReason::Link,
+    ),
+    (
+        b"domain 0 nodes 1 pool 2\ndomain 1 nodes 1 pool 2\nlink 0 1 size 18446744073709551615\n",
+        3,
+        LineReason::Link,
+    ),
+    (
+        b"domain 0 nodes 1 pool 2\ndomain 1 nodes 1 pool 2\nlink 0 1 size 18446744073709551616\n",
+        3,
+        LineReason::Number,
+    ),
+    (
+        b"domain 0 nodes 1 pool 2\ndomain 1 nodes 1 pool 2\nlink 0 1 size 4294967298\n",
+        3,
+        LineReason::Link,
+    ),
+    (
+        b"domain 0 nodes 1 pool 2\ndomain 1 nodes 1 pool 2\nlink 0 1 size 2\nlink 0 1 size 4\n",
+        4,
+        LineReason::Link,
+    ),
+    (
+        b"domain 0 nodes 1 pool 2\ndomain 1 nodes 1 pool 2\nlink 0 1 size 2\nlink 1 0 size 2\n",
+        4,
+        LineReason::Link,
+    ),
+    (
+        b"domain 0 nodes 1 pool 2\ndomain 1 nodes 1 pool 2\nlink 0 1 size 2\ndomain 1 nodes 1 pool 2\n",
+        4,
+        LineReason::Order,
+    ),
+    (
+        b"domain 0 nodes 1 pool 2\n0.0 turn\ndomain 0 nodes 1 pool 2\n",
+        3,
+        LineReason::Order,
+    ),
+    (
+        b"domain 0 nodes 1 pool 2\n0.0 turn\nlink 0 0 size 3\n",
+        3,
+        LineReason::Order,
+    ),
+    (
+        b"domain 0 nodes 1 pool 2\n0.0 turn\nlink 8 0 size 3\n",
+        3,
+        LineReason::Number,
+    ),
+    (
+        b"domain 0 nodes 1 pool 2\nlink 0 1 size\n",
+        2,
+        LineReason::Form,
+    ),
+    (
+        b"domain 0 nodes 1 pool 2\nlink 0 1 sizes 2\n",
+        2,
+        LineReason::Form,
+    ),
+    (
+        b"domain 0 nodes 1 pool 2\nlink 0 1 size 2 2\n",
+        2,
+        LineReason::Form,
+    ),
+];
+
+/// Lines after one domain, each refused for its own reason.
+const REFUSED_CALLS: [(&[u8], LineReason); 73] = [
+    (b"0 create 1", LineReason::Form),
+    (b"0.0.0 create 1", LineReason::Form),
+    (b"0:0 create 1", LineReason::Form),
+    (b"foo", LineReason::Form),
+    (b"0.0", LineReason::Form),
+    (b". turn", LineReason::Number),
+    (b".0 turn", LineReason::Number),
+    (b"x.0 turn", LineReason::Number),
+    (b"0.16 turn", LineReason::Number),
+    (b"8.0 turn", LineReason::Number),
+    (b"0.00 turn", LineReason::Number),
+    (b"1.0 turn", LineReason::Domain),
+    (b"1.0 create 65536", LineReason::Number),
+    (b"1.0 x = turn", LineReason::Domain),
+    (b"0.0 create", LineReason::Form),
+    (b"0.0 create 1 2", LineReason::Form),
+    (b"0.0 create 65536", LineReason::Number),
+    (b"0.0 create 01", LineReason::Number),
+    (b"0.0 create a", LineReason::Number),
+    (b"0.0 Create 1", LineReason::Form),
+    (b"0.0 delete", LineReason::Form),
+    (b"0.0 delete 65536", LineReason::Number),
+    (b"0.0 turn 1", LineReason::Form),
+    (b"0.0 raw 1 f1", LineReason::Form),
+    (b"0.0 pkt_send 1 00", LineReason::Form),
+    (b"0.0 wait a 1", LineReason::Form),
+    (b"0.0 lookup 0:0:1", LineReason::Form),
+    (b"0.0 x lookup 0:0:1", LineReason::Form),
+    (b"0.0 x= lookup 0:0:1", LineReason::Form),
+    (b"0.0 = = lookup 0:0:1", LineReason::Form),
+    (b"0.0 X = lookup 0:0:1", LineReason::Form),
+    (b"0.0 1x = lookup 0:0:1", LineReason::Form),
+    (b"0.0 a_23456789_bcdefg = lookup 0:0:1", LineReason::Form),
+    (b"0.0 x = y = lookup 0:0:1", LineReason::Form),
+    (b"0.0 x = lookup 0:0", LineReason::Form),
+    (b"0.0 x = lookup 0:0:0:0", LineReason::Form),
+    (b"0.0 x = lookup 0.0.1", LineReason::Form),
+    (b"0.0 x = lookup ::", LineReason::Number),
+    (b"0.0 x = lookup 8:0:1", LineReason::Number),
+    (b"0.0 x = lookup 0:16:1", LineReason::Number),
+    (b"0.0 x = lookup 0:0:65536", LineReason::Number),
+    (b"0.0 x = lookup 0:0:00", LineReason::Number),
+    (b"0.0 try create 1", LineReason::Form),
+    (b"0.0 try 3", LineReason::Form),
+    (b"0.0 try 3 x = lookup 0:0:1", LineReason::Form),
+    (b"0.0 try 0 create 1", LineReason::Number),
+    (b"0.0 try 4294967296 create 1", LineReason::Number),
+    (b"0.0 try 03 create 1", LineReason::Number),
+    (b"0.0 try x create 1 2", LineReason::Form),
+    (b"0.0 msg_send 1 0:0:2 1", LineReason::Form),
+    (b"0.0 msg_send 1 0:0:2 1 00 00", LineReason::Form),
+    (b"0.0 msg_send 1 002 9 0", LineReason::Form),
+    (b"0.0 msg_send 1 0:0:2 4 0", LineReason::Number),
+    (b"0.0 msg_send 65536 0:0:2 1 00", LineReason::Number),
+    (b"0.0 msg_send 1 0:0:2 1 0", LineReason::Bytes),
+    (b"0.0 msg_send 1 0:0:2 1 0g", LineReason::Bytes),
+    (b"0.0 msg_send 1 0:0:2 1 --", LineReason::Bytes),
+    (b"0.0 msg_send 1 0:0:2 1 -00", LineReason::Bytes),
+    (b"1.0 msg_send 1 0:0:2 1 000", LineReason::Bytes),
+    (b"0.0 x = msg_send 1 0:0:2 1 000", LineReason::Bytes),
+    (b"0.0 msg_recv 1 9001", LineReason::Number),
+    (b"0.0 msg_recv 1", LineReason::Form),
+    (b"0.0 msg_recv_i 1 1", LineReason::Form),
+    (b"0.0 x = msg_recv_i 1 9001", LineReason::Number),
+    (b"0.0 msg_available 65536", LineReason::Number),
+    (b"0.0 x = msg_available 1", LineReason::Label),
+    (b"0.0 x = create 1", LineReason::Label),
+    (b"0.0 x = turn", LineReason::Label),
+    (b"0.0 test x", LineReason::Label),
+    (b"0.0 cancel x", LineReason::Label),
+    (b"0.0 test X", LineReason::Form),
+    (b"0.0 test", LineReason::Form),
+    (b"0.0 cancel x y", LineReason::Form),
+];
+
+/// Texts with labels, of which one is told or used where it may not.
+const REFUSED_LABELS: [Refusal; 8] = [
+    (
+        b"domain 0 nodes 1 pool 1\n0.0 x = lookup 0:0:1\n0.0 x = lookup 0:0:1\n",
+        3,
+        LineReason::Label,
+    ),
+    (
+        b"domain 0 nodes 1 pool 1\n0.0 x = lookup 0:0:1\n0.1 x = msg_recv_i 1 1\n",
+        3,
+        LineReason::Label,
+    ),
+    (
+        b"domain 0 nodes 1 pool 1\n0.0 test x\n0.0 x = lookup 0:0:1\n",
+        2,
+        LineReason::Label,
+    ),
+    (
+        b"domain 0 nodes 1 pool 1\n0.0 x = lookup 0:0:1\n0.0 test y\n",
+        3,
+        LineReason::Label,
+    ),
+    (
+        b"domain 0 nodes 1 pool 1\ndomain 1 nodes 1 pool 1\n0.0 x = lookup 0:0:1\n1.0 test x\n",
+        4,
+        LineReason::Label,
+    ),
+    (
+        b"domain 0 nodes 1 pool 1\n0.0 x = lookup 0:0:1\n0.0 x = test x\n",
+        3,
+        LineReason::Label,
+    ),
+    (
+        b"domain 0 nodes 1 pool 1\n0.0 test x\n0.0 create 65536\n",
+        2,
+        LineReason::Label,
+    ),
+    (
+        b"domain 0 nodes 1 pool 1\n0.0 create 1\n\x00\n0.0 test x\n",
+        3,
+        LineReason::Byte,
+    ),
+];
+
+/// Texts that are read, and the canonical text of each.
+const READ: [(&[u8], &[u8]); 12] = [
+    (
+        b"domain 0 nodes 1 pool 2\n0.0 create 1\n0.0 create 2\n0.0 msg_send 1 0:0:2 1 6869\n0.0 msg_recv 2 488\n",
+        b"domain 0 nodes 1 pool 2\n0.0 create 1\n0.0 create 2\n0.0 msg_send 1 0:0:2 1 6869\n0.0 msg_recv 2 488\n",
+    ),
+    (b"domain 3 nodes 1 pool 1", b"domain 3 nodes 1 pool 1\n"),
+    (
+        b"# two domains\r\n\r\n\tdomain  7\tnodes 16 pool 256 \r\ndomain 0 nodes 1 pool 1\nlink 7 0 size 256\n",
+        b"domain 7 nodes 16 pool 256\ndomain 0 nodes 1 pool 1\nlink 7 0 size 256\n",
+    ),
+    (
+        b"domain 1 nodes 1 pool 1\ndomain 2 nodes 1 pool 1\nlink 1 2 size 2\n  # a remark = 1\n1.15 delete 65535\n2.0 turn",
+        b"domain 1 nodes 1 pool 1\ndomain 2 nodes 1 pool 1\nlink 1 2 size 2\n1.15 delete 65535\n2.0 turn\n",
+    ),
+    (
+        b"domain 0 nodes 1 pool 1\n0.0 try = try 4294967295 lookup 7:15:65535\n0.0 test try\n0.0 cancel try\n",
+        b"domain 0 nodes 1 pool 1\n0.0 try = try 4294967295 lookup 7:15:65535\n0.0 test try\n0.0 cancel try\n",
+    ),
+    (
+        b"domain 0 nodes 1 pool 1\n0.0 try 1 msg_send 0 0:0:0 3 -\n0.0 msg_send 1 0:0:2 0 FfaB09\n",
+        b"domain 0 nodes 1 pool 1\n0.0 try 1 msg_send 0 0:0:0 3 -\n0.0 msg_send 1 0:0:2 0 ffab09\n",
+    ),
+    (
+        b"domain 0 nodes 1 pool 1\ndomain 1 nodes 1 pool 1\n0.0 x = lookup 0:0:1\n1.0 x = msg_recv_i 1 9000\n1.0 test x\n0.0 test x\n",
+        b"domain 0 nodes 1 pool 1\ndomain 1 nodes 1 pool 1\n0.0 x = lookup 0:0:1\n1.0 x = msg_recv_i 1 9000\n1.0 test x\n0.0 test x\n",
+    ),
+    (
+        b"domain 0 nodes 1 pool 1\n0.0 a_23456789_bcdef = lookup 0:0:0\n0.0 lookup = lookup 0:0:0\n0.0 test lookup\n",
+        b"domain 0 nodes 1 pool 1\n0.0 a_23456789_bcdef = lookup 0:0:0\n0.0 lookup = lookup 0:0:0\n0.0 test lookup\n",
+    ),
+    (
+        b"domain 0 nodes 1 pool 1\n0.0 try 2 msg_recv 1 0\n0.0 try 2 msg_available 1\n0.0 try 2 turn\n",
+        b"domain 0 nodes 1 pool 1\n0.0 try 2 msg_recv 1 0\n0.0 try 2 msg_available 1\n0.0 try 2 turn\n",
+    ),
+    (
+        b"domain 5 nodes 1 pool 1\ndomain 3 nodes 1 pool 1\nlink 5 3 size 64\n5.0 create 0\n3.0 create 0\n5.0 x = try 9 msg_recv_i 0 0\n",
+        b"domain 5 nodes 1 pool 1\ndomain 3 nodes 1 pool 1\nlink 5 3 size 64\n5.0 create 0\n3.0 create 0\n5.0 x = try 9 msg_recv_i 0 0\n",
+    ),
+    (
+        b"domain 0 nodes 1 pool 1\ndomain 1 nodes 1 pool 1\ndomain 2 nodes 1 pool 1\nlink 0 1 size 4\nlink 2 0 size 8\nlink 1 2 size 16\n",
+        b"domain 0 nodes 1 pool 1\ndomain 1 nodes 1 pool 1\ndomain 2 nodes 1 pool 1\nlink 0 1 size 4\nlink 2 0 size 8\nlink 1 2 size 16\n",
+    ),
+    (
+        b"domain 0 nodes 1 pool 1\r\n\n\t\n#\n#domain\n0.0 create 1\r\n# ~ |\t!",
+        b"domain 0 nodes 1 pool 1\n0.0 create 1\n",
+    ),
+];
+
+fn is_refused(alloc: Global, text: &[u8], line: u32, reason: LineReason) -> bool {
+    if text.len() >= 1_000_000 {
+        return false;
+    }
+    match read_scenario(alloc, text) {
+        Err(fault) => fault == ScenarioFault::Refused { line, reason },
+        Ok(_) => false,
+    }
+}
+
+fn is_read(alloc: Global, text: &[u8]) -> bool {
+    if text.len() >= 1_000_000 {
+        return false;
+    }
+    read_scenario(alloc, text).is_ok()
+}
+
+fn is_read_as(alloc: Global, text: &[u8], canonical: &[u8]) -> bool {
+    if text.len() >= 1_000_000 {
+        return false;
+    }
+    let Ok(scenario) = read_scenario(alloc, text) else {
+        return false;
+    };
+    match write_scenario(alloc, &scenario) {
+        Ok(written) => written.as_slice() == canonical,
+        Err(_) => false,
+    }
+}
+
+#[test]
+fn lines_are_refused_with_their_first_reason(rt: HostRuntime) -> Result<(), Fail> {
+    let alloc = rt.alloc();
+    for (text, line, reason) in REFUSED_LINES {
+        assert!(rt; is_refused(alloc, text, line, reason));
+    }
+    for (text, line, reason) in REFUSED_LABELS {
+        assert!(rt; is_refused(alloc, text, line, reason));
+    }
+    Ok(())
+}
+
+#[test]
+fn calls_are_refused_with_their_first_reason(rt: HostRuntime) -> Result<(), Fail> {
+    let alloc = rt.alloc();
+    for (line, reason) in REFUSED_CALLS {
+        let mut text = Vec::from_slice(alloc, b"domain 0 nodes 1 pool 1\n")?;
+        text.extend_from_slice(line)?;
+        assert!(rt; is_refused(alloc, &text, 2, reason));
+        text.extend_from_slice(b"\n0.0 test nothing\n")?;
+        assert!(rt; is_refused(alloc, &text, 2, reason));
+    }
+    Ok(())
+}
+
+#[test]
+fn texts_are_read_and_written_in_canonical_form(rt: HostRuntime) -> Result<(), Fail> {
+    let alloc = rt.alloc();
+    for (text, canonical) in READ {
+        assert!(rt; is_read_as(alloc, text, canonical));
+        assert!(rt; is_read_as(alloc, canonical, canonical));
+    }
+    Ok(())
+}
+
+/// A domain line, and a call line with as many bytes of a message, and as many blanks at its end.
+fn message(alloc: Global, bytes: u32, blanks: u32) -> Result<Vec<u8>, Fail> {
+    let mut text = Vec::from_slice(alloc, b"domain 0 nodes 1 pool 1\n0.0 msg_send 1 0:0:2 1 ")?;
+    for _ in 0..bytes {
+        text.extend_from_slice(b"5a")?;
+    }
+    for _ in 0..blanks {
+        text.push(b' ')?;
+    }
+    Ok(text)
+}
+
+#[test]
+fn bytes_and_lines_at_their_limits(rt: HostRuntime) -> Result<(), Fail> {
+    let alloc = rt.alloc();
+    assert!(rt; is_read(alloc, &message(alloc, 9000, 0)?));
+    assert!(rt; is_refused(alloc, &message(alloc, 9001, 0)?, 2, LineReason::Bytes));
+    assert!(rt; is_read(alloc, &message(alloc, 9000, 1977)?));
+    assert!(rt; is_refused(alloc, &message(alloc, 9000, 1978)?, 2, LineReason::Long));
+    assert!(rt; is_refused(alloc, &message(alloc, 9999, 0)?, 2, LineReason::Long));
+    let mut text = message(alloc, 9000, 1977)?;
+    text.extend_from_slice(b"\r\n#")?;
+    assert!(rt; is_read(alloc, &text));
+    for _ in 0..20_000 {
+        text.push(b'x')?;
+    }
+    assert!(rt; is_refused(alloc, &text, 3, LineReason::Long));
+    Ok(())
+}
+
+#[test]
+fn a_label_is_told_once_among_many_of_its_domain(rt: HostRuntime) -> Result<(), Fail> {
+    let alloc = rt.alloc();
+    let mut text = Vec::from_slice(alloc, b"domain 0 nodes 1 pool 1\ndomain 1 nodes 1 pool 1\n")?;
+    for number in 0..4000u32 {
+        push_line(&mut text, b"0.0 ", number)?;
+        push_line(&mut text, b"1.0 ", number)?;
+    }
+    assert!(rt; is_read_as(alloc, &text, &text));
+    push_line(&mut text, b"1.0 ", 1234)?;
+    assert!(rt; is_refused(alloc, &text, 8003, LineReason::Label));
+    Ok(())
+}
+
+/// A line that tells a label of four letters.
+fn push_line(text: &mut Vec<u8>, caller: &[u8], number: u32) -> Result<(), Fail> {
+    text.extend_from_slice(caller)?;
+    let mut rest = number;
+    for _ in 0..4 {
+        text.push(b'a' + (rest % 26) as u8)?;
+        rest /= 26;
+    }
+    text.extend_from_slice(b" = lookup 0:0:1\n")?;
+    Ok(())
+}
