@@ -233,15 +233,19 @@ const TO_ONESELF: [Row; 21] = [
     (TakeTwo, 0),
 ];
 
-#[test]
-fn a_lane_to_oneself_does_the_same(rt: HostRuntime) -> Result<(), Fail> {
-    let Ok(mut lane) = LoopLane::new(rt.alloc(), 2) else {
+fn assert_alone(rt: &impl Abort, alloc: Global, rows: &[Row]) -> Result<(), Fail> {
+    let Ok(mut lane) = LoopLane::new(alloc, 2) else {
         return Err("no lane".into());
     };
-    for (i, (deed, due)) in TO_ONESELF.iter().enumerate() {
+    for (i, (deed, due)) in rows.iter().enumerate() {
         assert_eq!(rt; does_alone(&mut lane, *deed), *due, "{i}: {deed:?}");
     }
     Ok(())
+}
+
+#[test]
+fn a_lane_to_oneself_does_the_same(rt: HostRuntime) -> Result<(), Fail> {
+    assert_alone(&rt, rt.alloc(), &TO_ONESELF)
 }
 
 // A receiver with one frame, and a sender.
