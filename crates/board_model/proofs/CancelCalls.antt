@@ -113,7 +113,7 @@ refused_once s node (cancel_of p) w q took gone once = call_same s s node (cance
 refused_once s node turn_alone w q took gone once = call_same s s node turn_alone (refuses w) q took gone refl refl (λ n. refl) refl once
 
 -- a receive takes by no request
-given_none : (s : DomainState) (node port max n : ℕ) (i : Option Item) (q : Standing) → times n (serials_in (takings_of s node (receive_at port max) (given max i) q)) ≡ 0
+pub given_none : (s : DomainState) (node port max n : ℕ) (i : Option Item) (q : Standing) → times n (serials_in (takings_of s node (receive_at port max) (given max i) q)) ≡ 0
 given_none s node port max n None q = refl
 given_none s node port max n (Some i) q = unrequested n (best_at (address_at s (local node port)) q)
 

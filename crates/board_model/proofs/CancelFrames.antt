@@ -104,12 +104,13 @@ abbrev hands_it : Fate → Bool
 hands_it w = elim w [ fate.Handed ↦ true | _ ↦ false ]
 
 -- a buffer that is given back was not handed
-given_not : (w : Fate) → keeps_buffer w ≡ false → hands_it w ≡ false
+pub given_not : (w : Fate) → keeps_buffer w ≡ false → hands_it w ≡ false
 given_not fate.Handed gives = absurd cc
 given_not other gives = refl
 
-now_none : (n d peer : ℕ) (s : DomainState) (t : Taken) → hands_it t.fate ≡ false → times n (serials_in (handed_now d s peer t)) ≡ 0
-now_none n d peer s t e = rw e refl
+-- a frame that is not handed is no taking
+pub none_handed : (d peer : ℕ) (s : DomainState) (t : Taken) → hands_it t.fate ≡ false → handed_now d s peer t ≡ []
+none_handed d peer s t e = rw e refl
 
 and_true : (a b : Bool) → a ≡ true → (a && b) ≡ b
 and_true a b e = rw e refl
@@ -134,7 +135,7 @@ hand_once d peer s t took gone i place once =
       below = λ n least. omega (arith, once.below n least, pending n, pending-stands n s.requests, now_times n d peer s t i r place w.1, standing n, ap (standing_of n) rs);
     }
 
-frame_once : (d peer : ℕ) (s : DomainState) (t : Taken) (took gone : Tally) → option_map (λ r. r.word) (row_for s peer t.frame) ≡ Some t.fate → Once s took gone →
+pub frame_once : (d peer : ℕ) (s : DomainState) (t : Taken) (took gone : Tally) → option_map (λ r. r.word) (row_for s peer t.frame) ≡ Some t.fate → Once s took gone →
     Once (after_frame s peer t.frame) (with_takings took (handed_now d s peer t)) gone
 frame_once d peer s t took gone word once = go (word_of (row_for s peer t.frame)) (after_frame s peer t.frame) (frame_word_is s peer t.frame t.fate word) (frame_deals s peer t.frame)
   where
@@ -142,7 +143,7 @@ frame_once d peer s t took gone word once = go (word_of (row_for s peer t.frame)
     now = with_takings took (handed_now d s peer t)
 
     same : hands_it t.fate ≡ false → (n : ℕ) → now n ≡ took n
-    same not n = omega (arith, now_none n d peer s t not)
+    same not n = omega (arith, ap (λ us. times n (serials_in us)) (none_handed d peer s t not))
 
     created : (o : Option EndName) (address : ℕ) → hands_it t.fate ≡ false → Once (with_created s peer o address) now gone
     created None address not = once_same s s took now gone gone refl refl (same not) (λ n. refl) once
@@ -176,7 +177,7 @@ takes_once d peer s (t ∷ ts) took gone words once =
     once_same (after_takes s peer (t ∷ ts)) (after_takes s peer (t ∷ ts)) (with_takings (with_takings took (handed_now d s peer t)) (handed_in d (after_frame s peer t.frame) peer ts)) (with_takings took (handed_in d s peer (t ∷ ts))) gone gone refl refl
     (λ n. takings_two n took (handed_now d s peer t) (handed_in d (after_frame s peer t.frame) peer ts)) (λ n. refl) next
 
-visit_once : (d : ℕ) (s : DomainState) (v : Visit) (took gone : Tally) → IsVisit s v → Once s took gone → Once (after_visit s v) (with_takings took (handed_in d (after_looks s v) v.peer v.takes)) gone
+pub visit_once : (d : ℕ) (s : DomainState) (v : Visit) (took gone : Tally) → IsVisit s v → Once s took gone → Once (after_visit s v) (with_takings took (handed_in d (after_looks s v) v.peer v.takes)) gone
 visit_once d s v took gone is once =
     takes_once d v.peer (after_looks s v) v.takes took gone is.words (once_same s (after_looks s v) took took gone gone refl refl (λ n. refl) (λ n. refl) once)
 

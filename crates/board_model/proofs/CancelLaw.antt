@@ -24,7 +24,7 @@ use Rattle.board_model.proofs.CancelCalls.{BestTells}
 use Rattle.board_model.proofs.CancelRuns.{AllTell, run_once}
 
 -- what stands is what is queued, so nothing stands where nothing is queued
-best_tells : (d : ℕ) (s : DomainState) (q : Standing) → Stands d s q → BestTells s q
+pub best_tells : (d : ℕ) (s : DomainState) (q : Standing) → Stands d s q → BestTells s q
 best_tells d s q stands at none = go (find (is_at at) s.endpoints) refl
   where
     go : (o : Option Endpoint) → find (is_at at) s.endpoints ≡ o → best_at (option_map (λ e. e.address) (endpoint_at s at)) q ≡ None
@@ -42,7 +42,7 @@ all_tell lines d r q (e ∷ es) allowed stands =
     (best_tells d r.state q stands, all_tell lines d (after lines r e) (standing_after lines d r q e) es allowed.1 (stands_entry lines d r q e allowed.0 stands))
 
 -- a script has at most all lines of its scenario
-script_within : (s : Scenario) (d : ℕ) → length (script s d) ≤ length s.calls
+pub script_within : (s : Scenario) (d : ℕ) → length (script s d) ≤ length s.calls
 script_within s d = omega (arith, length-filter (λ (c : CallLine). c.domain == d) s.calls, count_by-le-length (λ (c : CallLine). c.domain == d) s.calls)
 
 cancelled_none : (s : Scenario) (j : DomainJournal) → IsLinkedBoard s → IsDomainRun s j.line j.entries → CancelledTookNothing s j

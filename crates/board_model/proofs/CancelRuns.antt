@@ -47,7 +47,7 @@ line_once r q a line o took gone is told small tells once =
     (subst (λ (b : PlainAnswer). CallOnce r.state (effect r.state line.node (call_at r line)) line.node (call_at r line) b q took gone) (sym told)
     (call_once r.state line.node (call_at r line) q took gone small tells once))
 
-entry_once : (lines : List CallLine) (d : ℕ) (r : RunState) (q : Standing) (e : PlainEntry) (took gone : Tally) → Allowed lines r e → FewGiven lines r → BestTells r.state q → Once r.state took gone →
+pub entry_once : (lines : List CallLine) (d : ℕ) (r : RunState) (q : Standing) (e : PlainEntry) (took gone : Tally) → Allowed lines r e → FewGiven lines r → BestTells r.state q → Once r.state took gone →
     Once (after lines r e).state (with_takings took (takings_in lines d r q e)) (with_gone gone (cancelled_in lines r e))
 entry_once lines d r q (turned visits) took gone allowed few tells once =
     once_same (after_turn r.state visits) (after_turn r.state visits) _ _ gone _ refl refl (λ n. refl) (λ n. omega arith) (turn_once d r.state visits took gone allowed.1.allowed once)

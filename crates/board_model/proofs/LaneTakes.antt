@@ -110,15 +110,17 @@ lent_one_more w s item i r at pending =
     some_request : {x y : Request} → ◌≡◌ {A = Option Request} (Some x) (Some y) → x ≡ y
     some_request e = cc
 
--- the receive that waits for a frame stands, and is pending
-pub waiting_tells : (s : DomainState) (address i : ℕ) → place_waiting_for s address ≡ Some i → (r : Request) × (slice_get s.requests i ≡ Some r) × (is_none r.outcome ≡ true)
-waiting_tells s address i e = go (local_of_address s address) e
+-- the receive that waits for a frame stands, and waits
+pub waiting_is : (s : DomainState) (address i : ℕ) → place_waiting_for s address ≡ Some i → (at : Local) × (r : Request) × (slice_get s.requests i ≡ Some r) × (waits_at at r ≡ true)
+waiting_is s address i e = go (local_of_address s address) e
   where
-    go : (o : Option Local) → option_and_then (place_of_waiting s) o ≡ Some i → (r : Request) × (slice_get s.requests i ≡ Some r) × (is_none r.outcome ≡ true)
+    go : (o : Option Local) → option_and_then (place_of_waiting s) o ≡ Some i → (at : Local) × (r : Request) × (slice_get s.requests i ≡ Some r) × (waits_at at r ≡ true)
     go None h = absurd cc
-    go (Some at) h =
-        let t = position-tells (waits_at at) s.requests i h in
-        (t.0, t.1, (and_parts (is_none t.0.outcome) (receives_at at t.0.asked) t.2).0)
+    go (Some at) h = let t = position-tells (waits_at at) s.requests i h in (at, t.0, t.1, t.2)
+
+-- so it is pending
+pub waiting_tells : (s : DomainState) (address i : ℕ) → place_waiting_for s address ≡ Some i → (r : Request) × (slice_get s.requests i ≡ Some r) × (is_none r.outcome ≡ true)
+waiting_tells s address i e = let w = waiting_is s address i e in (w.1, w.2, (and_parts (is_none w.1.outcome) (receives_at w.0 w.1.asked) w.3).0)
 
 -- a request that may be complete without an item holds what it held
 pub same_asked : (f : Request → Request) → ((r : Request) → item_in (f r).outcome ≡ item_in r.outcome) → (rs : List Request) → asked_items (map f rs) ≡ asked_items rs

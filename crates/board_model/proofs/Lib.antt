@@ -8,6 +8,10 @@ pub mod CancelFrames
 pub mod CancelLaw
 pub mod CancelRuns
 pub mod Headlines
+pub mod HeldCalls
+pub mod HeldFrames
+pub mod HeldRuns
+pub mod HeldTaken
 pub mod LaneCalls
 pub mod LanePeers
 pub mod LaneRows

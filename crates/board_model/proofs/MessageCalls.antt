@@ -188,7 +188,7 @@ best_found : (d : ℕ) (s : DomainState) (q : Standing) (at : Local) (f : Endpoi
 best_found d s q at f stands found =
     ap (best (λ m. m.priority)) (stands.queued f.address ∙ at-found d (is_at at) 1024 (1024 + s.endpoints_given) s.endpoints f stands.rise found)
 
-best_named : (d : ℕ) (s : DomainState) (q : Standing) (at : Local) (o : Option Endpoint) (i : Item) → Stands d s q → find (is_at at) s.endpoints ≡ o → best (λ j. j.priority) (queue_in o) ≡ Some i →
+pub best_named : (d : ℕ) (s : DomainState) (q : Standing) (at : Local) (o : Option Endpoint) (i : Item) → Stands d s q → find (is_at at) s.endpoints ≡ o → best (λ j. j.priority) (queue_in o) ≡ Some i →
     (m : Message) × (best_at (option_map (λ e. e.address) o) q ≡ Some m) × (m.content ≡ i.content)
 best_named d s q at None i stands found some = absurd cc
 best_named d s q at (Some f) i stands found some =

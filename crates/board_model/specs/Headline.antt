@@ -11,7 +11,7 @@ use Rattle.board_model.specs.Board.{DomainJournal}
 use Rattle.board_model.specs.Channels.{items_accepted, items_taken, items_left}
 use Rattle.board_model.specs.Messages.{Message, accepted, messages_queued, messages_in_ring}
 use Rattle.board_model.specs.Drops.{dropped}
-use Rattle.board_model.specs.Takings.{messages_taken, ReceivesBest, CancelledTookNothing}
+use Rattle.board_model.specs.Takings.{messages_taken, ReceivesBest, TestsTellTaken, CancelledTookNothing}
 use Rattle.board_model.specs.Places.{EveryBuffer}
 
 -- each message that was accepted was taken or dropped, or is queued or in the ring, each as often: as many of the ones as
@@ -22,6 +22,8 @@ NoMessageLost s js = (test : Message → Bool) → count_by test (accepted js) �
 pub record Headline (s : Scenario) (js : List DomainJournal) : Type 0 where
   pub channel_prefix : (sender channel : ℕ) → IsPrefix (items_taken s js sender channel) (items_accepted s js sender channel)
   pub best_first : AllByRecursion (ReceivesBest s) js
+  -- a receive by request is told by the test of the request
+  pub tests_tell_taken : AllByRecursion (TestsTellTaken s) js
   pub cancelled_nothing : AllByRecursion (CancelledTookNothing s) js
   pub items_kept : (sender channel : ℕ) → items_accepted s js sender channel ≡ items_taken s js sender channel ++ items_left s js sender channel
   pub messages_kept : NoMessageLost s js

@@ -7,10 +7,10 @@ use Rattle.mc_base.specs.Frame.{destination_of}
 use Rattle.mc_base.specs.declared.fate.Fate.TheVariants.{Queued, Handed}
 use Rattle.board_model.specs.declared.scenario.CallLine.{CallLine}
 use Rattle.board_model.specs.declared.scenario.Scenario.{Scenario}
-use Rattle.board_model.specs.DomainCall.{DomainCall, delete_at, receive_at, request_at, cancel_of}
+use Rattle.board_model.specs.DomainCall.{DomainCall, delete_at, receive_at, request_at, test_of, cancel_of}
 use Rattle.board_model.specs.Scenario.{script}
-use Rattle.board_model.specs.Journal.{PlainEntry, turned, put, again, called, PlainAnswer, agrees, tells, gives, Visit, Taken}
-use Rattle.board_model.specs.State.{DomainState, address_at, request_at_place, place_waiting_for}
+use Rattle.board_model.specs.Journal.{PlainEntry, turned, put, again, called, brought, PlainAnswer, refuses, agrees, tells, gives, completes, Visit, Taken}
+use Rattle.board_model.specs.State.{DomainState, Asked, message_at, Request, address_at, request_at_place, place_waiting_for}
 use Rattle.board_model.specs.Choice.{best, without_best}
 use Rattle.board_model.specs.Dealing.{after_frame}
 use Rattle.board_model.specs.Turn.{after_looks, after_visit}
@@ -182,6 +182,63 @@ EachTakesBest script d r q (e ∷ es) = TakesBest script d r q e × EachTakesBes
 -- each message receive of a journal took the oldest of the best priority queued, or, where none was queued, the one that came
 abbrev pub ReceivesBest : Scenario → DomainJournal → Type 0
 ReceivesBest s j = EachTakesBest (script s j.line.domain) j.line.domain (start s j.line) none_standing j.entries
+
+-- ---- what tests tell
+
+-- the request that took is the one of this serial
+abbrev pub is_by : ℕ → Option ℕ → Bool
+is_by serial None = false
+is_by serial (Some request) = request == serial
+
+-- the messages that the request of a serial took
+abbrev pub taken_for : ℕ → List Taking → List Message
+taken_for serial takings = map (λ t. t.message) (filter (λ t. is_by serial t.request) takings)
+
+-- the most bytes that a request for a message asks for. Any other request asks for none
+abbrev pub most_asked : Asked → Option ℕ
+most_asked (message_at at max) = Some max
+most_asked other = None
+
+-- the request took this message and no other, and the answer gives the message's size and the first bytes, as many as the request
+-- asks for
+pub record TellsTaken (takings : List Taking) (request : Request) (size : ℕ) (bytes : List ℕ) : Type 0 where
+  pub message : Message
+  pub max : ℕ
+  pub taken : taken_for request.serial takings ≡ message ∷ []
+  pub asked : most_asked request.asked ≡ Some max
+  pub told : Gives max message size bytes
+
+-- the answer of a test of a request that stands tells what the request took: the message, or, by any other answer, that it took
+-- none. Where none stands no test is a success
+abbrev pub TellsOf : List Taking → Option Request → PlainAnswer → Type 0
+TellsOf takings (Some request) (completes (brought size bytes)) = TellsTaken takings request size bytes
+TellsOf takings (Some request) other = taken_for request.serial takings ≡ []
+TellsOf takings None (completes result) = ⊥
+TellsOf takings None other = Unit {0}
+
+abbrev pub TestTellsBy : DomainState → List Taking → DomainCall → PlainAnswer → Type 0
+TestTellsBy s takings (test_of place) a = TellsOf takings (request_at_place s place) a
+TestTellsBy s takings call a = Unit {0}
+
+abbrev pub TestTellsAt : Option CallLine → RunState → List Taking → PlainAnswer → Type 0
+TestTellsAt None r takings a = Unit {0}
+TestTellsAt (Some line) r takings a = TestTellsBy r.state takings (call_at r line) a
+
+-- a test that is made again was answered, too
+abbrev pub TestTells : List CallLine → RunState → List Taking → PlainEntry → Type 0
+TestTells script r takings (turned visits) = Unit {0}
+TestTells script r takings (put peer frame) = Unit {0}
+TestTells script r takings (again word) = TestTellsAt (next_line script r) r takings (refuses word)
+TestTells script r takings (called k a) = TestTellsAt (next_line script r) r takings a
+
+-- each entry, with the takings of the entries before it
+abbrev pub EachTestTells : List CallLine → ℕ → RunState → Standing → List Taking → List PlainEntry → Type 0
+EachTestTells script d r q takings [] = Unit {0}
+EachTestTells script d r q takings (e ∷ es) = TestTells script r takings e × EachTestTells script d (after script r e) (standing_after script d r q e) (takings ++ takings_in script d r q e) es
+
+-- each test of a journal tells what its request took until then: one message, or none
+abbrev pub TestsTellTaken : Scenario → DomainJournal → Type 0
+TestsTellTaken s j = EachTestTells (script s j.line.domain) j.line.domain (start s j.line) none_standing [] j.entries
 
 -- ---- cancels
 

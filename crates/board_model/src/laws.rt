@@ -1,6 +1,6 @@
 //! What is proved of the definitions themselves. Each function has no code: its contract is the law.
 ghost use Rattle.board_model.specs.Laws.{PlaceLaw, HeadlineLaw};
-ghost use Rattle.board_model.specs.MessageLaws.{ReceivesTakeTheBest, NoMessageIsLost, CancelledRequestsTookNothing};
+ghost use Rattle.board_model.specs.MessageLaws.{ReceivesTakeTheBest, TestsTellWhatWasTaken, NoMessageIsLost, CancelledRequestsTookNothing};
 ghost use Rattle.board_model.specs.SerialLaws.{LinkedSerialIsBoardRun};
 ghost use Rattle.board_model.specs.LanguageLaws.{LawfulIsLinked, LawfulSerialIsBoardRun, LawfulSerialHeadline};
 
@@ -12,6 +12,11 @@ pub fn every_buffer_in_its_place()
 /// Each message receive takes the oldest message of the best priority queued.
 pub fn receives_take_the_best()
     ensures { ReceivesTakeTheBest }
+{}
+
+/// A test tells what its request took: one message, or none.
+pub fn tests_tell_what_was_taken()
+    ensures { TestsTellWhatWasTaken }
 {}
 
 /// Each message that was accepted was taken or dropped, or is queued or in the ring.
