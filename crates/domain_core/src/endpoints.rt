@@ -1,6 +1,6 @@
 //! The endpoints of a domain and their queues.
 
-ghost use Rattle.std.specs.Prelude.{◌≡◌, ◌≤◌, ◌<◌, ◌+◌, [], ℕ, false, IfOk, IfSome, IsNone, ◌^◌, ◌==◌, ◌&&◌, length, sum_by, is_some, nat_le, position, slice_get, Some, option_map, vec_capacity};
+ghost use Rattle.std.specs.Prelude.{◌≡◌, ◌≤◌, ◌<◌, ◌+◌, [], false, IfOk, IfSome, IsNone, ◌^◌, ◌==◌, ◌&&◌, length, sum_by, is_some, position, slice_get, Some, option_map, vec_capacity};
 ghost use Rattle.std.specs.List.{AllByRecursion};
 ghost use Rattle.board_model.specs.State.{address_at, endpoint_at, place_at, place_of_address};
 ghost use Rattle.board_model.specs.Answer.{has_channel};
@@ -97,20 +97,6 @@ impl Endpoints {
         ensures within { IfSome result (λ i. i < length self.now.endpoints) }
     {
         place_with_address(&self.records, address)
-    }
-
-    /// Whether all records are in use.
-    pub fn is_full(&self) -> bool
-        ensures { result ≡ nat_le 64 (length self.now.endpoints) }
-    {
-        self.spare.is_empty()
-    }
-
-    /// How many endpoints were made.
-    pub fn given(&self) -> u32
-        ensures { result ≡ self.now.given }
-    {
-        self.given
     }
 
     /// Makes an endpoint, and answers its address.

@@ -1,6 +1,6 @@
 //! The calls that begin and end requests, after their turns.
 
-ghost use Rattle.std.specs.Prelude.{◌≡◌, ◌≤◌, IfOk, OnErr, None, length, drop, map};
+ghost use Rattle.std.specs.Prelude.{◌≡◌, ◌≤◌, IfOk, OnErr, None, length};
 ghost use Rattle.board_model.specs.DomainCall.{lookup_of, request_at, test_of, cancel_of};
 ghost use Rattle.domain_core.specs.Ends.{EndsMoved};
 ghost use Rattle.domain_core.specs.DomainView.{place_of_id};
