@@ -33,7 +33,7 @@ impl<S: SendEnd, R: RecvEnd> Domain<S, R> {
     pub(crate) fn begin_receive(&mut self, at: Local, max: u32) -> Result<RequestId, Refusal>
         ensures { Does (EndsMoved S.Moved R.Moved) at.node (request_at at.port max) self.old self.new (requested result) (given result) }
     {
-        let Some(place) = self.endpoints.place_at(at) else {
+        let Some(place) = self.endpoints.place_at(&self.table, at) else {
             return Err(Refusal::EndpInvalid);
         };
         let Ok(id) = self.requests.add(Ask::Message(at, max)) else {
