@@ -1,5 +1,5 @@
 -- Links between two domains, as they are carried.
-use Rattle.std.proofs.Common.{◌≡◌, ◌≤◌, ◌<◌, ◌+◌, ℕ, zero, suc, Bool, true, false, cond, List, [], ◌∷◌, map, length, get_or, Option, Some, None, Vec, refl, sym, ap, ◌∙◌, subst, arith}
+use Rattle.std.proofs.Common.{◌≡◌, ◌≤◌, ◌<◌, ◌+◌, ℕ, zero, suc, Bool, true, false, cond, List, [], ◌∷◌, length, get_or, Option, Some, None, Vec, refl, sym, ap, ◌∙◌, subst, arith}
 use Rattle.std.specs.Prelude.{Contains, IfSome, find, option_and_then, position, slice_get, slice_set, ◌==◌}
 use Rattle.std.specs.List.{AllByRecursion}
 use Rattle.std.proofs.lemmas.Option.{slice_get-get_or}
@@ -19,7 +19,7 @@ use Rattle.request_set.specs.Requests.{Requests}
 use Rattle.domain_core.specs.declared.ends.Ends.{Ends}
 use Rattle.domain_core.specs.declared.ends.Ends.TheVariants.{Own, Linked}
 use Rattle.domain_core.specs.declared.peer.Peer.{Peer}
-use Rattle.domain_core.specs.AllMoved.{ends_of, numbers_of}
+use Rattle.domain_core.specs.AllMoved.{ends_of}
 use Rattle.domain_core.specs.Carried.{AreJoinedEnds, ends_carried, peer_carried, peers_carried}
 use Rattle.domain_core.specs.Carrying.{AreJoined, AreLinked, PlainLink, carried, carried_with, leads_to, link_to, with_carried}
 use Rattle.domain_core.specs.DomainParts.{ends_seen}
@@ -28,7 +28,7 @@ use Rattle.domain_core.specs.InPlaces.{AreInPlaces}
 use Rattle.domain_core.specs.Out.{out_of}
 use Rattle.domain_core.specs.Peers.{EndsView, peer_in, state_in}
 use Rattle.domain_core.specs.Records.{Records}
-use Rattle.domain_core.specs.Sound.{AreRising, ArePeers, AreSound, IsSized, buffers_count, out_at, outs_count}
+use Rattle.domain_core.specs.Sound.{AreRising, AreSound, IsSized, buffers_count, out_at, outs_count}
 use Rattle.domain_core.specs.Tied.{AreTied}
 
 abbrev PlainEnds : Type 0

@@ -1,5 +1,5 @@
 -- What a domain keeps through any of its calls: its number, and that the ends of a link to another still fit together.
-use Rattle.std.proofs.Common.{◌≡◌, ℕ, Bool, true, false, cond, List, [], ◌∷◌, ◌++◌, find, Option, Some, None, refl, sym, ap, ◌∙◌, subst}
+use Rattle.std.proofs.Common.{◌≡◌, ℕ, Bool, true, false, cond, List, [], ◌∷◌, ◌++◌, Option, Some, None, refl, ap, ◌∙◌, subst}
 use Rattle.std.specs.Prelude.{◌==◌}
 use Rattle.mc_base.specs.declared.refusal.Refusal.{Refusal}
 use Rattle.mc_base.specs.declared.request.RequestId.{RequestId}
@@ -17,16 +17,14 @@ use Rattle.lane_end.specs.PlainReceiver.{Receiver, Receives, MayReceive, receive
 use Rattle.lane_end.proofs.LaneLemmas.{stay-one-lane}
 use Rattle.domain_core.specs.declared.ends.Ends.{Ends}
 use Rattle.domain_core.specs.declared.ends.Ends.TheVariants.{Own, Linked}
-use Rattle.domain_core.specs.declared.link.Link.{Link}
 use Rattle.domain_core.specs.LaneMoves.{LaneMove, sends, receives}
 use Rattle.domain_core.specs.LinkMoved.{LinkMoved}
 use Rattle.domain_core.specs.Ends.{EndsMoved, EndsMoved-both}
 use Rattle.domain_core.specs.AllMoved.{AllMoved}
 use Rattle.domain_core.specs.DomainView.{DomainView}
 use Rattle.domain_core.specs.Calls.{Calls}
-use Rattle.domain_core.specs.Carrying.{AreJoined, AreLinked, PlainLink, link_to}
+use Rattle.domain_core.specs.Carrying.{PlainLink, link_to}
 use Rattle.domain_core.specs.Going.{AreLinkedDomains, Goes, PlainDomain, PlainGoes}
-use Rattle.domain_core.specs.Opening.{links_in}
 
 -- ---- the number
 

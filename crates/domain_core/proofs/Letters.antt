@@ -8,8 +8,7 @@ use Rattle.board_model.specs.State.{DomainState, Item, place_of_address, place_w
 use Rattle.board_model.specs.Dealing.{Row, row_for, left_by, after_frame, item_of}
 use Rattle.board_model.specs.Serial.{word_of}
 use Rattle.domain_core.specs.Table.{Held, held_in, keeping}
-use Rattle.domain_core.specs.Lane.{IsForEndpoint}
-use Rattle.domain_core.specs.Dealt.{word_at, held_after}
+use Rattle.domain_core.specs.Dealt.{IsForEndpoint, word_at, held_after}
 use Rattle.domain_core.proofs.Frames.{row_by, row_is}
 
 abbrev pub with_both : DomainState → Held → DomainState

@@ -39,6 +39,7 @@ pub mod Announcing
 pub mod GivingLemmas
 pub mod Filters
 pub mod Tying
+pub mod Addresses
 pub mod TiedStates
 pub mod CallLemmas
 pub mod Removing

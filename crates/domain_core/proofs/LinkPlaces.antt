@@ -1,6 +1,6 @@
 -- The domain's own in its place among its links.
-use Rattle.std.proofs.Common.{◌≡◌, ◌≢◌, ◌≤◌, ◌<◌, ◌+◌, ℕ, suc, Bool, true, false, cond, List, [], ◌∷◌, map, length, Option, Some, None, refl, sym, ap, ◌∙◌, eq-eqb, arith}
-use Rattle.std.specs.Prelude.{Contains, filter, nat_lt, not, position, slice_index_or, ◌==◌}
+use Rattle.std.proofs.Common.{◌≡◌, ◌≢◌, ◌≤◌, ◌<◌, ◌+◌, ℕ, suc, Bool, true, false, cond, List, [], ◌∷◌, map, length, Some, None, refl, ap, ◌∙◌, eq-eqb, arith}
+use Rattle.std.specs.Prelude.{Contains, filter, nat_lt, not, position, ◌==◌}
 use Rattle.std.proofs.lemmas.Bool.{ltb-false, ltb-true, ne_eqb}
 use Rattle.std.specs.List.{AllByRecursion, insert}
 use Rattle.board_model.specs.LinkedBoard.{Differ}

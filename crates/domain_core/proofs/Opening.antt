@@ -1,6 +1,6 @@
 -- A domain at its opening: its peers stand in rising number, and nothing is held, known or owed.
 use Rattle.std.proofs.Common.{◌≡◌, ◌≤◌, ◌<◌, ◌+◌, ◌*◌, ℕ, Bool, true, false, cond, List, [], ◌∷◌, map, length, replicate, Option, Some, None, refl, sym, ap, ◌∙◌, subst, arith}
-use Rattle.std.specs.Prelude.{Contains, find, is_some, nat_lt, option_and_then, option_map, slice_get, sum_by, ◌==◌, ◌&&◌}
+use Rattle.std.specs.Prelude.{Contains, find, is_some, nat_lt, option_and_then, option_map, slice_get, sum_by, ◌==◌}
 use Rattle.std.specs.List.{AllByRecursion}
 use Rattle.std.proofs.lemmas.Bool.{ltb-false, ltb-true, ne_eqb}
 use Rattle.std.proofs.lemmas.List.{get_or-replicate, length-map, length-replicate}
@@ -69,7 +69,7 @@ module _ (sizes : List (ℕ × ℕ)) where
   none-kept false = refl
 
   -- every buffer is away
-  kept-none : (s : Slot) → kept_at (opening_book sizes) s ≡ None
+  pub kept-none : (s : Slot) → kept_at (opening_book sizes) s ≡ None
   kept-none s = ap (λ (o : Option (Option Kept)). option_and_then (λ p. p) o) (place-is s) ∙ go (find (is_of s.peer) sizes)
     where
       go : (o : Option (ℕ × ℕ)) → option_and_then (λ (p : Option Kept). p) (place_on s.buffer (option_map empty_shelf o)) ≡ None

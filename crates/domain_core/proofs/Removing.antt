@@ -15,7 +15,7 @@ use Rattle.board_model.specs.Journal.{tells}
 use Rattle.board_model.specs.Lists.{without}
 use Rattle.board_model.specs.State as state
 use Rattle.board_model.specs.State.{DomainState, Item, address_at, endpoint_at, is_at, queue_at, queue_in}
-use Rattle.board_model.specs.Answer.{local, puts, refusal, unless_refused}
+use Rattle.board_model.specs.Answer.{puts, refusal, unless_refused}
 use Rattle.board_model.specs.Effect.{success_effect, success_returns, without_endpoint}
 use Rattle.board_model.proofs.ListsCounts.{count-append, count-cons}
 use Rattle.buffer_book.specs.Book.{Book, queued_at}

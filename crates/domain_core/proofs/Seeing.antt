@@ -11,14 +11,13 @@ use Rattle.board_model.proofs.MessageLists.{changed_first, changed-position, get
 use Rattle.buffer_book.specs.Book.{Book}
 use Rattle.request_set.specs.Requests.{Requests}
 use Rattle.domain_core.specs.Table.{Held, held_in}
-use Rattle.domain_core.specs.Lane.{IsForEndpoint}
 use Rattle.domain_core.specs.InBook.{held_by, requests_in}
 use Rattle.mc_base.specs.Frame.{destination_of}
 use Rattle.board_model.specs.Dealing.{is_letter, keeps_buffer}
 use Rattle.domain_core.specs.Records.{Records}
 use Rattle.domain_core.specs.declared.dealing.Verdict.{Verdict}
 use Rattle.domain_core.specs.declared.dealing.Verdict.TheVariants as verdict
-use Rattle.domain_core.specs.Dealt.{IsDealt, IsReturned, IsVerdict, fate_of, word_at, held_after}
+use Rattle.domain_core.specs.Dealt.{IsForEndpoint, IsDealt, IsReturned, IsVerdict, fate_of, word_at, held_after}
 use Rattle.domain_core.specs.Announced.{Hears, knowing_with}
 use Rattle.domain_core.specs.Seen.{Holds, holding_now, DealsIn}
 use Rattle.domain_core.proofs.Announcing.{all-known}

@@ -5,7 +5,6 @@ use Rattle.mc_base.specs.declared.fate.Fate.{Fate}
 use Rattle.board_model.specs.Journal.{Line, Taken, taken, taken_line, take_line}
 use Rattle.board_model.specs.Dealing.{keeps_buffer}
 use Rattle.domain_core.specs.Table.{Table, with_held}
-use Rattle.domain_core.specs.Lane.{IsForEndpoint}
 use Rattle.domain_core.specs.LaneMoves.{LaneMove, receiver}
 use Rattle.domain_core.specs.VisitMoves.{giving_back, taking}
 use Rattle.lane_end.specs.ReceiveMoves.{Took}
@@ -18,7 +17,7 @@ use Rattle.domain_core.specs.declared.dealing.Verdict.{Verdict}
 use Rattle.domain_core.specs.Records.{Records}
 use Rattle.domain_core.specs.InBook.{held_by, table_in}
 use Rattle.domain_core.specs.Stores.{Stores}
-use Rattle.domain_core.specs.Dealt.{IsDealt, fate_of, Scene, Deals, Takes, word_at, held_after}
+use Rattle.domain_core.specs.Dealt.{IsForEndpoint, IsDealt, fate_of, Scene, Deals, Takes, word_at, held_after}
 use Rattle.domain_core.proofs.Storing.{Stores-more, Stores-none}
 
 -- a frame whose word and effect are the verdict's

@@ -5,7 +5,7 @@ use Rattle.lane_end.specs.PlainSender.{Sender}
 use Rattle.lane_end.specs.PlainReceiver.{Receiver}
 use Rattle.board_model.specs.Lists.{changed}
 use Rattle.domain_core.specs.declared.ends.Ends.{Ends}
-use Rattle.domain_core.specs.declared.ends.Ends.TheVariants.{Own, Linked}
+use Rattle.domain_core.specs.declared.ends.Ends.TheVariants.{Linked}
 use Rattle.domain_core.specs.declared.peer.Peer.{Peer}
 use Rattle.domain_core.specs.Carrying.{PlainLink, AreJoined, carried, carried_with, leads_to}
 

@@ -9,7 +9,7 @@ use Rattle.mc_base.specs.declared.request.RequestId.{RequestId}
 use Rattle.board_model.specs.Lists.{changed, changed_at}
 use Rattle.board_model.specs.Journal.{Line, Taken, taken, taken_line}
 use Rattle.board_model.specs.State.{Item}
-use Rattle.board_model.specs.Dealing.{row_for, after_frame, item_of, keeps_buffer, queued_last, complete_with}
+use Rattle.board_model.specs.Dealing.{is_letter, row_for, after_frame, item_of, keeps_buffer, queued_last, complete_with}
 use Rattle.board_model.specs.Serial.{word_of}
 use Rattle.domain_core.specs.declared.dealing.Verdict.{Verdict}
 use Rattle.domain_core.specs.declared.dealing.Verdict.TheVariants as verdict
@@ -19,7 +19,6 @@ use Rattle.request_set.specs.Requests.{Requests, IsPending, is_id, request_of}
 use Rattle.domain_core.specs.Table.{Held, Table, keeping, held_in, with_held}
 use Rattle.domain_core.specs.Records.{Records}
 use Rattle.domain_core.specs.InBook.{held_by}
-use Rattle.domain_core.specs.Lane.{IsForEndpoint}
 use Rattle.domain_core.specs.LaneMoves.{LaneMove}
 use Rattle.domain_core.specs.VisitMoves.{taking}
 use Rattle.mc_base.specs.NameMap.{Names}
@@ -33,7 +32,11 @@ word_at peer h frame = word_of (row_for (keeping h) peer frame)
 abbrev pub held_after : ℕ → Held → List ℕ → Held
 held_after peer h frame = held_in (after_frame (keeping h) peer frame)
 
--- a verdict: the buffer is given back, and nothing that is held changes. No announcement comes yet
+-- a frame for an endpoint, and not for the name service
+abbrev pub IsForEndpoint : List ℕ → Type 0
+IsForEndpoint frame = is_letter frame ≡ true
+
+-- a verdict: the buffer is given back. A letter has its word then, and leaves all that is held
 pub record IsReturned (peer : ℕ) (h : Held) (frame : List ℕ) (fate : Fate) : Type 0 where
   pub word : IsForEndpoint frame → word_at peer h frame ≡ fate
   pub leaves : IsForEndpoint frame → held_after peer h frame ≡ h

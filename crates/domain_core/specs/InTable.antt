@@ -1,6 +1,6 @@
 -- What the fields of a table of endpoints stand for, and what they keep.
 -- Source: the code of the table.
-use Rattle.std.specs.Prelude.{◌≡◌, ℕ, ◌+◌, ◌≤◌, List, length, vec_capacity}
+use Rattle.std.specs.Prelude.{◌≡◌, ℕ, ◌+◌, ◌<◌, ◌≤◌, List, [], ◌∷◌, length, vec_capacity}
 use Rattle.std.specs.List.{AllByRecursion}
 use Rattle.message_queue.specs.Queue.{Queue, empty_queue}
 use Rattle.domain_core.specs.declared.endpoints.Endpoint.{Endpoint}
@@ -18,6 +18,11 @@ HaveRoom room es = AllByRecursion (λ e. e.queue.room ≡ room) es
 abbrev pub HaveAddresses : List Endpoint → Type 0
 HaveAddresses es = AllByRecursion (λ e. 1024 ≤ e.address) es
 
+-- each has a lower address than all that follow it
+abbrev pub AreInOrder : List Endpoint → Type 0
+AreInOrder [] = Unit {0}
+AreInOrder (e ∷ es) = AllByRecursion (λ later. e.address < later.address) es × AreInOrder es
+
 -- a queue that no endpoint has yet
 abbrev pub IsSpare : ℕ → Queue → Type 0
 IsSpare room q = q ≡ empty_queue room
@@ -28,5 +33,8 @@ pub record HasQueues (t : Inside) : Type 0 where
   pub spare : AllByRecursion (IsSpare t.room) t.spare.items
   pub records : length t.records.items + length t.spare.items ≡ 64
   pub addresses : HaveAddresses t.records.items
+  pub order : AreInOrder t.records.items
+  -- the address that comes next is above them
+  pub below : AllByRecursion (λ e. e.address < 1024 + t.given) t.records.items
   pub records_room : 64 ≤ vec_capacity t.records
   pub spare_room : 64 ≤ vec_capacity t.spare

@@ -5,7 +5,6 @@ pub mod Ends
 pub mod Written
 pub mod Kept
 pub mod Entry
-pub mod Lane
 pub mod Out
 pub mod VisitMoves
 pub mod Beginning

@@ -2,7 +2,6 @@
 -- Source: docs/PROFILE.md, "Lanes".
 use Rattle.std.specs.Prelude.{ℕ, List}
 use Rattle.lane_end.specs.ReceiverContract.{without}
-use Rattle.lane_end.specs.Loop.{Loop}
 
 -- the lane's size, and the numbers of those buffers
 pub record Out : Type 0 where
@@ -15,7 +14,3 @@ out_of size numbers = record { size = size; numbers = numbers }
 -- one of them is given back
 abbrev pub with_one_back : Out → ℕ → Out
 with_one_back o n = record o { numbers = without n o.numbers }
-
--- those of a lane to oneself
-abbrev pub out_in : Loop → Out
-out_in l = out_of l.size l.out

@@ -1,6 +1,6 @@
 -- The state of a domain, as its parts are seen.
 -- Source: docs/PROFILE.md, "A domain". What the state tells of a lane is what the ends towards the peer tell of it.
-use Rattle.std.specs.Prelude.{ℕ, not, List, [], ◌∷◌, length, map, filter}
+use Rattle.std.specs.Prelude.{ℕ, not, List, [], length, map, filter}
 use Rattle.board_model.specs.State as state
 use Rattle.board_model.specs.State.{DomainState, Announcement}
 use Rattle.buffer_book.specs.Book.{Book}

@@ -5,13 +5,9 @@ use Rattle.std.specs.Prelude.{◌≡◌, ℕ, ◌+◌, ◌-◌, ◌≤◌, min, 
 use Rattle.std.specs.List.{list_all}
 use Rattle.buffer_book.specs.Book.{Book}
 use Rattle.endpoint_table.specs.Table as endpoint_table
-use Rattle.request_set.specs.Requests.{Requests}
-use Rattle.board_model.specs.Journal.{Line, Visit, Taken, turn_line, visit_lines, is_idle, noted, turned}
-use Rattle.board_model.specs.Turn.{turn_limit, IsTurn, AreVisits, after_turn}
+use Rattle.board_model.specs.Journal.{Line, Visit, is_idle, noted, turned}
+use Rattle.board_model.specs.Turn.{turn_limit, IsTurn, after_turn}
 use Rattle.mc_base.specs.NameMap.{Names}
-use Rattle.domain_core.specs.declared.peer.Peer.{Peer}
-use Rattle.domain_core.specs.Table.{Held}
-use Rattle.domain_core.specs.Records.{Records}
 use Rattle.domain_core.specs.Dealt.{Scene}
 use Rattle.domain_core.specs.Seen.{DealsIn}
 use Rattle.domain_core.specs.Stores.{Stores, KeepsQueued, AreStored}
@@ -19,8 +15,8 @@ use Rattle.domain_core.specs.LaneMoves.{LaneMove}
 use Rattle.domain_core.specs.VisitMoves.{visit_moves}
 use Rattle.domain_core.specs.Owed.{owed_frames, paid_times}
 use Rattle.domain_core.specs.Beginning.{told_of, has_begun, told_of_all, has_begun_after}
-use Rattle.domain_core.specs.Peers.{EndsView, state_in}
-use Rattle.domain_core.specs.AllMoved.{AllMoved, ends_of, numbers_of, turn_moves}
+use Rattle.domain_core.specs.Peers.{EndsView}
+use Rattle.domain_core.specs.AllMoved.{AllMoved, turn_moves}
 use Rattle.domain_core.specs.DomainView.{DomainView}
 
 -- how ends towards a peer stand: the sizes of both ways, and how many buffers are free, frames shown, and buffers out

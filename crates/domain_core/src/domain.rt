@@ -24,6 +24,7 @@ use crate::peers::place_of;
 use crate::requests::messages_handed_from;
 use crate::turn::make_turn;
 use buffer_book::BufferBook;
+pub use buffer_book::Places;
 use endpoint_table::EndpointTable;
 use lane_end::{RecvEnd, SendEnd};
 use mc_base::{Done, EndName, Got, Local, Priority, Refusal, RequestId};
@@ -36,13 +37,6 @@ pub const CALL_ENTRIES: u32 = 160;
 
 /// The room that a call needs in the journal: for so many bytes in its entries.
 pub const CALL_BYTES: u32 = 67_584;
-
-/// How many buffers of the lane from a peer stand in queues, and how many are lent.
-#[derive(Clone, Copy, Debug, PartialEq, Eq)]
-pub struct Places {
-    pub queue: u32,
-    pub lent: u32,
-}
 
 /// A domain over its own lane and its links.
 ///
@@ -238,7 +232,8 @@ impl<S: SendEnd, R: RecvEnd> Domain<S, R> {
         place_of(&self.peers, number).is_some()
     }
 
-    /// Where the buffers of the lane from a peer are held, or `None` where there is no such lane.
+    /// How many buffers of the lane from a peer stand in queues, and how many are lent, or `None` where there is no such lane.
+    /// A message that a complete request holds counts as lent.
     pub fn places(&self, peer: u8) -> Option<Places>
         ensures none { IsNone result ↔ (Contains (map (λ p. p.number) self.now.state.peers) peer → ⊥) }
         ensures queue { IfSome result (λ p. p.queue ≡ queued_from peer self.now.state) }

@@ -1,7 +1,8 @@
 //! The endpoints of a domain and their queues.
 
-ghost use Rattle.std.specs.Prelude.{◌≡◌, ◌≤◌, ◌<◌, ◌+◌, [], ℕ, false, IfOk, IfSome, IsNone, ◌^◌, ◌==◌, ◌&&◌, length, sum_by, is_some, nat_le, position, slice_get, Some, option_map, vec_capacity};
+ghost use Rattle.std.specs.Prelude.{◌≡◌, ◌≤◌, ◌<◌, ◌+◌, [], false, IfOk, IfSome, IsNone, ◌^◌, ◌==◌, filter, length, map, sum_by, is_some, position, slice_get, Some, option_map, vec_capacity};
 ghost use Rattle.std.specs.List.{AllByRecursion};
+ghost use Rattle.std.specs.Ordering.{nat_cmp};
 ghost use Rattle.board_model.specs.State.{address_at, endpoint_at, place_at, place_of_address};
 ghost use Rattle.board_model.specs.Answer.{has_channel};
 ghost use Rattle.board_model.specs.Choice.{best, oldest};
@@ -10,8 +11,10 @@ ghost use Rattle.message_queue.specs.Queue.{waiting};
 ghost use Rattle.domain_core.specs.Table.{holding};
 ghost use Rattle.domain_core.specs.Records.{all_waiting, opening_records, waiting_in, with_best_taken_at, with_oldest_taken_at, with_record, with_waiting_at, without_record_at};
 ghost use Rattle.domain_core.specs.InBook.{endpoints_in};
-ghost use Rattle.domain_core.specs.InTable.{IsSpare};
+ghost use Rattle.domain_core.specs.InTable.{AreInOrder, IsSpare};
+ghost use Rattle.domain_core.specs.Tied.{live_record};
 
+use endpoint_table::EndpointTable;
 use mc_base::{FIRST_ADDRESS, Local, MAX_ENDPOINTS, NoMemory, Priority, Slot};
 use message_queue::MessageQueue;
 use std::alloc::Global;
@@ -71,23 +74,26 @@ impl Endpoints {
         self.number
     }
 
-    /// The place of the endpoint of this name.
-    pub fn place_at(&self, at: Local) -> Option<usize>
+    /// The place of the endpoint of this name, by the table that has the addresses of the names.
+    pub fn place_at(&self, table: &EndpointTable, at: Local) -> Option<usize>
+        requires live { filter (λ x. x.live) table.now.records ≡ map live_record self.now.endpoints }
         ensures place { (b : Book) → result ≡ place_at (holding (endpoints_in b self.now.endpoints)) at }
         ensures within { IfSome result (λ i. i < length self.now.endpoints) }
         ensures channel { (b : Book) → has_channel (endpoint_at (holding (endpoints_in b self.now.endpoints)) at) ≡ false }
     {
-        place_of_name(&self.records, at)
+        let address = table.find(at)?;
+        place_with_address(&self.records, address)
     }
 
     /// The address of the endpoint of this name.
-    pub fn address_at(&self, at: Local) -> Option<u32>
+    pub fn address_at(&self, table: &EndpointTable, at: Local) -> Option<u32>
+        requires live { filter (λ x. x.live) table.now.records ≡ map live_record self.now.endpoints }
         ensures address { (b : Book) → result ≡ address_at (holding (endpoints_in b self.now.endpoints)) at }
         ensures live { (b : Book) → is_some result ≡ is_some (place_at (holding (endpoints_in b self.now.endpoints)) at) }
         ensures range { IfSome result (λ a. 1024 ≤ a) }
         ensures channel { (b : Book) → has_channel (endpoint_at (holding (endpoints_in b self.now.endpoints)) at) ≡ false }
     {
-        let place = self.place_at(at)?;
+        let place = self.place_at(table, at)?;
         Some(self.records[place].address)
     }
 
@@ -97,20 +103,6 @@ impl Endpoints {
         ensures within { IfSome result (λ i. i < length self.now.endpoints) }
     {
         place_with_address(&self.records, address)
-    }
-
-    /// Whether all records are in use.
-    pub fn is_full(&self) -> bool
-        ensures { result ≡ nat_le 64 (length self.now.endpoints) }
-    {
-        self.spare.is_empty()
-    }
-
-    /// How many endpoints were made.
-    pub fn given(&self) -> u32
-        ensures { result ≡ self.now.given }
-    {
-        self.given
     }
 
     /// Makes an endpoint, and answers its address.
@@ -199,20 +191,21 @@ impl Endpoints {
     }
 }
 
-fn place_of_name(records: &[Endpoint], at: Local) -> Option<usize>
-    ensures place { result ≡ position (λ e. (e.local.node == at.node) && (e.local.port == at.port)) records.now }
-    ensures within { IfSome result (λ i. i < length records.now) }
-{
-    records
-        .iter()
-        .position(|e| e.local.node == at.node && e.local.port == at.port)
-}
-
+/// The place of the endpoint with an address, by binary search.
 fn place_with_address(records: &[Endpoint], address: u32) -> Option<usize>
+    requires { AreInOrder records.now }
     ensures place { result ≡ position (λ e. e.address == address) records.now }
     ensures within { IfSome result (λ i. i < length records.now) }
 {
-    records.iter().position(|e| e.address == address)
+    let found = records.binary_search_by(
+        |e|
+            ensures { result ≡ nat_cmp e.now.address address }
+        { e.address.cmp(&address) },
+    );
+    match found {
+        Ok(place) => Some(place),
+        Err(_) => None,
+    }
 }
 
 fn count_waiting(records: &[Endpoint]) -> usize

@@ -35,4 +35,4 @@ pub use journal::{Answer, Entry, Journal, Told};
 pub use link::Link;
 pub use peer::Peer;
 pub use peer_lane::PeerLane;
-pub use threads::may_cross_threads;
+pub use threads::{domain_may_cross_threads, may_cross_threads};

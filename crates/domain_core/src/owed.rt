@@ -61,12 +61,12 @@ fn put_oldest<P: PeerLane>(
     ensures entry_room { journal.old.entry_room ≤ journal.new.entry_room + room_for begun }
     ensures byte_room { journal.old.byte_room ≤ journal.new.byte_room + 512 }
 {
-    let Some(ns) = table.owed(peer) else {
-        return false;
-    };
     if lane.free_len() == 0 {
         return false;
     }
+    let Some(ns) = table.owed(peer) else {
+        return false;
+    };
     begin_turn(journal, begun);
     let mut out = [0; BUFFER_SIZE];
     let len = announce(&ns, &mut out);

@@ -25,7 +25,7 @@ pub enum Waiters {
 
 impl Waiters {
     /// Whether a request is one of them and pending.
-    fn have(self, ask: Ask, complete: Option<Complete>) -> bool
+    fn include(self, ask: Ask, complete: Option<Complete>) -> bool
         ensures { result ≡ (is_none complete && is_among self ask) }
     {
         complete.is_none() && self.asks(ask)
@@ -71,7 +71,7 @@ pub fn complete_all(requests: &mut RequestSet, who: Waiters, how: Complete)
         let Some((id, ask, complete)) = requests.listed(at) else {
             break;
         };
-        if who.have(ask, complete) {
+        if who.include(ask, complete) {
             requests.complete(id, how);
         }
     }

@@ -36,7 +36,7 @@ impl<S: SendEnd, R: RecvEnd> Domain<S, R> {
     pub(crate) fn remove_endpoint(&mut self, at: Local) -> Result<u32, Refusal>
         ensures { Does (EndsMoved S.Moved R.Moved) at.node (delete_at at.port) self.old self.new (deleted result) None }
     {
-        let Some(place) = self.endpoints.place_at(at) else {
+        let Some(place) = self.endpoints.place_at(&self.table, at) else {
             return Err(Refusal::EndpInvalid);
         };
         self.table.delete(at)?;

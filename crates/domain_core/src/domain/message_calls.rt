@@ -31,7 +31,7 @@ impl<S: SendEnd, R: RecvEnd> Domain<S, R> {
         ensures does { Does (EndsMoved S.Moved R.Moved) from.node (send_from from.port to priority bytes.now) self.old self.new (sent result) None }
         ensures told { journal.new.lines ≡ noted_all journal.old.lines (map put_entry (puts self.old.state from.node (send_from from.port to priority bytes.now))) }
     {
-        let Some(source) = self.endpoints.address_at(from) else {
+        let Some(source) = self.endpoints.address_at(&self.table, from) else {
             return Err(Refusal::EndpInvalid);
         };
         let Some(destination) = self.address_of(to) else {
@@ -62,10 +62,11 @@ impl<S: SendEnd, R: RecvEnd> Domain<S, R> {
         ensures { result ≡ address_of self.now.state name }
     {
         if name.domain == self.endpoints.number() {
-            return self.endpoints.address_at(Local {
+            let at = Local {
                 node: name.node,
                 port: name.port,
-            });
+            };
+            return self.endpoints.address_at(&self.table, at);
         }
         let place = place_of(&self.peers, name.domain)?;
         self.peers[place].known.find(name)
@@ -78,7 +79,7 @@ impl<S: SendEnd, R: RecvEnd> Domain<S, R> {
         ensures rest { IfOk result (λ got. drop got.given out.new ≡ drop got.given out.old) }
         ensures refused { OnErr result (out.new ≡ out.old) }
     {
-        let Some(place) = self.endpoints.place_at(at) else {
+        let Some(place) = self.endpoints.place_at(&self.table, at) else {
             return Err(Refusal::EndpInvalid);
         };
         let Some((slot, _)) = self.endpoints.take_best(place) else {
@@ -92,7 +93,7 @@ impl<S: SendEnd, R: RecvEnd> Domain<S, R> {
     pub(crate) fn count_messages(&self, at: Local) -> Result<u32, Refusal>
         ensures { Does (EndsMoved S.Moved R.Moved) at.node (available_at at.port) self.now self.now (available result) None }
     {
-        let Some(place) = self.endpoints.place_at(at) else {
+        let Some(place) = self.endpoints.place_at(&self.table, at) else {
             return Err(Refusal::EndpInvalid);
         };
         Ok(self.endpoints.queued_at(place))

@@ -1,8 +1,10 @@
 //! How a domain begins and ends.
 
-ghost use Rattle.std.specs.Prelude.{◌≡◌, ◌≤◌, [], IfOk, IfSome};
+ghost use Rattle.std.specs.Prelude.{◌≡◌, ◌≤◌, [], IfOk, IfSome, None};
 ghost use Rattle.std.specs.List.{AllByRecursion};
+ghost use Rattle.mc_base.specs.declared.request.Slot.{Slot};
 ghost use Rattle.board_model.specs.State.{opening};
+ghost use Rattle.buffer_book.specs.Book.{kept_at};
 ghost use Rattle.domain_core.specs.Carrying.{AreLinked, link_to, with_carried};
 ghost use Rattle.domain_core.specs.Opening.{IsOpenLink, AreLinksOf, neighbours_opened, ends_opened, links_in};
 ghost use Rattle.lane_end.specs.Loop.{new_loop};
@@ -42,6 +44,7 @@ impl<S: SendEnd + Drop, R: RecvEnd + Drop> Domain<S, R> {
         ensures state { IfOk result (λ d. d.state ≡ opening number nodes (neighbours_opened number pool links.items)) }
         ensures ends { IfOk result (λ d. d.ends ≡ ends_opened number (new_loop pool) links.items) }
         ensures ids { IfOk result (λ d. d.ids ≡ []) }
+        ensures book { IfOk result (λ d. (s : Slot) → kept_at d.book s ≡ None) }
     {
         let linked = numbers_of(alloc, &links)?;
         let sizes = sizes_of(alloc, number, pool, &links)?;

@@ -1,6 +1,6 @@
 //! The calls that begin and end requests, after their turns.
 
-ghost use Rattle.std.specs.Prelude.{◌≡◌, ◌≤◌, IfOk, OnErr, None, length, drop, map};
+ghost use Rattle.std.specs.Prelude.{◌≡◌, ◌≤◌, IfOk, OnErr, None, length};
 ghost use Rattle.board_model.specs.DomainCall.{lookup_of, request_at, test_of, cancel_of};
 ghost use Rattle.domain_core.specs.Ends.{EndsMoved};
 ghost use Rattle.domain_core.specs.DomainView.{place_of_id};
@@ -33,7 +33,7 @@ impl<S: SendEnd, R: RecvEnd> Domain<S, R> {
     pub(crate) fn begin_receive(&mut self, at: Local, max: u32) -> Result<RequestId, Refusal>
         ensures { Does (EndsMoved S.Moved R.Moved) at.node (request_at at.port max) self.old self.new (requested result) (given result) }
     {
-        let Some(place) = self.endpoints.place_at(at) else {
+        let Some(place) = self.endpoints.place_at(&self.table, at) else {
             return Err(Refusal::EndpInvalid);
         };
         let Ok(id) = self.requests.add(Ask::Message(at, max)) else {

@@ -2,7 +2,7 @@ use Rattle.std.proofs.Common.{◌∙◌, List, ap, sym, arith}
 use Rattle.request_set.specs.Requests.{Standing}
 use Rattle.domain_core.specs.InRequests.{completed_with}
 use Rattle.domain_core.proofs.Completing.{all-so_far, next-done, next-stays, none-more}
-use Rattle.domain_core.proofs.requests.complete_all.Goals.{then-have, else-have}
+use Rattle.domain_core.proofs.requests.complete_all.Goals.{then-include, else-include}
 use Rattle.domain_core.proofs.requests.complete_all.Goals as goal
 
 pub loop-at-preserved : goal.loop-at-preserved
@@ -11,9 +11,9 @@ loop-at-preserved c =
     let who = c.args.who in
     let how = c.args.how in
     let now = c.loop-at.requests in
-    elim c.if-have.branch [
-      | then-have w ↦ record { so = w.requests-is ∙ next-done q who how c.requires c.loop-at.at now c.in-Some.id c.in-Some.ask c.in-Some.complete c.loop-at.invariant.so c.in-Some.ensures.place (sym c.have.ensures ∙ w.if-have.true) w.complete.new.self w.complete.ensures }
-      | else-have w ↦ record { so = w.requests-is ∙ next-stays q who how c.requires c.loop-at.at now c.in-Some.id c.in-Some.ask c.in-Some.complete c.loop-at.invariant.so c.in-Some.ensures.place (sym c.have.ensures ∙ w.if-have.false) }
+    elim c.if-include.branch [
+      | then-include w ↦ record { so = w.requests-is ∙ next-done q who how c.requires c.loop-at.at now c.in-Some.id c.in-Some.ask c.in-Some.complete c.loop-at.invariant.so c.in-Some.ensures.place (sym c.include.ensures ∙ w.if-include.true) w.complete.new.self w.complete.ensures }
+      | else-include w ↦ record { so = w.requests-is ∙ next-stays q who how c.requires c.loop-at.at now c.in-Some.id c.in-Some.ask c.in-Some.complete c.loop-at.invariant.so c.in-Some.ensures.place (sym c.include.ensures ∙ w.if-include.false) }
     ]
 
 pub returns-after-loop-at : goal.returns-after-loop-at

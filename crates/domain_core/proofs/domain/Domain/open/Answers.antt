@@ -1,11 +1,11 @@
 use Rattle.std.proofs.Common.{◌<◌, ◌∙◌, ℕ, List, map, ap, sym, subst}
 use Rattle.std.specs.Prelude.{sum_by}
-use Rattle.buffer_book.specs.Book.{AllDiffer, opening_book}
+use Rattle.buffer_book.specs.Book.{AllDiffer, Book, kept_at, opening_book}
 use Rattle.endpoint_table.specs.Table.{opening_table}
 use Rattle.domain_core.specs.AllMoved.{ends_of}
 use Rattle.domain_core.specs.Opened.{sizes_opened}
 use Rattle.domain_core.specs.Records.{opening_records}
-use Rattle.domain_core.proofs.Opening.{ends-opening, parts-sound, parts-state, room-fits, sizes-apart}
+use Rattle.domain_core.proofs.Opening.{ends-opening, kept-none, parts-sound, parts-state, room-fits, sizes-apart}
 use Rattle.domain_core.proofs.domain.Domain.open.Goals as goal
 
 pub buffers_in-requires : goal.buffers_in-requires
@@ -49,3 +49,6 @@ pub returns-clause-ends : goal.returns-clause-ends
 returns-clause-ends g c =
     ap ends_of c.in_ok-peers_of.ensures
     ∙ ends-opening g.S.SendEnd.size g.S.SendEnd.free g.R.RecvEnd.size g.R.RecvEnd.shown g.R.RecvEnd.out c.args.number c.args.nodes c.args.pool c.args.links.items c.requires.number c.requires.pool c.requires.peers c.requires.open
+
+pub returns-clause-book : goal.returns-clause-book
+returns-clause-book g c = λ s. ap (λ (b : Book). kept_at b s) c.in_ok-new-2.ensures ∙ kept-none _ s

@@ -1,9 +1,11 @@
-use Rattle.std.proofs.Common.{rules, ◌≡◌, ◌≤◌, ◌+◌, ◌++◌, ◌∷◌, [], List, length, arith, ap, ◌∙◌}
+use Rattle.std.proofs.Common.{rules, ◌≡◌, ◌<◌, ◌≤◌, ◌+◌, ◌++◌, ◌∷◌, [], List, length, arith, ap, ◌∙◌}
 use Rattle.std.proofs.lemmas.List.{length_push}
+use Rattle.endpoint_table.proofs.RecordLemmas.{all-weaken}
 use Rattle.message_queue.specs.Queue.{Queue}
 use Rattle.domain_core.specs.declared.endpoints.Endpoint.{Endpoint}
 use Rattle.domain_core.specs.Records.{Records, new_record, with_record}
 use Rattle.domain_core.specs.InTable.{IsSpare, records_of}
+use Rattle.domain_core.proofs.Addresses.{order-push}
 use Rattle.domain_core.proofs.Tables.{All-front, All-push}
 use Rattle.domain_core.proofs.endpoints.Endpoints.add.Goals as goal
 
@@ -30,6 +32,8 @@ invariant_of-self c =
       spare = split.0;
       records = omega (arith, i.records, ap length (pushed c), length_push es (made c), ap length (popped c), length_push c.pop.new.self.items c.unwrap-queue.result);
       addresses = rw (pushed c) (All-push (λ (e : Endpoint). 1024 ≤ e.address) es (made c) i.addresses fresh);
+      order = rw (pushed c) (order-push es (made c) i.order i.below);
+      below = rw (pushed c) (All-push (λ (e : Endpoint). e.address < 1024 + (c.self.inside.given + 1)) es (made c) (all-weaken (λ (e : Endpoint). e.address < 1024 + c.self.inside.given) (λ (e : Endpoint). e.address < 1024 + (c.self.inside.given + 1)) (λ e lt. omega (arith, lt)) es i.below) (omega arith));
       records_room = search rules;
       spare_room = search rules;
     }

@@ -1,19 +1,38 @@
-use Rattle.std.proofs.Common.{◌∙◌, ap}
-use Rattle.board_model.specs.State.{is_at, place_at, endpoint_at}
-use Rattle.board_model.specs.Answer.{has_channel}
+use Rattle.std.proofs.Common.{◌∙◌, ap, map, sym}
+use Rattle.board_model.specs.State.{place_at}
 use Rattle.domain_core.specs.Table.{holding}
 use Rattle.domain_core.specs.Records.{Records}
-use Rattle.domain_core.specs.InBook.{endpoint_in, endpoints_in}
-use Rattle.domain_core.proofs.Tables.{position-map, channels-none}
+use Rattle.domain_core.specs.InBook.{endpoints_in}
+use Rattle.domain_core.specs.Tied.{live_record}
+use Rattle.domain_core.proofs.Addresses.{named, unnamed}
+use Rattle.domain_core.proofs.Tables.{channels-none}
+use Rattle.domain_core.proofs.Tying.{place-is}
 use Rattle.domain_core.proofs.endpoints.Endpoints.place_at.Goals as goal
+
+-- ---- no endpoint has the name
+
+pub returns-in_err-address-clause-place : goal.returns-in_err-address-clause-place
+returns-in_err-address-clause-place c = λ b.
+    let es = c.args.self.now.endpoints in
+    c.from_residual.ensures ∙ sym (place-is b es c.args.at ∙ unnamed c.args.table.now.records es c.args.at c.requires.live c.in_err-address.ensures)
+
+pub returns-in_err-address-clause-channel : goal.returns-in_err-address-clause-channel
+returns-in_err-address-clause-channel c = λ b.
+    let es = c.args.self.now.endpoints in
+    channels-none b es (place_at (holding (endpoints_in b es)) c.args.at)
+
+-- ---- one has it
 
 pub returns-clause-place : goal.returns-clause-place
 returns-clause-place c = λ b.
-    c.place_of_name.ensures.place
-    ∙ rw c.deref.ensures.value (position-map (endpoint_in b) (is_at c.args.at) c.self.inside.records.items)
-    ∙ ap (λ (r : Records). place_at (holding (endpoints_in b r.endpoints)) c.args.at) c.self.view_is
+    let es = c.self.inside.records.items in
+    let at = c.args.at in
+    let live = c.requires.live ∙ sym (ap (λ (r : Records). map live_record r.endpoints) c.self.view_is) in
+    c.place_with_address.ensures.place
+    ∙ rw c.deref.ensures.value (named c.args.table.now.records es at c.in_ok-address.address live c.self.invariant.order c.in_ok-address.ensures ∙ sym (place-is b es at))
+    ∙ ap (λ (r : Records). place_at (holding (endpoints_in b r.endpoints)) at) c.self.view_is
 
 pub returns-clause-channel : goal.returns-clause-channel
 returns-clause-channel c = λ b.
-    let own = endpoints_in b c.self.inside.records.items in
-    rw (ap (λ (r : Records). has_channel (endpoint_at (holding (endpoints_in b r.endpoints)) c.args.at)) c.self.view_is) at (channels-none b c.self.inside.records.items (place_at (holding own) c.args.at))
+    let es = c.args.self.now.endpoints in
+    channels-none b es (place_at (holding (endpoints_in b es)) c.args.at)

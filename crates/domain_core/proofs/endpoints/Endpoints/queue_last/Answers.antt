@@ -1,10 +1,31 @@
-use Rattle.std.proofs.Common.{◌<◌, ◌∙◌, List, ap, arith, length}
+use Rattle.std.proofs.Common.{refl, rules, ◌<◌, ◌∙◌, List, ap, arith, length, ◌≡◌, ◌≤◌, ◌+◌}
 use Rattle.message_queue.specs.Queue.{Queue, waiting}
 use Rattle.domain_core.specs.declared.endpoints.Endpoint.{Endpoint}
 use Rattle.domain_core.specs.Records.{Records, all_waiting, with_waiting, with_waiting_at}
 use Rattle.domain_core.specs.InTable.{records_of}
+use Rattle.domain_core.proofs.Addresses.{all-written, order-written}
 use Rattle.domain_core.proofs.Tables.{changed-set, queue-within, room-at}
 use Rattle.domain_core.proofs.endpoints.Endpoints.queue_last.Goals as goal
+
+-- its address stays
+pub invariant_of-self : goal.invariant_of-self
+invariant_of-self c =
+    let i = c.self.invariant in
+    let es = c.self.inside.records.items in
+    let e = c.index_mut-endpoint.result.now in
+    let d : Endpoint = record { local = e.local; address = e.address; queue = c.push.new.self } in
+    let lt : c.args.place < length es = omega (arith, c.requires.within, ap (λ (r : Records). length r.endpoints) c.self.view_is) in
+    let read = c.index_mut-endpoint.ensures.value in
+    record {
+      rooms = all-written (λ (x : Endpoint). x.queue.room ≡ c.self.inside.room) es c.args.place e d lt read (λ same. ap (λ (q : Queue). q.room) c.push.ensures.last ∙ same) i.rooms;
+      spare = i.spare;
+      records = search rules;
+      addresses = all-written (λ (x : Endpoint). 1024 ≤ x.address) es c.args.place e d lt read (λ same. same) i.addresses;
+      order = order-written es c.args.place e d lt read refl i.order;
+      below = all-written (λ (x : Endpoint). x.address < 1024 + c.self.inside.given) es c.args.place e d lt read (λ same. same) i.below;
+      records_room = search rules;
+      spare_room = i.spare_room;
+    }
 
 pub push-requires : goal.push-requires
 push-requires c =

@@ -1,10 +1,33 @@
-use Rattle.std.proofs.Common.{◌<◌, ◌∙◌, List, ap, arith, length}
-use Rattle.message_queue.specs.Queue.{Queue}
+use Rattle.std.proofs.Common.{refl, rules, ◌<◌, ◌∙◌, List, ap, arith, length, ◌≡◌, sym, ◌≤◌, ◌+◌}
+use Rattle.std.specs.Prelude.{Option, option_map, slice_get}
+use Rattle.board_model.specs.Choice.{oldest}
+use Rattle.message_queue.specs.Queue.{Queue, Waiting}
 use Rattle.domain_core.specs.declared.endpoints.Endpoint.{Endpoint}
-use Rattle.domain_core.specs.Records.{Records, with_oldest_taken, with_oldest_taken_at}
+use Rattle.domain_core.specs.Records.{Records, waiting_in, with_oldest_taken, with_oldest_taken_at}
 use Rattle.domain_core.specs.InTable.{records_of}
-use Rattle.domain_core.proofs.Tables.{changed-set}
+use Rattle.domain_core.proofs.Addresses.{all-written, order-written}
+use Rattle.domain_core.proofs.Tables.{changed-set, slice_get-read}
 use Rattle.domain_core.proofs.endpoints.Endpoints.take_oldest.Goals as goal
+
+-- its address stays
+pub invariant_of-self : goal.invariant_of-self
+invariant_of-self c =
+    let i = c.self.invariant in
+    let es = c.self.inside.records.items in
+    let e = c.index_mut-endpoint.result.now in
+    let d : Endpoint = record { local = e.local; address = e.address; queue = c.pop_oldest.new.self } in
+    let lt : c.args.place < length es = omega (arith, c.requires.within, ap (λ (r : Records). length r.endpoints) c.self.view_is) in
+    let read = c.index_mut-endpoint.ensures.value in
+    record {
+      rooms = all-written (λ (x : Endpoint). x.queue.room ≡ c.self.inside.room) es c.args.place e d lt read (λ same. ap (λ (q : Queue). q.room) c.pop_oldest.ensures.rest ∙ same) i.rooms;
+      spare = i.spare;
+      records = search rules;
+      addresses = all-written (λ (x : Endpoint). 1024 ≤ x.address) es c.args.place e d lt read (λ same. same) i.addresses;
+      order = order-written es c.args.place e d lt read refl i.order;
+      below = all-written (λ (x : Endpoint). x.address < 1024 + c.self.inside.given) es c.args.place e d lt read (λ same. same) i.below;
+      records_room = search rules;
+      spare_room = i.spare_room;
+    }
 
 pub returns-clause-rest : goal.returns-clause-rest
 returns-clause-rest c =
@@ -15,3 +38,11 @@ returns-clause-rest c =
     let less = changed-set with_oldest_taken es c.args.place e d lt c.index_mut-endpoint.ensures.value (ap (λ (q : Queue). record e { queue = q }) c.pop_oldest.ensures.rest) in
     ap (λ (xs : List Endpoint). record (records_of c.self.inside) { endpoints = xs }) less
     ∙ ap (λ (r : Records). with_oldest_taken_at r c.args.place) c.self.view_is
+
+pub returns-clause-oldest : goal.returns-clause-oldest
+returns-clause-oldest c =
+    let es = c.self.inside.records.items in
+    let e = c.index_mut-endpoint.result.now in
+    let lt : c.args.place < length es = omega (arith, c.requires.within, ap (λ (r : Records). length r.endpoints) c.self.view_is) in
+    let there : e.queue.waiting ≡ waiting_in (slice_get c.args.self.now.endpoints c.args.place) = sym (ap (λ (o : Option Endpoint). waiting_in o) (slice_get-read es c.args.place e lt c.index_mut-endpoint.ensures.value)) ∙ ap (λ (r : Records). waiting_in (slice_get r.endpoints c.args.place)) c.self.view_is in
+    c.pop_oldest.ensures.oldest ∙ ap (λ (ws : List Waiting). option_map (λ (w : Waiting). w.slot) (oldest ws)) there
