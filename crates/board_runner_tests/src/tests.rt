@@ -192,7 +192,9 @@ fn a_run_leaves_its_numbers(rt: HostRuntime) -> Result<(), Fail> {
     assert_eq!(rt; outcome.channels.as_slice().len(), 0);
     assert_eq!(rt; outcome.places.as_slice().len(), 4);
     for (lane, due) in outcome.places.as_slice().iter().zip(&PLACES) {
-        let told = (lane.from, lane.to, lane.free, lane.ring, lane.queue, lane.lent);
+        let told = (
+            lane.from, lane.to, lane.free, lane.ring, lane.queue, lane.lent,
+        );
         assert_eq!(rt; told, *due);
     }
     Ok(())
