@@ -38,6 +38,7 @@ pub mod ReportLemmas
 pub mod ScriptLemmas
 pub mod SumLemmas
 pub mod TallyLemmas
+pub mod ToldDomains
 pub mod TrafficLemmas
 pub mod TwoPlaces
 pub mod HoldingLemmas

@@ -12,3 +12,4 @@ pub mod Lanes
 pub mod Outcome
 pub mod Stations
 pub mod Tallied
+pub mod Told

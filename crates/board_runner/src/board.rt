@@ -1,8 +1,8 @@
 //! A board by the lines of its scenario: its domains in rising number, and the lanes between them.
 
 ghost use Rattle.std.specs.Prelude.{◌≡◌, find, ◌==◌};
-ghost use Rattle.board_model.specs.Language.{IsLawfulBoard};
 ghost use Rattle.board_runner.specs.Lanes.{numbers_of, line_of_domain, links, buffers_between as buffers_of_lane};
+ghost use Rattle.board_runner.specs.Told.{IsToldByText};
 
 use arrayvec::ArrayVec;
 use board_model::{DomainLine, LinkLine, Scenario};
@@ -10,7 +10,7 @@ use mc_base::MAX_DOMAINS;
 
 /// The numbers of the domains, which rise.
 pub fn rising_numbers(scenario: &Scenario) -> ArrayVec<u8, 8>
-    requires { IsLawfulBoard scenario.now }
+    requires { IsToldByText scenario.now }
     ensures { result.items ≡ numbers_of scenario.now }
 {
     let mut numbers = ArrayVec::new();

@@ -7,9 +7,9 @@ ghost use Rattle.outer_io.specs.Writes.{Writes};
 ghost use Rattle.outer_io.specs.Puts.{Puts};
 ghost use Rattle.board_model.specs.Scenario.{rising};
 ghost use Rattle.board_model.specs.Grammar.{line_of};
-ghost use Rattle.board_model.specs.Language.{IsLawfulBoard};
 ghost use Rattle.board_model.specs.Report.{report_of, journals_text, lines_text, messages_text, places_text};
 ghost use Rattle.board_runner.specs.Outcome.{lines_in};
+ghost use Rattle.board_runner.specs.Told.{IsToldByText};
 
 mod entry;
 mod words;
@@ -24,14 +24,15 @@ use scenario_lang::put_scenario;
 pub use words::{fault_word, reason_word};
 
 /// Writes the report: the scenario, the journal of each domain, and what became of messages and buffers. It goes to the
-/// sink piece by piece and takes no memory. The outcome has one journal for each domain of the scenario, in rising number.
+/// sink piece by piece and takes no memory. Some text tells the scenario, of whatever length, and the outcome has one journal
+/// for each of its domains, in rising number.
 /// `Failed` comes where a write failed; a proper prefix of the report was written then.
 pub fn write_report<K: Sink>(
     scenario: &Scenario,
     outcome: &Outcome,
     sink: &mut K,
 ) -> Result<(), Failed>
-    requires lawful { IsLawfulBoard scenario.now }
+    requires told { IsToldByText scenario.now }
     requires one_each { length outcome.now.journals ≡ length scenario.now.domains }
     ensures bytes { Writes (K.written sink.old) (K.written sink.new) result (report_of scenario.now (lines_in outcome.now.journals) outcome.now.messages outcome.now.places) }
     ensures cause { HasCause (K.faults sink.old) (K.faults sink.new) result }
@@ -43,7 +44,7 @@ pub fn write_report<K: Sink>(
 }
 
 fn put_report<K: Sink>(out: &mut Writer<'_, K>, scenario: &Scenario, outcome: &Outcome)
-    requires lawful { IsLawfulBoard scenario.now }
+    requires told { IsToldByText scenario.now }
     requires one_each { length outcome.now.journals ≡ length scenario.now.domains }
     ensures { Puts K.Sink out.old out.new (report_of scenario.now (lines_in outcome.now.journals) outcome.now.messages outcome.now.places) }
 {
@@ -57,7 +58,7 @@ fn put_report<K: Sink>(out: &mut Writer<'_, K>, scenario: &Scenario, outcome: &O
 
 /// The journals of the domains in rising number.
 fn put_journals<K: Sink>(out: &mut Writer<'_, K>, scenario: &Scenario, journals: &[Journal])
-    requires lawful { IsLawfulBoard scenario.now }
+    requires told { IsToldByText scenario.now }
     requires one_each { length journals.now ≡ length scenario.now.domains }
     ensures { Puts K.Sink out.old out.new (journals_text (rising scenario.now) (lines_in journals.now)) }
 {

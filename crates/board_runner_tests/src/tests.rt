@@ -1,5 +1,5 @@
 ghost use Rattle.std.specs.Prelude.{◌≡◌, length};
-ghost use Rattle.board_model.specs.Language.{IsLawfulBoard};
+ghost use Rattle.board_runner.specs.Told.{IsToldByText};
 
 use board_model::{LanePlaces, Scenario, Seq, Totals};
 use board_runner::{Outcome, run_serial, write_report};
@@ -103,7 +103,7 @@ fn outcome(alloc: Global) -> Option<Outcome> {
 
 /// Writes the report of the board of `TEXT`.
 fn write(scenario: &Scenario, outcome: &Outcome, sink: &mut MemSink) -> Option<Result<(), Failed>>
-    requires lawful { IsLawfulBoard scenario.now }
+    requires told { IsToldByText scenario.now }
 {
     if outcome.journals.as_slice().len() != scenario.domains.as_slice().len() {
         return None;
@@ -192,7 +192,9 @@ fn a_run_leaves_its_numbers(rt: HostRuntime) -> Result<(), Fail> {
     assert_eq!(rt; outcome.channels.as_slice().len(), 0);
     assert_eq!(rt; outcome.places.as_slice().len(), 4);
     for (lane, due) in outcome.places.as_slice().iter().zip(&PLACES) {
-        let told = (lane.from, lane.to, lane.free, lane.ring, lane.queue, lane.lent);
+        let told = (
+            lane.from, lane.to, lane.free, lane.ring, lane.queue, lane.lent,
+        );
         assert_eq!(rt; told, *due);
     }
     Ok(())

@@ -1,7 +1,7 @@
 use Rattle.std.proofs.Common.{◌≡◌, ◌++◌, ◌∷◌, [], cond, Bool, sym, ap, ◌∙◌, arith, length, append-nil}
 use Rattle.arrayvec.specs.ArrayVec.{array_vec_len, ArrayVec}
-use Rattle.board_model.proofs.LawfulBoards.{lawful_is_linked}
 use Rattle.board_runner.proofs.BoardLemmas.{numbers_below, numbers-first, numbers-next, numbers-all}
+use Rattle.board_runner.proofs.ToldDomains.{domains_alone, told-domains}
 use Rattle.board_runner.proofs.board.rising_numbers.Goals.{then-is_some, else-is_some}
 use Rattle.board_runner.proofs.board.rising_numbers.Goals as goal
 
@@ -16,7 +16,7 @@ loop-number-preserved c =
     let s = c.args.scenario.now in
     let n = c.loop-number.number in
     let before = c.loop-number.invariant in
-    let next = numbers-next s (lawful_is_linked s c.requires) n c.line_of.result c.line_of.ensures in
+    let next = numbers-next (domains_alone s) (told-domains s c.requires) n c.line_of.result c.line_of.ensures in
     elim c.if-is_some.branch [
       | then-is_some w ↦
           let told = ap (λ (b : Bool). numbers_below s n ++ cond b (n ∷ []) []) (sym c.is_some.ensures ∙ w.if-is_some.true) in
@@ -38,4 +38,4 @@ returns c =
     let end = c.loop-number-test.false in
     let here = c.loop-number.auto.number-end in
     let all : c.loop-number.number ≡ 8 = omega (arith, end, here) in
-    c.loop-number.invariant.items ∙ ap (numbers_below s) all ∙ numbers-all s (lawful_is_linked s c.requires)
+    c.loop-number.invariant.items ∙ ap (numbers_below s) all ∙ numbers-all (domains_alone s) (told-domains s c.requires)

@@ -5,7 +5,11 @@ use Rattle.board_model.specs.SerialRun.{serial_run}
 use Rattle.board_model.proofs.LawfulBoards.{lawful_is_linked}
 use Rattle.board_runner.specs.Lanes.{lanes_from, numbers_of}
 use Rattle.board_runner.proofs.BoardLemmas.{joined-more, lanes-listed}
+use Rattle.board_runner.proofs.ToldDomains.{lawful-told}
 use Rattle.board_runner.proofs.numbers.places_of.Goals as goal
+
+pub rising_numbers-numbers-requires : goal.rising_numbers-numbers-requires
+rising_numbers-numbers-requires c = lawful-told c.args.scenario.now c.requires.lawful
 
 pub loop-from-preserved : goal.loop-from-preserved
 loop-from-preserved c =
