@@ -32,9 +32,9 @@ module _ {K T E : Type 0} {sink : Ghosts K} {first last : Writer K} {end : K} {t
   has_cause : (result : Result T E) (f : Bool) → last.failed ≡ f → Progress sink first last text → IsFinished sink last end result → first.failed ≡ false → HasCause (sink.faults first.sink.now) (sink.faults end) result
   has_cause (Ok x) true e p q sound = absurd (cc ((q.failed e).0))
   has_cause (Err x) true e p q sound =
-      subst (λ (k : K). HasCause {T = T} {E = E} (sink.faults first.sink.now) (sink.faults k) (Err x)) (sym (q.failed e).1) (record { later = p.later; failed = p.rose sound e })
-  has_cause (Ok x) false e p q sound = record { later = omega (arith, p.later, (q.cause e).later); failed = tt }
-  has_cause (Err x) false e p q sound = record { later = omega (arith, p.later, (q.cause e).later); failed = omega (arith, p.later, (q.cause e).failed) }
+      subst (λ (k : K). HasCause {T = T} {E = E} (sink.faults first.sink.now) (sink.faults k) (Err x)) (sym (q.failed e).1) (record { later = p.later; failed = p.rose sound e; quiet = tt })
+  has_cause (Ok x) false e p q sound = record { later = omega (arith, p.later, (q.cause e).later); failed = tt; quiet = (q.cause e).quiet ∙ p.quiet e }
+  has_cause (Err x) false e p q sound = record { later = omega (arith, p.later, (q.cause e).later); failed = omega (arith, p.later, (q.cause e).failed); quiet = tt }
 
   has_room : (result : Result T E) → Progress sink first last text → IsFinished sink last end result → first.failed ≡ false → first.gathered.items ≡ [] → (n : ℕ) → sink.takes first.sink.now n → length text ≤ n → IsOk result
   has_room result p q sound empty n takes fits =

@@ -34,6 +34,7 @@ module _ {K : Type 0} {sink : Ghosts K} {a b c : Writer K} {x y : List ℕ} wher
     whole = λ e. let second = q.whole e in let first = p.whole second.0 in (first.0, pass_then _ _ _ a.gathered.items b.gathered.items c.gathered.items x y first.1 second.1);
     part = part_then b.failed refl p q;
     rose = rose_then b.failed refl p q;
+    quiet = λ e. q.quiet e ∙ p.quiet (q.whole e).0;
     still = λ e. q.still (ap (λ (w : Writer K). w.failed) (p.still e) ∙ e) ∙ p.still e;
     later = omega (arith, p.later, q.later);
     room = λ n sound takes fits.
@@ -59,6 +60,7 @@ puts_nothing sink a = record {
   whole = λ e. (e, ([], append-nil a.gathered.items, Appends-nil (sink.written a.sink.now)));
   part = λ sound fails. absurd (cc (sound, fails));
   rose = λ sound fails. absurd (cc (sound, fails));
+  quiet = λ e. refl;
   still = λ e. refl;
   later = omega arith;
   room = λ n sound takes fits. (sound, subst (λ (k : ℕ). sink.takes a.sink.now k) (omega arith) takes);

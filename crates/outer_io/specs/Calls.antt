@@ -1,6 +1,6 @@
 -- How a count of calls grows, where it is told.
 -- Source: docs/PROFILE.md, "The outside". A count is a u64, and stands still at the greatest one.
-use Rattle.std.specs.Prelude.{◌≡◌, ℕ, ◌+◌, ◌≤◌, ⊤, Option, None, Some}
+use Rattle.std.specs.Prelude.{◌≡◌, ◌≢◌, ℕ, ◌+◌, ◌≤◌, ⊤, Option, None, Some, Result, MatchResult}
 use Rattle.outer_io.specs.Faults.{one_more}
 
 -- one call was made
@@ -8,6 +8,10 @@ abbrev pub CountsOne : Option ℕ → Option ℕ → Type 0
 CountsOne None new = ⊤
 CountsOne (Some before) None = ⊥
 CountsOne (Some before) (Some now) = now ≡ one_more before
+
+-- a read came to the end where it answers Ok 0, and nowhere else
+abbrev pub CountsEnd : {E : Type 0} → Option ℕ → Option ℕ → Result ℕ E → Type 0
+CountsEnd before now result = MatchResult result (λ n. (n ≡ 0 → CountsOne before now) × (n ≢ 0 → now ≡ before)) (λ _. now ≡ before)
 
 -- at most n calls were made
 abbrev pub CountsAtMost : Option ℕ → Option ℕ → ℕ → Type 0

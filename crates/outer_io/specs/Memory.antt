@@ -1,17 +1,20 @@
 -- A source and a sink in memory, as contracts see them.
 -- Source: docs/PROFILE.md, "The outside": calls are numbered from 0, and listed ones fail.
-use Rattle.std.specs.Prelude.{ℕ, ◌-◌, ◌<◌, min, List, ◌++◌, length, drop, All}
+use Rattle.std.specs.Prelude.{ℕ, ◌-◌, ◌<◌, ◌==◌, min, List, ◌++◌, length, drop, All, if◌then◌else◌}
 use Rattle.outer_io.specs.Faults.{one_more}
 
--- the bytes left, the calls that fail, the most bytes that a call moves, and the counts of calls and faults
+-- the bytes left, the calls that fail, the most bytes that a call moves, and the counts of calls, of faults and of the reads
+-- that came to the end
 pub record ReadState : Type 0 where
   pub left : List ℕ
   pub failing : List ℕ
   pub step : ℕ
   pub calls : ℕ
   pub faults : ℕ
+  pub ends : ℕ
 
--- the bytes written, how many have room, and the rest as of a source
+-- the bytes written, how many have room, the calls that fail, the most bytes that a call moves, and the counts of calls and
+-- of faults
 pub record WriteState : Type 0 where
   pub written : List ℕ
   pub room : ℕ
@@ -30,7 +33,7 @@ read_count s places = min (length s.left) (min places s.step)
 
 -- after a read that moves n bytes, and after one that fails
 abbrev pub after_read : ReadState → ℕ → ReadState
-after_read s n = record s { left = drop n s.left; calls = one_more s.calls }
+after_read s n = record s { left = drop n s.left; calls = one_more s.calls; ends = if n == 0 then one_more s.ends else s.ends }
 
 abbrev pub after_failed_read : ReadState → ReadState
 after_failed_read s = record s { calls = one_more s.calls; faults = one_more s.faults }

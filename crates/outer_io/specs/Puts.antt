@@ -18,6 +18,8 @@ pub record Progress {K : Type 0} (sink : Ghosts K) (old new : Writer K) (text : 
   -- where this failed, a proper prefix of what was gathered and put was written, and the faults rose
   pub part : old.failed ≡ false → new.failed ≡ true → AppendsPart (sink.written old.sink.now) (sink.written new.sink.now) (old.gathered.items ++ text)
   pub rose : old.failed ≡ false → new.failed ≡ true → Rose (sink.faults old.sink.now) (sink.faults new.sink.now)
+  -- without a failure no write failed
+  pub quiet : new.failed ≡ false → sink.faults new.sink.now ≡ sink.faults old.sink.now
   -- after a failure nothing changes
   pub still : old.failed ≡ true → new ≡ old
   -- faults never fall

@@ -1,7 +1,7 @@
 ghost use Rattle.std.specs.Prelude.{◌≡◌, ◌≤◌, ◌<◌, ◌↔◌, ◌++◌, ◌-◌, ◌⊎◌, [], ℕ, Some, IsOk, IsOkAnd, IsErr, IfOk, OnErr, Contains, drop, take, length};
 ghost use Rattle.std.specs.Io.KnownBytes.{ReadConsumes, WriteAppends};
 ghost use Rattle.outer_io.specs.Faults.{HasCause};
-ghost use Rattle.outer_io.specs.Calls.{CountsOne};
+ghost use Rattle.outer_io.specs.Calls.{CountsOne, CountsEnd};
 ghost use Rattle.outer_io.specs.Memory.{NoneListed, read_count, after_read, after_failed_read, room_left, write_count, after_write, after_failed_write};
 
 use crate::{Failed, Sink, Source};
@@ -18,6 +18,7 @@ pub struct MemSource {
     step: usize,
     calls: u64,
     faults: u64,
+    ends: u64,
 }
 
 impl Model for MemSource {
@@ -26,16 +27,16 @@ impl Model for MemSource {
 
     ghost Value = { ReadState };
 
-    ghost view = { λ s. record { left = drop s.at s.bytes.items; failing = s.failing.items; step = s.step; calls = s.calls; faults = s.faults } };
+    ghost view = { λ s. record { left = drop s.at s.bytes.items; failing = s.failing.items; step = s.step; calls = s.calls; faults = s.faults; ends = s.ends } };
 
     ghost invariant = { λ s. (s.at ≤ vec_len s.bytes) × (0 < s.step) };
 }
 
 impl MemSource {
-    /// A source of these bytes whose reads fail at the listed calls and move at most `step` bytes.
+    /// A source of these bytes. Its reads fail at the listed calls, and else move at most `step` bytes, which is 1 at least.
     pub fn new(bytes: Vec<u8>, failing: Vec<u64>, step: usize) -> MemSource
         requires { 0 < step }
-        ensures { result ≡ record { left = bytes.items; failing = failing.items; step = step; calls = 0; faults = 0 } }
+        ensures { result ≡ record { left = bytes.items; failing = failing.items; step = step; calls = 0; faults = 0; ends = 0 } }
     {
         MemSource {
             bytes,
@@ -44,6 +45,7 @@ impl MemSource {
             step,
             calls: 0,
             faults: 0,
+            ends: 0,
         }
     }
 }
@@ -55,6 +57,8 @@ impl Source for MemSource {
 
     ghost calls = { λ s. Some s.calls };
 
+    ghost ends = { λ s. Some s.ends };
+
     ghost never_fails = { λ s. NoneListed s.failing s.calls };
 
     fn read(&mut self, buf: &mut [u8]) -> Result<usize, Failed>
@@ -63,6 +67,7 @@ impl Source for MemSource {
         ensures bytes { ReadConsumes (Some self.old.left) (Some self.new.left) result buf.new }
         ensures cause { HasCause self.old.faults self.new.faults result }
         ensures counted { CountsOne (Some self.old.calls) (Some self.new.calls) }
+        ensures ended { CountsEnd (Some self.old.ends) (Some self.new.ends) result }
         ensures sound { NoneListed self.old.failing self.old.calls → IsOk result × NoneListed self.new.failing self.new.calls }
         ensures fails { IsErr result ↔ Contains self.old.failing self.old.calls }
         ensures count { IfOk result (λ n. n ≡ read_count self.old (length buf.old)) }
@@ -82,6 +87,9 @@ impl Source for MemSource {
         let (piece, _) = left.split_at(count);
         fill_front(buf, piece);
         self.at += count;
+        if count == 0 {
+            self.ends = self.ends.saturating_add(1);
+        }
         Ok(count)
     }
 }
@@ -117,7 +125,8 @@ impl Model for MemSink {
 }
 
 impl MemSink {
-    /// A sink with room for `room` bytes whose writes fail at the listed calls and move at most `step` bytes.
+    /// A sink with room for `room` bytes, which is reserved here. Its writes fail at the listed calls and where it is full, and
+    /// else move at most `step` bytes, which is 1 at least. Want of memory is the only refusal.
     pub fn new(
         alloc: Global,
         failing: Vec<u64>,

@@ -16,7 +16,8 @@ pub trait Sink {
     /// So many bytes more are taken without a fault.
     ghost takes: { Self → ℕ → Type 0 } = { λ _ _. ⊥ };
 
-    /// Appends the first bytes of `piece`, one at least, and says how many.
+    /// Appends the first bytes of `piece`, which is not empty, one at least, and says how many. `Failed` comes where the write
+    /// failed; nothing was appended then.
     fn write(&mut self, piece: &[u8]) -> Result<usize, Failed>
         requires { 0 < length piece.now }
         ensures bound { IfOk result (λ n. (0 < n) × (n ≤ length piece.now)) }

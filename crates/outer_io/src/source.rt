@@ -1,7 +1,7 @@
-ghost use Rattle.std.specs.Prelude.{◌≤◌, ◌<◌, ◌+◌, List, ℕ, Option, None, length, IfOk, IsOk, IsErrOf, MatchOption};
+ghost use Rattle.std.specs.Prelude.{◌≡◌, ◌≤◌, ◌<◌, ◌+◌, List, ℕ, Option, None, length, IfOk, IsOk, IsErrOf, MatchOption, MatchResult};
 ghost use Rattle.std.specs.Io.KnownBytes.{ReadConsumes, Consumes, IsAtEnd};
 ghost use Rattle.outer_io.specs.Faults.{Rose, HasCause};
-ghost use Rattle.outer_io.specs.Calls.{CountsOne, CountsAtMost};
+ghost use Rattle.outer_io.specs.Calls.{CountsOne, CountsEnd, CountsAtMost};
 
 use crate::Failed;
 use std::alloc::Global;
@@ -18,26 +18,34 @@ pub trait Source {
     /// How many reads were made, where the source tells it.
     ghost calls: { Self → Option ℕ } = { λ _. None };
 
+    /// How many reads came to the end, where the source tells it.
+    ghost ends: { Self → Option ℕ } = { λ _. None };
+
     /// No read fails from now on.
     ghost never_fails: { Self → Type 0 } = { λ _. ⊥ };
 
-    /// Moves the next bytes into the front of `buf`, and says how many. Zero is the end.
+    /// Moves the next bytes into the front of `buf`, which is not empty, and says how many. Zero is the end. `Failed` comes
+    /// where the read failed; no byte is gone then.
     fn read(&mut self, buf: &mut [u8]) -> Result<usize, Failed>
         requires { 0 < length buf.old }
         ensures bound { IfOk result (λ n. n ≤ length buf.new) }
         ensures bytes { ReadConsumes (rest self.old) (rest self.new) result buf.new }
         ensures cause { HasCause (faults self.old) (faults self.new) result }
         ensures counted { CountsOne (calls self.old) (calls self.new) }
+        ensures ended { CountsEnd (ends self.old) (ends self.new) result }
         ensures sound { never_fails self.old → IsOk result × never_fails self.new };
 }
 
 /// Why the bytes of a source could not be read to their end.
 #[derive(Clone, Copy, Debug, PartialEq, Eq, Error)]
 pub enum ReadFault {
+    /// A read failed, and no more were made.
     #[error("a read failed")]
     Failed,
+    /// More bytes came than the limit. No read failed.
     #[error("more bytes came than the limit")]
     TooLong,
+    /// Want of memory. It may come at any time; no read failed.
     #[error("out of memory")]
     NoMemory,
 }
@@ -45,8 +53,10 @@ pub enum ReadFault {
 /// How many bytes are asked for at once.
 const CHUNK: usize = 8192;
 
-/// All bytes to the end, which are at most `limit`. `Failed` comes where a read failed, and `TooLong` where more bytes
-/// came than `limit`. After an error the bytes that were read are lost.
+/// All bytes to the end, which are at most `limit`. `Failed` comes exactly where a read failed, which is then the last,
+/// `TooLong` where more bytes came than `limit`, and `NoMemory` at want of memory. At most `limit` + 1 reads are made, and
+/// none after the end. After an error the bytes that were read are lost.
+#[tactic(auto, using(crate::proofs::Counted::one_call_more))]
 pub fn read_all<S: Source>(
     alloc: Global,
     source: &mut S,
@@ -59,8 +69,10 @@ pub fn read_all<S: Source>(
     ensures failed { IsErrOf result ReadFault.Failed → Rose (S.faults source.old) (S.faults source.new) }
     ensures sound { S.never_fails source.old → IsErrOf result ReadFault.Failed → ⊥ }
     ensures later { S.faults source.old ≤ S.faults source.new }
+    ensures no_fault { (IsErrOf result ReadFault.Failed → ⊥) → S.faults source.new ≡ S.faults source.old }
     ensures reads { CountsAtMost (S.calls source.old) (S.calls source.new) (limit + 1) }
-    ensures none_after_end { IfOk result (λ v. CountsAtMost (S.calls source.old) (S.calls source.new) (length v.items + 1)) }
+    ensures few_reads { IfOk result (λ v. CountsAtMost (S.calls source.old) (S.calls source.new) (length v.items + 1)) }
+    ensures none_after_end { MatchResult result (λ _. CountsOne (S.ends source.old) (S.ends source.new)) (λ _. S.ends source.new ≡ S.ends source.old) }
 {
     let mut bytes = Vec::new(alloc);
     let mut buf = [0u8; CHUNK];

@@ -1,7 +1,7 @@
 ghost use Rattle.std.specs.Prelude.{◌≡◌, ◌≤◌, ◌<◌, ℕ, None, IfOk, OnOk, OnErr, length};
 ghost use Rattle.std.specs.Io.KnownBytes.{ReadConsumes, WriteAppends};
 ghost use Rattle.outer_io.specs.Faults.{HasCause, one_more};
-ghost use Rattle.outer_io.specs.Calls.{CountsOne};
+ghost use Rattle.outer_io.specs.Calls.{CountsOne, CountsEnd};
 
 use crate::{Failed, Sink, Source};
 use std::io::{Read, Write};
@@ -21,6 +21,7 @@ impl<R: Read + Drop> Model for StdSource<R> {
 }
 
 impl<R: Read + Drop> StdSource<R> {
+    /// A source of what the reader gives. No read has failed yet.
     pub fn new(inner: R) -> StdSource<R>
         ensures { result ≡ 0 }
     {
@@ -39,6 +40,7 @@ impl<R: Read + Drop> Source for StdSource<R> {
         ensures bytes { ReadConsumes None None result buf.new }
         ensures cause { HasCause self.old self.new result }
         ensures counted { CountsOne None None }
+        ensures ended { CountsEnd None None result }
         ensures ok { OnOk result (self.new ≡ self.old) }
         ensures err { OnErr result (self.new ≡ one_more self.old) }
     {
@@ -66,6 +68,7 @@ impl<W: Write + Drop> Model for StdSink<W> {
 }
 
 impl<W: Write + Drop> StdSink<W> {
+    /// A sink that writes to the writer. No write has failed yet.
     pub fn new(inner: W) -> StdSink<W>
         ensures { result ≡ 0 }
     {

@@ -7,7 +7,7 @@ ghost use Rattle.outer_io.specs.Writes.{Writes};
 use super::*;
 use std::test::Fail;
 
-/// A source of the numbers from 0 that counts its reads.
+/// A source of so many bytes that counts its reads.
 #[derive(Drop)]
 struct Counting {
     left: u64,

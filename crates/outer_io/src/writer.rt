@@ -1,4 +1,4 @@
-ghost use Rattle.std.specs.Prelude.{◌≡◌, ◌↔◌, ◌≤◌, ◌<◌, ◌*◌, ◌+◌, length, take, decimal, false, true, []};
+ghost use Rattle.std.specs.Prelude.{◌≡◌, ◌≤◌, ◌<◌, ◌*◌, length, take, decimal, false, true, []};
 ghost use Rattle.mc_base.specs.Text.{hex_digit, hex_digits, hex_text};
 ghost use Rattle.outer_io.specs.Puts.{Puts, IsFinished};
 
@@ -21,6 +21,7 @@ pub struct Writer<'a, K: Sink> {
 }
 
 impl<'a, K: Sink> Writer<'a, K> {
+    /// A writer to this sink, with nothing gathered and no failure.
     pub fn new(sink: &'a mut K) -> Writer<'a, K>
         ensures reference { result.sink.ghost_name ≡ sink.entry.ghost_name }
         ensures sink { result.sink.now ≡ sink.old }
@@ -34,6 +35,8 @@ impl<'a, K: Sink> Writer<'a, K> {
         }
     }
 
+    /// Puts a piece of any length: it is gathered with what came before, or written after it. After a failure it is
+    /// dropped.
     pub fn put(&mut self, piece: &[u8])
         ensures { Puts K.Sink self.old self.new piece.now }
     {

@@ -5,7 +5,7 @@ use Rattle.outer_io.proofs.sink.write_all.Given as goal
 abbrev pub invariant-loop-done : goal.invariant-loop-done
 invariant-loop-done g l = record {
   so_far : Appends (g.K.Sink.written l.fn.sink) (g.K.Sink.written l.sink) (take l.done l.piece);
-  later : g.K.Sink.faults l.fn.sink ≤ g.K.Sink.faults l.sink;
+  quiet : g.K.Sink.faults l.sink ≡ g.K.Sink.faults l.fn.sink;
   within : l.done ≤ length l.piece;
   room : (n : ℕ) → g.K.Sink.takes l.fn.sink n → length l.piece ≤ n → g.K.Sink.takes l.sink (n - l.done);
   unmoved : l.done ≡ 0 → l.sink ≡ l.fn.sink;
