@@ -20,7 +20,7 @@ use Rattle.board_model.proofs.WholeJoined.{has-rising}
 use Rattle.board_model.proofs.BoardsRising.{AreRising, rising-rises, neighbours-rise}
 use Rattle.board_model.proofs.BoardsNeighbours.{LeadsTo, rising-lawful, rising-length, domains-few, neighbours-fit}
 use Rattle.board_model.proofs.BoardsFound.{below, of_number, rising-next, rising-done, domain-at, neighbour-at}
-use Rattle.board_runner.specs.Lanes.{numbers_of, line_of_domain, links, lane_between, lanes_from}
+use Rattle.board_runner.specs.Lanes.{numbers_of, line_of_domain, joins, lane_between, lanes_from}
 
 pub numbers-length : (s : Scenario) → length (numbers_of s) ≡ length s.domains
 numbers-length s = length-map (rising s) (λ (d : DomainLine). d.domain) ∙ rising-length s
@@ -133,7 +133,7 @@ lanes_out s board d line fit =
     each [] = refl
     each (n ∷ ns) =
         ap (λ ls. ls ++ flat_map (λ n. map (lane_to d.domain) (option_to_list (find (λ m. m.number == n) (neighbours s d)))) ns)
-        (ap (λ o. map (lane_to d.domain) (option_to_list o)) (neighbour-at s board d n) ∙ lane_at s d n (d.domain == n) refl line (find (links d.domain n) s.links))
+        (ap (λ o. map (lane_to d.domain) (option_to_list o)) (neighbour-at s board d n) ∙ lane_at s d n (d.domain == n) refl line (find (joins d.domain n) s.links))
         ∙ ap (λ ls. option_to_list (lane_between s d.domain n) ++ ls) (each ns)
 
 pub lanes-listed : (s : Scenario) → IsLinkedBoard s → lanes s ≡ flat_map (λ a. lanes_from s a (numbers_of s)) (numbers_of s)

@@ -29,7 +29,7 @@ use Rattle.board_model.proofs.WholeStations.{state_in}
 use Rattle.board_model.proofs.WholeBoard.{serial_run_is_whole}
 use Rattle.domain_core.specs.declared.domain.Places.{Places}
 use Rattle.board_runner.specs.declared.tally.Tally.{Tally}
-use Rattle.board_runner.specs.Lanes.{line_of_domain, links, buffers_between}
+use Rattle.board_runner.specs.Lanes.{line_of_domain, joins, buffers_between}
 use Rattle.board_runner.specs.Tallied.{places_held, IsTallyOf}
 use Rattle.board_runner.proofs.FinishLemmas.{finish_going, station_left}
 use Rattle.board_runner.proofs.TrafficLemmas.{put-lines, take-lines}
@@ -40,8 +40,8 @@ use Rattle.board_runner.proofs.TrafficLemmas.{put-lines, take-lines}
 found_has : {A : Type 0} (P : A → Type 0) (p : A → Bool) (xs : List A) (x : A) → find p xs ≡ Some x → P x → Has P xs
 found_has {A} P p xs x found is = has-weaken (λ y. y ≡ x) P (λ y e. subst P (sym e) is) xs (all-found (λ y. Has (λ (z : A). z ≡ y) xs) p xs x (has-each xs) found)
 
-link_ends : (a b size : ℕ) (l : LinkLine) → links a b l ≡ true → l.size ≡ size → IsLink a b size l
-link_ends a b size l joins sized = go (l.driver == a && l.device == b) refl joins
+link_ends : (a b size : ℕ) (l : LinkLine) → joins a b l ≡ true → l.size ≡ size → IsLink a b size l
+link_ends a b size l joined sized = go (l.driver == a && l.device == b) refl joined
   where
     go : (x : Bool) → (l.driver == a && l.device == b) ≡ x → (x || (l.device == a && l.driver == b)) ≡ true → IsLink a b size l
     go true one either = let parts = and_parts (l.driver == a) (l.device == b) one in (inl (eqb-true l.driver a parts.0, eqb-true l.device b parts.1), sized)
@@ -50,12 +50,12 @@ link_ends a b size l joins sized = go (l.driver == a && l.device == b) refl join
 between-joined : (s : Scenario) (a b size : ℕ) → buffers_between s a b ≡ Some size → Joined s a b size
 between-joined s a b size at = elim (eqb_tells a b) [
   | inl same ↦
-      let d = some_tells (λ (x : DomainLine). x.pool) (line_of_domain s a) size (sym (ap (λ c. cond c (option_map (λ x. x.pool) (line_of_domain s a)) (option_map (λ l. l.size) (find (links a b) s.links))) same.0) ∙ at) in
+      let d = some_tells (λ (x : DomainLine). x.pool) (line_of_domain s a) size (sym (ap (λ c. cond c (option_map (λ x. x.pool) (line_of_domain s a)) (option_map (λ l. l.size) (find (joins a b) s.links))) same.0) ∙ at) in
       let is_a : d.0.domain ≡ a = eqb-true d.0.domain a (found-passes (λ x. x.domain == a) s.domains d.0 d.1) in
       inl (found_has (IsOwn a b size) (λ x. x.domain == a) s.domains d.0 d.1 (is_a, is_a ∙ same.1, d.2))
   | inr other ↦
-      let l = some_tells (λ (x : LinkLine). x.size) (find (links a b) s.links) size (sym (ap (λ c. cond c (option_map (λ x. x.pool) (line_of_domain s a)) (option_map (λ x. x.size) (find (links a b) s.links))) other.0) ∙ at) in
-      inr (found_has (IsLink a b size) (links a b) s.links l.0 l.1 (link_ends a b size l.0 (found-passes (links a b) s.links l.0 l.1) l.2))
+      let l = some_tells (λ (x : LinkLine). x.size) (find (joins a b) s.links) size (sym (ap (λ c. cond c (option_map (λ x. x.pool) (line_of_domain s a)) (option_map (λ x. x.size) (find (joins a b) s.links))) other.0) ∙ at) in
+      inr (found_has (IsLink a b size) (joins a b) s.links l.0 l.1 (link_ends a b size l.0 (found-passes (joins a b) s.links l.0 l.1) l.2))
 ]
 
 -- ---- the ends of a lane

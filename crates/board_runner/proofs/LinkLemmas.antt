@@ -23,7 +23,8 @@ use Rattle.board_model.proofs.BoardsFound.{below, rising-next, rising-done, doma
 use Rattle.domain_core.specs.Opening.{AreLinksOf, IsOpenLink, neighbour_of, neighbours_opened}
 use Rattle.domain_core.specs.Sound as sound
 use Rattle.domain_core.specs.Carrying.{PlainLink}
-use Rattle.board_runner.specs.Links.{joins, size_between, new_link, link_to_neighbour, is_other, links_of}
+use Rattle.board_runner.specs.Lanes.{joins, size_between}
+use Rattle.board_runner.specs.Links.{new_link, link_to_neighbour, is_other, links_of}
 use Rattle.board_runner.specs.Opened.{IsLineIn}
 
 -- ---- a line of the board
@@ -85,7 +86,7 @@ link_at d i o none = elim (eqb_tells d.domain i) [
   | inr other ↦ rw other.0 (kept_link d.domain i (ne_eqb i d.domain (λ e. other.1 (sym e))) o)
 ]
 
-pub links-next : (s : Scenario) → IsLinkedBoard s → (d : DomainLine) (i : ℕ) → links_below s d (i + 1) ≡ links_below s d i ++ option_to_list (option_map (new_link i) (size_between s.links d.domain i))
+pub links-next : (s : Scenario) → IsLinkedBoard s → (d : DomainLine) (i : ℕ) → links_below s d (i + 1) ≡ links_below s d i ++ option_to_list (option_map (new_link i) (size_between s d.domain i))
 links-next s board d i =
     ap (λ ns. map link_to_neighbour (filter (is_other d.domain) ns)) (rising-next (λ n. n.number) i (neighbours s d) (neighbours-rise s board d) ∙ ap (λ o. below (λ n. n.number) i (neighbours s d) ++ option_to_list o) (neighbour-at s board d i))
     ∙ ap (map link_to_neighbour) (filter-append (is_other d.domain) (below (λ n. n.number) i (neighbours s d)) last)
@@ -96,12 +97,12 @@ links-next s board d i =
     last = option_to_list (cond (d.domain == i) (Some (neighbour d.domain d.pool)) (option_map (λ l. neighbour i l.size) (find (joins d.domain i) s.links)))
 
 -- one link more, or none
-pub link-more : (s : Scenario) → IsLinkedBoard s → (d : DomainLine) (i size : ℕ) (ls more : List PlainLink) (l : PlainLink) → ls ≡ links_below s d i → size_between s.links d.domain i ≡ Some size → l ≡ new_link i size → more ≡ ls ++ l ∷ [] → more ≡ links_below s d (i + 1)
+pub link-more : (s : Scenario) → IsLinkedBoard s → (d : DomainLine) (i size : ℕ) (ls more : List PlainLink) (l : PlainLink) → ls ≡ links_below s d i → size_between s d.domain i ≡ Some size → l ≡ new_link i size → more ≡ ls ++ l ∷ [] → more ≡ links_below s d (i + 1)
 link-more s board d i size ls more l so_far sized new added =
     added ∙ ap (λ ks. ks ++ l ∷ []) so_far ∙ ap (λ k. links_below s d i ++ k ∷ []) new
     ∙ sym (links-next s board d i ∙ ap (λ o. links_below s d i ++ option_to_list (option_map (new_link i) o)) sized)
 
-pub link-none : (s : Scenario) → IsLinkedBoard s → (d : DomainLine) (i : ℕ) (ls : List PlainLink) → ls ≡ links_below s d i → size_between s.links d.domain i ≡ None → ls ≡ links_below s d (i + 1)
+pub link-none : (s : Scenario) → IsLinkedBoard s → (d : DomainLine) (i : ℕ) (ls : List PlainLink) → ls ≡ links_below s d i → size_between s d.domain i ≡ None → ls ≡ links_below s d (i + 1)
 link-none s board d i ls so_far none =
     so_far ∙ sym (links-next s board d i ∙ ap (λ o. links_below s d i ++ option_to_list (option_map (new_link i) o)) none ∙ append-nil (links_below s d i))
 

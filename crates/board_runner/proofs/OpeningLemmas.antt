@@ -32,8 +32,9 @@ use Rattle.domain_core.specs.Carrying.{PlainLink, link_to}
 use Rattle.board_runner.specs.declared.station.Station.{Station}
 use Rattle.board_runner.specs.Held.{no_key}
 use Rattle.board_runner.specs.Near.{Near, nothing_near, PlainEnds, PlainDomain, near_to, near_among, peers_of, near_of, EndsMatch}
+use Rattle.board_runner.specs.Lanes.{line_of_domain}
 use Rattle.board_runner.specs.Links.{new_link, link_to_neighbour, is_other, links_of}
-use Rattle.board_runner.specs.Opened.{line_of, IsOpened}
+use Rattle.board_runner.specs.Opened.{IsOpened}
 use Rattle.board_runner.specs.Stations.{IsKnown, domain_of, near_in, near, LaneHolds, LaneJoins, IsStation, AreStations, IsRun}
 use Rattle.board_runner.proofs.LinkLemmas.{none-below, links-differ, neighbours-opened}
 
@@ -107,15 +108,15 @@ one_more s (e ∷ es) (t ∷ ts) d st so_far new = (so_far.0, one_more s es ts d
 pub opened-begin : (s : Scenario) (sts : List Station) → sts ≡ [] → AreOpened s (below (λ d. d.domain) 0 (rising s)) sts
 opened-begin s sts none = subst (AreOpened s (below (λ (d : DomainLine). d.domain) 0 (rising s))) (sym none) (subst (λ (ds : List DomainLine). AreOpened s ds []) (sym (none-below (λ (d : DomainLine). d.domain) (rising s))) tt)
 
-next_line : (s : Scenario) → IsLinkedBoard s → (i : ℕ) (o : Option DomainLine) → line_of s.domains i ≡ o → below (λ d. d.domain) (i + 1) (rising s) ≡ below (λ d. d.domain) i (rising s) ++ option_to_list o
+next_line : (s : Scenario) → IsLinkedBoard s → (i : ℕ) (o : Option DomainLine) → line_of_domain s i ≡ o → below (λ d. d.domain) (i + 1) (rising s) ≡ below (λ d. d.domain) i (rising s) ++ option_to_list o
 next_line s board i o at = rising-next (λ (d : DomainLine). d.domain) i (rising s) (rising-rises s board) ∙ ap (λ (p : Option DomainLine). below (λ (d : DomainLine). d.domain) i (rising s) ++ option_to_list p) (domain-at s board i ∙ at)
 
-pub opened-next : (s : Scenario) → IsLinkedBoard s → (i : ℕ) (d : DomainLine) (sts new : List Station) (st : Station) → AreOpened s (below (λ d. d.domain) i (rising s)) sts → line_of s.domains i ≡ Some d → IsOpened s d st → new ≡ sts ++ st ∷ [] → AreOpened s (below (λ d. d.domain) (i + 1) (rising s)) new
+pub opened-next : (s : Scenario) → IsLinkedBoard s → (i : ℕ) (d : DomainLine) (sts new : List Station) (st : Station) → AreOpened s (below (λ d. d.domain) i (rising s)) sts → line_of_domain s i ≡ Some d → IsOpened s d st → new ≡ sts ++ st ∷ [] → AreOpened s (below (λ d. d.domain) (i + 1) (rising s)) new
 opened-next s board i d sts new st so_far at opens added =
     subst (AreOpened s (below (λ (e : DomainLine). e.domain) (i + 1) (rising s))) (sym added)
     (subst (λ (ds : List DomainLine). AreOpened s ds (sts ++ st ∷ [])) (sym (next_line s board i (Some d) at)) (one_more s (below (λ e. e.domain) i (rising s)) sts d st so_far opens))
 
-pub opened-none : (s : Scenario) → IsLinkedBoard s → (i : ℕ) (sts new : List Station) → AreOpened s (below (λ d. d.domain) i (rising s)) sts → line_of s.domains i ≡ None → new ≡ sts → AreOpened s (below (λ d. d.domain) (i + 1) (rising s)) new
+pub opened-none : (s : Scenario) → IsLinkedBoard s → (i : ℕ) (sts new : List Station) → AreOpened s (below (λ d. d.domain) i (rising s)) sts → line_of_domain s i ≡ None → new ≡ sts → AreOpened s (below (λ d. d.domain) (i + 1) (rising s)) new
 opened-none s board i sts new so_far at same =
     subst (AreOpened s (below (λ (e : DomainLine). e.domain) (i + 1) (rising s))) (sym same)
     (subst (λ (ds : List DomainLine). AreOpened s ds sts) (sym (next_line s board i None at ∙ append-nil (below (λ (e : DomainLine). e.domain) i (rising s)))) so_far)

@@ -16,12 +16,16 @@ abbrev pub line_of_domain : Scenario → ℕ → Option DomainLine
 line_of_domain s n = find (λ d. d.domain == n) s.domains
 
 -- a link joins these two, whichever is the driver
-abbrev pub links : ℕ → ℕ → LinkLine → Bool
-links a b l = (l.driver == a && l.device == b) || (l.device == a && l.driver == b)
+abbrev pub joins : ℕ → ℕ → LinkLine → Bool
+joins one two l = (l.driver == one && l.device == two) || (l.device == one && l.driver == two)
+
+-- the size of the link between two domains
+abbrev pub size_between : Scenario → ℕ → ℕ → Option ℕ
+size_between s one two = option_map (λ l. l.size) (find (joins one two) s.links)
 
 -- how many buffers the lane from one domain to another has, where there is one
 abbrev pub buffers_between : Scenario → ℕ → ℕ → Option ℕ
-buffers_between s a b = if a == b then option_map (λ d. d.pool) (line_of_domain s a) else option_map (λ l. l.size) (find (links a b) s.links)
+buffers_between s a b = if a == b then option_map (λ d. d.pool) (line_of_domain s a) else size_between s a b
 
 -- the lane from one domain to another, where there is one
 abbrev pub lane_between : Scenario → ℕ → ℕ → Option Lane

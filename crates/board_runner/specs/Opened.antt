@@ -1,6 +1,6 @@
 -- A station before the first line.
 -- Source: docs/PROFILE.md, "Boards" and "Serial run".
-use Rattle.std.specs.Prelude.{◌≡◌, ◌==◌, ℕ, List, [], find, Option, Some, None}
+use Rattle.std.specs.Prelude.{◌≡◌, ℕ, List, [], Some, None}
 use Rattle.lane_end.specs.Loop.{new_loop}
 use Rattle.board_model.specs.declared.scenario.DomainLine.{DomainLine}
 use Rattle.board_model.specs.declared.scenario.Scenario.{Scenario}
@@ -9,14 +9,12 @@ use Rattle.board_model.specs.State.{opening}
 use Rattle.domain_core.specs.Opening.{ends_opened}
 use Rattle.board_runner.specs.declared.station.Station.{Station}
 use Rattle.board_runner.specs.Held.{id_for}
+use Rattle.board_runner.specs.Lanes.{line_of_domain}
 use Rattle.board_runner.specs.Links.{links_of}
 
--- the line of a domain
-abbrev pub line_of : List DomainLine → ℕ → Option DomainLine
-line_of ds number = find (λ d. d.domain == number) ds
-
+-- the line is that of its domain
 abbrev pub IsLineIn : Scenario → DomainLine → Type 0
-IsLineIn s d = line_of s.domains d.domain ≡ Some d
+IsLineIn s d = line_of_domain s d.domain ≡ Some d
 
 -- the domain of this line is open, and nothing was called
 pub record IsOpened (s : Scenario) (d : DomainLine) (st : Station) : Type 0 where

@@ -1,7 +1,7 @@
 //! A board by the lines of its scenario: its domains in rising number, and the lanes between them.
 
-ghost use Rattle.std.specs.Prelude.{◌≡◌, find, ◌==◌};
-ghost use Rattle.board_runner.specs.Lanes.{numbers_of, line_of_domain, links, buffers_between as buffers_of_lane};
+ghost use Rattle.std.specs.Prelude.{◌≡◌};
+ghost use Rattle.board_runner.specs.Lanes.{numbers_of, line_of_domain, joins, size_between, buffers_between as buffers_of_lane};
 ghost use Rattle.board_runner.specs.Told.{IsToldByText};
 
 use arrayvec::ArrayVec;
@@ -29,11 +29,11 @@ pub fn buffers_between(scenario: &Scenario, from: u8, to: u8) -> Option<u32>
     if from == to {
         return Some(line_of(scenario, from)?.pool);
     }
-    Some(link_of(scenario, from, to)?.size)
+    size_between(scenario, from, to)
 }
 
-/// The line of the domain of this number.
-fn line_of(scenario: &Scenario, number: u8) -> Option<DomainLine>
+/// The line of the domain of this number, or `None` where the board has no such domain.
+pub fn line_of(scenario: &Scenario, number: u8) -> Option<DomainLine>
     ensures { result ≡ line_of_domain scenario.now number }
 {
     scenario
@@ -44,11 +44,21 @@ fn line_of(scenario: &Scenario, number: u8) -> Option<DomainLine>
         .find(|line| line.domain == number)
 }
 
-/// The link between two domains, whichever is the driver.
-fn link_of(scenario: &Scenario, one: u8, other: u8) -> Option<LinkLine>
-    ensures { result ≡ find (links one other) scenario.now.links }
+/// The size of the link between two domains, whichever of them is the driver, or `None` where they are not linked.
+pub fn size_between(scenario: &Scenario, one: u8, two: u8) -> Option<u32>
+    ensures { result ≡ size_between scenario.now one two }
 {
-    scenario.links.as_slice().iter().copied().find(|link| {
-        (link.driver == one && link.device == other) || (link.device == one && link.driver == other)
-    })
+    scenario
+        .links
+        .as_slice()
+        .iter()
+        .find(|link| joins(link, one, two))
+        .map(|link| link.size)
+}
+
+/// Whether a link joins these two.
+fn joins(link: &LinkLine, one: u8, two: u8) -> bool
+    ensures { result ≡ joins one two link.now }
+{
+    (link.driver == one && link.device == two) || (link.device == one && link.driver == two)
 }

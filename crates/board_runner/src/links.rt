@@ -2,10 +2,11 @@
 
 ghost use Rattle.std.specs.Prelude.{◌≡◌, ◌≤◌, IfOk, IsTrue};
 ghost use Rattle.board_model.specs.LinkedBoard.{IsLinkedBoard};
-ghost use Rattle.board_runner.specs.Links.{joins, size_between, new_link, links_of};
+ghost use Rattle.board_runner.specs.Links.{new_link, links_of};
 ghost use Rattle.board_runner.specs.Opened.{IsLineIn};
 
-use board_model::{DomainLine, LinkLine, Scenario};
+use crate::board::size_between;
+use board_model::{DomainLine, Scenario};
 use domain_core::Link;
 use lane_end::{PlainRecv, PlainSend, plain_lane};
 use mc_base::{MAX_DOMAINS, NoMemory};
@@ -26,7 +27,7 @@ pub(crate) fn links_of(
         return Err(NoMemory);
     };
     for peer in 0..MAX_DOMAINS {
-        if let Some(size) = size_between(scenario.links.as_slice(), line.domain, peer) {
+        if let Some(size) = size_between(scenario, line.domain, peer) {
             links.push(open_link(alloc, peer, size)?).unwrap();
         }
     }
@@ -46,21 +47,4 @@ fn open_link(alloc: Global, peer: u8, size: u32) -> Result<Link<PlainSend, Plain
         send,
         recv,
     })
-}
-
-/// The size of the link between two domains, whichever of them is the driver.
-fn size_between(links: &[LinkLine], one: u8, two: u8) -> Option<u32>
-    ensures { result ≡ size_between links.now one two }
-{
-    links
-        .iter()
-        .find(|link| joins(link, one, two))
-        .map(|link| link.size)
-}
-
-/// Whether a link joins these two.
-fn joins(link: &LinkLine, one: u8, two: u8) -> bool
-    ensures { result ≡ joins one two link.now }
-{
-    (link.driver == one && link.device == two) || (link.device == one && link.driver == two)
 }

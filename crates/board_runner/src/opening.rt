@@ -4,9 +4,10 @@ ghost use Rattle.std.specs.Prelude.{◌≡◌, IfOk};
 ghost use Rattle.board_model.specs.Language.{IsLawfulBoard};
 ghost use Rattle.board_model.specs.LinkedBoard.{IsLinkedBoard};
 ghost use Rattle.board_model.specs.SerialRun.{opened};
-ghost use Rattle.board_runner.specs.Opened.{line_of, IsLineIn, IsOpened};
+ghost use Rattle.board_runner.specs.Opened.{IsLineIn, IsOpened};
 ghost use Rattle.board_runner.specs.Stations.{IsRun};
 
+use crate::board::line_of;
 use crate::links::links_of;
 use crate::station::Station;
 use board_model::{DomainLine, Scenario};
@@ -27,7 +28,7 @@ pub(crate) fn open_stations<'a>(
         return Err(NoMemory);
     };
     for number in 0..MAX_DOMAINS {
-        if let Some(line) = line_of(scenario.domains.as_slice(), number) {
+        if let Some(line) = line_of(scenario, number) {
             let station = open_station(alloc, scenario, line)?;
             stations.push(station).unwrap();
         }
@@ -56,11 +57,4 @@ fn open_station<'a>(
         number: 0,
         dropped: 0,
     })
-}
-
-/// The line of a domain, or `None` where the board has no such domain.
-fn line_of(lines: &[DomainLine], number: u8) -> Option<DomainLine>
-    ensures { result ≡ line_of lines.now number }
-{
-    lines.iter().copied().find(|line| line.domain == number)
 }

@@ -1,6 +1,4 @@
-use Rattle.std.proofs.Common.{◌≡◌, ◌∙◌, ap, sym, arith, vec_len, vec_capacity, List}
-use Rattle.board_model.specs.declared.scenario.LinkLine.{LinkLine}
-use Rattle.board_runner.specs.Links.{size_between}
+use Rattle.std.proofs.Common.{◌≡◌, ◌∙◌, ap, sym, arith, vec_len, vec_capacity}
 use Rattle.board_runner.proofs.LinkLemmas.{links_below, links-begin, links-done, link-more, link-none}
 use Rattle.board_runner.proofs.links.links_of.Goals as goal
 use Rattle.board_runner.proofs.links.links_of.Goals.{in-Some+in_ok-open_link, in_default-size_between}
@@ -10,7 +8,6 @@ loop-peer-init c = record { so_far = c.in-Ok.ensures.items ∙ sym (links-begin 
 
 pub loop-peer-preserved : goal.loop-peer-preserved
 loop-peer-preserved c =
-    let sizes = λ (ls : List LinkLine). size_between ls c.args.line.domain c.loop-peer.peer in
     elim c.match-size_between.branch [
       | in-Some+in_ok-open_link w ↦
           let items = rw w.unwrap.ensures at w.push.ensures.items in
@@ -19,7 +16,7 @@ loop-peer-preserved c =
           let room = ap vec_capacity w.links-is in
           record {
             so_far = link-more c.args.scenario.now c.requires.board c.args.line c.loop-peer.peer w.in-Some.size _ _ _ c.loop-peer.invariant.so_far
-                (ap sizes (sym c.as_slice.ensures) ∙ sym w.in-Some.ensures) w.in_ok-open_link.ensures (ap (λ v. v.items) w.links-is ∙ items);
+                (sym w.in-Some.ensures) w.in_ok-open_link.ensures (ap (λ v. v.items) w.links-is ∙ items);
             few = omega (arith, len, pushed, c.loop-peer.invariant.few);
             room = omega (arith, w.push.ensures.capacity, room, c.loop-peer.invariant.room);
           }
@@ -27,7 +24,7 @@ loop-peer-preserved c =
           let same = ap vec_len w.links-is in
           let room = ap vec_capacity w.links-is in
           record {
-            so_far = ap (λ v. v.items) w.links-is ∙ link-none c.args.scenario.now c.requires.board c.args.line c.loop-peer.peer c.loop-peer.links.items c.loop-peer.invariant.so_far (ap sizes (sym c.as_slice.ensures) ∙ sym w.in_default-size_between.ensures);
+            so_far = ap (λ v. v.items) w.links-is ∙ link-none c.args.scenario.now c.requires.board c.args.line c.loop-peer.peer c.loop-peer.links.items c.loop-peer.invariant.so_far (sym w.in_default-size_between.ensures);
             few = omega (arith, same, c.loop-peer.invariant.few);
             room = omega (arith, room, c.loop-peer.invariant.room);
           }

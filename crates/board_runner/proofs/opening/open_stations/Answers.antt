@@ -1,11 +1,11 @@
-use Rattle.std.proofs.Common.{◌≡◌, ◌∙◌, ℕ, List, Some, ap, sym, subst, eqb-true, arith, vec_len, vec_capacity}
+use Rattle.std.proofs.Common.{◌≡◌, ◌∙◌, ℕ, Some, ap, sym, subst, eqb-true, arith, vec_len, vec_capacity}
 use Rattle.std.specs.Prelude.{◌==◌}
 use Rattle.board_model.specs.declared.scenario.DomainLine.{DomainLine}
 use Rattle.board_model.specs.Scenario.{rising}
 use Rattle.board_model.proofs.BoardsFound.{below}
 use Rattle.board_model.proofs.MessageAlls.{found-passes}
 use Rattle.board_model.proofs.LawfulBoards.{lawful_is_linked}
-use Rattle.board_runner.specs.Opened.{line_of}
+use Rattle.board_runner.specs.Lanes.{line_of_domain}
 use Rattle.board_runner.proofs.OpeningLemmas.{AreOpened, opened-begin, opened-next, opened-none, opened-runs}
 use Rattle.board_runner.proofs.opening.open_stations.Goals as goal
 use Rattle.board_runner.proofs.opening.open_stations.Goals.{in-Some+in_ok-station, in_default-line_of}
@@ -19,16 +19,15 @@ open_station-requires-clause-board c = lawful_is_linked c.args.scenario.now c.re
 pub open_station-requires-clause-line : goal.open_station-requires-clause-line
 open_station-requires-clause-line c =
     let d = c.in-Some.line in
-    let ds = c.args.scenario.now.domains in
-    let found = ap (λ (es : List DomainLine). line_of es c.loop-number.number) (sym c.as_slice.ensures) ∙ sym c.in-Some.ensures in
-    let named : d.domain ≡ c.loop-number.number = eqb-true d.domain c.loop-number.number (found-passes (λ (e : DomainLine). e.domain == c.loop-number.number) ds d found) in
-    subst (λ (n : ℕ). line_of ds n ≡ Some d) (sym named) found
+    let s = c.args.scenario.now in
+    let found = sym c.in-Some.ensures in
+    let named : d.domain ≡ c.loop-number.number = eqb-true d.domain c.loop-number.number (found-passes (λ (e : DomainLine). e.domain == c.loop-number.number) s.domains d found) in
+    subst (λ (n : ℕ). line_of_domain s n ≡ Some d) (sym named) found
 
 pub loop-number-preserved : goal.loop-number-preserved
 loop-number-preserved c =
     let s = c.args.scenario.now in
     let board = lawful_is_linked s c.requires in
-    let line = λ (es : List DomainLine). line_of es c.loop-number.number in
     elim c.match-line_of.branch [
       | in-Some+in_ok-station w ↦
           let items = rw w.unwrap.ensures at w.push.ensures.items in
@@ -37,7 +36,7 @@ loop-number-preserved c =
           let room = ap vec_capacity w.stations-is in
           record {
             so_far = opened-next s board c.loop-number.number w.in-Some.line c.loop-number.stations.items _ _ c.loop-number.invariant.so_far
-                (ap line (sym c.as_slice.ensures) ∙ sym w.in-Some.ensures) w.in_ok-station.ensures (ap (λ v. v.items) w.stations-is ∙ items);
+                (sym w.in-Some.ensures) w.in_ok-station.ensures (ap (λ v. v.items) w.stations-is ∙ items);
             few = omega (arith, len, pushed, c.loop-number.invariant.few);
             room = omega (arith, w.push.ensures.capacity, room, c.loop-number.invariant.room);
           }
@@ -45,7 +44,7 @@ loop-number-preserved c =
           let same = ap vec_len w.stations-is in
           let room = ap vec_capacity w.stations-is in
           record {
-            so_far = opened-none s board c.loop-number.number c.loop-number.stations.items _ c.loop-number.invariant.so_far (ap line (sym c.as_slice.ensures) ∙ sym w.in_default-line_of.ensures) (ap (λ v. v.items) w.stations-is);
+            so_far = opened-none s board c.loop-number.number c.loop-number.stations.items _ c.loop-number.invariant.so_far (sym w.in_default-line_of.ensures) (ap (λ v. v.items) w.stations-is);
             few = omega (arith, same, c.loop-number.invariant.few);
             room = omega (arith, room, c.loop-number.invariant.room);
           }
