@@ -30,6 +30,7 @@ pub fn tell_frame<K: Sink>(alloc: Global, text: &[u8], output: &mut K) -> u8
     ensures breaks_off { result ≡ 5 → (due : List ℕ) × IsFrameDue text.now due × AppendsPart (K.written output.old) (K.written output.new) due }
     ensures failed { result ≡ 5 → Rose (K.faults output.old) (K.faults output.new) }
     ensures nothing { result ≡ 6 → output.new ≡ output.old }
+    ensures no_fault { result ≢ 5 → K.faults output.new ≡ K.faults output.old }
     ensures faults { K.faults output.old ≤ K.faults output.new }
     ensures sound { wrong_in text.now ≡ None → result ≢ 1 }
     ensures unsound { IsSome (wrong_in text.now) → result ≢ 0 }
@@ -51,6 +52,7 @@ fn tell_bytes<K: Sink>(frame: &[u8], output: &mut K) -> u8
     ensures wrong { result ≡ 1 → (due : List ℕ) × (frame_wrong frame.now ≡ Some due) × Appends (K.written output.old) (K.written output.new) due }
     ensures breaks_off { result ≡ 5 → (due : List ℕ) × IsToldOf frame.now due × AppendsPart (K.written output.old) (K.written output.new) due }
     ensures failed { result ≡ 5 → Rose (K.faults output.old) (K.faults output.new) }
+    ensures no_fault { result ≢ 5 → K.faults output.new ≡ K.faults output.old }
     ensures faults { K.faults output.old ≤ K.faults output.new }
     ensures room { (n : ℕ) → ((due : List ℕ) → IsToldOf frame.now due → length due ≤ n) → K.takes output.old n → result ≢ 5 }
 {

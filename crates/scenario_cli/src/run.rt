@@ -1,4 +1,4 @@
-ghost use Rattle.std.specs.Prelude.{◌≡◌, ◌≢◌, ◌≤◌, ◌<◌, ◌∷◌, [], ℕ, List, length};
+ghost use Rattle.std.specs.Prelude.{◌≡◌, ◌≢◌, ◌≤◌, ◌∷◌, [], ℕ, List, length};
 ghost use Rattle.std.specs.Io.KnownBytes.{Appends};
 ghost use Rattle.board_model.specs.declared.scenario.Scenario.{Scenario as Told};
 ghost use Rattle.board_model.specs.Language.{IsLawfulBoard, RefusedLine};
@@ -28,6 +28,7 @@ pub fn run_text<K: Sink>(alloc: Global, text: &[u8], output: &mut K) -> u8
     ensures breaks_off { result ≡ 5 → (due : List ℕ) × IsRunDue text.now due × AppendsPart (K.written output.old) (K.written output.new) due }
     ensures failed { result ≡ 5 → Rose (K.faults output.old) (K.faults output.new) }
     ensures nothing { result ≡ 6 → output.new ≡ output.old }
+    ensures no_fault { result ≢ 5 → K.faults output.new ≡ K.faults output.old }
     ensures faults { K.faults output.old ≤ K.faults output.new }
     ensures scenario { (told : Told) → IsScenario text.now told → result ≢ 3 }
     ensures no_scenario { (r : RefusedLine) → IsRefused text.now r → result ≢ 0 }
@@ -50,6 +51,7 @@ fn run_scenario<K: Sink>(alloc: Global, scenario: &Scenario, output: &mut K) -> 
     ensures breaks_off { result ≡ 5 → AppendsPart (K.written output.old) (K.written output.new) (report scenario.now (serial_run scenario.now)) }
     ensures failed { result ≡ 5 → Rose (K.faults output.old) (K.faults output.new) }
     ensures nothing { result ≡ 6 → output.new ≡ output.old }
+    ensures no_fault { result ≢ 5 → K.faults output.new ≡ K.faults output.old }
     ensures faults { K.faults output.old ≤ K.faults output.new }
     ensures room { (n : ℕ) → length (report scenario.now (serial_run scenario.now)) ≤ n → K.takes output.old n → result ≢ 5 }
 {

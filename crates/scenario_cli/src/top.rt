@@ -1,6 +1,7 @@
 ghost use Rattle.std.specs.Prelude.{◌≡◌, ◌≢◌, ◌≤◌, ◌∷◌, [], ℕ, length};
 ghost use Rattle.std.specs.Io.KnownBytes.{Appends, Keeps, IsAtEnd};
 ghost use Rattle.outer_io.specs.Faults.{Rose};
+ghost use Rattle.outer_io.specs.Calls.{CountsOne};
 ghost use Rattle.outer_io.specs.Writes.{AppendsPart};
 ghost use Rattle.scenario_cli.specs.declared.form.Form.TheVariants.{SerialRun, Frame};
 ghost use Rattle.scenario_cli.specs.Words.{words_of, IsForm, IsNoForm, usage_text, IsOneOf};
@@ -27,7 +28,7 @@ const INPUT_LIMIT: usize = 8_388_608;
 ///
 /// The statuses are 0 where the report was written or the frame is sound, 1 where the input is no sound frame, 2 where the
 /// words are none of the forms and the usage was written, 3 where the input is no scenario and the refusal was written,
-/// 4 where the source failed, 5 where the sink failed, 6 at want of memory, and 7 where more than 8,388,608 bytes came.
+/// 4 where a read failed, 5 where a write failed, 6 at want of memory, and 7 where more than 8,388,608 bytes came.
 /// Words come first, then reading, the grammar or the frame, running, and writing.
 pub fn mcrun<T: Threads + Sync, S: Source, K: Sink>(
     _rt: &T,
@@ -61,9 +62,11 @@ pub fn mcrun<T: Threads + Sync, S: Source, K: Sink>(
     ensures refused { result ≡ 3 → Refuses (S.rest input.old) (K.written output.old) (K.written output.new) }
     ensures refused_words { result ≡ 3 → IsForm SerialRun (words_of words.now) }
 
-    // 4 and 5: only where the count of faults rose in this call.
+    // 4 and 5: exactly where a read or a write failed in this call.
     ensures read_failed { result ≡ 4 → Rose (S.faults input.old) (S.faults input.new) }
+    ensures no_read_failed { result ≢ 4 → S.faults input.new ≡ S.faults input.old }
     ensures write_failed { result ≡ 5 → Rose (K.faults output.old) (K.faults output.new) }
+    ensures no_write_failed { result ≢ 5 → K.faults output.new ≡ K.faults output.old }
     ensures breaks_off { (form : Form) → IsForm form (words_of words.now) → result ≡ 5 → BreaksOff form (S.rest input.old) (K.written output.old) (K.written output.new) }
 
     // 7: exactly where more bytes came than the limit.
@@ -72,6 +75,7 @@ pub fn mcrun<T: Threads + Sync, S: Source, K: Sink>(
     // At 4, 6 and 7 nothing was written; at 0, 1 and 3 the input was read to its end.
     ensures nothing_written { IsOneOf (4 ∷ 6 ∷ 7 ∷ []) result → Keeps (K.written output.old) (K.written output.new) }
     ensures read_to_end { IsOneOf (0 ∷ 1 ∷ 3 ∷ []) result → IsAtEnd (S.rest input.new) }
+    ensures end_once { IsOneOf (0 ∷ 1 ∷ 3 ∷ []) result → CountsOne (S.ends input.old) (S.ends input.new) }
 
     // The counts of faults never fall.
     ensures read_faults { S.faults input.old ≤ S.faults input.new }
