@@ -1,5 +1,5 @@
 -- What the outcome of a run says of its board run.
--- Source: docs/FORMATS.md, "Report". No channels are built yet.
+-- Source: docs/FORMATS.md, "Report". Lanes are plain, so no ring is left, and no channels are built yet.
 use Rattle.std.specs.Prelude.{◌≡◌, List, [], map}
 use Rattle.board_model.specs.declared.scenario.Scenario.{Scenario}
 use Rattle.board_model.specs.Scenario.{lanes}
@@ -18,6 +18,7 @@ lines_in journals = map (λ j. j.lines) journals
 -- the outcome tells these journals, and their numbers
 pub record IsOutcome (s : Scenario) (o : Outcome) (js : List DomainJournal) : Type 0 where
   pub journals : lines_in o.journals ≡ map lines_of js
+  pub rings : o.rings ≡ []
   pub places : o.places ≡ map (places_of s js) (lanes s)
   pub channels : o.channels ≡ []
   pub messages : o.messages ≡ totals s js

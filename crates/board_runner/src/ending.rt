@@ -34,6 +34,7 @@ pub fn outcome_of(
     let messages = totals_of(scenario, tallies.as_slice());
     Ok(Outcome {
         journals: journals_of(alloc, stations)?,
+        rings: Seq::new(Vec::new(alloc)),
         places,
         channels: Seq::new(Vec::new(alloc)),
         messages,

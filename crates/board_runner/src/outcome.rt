@@ -2,6 +2,7 @@
 
 use board_model::{LanePlaces, Seq, Totals};
 use domain_core::Journal;
+use split_ring::Closed;
 
 /// What became of the items of a channel, which the domain `owner` numbered.
 #[derive(Clone, Copy, Debug, PartialEq, Eq)]
@@ -11,12 +12,13 @@ pub struct ChannelTotals {
     pub totals: Totals,
 }
 
-/// What a run left: the journal of each domain in rising number, where the buffers of each lane are, what became of the items
-/// of each channel, of which there are none yet, and what became of the messages. All stand in the order of the report. Rings
-/// are not told: a serial run has none.
+/// What a run left: the journal of each domain in rising number, the rings, of which a serial run has none, where the buffers of
+/// each lane are, what became of the items of each channel, of which there are none yet, and what became of the messages. All
+/// stand in the order of the report.
 #[derive(Debug, Drop)]
 pub struct Outcome {
     pub journals: Seq<Journal>,
+    pub rings: Seq<Closed>,
     pub places: Seq<LanePlaces>,
     pub channels: Seq<ChannelTotals>,
     pub messages: Totals,

@@ -89,6 +89,7 @@ fn outcome(alloc: Global) -> Option<Outcome> {
     places.push(lane).ok()?;
     Some(Outcome {
         journals,
+        rings: Seq::new(Vec::new(alloc)),
         places,
         channels: Seq::new(Vec::new(alloc)),
         messages: Totals {
@@ -189,6 +190,7 @@ fn a_run_leaves_its_numbers(rt: HostRuntime) -> Result<(), Fail> {
     let outcome = run(rt.alloc(), NUMBERS).ok_or("memory")?;
     assert_eq!(rt; outcome.messages, MESSAGES);
     assert_eq!(rt; outcome.journals.as_slice().len(), 2);
+    assert_eq!(rt; outcome.rings.as_slice().len(), 0);
     assert_eq!(rt; outcome.channels.as_slice().len(), 0);
     assert_eq!(rt; outcome.places.as_slice().len(), 4);
     for (lane, due) in outcome.places.as_slice().iter().zip(&PLACES) {

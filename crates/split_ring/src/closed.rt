@@ -4,7 +4,7 @@ ghost use Rattle.std.specs.Prelude.{◌≡◌};
 use std::marker::Model;
 
 /// What is left of a ring: its words, where its buffers are, and what its halves saw. `Ring::finish` alone makes it.
-#[derive(Drop)]
+#[derive(Debug, Drop)]
 pub struct Closed {
     pub(crate) queue: u8,
     pub(crate) size: u32,

@@ -23,6 +23,7 @@ returns c =
     record {
       journals = c.in_ok-journals_of.ensures ∙ stations-told s (finished s).stations c.args.stations.items c.requires.run.each;
       places = c.in_ok-places.ensures;
-      channels = c.new-2.ensures ∙ c.new.ensures.items;
+      rings = c.new-2.ensures ∙ c.new.ensures.items;
+      channels = c.new-4.ensures ∙ c.new-3.ensures.items;
       messages = c.totals_of-messages.ensures;
     }
