@@ -1,12 +1,12 @@
 -- New plain links are open.
-use Rattle.std.proofs.Common.{◌≡◌, ◌∙◌, ℕ, List, [], ◌∷◌, ◌++◌, refl, sym, ap, subst}
+use Rattle.std.proofs.Common.{◌≡◌, ◌∙◌, ℕ, List, [], ◌∷◌, ◌++◌, refl, sym, ap, subst, arith}
 use Rattle.std.proofs.lemmas.List.FromFn.{length-range_with_len}
 use Rattle.std.specs.List.{AllByRecursion}
 use Rattle.lane_end.specs.Numbers.{IsLaneSize}
 use Rattle.lane_end.specs.PlainSender.{Sender}
 use Rattle.lane_end.specs.PlainReceiver.{Receiver}
 use Rattle.domain_core.specs.Carrying.{PlainLink}
-use Rattle.domain_core.specs.Opening.{IsOpenLink}
+use Rattle.domain_core.specs.Opening.{AreLinksOf, IsOpenLink}
 use Rattle.domain_core_tests.specs.NewLinks.{new_link}
 
 abbrev pub IsOpen : PlainLink → Type 0
@@ -20,3 +20,30 @@ pub one-open : (ls first : List PlainLink) (l : PlainLink) (peer size : ℕ) →
 one-open ls first l peer size items none is fits =
     let same : ls ≡ l ∷ [] = items ∙ ap (λ (xs : List PlainLink). xs ++ l ∷ []) none in
     subst (λ (xs : List PlainLink). AllByRecursion IsOpen xs) (sym same) (subst IsOpen (sym is) (new-open peer size fits), tt)
+
+-- ---- the links of a domain 3 to domains 0, 2 and 5
+
+abbrev pub three_new : List PlainLink
+three_new = new_link 0 1 ∷ new_link 2 2 ∷ new_link 5 256 ∷ []
+
+pub three-are : (ls : List PlainLink) → ls ≡ three_new → AreLinksOf 3 ls
+three-are ls is = subst (λ (xs : List PlainLink). AreLinksOf 3 xs) (sym is) (record {
+  rising = ((omega arith, (omega arith, tt)), ((omega arith, tt), (tt, tt)));
+  others = ((λ e. omega arith), ((λ e. omega arith), ((λ e. omega arith), tt)));
+  few = (omega arith, (omega arith, (omega arith, tt)));
+})
+
+pub three-open : (ls : List PlainLink) → ls ≡ three_new → AllByRecursion IsOpen ls
+three-open ls is = subst (λ (xs : List PlainLink). AllByRecursion IsOpen xs) (sym is) (
+  new-open 0 1 (omega arith, omega arith),
+  (new-open 2 2 (omega arith, omega arith), (new-open 5 256 (omega arith, omega arith), tt)),
+)
+
+-- one after the other
+pub three-pushed : (none one two three : List PlainLink) (a b c : PlainLink) → none ≡ [] → one ≡ none ++ a ∷ [] → two ≡ one ++ b ∷ [] → three ≡ two ++ c ∷ [] → a ≡ new_link 0 1 → b ≡ new_link 2 2 → c ≡ new_link 5 256 → three ≡ three_new
+three-pushed none one two three a b c empty first second third is-a is-b is-c =
+    third
+    ∙ ap (λ (xs : List PlainLink). xs ++ c ∷ []) (second ∙ ap (λ (xs : List PlainLink). xs ++ b ∷ []) (first ∙ ap (λ (xs : List PlainLink). xs ++ a ∷ []) empty))
+    ∙ ap (λ (x : PlainLink). x ∷ b ∷ c ∷ []) is-a
+    ∙ ap (λ (x : PlainLink). new_link 0 1 ∷ x ∷ c ∷ []) is-b
+    ∙ ap (λ (x : PlainLink). new_link 0 1 ∷ new_link 2 2 ∷ x ∷ []) is-c

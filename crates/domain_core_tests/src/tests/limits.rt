@@ -39,9 +39,30 @@ fn three_links(alloc: Global) -> Result<Vec<PlainLink>, Fail>
     Ok(links)
 }
 
+/// Domain 3 with these links.
+fn between(alloc: Global) -> Result<Domain<PlainSend, PlainRecv>, Fail> {
+    let links = three_links(alloc)?;
+    let domain = Domain::open(alloc, 3, 1, 256, links)?;
+    Ok(domain)
+}
+
+/// The peer of a link, its size, and how many buffers are free at its sender.
+type Row = (u8, u32, u32);
+
+/// The creation of the endpoint was put to each.
+const AFTER_A_CREATION: [Row; 3] = [(0, 1, 0), (2, 2, 1), (5, 256, 255)];
+
+fn assert_links(rt: &impl Abort, links: &[PlainLink], rows: &[Row]) -> Result<(), Fail> {
+    assert_eq!(rt; links.len(), rows.len());
+    for (link, row) in links.iter().zip(rows) {
+        assert_eq!(rt; (link.peer, link.size, link.send.free_len()), *row);
+    }
+    Ok(())
+}
+
 #[test]
 fn links_of_each_size_are_opened_and_given_back(rt: HostRuntime) -> Result<(), Fail> {
-    let mut domain = Domain::open(rt.alloc(), 3, 1, 256, three_links(rt.alloc())?)?;
+    let mut domain = between(rt.alloc())?;
     let mut journal = Journal::new(rt.alloc())?;
     assert_answers(&rt, &mut domain, &mut journal, &[(Create(0, 1), Ok(1024))])?;
     for peer in 0..8u8 {
@@ -51,14 +72,7 @@ fn links_of_each_size_are_opened_and_given_back(rt: HostRuntime) -> Result<(), F
     }
     journal.reserve(160, 67_584)?;
     assert!(rt; !domain.turn(&mut journal));
-    let links = domain.into_links();
-    assert_eq!(rt; links.len(), 3);
-    for (link, (peer, size)) in links.iter().zip([(0, 1), (2, 2), (5, 256)]) {
-        assert_eq!(rt; (link.peer, link.size), (peer, size));
-        // The creation was put to each.
-        assert_eq!(rt; link.send.free_len(), size - 1, "{peer}");
-    }
-    Ok(())
+    assert_links(&rt, &domain.into_links(), &AFTER_A_CREATION)
 }
 
 #[test]
