@@ -3,7 +3,7 @@ use Rattle.std.proofs.Common.{◌≡◌, ◌≢◌, ℕ, zero, suc, ◌+◌, ◌
 use Rattle.std.specs.Prelude.{Contains, IsSome}
 use Rattle.std.proofs.lemmas.Bool.Decides.{eqb_tells}
 use Rattle.board_model.specs.State.{DomainState, peer_of, queued_from, lent_from}
-use Rattle.domain_core.specs.declared.domain.Places.{Places}
+use Rattle.buffer_book.specs.declared.places.Places.{Places}
 use Rattle.board_runner.specs.Tallied.{places_held}
 use Rattle.board_runner.proofs.PeersFound.{peer-contained}
 

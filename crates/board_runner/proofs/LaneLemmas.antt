@@ -27,7 +27,7 @@ use Rattle.board_model.proofs.WholeFinds.{find-mapped, some_tells}
 use Rattle.board_model.proofs.WholeJoined.{IsOwn, IsLink, Joined, joined_back}
 use Rattle.board_model.proofs.WholeStations.{state_in}
 use Rattle.board_model.proofs.WholeBoard.{serial_run_is_whole}
-use Rattle.domain_core.specs.declared.domain.Places.{Places}
+use Rattle.buffer_book.specs.declared.places.Places.{Places}
 use Rattle.board_runner.specs.declared.tally.Tally.{Tally}
 use Rattle.board_runner.specs.Lanes.{line_of_domain, joins, buffers_between}
 use Rattle.board_runner.specs.Tallied.{places_held, IsTallyOf}

@@ -7,7 +7,7 @@ use Rattle.board_model.specs.Journal.{joined}
 use Rattle.board_model.specs.State.{DomainState, peer_of, queued_items, queued_from, lent_from}
 use Rattle.board_model.specs.Tallies.{deleted_in}
 use Rattle.board_model.specs.SerialRun.{Station, is_station, finished}
-use Rattle.domain_core.specs.declared.domain.Places.{Places}
+use Rattle.buffer_book.specs.declared.places.Places.{Places}
 use Rattle.board_runner.specs.declared.station.Station as code
 use Rattle.board_runner.specs.declared.tally.HeldBuffers.{HeldBuffers}
 use Rattle.board_runner.specs.declared.tally.Tally.{Tally}
