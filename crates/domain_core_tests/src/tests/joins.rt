@@ -1,7 +1,7 @@
 use super::*;
 
 /// An entry that may be joined to those before it, or one that stands between.
-#[derive(Clone, Copy, Debug)]
+#[derive(Clone, Copy)]
 enum Noted {
     Idle,
     Again(Refusal),
