@@ -3,6 +3,8 @@ ghost use Rattle.mc_base.specs.Letter.{HasSpelling, plain_letter};
 
 use super::*;
 use mc_base::{Bits, Kind, Letter, LetterFault, Priority, Reason};
+use std::alloc::{AllocError, Global};
+use std::process::Abort;
 use std::test::Fail;
 
 const CONNECT: [u8; 8] = [0x4d, 1, 2, 1, 4, 3, 2, 1];
@@ -61,7 +63,9 @@ const LETTERS: [(&[u8], &str); 16] = [
 ];
 
 /// The first four bytes, the channel's lowest, the length of the content, and the first fault.
-const FAULTS: [([u8; 4], u8, u16, Option<LetterFault>); 44] = [
+type Row = ([u8; 4], u8, u16, Option<LetterFault>);
+
+const FAULTS: [Row; 44] = [
     ([0x4c, 1, 1, 0], 0, 0, Some(LetterFault::Magic)),
     ([0x4c, 2, 1, 0], 0, 0, Some(LetterFault::Magic)),
     ([0x4d, 0, 1, 0], 0, 0, Some(LetterFault::Version)),
@@ -164,18 +168,25 @@ fn each_letter_is_written(rt: HostRuntime) -> Result<(), Fail> {
     Ok(())
 }
 
-#[test]
-fn each_letter_is_read(rt: HostRuntime) -> Result<(), Fail> {
-    for (bytes, text) in LETTERS {
-        match read_letter(bytes) {
-            Ok(letter) => {
-                let read = format!(in rt.alloc(); "{letter:?}")?;
-                assert_eq!(rt; read.as_str(), text);
-            }
-            Err(fault) => assert!(rt; false, "{fault:?}"),
-        }
+/// Whether the letter of these bytes is shown as this text.
+fn is_read_as(alloc: Global, bytes: &[u8], text: &str) -> Result<bool, AllocError> {
+    let Ok(letter) = read_letter(bytes) else {
+        return Ok(false);
+    };
+    let shown = format!(in alloc; "{letter:?}")?;
+    Ok(shown.as_str() == text)
+}
+
+fn assert_read(rt: &impl Abort, alloc: Global, rows: &[(&[u8], &str)]) -> Result<(), Fail> {
+    for (bytes, text) in rows {
+        assert!(rt; is_read_as(alloc, bytes, text)?, "{text}");
     }
     Ok(())
+}
+
+#[test]
+fn each_letter_is_read(rt: HostRuntime) -> Result<(), Fail> {
+    assert_read(&rt, rt.alloc(), &LETTERS)
 }
 
 fn fault_of(payload: &[u8]) -> Option<LetterFault> {
@@ -199,17 +210,19 @@ fn fault_at(front: [u8; 4], channel: u8, content: usize) -> Option<LetterFault>
     fault_of(&payload[..8 + content])
 }
 
+fn assert_faults(rt: &impl Abort, rows: &[Row]) {
+    for (i, (front, channel, content, fault)) in rows.iter().enumerate() {
+        let content = usize::from(*content).min(489);
+        assert!(rt; fault_at(*front, *channel, content) == *fault, "row {i}");
+    }
+}
+
 #[test]
 fn first_faults_are_told(rt: HostRuntime) {
-    for (front, channel, content, fault) in FAULTS {
-        let content = usize::from(content);
-        assert_eq!(rt;
-            fault_at(front, channel, content.min(489)),
-            fault,
-            "{front:?} {channel}"
-        );
+    assert_faults(&rt, &FAULTS);
+    for size in 0..8 {
+        let (short, _) = ACCEPT.split_at(size);
+        let due = Some(LetterFault::PayloadShort);
+        assert!(rt; fault_of(short) == due, "{size} bytes");
     }
-    assert_eq!(rt; fault_of(&[]), Some(LetterFault::PayloadShort));
-    assert_eq!(rt; fault_of(&[0; 7]), Some(LetterFault::PayloadShort));
-    assert_eq!(rt; fault_of(&ACCEPT[..7]), Some(LetterFault::PayloadShort));
 }

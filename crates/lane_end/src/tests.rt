@@ -12,7 +12,7 @@ mod pair;
 use pair::Pair;
 
 /// What is done with a lane.
-#[derive(Clone, Copy, Debug)]
+#[derive(Clone, Copy)]
 pub enum Deed {
     /// Puts a frame, where a buffer is free: 1 where one was.
     Put(&'static [u8]),
@@ -102,25 +102,39 @@ fn long_frame() -> [u8; 512] {
     frame
 }
 
+/// How many buffers are free at the sender of a new plain lane, and how many frames a look shows at its receiver.
+fn new_plain(alloc: Global, size: u32) -> Result<(u32, u32), LaneFault> {
+    let (send, mut recv) = plain_lane(alloc, size)?;
+    Ok((send.free_len(), recv.look()))
+}
+
+/// The same of a new lane to oneself.
+fn new_alone(alloc: Global, size: u32) -> Result<(u32, u32), LaneFault> {
+    let mut lane = LoopLane::new(alloc, size)?;
+    Ok((lane.free_len(), RecvEnd::look(&mut lane)))
+}
+
+/// Whether both are refused for their size.
+fn is_no_size(alloc: Global, size: u32) -> bool {
+    matches!(new_plain(alloc, size), Err(LaneFault::Size))
+        && matches!(new_alone(alloc, size), Err(LaneFault::Size))
+}
+
+/// Whether both are made with all their buffers free.
+fn is_size(alloc: Global, size: u32) -> bool {
+    matches!(new_plain(alloc, size), Ok((free, 0)) if free == size)
+        && matches!(new_alone(alloc, size), Ok((free, 0)) if free == size)
+}
+
 #[test]
-fn sizes_from_1_to_256_are_made(rt: HostRuntime) -> Result<(), Fail> {
+fn sizes_from_1_to_256_are_made(rt: HostRuntime) {
     may_cross_threads();
     for size in [0, 257] {
-        assert!(rt; matches!(plain_lane(rt.alloc(), size), Err(LaneFault::Size)));
-        assert!(rt; matches!(LoopLane::new(rt.alloc(), size), Err(LaneFault::Size)));
+        assert!(rt; is_no_size(rt.alloc(), size), "{size}");
     }
     for size in [1, 2, 256] {
-        let Ok((send, mut recv)) = plain_lane(rt.alloc(), size) else {
-            return Err("no lane".into());
-        };
-        assert_eq!(rt; send.free_len(), size);
-        assert_eq!(rt; recv.look(), 0);
-        let Ok(lane) = LoopLane::new(rt.alloc(), size) else {
-            return Err("no lane".into());
-        };
-        assert_eq!(rt; lane.free_len(), size);
+        assert!(rt; is_size(rt.alloc(), size), "{size}");
     }
-    Ok(())
 }
 
 /// Asserts what comes of each deed on a plain lane of two buffers.
@@ -129,7 +143,7 @@ fn assert_deeds(rt: &impl Abort, alloc: Global, rows: &[Row]) -> Result<(), Fail
         return Err("no lane".into());
     };
     for (i, (deed, due)) in rows.iter().enumerate() {
-        assert_eq!(rt; lane.does(*deed), *due, "{i}: {deed:?}");
+        assert_eq!(rt; lane.does(*deed), *due, "row {i}");
     }
     Ok(())
 }
@@ -238,7 +252,7 @@ fn assert_alone(rt: &impl Abort, alloc: Global, rows: &[Row]) -> Result<(), Fail
         return Err("no lane".into());
     };
     for (i, (deed, due)) in rows.iter().enumerate() {
-        assert_eq!(rt; does_alone(&mut lane, *deed), *due, "{i}: {deed:?}");
+        assert_eq!(rt; does_alone(&mut lane, *deed), *due, "row {i}");
     }
     Ok(())
 }

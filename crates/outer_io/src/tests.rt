@@ -5,6 +5,7 @@ ghost use Rattle.outer_io.specs.Puts.{Puts};
 ghost use Rattle.outer_io.specs.Writes.{Writes};
 
 use super::*;
+use std::process::Abort;
 use std::test::Fail;
 
 /// A source of so many bytes that counts its reads.
@@ -57,22 +58,48 @@ impl Sink for Narrow {
     }
 }
 
-/// What a read of each kind of source gives: the count of each read, or `Failed`.
+/// What reads into a buffer of three bytes give, one after the other, and the buffer after each.
+const READS: [(Result<usize, Failed>, [u8; 3]); 5] = [
+    (Ok(2), [1, 2, 0]),
+    (Err(Failed), [1, 2, 0]),
+    (Ok(2), [3, 4, 0]),
+    (Ok(1), [5, 4, 0]),
+    (Ok(0), [5, 4, 0]),
+];
+
+fn assert_reads(
+    rt: &impl Abort,
+    source: &mut MemSource,
+    rows: &[(Result<usize, Failed>, [u8; 3])],
+) {
+    let mut buf = [0u8; 3];
+    for (i, (count, held)) in rows.iter().enumerate() {
+        assert!(rt; source.read(&mut buf) == *count, "read {i}");
+        assert!(rt; buf == *held, "read {i}");
+    }
+}
+
 #[test]
 fn memory_source_reads(rt: HostRuntime) -> Result<(), Fail> {
     let alloc = rt.alloc();
-    // a step of 2 and a buffer of 3; call 1 fails
+    // a step of 2; call 1 fails
     let mut source = MemSource::new([1, 2, 3, 4, 5].to_vec(alloc)?, [1].to_vec(alloc)?, 2);
-    let mut buf = [0u8; 3];
-    assert_eq!(rt; source.read(&mut buf), Ok(2));
-    assert_eq!(rt; buf.as_slice(), [1, 2, 0].as_slice());
-    assert_eq!(rt; source.read(&mut buf), Err(Failed));
-    assert_eq!(rt; buf.as_slice(), [1, 2, 0].as_slice());
-    assert_eq!(rt; source.read(&mut buf), Ok(2));
-    assert_eq!(rt; source.read(&mut buf), Ok(1));
-    assert_eq!(rt; buf.as_slice(), [5, 4, 0].as_slice());
-    assert_eq!(rt; source.read(&mut buf), Ok(0));
+    assert_reads(&rt, &mut source, &READS);
     Ok(())
+}
+
+/// Pieces that are written one after the other, and how many bytes of each are taken.
+const WRITES: [(&[u8], Result<usize, Failed>); 4] = [
+    (b"abc", Ok(2)),
+    (b"c", Err(Failed)),
+    (b"cd", Ok(1)),
+    (b"d", Err(Failed)),
+];
+
+fn assert_writes(rt: &impl Abort, sink: &mut MemSink, rows: &[(&[u8], Result<usize, Failed>)]) {
+    for (i, (piece, count)) in rows.iter().enumerate() {
+        assert!(rt; sink.write(piece) == *count, "write {i}");
+    }
 }
 
 #[test]
@@ -82,11 +109,8 @@ fn memory_sink_writes(rt: HostRuntime) -> Result<(), Fail> {
     let mut sink = MemSink::new(alloc, [1].to_vec(alloc)?, 2, 3)
         .ok()
         .ok_or("memory")?;
-    assert_eq!(rt; sink.write(b"abc"), Ok(2));
-    assert_eq!(rt; sink.write(b"c"), Err(Failed));
-    assert_eq!(rt; sink.write(b"cd"), Ok(1));
-    assert_eq!(rt; sink.write(b"d"), Err(Failed));
-    assert_eq!(rt; sink.written(), b"abc".as_slice());
+    assert_writes(&rt, &mut sink, &WRITES);
+    assert!(rt; sink.written() == b"abc".as_slice());
     Ok(())
 }
 

@@ -1,55 +1,45 @@
 use super::*;
+use std::process::Abort;
 use std::test::Fail;
+
+/// A queue's size, one of its descriptors and places, and the words of the fields, in the order of `Field`.
+type Row = (u32, u16, [usize; 11]);
+
+const WORDS: [Row; 3] = [
+    (2, 1, [4, 5, 6, 7, 8, 9, 11, 12, 13, 16, 17]),
+    (4, 3, [12, 13, 14, 15, 16, 17, 21, 22, 23, 30, 31]),
+    (256, 255, [1020, 1021, 1022, 1023, 1024, 1025, 1281, 1282, 1283, 1794, 1795]),
+];
+
+/// The words of the fields of a descriptor and a place, where the queue has them.
+fn words_at(size: u32, at: u16) -> Option<[usize; 11]> {
+    if size > 256 || u32::from(at) >= size {
+        return None;
+    }
+    Some([
+        word_of(size, Field::DescAddr(at)),
+        word_of(size, Field::DescLen(at)),
+        word_of(size, Field::DescFlags(at)),
+        word_of(size, Field::DescNext(at)),
+        word_of(size, Field::AvailFlags),
+        word_of(size, Field::AvailIdx),
+        word_of(size, Field::AvailRing(at)),
+        word_of(size, Field::UsedFlags),
+        word_of(size, Field::UsedIdx),
+        word_of(size, Field::UsedId(at)),
+        word_of(size, Field::UsedLen(at)),
+    ])
+}
+
+fn assert_words(rt: &impl Abort, rows: &[Row]) {
+    for (size, at, words) in rows {
+        assert!(rt; words_at(*size, *at) == Some(*words), "{size}");
+    }
+}
 
 #[test]
 fn the_words_are_those_of_the_layout(rt: HostRuntime) {
-    let words = [
-        word_of(2, Field::DescAddr(1)),
-        word_of(2, Field::DescLen(1)),
-        word_of(2, Field::DescFlags(1)),
-        word_of(2, Field::DescNext(1)),
-        word_of(2, Field::AvailFlags),
-        word_of(2, Field::AvailIdx),
-        word_of(2, Field::AvailRing(1)),
-        word_of(2, Field::UsedFlags),
-        word_of(2, Field::UsedIdx),
-        word_of(2, Field::UsedId(1)),
-        word_of(2, Field::UsedLen(1)),
-    ];
-    assert!(rt; words == [4, 5, 6, 7, 8, 9, 11, 12, 13, 16, 17]);
-    let words = [
-        word_of(4, Field::DescAddr(3)),
-        word_of(4, Field::DescLen(3)),
-        word_of(4, Field::DescFlags(3)),
-        word_of(4, Field::DescNext(3)),
-        word_of(4, Field::AvailFlags),
-        word_of(4, Field::AvailIdx),
-        word_of(4, Field::AvailRing(3)),
-        word_of(4, Field::UsedFlags),
-        word_of(4, Field::UsedIdx),
-        word_of(4, Field::UsedId(3)),
-        word_of(4, Field::UsedLen(3)),
-    ];
-    assert!(rt; words == [12, 13, 14, 15, 16, 17, 21, 22, 23, 30, 31]);
-    let words = [
-        word_of(256, Field::DescAddr(255)),
-        word_of(256, Field::DescLen(255)),
-        word_of(256, Field::DescFlags(255)),
-        word_of(256, Field::DescNext(255)),
-        word_of(256, Field::AvailFlags),
-        word_of(256, Field::AvailIdx),
-        word_of(256, Field::AvailRing(255)),
-        word_of(256, Field::UsedFlags),
-        word_of(256, Field::UsedIdx),
-        word_of(256, Field::UsedId(255)),
-        word_of(256, Field::UsedLen(255)),
-    ];
-    assert!(rt;
-        words
-            == [
-                1020, 1021, 1022, 1023, 1024, 1025, 1281, 1282, 1283, 1794, 1795
-            ]
-    );
+    assert_words(&rt, &WORDS);
 }
 
 #[test]

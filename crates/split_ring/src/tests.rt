@@ -16,10 +16,11 @@ fn offer_all(on: &Ring, mut driver: Driver, mut buffers: Vec<Buffer>) -> Driver
     requires held { AreHeld role.Driver driver buffers.items }
     ensures { result.ring ≡ on.now.ring }
 {
-    let mut len = 0;
-    while let Some(buffer) = buffers.pop() {
+    for len in 0..256 {
+        let Some(buffer) = buffers.pop() else {
+            break;
+        };
         driver.offer(on, buffer, len);
-        len = (len + 1) % 256;
     }
     driver
 }

@@ -1,8 +1,11 @@
 use crate::{endpoint_named, full_names_read_back};
 use mc_base::EndName;
+use std::process::Abort;
 
-/// Texts, and the domain, node and port that each names, if it is a full name.
-const NAMES: [(&[u8], Option<(u8, u8, u16)>); 42] = [
+/// A text, and the domain, node and port that it names, if it is a full name.
+type Row = (&'static [u8], Option<(u8, u8, u16)>);
+
+const NAMES: [Row; 42] = [
     (b"mcapi:0:0:0", Some((0, 0, 0))),
     (b"mcapi:1:0:5", Some((1, 0, 5))),
     (b"mcapi:7:15:65535", Some((7, 15, 65535))),
@@ -58,10 +61,14 @@ fn numbers(name: EndName) -> (u8, u8, u16) {
     (name.domain, name.node, name.port)
 }
 
+fn assert_named(rt: &impl Abort, rows: &[Row]) {
+    for (i, (name, named)) in rows.iter().enumerate() {
+        assert!(rt; endpoint_named(name).map(numbers) == *named, "row {i}");
+    }
+}
+
 #[test]
 fn full_names_are_read(rt: HostRuntime) {
-    for (name, named) in NAMES {
-        assert_eq!(rt; endpoint_named(name).map(numbers), named, "{name:?}");
-    }
+    assert_named(&rt, &NAMES);
     full_names_read_back();
 }

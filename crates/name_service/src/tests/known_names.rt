@@ -1,5 +1,6 @@
 use crate::{KnownNames, known_names_are_a_map, may_cross_threads};
 use mc_base::{EndName, Full};
+use std::process::Abort;
 use std::test::Fail;
 
 /// The steps in which 64 names are gone through: in rising order, in falling order, and mixed.
@@ -45,77 +46,113 @@ fn all_are_found(known: &KnownNames, step: u16, others: [(EndName, Option<u32>);
     true
 }
 
+/// What is done with the first of the 64 names, or with one beside them, and what comes of it.
+#[derive(Clone, Copy)]
+enum Deed {
+    LearnFirst(u32, Result<(), Full>),
+    LearnOther(u32, Result<(), Full>),
+    ForgetFirst(bool),
+    ForgetOther(bool),
+}
+
+use Deed::{ForgetFirst, ForgetOther, LearnFirst, LearnOther};
+
+/// A deed, and the addresses of the two names after it.
+type Row = (Deed, Option<u32>, Option<u32>);
+
+const DEEDS: [Row; 6] = [
+    // No more are learned, and nothing changes. A known name gets its new address.
+    (LearnOther(7, Err(Full)), Some(0), None),
+    (LearnFirst(8, Ok(())), Some(8), None),
+    (ForgetOther(false), Some(8), None),
+    // Where one is forgotten, there is room for another.
+    (ForgetFirst(true), None, None),
+    (LearnOther(9, Ok(())), None, Some(9)),
+    (LearnFirst(10, Err(Full)), None, Some(9)),
+];
+
+/// Whether a deed comes to what it must.
+fn holds(known: &mut KnownNames, first: EndName, other: EndName, deed: Deed) -> bool {
+    match deed {
+        LearnFirst(addr, due) => known.learn(first, addr) == due,
+        LearnOther(addr, due) => known.learn(other, addr) == due,
+        ForgetFirst(due) => known.forget(first) == due,
+        ForgetOther(due) => known.forget(other) == due,
+    }
+}
+
+fn assert_deeds(rt: &impl Abort, known: &mut KnownNames, step: u16, rows: &[Row]) {
+    let first = stepped(0, step);
+    let other = name(255, 255, 65535);
+    for (i, (deed, addr, other_addr)) in rows.iter().enumerate() {
+        assert!(rt; holds(known, first, other, *deed), "{step}: row {i}");
+        let due = [(first, *addr), (other, *other_addr)];
+        assert!(rt; all_are_found(known, step, due), "{step}: row {i}");
+    }
+}
+
 #[test]
 fn sixty_four_names_are_known_in_any_order(rt: HostRuntime) -> Result<(), Fail> {
-    let last = name(255, 255, 65535);
     for step in STEPS {
         let mut known = KnownNames::new(rt.alloc())?;
         learn_all(&mut known, step)?;
-        let first = stepped(0, step);
-        assert!(rt;
-            all_are_found(&known, step, [(first, Some(0)), (last, None)]),
-            "{step}"
-        );
-
-        // No more are learned, and nothing changes. A known name gets its new address.
-        assert_eq!(rt; known.learn(last, 7), Err(Full));
-        assert!(rt;
-            all_are_found(&known, step, [(first, Some(0)), (last, None)]),
-            "{step}"
-        );
-        known.learn(first, 8)?;
-        assert!(rt;
-            all_are_found(&known, step, [(first, Some(8)), (last, None)]),
-            "{step}"
-        );
-
-        // Where one is forgotten, there is room for another.
-        assert!(rt; !known.forget(last), "{step}");
-        assert!(rt; known.forget(first), "{step}");
-        assert!(rt;
-            all_are_found(&known, step, [(first, None), (last, None)]),
-            "{step}"
-        );
-        known.learn(last, 9)?;
-        assert!(rt;
-            all_are_found(&known, step, [(first, None), (last, Some(9))]),
-            "{step}"
-        );
-        assert_eq!(rt; known.learn(first, 10), Err(Full));
+        assert_deeds(&rt, &mut known, step, &DEEDS);
     }
     known_names_are_a_map();
     may_cross_threads();
     Ok(())
 }
 
+/// The domain, node and port of a name.
+type Numbers = (u8, u8, u16);
+
+const APART: [Numbers; 9] = [
+    (0, 0, 0),
+    (0, 0, 1),
+    (0, 0, 65535),
+    (0, 1, 0),
+    (0, 255, 0),
+    (0, 255, 65535),
+    (1, 0, 0),
+    (255, 0, 0),
+    (255, 255, 65535),
+];
+
+/// Whether a name is not known, until it is learned with an address.
+fn is_new(known: &mut KnownNames, name: EndName, addr: u32) -> bool {
+    known.find(name).is_none() && known.learn(name, addr).is_ok() && known.find(name) == Some(addr)
+}
+
+/// Whether a name is known with an address, until it is forgotten, once.
+fn is_forgotten_once(known: &mut KnownNames, name: EndName, addr: u32) -> bool {
+    known.find(name) == Some(addr)
+        && known.forget(name)
+        && !known.forget(name)
+        && known.find(name).is_none()
+}
+
+/// Asserts that each of these names is new, and then that each is known.
+fn assert_apart(rt: &impl Abort, known: &mut KnownNames, rows: &[Numbers]) {
+    for (i, (domain, node, port)) in rows.iter().enumerate() {
+        assert!(rt;
+            is_new(known, name(*domain, *node, *port), i as u32),
+            "name {i}"
+        );
+    }
+    for (i, (domain, node, port)) in rows.iter().enumerate() {
+        assert!(rt;
+            is_forgotten_once(known, name(*domain, *node, *port), i as u32),
+            "name {i}"
+        );
+    }
+}
+
 #[test]
 fn names_that_differ_in_one_part_are_apart(rt: HostRuntime) -> Result<(), Fail> {
-    let names = [
-        name(0, 0, 0),
-        name(0, 0, 1),
-        name(0, 0, 65535),
-        name(0, 1, 0),
-        name(0, 255, 0),
-        name(0, 255, 65535),
-        name(1, 0, 0),
-        name(255, 0, 0),
-        name(255, 255, 65535),
-    ];
     let mut known = KnownNames::new(rt.alloc())?;
-    for (addr, name) in names.iter().enumerate() {
-        assert_eq!(rt; known.find(*name), None);
-        known.learn(*name, addr as u32)?;
+    // What was forgotten is learned again.
+    for _ in 0..2 {
+        assert_apart(&rt, &mut known, &APART);
     }
-    for (addr, name) in names.iter().enumerate() {
-        assert_eq!(rt; known.find(*name), Some(addr as u32));
-        assert!(rt; known.forget(*name));
-        assert!(rt; !known.forget(*name));
-        assert_eq!(rt; known.find(*name), None);
-    }
-
-    // A name that was forgotten is learned again.
-    known.learn(name(0, 0, 1), 77)?;
-    assert_eq!(rt; known.find(name(0, 0, 1)), Some(77));
-    assert_eq!(rt; known.find(name(0, 0, 0)), None);
     Ok(())
 }
