@@ -51,9 +51,10 @@ AsksAtMost n other = Unit {0}
 abbrev pub dropped_by : Call → PlainAnswer → ℕ
 dropped_by call a = if is_delete call then number_told a else 0
 
--- of a message, a test gave so many bytes at most
+-- of a message, a test gave so many bytes at most. No packet comes yet
 abbrev pub GivesWithin : ℕ → Done → Type 0
 GivesWithin n (done.Message got) = got.given ≤ n
+GivesWithin n (done.Packet id) = ⊥
 GivesWithin n other = Unit {0}
 
 -- a call with its turn at a domain alone: its answer, and the id that it gives

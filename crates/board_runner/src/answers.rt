@@ -86,7 +86,7 @@ fn told<'a>(done: Done, out: &'a [u8]) -> Told<'a>
             size: got.size,
             bytes: given_of(got, out),
         },
-        Done::Packet(_) => Told::Ended(Refusal::Pending), // No packet comes yet.
+        Done::Packet(_) => unreachable!(), // No packet comes yet.
         Done::Ended(word) => Told::Ended(word),
     }
 }

@@ -92,7 +92,7 @@ abbrev pub available : Result ℕ Refusal → PlainAnswer
 available (Ok count) = tells count
 available (Err word) = refuses word
 
--- how a request ended; of a message the first bytes of `out` were given. No packet comes yet
+-- how a request ended; of a message the first bytes of `out` were given. A packet, which never comes, is told as pending
 abbrev pub result_of_done : Done → List ℕ → PlainResult
 result_of_done (done.Address address) out = found_at address
 result_of_done done.Accepted out = was_accepted
@@ -101,9 +101,10 @@ result_of_done (done.Message got) out = brought got.size (take got.given out)
 result_of_done (done.Packet id) out = ended_by Pending
 result_of_done (done.Ended word) out = ended_by word
 
--- the first bytes of a message go to `out`; all else stays there
+-- the first bytes of a message go to `out`; all else stays there. No packet comes yet
 abbrev pub GivesTo : Done → List ℕ → List ℕ → Type 0
 GivesTo (done.Message got) old new = (got.given ≤ length old) × (drop got.given new ≡ drop got.given old)
+GivesTo (done.Packet id) old new = ⊥
 GivesTo other old new = new ≡ old
 
 abbrev pub tested : Result Done Refusal → List ℕ → PlainAnswer

@@ -42,7 +42,7 @@ pub const CALL_BYTES: u32 = 67_584;
 ///
 /// Each call that takes a journal makes one turn first, notes it, and notes what it puts itself. It has the condition that
 /// there is room in the journal for `CALL_ENTRIES` entries of `CALL_BYTES` bytes together. Refusals are tested in the order
-/// told. A refused call changes nothing after its turn.
+/// told. A refused call changes nothing after its turn. No call uses more than that room.
 #[derive(Debug, Drop)]
 pub struct Domain<S: SendEnd, R: RecvEnd> {
     endpoints: Endpoints,
@@ -75,7 +75,9 @@ impl<S: SendEnd, R: RecvEnd> Domain<S, R> {
     pub fn create(&mut self, journal: &mut Journal, at: Local) -> Result<u32, Refusal>
         requires entry_room { call_entries ≤ journal.old.entry_room }
         requires byte_room { call_bytes ≤ journal.old.byte_room }
-        ensures { Calls (EndsMoved S.Moved R.Moved) at.node (create_at at.port) self.old self.new journal.old.lines journal.new.lines (created result) None }
+        ensures call { Calls (EndsMoved S.Moved R.Moved) at.node (create_at at.port) self.old self.new journal.old.lines journal.new.lines (created result) None }
+        ensures entry_room { journal.old.entry_room ≤ journal.new.entry_room + call_entries }
+        ensures byte_room { journal.old.byte_room ≤ journal.new.byte_room + call_bytes }
     {
         self.take_turn(journal);
         self.add_endpoint(at)
@@ -89,7 +91,9 @@ impl<S: SendEnd, R: RecvEnd> Domain<S, R> {
     pub fn delete(&mut self, journal: &mut Journal, at: Local) -> Result<u32, Refusal>
         requires entry_room { call_entries ≤ journal.old.entry_room }
         requires byte_room { call_bytes ≤ journal.old.byte_room }
-        ensures { Calls (EndsMoved S.Moved R.Moved) at.node (delete_at at.port) self.old self.new journal.old.lines journal.new.lines (deleted result) None }
+        ensures call { Calls (EndsMoved S.Moved R.Moved) at.node (delete_at at.port) self.old self.new journal.old.lines journal.new.lines (deleted result) None }
+        ensures entry_room { journal.old.entry_room ≤ journal.new.entry_room + call_entries }
+        ensures byte_room { journal.old.byte_room ≤ journal.new.byte_room + call_bytes }
     {
         self.take_turn(journal);
         self.remove_endpoint(at)
@@ -102,7 +106,9 @@ impl<S: SendEnd, R: RecvEnd> Domain<S, R> {
     pub fn lookup(&mut self, journal: &mut Journal, name: EndName) -> Result<RequestId, Refusal>
         requires entry_room { call_entries ≤ journal.old.entry_room }
         requires byte_room { call_bytes ≤ journal.old.byte_room }
-        ensures { Calls (EndsMoved S.Moved R.Moved) 0 (lookup_of name) self.old self.new journal.old.lines journal.new.lines (requested result) (given result) }
+        ensures call { Calls (EndsMoved S.Moved R.Moved) 0 (lookup_of name) self.old self.new journal.old.lines journal.new.lines (requested result) (given result) }
+        ensures entry_room { journal.old.entry_room ≤ journal.new.entry_room + call_entries }
+        ensures byte_room { journal.old.byte_room ≤ journal.new.byte_room + call_bytes }
     {
         self.take_turn(journal);
         self.begin_lookup(name)
@@ -114,6 +120,8 @@ impl<S: SendEnd, R: RecvEnd> Domain<S, R> {
         requires byte_room { call_bytes ≤ journal.old.byte_room }
         ensures call { Calls (EndsMoved S.Moved R.Moved) 0 turn_alone self.old self.new journal.old.lines journal.new.lines agrees None }
         ensures turn { MakesTurn (EndsMoved S.Moved R.Moved) self.old self.new journal.old.lines journal.new.lines result }
+        ensures entry_room { journal.old.entry_room ≤ journal.new.entry_room + call_entries }
+        ensures byte_room { journal.old.byte_room ≤ journal.new.byte_room + call_bytes }
     {
         self.take_turn(journal)
     }
@@ -133,7 +141,9 @@ impl<S: SendEnd, R: RecvEnd> Domain<S, R> {
     ) -> Result<(), Refusal>
         requires entry_room { call_entries ≤ journal.old.entry_room }
         requires byte_room { call_bytes ≤ journal.old.byte_room }
-        ensures { Calls (EndsMoved S.Moved R.Moved) from.node (send_from from.port to priority bytes.now) self.old self.new journal.old.lines journal.new.lines (sent result) None }
+        ensures call { Calls (EndsMoved S.Moved R.Moved) from.node (send_from from.port to priority bytes.now) self.old self.new journal.old.lines journal.new.lines (sent result) None }
+        ensures entry_room { journal.old.entry_room ≤ journal.new.entry_room + call_entries }
+        ensures byte_room { journal.old.byte_room ≤ journal.new.byte_room + call_bytes }
     {
         self.take_turn(journal); // Buffers that came back are free from here on.
         self.put_message(journal, from, to, priority, bytes)
@@ -155,6 +165,8 @@ impl<S: SendEnd, R: RecvEnd> Domain<S, R> {
         ensures given { IfOk result (λ got. got.given ≤ length out.old) }
         ensures rest { IfOk result (λ got. drop got.given out.new ≡ drop got.given out.old) }
         ensures refused { OnErr result (out.new ≡ out.old) }
+        ensures entry_room { journal.old.entry_room ≤ journal.new.entry_room + call_entries }
+        ensures byte_room { journal.old.byte_room ≤ journal.new.byte_room + call_bytes }
     {
         self.take_turn(journal);
         self.take_message(at, out)
@@ -172,7 +184,9 @@ impl<S: SendEnd, R: RecvEnd> Domain<S, R> {
     ) -> Result<RequestId, Refusal>
         requires entry_room { call_entries ≤ journal.old.entry_room }
         requires byte_room { call_bytes ≤ journal.old.byte_room }
-        ensures { Calls (EndsMoved S.Moved R.Moved) at.node (request_at at.port max) self.old self.new journal.old.lines journal.new.lines (requested result) (given result) }
+        ensures call { Calls (EndsMoved S.Moved R.Moved) at.node (request_at at.port max) self.old self.new journal.old.lines journal.new.lines (requested result) (given result) }
+        ensures entry_room { journal.old.entry_room ≤ journal.new.entry_room + call_entries }
+        ensures byte_room { journal.old.byte_room ≤ journal.new.byte_room + call_bytes }
     {
         self.take_turn(journal);
         self.begin_receive(at, max)
@@ -184,7 +198,9 @@ impl<S: SendEnd, R: RecvEnd> Domain<S, R> {
     pub fn msg_available(&mut self, journal: &mut Journal, at: Local) -> Result<u32, Refusal>
         requires entry_room { call_entries ≤ journal.old.entry_room }
         requires byte_room { call_bytes ≤ journal.old.byte_room }
-        ensures { Calls (EndsMoved S.Moved R.Moved) at.node (available_at at.port) self.old self.new journal.old.lines journal.new.lines (available result) None }
+        ensures call { Calls (EndsMoved S.Moved R.Moved) at.node (available_at at.port) self.old self.new journal.old.lines journal.new.lines (available result) None }
+        ensures entry_room { journal.old.entry_room ≤ journal.new.entry_room + call_entries }
+        ensures byte_room { journal.old.byte_room ≤ journal.new.byte_room + call_bytes }
     {
         self.take_turn(journal);
         self.count_messages(at)
@@ -208,6 +224,8 @@ impl<S: SendEnd, R: RecvEnd> Domain<S, R> {
         ensures call { Calls (EndsMoved S.Moved R.Moved) 0 (test_of (place_of_id self.old.ids id)) self.old self.new journal.old.lines journal.new.lines (tested result out.new) None }
         ensures message { IfOk result (λ done. GivesTo done out.old out.new) }
         ensures refused { OnErr result (out.new ≡ out.old) }
+        ensures entry_room { journal.old.entry_room ≤ journal.new.entry_room + call_entries }
+        ensures byte_room { journal.old.byte_room ≤ journal.new.byte_room + call_bytes }
     {
         self.take_turn(journal);
         self.end_request(id, out)
@@ -219,7 +237,9 @@ impl<S: SendEnd, R: RecvEnd> Domain<S, R> {
     pub fn cancel(&mut self, journal: &mut Journal, id: RequestId) -> Result<(), Refusal>
         requires entry_room { call_entries ≤ journal.old.entry_room }
         requires byte_room { call_bytes ≤ journal.old.byte_room }
-        ensures { Calls (EndsMoved S.Moved R.Moved) 0 (cancel_of (place_of_id self.old.ids id)) self.old self.new journal.old.lines journal.new.lines (cancelled result) None }
+        ensures call { Calls (EndsMoved S.Moved R.Moved) 0 (cancel_of (place_of_id self.old.ids id)) self.old self.new journal.old.lines journal.new.lines (cancelled result) None }
+        ensures entry_room { journal.old.entry_room ≤ journal.new.entry_room + call_entries }
+        ensures byte_room { journal.old.byte_room ≤ journal.new.byte_room + call_bytes }
     {
         self.take_turn(journal);
         self.end_pending(id)

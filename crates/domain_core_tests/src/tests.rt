@@ -17,7 +17,7 @@ mod limits;
 mod steps;
 
 /// A call at node 0, but for what it says. A message has the same byte throughout.
-#[derive(Clone, Copy, Debug)]
+#[derive(Clone, Copy)]
 enum Call {
     /// Makes an endpoint at a node and port.
     Create(u8, u16),
@@ -145,9 +145,9 @@ fn assert_answers<S: SendEnd, R: RecvEnd>(
     journal: &mut Journal,
     rows: &[Answered],
 ) -> Result<(), Fail> {
-    for (call, due) in rows {
+    for (i, (call, due)) in rows.iter().enumerate() {
         journal.reserve(160, 67_584)?;
-        assert_eq!(rt; made(domain, journal, *call), Some(*due), "{call:?}");
+        assert!(rt; made(domain, journal, *call) == Some(*due), "row {i}");
     }
     Ok(())
 }
@@ -301,7 +301,7 @@ fn assert_lines(rt: &impl Abort, journal: &Journal, lines: &[Line]) -> Result<()
     assert_eq!(rt; journal.len(), lines.len());
     for (i, line) in lines.iter().enumerate() {
         let entry = journal.entry(i).ok_or("entry")?;
-        assert_eq!(rt; told(entry), *line, "line {i}");
+        assert!(rt; told(entry) == *line, "line {i}");
     }
     assert!(rt; journal.entry(lines.len()).is_none());
     Ok(())

@@ -1,6 +1,6 @@
 //! The calls that send and receive messages, after their turns.
 
-ghost use Rattle.std.specs.Prelude.{◌≡◌, ◌≤◌, IfOk, OnErr, None, length, drop, map};
+ghost use Rattle.std.specs.Prelude.{◌≡◌, ◌≤◌, ◌+◌, IfOk, OnErr, None, length, drop, map};
 ghost use Rattle.board_model.specs.Answer.{address_of, puts};
 ghost use Rattle.board_model.specs.Journal.{noted_all};
 ghost use Rattle.board_model.specs.Serial.{put_entry};
@@ -30,6 +30,8 @@ impl<S: SendEnd, R: RecvEnd> Domain<S, R> {
         requires byte_room { 512 ≤ journal.old.byte_room }
         ensures does { Does (EndsMoved S.Moved R.Moved) from.node (send_from from.port to priority bytes.now) self.old self.new (sent result) None }
         ensures told { journal.new.lines ≡ noted_all journal.old.lines (map put_entry (puts self.old.state from.node (send_from from.port to priority bytes.now))) }
+        ensures entry_room { journal.old.entry_room ≤ journal.new.entry_room + 1 }
+        ensures byte_room { journal.old.byte_room ≤ journal.new.byte_room + 512 }
     {
         let Some(source) = self.endpoints.address_at(&self.table, from) else {
             return Err(Refusal::EndpInvalid);

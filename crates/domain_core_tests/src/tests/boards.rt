@@ -19,7 +19,7 @@ mod announcements;
 mod messages;
 
 /// What one of the domains does, or that their link is carried.
-#[derive(Clone, Copy, Debug)]
+#[derive(Clone, Copy)]
 enum Deed {
     Three(Step),
     Four(Step),
@@ -180,7 +180,7 @@ fn assert_deeds(rt: &impl Abort, board: &mut Board, rows: &[Row]) -> Result<(), 
     for (i, (deed, due)) in rows.iter().enumerate() {
         board.threes.journal.reserve(160, 67_584)?;
         board.fours.journal.reserve(160, 67_584)?;
-        assert_eq!(rt; board.does(*deed)?, Some(*due), "{i}: {deed:?}");
+        assert!(rt; board.does(*deed)? == Some(*due), "row {i}");
     }
     Ok(())
 }

@@ -13,7 +13,7 @@ use lane_end::{LaneFault, PlainRecv, PlainSend, ends_stay_one_lane, plain_lane, 
 use mc_base::{Done, RequestId};
 
 /// A frame that comes from domain 1.
-#[derive(Clone, Copy, Debug)]
+#[derive(Clone, Copy)]
 enum Given {
     /// A frame of these bytes.
     Frame(&'static [u8]),
@@ -126,8 +126,8 @@ fn assert_fates(rt: &impl Abort, journal: &Journal, rows: &[Row]) -> Result<(), 
     let mut taken = 0;
     for i in 0..journal.len() {
         if let Some(Entry::Take { fate, .. }) = journal.entry(i) {
-            let (given, due) = rows.get(taken).ok_or("no such frame")?;
-            assert_eq!(rt; fate, *due, "{taken}: {given:?}");
+            let (_, due) = rows.get(taken).ok_or("no such frame")?;
+            assert_eq!(rt; fate, *due, "frame {taken}");
             taken += 1;
         }
     }

@@ -11,7 +11,7 @@ mod endpoints;
 mod requests;
 
 /// A call. A request is named by its serial.
-#[derive(Clone, Copy, Debug)]
+#[derive(Clone, Copy)]
 pub enum Step {
     /// A call that names no request.
     Plain(Call),
@@ -34,7 +34,7 @@ pub enum Step {
 use Step::{Available, Begin, Cancel, Delete, Lookup, Plain, Test, Turn};
 
 /// What a call tells that is not refused.
-#[derive(Clone, Copy, Debug, PartialEq, Eq)]
+#[derive(Clone, Copy, PartialEq, Eq)]
 pub enum Said {
     /// The number that it answers, the serial of a request that was begun, or 0.
     Number(u64),
@@ -167,11 +167,11 @@ fn assert_rows(
     ids: &mut Vec<RequestId>,
     rows: &[Row],
 ) -> Result<(), Fail> {
-    for (step, due, held) in rows {
+    for (i, (step, due, held)) in rows.iter().enumerate() {
         journal.reserve(160, 67_584)?;
         let answer = stepped(domain, journal, ids, *step)?;
-        assert_eq!(rt; answer, Some(*due), "{step:?}");
-        assert_eq!(rt; domain.places(3), places(*held), "{step:?}");
+        assert!(rt; answer == Some(*due), "row {i}");
+        assert!(rt; domain.places(3) == places(*held), "row {i}");
     }
     Ok(())
 }

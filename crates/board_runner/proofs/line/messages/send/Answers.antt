@@ -5,6 +5,6 @@ use Rattle.board_runner.proofs.line.messages.send.Goals as goal
 
 pub returns : goal.returns
 returns c =
-    let made = c.msg_send.ensures in
+    let made = c.msg_send.ensures.call in
     let answered = c.of_unit-answer.ensures in
     calls_domain _ _ _ _ _ _ _ _ _ _ c.reserve.ensures.lines made answered.sent refl (gives_none made.turned_to.state c.args.from.node (send_from c.args.from.port c.args.to c.args.priority c.args.bytes.now) refl) (omega (arith, answered.no_bytes))

@@ -5,7 +5,7 @@ use Rattle.board_runner.proofs.line.requests.lookup.Goals as goal
 
 pub returns : goal.returns
 returns c node =
-    let made = c.lookup-found.ensures in
+    let made = c.lookup-found.ensures.call in
     let answered = c.of_request.ensures in
     let ok = c.ok.ensures.value ∙ ok_given c.lookup-found.result in
     lookup_anywhere node c.args.name _ _ _ _ _ (calls_domain _ _ _ _ _ _ _ _ _ _ c.reserve.ensures.lines made answered.requested ok (gives_requested made.turned_to.state 0 (lookup_of c.args.name) c.lookup-found.result refl refl made.does.answer) (omega (arith, answered.no_bytes)))

@@ -5,6 +5,6 @@ use Rattle.domain_core.specs.Ends.{EndsMoved}
 use Rattle.domain_core.proofs.CallLemmas.{calls-of}
 use Rattle.domain_core.proofs.domain.Domain.msg_available.Goals as goal
 
-pub returns : goal.returns
-returns g c =
+pub returns-clause-call : goal.returns-clause-call
+returns-clause-call g c =
     calls-of (EndsMoved g.S.SendEnd.Moved g.R.RecvEnd.Moved) c.args.at.node (available_at c.args.at.port) c.args.self.now c.take_turn.new.self c.take_turn.new.self c.args.journal.now.lines c.take_turn.new.journal.lines c.take_turn.result (available c.count_messages.result) None refl c.take_turn.ensures.turn c.count_messages.ensures

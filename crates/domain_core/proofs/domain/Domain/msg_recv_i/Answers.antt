@@ -5,6 +5,6 @@ use Rattle.domain_core.specs.Ends.{EndsMoved}
 use Rattle.domain_core.proofs.CallLemmas.{calls-of}
 use Rattle.domain_core.proofs.domain.Domain.msg_recv_i.Goals as goal
 
-pub returns : goal.returns
-returns g c =
+pub returns-clause-call : goal.returns-clause-call
+returns-clause-call g c =
     calls-of (EndsMoved g.S.SendEnd.Moved g.R.RecvEnd.Moved) c.args.at.node (request_at c.args.at.port c.args.max) c.args.self.now c.take_turn.new.self c.begin_receive.new.self c.args.journal.now.lines c.take_turn.new.journal.lines c.take_turn.result (requested c.begin_receive.result) (given c.begin_receive.result) refl c.take_turn.ensures.turn c.begin_receive.ensures
