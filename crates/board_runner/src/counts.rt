@@ -15,7 +15,7 @@ use rpmsg_frame::decode;
 
 /// How many frames were put to each domain and taken from each, by its number; and of how many the messages were sent, were
 /// brought, and were lost, since they came to no endpoint or to one on a channel.
-#[derive(Clone, Copy, Debug, PartialEq, Eq)]
+#[derive(Clone, Copy)]
 pub struct Counts {
     pub puts: [u64; 8],
     pub takes: [u64; 8],

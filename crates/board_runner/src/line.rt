@@ -24,7 +24,7 @@ use requests::{cancel, lookup, request, test};
 use std::collections::BTreeMap;
 
 /// What a call answered, and the request that it gave.
-#[derive(Clone, Copy, Debug)]
+#[derive(Clone, Copy)]
 pub struct Made<'r> {
     pub answer: Answer<'r>,
     pub given: Option<RequestId>,

@@ -19,7 +19,7 @@ use request_set::RequestSet;
 use rpmsg_frame::{Frame, decode};
 
 /// What is to be done with a frame.
-#[derive(Clone, Copy, Debug)]
+#[derive(Clone, Copy)]
 pub enum Verdict {
     /// Its message is last in the queue of the endpoint at a place.
     Queued {

@@ -15,7 +15,7 @@ use mc_base::{Done, EndName, Local, MAX_REQUESTS, RequestId};
 use request_set::{Ask, Complete, RequestSet};
 
 /// Requests that wait for the same.
-#[derive(Clone, Copy, Debug)]
+#[derive(Clone, Copy)]
 pub enum Waiters {
     /// Lookups of this name.
     Lookups(EndName),

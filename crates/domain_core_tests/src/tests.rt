@@ -298,12 +298,18 @@ fn told_done(number: u32, how: Told<'_>) -> Line {
 
 /// Asserts that the journal's entries are these.
 fn assert_lines(rt: &impl Abort, journal: &Journal, lines: &[Line]) -> Result<(), Fail> {
-    assert_eq!(rt; journal.len(), lines.len());
+    assert!(rt; journal.len() == lines.len());
+    assert_last_lines(rt, journal, lines)
+}
+
+/// Asserts that the journal's last entries are these.
+fn assert_last_lines(rt: &impl Abort, journal: &Journal, lines: &[Line]) -> Result<(), Fail> {
+    let before = journal.len().saturating_sub(lines.len());
     for (i, line) in lines.iter().enumerate() {
-        let entry = journal.entry(i).ok_or("entry")?;
+        let entry = journal.entry(before.saturating_add(i)).ok_or("entry")?;
         assert!(rt; told(entry) == *line, "line {i}");
     }
-    assert!(rt; journal.entry(lines.len()).is_none());
+    assert!(rt; journal.entry(journal.len()).is_none());
     Ok(())
 }
 

@@ -4,7 +4,7 @@ ghost use Rattle.std.specs.Prelude.{◌∷◌, [], IfSome, IsNone, string_bytes}
 ghost use Rattle.scenario_cli.specs.Words.{words_of, IsForm, IsNoForm};
 
 /// What the program is to do, as its words say.
-#[derive(Clone, Copy, Debug, PartialEq, Eq)]
+#[derive(Clone, Copy)]
 pub enum Form {
     /// `run --serial`: a scenario in, the report of its serial run out.
     SerialRun,

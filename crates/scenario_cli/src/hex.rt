@@ -8,7 +8,7 @@ ghost use Rattle.scenario_cli.specs.HexFault.{IsHexFault, TakesDigit};
 use std::alloc::Global;
 
 /// Why a text is not read as bytes.
-#[derive(Clone, Copy, Debug, PartialEq, Eq)]
+#[derive(Clone, Copy)]
 pub enum HexFault {
     /// The byte at this place is neither a digit nor a blank. Where there is none, the digits are odd in number, and the
     /// place is the text's length.

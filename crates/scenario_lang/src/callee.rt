@@ -5,7 +5,7 @@ ghost use Rattle.board_model.specs.Forms.{told_fits};
 ghost use Rattle.scenario_lang.specs.Reading.{row, callee_of};
 
 /// A call of the table of forms.
-#[derive(Clone, Copy, Debug, PartialEq, Eq)]
+#[derive(Clone, Copy)]
 pub(crate) enum Callee {
     Create,
     Delete,

@@ -12,7 +12,7 @@ pub enum ScenarioFault {
 }
 
 /// Why reading stopped inside a line.
-#[derive(Clone, Copy, Debug, PartialEq, Eq)]
+#[derive(Clone, Copy)]
 pub(crate) enum LineFault {
     Refused(LineReason),
     NoMemory,

@@ -1,5 +1,6 @@
 use scenario_lang::{LineReason, ScenarioFault, read_scenario, write_scenario};
-use std::alloc::Global;
+use std::alloc::{AllocError, Global};
+use std::process::Abort;
 use std::test::Fail;
 
 /// A text, and the line and the reason of its refusal.
@@ -149,8 +150,10 @@ const REFUSED_LINES: [Refusal; 48] = [
     ),
 ];
 
-/// Lines after one domain, each refused for its own reason.
-const REFUSED_CALLS: [(&[u8], LineReason); 73] = [
+/// A line after one domain, and the reason of its refusal.
+type RefusedCall = (&'static [u8], LineReason);
+
+const REFUSED_CALLS: [RefusedCall; 73] = [
     (b"0 create 1", LineReason::Form),
     (b"0.0.0 create 1", LineReason::Form),
     (b"0:0 create 1", LineReason::Form),
@@ -270,8 +273,10 @@ const REFUSED_LABELS: [Refusal; 8] = [
     ),
 ];
 
-/// Texts that are read, and the canonical text of each.
-const READ: [(&[u8], &[u8]); 12] = [
+/// A text that is read, and its canonical text.
+type Read = (&'static [u8], &'static [u8]);
+
+const READ: [Read; 12] = [
     (
         b"domain 0 nodes 1 pool 2\n0.0 create 1\n0.0 create 2\n0.0 msg_send 1 0:0:2 1 6869\n0.0 msg_recv 2 488\n",
         b"domain 0 nodes 1 pool 2\n0.0 create 1\n0.0 create 2\n0.0 msg_send 1 0:0:2 1 6869\n0.0 msg_recv 2 488\n",
@@ -349,39 +354,51 @@ fn is_read_as(alloc: Global, text: &[u8], canonical: &[u8]) -> bool {
     }
 }
 
-#[test]
-fn lines_are_refused_with_their_first_reason(rt: HostRuntime) -> Result<(), Fail> {
-    let alloc = rt.alloc();
-    for (text, line, reason) in REFUSED_LINES {
-        assert!(rt; is_refused(alloc, text, line, reason));
+fn assert_refused(rt: &impl Abort, alloc: Global, rows: &[Refusal]) {
+    for (i, (text, line, reason)) in rows.iter().enumerate() {
+        assert!(rt; is_refused(alloc, text, *line, *reason), "row {i}");
     }
-    for (text, line, reason) in REFUSED_LABELS {
-        assert!(rt; is_refused(alloc, text, line, reason));
+}
+
+#[test]
+fn lines_are_refused_with_their_first_reason(rt: HostRuntime) {
+    assert_refused(&rt, rt.alloc(), &REFUSED_LINES);
+    assert_refused(&rt, rt.alloc(), &REFUSED_LABELS);
+}
+
+/// Whether a line after one domain is refused, also where another line follows that is refused.
+fn is_refused_call(alloc: Global, line: &[u8], reason: LineReason) -> Result<bool, AllocError> {
+    let mut text = Vec::from_slice(alloc, b"domain 0 nodes 1 pool 1\n")?;
+    text.extend_from_slice(line)?;
+    if !is_refused(alloc, &text, 2, reason) {
+        return Ok(false);
+    }
+    text.extend_from_slice(b"\n0.0 test nothing\n")?;
+    Ok(is_refused(alloc, &text, 2, reason))
+}
+
+fn assert_refused_calls(rt: &impl Abort, alloc: Global, rows: &[RefusedCall]) -> Result<(), Fail> {
+    for (i, (line, reason)) in rows.iter().enumerate() {
+        assert!(rt; is_refused_call(alloc, line, *reason)?, "row {i}");
     }
     Ok(())
 }
 
 #[test]
 fn calls_are_refused_with_their_first_reason(rt: HostRuntime) -> Result<(), Fail> {
-    let alloc = rt.alloc();
-    for (line, reason) in REFUSED_CALLS {
-        let mut text = Vec::from_slice(alloc, b"domain 0 nodes 1 pool 1\n")?;
-        text.extend_from_slice(line)?;
-        assert!(rt; is_refused(alloc, &text, 2, reason));
-        text.extend_from_slice(b"\n0.0 test nothing\n")?;
-        assert!(rt; is_refused(alloc, &text, 2, reason));
+    assert_refused_calls(&rt, rt.alloc(), &REFUSED_CALLS)
+}
+
+fn assert_read(rt: &impl Abort, alloc: Global, rows: &[Read]) {
+    for (i, (text, canonical)) in rows.iter().enumerate() {
+        assert!(rt; is_read_as(alloc, text, canonical), "row {i}");
+        assert!(rt; is_read_as(alloc, canonical, canonical), "row {i}");
     }
-    Ok(())
 }
 
 #[test]
-fn texts_are_read_and_written_in_canonical_form(rt: HostRuntime) -> Result<(), Fail> {
-    let alloc = rt.alloc();
-    for (text, canonical) in READ {
-        assert!(rt; is_read_as(alloc, text, canonical));
-        assert!(rt; is_read_as(alloc, canonical, canonical));
-    }
-    Ok(())
+fn texts_are_read_and_written_in_canonical_form(rt: HostRuntime) {
+    assert_read(&rt, rt.alloc(), &READ);
 }
 
 /// A domain line, and a call line with as many bytes of a message, and as many blanks at its end.

@@ -6,7 +6,7 @@ ghost use Rattle.lane_end.specs.Numbers.{IsLaneSize};
 ghost use Rattle.domain_core.specs.Going.{PlainGoes};
 ghost use Rattle.domain_core_tests.specs.NewLinks.{new_link};
 
-use super::steps::Said::{Address, Idle, Message, Number};
+use super::steps::Said::{Address, Held, Idle, Message, Number};
 use super::steps::Step::{Available, Begin, Cancel, Delete, Lookup, Plain, Test, Turn};
 use super::steps::{self, Step, stepped};
 use super::*;
@@ -18,15 +18,21 @@ use std::marker::Model;
 mod announcements;
 mod messages;
 
-/// What one of the domains does, or that their link is carried.
+/// What one of the domains does, that their link is carried, or what is asked of them.
 #[derive(Clone, Copy)]
 enum Deed {
     Three(Step),
     Four(Step),
     Carry,
+    /// What domain 3 holds from a domain.
+    ThreeHolds(u8),
+    /// What domain 4 holds from a domain.
+    FourHolds(u8),
+    /// How many messages are queued in domain 4.
+    FourQueues,
 }
 
-use Deed::{Carry, Four, Three};
+use Deed::{Carry, Four, FourHolds, FourQueues, Three, ThreeHolds};
 
 /// A deed, and what it answers: the number 0 for a link that is carried.
 type Row = (Deed, steps::Answered);
@@ -127,8 +133,17 @@ impl Board {
                 self.pair.carries();
                 Ok(Some(Ok(Number(0))))
             }
+            ThreeHolds(peer) => Ok(held_from(&self.pair.three, peer)),
+            FourHolds(peer) => Ok(held_from(&self.pair.four, peer)),
+            FourQueues => Ok(Some(Ok(Number(self.pair.four.messages_queued().into())))),
         }
     }
+}
+
+/// What a domain holds from another, or `None` where there is no lane from it.
+fn held_from(domain: &PlainDomain, peer: u8) -> Option<steps::Answered> {
+    let Places { queue, lent } = domain.places(peer)?;
+    Some(Ok(Held(queue, lent)))
 }
 
 fn no_notes(alloc: Global) -> Result<Notes, NoMemory> {
@@ -185,9 +200,9 @@ fn assert_deeds(rt: &impl Abort, board: &mut Board, rows: &[Row]) -> Result<(), 
     Ok(())
 }
 
-/// The same of a new board, whose link has two buffers each way.
-fn assert_all(rt: &impl Abort, alloc: Global, rows: &[Row]) -> Result<Board, Fail> {
-    let mut board = Board::open(alloc, 2)?;
+/// The same of a new board, whose link has so many buffers each way.
+fn assert_all(rt: &impl Abort, alloc: Global, size: u32, rows: &[Row]) -> Result<Board, Fail> {
+    let mut board = Board::open(alloc, size)?;
     assert_deeds(rt, &mut board, rows)?;
     Ok(board)
 }

@@ -60,16 +60,21 @@ fn assert_links(rt: &impl Abort, links: &[PlainLink], rows: &[Row]) -> Result<()
     Ok(())
 }
 
+/// Asserts that there are lanes to these domains, and to no other.
+fn assert_peers(rt: &impl Abort, domain: &Domain<PlainSend, PlainRecv>, peers: &[u8]) {
+    for number in 0..8u8 {
+        let linked = peers.contains(&number);
+        assert!(rt; domain.places(number).is_some() == linked, "{number}");
+        assert!(rt; domain.has_peer(number) == linked, "{number}");
+    }
+}
+
 #[test]
 fn links_of_each_size_are_opened_and_given_back(rt: HostRuntime) -> Result<(), Fail> {
     let mut domain = between(rt.alloc())?;
     let mut journal = Journal::new(rt.alloc())?;
     assert_answers(&rt, &mut domain, &mut journal, &[(Create(0, 1), Ok(1024))])?;
-    for peer in 0..8u8 {
-        let linked = [0, 2, 3, 5].contains(&peer);
-        assert_eq!(rt; domain.places(peer).is_some(), linked, "{peer}");
-        assert_eq!(rt; domain.has_peer(peer), linked, "{peer}");
-    }
+    assert_peers(&rt, &domain, &[0, 2, 3, 5]);
     journal.reserve(160, 67_584)?;
     assert!(rt; !domain.turn(&mut journal));
     assert_links(&rt, &domain.into_links(), &AFTER_A_CREATION)

@@ -46,6 +46,8 @@ pub enum Said {
     Ended(Refusal),
     /// Whether a turn was idle.
     Idle(bool),
+    /// How many buffers stand in queues, and how many are lent.
+    Held(u32, u32),
 }
 
 use Said::{Address, Ended, Idle, Message, Number};

@@ -13,7 +13,7 @@ use name_service::read_ns;
 use rpmsg_frame::{Frame, decode};
 
 /// What a sound frame says.
-#[derive(Debug, Drop)]
+#[derive(Drop)]
 pub enum Content<'a> {
     /// A frame to an endpoint.
     Letter {

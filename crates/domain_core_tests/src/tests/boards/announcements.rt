@@ -23,11 +23,11 @@ const LOOKED_UP: [Row; 15] = [
 
 #[test]
 fn lookups_before_and_after_the_creation(rt: HostRuntime) -> Result<(), Fail> {
-    assert_all(&rt, rt.alloc(), &LOOKED_UP)?;
+    assert_all(&rt, rt.alloc(), 2, &LOOKED_UP)?;
     Ok(())
 }
 
-const DELETED: [Row; 17] = [
+const DELETED: [Row; 19] = [
     (Three(Plain(Create(0, 1))), Ok(Number(1024))),
     (Three(Plain(SendAbroad(1, 1))), Err(Refusal::PeerInvalid)),
     (Four(Plain(Create(0, 1))), Ok(Number(1024))),
@@ -46,16 +46,13 @@ const DELETED: [Row; 17] = [
     (Four(Turn), Ok(Idle(false))),
     CARRIED,
     (Three(Test(0, 0)), Ok(Address(1025))),
+    (FourQueues, Ok(Number(0))),
+    (FourHolds(3), Ok(Held(0, 0))),
 ];
 
 #[test]
 fn a_deleted_endpoint_is_no_peer_any_more(rt: HostRuntime) -> Result<(), Fail> {
-    let board = assert_all(&rt, rt.alloc(), &DELETED)?;
-    assert_eq!(rt; board.pair.four.messages_queued(), 0);
-    assert_eq!(rt;
-        board.pair.four.places(3),
-        Some(Places { queue: 0, lent: 0 })
-    );
+    assert_all(&rt, rt.alloc(), 2, &DELETED)?;
     Ok(())
 }
 
@@ -89,7 +86,7 @@ const CREATED_AND_DELETED: [Row; 24] = [
 
 #[test]
 fn what_is_owed_is_told_in_order(rt: HostRuntime) -> Result<(), Fail> {
-    let board = assert_all(&rt, rt.alloc(), &CREATED_AND_DELETED)?;
+    let board = assert_all(&rt, rt.alloc(), 2, &CREATED_AND_DELETED)?;
     for i in 0..board.fours.journal.len() {
         if let Some(Entry::Take { fate, .. }) = board.fours.journal.entry(i) {
             assert_eq!(rt; fate, Fate::Acted);
@@ -193,11 +190,5 @@ fn a_turn_puts_and_takes_eight_frames(rt: HostRuntime) -> Result<(), Fail> {
     create_all(&rt, &mut board, 18)?;
     assert_deeds(&rt, &mut board, &NINE)?;
     assert_lines(&rt, &board.fours.journal, &LINES_OF_NINE_TAKEN)?;
-    let journal = &board.threes.journal;
-    for (i, line) in LINES_OF_NINE_OWED.iter().enumerate() {
-        let at = journal.len().saturating_sub(13).saturating_add(i);
-        let entry = journal.entry(at).ok_or("entry")?;
-        assert_eq!(rt; told(entry), *line, "line {i}");
-    }
-    Ok(())
+    assert_last_lines(&rt, &board.threes.journal, &LINES_OF_NINE_OWED)
 }

@@ -2,7 +2,7 @@
 
 use super::*;
 
-const FULL: [Row; 19] = [
+const FULL: [Row; 20] = [
     (Four(Plain(Create(0, 1))), Ok(Number(1024))),
     (Four(Turn), Ok(Idle(false))),
     CARRIED,
@@ -23,15 +23,12 @@ const FULL: [Row; 19] = [
     (Four(Plain(Receive(1, 488, 0))), Ok(Number(2))),
     CARRIED,
     (Three(Plain(SendAbroad(1, 1))), Ok(Number(0))),
+    (FourHolds(3), Ok(Held(1, 0))),
 ];
 
 #[test]
 fn a_link_of_two_runs_out_of_buffers(rt: HostRuntime) -> Result<(), Fail> {
-    let board = assert_all(&rt, rt.alloc(), &FULL)?;
-    assert_eq!(rt;
-        board.pair.four.places(3),
-        Some(Places { queue: 1, lent: 0 })
-    );
+    assert_all(&rt, rt.alloc(), 2, &FULL)?;
     Ok(())
 }
 
@@ -53,12 +50,12 @@ const FULL_OF_OWED: [Row; 12] = [
 
 #[test]
 fn owed_frames_come_before_messages(rt: HostRuntime) -> Result<(), Fail> {
-    assert_all(&rt, rt.alloc(), &FULL_OF_OWED)?;
+    assert_all(&rt, rt.alloc(), 2, &FULL_OF_OWED)?;
     Ok(())
 }
 
 /// A message in each direction and one inside, on links of one buffer.
-const ONE_BUFFER: [Row; 14] = [
+const ONE_BUFFER: [Row; 16] = [
     (Three(Plain(Create(0, 1))), Ok(Number(1024))),
     (Four(Plain(Create(0, 1))), Ok(Number(1024))),
     (Three(Turn), Ok(Idle(false))),
@@ -73,24 +70,17 @@ const ONE_BUFFER: [Row; 14] = [
     CARRIED,
     (Three(Plain(Receive(1, 488, 7))), Ok(Number(3))),
     (Four(Plain(Receive(1, 488, 0))), Ok(Number(2))),
+    (ThreeHolds(3), Ok(Held(1, 0))),
+    (ThreeHolds(4), Ok(Held(0, 0))),
 ];
 
 #[test]
 fn messages_over_links_of_one_buffer(rt: HostRuntime) -> Result<(), Fail> {
-    let mut board = Board::open(rt.alloc(), 1)?;
-    assert_deeds(&rt, &mut board, &ONE_BUFFER)?;
-    assert_eq!(rt;
-        board.pair.three.places(3),
-        Some(Places { queue: 1, lent: 0 })
-    );
-    assert_eq!(rt;
-        board.pair.three.places(4),
-        Some(Places { queue: 0, lent: 0 })
-    );
+    assert_all(&rt, rt.alloc(), 1, &ONE_BUFFER)?;
     Ok(())
 }
 
-const HANDED: [Row; 12] = [
+const HANDED: [Row; 19] = [
     (Four(Plain(Create(0, 1))), Ok(Number(1024))),
     (Four(Begin(1, 488)), Ok(Number(0))),
     (Four(Begin(1, 1)), Ok(Number(1))),
@@ -104,27 +94,17 @@ const HANDED: [Row; 12] = [
     // The announcement's buffer came back, and the message's is lent until the request is tested.
     (Three(Plain(SendAbroad(1, 1))), Ok(Number(0))),
     (Three(Plain(SendAbroad(1, 1))), Err(Refusal::NoBuffer)),
-];
-
-const TESTED: [Row; 5] = [
+    (FourHolds(3), Ok(Held(0, 1))),
     (Four(Test(0, 0)), Ok(Message(2, 2))),
     CARRIED,
     (Four(Test(1, 0)), Ok(Message(2, 1))),
     (Three(Plain(SendAbroad(1, 1))), Ok(Number(0))),
     (Four(Test(0, 0)), Err(Refusal::RequestInvalid)),
+    (FourHolds(3), Ok(Held(0, 0))),
 ];
 
 #[test]
 fn a_receive_that_waits_gets_the_message_of_a_link(rt: HostRuntime) -> Result<(), Fail> {
-    let mut board = assert_all(&rt, rt.alloc(), &HANDED)?;
-    assert_eq!(rt;
-        board.pair.four.places(3),
-        Some(Places { queue: 0, lent: 1 })
-    );
-    assert_deeds(&rt, &mut board, &TESTED)?;
-    assert_eq!(rt;
-        board.pair.four.places(3),
-        Some(Places { queue: 0, lent: 0 })
-    );
+    assert_all(&rt, rt.alloc(), 2, &HANDED)?;
     Ok(())
 }
