@@ -5,7 +5,7 @@ ghost use Rattle.lane_end.specs.Numbers.{IsLaneSize};
 ghost use Rattle.domain_core_tests.specs.NewLinks.{new_link};
 
 use super::*;
-use domain_core::Link;
+use domain_core::{CALL_BYTES, CALL_ENTRIES, Link};
 use lane_end::{PlainRecv, PlainSend, plain_lane};
 
 type PlainLink = Link<PlainSend, PlainRecv>;
@@ -86,9 +86,9 @@ fn sixty_thousand_endpoints_one_after_the_other(rt: HostRuntime) -> Result<(), F
     let mut journal = Journal::new(rt.alloc())?;
     let at = Local { node: 0, port: 1 };
     for i in 0..60_000 {
-        journal.reserve(160, 67_584)?;
+        // Neither call uses more than its part of the room.
+        journal.reserve(2 * CALL_ENTRIES, 2 * CALL_BYTES)?;
         assert_eq!(rt; domain.create(&mut journal, at), Ok(1024 + i), "{i}");
-        journal.reserve(160, 67_584)?;
         assert_eq!(rt; domain.delete(&mut journal, at), Ok(0), "{i}");
     }
     let row = (Create(0, 1), Err(Refusal::AddressSpent));
