@@ -96,9 +96,14 @@ const WRITES: [(&[u8], Result<usize, Failed>); 4] = [
     (b"d", Err(Failed)),
 ];
 
+/// Whether so many bytes of a piece are taken, or the write fails.
+fn is_taken(sink: &mut MemSink, piece: &[u8], count: Result<usize, Failed>) -> bool {
+    !piece.is_empty() && sink.write(piece) == count
+}
+
 fn assert_writes(rt: &impl Abort, sink: &mut MemSink, rows: &[(&[u8], Result<usize, Failed>)]) {
     for (i, (piece, count)) in rows.iter().enumerate() {
-        assert!(rt; sink.write(piece) == *count, "write {i}");
+        assert!(rt; is_taken(sink, piece, *count), "write {i}");
     }
 }
 

@@ -16,11 +16,10 @@ fn offer_all(on: &Ring, mut driver: Driver, mut buffers: Vec<Buffer>) -> Driver
     requires held { AreHeld role.Driver driver buffers.items }
     ensures { result.ring ≡ on.now.ring }
 {
-    for len in 0..256 {
-        let Some(buffer) = buffers.pop() else {
-            break;
-        };
+    let mut len = 0;
+    while let Some(buffer) = buffers.pop() {
         driver.offer(on, buffer, len);
+        len = (len + 1) % 256;
     }
     driver
 }

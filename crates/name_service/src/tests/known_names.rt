@@ -103,19 +103,19 @@ fn sixty_four_names_are_known_in_any_order(rt: HostRuntime) -> Result<(), Fail> 
     Ok(())
 }
 
-/// The domain, node and port of a name.
-type Numbers = (u8, u8, u16);
+/// The domain, node and port of a name, and its address.
+type Named = (u8, u8, u16, u32);
 
-const APART: [Numbers; 9] = [
-    (0, 0, 0),
-    (0, 0, 1),
-    (0, 0, 65535),
-    (0, 1, 0),
-    (0, 255, 0),
-    (0, 255, 65535),
-    (1, 0, 0),
-    (255, 0, 0),
-    (255, 255, 65535),
+const APART: [Named; 9] = [
+    (0, 0, 0, 0),
+    (0, 0, 1, 1),
+    (0, 0, 65535, 2),
+    (0, 1, 0, 3),
+    (0, 255, 0, 4),
+    (0, 255, 65535, 5),
+    (1, 0, 0, 6),
+    (255, 0, 0, 7),
+    (255, 255, 65535, 8),
 ];
 
 /// Whether a name is not known, until it is learned with an address.
@@ -132,18 +132,16 @@ fn is_forgotten_once(known: &mut KnownNames, name: EndName, addr: u32) -> bool {
 }
 
 /// Asserts that each of these names is new, and then that each is known.
-fn assert_apart(rt: &impl Abort, known: &mut KnownNames, rows: &[Numbers]) {
-    for (i, (domain, node, port)) in rows.iter().enumerate() {
+fn assert_apart(rt: &impl Abort, known: &mut KnownNames, rows: &[Named]) {
+    for (i, (domain, node, port, addr)) in rows.iter().enumerate() {
         assert!(rt;
-            is_new(known, name(*domain, *node, *port), i as u32),
+            is_new(known, name(*domain, *node, *port), *addr),
             "name {i}"
         );
     }
-    for (i, (domain, node, port)) in rows.iter().enumerate() {
-        assert!(rt;
-            is_forgotten_once(known, name(*domain, *node, *port), i as u32),
-            "name {i}"
-        );
+    for (i, (domain, node, port, addr)) in rows.iter().enumerate() {
+        let name = name(*domain, *node, *port);
+        assert!(rt; is_forgotten_once(known, name, *addr), "name {i}");
     }
 }
 
