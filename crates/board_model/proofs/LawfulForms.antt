@@ -8,7 +8,7 @@ use Rattle.board_model.specs.Grammar.{IsLawfulName}
 use Rattle.board_model.specs.LinkedBoard.{HasFitArguments}
 use Rattle.board_model.specs.FileWords.{numeral, is_number, number, are_bytes, bytes}
 use Rattle.board_model.specs.FileLines.{parts_at}
-use Rattle.board_model.specs.Forms.{Kind, port, name, priority, content, maximum, name_from, name_in, CallForm, argument, forms, form_in, are_three, arguments_fit, name_numerals, arguments_numerals, arguments_contents}
+use Rattle.board_model.specs.Forms.{ArgumentKind, port, name, priority, content, maximum, name_from, name_in, CallForm, argument, forms, form_in, are_three, arguments_fit, name_numerals, arguments_numerals, arguments_contents}
 use Rattle.board_model.proofs.LawfulTests.{all-both}
 use Rattle.board_model.proofs.LawfulWords.{number_fits, bytes_below, bytes_few}
 
@@ -16,7 +16,7 @@ use Rattle.board_model.proofs.LawfulWords.{number_fits, bytes_below, bytes_few}
 abbrev pub FitsForm : CallForm → Type 0
 FitsForm f = (a : List (List ℕ)) → arguments_fit f.arguments a ≡ true → list_all is_number (arguments_numerals f.arguments a) ≡ true → list_all are_bytes (arguments_contents f.arguments a) ≡ true → HasFitArguments (f.makes a)
 
-abbrev Numbers : List Kind → List (List ℕ) → Type 0
+abbrev Numbers : List ArgumentKind → List (List ℕ) → Type 0
 Numbers kinds a = list_all is_number (arguments_numerals kinds a) ≡ true
 
 -- ---- kinds of arguments

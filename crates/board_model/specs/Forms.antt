@@ -12,13 +12,13 @@ use Rattle.board_model.specs.FileLines.{parts_at, says_nothing}
 use Rattle.board_model.specs.FileWords.{Numeral, numeral, number, bytes, is_label}
 
 -- what an argument is: PORT, D:N:P, PRIO, BYTES, MAX or LABEL
-pub data Kind : Type 0 where
-  port : Kind
-  name : Kind
-  priority : Kind
-  content : Kind
-  maximum : Kind
-  label : Kind
+pub data ArgumentKind : Type 0 where
+  port : ArgumentKind
+  name : ArgumentKind
+  priority : ArgumentKind
+  content : ArgumentKind
+  maximum : ArgumentKind
+  label : ArgumentKind
 
 -- the name of three parts
 abbrev pub name_from : List (List ℕ) → EndName
@@ -36,11 +36,11 @@ label_of word = record { items = word }
 -- arguments make
 pub record CallForm : Type 0 where
   pub word : List ℕ
-  pub arguments : List Kind
+  pub arguments : List ArgumentKind
   pub labelled : Bool
   pub makes : List (List ℕ) → Call
 
-abbrev pub form : List ℕ → List Kind → Bool → (List (List ℕ) → Call) → CallForm
+abbrev pub form : List ℕ → List ArgumentKind → Bool → (List (List ℕ) → Call) → CallForm
 form word arguments labelled makes = record { word = word; arguments = arguments; labelled = labelled; makes = makes }
 
 abbrev pub argument : ℕ → List (List ℕ) → List ℕ
@@ -111,12 +111,12 @@ are_three (d ∷ n ∷ p ∷ []) = true
 are_three parts = false
 
 -- a name has two colons, whatever stands between them
-abbrev pub argument_fits : Kind → List ℕ → Bool
+abbrev pub argument_fits : ArgumentKind → List ℕ → Bool
 argument_fits name word = are_three (parts_at 58 word)
 argument_fits label word = is_label word
 argument_fits kind word = true
 
-abbrev pub arguments_fit : List Kind → List (List ℕ) → Bool
+abbrev pub arguments_fit : List ArgumentKind → List (List ℕ) → Bool
 arguments_fit [] [] = true
 arguments_fit [] (w ∷ ws) = false
 arguments_fit (k ∷ ks) [] = false
@@ -158,7 +158,7 @@ abbrev pub name_numerals : List (List ℕ) → List Numeral
 name_numerals (d ∷ n ∷ p ∷ []) = numeral 0 7 d ∷ numeral 0 15 n ∷ numeral 0 65535 p ∷ []
 name_numerals parts = []
 
-abbrev pub argument_numerals : Kind → List ℕ → List Numeral
+abbrev pub argument_numerals : ArgumentKind → List ℕ → List Numeral
 argument_numerals port word = numeral 0 65535 word ∷ []
 argument_numerals name word = name_numerals (parts_at 58 word)
 argument_numerals priority word = numeral 0 3 word ∷ []
@@ -166,7 +166,7 @@ argument_numerals maximum word = numeral 0 9000 word ∷ []
 argument_numerals content word = []
 argument_numerals label word = []
 
-abbrev pub arguments_numerals : List Kind → List (List ℕ) → List Numeral
+abbrev pub arguments_numerals : List ArgumentKind → List (List ℕ) → List Numeral
 arguments_numerals (k ∷ ks) (w ∷ ws) = argument_numerals k w ++ arguments_numerals ks ws
 arguments_numerals kinds words = []
 
@@ -181,11 +181,11 @@ numerals (link_parts a b q) = numeral 0 7 a ∷ numeral 0 7 b ∷ numeral 0 1844
 numerals (call_parts c) = numeral 0 7 c.domain ∷ numeral 0 15 c.node ∷ (tries_numerals c.tries ++ arguments_numerals c.form.arguments c.arguments)
 
 -- the words that have to be bytes
-abbrev pub argument_contents : Kind → List ℕ → List (List ℕ)
+abbrev pub argument_contents : ArgumentKind → List ℕ → List (List ℕ)
 argument_contents content word = word ∷ []
 argument_contents kind word = []
 
-abbrev pub arguments_contents : List Kind → List (List ℕ) → List (List ℕ)
+abbrev pub arguments_contents : List ArgumentKind → List (List ℕ) → List (List ℕ)
 arguments_contents (k ∷ ks) (w ∷ ws) = argument_contents k w ++ arguments_contents ks ws
 arguments_contents kinds words = []
 
