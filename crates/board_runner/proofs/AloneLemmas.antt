@@ -8,7 +8,7 @@ use Rattle.board_model.specs.SerialRun.{turned_once}
 use Rattle.board_model.proofs.LawfulBoards.{lawful_is_linked}
 use Rattle.domain_core.specs.Ends.{EndsMoved}
 use Rattle.domain_core.specs.Turned.{MakesTurn}
-use Rattle.domain_core.specs.Written.{Written}
+use Rattle.mc_journal.specs.Written.{Written}
 use Rattle.board_runner.specs.declared.station.Station.{Station}
 use Rattle.board_runner.specs.Carried.{IsCarried}
 use Rattle.board_runner.specs.Near.{PlainDomain}

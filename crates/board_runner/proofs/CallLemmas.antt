@@ -33,7 +33,7 @@ use Rattle.board_model.proofs.WholeStations.{entered_all}
 use Rattle.board_model.proofs.WholeJournals.{call_entries, called_run}
 use Rattle.domain_core.specs.Calls.{Does, place_ended, success_ends}
 use Rattle.domain_core.specs.Ends.{EndsMoved}
-use Rattle.domain_core.specs.Entry.{plain_answer}
+use Rattle.mc_journal.specs.Entry.{plain_answer}
 use Rattle.board_runner.specs.declared.station.Station.{Station}
 use Rattle.board_runner.specs.declared.line.Made.{Made}
 use Rattle.board_runner.specs.Held.{id_for, told_for}

@@ -18,7 +18,7 @@ use Rattle.board_model.specs.Labels.{success_request, request_given}
 use Rattle.board_model.specs.Serial.{put_entry}
 use Rattle.domain_core.specs.Calls.{Calls, place_ended, IsFresh, requested, given}
 use Rattle.domain_core.specs.Ends.{EndsMoved}
-use Rattle.domain_core.specs.Entry.{plain_answer, bytes_in_answer}
+use Rattle.mc_journal.specs.Entry.{plain_answer, bytes_in_answer}
 use Rattle.board_runner.specs.declared.station.Station.{Station}
 use Rattle.board_runner.specs.declared.line.Made.{Made}
 use Rattle.board_runner.specs.Lines.{CallsDomain, MakesCall, call_at_station, dropped_by}

@@ -6,7 +6,7 @@ use Rattle.board_model.specs.declared.scenario.DomainLine.{DomainLine}
 use Rattle.board_model.specs.Journal.{PlainResult, found_at, was_accepted, was_rejected, brought, ended_by, PlainAnswer, refuses, agrees, tells, gives, completes}
 use Rattle.board_model.specs.Grammar.{spaced, line_of}
 use Rattle.board_model.specs.Report.{answer_words, result_words, lines_text, journals_text}
-use Rattle.domain_core.specs.Written.{Written}
+use Rattle.mc_journal.specs.Written.{Written}
 use Rattle.board_runner.specs.Outcome.{lines_in}
 
 -- the number stands before the words of the answer

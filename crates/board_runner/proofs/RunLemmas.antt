@@ -24,7 +24,7 @@ use Rattle.board_model.proofs.WholeTurns.{turn_number}
 use Rattle.board_model.proofs.WholeJournals.{call_entries}
 use Rattle.domain_core.specs.Calls.{Does}
 use Rattle.domain_core.specs.Ends.{EndsMoved}
-use Rattle.domain_core.specs.Entry.{plain_answer}
+use Rattle.mc_journal.specs.Entry.{plain_answer}
 use Rattle.board_runner.specs.declared.station.Station.{Station}
 use Rattle.board_runner.specs.declared.line.Made.{Made}
 use Rattle.board_runner.specs.Carried.{IsCarried}

@@ -18,7 +18,7 @@ use Rattle.domain_core.specs.Carrying.{AreLinked}
 use Rattle.domain_core.specs.LaneMoves.{LaneMove}
 use Rattle.domain_core.specs.AllMoved.{AllMoved, turn_moves}
 use Rattle.domain_core.specs.Turned.{Turns}
-use Rattle.domain_core.specs.Written.{Written}
+use Rattle.mc_journal.specs.Written.{Written}
 use Rattle.board_runner.specs.declared.station.Station.{Station}
 use Rattle.board_runner.specs.Near.{PlainDomain, near_of, peers_of, EndsMatch}
 use Rattle.board_runner.specs.Stations.{domain_of, near, LaneHolds, LaneJoins, IsStation, IsRun}

@@ -14,7 +14,7 @@ use Rattle.board_model.proofs.BoardsScripts.{script-few}
 use Rattle.board_model.proofs.LawfulBoards.{lawful_is_linked}
 use Rattle.board_model.proofs.MessageAlls.{all-at}
 use Rattle.board_model.proofs.WholeFinds.{some_tells}
-use Rattle.domain_core.specs.Entry.{plain_answer}
+use Rattle.mc_journal.specs.Entry.{plain_answer}
 use Rattle.board_runner.specs.declared.station.Station.{Station}
 use Rattle.board_runner.specs.Lines.{dropped_by, NotesAnswer, Tries}
 use Rattle.board_runner.specs.Runs.{At, KeepCounts, DropsFit, CountsFit, MayCount, OneLineMore, CountsCall, IsNext, IsSomeNext, Leads}

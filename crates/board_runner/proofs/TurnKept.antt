@@ -9,7 +9,7 @@ use Rattle.board_model.specs.Journal.{Visit, turned, noted}
 use Rattle.board_model.specs.SerialRun.{Running, turned_once}
 use Rattle.domain_core.specs.Ends.{EndsMoved}
 use Rattle.domain_core.specs.Turned.{Turns}
-use Rattle.domain_core.specs.Written.{Written}
+use Rattle.mc_journal.specs.Written.{Written}
 use Rattle.board_runner.specs.declared.station.Station.{Station}
 use Rattle.board_runner.specs.Carried.{IsCarried}
 use Rattle.board_runner.specs.Near.{PlainDomain}

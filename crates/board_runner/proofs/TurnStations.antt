@@ -18,7 +18,7 @@ use Rattle.board_model.proofs.ListsJoined.{entry_lines, sum-joined}
 use Rattle.board_model.proofs.MessageAlls.{all-append}
 use Rattle.board_model.proofs.SerialRequests.{turn_serials, turn_gives}
 use Rattle.board_model.proofs.WholeTurns.{turn_number}
-use Rattle.domain_core.specs.Written.{Written}
+use Rattle.mc_journal.specs.Written.{Written}
 use Rattle.domain_core.specs.Turned.{Turns}
 use Rattle.board_runner.specs.declared.station.Station.{Station}
 use Rattle.board_runner.specs.Held.{Ids, id_for, no_key}

@@ -19,7 +19,7 @@ use Rattle.board_model.specs.Tallies.{is_delete, number_told}
 use Rattle.domain_core.specs.Calls.{Calls}
 use Rattle.domain_core.specs.DomainView.{place_of_id}
 use Rattle.domain_core.specs.Ends.{EndsMoved}
-use Rattle.domain_core.specs.Entry.{plain_answer, bytes_in_answer}
+use Rattle.mc_journal.specs.Entry.{plain_answer, bytes_in_answer}
 use Rattle.std.specs.Prelude.{List}
 use Rattle.board_runner.specs.declared.station.Station.{Station}
 use Rattle.board_runner.specs.declared.line.Made.{Made}

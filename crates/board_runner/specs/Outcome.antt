@@ -8,7 +8,7 @@ use Rattle.board_model.specs.Board.{DomainJournal}
 use Rattle.board_model.specs.Totals.{totals}
 use Rattle.board_model.specs.Places.{places_of}
 use Rattle.board_model.specs.Report.{lines_of}
-use Rattle.domain_core.specs.Written.{Written}
+use Rattle.mc_journal.specs.Written.{Written}
 use Rattle.board_runner.specs.declared.outcome.Outcome.{Outcome}
 
 -- the lines of the journals

@@ -3,7 +3,7 @@
 ghost use Rattle.std.specs.Prelude.{◌≡◌, ◌<◌, ◌≤◌, ◌^◌, IfOk, length, take};
 ghost use Rattle.board_model.specs.Tallies.{number_told};
 ghost use Rattle.domain_core.specs.Calls.{created, deleted, sent, received, requested, available, result_of_done, tested, cancelled};
-ghost use Rattle.domain_core.specs.Entry.{plain_answer, result_of_told, bytes_in_answer, bytes_in_told};
+ghost use Rattle.mc_journal.specs.Entry.{plain_answer, result_of_told, bytes_in_answer, bytes_in_told};
 ghost use Rattle.board_runner.specs.Lines.{GivesWithin};
 
 use domain_core::{Answer, Told};

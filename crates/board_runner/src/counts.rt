@@ -3,7 +3,7 @@
 ghost use Rattle.std.specs.Prelude.{◌≡◌, ◌+◌, ◌<◌, ◌^◌, ◌==◌, ◌&&◌, ℕ, is_none, slice_index};
 ghost use Rattle.mc_base.specs.FaultRow.{first_fault};
 ghost use Rattle.mc_base.specs.LetterFaults.{letter_faults};
-ghost use Rattle.domain_core.specs.Entry.{line_of_entry};
+ghost use Rattle.mc_journal.specs.Entry.{line_of_entry};
 ghost use Rattle.board_model.specs.Messages.{carries_message as is_of_message};
 ghost use Rattle.board_model.specs.Drops.{drops};
 ghost use Rattle.board_runner.specs.Counts.{one_if, AreCounts, HaveRoom, Counted};

@@ -4,7 +4,7 @@ ghost use Rattle.std.specs.Prelude.{◌≡◌, ◌<◌, ◌≤◌, ◌+◌, ◌*
 ghost use Rattle.board_model.specs.Journal.{refuses, noted_again};
 ghost use Rattle.board_model.specs.SerialRun.{more_calls};
 ghost use Rattle.board_model.specs.Step.{is_tried, is_tried_word};
-ghost use Rattle.domain_core.specs.Entry.{plain_answer, bytes_in_answer};
+ghost use Rattle.mc_journal.specs.Entry.{plain_answer, bytes_in_answer};
 ghost use Rattle.board_runner.specs.Lines.{CallsDomain, MakesCall, NotesCalled, Tries, AsksAtMost, call_by, dropped_by};
 ghost use Rattle.board_runner.specs.Runs.{IsSomeNext, MayCount, CountsFit, CallsLine, CountsCall, RunsLine, OneLineMore};
 

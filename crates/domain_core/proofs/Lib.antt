@@ -1,7 +1,5 @@
-pub mod Journals
 pub mod Books
 pub mod Placed
-pub mod SameWords
 pub mod Slots
 pub mod Storing
 pub mod Leaving

@@ -2,9 +2,7 @@ pub mod LaneMoves
 pub mod LinkMoved
 pub mod LoopMoved
 pub mod Ends
-pub mod Written
-pub mod Kept
-pub mod Entry
+pub mod Room
 pub mod Out
 pub mod VisitMoves
 pub mod Beginning

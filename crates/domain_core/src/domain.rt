@@ -5,7 +5,7 @@ ghost use Rattle.board_model.specs.DomainCall.{create_at, delete_at, lookup_of, 
 ghost use Rattle.board_model.specs.Journal.{agrees};
 ghost use Rattle.board_model.specs.State.{lent_from, queued_from, queued_items, place_of_peer};
 ghost use Rattle.domain_core.specs.Ends.{EndsMoved};
-ghost use Rattle.domain_core.specs.Written.{call_entries, call_bytes};
+ghost use Rattle.domain_core.specs.Room.{call_entries, call_bytes};
 ghost use Rattle.domain_core.specs.DomainView.{place_of_id};
 ghost use Rattle.domain_core.specs.Turned.{MakesTurn};
 ghost use Rattle.domain_core.specs.Calls.{Calls, Does, GivesTo, created, deleted, sent, received, requested, given, available, tested, cancelled};
@@ -17,7 +17,6 @@ mod request_calls;
 
 use crate::endpoints::Endpoints;
 use crate::ends::Ends;
-use crate::journal::Journal;
 use crate::link_room::LinkRoom;
 use crate::peer::Peer;
 use crate::peers::place_of;
@@ -28,6 +27,7 @@ pub use buffer_book::Places;
 use endpoint_table::EndpointTable;
 use lane_end::{RecvEnd, SendEnd};
 use mc_base::{Done, EndName, Got, Local, Priority, Refusal, RequestId};
+use mc_journal::Journal;
 pub use opening::carry;
 use request_set::RequestSet;
 use std::marker::Model;

@@ -1,6 +1,6 @@
-//! One domain over its own lane and its links, and the journal of what it does.
+//! One domain over its own lane and its links. What it does is noted in a journal.
 //!
-//! A domain takes memory where it is opened, and a journal where room is reserved in it. No other call takes any.
+//! A domain takes memory where it is opened. No other call takes any.
 #![tactic(auto)]
 
 mod announcements;
@@ -10,7 +10,6 @@ mod domain;
 mod endpoints;
 mod ends;
 mod fates;
-mod journal;
 mod link;
 mod link_room;
 mod linking;
@@ -31,8 +30,8 @@ pub use carrying::{calls_move_ends, domains_stay_linked};
 pub use domain::{CALL_BYTES, CALL_ENTRIES, Domain, Places, carry};
 pub use ends::Ends;
 pub use fates::fault_fate;
-pub use journal::{Answer, Entry, Journal, Told};
 pub use link::Link;
+pub use mc_journal::{Answer, Entry, Journal, Told};
 pub use peer::Peer;
 pub use peer_lane::PeerLane;
 pub use threads::{domain_may_cross_threads, may_cross_threads};

@@ -6,11 +6,11 @@ ghost use Rattle.mc_base.specs.Frame.{made};
 ghost use Rattle.mc_base.specs.Announcement.{announcement, is_name};
 ghost use Rattle.domain_core.specs.Owed.{PutsDue, PutsOwed, owed_frames, room_for};
 
-use crate::journal::{Entry, Journal};
 use crate::peer_lane::PeerLane;
 use crate::visit::begin_turn;
 use endpoint_table::EndpointTable;
 use mc_base::{BUFFER_SIZE, NAME_SERVICE_ADDRESS, NS_SIZE, Ns, TURN_FRAMES};
+use mc_journal::{Entry, Journal};
 use name_service::write_ns;
 use rpmsg_frame::encode_into;
 

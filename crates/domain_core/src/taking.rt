@@ -13,11 +13,11 @@ ghost use Rattle.domain_core.specs.Dealt.{IsVerdict, Deals, Takes, scene, fate_o
 
 use crate::dealing::{Verdict, deal};
 use crate::endpoints::Endpoints;
-use crate::journal::{Entry, Journal};
 use crate::messages::CONTENT;
 use crate::peer_lane::PeerLane;
 use buffer_book::BufferBook;
 use mc_base::Buffer;
+use mc_journal::{Entry, Journal};
 use name_service::KnownNames;
 use request_set::{Complete, RequestSet};
 

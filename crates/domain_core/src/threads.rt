@@ -1,8 +1,8 @@
 //! What may move between threads, and what they may share.
 
 use crate::domain::Domain;
-use crate::journal::Journal;
 use lane_end::{AnyRecv, AnySend, PlainRecv, PlainSend, RecvEnd, SendEnd};
+use mc_journal::Journal;
 
 fn crosses_threads<T: Send + Sync>() {}
 

@@ -8,12 +8,12 @@ ghost use Rattle.domain_core.specs.Owed.{room_for};
 ghost use Rattle.domain_core.specs.Turned.{MakesTurn, VisitsAll};
 
 use crate::endpoints::Endpoints;
-use crate::journal::{Entry, Journal};
 use crate::peer::Peer;
 use crate::peer_lane::PeerLane;
 use crate::visit::visit_peer;
 use buffer_book::BufferBook;
 use endpoint_table::EndpointTable;
+use mc_journal::{Entry, Journal};
 use request_set::RequestSet;
 
 /// Makes a turn, notes it, and answers whether it was idle.

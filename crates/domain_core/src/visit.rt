@@ -13,13 +13,13 @@ ghost use Rattle.domain_core.specs.Peers.{seen_by};
 ghost use Rattle.domain_core.specs.Turned.{Visits, standing};
 
 use crate::endpoints::Endpoints;
-use crate::journal::{Entry, Journal};
 use crate::owed::put_owed;
 use crate::peer_lane::PeerLane;
 use crate::taking::take_frames;
 use buffer_book::BufferBook;
 use endpoint_table::EndpointTable;
 use mc_base::TURN_FRAMES;
+use mc_journal::{Entry, Journal};
 use name_service::KnownNames;
 use request_set::RequestSet;
 

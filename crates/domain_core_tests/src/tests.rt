@@ -2,16 +2,15 @@ ghost use Rattle.std.specs.Prelude.{◌≤◌};
 ghost use Rattle.domain_core.specs.Ends.{EndsMoved};
 ghost use Rattle.domain_core.specs.Going.{Goes};
 
-use domain_core::{Answer, Domain, Entry, Journal, Places, Told, may_cross_threads};
+use domain_core::{Domain, Entry, Journal, Places, may_cross_threads};
 use lane_end::{AnyRecv, AnySend, RecvEnd, SendEnd};
-use mc_base::{EndName, Fate, Local, NoMemory, Priority, Reason, Refusal};
+use mc_base::{EndName, Fate, Local, NoMemory, Priority, Refusal};
 use std::alloc::Global;
 use std::process::Abort;
 use std::test::Fail;
 
 mod boards;
 mod frames;
-mod joins;
 mod lanes;
 mod limits;
 mod steps;
@@ -241,7 +240,7 @@ fn sixty_four_endpoints_at_once(rt: HostRuntime) -> Result<(), Fail> {
     assert_answers(&rt, &mut domain, &mut journal, &[row])
 }
 
-/// An entry as its kind, its peer, its line or its word, its count or its fate, and how many bytes it has.
+/// An entry as its kind, its peer or its line, its count or its fate, and how many bytes it has.
 type Line = (u8, u64, u64, usize);
 
 fn told(entry: Entry<'_>) -> Line {
@@ -259,40 +258,9 @@ fn told(entry: Entry<'_>) -> Line {
             (b'q', u64::from(peer), word, frame.len())
         }
         Entry::Idle { turns } => (b'i', 0, turns, 0),
-        Entry::Again { word } => (b'a', told_word(word), 0, 0),
-        Entry::Spin { times, word } => (b'w', told_word(word), times, 0),
-        Entry::Called { number, answer } => match answer {
-            Answer::Refused(_) => (b'r', u64::from(number), 0, 0),
-            Answer::Ok => (b'o', u64::from(number), 0, 0),
-            Answer::Number(n) => (b'n', u64::from(number), n, 0),
-            Answer::Bytes { size, bytes } => (
-                b'm',
-                u64::from(number),
-                u64::from(size),
-                bytes.len(),
-            ),
-            Answer::Done(how) => told_done(number, how),
-        },
-    }
-}
-
-fn told_word(word: Refusal) -> u64 {
-    match word {
-        Refusal::Empty => 1,
-        Refusal::NoBuffer => 2,
-        _ => 0,
-    }
-}
-
-/// How a request ended as its kind, its line, its number and how many bytes it has.
-fn told_done(number: u32, how: Told<'_>) -> Line {
-    let line = u64::from(number);
-    match how {
-        Told::Address(address) => (b'A', line, u64::from(address), 0),
-        Told::Accepted => (b'C', line, 0, 0),
-        Told::Rejected(_) => (b'R', line, 0, 0),
-        Told::Bytes { size, bytes } => (b'M', line, u64::from(size), bytes.len()),
-        Told::Ended(_) => (b'E', line, 0, 0),
+        Entry::Again { .. } => (b'a', 0, 0, 0),
+        Entry::Spin { times, .. } => (b'w', 0, times, 0),
+        Entry::Called { number, .. } => (b'c', u64::from(number), 0, 0),
     }
 }
 
@@ -340,47 +308,4 @@ fn what_happens_is_noted(rt: HostRuntime) -> Result<(), Fail> {
         made(&mut domain, &mut journal, *call);
     }
     assert_lines(&rt, &journal, &LINES_OF_CALLS)
-}
-
-const ANSWERS: [Answer<'static>; 9] = [
-    Answer::Refused(Refusal::Empty),
-    Answer::Ok,
-    Answer::Number(1024),
-    Answer::Bytes {
-        size: 5,
-        bytes: b"he",
-    },
-    Answer::Done(Told::Address(1030)),
-    Answer::Done(Told::Accepted),
-    Answer::Done(Told::Rejected(Reason::Busy)),
-    Answer::Done(Told::Bytes {
-        size: 9,
-        bytes: b"hello",
-    }),
-    Answer::Done(Told::Ended(Refusal::ChanClosed)),
-];
-
-const LINES_OF_ANSWERS: [Line; 9] = [
-    (b'r', 1, 0, 0),
-    (b'o', 1, 0, 0),
-    (b'n', 1, 1024, 0),
-    (b'm', 1, 5, 2),
-    (b'A', 1, 1030, 0),
-    (b'C', 1, 0, 0),
-    (b'R', 1, 0, 0),
-    (b'M', 1, 9, 5),
-    (b'E', 1, 0, 0),
-];
-
-#[test]
-fn answers_are_noted(rt: HostRuntime) -> Result<(), Fail> {
-    let mut journal = Journal::new(rt.alloc())?;
-    for answer in &ANSWERS {
-        journal.reserve(1, 488)?;
-        journal.note(Entry::Called {
-            number: 1,
-            answer: *answer,
-        });
-    }
-    assert_lines(&rt, &journal, &LINES_OF_ANSWERS)
 }

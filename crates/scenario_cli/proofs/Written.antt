@@ -12,7 +12,7 @@ use Rattle.board_model.specs.Board.{DomainJournal}
 use Rattle.board_model.specs.Language.{IsLawfulBoard}
 use Rattle.board_model.proofs.BoardsNeighbours.{rising-length}
 use Rattle.board_model.proofs.LawfulRuns.{lawful_run}
-use Rattle.domain_core.specs.Written.{Written}
+use Rattle.mc_journal.specs.Written.{Written}
 use Rattle.board_runner.specs.declared.outcome.Outcome.{Outcome}
 use Rattle.board_runner.specs.Outcome.{IsOutcome, lines_in}
 

@@ -3,7 +3,7 @@
 ghost use Rattle.std.specs.Prelude.{◌<◌, ◌≤◌, ◌^◌, ℕ, IfOk, length};
 ghost use Rattle.board_model.specs.DomainCall.{create_at, delete_at, send_from, receive_at, available_at, turn_alone};
 ghost use Rattle.board_model.specs.Tallies.{number_told};
-ghost use Rattle.domain_core.specs.Entry.{plain_answer};
+ghost use Rattle.mc_journal.specs.Entry.{plain_answer};
 ghost use Rattle.board_runner.specs.Lines.{CallsDomain};
 
 use super::Made;

@@ -7,7 +7,7 @@ ghost use Rattle.board_model.specs.Grammar.{spaced, line_of};
 ghost use Rattle.board_model.specs.Journal.{brought};
 ghost use Rattle.board_model.specs.Report.{line_text, answer_words, result_words};
 ghost use Rattle.board_model.specs.Words.{reason_text, fate_text, refusal_text};
-ghost use Rattle.domain_core.specs.Entry.{line_of_entry, plain_answer, result_of_told};
+ghost use Rattle.mc_journal.specs.Entry.{line_of_entry, plain_answer, result_of_told};
 
 use crate::report::words::{fate_word, reason_word, refusal_word};
 use domain_core::{Answer, Entry, Told};

@@ -9,12 +9,12 @@ ghost use Rattle.domain_core.specs.Ends.{EndsMoved};
 ghost use Rattle.domain_core.specs.Calls.{Does, sent, received, available};
 
 use crate::domain::Domain;
-use crate::journal::{Entry, Journal};
 use crate::messages::{give, write};
 use crate::peer_lane::PeerLane;
 use crate::peers::{give_back, place_of};
 use lane_end::{RecvEnd, SendEnd};
 use mc_base::{BUFFER_SIZE, EndName, Got, ITEM_SIZE, Local, Priority, Refusal};
+use mc_journal::{Entry, Journal};
 
 impl<S: SendEnd, R: RecvEnd> Domain<S, R> {
     /// `msg_send` after its turn.

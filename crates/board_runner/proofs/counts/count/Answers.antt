@@ -1,7 +1,7 @@
 use Rattle.std.proofs.Common.{◌≡◌, Some, Option, ap, sym, ◌∙◌, arith}
 use Rattle.std.specs.Prelude.{slice_get, option_map}
-use Rattle.domain_core.specs.Entry.{line_of_entry}
-use Rattle.domain_core.specs.declared.journal.entry.Entry.{Entry}
+use Rattle.mc_journal.specs.Entry.{line_of_entry}
+use Rattle.mc_journal.specs.declared.entry.Entry.{Entry}
 use Rattle.board_model.specs.Tallies.{is_put_to, is_taken_from, is_sent_line, is_brought_line, is_lost_line}
 use Rattle.board_runner.proofs.CountLemmas.{one_more}
 use Rattle.board_runner.proofs.counts.count.Goals as goal

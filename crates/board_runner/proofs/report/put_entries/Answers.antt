@@ -1,8 +1,8 @@
 use Rattle.std.proofs.Common.{◌≡◌, Some, Option, ap, sym, ◌∙◌}
 use Rattle.std.specs.Prelude.{slice_get, option_map}
 use Rattle.board_model.specs.Report.{line_text}
-use Rattle.domain_core.specs.Entry.{line_of_entry}
-use Rattle.domain_core.specs.declared.journal.entry.Entry.{Entry}
+use Rattle.mc_journal.specs.Entry.{line_of_entry}
+use Rattle.mc_journal.specs.declared.entry.Entry.{Entry}
 use Rattle.outer_io.proofs.Writing.{puts_nothing, puts_item}
 use Rattle.board_runner.proofs.CountLemmas.{standing_at}
 use Rattle.board_runner.proofs.report.put_entries.Goals as goal

@@ -3,7 +3,7 @@ use Rattle.std.specs.Prelude.{◌==◌, not, ◌||◌}
 use Rattle.std.proofs.lemmas.List.{length_push}
 use Rattle.endpoint_table.specs.Table.{Table}
 use Rattle.domain_core.specs.Owed.{owed_frames}
-use Rattle.domain_core.specs.Written.{Written}
+use Rattle.mc_journal.specs.Written.{Written}
 use Rattle.domain_core.proofs.Owing.{PutsOwed-more, all-due, eight-due, first-within, owed-left, puts-same, room-range, some-put}
 use Rattle.domain_core.proofs.owed.put_owed.Goals as goal
 

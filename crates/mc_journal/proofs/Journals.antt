@@ -5,15 +5,15 @@ use Rattle.std.specs.Prelude.{slice_get, slice_set}
 use Rattle.std.proofs.lemmas.List.{take-append-le, drop-append-le, length-drop, length-map, map-set, map_push, take-map}
 use Rattle.board_model.specs.Journal.{Line, PlainResult, brought, put_line, take_line, call_line, completes, gives, again_line, is_one_idle, joinable, noted_again, noted_idle, noted_spin, spinning, with_idle, with_spin}
 use Rattle.mc_base.specs.declared.refusal.Refusal.{Refusal}
-use Rattle.domain_core.specs.declared.journal.kept.Piece.{Piece}
-use Rattle.domain_core.specs.declared.journal.kept.KeptResult.{KeptResult}
-use Rattle.domain_core.specs.declared.journal.kept.KeptResult.TheVariants as result
-use Rattle.domain_core.specs.declared.journal.kept.Kept.{Kept}
-use Rattle.domain_core.specs.declared.journal.kept.Kept.TheVariants as kept
-use Rattle.domain_core.specs.declared.journal.entry.Entry.{Entry}
-use Rattle.domain_core.specs.declared.journal.entry.Entry.TheVariants as entry
-use Rattle.domain_core.specs.Kept.{AreWithin, IsResultWithin, IsWithin, kept_line, kept_result, piece_of}
-use Rattle.domain_core.specs.Entry.{IsPlain, line_of_entry, noted_entry}
+use Rattle.mc_journal.specs.declared.kept.Piece.{Piece}
+use Rattle.mc_journal.specs.declared.kept.KeptResult.{KeptResult}
+use Rattle.mc_journal.specs.declared.kept.KeptResult.TheVariants as result
+use Rattle.mc_journal.specs.declared.kept.Kept.{Kept}
+use Rattle.mc_journal.specs.declared.kept.Kept.TheVariants as kept
+use Rattle.mc_journal.specs.declared.entry.Entry.{Entry}
+use Rattle.mc_journal.specs.declared.entry.Entry.TheVariants as entry
+use Rattle.mc_journal.specs.Kept.{AreWithin, IsResultWithin, IsWithin, kept_line, kept_result, piece_of}
+use Rattle.mc_journal.specs.Entry.{IsPlain, line_of_entry, noted_entry}
 
 -- ---- bytes behind the others
 

@@ -1,11 +1,11 @@
 use Rattle.std.proofs.Common.{◌≡◌, ◌-◌, ◌++◌, ◌∷◌, [], List, length, map, take, true, false, slice_get, vec_len, arith, ap, ◌∙◌, rules}
 use Rattle.std.proofs.ByRecursion.{All-take}
 use Rattle.board_model.specs.Journal.{is_one_idle, noted_spin}
-use Rattle.domain_core.specs.declared.journal.kept.Kept.{Kept}
-use Rattle.domain_core.specs.declared.journal.kept.Kept.TheVariants as kept
-use Rattle.domain_core.specs.Kept.{IsWithin, kept_line}
-use Rattle.domain_core.proofs.Journals.{again-spins, again-stands}
-use Rattle.domain_core.proofs.journal.kept.keep_again.Goals as goal
+use Rattle.mc_journal.specs.declared.kept.Kept.{Kept}
+use Rattle.mc_journal.specs.declared.kept.Kept.TheVariants as kept
+use Rattle.mc_journal.specs.Kept.{IsWithin, kept_line}
+use Rattle.mc_journal.proofs.Journals.{again-spins, again-stands}
+use Rattle.mc_journal.proofs.kept.keep_again.Goals as goal
 
 pub returns-then-follows_one_idle-clause-lines : goal.returns-then-follows_one_idle-clause-lines
 returns-then-follows_one_idle-clause-lines c = λ bytes.

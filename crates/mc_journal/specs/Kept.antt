@@ -3,11 +3,11 @@
 use Rattle.std.specs.Prelude.{ℕ, ◌+◌, ◌≤◌, List, length, take, drop}
 use Rattle.std.specs.List.{AllByRecursion}
 use Rattle.board_model.specs.Journal.{Line, PlainResult, found_at, was_accepted, was_rejected, brought, ended_by, idle_line, again_line, spin_line, turn_line, back_line, put_line, see_line, take_line, call_line, refuses, agrees, tells, gives, completes}
-use Rattle.domain_core.specs.declared.journal.kept.Piece.{Piece}
-use Rattle.domain_core.specs.declared.journal.kept.KeptResult.{KeptResult}
-use Rattle.domain_core.specs.declared.journal.kept.KeptResult.TheVariants as result
-use Rattle.domain_core.specs.declared.journal.kept.Kept.{Kept}
-use Rattle.domain_core.specs.declared.journal.kept.Kept.TheVariants as kept
+use Rattle.mc_journal.specs.declared.kept.Piece.{Piece}
+use Rattle.mc_journal.specs.declared.kept.KeptResult.{KeptResult}
+use Rattle.mc_journal.specs.declared.kept.KeptResult.TheVariants as result
+use Rattle.mc_journal.specs.declared.kept.Kept.{Kept}
+use Rattle.mc_journal.specs.declared.kept.Kept.TheVariants as kept
 
 abbrev pub piece_of : List ℕ → Piece → List ℕ
 piece_of bytes p = take p.len (drop p.start bytes)

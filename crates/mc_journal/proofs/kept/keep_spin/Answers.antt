@@ -1,7 +1,7 @@
 use Rattle.std.proofs.Common.{◌≡◌, ◌-◌, ◌++◌, ◌∷◌, [], arith, rules}
-use Rattle.domain_core.specs.declared.journal.kept.Kept.TheVariants as kept
-use Rattle.domain_core.proofs.Journals.{spin-joins, spin-begins}
-use Rattle.domain_core.proofs.journal.kept.keep_spin.Goals as goal
+use Rattle.mc_journal.specs.declared.kept.Kept.TheVariants as kept
+use Rattle.mc_journal.proofs.Journals.{spin-joins, spin-begins}
+use Rattle.mc_journal.proofs.kept.keep_spin.Goals as goal
 
 pub returns-in-Some-clause-lines : goal.returns-in-Some-clause-lines
 returns-in-Some-clause-lines c = λ bytes.

@@ -1,7 +1,7 @@
 use Rattle.std.proofs.Common.{◌≡◌, ◌-◌, ◌++◌, ◌∷◌, [], arith, rules}
-use Rattle.domain_core.specs.declared.journal.kept.Kept.TheVariants as kept
-use Rattle.domain_core.proofs.Journals.{idle-joins, idle-begins}
-use Rattle.domain_core.proofs.journal.kept.keep_idle.Goals as goal
+use Rattle.mc_journal.specs.declared.kept.Kept.TheVariants as kept
+use Rattle.mc_journal.proofs.Journals.{idle-joins, idle-begins}
+use Rattle.mc_journal.proofs.kept.keep_idle.Goals as goal
 
 pub returns-in-Some-clause-lines : goal.returns-in-Some-clause-lines
 returns-in-Some-clause-lines c = λ bytes.

@@ -2,13 +2,10 @@
 //! made again.
 
 ghost use Rattle.std.specs.Prelude.{◌≡◌, ◌≤◌, ◌<◌, ◌+◌, [], IfOk, OnOk, IsNone, ◌↔◌, length, option_map, slice_get};
-ghost use Rattle.domain_core.specs.Entry.{line_of_entry, bytes_in, noted_entry, IsNotable};
+ghost use Rattle.mc_journal.specs.Entry.{line_of_entry, bytes_in, noted_entry, IsNotable};
 
-mod entry;
-mod kept;
-
-pub use entry::{Answer, Entry, Told};
-use kept::{Kept, entry_of, keep, keep_again, keep_idle};
+use crate::entry::Entry;
+use crate::kept::{Kept, entry_of, keep, keep_again, keep_idle};
 use mc_base::NoMemory;
 use std::alloc::Global;
 use std::marker::Model;
@@ -22,11 +19,11 @@ pub struct Journal {
 
 impl Model for Journal {
     ghost use Rattle.std.specs.Prelude.{map, vec_len, vec_capacity, ◌-◌};
-    ghost use Rattle.domain_core.specs.Written.{Written};
+    ghost use Rattle.mc_journal.specs.Written.{Written};
 
     ghost Value = { Written };
 
-    ghost use Rattle.domain_core.specs.Kept.{AreWithin, kept_line};
+    ghost use Rattle.mc_journal.specs.Kept.{AreWithin, kept_line};
 
     ghost view = { λ j. record { lines = map (kept_line j.bytes.items) j.entries.items; entry_room = vec_capacity j.entries - vec_len j.entries; byte_room = vec_capacity j.bytes - vec_len j.bytes } };
 

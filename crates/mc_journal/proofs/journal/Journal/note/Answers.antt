@@ -1,9 +1,9 @@
 use Rattle.std.proofs.Common.{◌≡◌, ◌≤◌, ◌++◌, ◌∷◌, [], length, arith, rules, ap, ◌∙◌, length-append}
 use Rattle.board_model.specs.Journal.{noted_again, noted_idle}
-use Rattle.domain_core.specs.Entry.{noted_entry, line_of_entry}
-use Rattle.domain_core.specs.Written.{Written}
-use Rattle.domain_core.proofs.Journals.{AreWithin-push, lines-push, IsPlain-from}
-use Rattle.domain_core.proofs.journal.Journal.note.Goals as goal
+use Rattle.mc_journal.specs.Entry.{noted_entry, line_of_entry}
+use Rattle.mc_journal.specs.Written.{Written}
+use Rattle.mc_journal.proofs.Journals.{AreWithin-push, lines-push, IsPlain-from}
+use Rattle.mc_journal.proofs.journal.Journal.note.Goals as goal
 
 pub invariant_of-self : goal.invariant_of-self
 invariant_of-self c = c.keep_idle.ensures.within _ c.self.invariant

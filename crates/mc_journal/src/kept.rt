@@ -4,10 +4,10 @@ ghost use Rattle.std.specs.Prelude.{◌≡◌, true, ◌≤◌, ◌<◌, ◌+◌
 ghost use Rattle.std.specs.List.{AllByRecursion};
 ghost use Rattle.board_model.specs.Journal.{is_one_idle, joinable, noted_again, noted_idle, noted_spin, spinning};
 ghost use Rattle.board_model.specs.Words.{same_word};
-ghost use Rattle.domain_core.specs.Entry.{line_of_entry, bytes_in, bytes_in_told, result_of_told};
-ghost use Rattle.domain_core.specs.Kept.{IsResultWithin, IsWithin, kept_line, kept_result, piece_of};
+ghost use Rattle.mc_journal.specs.Entry.{line_of_entry, bytes_in, bytes_in_told, result_of_told};
+ghost use Rattle.mc_journal.specs.Kept.{IsResultWithin, IsWithin, kept_line, kept_result, piece_of};
 
-use super::entry::{Answer, Entry, Told};
+use crate::entry::{Answer, Entry, Told};
 use mc_base::{Fate, Reason, Refusal};
 
 /// Where the bytes of an entry lie.

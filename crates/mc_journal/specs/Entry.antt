@@ -2,12 +2,12 @@
 -- Source: docs/FORMATS.md, "Journal text".
 use Rattle.std.specs.Prelude.{◌≡◌, ℕ, List, [], ◌∷◌, ◌++◌, length}
 use Rattle.board_model.specs.Journal.{Line, PlainResult, found_at, was_accepted, was_rejected, brought, ended_by, PlainAnswer, idle_line, again_line, spin_line, turn_line, back_line, put_line, see_line, take_line, call_line, refuses, agrees, tells, gives, completes, noted_idle, noted_again}
-use Rattle.domain_core.specs.declared.journal.entry.Answer.{Answer}
-use Rattle.domain_core.specs.declared.journal.entry.Answer.TheVariants as answer
-use Rattle.domain_core.specs.declared.journal.entry.Told.{Told}
-use Rattle.domain_core.specs.declared.journal.entry.Told.TheVariants as told
-use Rattle.domain_core.specs.declared.journal.entry.Entry.{Entry}
-use Rattle.domain_core.specs.declared.journal.entry.Entry.TheVariants as entry
+use Rattle.mc_journal.specs.declared.entry.Answer.{Answer}
+use Rattle.mc_journal.specs.declared.entry.Answer.TheVariants as answer
+use Rattle.mc_journal.specs.declared.entry.Told.{Told}
+use Rattle.mc_journal.specs.declared.entry.Told.TheVariants as told
+use Rattle.mc_journal.specs.declared.entry.Entry.{Entry}
+use Rattle.mc_journal.specs.declared.entry.Entry.TheVariants as entry
 
 abbrev pub result_of_told : Told → PlainResult
 result_of_told (told.Address address) = found_at address
