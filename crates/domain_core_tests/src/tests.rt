@@ -137,6 +137,16 @@ fn is_given(out: &[u8], given: usize, byte: u8) -> bool {
     true
 }
 
+/// Whether a call answers what it must.
+fn answers<S: SendEnd, R: RecvEnd>(
+    domain: &mut Domain<S, R>,
+    journal: &mut Journal,
+    (call, due): Answered,
+) -> Result<bool, NoMemory> {
+    journal.reserve(160, 67_584)?;
+    Ok(made(domain, journal, call) == Some(due))
+}
+
 /// Asserts what each call answers.
 fn assert_answers<S: SendEnd, R: RecvEnd>(
     rt: &impl Abort,
@@ -144,9 +154,8 @@ fn assert_answers<S: SendEnd, R: RecvEnd>(
     journal: &mut Journal,
     rows: &[Answered],
 ) -> Result<(), Fail> {
-    for (i, (call, due)) in rows.iter().enumerate() {
-        journal.reserve(160, 67_584)?;
-        assert!(rt; made(domain, journal, *call) == Some(*due), "row {i}");
+    for (i, row) in rows.iter().enumerate() {
+        assert!(rt; answers(domain, journal, *row)?, "row {i}");
     }
     Ok(())
 }
@@ -234,10 +243,11 @@ fn sixty_four_endpoints_at_once(rt: HostRuntime) -> Result<(), Fail> {
     let mut journal = Journal::new(rt.alloc())?;
     for port in 0..64 {
         let row = (Create(0, port), Ok(1024 + u32::from(port)));
-        assert_answers(&rt, &mut domain, &mut journal, &[row])?;
+        assert!(rt; answers(&mut domain, &mut journal, row)?, "{port}");
     }
     let row = (Create(0, 64), Err(Refusal::EndpLimit));
-    assert_answers(&rt, &mut domain, &mut journal, &[row])
+    assert!(rt; answers(&mut domain, &mut journal, row)?);
+    Ok(())
 }
 
 /// An entry as its kind, its peer or its line, its count or its fate, and how many bytes it has.

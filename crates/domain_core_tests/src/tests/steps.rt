@@ -161,6 +161,18 @@ fn places((queue, lent): (u32, u32)) -> Option<Places> {
     Some(Places { queue, lent })
 }
 
+/// Whether a call answers what it must, and this is held from then on.
+fn holds(
+    domain: &mut Domain<AnySend, AnyRecv>,
+    journal: &mut Journal,
+    ids: &mut Vec<RequestId>,
+    (step, due, held): Row,
+) -> Result<bool, NoMemory> {
+    journal.reserve(160, 67_584)?;
+    let answer = stepped(domain, journal, ids, step)?;
+    Ok(answer == Some(due) && domain.places(3) == places(held))
+}
+
 /// Asserts what each call answers, and what is held from then on.
 fn assert_rows(
     rt: &impl Abort,
@@ -169,11 +181,8 @@ fn assert_rows(
     ids: &mut Vec<RequestId>,
     rows: &[Row],
 ) -> Result<(), Fail> {
-    for (i, (step, due, held)) in rows.iter().enumerate() {
-        journal.reserve(160, 67_584)?;
-        let answer = stepped(domain, journal, ids, *step)?;
-        assert!(rt; answer == Some(*due), "row {i}");
-        assert!(rt; domain.places(3) == places(*held), "row {i}");
+    for (i, row) in rows.iter().enumerate() {
+        assert!(rt; holds(domain, journal, ids, *row)?, "row {i}");
     }
     Ok(())
 }

@@ -23,8 +23,7 @@ const LOOKED_UP: [Row; 15] = [
 
 #[test]
 fn lookups_before_and_after_the_creation(rt: HostRuntime) -> Result<(), Fail> {
-    assert_all(&rt, rt.alloc(), 2, &LOOKED_UP)?;
-    Ok(())
+    assert_all(&rt, rt.alloc(), 2, &LOOKED_UP)
 }
 
 const DELETED: [Row; 19] = [
@@ -52,8 +51,7 @@ const DELETED: [Row; 19] = [
 
 #[test]
 fn a_deleted_endpoint_is_no_peer_any_more(rt: HostRuntime) -> Result<(), Fail> {
-    assert_all(&rt, rt.alloc(), 2, &DELETED)?;
-    Ok(())
+    assert_all(&rt, rt.alloc(), 2, &DELETED)
 }
 
 const CREATED_AND_DELETED: [Row; 24] = [
@@ -84,14 +82,23 @@ const CREATED_AND_DELETED: [Row; 24] = [
     (Three(Turn), Ok(Idle(false))),
 ];
 
-#[test]
-fn what_is_owed_is_told_in_order(rt: HostRuntime) -> Result<(), Fail> {
-    let board = assert_all(&rt, rt.alloc(), 2, &CREATED_AND_DELETED)?;
-    for i in 0..board.fours.journal.len() {
-        if let Some(Entry::Take { fate, .. }) = board.fours.journal.entry(i) {
-            assert_eq!(rt; fate, Fate::Acted);
+/// Whether all frames that were taken are announcements that told something.
+fn are_all_acted_on(journal: &Journal) -> bool {
+    for i in 0..journal.len() {
+        if let Some(Entry::Take { fate, .. }) = journal.entry(i) {
+            if fate != Fate::Acted {
+                return false;
+            }
         }
     }
+    true
+}
+
+#[test]
+fn what_is_owed_is_told_in_order(rt: HostRuntime) -> Result<(), Fail> {
+    let mut board = Board::open(rt.alloc(), 2)?;
+    assert_deeds(&rt, &mut board, &CREATED_AND_DELETED)?;
+    assert!(rt; are_all_acted_on(&board.fours.journal));
     Ok(())
 }
 
@@ -121,23 +128,29 @@ const FREED: [Row; 6] = [
 /// Makes endpoints of domain 3 at the first ports.
 fn create_all(rt: &impl Abort, board: &mut Board, count: u16) -> Result<(), Fail> {
     for port in 0..count {
-        let address = 1024 + u64::from(port);
-        let row = (Three(Plain(Create(0, port))), Ok(Number(address)));
-        assert_deeds(rt, board, &[row])?;
+        let due = Ok(Number(1024 + u64::from(port)));
+        assert!(rt;
+            answers(board, Three(Plain(Create(0, port))), due)?,
+            "{port}"
+        );
     }
     Ok(())
+}
+
+fn assert_in_use(rt: &impl Abort, board: &mut Board) -> Result<(), Fail> {
+    create_all(rt, board, 64)?;
+    assert_deeds(rt, board, &ALL_IN_USE)?;
+    // 62 creations are owed, and then the end.
+    for _ in 0..31 {
+        assert_deeds(rt, board, &ROUND)?;
+    }
+    assert_deeds(rt, board, &FREED)
 }
 
 #[test]
 fn a_record_is_in_use_until_the_end_is_told(rt: HostRuntime) -> Result<(), Fail> {
     let mut board = Board::open(rt.alloc(), 2)?;
-    create_all(&rt, &mut board, 64)?;
-    assert_deeds(&rt, &mut board, &ALL_IN_USE)?;
-    // 62 creations are owed, and then the end.
-    for _ in 0..31 {
-        assert_deeds(&rt, &mut board, &ROUND)?;
-    }
-    assert_deeds(&rt, &mut board, &FREED)
+    assert_in_use(&rt, &mut board)
 }
 
 const NINE: [Row; 7] = [
@@ -183,12 +196,16 @@ const LINES_OF_NINE_OWED: [Line; 13] = [
     (b'i', 0, 1, 0),
 ];
 
+/// Makes 18 endpoints, of which nine are announced at once, and nine are owed.
+fn assert_nine(rt: &impl Abort, board: &mut Board) -> Result<(), Fail> {
+    create_all(rt, board, 18)?;
+    assert_deeds(rt, board, &NINE)?;
+    assert_lines(rt, &board.fours.journal, &LINES_OF_NINE_TAKEN)?;
+    assert_last_lines(rt, &board.threes.journal, &LINES_OF_NINE_OWED)
+}
+
 #[test]
 fn a_turn_puts_and_takes_eight_frames(rt: HostRuntime) -> Result<(), Fail> {
     let mut board = Board::open(rt.alloc(), 9)?;
-    // Nine are put at once, and nine are owed.
-    create_all(&rt, &mut board, 18)?;
-    assert_deeds(&rt, &mut board, &NINE)?;
-    assert_lines(&rt, &board.fours.journal, &LINES_OF_NINE_TAKEN)?;
-    assert_last_lines(&rt, &board.threes.journal, &LINES_OF_NINE_OWED)
+    assert_nine(&rt, &mut board)
 }

@@ -28,8 +28,7 @@ const FULL: [Row; 20] = [
 
 #[test]
 fn a_link_of_two_runs_out_of_buffers(rt: HostRuntime) -> Result<(), Fail> {
-    assert_all(&rt, rt.alloc(), 2, &FULL)?;
-    Ok(())
+    assert_all(&rt, rt.alloc(), 2, &FULL)
 }
 
 const FULL_OF_OWED: [Row; 12] = [
@@ -50,8 +49,7 @@ const FULL_OF_OWED: [Row; 12] = [
 
 #[test]
 fn owed_frames_come_before_messages(rt: HostRuntime) -> Result<(), Fail> {
-    assert_all(&rt, rt.alloc(), 2, &FULL_OF_OWED)?;
-    Ok(())
+    assert_all(&rt, rt.alloc(), 2, &FULL_OF_OWED)
 }
 
 /// A message in each direction and one inside, on links of one buffer.
@@ -76,8 +74,7 @@ const ONE_BUFFER: [Row; 16] = [
 
 #[test]
 fn messages_over_links_of_one_buffer(rt: HostRuntime) -> Result<(), Fail> {
-    assert_all(&rt, rt.alloc(), 1, &ONE_BUFFER)?;
-    Ok(())
+    assert_all(&rt, rt.alloc(), 1, &ONE_BUFFER)
 }
 
 const HANDED: [Row; 19] = [
@@ -105,6 +102,5 @@ const HANDED: [Row; 19] = [
 
 #[test]
 fn a_receive_that_waits_gets_the_message_of_a_link(rt: HostRuntime) -> Result<(), Fail> {
-    assert_all(&rt, rt.alloc(), 2, &HANDED)?;
-    Ok(())
+    assert_all(&rt, rt.alloc(), 2, &HANDED)
 }

@@ -86,15 +86,17 @@ fn sixty_four_lookups_and_endpoints(rt: HostRuntime) -> Result<(), Fail> {
     let mut journal = Journal::new(rt.alloc())?;
     let mut ids = Vec::new(rt.alloc());
     for port in 0..64u16 {
-        let rows = [
-            (Lookup(3, 99), Ok(Number(u64::from(port))), (0, 0)),
-            (
-                Plain(Create(0, port)),
-                Ok(Number(1024 + u64::from(port))),
-                (0, 0),
-            ),
-        ];
-        assert_rows(&rt, &mut domain, &mut journal, &mut ids, &rows)?;
+        let serial = u64::from(port);
+        let lookup = (Lookup(3, 99), Ok(Number(serial)), (0, 0));
+        assert!(rt;
+            holds(&mut domain, &mut journal, &mut ids, lookup)?,
+            "{port}"
+        );
+        let create = (Plain(Create(0, port)), Ok(Number(1024 + serial)), (0, 0));
+        assert!(rt;
+            holds(&mut domain, &mut journal, &mut ids, create)?,
+            "{port}"
+        );
     }
     assert_rows(&rt, &mut domain, &mut journal, &mut ids, &LIMITS)
 }
