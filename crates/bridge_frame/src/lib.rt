@@ -13,9 +13,6 @@ pub use laws::{letters_read_back, no_payload_has_two_letters};
 pub use reading::read_letter;
 pub use writing::write_letter;
 
-#[cfg(test)]
-mod tests;
-
 /// What the first byte of each letter is.
 const MAGIC: u8 = 0x4d;
 

@@ -15,6 +15,3 @@ pub use book::BufferBook;
 pub use mc_base::{BufInvalid, Buffer, NoMemory, PacketId, Slot};
 pub use places::Places;
 pub use threads::may_cross_threads;
-
-#[cfg(test)]
-mod tests;

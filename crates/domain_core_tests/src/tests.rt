@@ -201,14 +201,19 @@ const FOUR_PRIORITIES: [Answered; 8] = [
     (Receive(1, 488, 10), Ok(3)),
 ];
 
+/// Whether one message is left, whose buffer is the domain's own.
+fn has_one_left(domain: &Domain<AnySend, AnyRecv>) -> bool {
+    domain.messages_queued() == 1
+        && domain.places(3) == Some(Places { queue: 1, lent: 0 })
+        && domain.places(4).is_none()
+}
+
 #[test]
 fn the_best_priority_comes_first(rt: HostRuntime) -> Result<(), Fail> {
     let mut domain = alone(rt.alloc(), 1, 4)?;
     let mut journal = Journal::new(rt.alloc())?;
     assert_answers(&rt, &mut domain, &mut journal, &FOUR_PRIORITIES)?;
-    assert_eq!(rt; domain.messages_queued(), 1);
-    assert_eq!(rt; domain.places(3), Some(Places { queue: 1, lent: 0 }));
-    assert_eq!(rt; domain.places(4), None);
+    assert!(rt; has_one_left(&domain));
     may_cross_threads();
     Ok(())
 }
@@ -237,17 +242,26 @@ fn each_message_keeps_its_own_bytes(rt: HostRuntime) -> Result<(), Fail> {
     Ok(())
 }
 
+/// Makes 64 endpoints, and asserts that there is no more room.
+fn assert_filled(
+    rt: &impl Abort,
+    domain: &mut Domain<AnySend, AnyRecv>,
+    journal: &mut Journal,
+) -> Result<(), Fail> {
+    for port in 0..64 {
+        let row = (Create(0, port), Ok(1024 + u32::from(port)));
+        assert!(rt; answers(domain, journal, row)?, "{port}");
+    }
+    let row = (Create(0, 64), Err(Refusal::EndpLimit));
+    assert!(rt; answers(domain, journal, row)?);
+    Ok(())
+}
+
 #[test]
 fn sixty_four_endpoints_at_once(rt: HostRuntime) -> Result<(), Fail> {
     let mut domain = alone(rt.alloc(), 1, 1)?;
     let mut journal = Journal::new(rt.alloc())?;
-    for port in 0..64 {
-        let row = (Create(0, port), Ok(1024 + u32::from(port)));
-        assert!(rt; answers(&mut domain, &mut journal, row)?, "{port}");
-    }
-    let row = (Create(0, 64), Err(Refusal::EndpLimit));
-    assert!(rt; answers(&mut domain, &mut journal, row)?);
-    Ok(())
+    assert_filled(&rt, &mut domain, &mut journal)
 }
 
 /// An entry as its kind, its peer or its line, its count or its fate, and how many bytes it has.
@@ -309,13 +323,22 @@ const LINES_OF_CALLS: [Line; 7] = [
     (b'b', 3, 1, 0),
 ];
 
+fn make_all(
+    domain: &mut Domain<AnySend, AnyRecv>,
+    journal: &mut Journal,
+    calls: &[Call],
+) -> Result<(), NoMemory> {
+    for call in calls {
+        journal.reserve(160, 67_584)?;
+        made(domain, journal, *call);
+    }
+    Ok(())
+}
+
 #[test]
 fn what_happens_is_noted(rt: HostRuntime) -> Result<(), Fail> {
     let mut domain = alone(rt.alloc(), 1, 2)?;
     let mut journal = Journal::new(rt.alloc())?;
-    for call in &CALLS {
-        journal.reserve(160, 67_584)?;
-        made(&mut domain, &mut journal, *call);
-    }
+    make_all(&mut domain, &mut journal, &CALLS)?;
     assert_lines(&rt, &journal, &LINES_OF_CALLS)
 }

@@ -16,6 +16,3 @@ mod threads;
 pub use mc_base::{Local, NoMemory, Ns, Refusal};
 pub use table::EndpointTable;
 pub use threads::may_cross_threads;
-
-#[cfg(test)]
-mod tests;

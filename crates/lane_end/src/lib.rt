@@ -26,6 +26,3 @@ pub use plain_send::PlainSend;
 pub use recv_end::RecvEnd;
 pub use send_end::SendEnd;
 pub use threads::may_cross_threads;
-
-#[cfg(test)]
-mod tests;

@@ -31,6 +31,3 @@ pub use name::{EndName, Local};
 pub use priority::Priority;
 pub use refusal::{BufInvalid, Full, NoMemory, Refusal, RequestLimit, SclSize};
 pub use request::{Done, Got, PacketId, RequestId, Slot};
-
-#[cfg(test)]
-mod tests;

@@ -6,8 +6,6 @@
 mod entry;
 mod journal;
 mod kept;
-#[cfg(test)]
-mod tests;
 mod threads;
 
 pub use entry::{Answer, Entry, Told};

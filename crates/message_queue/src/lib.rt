@@ -11,6 +11,3 @@ mod threads;
 
 pub use queue::MessageQueue;
 pub use threads::may_cross_threads;
-
-#[cfg(test)]
-mod tests;

@@ -25,6 +25,3 @@ pub use name::is_legal;
 pub use reading::read_ns;
 pub use threads::may_cross_threads;
 pub use writing::write_ns;
-
-#[cfg(test)]
-mod tests;

@@ -10,6 +10,3 @@ mod threads;
 pub use ask::{Ask, Complete};
 pub use set::RequestSet;
 pub use threads::may_cross_threads;
-
-#[cfg(test)]
-mod tests;

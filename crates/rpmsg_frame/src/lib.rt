@@ -10,6 +10,3 @@ mod writing;
 pub use laws::made_is_frame;
 pub use reading::{Frame, decode};
 pub use writing::{encode_into, write_header};
-
-#[cfg(test)]
-mod tests;

@@ -20,6 +20,3 @@ pub use field::{Field, word_of};
 pub use half::Half;
 pub use table::RingTable;
 pub use threads::may_cross_threads;
-
-#[cfg(test)]
-mod tests;

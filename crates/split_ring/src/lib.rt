@@ -19,6 +19,3 @@ pub use driver::Driver;
 pub use ring::Ring;
 pub use shared_words::RingFault;
 pub use threads::may_cross_threads;
-
-#[cfg(test)]
-mod tests;

@@ -301,15 +301,24 @@ const RECEIVED_OF_DEALT: [Answered; 5] = [
     (Create(0, 1), Err(Refusal::ExistsAlready)),
 ];
 
+/// Asserts what the frames of each kind have left.
+fn assert_left(
+    rt: &impl Abort,
+    alloc: Global,
+    domain: &mut Domain<AnySend, AnyRecv>,
+) -> Result<(), Fail> {
+    assert!(rt; domain.places(1) == Some(Places { queue: 3, lent: 0 }));
+    // The name that was announced twice has the later address.
+    assert_known(rt, alloc, domain, 1, Ok(Done::Address(1031)))?;
+    assert_known(rt, alloc, domain, 2, Err(Refusal::Pending))?;
+    let mut journal = Journal::new(alloc)?;
+    assert_answers(rt, domain, &mut journal, &RECEIVED_OF_DEALT)
+}
+
 #[test]
 fn each_frame_has_its_word(rt: HostRuntime) -> Result<(), Fail> {
     let mut domain = assert_dealt(&rt, rt.alloc(), &DEALT)?;
-    assert_eq!(rt; domain.places(1), Some(Places { queue: 3, lent: 0 }));
-    // The name that was announced twice has the later address.
-    assert_known(&rt, rt.alloc(), &mut domain, 1, Ok(Done::Address(1031)))?;
-    assert_known(&rt, rt.alloc(), &mut domain, 2, Err(Refusal::Pending))?;
-    let mut journal = Journal::new(rt.alloc())?;
-    assert_answers(&rt, &mut domain, &mut journal, &RECEIVED_OF_DEALT)
+    assert_left(&rt, rt.alloc(), &mut domain)
 }
 
 /// 65 names, a known one with another address, one that is gone, and the last again.
@@ -325,17 +334,31 @@ fn many_names() -> [Row; 68] {
     rows
 }
 
+/// A port, and how a lookup of it ends.
+type Known = (u16, Result<Done, Refusal>);
+
+const KNOWN: [Known; 5] = [
+    (10, Ok(Done::Address(2000))),
+    (11, Ok(Done::Address(3000))),
+    (12, Err(Refusal::Pending)),
+    (73, Ok(Done::Address(2063))),
+    (74, Ok(Done::Address(3001))),
+];
+
+fn assert_all_known(
+    rt: &impl Abort,
+    alloc: Global,
+    domain: &mut Domain<AnySend, AnyRecv>,
+    rows: &[Known],
+) -> Result<(), Fail> {
+    for (port, due) in rows {
+        assert_known(rt, alloc, domain, *port, *due)?;
+    }
+    Ok(())
+}
+
 #[test]
 fn sixty_five_names_of_a_peer(rt: HostRuntime) -> Result<(), Fail> {
     let mut domain = assert_dealt(&rt, rt.alloc(), &many_names())?;
-    for (port, due) in [
-        (10, Ok(Done::Address(2000))),
-        (11, Ok(Done::Address(3000))),
-        (12, Err(Refusal::Pending)),
-        (73, Ok(Done::Address(2063))),
-        (74, Ok(Done::Address(3001))),
-    ] {
-        assert_known(&rt, rt.alloc(), &mut domain, port, due)?;
-    }
-    Ok(())
+    assert_all_known(&rt, rt.alloc(), &mut domain, &KNOWN)
 }

@@ -69,14 +69,24 @@ fn assert_peers(rt: &impl Abort, domain: &Domain<PlainSend, PlainRecv>, peers: &
     }
 }
 
+/// Makes an endpoint and a turn, and asserts that they go well.
+fn assert_created(
+    rt: &impl Abort,
+    alloc: Global,
+    domain: &mut Domain<PlainSend, PlainRecv>,
+) -> Result<(), Fail> {
+    let mut journal = Journal::new(alloc)?;
+    assert!(rt; answers(domain, &mut journal, (Create(0, 1), Ok(1024)))?);
+    journal.reserve(160, 67_584)?;
+    assert!(rt; !domain.turn(&mut journal));
+    Ok(())
+}
+
 #[test]
 fn links_of_each_size_are_opened_and_given_back(rt: HostRuntime) -> Result<(), Fail> {
     let mut domain = between(rt.alloc())?;
-    let mut journal = Journal::new(rt.alloc())?;
-    assert_answers(&rt, &mut domain, &mut journal, &[(Create(0, 1), Ok(1024))])?;
     assert_peers(&rt, &domain, &[0, 2, 3, 5]);
-    journal.reserve(160, 67_584)?;
-    assert!(rt; !domain.turn(&mut journal));
+    assert_created(&rt, rt.alloc(), &mut domain)?;
     assert_links(&rt, &domain.into_links(), &AFTER_A_CREATION)
 }
 

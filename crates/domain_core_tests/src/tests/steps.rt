@@ -161,36 +161,45 @@ fn places((queue, lent): (u32, u32)) -> Option<Places> {
     Some(Places { queue, lent })
 }
 
+/// A domain without links, what it noted, and the ids of its requests.
+#[derive(Drop)]
+struct Lone {
+    domain: Domain<AnySend, AnyRecv>,
+    journal: Journal,
+    ids: Vec<RequestId>,
+}
+
+impl Lone {
+    /// Whose pool has so many buffers.
+    fn open(alloc: Global, pool: u32) -> Result<Lone, NoMemory>
+        requires some_pool { 1 ≤ pool }
+        requires pool { pool ≤ 256 }
+    {
+        Ok(Lone {
+            domain: alone(alloc, 1, pool)?,
+            journal: Journal::new(alloc)?,
+            ids: Vec::new(alloc),
+        })
+    }
+}
+
 /// Whether a call answers what it must, and this is held from then on.
-fn holds(
-    domain: &mut Domain<AnySend, AnyRecv>,
-    journal: &mut Journal,
-    ids: &mut Vec<RequestId>,
-    (step, due, held): Row,
-) -> Result<bool, NoMemory> {
-    journal.reserve(160, 67_584)?;
-    let answer = stepped(domain, journal, ids, step)?;
-    Ok(answer == Some(due) && domain.places(3) == places(held))
+fn holds(lone: &mut Lone, (step, due, held): Row) -> Result<bool, NoMemory> {
+    lone.journal.reserve(160, 67_584)?;
+    let answer = stepped(&mut lone.domain, &mut lone.journal, &mut lone.ids, step)?;
+    Ok(answer == Some(due) && lone.domain.places(3) == places(held))
 }
 
 /// Asserts what each call answers, and what is held from then on.
-fn assert_rows(
-    rt: &impl Abort,
-    domain: &mut Domain<AnySend, AnyRecv>,
-    journal: &mut Journal,
-    ids: &mut Vec<RequestId>,
-    rows: &[Row],
-) -> Result<(), Fail> {
+fn assert_rows(rt: &impl Abort, lone: &mut Lone, rows: &[Row]) -> Result<(), Fail> {
     for (i, row) in rows.iter().enumerate() {
-        assert!(rt; holds(domain, journal, ids, *row)?, "row {i}");
+        assert!(rt; holds(lone, *row)?, "row {i}");
     }
     Ok(())
 }
 
 /// The same in a new domain, whose pool has two buffers.
 fn assert_all(rt: &impl Abort, alloc: Global, rows: &[Row]) -> Result<(), Fail> {
-    let mut domain = alone(alloc, 1, 2)?;
-    let mut journal = Journal::new(alloc)?;
-    let mut ids = Vec::new(alloc);
-    assert_rows(rt, &mut domain, &mut journal, &mut ids, rows)
+    let mut lone = Lone::open(alloc, 2)?;
+    assert_rows(rt, &mut lone, rows)
 }

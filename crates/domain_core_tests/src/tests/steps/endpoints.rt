@@ -80,25 +80,23 @@ const LIMITS: [Row; 9] = [
     (Test(64, 0), Ok(Address(1031)), (0, 0)),
 ];
 
-#[test]
-fn sixty_four_lookups_and_endpoints(rt: HostRuntime) -> Result<(), Fail> {
-    let mut domain = alone(rt.alloc(), 1, 1)?;
-    let mut journal = Journal::new(rt.alloc())?;
-    let mut ids = Vec::new(rt.alloc());
+/// Begins 64 lookups of an endpoint, and makes 64 others.
+fn assert_filled(rt: &impl Abort, lone: &mut Lone) -> Result<(), Fail> {
     for port in 0..64u16 {
         let serial = u64::from(port);
         let lookup = (Lookup(3, 99), Ok(Number(serial)), (0, 0));
-        assert!(rt;
-            holds(&mut domain, &mut journal, &mut ids, lookup)?,
-            "{port}"
-        );
+        assert!(rt; holds(lone, lookup)?, "{port}");
         let create = (Plain(Create(0, port)), Ok(Number(1024 + serial)), (0, 0));
-        assert!(rt;
-            holds(&mut domain, &mut journal, &mut ids, create)?,
-            "{port}"
-        );
+        assert!(rt; holds(lone, create)?, "{port}");
     }
-    assert_rows(&rt, &mut domain, &mut journal, &mut ids, &LIMITS)
+    Ok(())
+}
+
+#[test]
+fn sixty_four_lookups_and_endpoints(rt: HostRuntime) -> Result<(), Fail> {
+    let mut lone = Lone::open(rt.alloc(), 1)?;
+    assert_filled(&rt, &mut lone)?;
+    assert_rows(&rt, &mut lone, &LIMITS)
 }
 
 const TURNS: [Row; 6] = [

@@ -74,21 +74,22 @@ const LIMIT: [Row; 3] = [
     (Begin(1, 8), Ok(Number(64)), (0, 0)),
 ];
 
-#[test]
-fn sixty_four_requests_at_once(rt: HostRuntime) -> Result<(), Fail> {
-    let mut domain = alone(rt.alloc(), 1, 1)?;
-    let mut journal = Journal::new(rt.alloc())?;
-    let mut ids = Vec::new(rt.alloc());
-    let row = (Plain(Create(0, 1)), Ok(Number(1024)), (0, 0));
-    assert_rows(&rt, &mut domain, &mut journal, &mut ids, &[row])?;
+/// Makes an endpoint, and requests 64 messages there.
+fn assert_filled(rt: &impl Abort, lone: &mut Lone) -> Result<(), Fail> {
+    let create = (Plain(Create(0, 1)), Ok(Number(1024)), (0, 0));
+    assert!(rt; holds(lone, create)?);
     for serial in 0..64 {
         let row = (Begin(1, 8), Ok(Number(serial)), (0, 0));
-        assert!(rt;
-            holds(&mut domain, &mut journal, &mut ids, row)?,
-            "{serial}"
-        );
+        assert!(rt; holds(lone, row)?, "{serial}");
     }
-    assert_rows(&rt, &mut domain, &mut journal, &mut ids, &LIMIT)
+    Ok(())
+}
+
+#[test]
+fn sixty_four_requests_at_once(rt: HostRuntime) -> Result<(), Fail> {
+    let mut lone = Lone::open(rt.alloc(), 1)?;
+    assert_filled(&rt, &mut lone)?;
+    assert_rows(&rt, &mut lone, &LIMIT)
 }
 
 const HANDED: [Row; 4] = [
@@ -108,9 +109,7 @@ const LINES_OF_HANDED: [Line; 5] = [
 
 #[test]
 fn a_handed_message_is_noted(rt: HostRuntime) -> Result<(), Fail> {
-    let mut domain = alone(rt.alloc(), 1, 1)?;
-    let mut journal = Journal::new(rt.alloc())?;
-    let mut ids = Vec::new(rt.alloc());
-    assert_rows(&rt, &mut domain, &mut journal, &mut ids, &HANDED)?;
-    assert_lines(&rt, &journal, &LINES_OF_HANDED)
+    let mut lone = Lone::open(rt.alloc(), 1)?;
+    assert_rows(&rt, &mut lone, &HANDED)?;
+    assert_lines(&rt, &lone.journal, &LINES_OF_HANDED)
 }

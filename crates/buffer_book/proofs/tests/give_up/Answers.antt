@@ -1,5 +1,0 @@
-use Rattle.buffer_book.proofs.PlaceLemmas.{released-away}
-use Rattle.buffer_book.proofs.tests.give_up.Goals as goal
-
-pub returns : goal.returns
-returns c = released-away c.args.book.now c.release.new.self c.args.id c.release.result c.release.ensures.refused c.release.ensures.book

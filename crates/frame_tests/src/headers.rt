@@ -1,0 +1,83 @@
+use mc_base::FrameFault;
+use rpmsg_frame::{decode, encode_into, made_is_frame, write_header};
+
+/// "hi" to 1025 from 1024: src, dst, reserved, len, flags, and the payload of ten bytes.
+const HI: [u8; 26] = [
+    0, 4, 0, 0, 1, 4, 0, 0, 0, 0, 0, 0, 10, 0, 0, 0, 0x4d, 1, 1, 1, 0, 0, 0, 0, 0x68, 0x69,
+];
+
+#[test]
+fn frames_are_read(rt: HostRuntime) {
+    // Bytes after the payload, and any in reserved and flags.
+    let mut more = [0xee; 30];
+    more[..26].copy_from_slice(&HI);
+    let mut flagged = HI;
+    flagged[8..12].copy_from_slice(&[1, 2, 3, 4]);
+    flagged[14..16].copy_from_slice(&[0xff, 0xff]);
+    // The largest of 512 bytes, the least of 16, and both ends of the addresses.
+    let mut largest = [7; 512];
+    largest[..16].copy_from_slice(&[
+        0xff, 0xff, 0xff, 0xff, 0, 0, 0, 0, 0, 0, 0, 0, 0xf0, 1, 0, 0,
+    ]);
+    let least = [0, 0, 0, 0, 0xff, 0xff, 0xff, 0xff, 0, 0, 0, 0, 0, 0, 0, 0];
+    // A header length that is shorter than the frame.
+    let mut shorter = HI;
+    shorter[12] = 9;
+    let rows: [(&[u8], u32, u32, &[u8]); 6] = [
+        (&HI, 1024, 1025, &HI[16..]),
+        (&more, 1024, 1025, &HI[16..]),
+        (&flagged, 1024, 1025, &HI[16..]),
+        (&largest, 0xffff_ffff, 0, &[7; 496]),
+        (&least, 0, 0xffff_ffff, &[]),
+        (&shorter, 1024, 1025, &HI[16..25]),
+    ];
+    for (bytes, src, dst, payload) in rows {
+        match decode(bytes) {
+            Ok(frame) => {
+                assert_eq!(rt; frame.src, src);
+                assert_eq!(rt; frame.dst, dst);
+                assert_eq!(rt; frame.payload, payload);
+            }
+            Err(fault) => assert!(rt; false, "{fault:?}"),
+        }
+    }
+}
+
+#[test]
+fn faults_are_told(rt: HostRuntime) {
+    let mut longer = HI;
+    longer[12] = 15;
+    let mut longer_by_one = HI;
+    longer_by_one[12] = 11;
+    // Both the frame and the header's length are wrong.
+    let short_and_longer = [0xff; 15];
+    let long_and_longer = [0xff; 513];
+    let rows: [(&[u8], FrameFault); 8] = [
+        (&[], FrameFault::FrameShort),
+        (&HI[..15], FrameFault::FrameShort),
+        (&short_and_longer, FrameFault::FrameShort),
+        (&[0; 513], FrameFault::FrameLong),
+        (&long_and_longer, FrameFault::FrameLong),
+        (&longer, FrameFault::HeaderLen),
+        (&longer_by_one, FrameFault::HeaderLen),
+        (&HI[..25], FrameFault::HeaderLen),
+    ];
+    for (bytes, fault) in rows {
+        assert_eq!(rt; decode(bytes).err(), Some(fault));
+    }
+}
+
+#[test]
+fn a_frame_is_written(rt: HostRuntime) {
+    let mut out = [0xee; 512];
+    assert_eq!(rt; encode_into(1024, 1025, &HI[16..], &mut out), 26);
+    assert_eq!(rt; &out[..26], HI.as_slice());
+    assert_eq!(rt; &out[26..], [0xee; 486].as_slice());
+    let mut header = [0xee; 17];
+    write_header(0x0403_0201, 0xffff_ffff, 0x0605, &mut header);
+    assert_eq!(rt;
+        header,
+        [1, 2, 3, 4, 255, 255, 255, 255, 0, 0, 0, 0, 5, 6, 0, 0, 0xee]
+    );
+    made_is_frame();
+}

@@ -1,0 +1,228 @@
+ghost use Rattle.std.specs.Prelude.{◌≤◌, length};
+ghost use Rattle.mc_base.specs.Letter.{HasSpelling, plain_letter};
+
+use bridge_frame::{letters_read_back, no_payload_has_two_letters, read_letter, write_letter};
+use mc_base::{Bits, Kind, Letter, LetterFault, Priority, Reason};
+use std::alloc::{AllocError, Global};
+use std::process::Abort;
+use std::test::Fail;
+
+const CONNECT: [u8; 8] = [0x4d, 1, 2, 1, 4, 3, 2, 1];
+
+const ACCEPT: [u8; 8] = [0x4d, 1, 3, 0, 1, 0, 0, 0];
+
+const REJECT: [u8; 8] = [0x4d, 1, 4, 3, 0xff, 0xff, 0xff, 0xff];
+
+const SCALAR_16: [u8; 10] = [0x4d, 1, 8, 2, 7, 0, 0, 0, 0x34, 0x12];
+
+const SCALAR_64: [u8; 16] = [
+    0x4d, 1, 8, 8, 7, 0, 0, 0, 0xff, 0xff, 0xff, 0xff, 0xff, 0xff, 0xff, 0xff,
+];
+
+const LETTERS: [(&[u8], &str); 16] = [
+    (
+        &[0x4d, 1, 1, 3, 0, 0, 0, 0, 0x68, 0x69],
+        "Msg { priority: Priority { number: 3 }, bytes: [104, 105] }",
+    ),
+    (
+        &[0x4d, 1, 1, 0, 0, 0, 0, 0],
+        "Msg { priority: Priority { number: 0 }, bytes: [] }",
+    ),
+    (&CONNECT, "Connect { channel: 16909060, kind: Scalar }"),
+    (
+        &[0x4d, 1, 2, 0, 1, 0, 0, 0],
+        "Connect { channel: 1, kind: Packet }",
+    ),
+    (&ACCEPT, "Accept { channel: 1 }"),
+    (&REJECT, "Reject { channel: 4294967295, reason: Busy }"),
+    (
+        &[0x4d, 1, 4, 1, 1, 0, 0, 0],
+        "Reject { channel: 1, reason: NoEndpoint }",
+    ),
+    (&[0x4d, 1, 5, 0, 7, 0, 0, 0], "RecvOpen { channel: 7 }"),
+    (&[0x4d, 1, 6, 0, 7, 0, 0, 0], "SendOpen { channel: 7 }"),
+    (
+        &[0x4d, 1, 7, 0, 7, 0, 0, 0, 0x68],
+        "Packet { channel: 7, bytes: [104] }",
+    ),
+    (
+        &[0x4d, 1, 8, 1, 7, 0, 0, 0, 0xff],
+        "Scalar { channel: 7, bits: B8, value: 255 }",
+    ),
+    (&SCALAR_16, "Scalar { channel: 7, bits: B16, value: 4660 }"),
+    (
+        &[0x4d, 1, 8, 4, 7, 0, 0, 0, 1, 0, 0, 0x80],
+        "Scalar { channel: 7, bits: B32, value: 2147483649 }",
+    ),
+    (
+        &SCALAR_64,
+        "Scalar { channel: 7, bits: B64, value: 18446744073709551615 }",
+    ),
+    (&[0x4d, 1, 9, 0, 7, 0, 0, 0], "SendClose { channel: 7 }"),
+    (&[0x4d, 1, 10, 0, 7, 0, 0, 0], "RecvClose { channel: 7 }"),
+];
+
+/// The first four bytes, the channel's lowest, the length of the content, and the first fault.
+type Row = ([u8; 4], u8, u16, Option<LetterFault>);
+
+const FAULTS: [Row; 44] = [
+    ([0x4c, 1, 1, 0], 0, 0, Some(LetterFault::Magic)),
+    ([0x4c, 2, 1, 0], 0, 0, Some(LetterFault::Magic)),
+    ([0x4d, 0, 1, 0], 0, 0, Some(LetterFault::Version)),
+    ([0x4d, 2, 0, 0], 0, 0, Some(LetterFault::Version)),
+    ([0x4d, 1, 0, 0], 1, 0, Some(LetterFault::Kind)),
+    ([0x4d, 1, 11, 0], 1, 0, Some(LetterFault::Kind)),
+    ([0x4d, 1, 255, 9], 1, 0, Some(LetterFault::Kind)),
+    ([0x4d, 1, 1, 4], 0, 0, Some(LetterFault::Argument)),
+    ([0x4d, 1, 1, 4], 1, 0, Some(LetterFault::Argument)),
+    ([0x4d, 1, 2, 2], 1, 0, Some(LetterFault::Argument)),
+    ([0x4d, 1, 3, 1], 1, 0, Some(LetterFault::Argument)),
+    ([0x4d, 1, 4, 0], 1, 0, Some(LetterFault::Argument)),
+    ([0x4d, 1, 4, 4], 1, 0, Some(LetterFault::Argument)),
+    ([0x4d, 1, 5, 1], 1, 0, Some(LetterFault::Argument)),
+    ([0x4d, 1, 6, 1], 1, 0, Some(LetterFault::Argument)),
+    ([0x4d, 1, 7, 1], 1, 0, Some(LetterFault::Argument)),
+    ([0x4d, 1, 8, 0], 1, 0, Some(LetterFault::Argument)),
+    ([0x4d, 1, 8, 3], 1, 3, Some(LetterFault::Argument)),
+    ([0x4d, 1, 8, 16], 0, 16, Some(LetterFault::Argument)),
+    ([0x4d, 1, 9, 1], 1, 0, Some(LetterFault::Argument)),
+    ([0x4d, 1, 10, 1], 1, 0, Some(LetterFault::Argument)),
+    ([0x4d, 1, 1, 0], 1, 0, Some(LetterFault::Channel)),
+    ([0x4d, 1, 1, 0], 1, 489, Some(LetterFault::Channel)),
+    ([0x4d, 1, 2, 0], 0, 1, Some(LetterFault::Channel)),
+    ([0x4d, 1, 3, 0], 0, 0, Some(LetterFault::Channel)),
+    ([0x4d, 1, 4, 1], 0, 0, Some(LetterFault::Channel)),
+    ([0x4d, 1, 5, 0], 0, 0, Some(LetterFault::Channel)),
+    ([0x4d, 1, 6, 0], 0, 0, Some(LetterFault::Channel)),
+    ([0x4d, 1, 7, 0], 0, 489, Some(LetterFault::Channel)),
+    ([0x4d, 1, 8, 1], 0, 1, Some(LetterFault::Channel)),
+    ([0x4d, 1, 9, 0], 0, 0, Some(LetterFault::Channel)),
+    ([0x4d, 1, 10, 0], 0, 0, Some(LetterFault::Channel)),
+    ([0x4d, 1, 1, 0], 0, 488, None),
+    ([0x4d, 1, 1, 0], 0, 489, Some(LetterFault::Size)),
+    ([0x4d, 1, 2, 0], 1, 1, Some(LetterFault::Size)),
+    ([0x4d, 1, 3, 0], 1, 1, Some(LetterFault::Size)),
+    ([0x4d, 1, 4, 3], 1, 1, Some(LetterFault::Size)),
+    ([0x4d, 1, 7, 0], 1, 488, None),
+    ([0x4d, 1, 7, 0], 1, 489, Some(LetterFault::Size)),
+    ([0x4d, 1, 8, 1], 1, 0, Some(LetterFault::Size)),
+    ([0x4d, 1, 8, 2], 1, 1, Some(LetterFault::Size)),
+    ([0x4d, 1, 8, 4], 1, 3, Some(LetterFault::Size)),
+    ([0x4d, 1, 8, 8], 1, 9, Some(LetterFault::Size)),
+    ([0x4d, 1, 10, 0], 1, 1, Some(LetterFault::Size)),
+];
+
+/// The letter is written as these bytes, and the rest stays.
+fn is_written(letter: &Letter<'_>, bytes: &[u8]) -> bool
+    requires lawful { HasSpelling (plain_letter letter.now) }
+    requires short { length bytes.now ≤ 496 }
+{
+    let mut out = [0xee; 500];
+    let len = write_letter(letter, &mut out);
+    let (written, rest) = out.split_at(bytes.len());
+    len == bytes.len() && written == bytes && rest.iter().all(|b| *b == 0xee)
+}
+
+#[test]
+fn each_letter_is_written(rt: HostRuntime) -> Result<(), Fail> {
+    let priority = Priority::new(3).ok_or("3 is a priority")?;
+    let hi = b"hi".as_slice();
+    let channel = 7;
+    let plain = |kind: u8| [0x4d, 1, kind, 0, 7, 0, 0, 0];
+    let msg = Letter::Msg {
+        priority,
+        bytes: hi,
+    };
+    assert!(rt; is_written(&msg, &[0x4d, 1, 1, 3, 0, 0, 0, 0, 0x68, 0x69]));
+    let connect = Letter::Connect {
+        channel: 0x0102_0304,
+        kind: Kind::Scalar,
+    };
+    assert!(rt; is_written(&connect, &CONNECT));
+    assert!(rt; is_written(&Letter::Accept { channel: 1 }, &ACCEPT));
+    let reject = Letter::Reject {
+        channel: 0xffff_ffff,
+        reason: Reason::Busy,
+    };
+    assert!(rt; is_written(&reject, &REJECT));
+    assert!(rt; is_written(&Letter::RecvOpen { channel }, &plain(5)));
+    assert!(rt; is_written(&Letter::SendOpen { channel }, &plain(6)));
+    let packet = Letter::Packet { channel, bytes: hi };
+    assert!(rt; is_written(&packet, &[0x4d, 1, 7, 0, 7, 0, 0, 0, 0x68, 0x69]));
+    let scalar = Letter::Scalar {
+        channel,
+        bits: Bits::B16,
+        value: 0x1234,
+    };
+    assert!(rt; is_written(&scalar, &SCALAR_16));
+    let scalar = Letter::Scalar {
+        channel,
+        bits: Bits::B64,
+        value: u64::MAX,
+    };
+    assert!(rt; is_written(&scalar, &SCALAR_64));
+    assert!(rt; is_written(&Letter::SendClose { channel }, &plain(9)));
+    assert!(rt; is_written(&Letter::RecvClose { channel }, &plain(10)));
+    letters_read_back();
+    no_payload_has_two_letters();
+    Ok(())
+}
+
+/// Whether the letter of these bytes is shown as this text.
+fn is_read_as(alloc: Global, bytes: &[u8], text: &str) -> Result<bool, AllocError> {
+    let Ok(letter) = read_letter(bytes) else {
+        return Ok(false);
+    };
+    let shown = format!(in alloc; "{letter:?}")?;
+    Ok(shown.as_str() == text)
+}
+
+fn assert_read(rt: &impl Abort, alloc: Global, rows: &[(&[u8], &str)]) -> Result<(), Fail> {
+    for (bytes, text) in rows {
+        assert!(rt; is_read_as(alloc, bytes, text)?, "{text}");
+    }
+    Ok(())
+}
+
+#[test]
+fn each_letter_is_read(rt: HostRuntime) -> Result<(), Fail> {
+    assert_read(&rt, rt.alloc(), &LETTERS)
+}
+
+fn fault_of(payload: &[u8]) -> Option<LetterFault> {
+    match read_letter(payload) {
+        Ok(_) => None,
+        Err(fault) => Some(fault),
+    }
+}
+
+/// The fault of a payload of these first four bytes, this lowest byte of the channel, and so many zeros as content.
+fn fault_at(front: [u8; 4], channel: u8, content: usize) -> Option<LetterFault>
+    requires { content ≤ 489 }
+{
+    let [magic, version, kind, argument] = front;
+    let mut payload = [0; 497];
+    payload[0] = magic;
+    payload[1] = version;
+    payload[2] = kind;
+    payload[3] = argument;
+    payload[4] = channel;
+    fault_of(&payload[..8 + content])
+}
+
+fn assert_faults(rt: &impl Abort, rows: &[Row]) {
+    for (i, (front, channel, content, fault)) in rows.iter().enumerate() {
+        let content = usize::from(*content).min(489);
+        assert!(rt; fault_at(*front, *channel, content) == *fault, "row {i}");
+    }
+}
+
+#[test]
+fn first_faults_are_told(rt: HostRuntime) {
+    assert_faults(&rt, &FAULTS);
+    for size in 0..8 {
+        let (short, _) = ACCEPT.split_at(size);
+        let due = Some(LetterFault::PayloadShort);
+        assert!(rt; fault_of(short) == due, "{size} bytes");
+    }
+}

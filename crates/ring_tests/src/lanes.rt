@@ -1,0 +1,313 @@
+ghost use Rattle.std.specs.Prelude.{List};
+ghost use Rattle.lane_end.specs.SendMoves.{SendMove};
+ghost use Rattle.lane_end.specs.ReceiveMoves.{ReceiveMove};
+
+use lane_end::{
+    AnyRecv, AnySend, LaneFault, LoopLane, PlainRecv, PlainSend, RecvEnd, SendEnd,
+    may_cross_threads, plain_lane,
+};
+use std::alloc::Global;
+use std::process::Abort;
+use std::test::Fail;
+
+mod pair;
+
+use pair::Pair;
+
+/// What is done with a lane.
+#[derive(Clone, Copy)]
+pub enum Deed {
+    /// Puts a frame, where a buffer is free: 1 where one was.
+    Put(&'static [u8]),
+    /// The same with the long frame.
+    PutLong,
+    /// Looks, takes the oldest frame, and gives its buffer back: 1 where the frame is this one.
+    Take(&'static [u8]),
+    /// The same with the long frame.
+    TakeLong,
+    /// Takes two frames, and gives the later one's buffer back first: ten times the number of the first buffer, and that of the
+    /// second.
+    TakeTwo,
+    /// Looks at what came back: how many buffers.
+    LookBack,
+    /// Shuttles what was put and given back.
+    Shuttle,
+}
+
+use Deed::{LookBack, Put, PutLong, Shuttle, Take, TakeLong, TakeTwo};
+
+/// A deed, and what comes of it.
+type Row = (Deed, u32);
+
+fn puts<S: SendEnd>(end: &mut S, frame: &[u8]) -> u32
+    ensures { (moves : List SendMove) × S.Moved end.old moves end.new }
+{
+    if end.free_len() == 0 || frame.is_empty() || frame.len() > 512 {
+        return 0;
+    }
+    end.put(frame);
+    1
+}
+
+fn looks_back<S: SendEnd>(end: &mut S) -> u32
+    ensures { (moves : List SendMove) × S.Moved end.old moves end.new }
+{
+    end.look()
+}
+
+fn takes<R: RecvEnd>(end: &mut R, frame: &[u8]) -> u32
+    ensures { (moves : List ReceiveMove) × R.Moved end.old moves end.new }
+{
+    if end.look() == 0 {
+        return 0;
+    }
+    let (buffer, len) = end.take();
+    let (taken, _) = buffer.bytes().split_at(len as usize);
+    let same = taken == frame;
+    end.give_back(buffer);
+    u32::from(same)
+}
+
+fn takes_two<R: RecvEnd>(end: &mut R) -> u32
+    ensures { (moves : List ReceiveMove) × R.Moved end.old moves end.new }
+{
+    if end.look() < 2 {
+        return 0;
+    }
+    let (first, _) = end.take();
+    let (second, _) = end.take();
+    let numbers = u32::from(first.number()) * 10 + u32::from(second.number());
+    end.give_back(second);
+    end.give_back(first);
+    numbers
+}
+
+// Takes the oldest frame, and sends it on, where a buffer is free: how many bytes it has.
+fn sends_on<S: SendEnd, R: RecvEnd>(from: &mut R, to: &mut S) -> u32 {
+    if to.free_len() == 0 || from.look() == 0 {
+        return 0;
+    }
+    let (buffer, len) = from.take();
+    if len > 0 {
+        let (frame, _) = buffer.bytes().split_at(len as usize);
+        to.put(frame);
+    }
+    from.give_back(buffer);
+    len
+}
+
+// 512 bytes, few of which are the same.
+fn long_frame() -> [u8; 512] {
+    let mut frame = [0; 512];
+    for i in 0..512 {
+        frame[i] = (i % 251) as u8;
+    }
+    frame
+}
+
+/// How many buffers are free at the sender of a new plain lane, and how many frames a look shows at its receiver.
+fn new_plain(alloc: Global, size: u32) -> Result<(u32, u32), LaneFault> {
+    let (send, mut recv) = plain_lane(alloc, size)?;
+    Ok((send.free_len(), recv.look()))
+}
+
+/// The same of a new lane to oneself.
+fn new_alone(alloc: Global, size: u32) -> Result<(u32, u32), LaneFault> {
+    let mut lane = LoopLane::new(alloc, size)?;
+    Ok((lane.free_len(), RecvEnd::look(&mut lane)))
+}
+
+/// Whether both are refused for their size.
+fn is_no_size(alloc: Global, size: u32) -> bool {
+    matches!(new_plain(alloc, size), Err(LaneFault::Size))
+        && matches!(new_alone(alloc, size), Err(LaneFault::Size))
+}
+
+/// Whether both are made with all their buffers free.
+fn is_size(alloc: Global, size: u32) -> bool {
+    matches!(new_plain(alloc, size), Ok((free, 0)) if free == size)
+        && matches!(new_alone(alloc, size), Ok((free, 0)) if free == size)
+}
+
+#[test]
+fn sizes_from_1_to_256_are_made(rt: HostRuntime) {
+    may_cross_threads();
+    for size in [0, 257] {
+        assert!(rt; is_no_size(rt.alloc(), size), "{size}");
+    }
+    for size in [1, 2, 256] {
+        assert!(rt; is_size(rt.alloc(), size), "{size}");
+    }
+}
+
+/// Asserts what comes of each deed on a plain lane of two buffers.
+fn assert_deeds(rt: &impl Abort, alloc: Global, rows: &[Row]) -> Result<(), Fail> {
+    let Ok(mut lane) = Pair::new(alloc, 2) else {
+        return Err("no lane".into());
+    };
+    for (i, (deed, due)) in rows.iter().enumerate() {
+        assert_eq!(rt; lane.does(*deed), *due, "row {i}");
+    }
+    Ok(())
+}
+
+const IN_ORDER: [Row; 7] = [
+    (Put(b"a"), 1),
+    (PutLong, 1),
+    (Take(b"a"), 0),
+    (Shuttle, 0),
+    (Take(b"a"), 1),
+    (TakeLong, 1),
+    (TakeLong, 0),
+];
+
+#[test]
+fn frames_arrive_once_and_in_order(rt: HostRuntime) -> Result<(), Fail> {
+    assert_deeds(&rt, rt.alloc(), &IN_ORDER)
+}
+
+const RUNNING_OUT: [Row; 16] = [
+    (Put(b"a"), 1),
+    (Put(b"b"), 1),
+    (Put(b"c"), 0),
+    (LookBack, 0),
+    (Shuttle, 0),
+    (Take(b"a"), 1),
+    (LookBack, 0),
+    (Shuttle, 0),
+    (Put(b"c"), 0),
+    (LookBack, 1),
+    (Put(b"c"), 1),
+    (Put(b"d"), 0),
+    (Shuttle, 0),
+    (Take(b"b"), 1),
+    (Take(b"c"), 1),
+    (Take(b"d"), 0),
+];
+
+#[test]
+fn a_lane_of_two_runs_out_and_goes_on(rt: HostRuntime) -> Result<(), Fail> {
+    assert_deeds(&rt, rt.alloc(), &RUNNING_OUT)
+}
+
+const IN_REVERSE: [Row; 15] = [
+    (Put(b"a"), 1),
+    (Put(b"b"), 1),
+    (Shuttle, 0),
+    (TakeTwo, 1),
+    (Shuttle, 0),
+    (LookBack, 2),
+    (Put(b"a"), 1),
+    (Put(b"b"), 1),
+    (Shuttle, 0),
+    (TakeTwo, 10),
+    (Shuttle, 0),
+    (LookBack, 2),
+    (Put(b"a"), 1),
+    (Shuttle, 0),
+    (TakeTwo, 0),
+];
+
+#[test]
+fn buffers_come_back_as_they_were_given(rt: HostRuntime) -> Result<(), Fail> {
+    assert_deeds(&rt, rt.alloc(), &IN_REVERSE)
+}
+
+/// A deed on a lane to oneself, which needs no shuttle.
+fn does_alone(lane: &mut LoopLane, deed: Deed) -> u32 {
+    match deed {
+        Put(frame) => puts(lane, frame),
+        PutLong => puts(lane, &long_frame()),
+        Take(frame) => takes(lane, frame),
+        TakeLong => takes(lane, &long_frame()),
+        TakeTwo => takes_two(lane),
+        LookBack => looks_back(lane),
+        Shuttle => 0,
+    }
+}
+
+const TO_ONESELF: [Row; 21] = [
+    (Take(b"a"), 0),
+    (Put(b"a"), 1),
+    (PutLong, 1),
+    (Put(b"c"), 0),
+    (LookBack, 0),
+    (Take(b"a"), 1),
+    (Put(b"c"), 0),
+    (LookBack, 1),
+    (Put(b"c"), 1),
+    (TakeLong, 1),
+    (Take(b"c"), 1),
+    (LookBack, 2),
+    (Put(b"a"), 1),
+    (Put(b"b"), 1),
+    (TakeTwo, 10),
+    (LookBack, 2),
+    (Put(b"a"), 1),
+    (Put(b"b"), 1),
+    (TakeTwo, 1),
+    (LookBack, 2),
+    (TakeTwo, 0),
+];
+
+fn assert_alone(rt: &impl Abort, alloc: Global, rows: &[Row]) -> Result<(), Fail> {
+    let Ok(mut lane) = LoopLane::new(alloc, 2) else {
+        return Err("no lane".into());
+    };
+    for (i, (deed, due)) in rows.iter().enumerate() {
+        assert_eq!(rt; does_alone(&mut lane, *deed), *due, "row {i}");
+    }
+    Ok(())
+}
+
+#[test]
+fn a_lane_to_oneself_does_the_same(rt: HostRuntime) -> Result<(), Fail> {
+    assert_alone(&rt, rt.alloc(), &TO_ONESELF)
+}
+
+// A receiver with one frame, and a sender.
+fn ends(alloc: Global) -> Result<(PlainRecv, PlainSend), LaneFault> {
+    let mut lane = Pair::new(alloc, 1)?;
+    lane.does(Put(b"abc"));
+    lane.does(Shuttle);
+    let other = Pair::new(alloc, 1)?;
+    Ok((lane.recv, other.send))
+}
+
+#[test]
+fn frames_are_sent_on_over_plain_ends(rt: HostRuntime) -> Result<(), Fail> {
+    let Ok((mut from, mut to)) = ends(rt.alloc()) else {
+        return Err("no lanes".into());
+    };
+    for due in [3, 0] {
+        assert_eq!(rt; sends_on(&mut from, &mut to), due);
+    }
+    Ok(())
+}
+
+#[test]
+fn frames_are_sent_on_over_ends_of_any_kind(rt: HostRuntime) -> Result<(), Fail> {
+    let Ok((from, to)) = ends(rt.alloc()) else {
+        return Err("no lanes".into());
+    };
+    let (mut from, mut to) = (AnyRecv::Plain(from), AnySend::Plain(to));
+    for due in [3, 0] {
+        assert_eq!(rt; sends_on(&mut from, &mut to), due);
+        assert_eq!(rt; (to.free_len(), to.look()), (0, 0));
+    }
+    Ok(())
+}
+
+#[test]
+fn frames_are_sent_on_over_lanes_to_oneself(rt: HostRuntime) -> Result<(), Fail> {
+    let (Ok(mut from), Ok(mut to)) = (LoopLane::new(rt.alloc(), 1), LoopLane::new(rt.alloc(), 1))
+    else {
+        return Err("no lanes".into());
+    };
+    does_alone(&mut from, Put(b"abc"));
+    for due in [3, 0] {
+        assert_eq!(rt; sends_on(&mut from, &mut to), due);
+    }
+    assert_eq!(rt; does_alone(&mut to, Take(b"abc")), 1);
+    Ok(())
+}

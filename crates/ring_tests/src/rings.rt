@@ -1,0 +1,319 @@
+ghost use Rattle.std.specs.Prelude.{◌≡◌, IfSome, OnOk};
+ghost use Rattle.shared_words.specs.declared.view.Role.TheVariants as role;
+ghost use Rattle.split_ring.specs.Ends.{HoldsNumber, AreHeld, IsSound};
+
+use mc_base::Buffer;
+use shared_words::{Field, word_of};
+use split_ring::{Closed, Device, Driver, Ring, RingFault, may_cross_threads};
+use std::alloc::{AllocError, Global};
+use std::collections::VecDeque;
+use std::test::Fail;
+use std::thread::join;
+
+// Offers the buffers, the last first, with lengths from 0 on.
+fn offer_all(on: &Ring, mut driver: Driver, mut buffers: Vec<Buffer>) -> Driver
+    requires ring { driver.ring ≡ on.now.ring }
+    requires held { AreHeld role.Driver driver buffers.items }
+    ensures { result.ring ≡ on.now.ring }
+{
+    let mut len = 0;
+    while let Some(buffer) = buffers.pop() {
+        driver.offer(on, buffer, len);
+        len = (len + 1) % 256;
+    }
+    driver
+}
+
+// Fetches until it has so many: their numbers and lengths.
+fn fetch_all(alloc: Global, on: &Ring, mut device: Device, count: usize) -> Vec<(u16, u32)>
+    requires { device.ring ≡ on.now.ring }
+{
+    let mut seen = Vec::new(alloc);
+    for _ in 0..u64::MAX {
+        if seen.len() >= count {
+            break;
+        }
+        if let Some((buffer, len)) = device.fetch(on) {
+            if seen.push((buffer.number(), len)).is_err() {
+                break;
+            }
+        }
+    }
+    seen
+}
+
+fn is_in_order(seen: &[(u16, u32)], size: u32) -> bool {
+    let mut next = 0;
+    for (number, len) in seen {
+        if next >= size || *number as u32 != size - 1 - next || *len != next {
+            return false;
+        }
+        next += 1;
+    }
+    next == size
+}
+
+#[test]
+fn two_threads_keep_the_order(rt: HostRuntime) -> Result<(), Fail> {
+    may_cross_threads();
+    let alloc = rt.alloc();
+    let Ok((ring, driver, device, buffers)) = Ring::new(alloc, 1, 256) else {
+        return Err("no ring".into());
+    };
+    let (_driver, seen) = join(
+        &rt,
+        || offer_all(&ring, driver, buffers),
+        || fetch_all(alloc, &ring, device, 256),
+    );
+    assert!(rt; is_in_order(seen.as_slice(), 256));
+    Ok(())
+}
+
+#[test]
+fn the_least_and_the_greatest_size(rt: HostRuntime) -> Result<(), Fail> {
+    let alloc = rt.alloc();
+    for size in [2, 256] {
+        let Ok((ring, driver, mut device, buffers)) = Ring::new(alloc, 0, size) else {
+            return Err("no ring".into());
+        };
+        assert!(rt; device.fetch(&ring).is_none());
+        let _driver = offer_all(&ring, driver, buffers);
+        assert_eq!(rt; device.look(&ring), size);
+        let seen = fetch_all(alloc, &ring, device, size as usize);
+        assert!(rt; is_in_order(seen.as_slice(), size));
+    }
+    Ok(())
+}
+
+#[test]
+fn other_queues_and_sizes_are_refused(rt: HostRuntime) {
+    assert!(rt; matches!(Ring::new(rt.alloc(), 1, 3), Err(RingFault::Size)));
+    for size in [2, 3] {
+        assert!(rt; matches!(Ring::new(rt.alloc(), 2, size), Err(RingFault::Queue)));
+    }
+}
+
+// The last of the buffers.
+fn last_of(driver: &Driver, mut buffers: Vec<Buffer>) -> Option<Buffer>
+    requires { AreHeld role.Driver driver.now buffers.items }
+    ensures { IfSome result (λ b. HoldsNumber role.Driver driver.now b.number) }
+{
+    buffers.pop()
+}
+
+// The device's part of a round: the next buffer, which has 16 bytes, is given back with none.
+fn serve_one(on: &Ring, device: &mut Device) -> bool
+    requires { device.old.ring ≡ on.now.ring }
+    ensures { device.new.ring ≡ on.now.ring }
+{
+    let Some((buffer, len)) = device.fetch(on) else {
+        return false;
+    };
+    device.give(on, buffer, 0);
+    len == 16
+}
+
+// The driver's part of a round, but for the offer: the buffer comes back with none.
+fn reclaim_one(on: &Ring, driver: &mut Driver) -> Option<Buffer>
+    requires { driver.old.ring ≡ on.now.ring }
+    ensures ring { driver.new.ring ≡ on.now.ring }
+    ensures held { IfSome result (λ b. HoldsNumber role.Driver driver.new b.number) }
+{
+    match driver.reclaim(on) {
+        Some((buffer, 0)) => Some(buffer),
+        _ => None,
+    }
+}
+
+// Rounds on one thread: how many went right.
+fn rounds(on: &Ring, driver: &mut Driver, device: &mut Device, first: Buffer, count: u32) -> u32
+    requires rings { (driver.old.ring ≡ on.now.ring) × (device.old.ring ≡ on.now.ring) }
+    requires held { HoldsNumber role.Driver driver.old first.number }
+    ensures rings { (driver.new.ring ≡ on.now.ring) × (device.new.ring ≡ on.now.ring) }
+{
+    let mut hand = Some(first);
+    for done in 0..count {
+        let Some(buffer) = hand else {
+            return done;
+        };
+        driver.offer(on, buffer, 16);
+        if !serve_one(on, device) {
+            return done;
+        }
+        hand = reclaim_one(on, driver);
+    }
+    if hand.is_some() { count } else { 0 }
+}
+
+// The driver's rounds on a thread of its own. It tries until it has its buffer.
+fn drive(on: &Ring, mut driver: Driver, first: Buffer, count: u32) -> Driver
+    requires ring { driver.ring ≡ on.now.ring }
+    requires held { HoldsNumber role.Driver driver first.number }
+    ensures { result.ring ≡ on.now.ring }
+{
+    let mut hand = Some(first);
+    let mut offered = 0;
+    for _ in 0..u64::MAX {
+        match hand {
+            None => hand = reclaim_one(on, &mut driver),
+            Some(buffer) => {
+                if offered >= count {
+                    return driver;
+                }
+                driver.offer(on, buffer, 16);
+                offered += 1;
+                hand = None;
+            }
+        }
+    }
+    driver
+}
+
+// The device's rounds on a thread of its own.
+fn serve(on: &Ring, mut device: Device, count: u32) -> Device
+    requires { device.ring ≡ on.now.ring }
+    ensures { result.ring ≡ on.now.ring }
+{
+    let mut done = 0;
+    for _ in 0..u64::MAX {
+        if done >= count {
+            break;
+        }
+        if serve_one(on, &mut device) {
+            done += 1;
+        }
+    }
+    device
+}
+
+fn is_at_rest(closed: &Closed) -> bool {
+    let words = closed.words();
+    words.get(word_of(2, Field::AvailIdx)) == Some(&4464)
+        && words.get(word_of(2, Field::UsedIdx)) == Some(&4464)
+        && closed.driver_held() == [0, 1].as_slice()
+        && closed.device_held().is_empty()
+        && closed.offered_left().is_empty()
+        && closed.returned_left().is_empty()
+}
+
+#[test]
+fn seventy_thousand_rounds_on_one_thread(rt: HostRuntime) -> Result<(), Fail> {
+    let Ok((ring, mut driver, mut device, buffers)) = Ring::new(rt.alloc(), 1, 2) else {
+        return Err("no ring".into());
+    };
+    let Some(first) = last_of(&driver, buffers) else {
+        return Err("no buffer".into());
+    };
+    let done = rounds(&ring, &mut driver, &mut device, first, 70_000);
+    assert_eq!(rt; done, 70_000);
+    let closed = ring.finish(driver, device);
+    assert!(rt; is_at_rest(&closed));
+    assert!(rt; closed.queue() == 1 && closed.size() == 2);
+    assert!(rt; closed.device_looks() == 70_000 && closed.device_saw() == 70_000);
+    assert!(rt; closed.driver_looks() == 70_000 && closed.driver_saw() == 70_000);
+    Ok(())
+}
+
+#[test]
+fn seventy_thousand_rounds_on_two_threads(rt: HostRuntime) -> Result<(), Fail> {
+    let Ok((ring, driver, device, buffers)) = Ring::new(rt.alloc(), 1, 2) else {
+        return Err("no ring".into());
+    };
+    let Some(first) = last_of(&driver, buffers) else {
+        return Err("no buffer".into());
+    };
+    let (driver, device) = join(
+        &rt,
+        || drive(&ring, driver, first, 70_000),
+        || serve(&ring, device, 70_000),
+    );
+    let closed = ring.finish(driver, device);
+    assert!(rt; is_at_rest(&closed));
+    Ok(())
+}
+
+// Fetches all that stand, the last in front.
+fn fetch_reversed(
+    on: &Ring,
+    device: &mut Device,
+    held: &mut VecDeque<Buffer>,
+) -> Result<(), AllocError>
+    requires ring { device.old.ring ≡ on.now.ring }
+    requires held { AreHeld role.Device device.old held.old.items }
+    requires sound { IsSound role.Device device.old }
+    ensures ring { device.new.ring ≡ on.now.ring }
+    ensures held { OnOk result (AreHeld role.Device device.new held.new.items) }
+{
+    for _ in 0..u64::MAX {
+        match device.fetch(on) {
+            None => return Ok(()),
+            Some((buffer, _)) => {
+                if held.push_front(buffer).is_err() {
+                    return Err(AllocError);
+                }
+            }
+        }
+    }
+    Ok(())
+}
+
+// The first so many go behind the others.
+fn turn(device: &Device, held: &mut VecDeque<Buffer>, count: usize)
+    requires { AreHeld role.Device device.now held.old.items }
+    ensures { AreHeld role.Device device.now held.new.items }
+{
+    if count <= held.len() {
+        held.rotate_left(count);
+    }
+}
+
+// Gives all back, from the front on: their numbers.
+fn give_in_turn(
+    alloc: Global,
+    on: &Ring,
+    device: &mut Device,
+    held: &mut VecDeque<Buffer>,
+) -> Result<Vec<u16>, AllocError>
+    requires ring { device.old.ring ≡ on.now.ring }
+    requires held { AreHeld role.Device device.old held.old.items }
+    ensures { device.new.ring ≡ on.now.ring }
+{
+    let mut given = Vec::new(alloc);
+    while let Some(buffer) = held.pop_front() {
+        given.push(buffer.number())?;
+        device.give(on, buffer, 0);
+    }
+    Ok(given)
+}
+
+fn reclaim_numbers(alloc: Global, on: &Ring, driver: &mut Driver) -> Result<Vec<u16>, AllocError>
+    requires { driver.old.ring ≡ on.now.ring }
+{
+    let mut back = Vec::new(alloc);
+    for _ in 0..u64::MAX {
+        match driver.reclaim(on) {
+            None => return Ok(back),
+            Some((buffer, _)) => back.push(buffer.number())?,
+        }
+    }
+    Ok(back)
+}
+
+#[test]
+fn buffers_come_back_in_the_order_given(rt: HostRuntime) -> Result<(), Fail> {
+    let alloc = rt.alloc();
+    for turned in [0, 3] {
+        let Ok((ring, driver, mut device, buffers)) = Ring::new(alloc, 0, 8) else {
+            return Err("no ring".into());
+        };
+        let mut driver = offer_all(&ring, driver, buffers);
+        let mut held = VecDeque::new(alloc);
+        fetch_reversed(&ring, &mut device, &mut held)?;
+        turn(&device, &mut held, turned);
+        let given = give_in_turn(alloc, &ring, &mut device, &mut held)?;
+        let back = reclaim_numbers(alloc, &ring, &mut driver)?;
+        assert_eq!(rt; given.len(), 8);
+        assert!(rt; given == back);
+    }
+    Ok(())
+}

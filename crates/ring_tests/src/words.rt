@@ -1,0 +1,82 @@
+use shared_words::{Field, RingFault, RingTable, may_cross_threads, word_of};
+use std::process::Abort;
+use std::test::Fail;
+
+/// A queue's size, one of its descriptors and places, and the words of the fields, in the order of `Field`.
+type Row = (u32, u16, [usize; 11]);
+
+const WORDS: [Row; 3] = [
+    (2, 1, [4, 5, 6, 7, 8, 9, 11, 12, 13, 16, 17]),
+    (4, 3, [12, 13, 14, 15, 16, 17, 21, 22, 23, 30, 31]),
+    (
+        256,
+        255,
+        [
+            1020, 1021, 1022, 1023, 1024, 1025, 1281, 1282, 1283, 1794, 1795,
+        ],
+    ),
+];
+
+/// The words of the fields of a descriptor and a place, where the queue has them.
+fn words_at(size: u32, at: u16) -> Option<[usize; 11]> {
+    if size > 256 || u32::from(at) >= size {
+        return None;
+    }
+    Some([
+        word_of(size, Field::DescAddr(at)),
+        word_of(size, Field::DescLen(at)),
+        word_of(size, Field::DescFlags(at)),
+        word_of(size, Field::DescNext(at)),
+        word_of(size, Field::AvailFlags),
+        word_of(size, Field::AvailIdx),
+        word_of(size, Field::AvailRing(at)),
+        word_of(size, Field::UsedFlags),
+        word_of(size, Field::UsedIdx),
+        word_of(size, Field::UsedId(at)),
+        word_of(size, Field::UsedLen(at)),
+    ])
+}
+
+fn assert_words(rt: &impl Abort, rows: &[Row]) {
+    for (size, at, words) in rows {
+        assert!(rt; words_at(*size, *at) == Some(*words), "{size}");
+    }
+}
+
+#[test]
+fn the_words_are_those_of_the_layout(rt: HostRuntime) {
+    assert_words(&rt, &WORDS);
+}
+
+#[test]
+fn an_offer_is_fetched_step_by_step(rt: HostRuntime) -> Result<(), Fail> {
+    may_cross_threads();
+    let Ok((table, mut driver, mut device, mut buffers)) = RingTable::new(rt.alloc(), 1, 2) else {
+        return Err("no table".into());
+    };
+    let buffer = buffers.remove(1);
+    table.put_len(&mut driver, 1, 26);
+    table.put_avail(&mut driver, 1);
+    table.publish_avail(&mut driver, buffer);
+    let shown = table.look_avail(&mut device);
+    assert_eq!(rt; shown, 1);
+    if shown == 0 {
+        return Ok(());
+    }
+    let id = table.read_avail(&mut device);
+    let (buffer, len) = table.fetch_len(&mut device);
+    assert!(rt; id == 1 && buffer.number() == 1 && len == 26);
+    let closed = table.close(driver, device);
+    assert!(rt; closed.words.len() == 18 && closed.home.len() == 2);
+    Ok(())
+}
+
+#[test]
+fn other_queues_and_sizes_are_refused(rt: HostRuntime) {
+    for size in [0, 1, 3, 257, 512] {
+        assert!(rt; matches!(RingTable::new(rt.alloc(), 0, size), Err(RingFault::Size)));
+    }
+    for size in [2, 3] {
+        assert!(rt; matches!(RingTable::new(rt.alloc(), 2, size), Err(RingFault::Queue)));
+    }
+}

@@ -1,5 +1,0 @@
-use Rattle.std.proofs.Common.{◌≡◌}
-use Rattle.split_ring.proofs.tests.serve.Given as goal
-
-abbrev pub invariant-loop : goal.invariant-loop
-invariant-loop l = l.device.ring ≡ l.on.ring

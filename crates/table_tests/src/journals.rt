@@ -1,0 +1,128 @@
+use mc_base::{NoMemory, Reason, Refusal};
+use mc_journal::{Answer, Entry, Journal, Told, may_cross_threads};
+use std::alloc::Global;
+use std::process::Abort;
+use std::test::Fail;
+
+/// An entry that may be joined to those before it, or one that stands between.
+#[derive(Clone, Copy)]
+enum Noted {
+    Idle,
+    Again(Refusal),
+    Put,
+}
+
+use Noted::{Again, Idle, Put};
+
+fn note(journal: &mut Journal, noted: Noted) -> Result<(), NoMemory> {
+    journal.reserve(1, 1)?;
+    match noted {
+        Idle => journal.note(Entry::Idle { turns: 1 }),
+        Again(word) => journal.note(Entry::Again { word }),
+        Put => journal.note(Entry::Put {
+            peer: 3,
+            frame: b"f",
+        }),
+    }
+    Ok(())
+}
+
+/// Asserts that the journal's entries are shown so, and that there are no more.
+fn assert_shown(
+    rt: &impl Abort,
+    alloc: Global,
+    journal: &Journal,
+    lines: &[&str],
+) -> Result<(), Fail> {
+    for (i, line) in lines.iter().enumerate() {
+        let entry = journal.entry(i).ok_or("entry")?;
+        let shown = format!(in alloc; "{entry:?}")?;
+        assert!(rt; shown.as_str() == *line, "line {i}");
+    }
+    assert!(rt; journal.len() == lines.len());
+    assert!(rt; journal.entry(lines.len()).is_none());
+    Ok(())
+}
+
+/// A call that is made again first of all, after two idle turns, after one, twice; with another word, after another entry, and
+/// after no idle turn.
+const TRIES: [Noted; 14] = [
+    Again(Refusal::Empty),
+    Idle,
+    Idle,
+    Again(Refusal::Empty),
+    Idle,
+    Again(Refusal::Empty),
+    Idle,
+    Again(Refusal::Empty),
+    Idle,
+    Again(Refusal::NoBuffer),
+    Put,
+    Idle,
+    Again(Refusal::NoBuffer),
+    Again(Refusal::NoBuffer),
+];
+
+const JOINED_TRIES: [&str; 8] = [
+    "Again { word: Empty }",
+    "Idle { turns: 2 }",
+    "Again { word: Empty }",
+    "Spin { times: 2, word: Empty }",
+    "Spin { times: 1, word: NoBuffer }",
+    "Put { peer: 3, frame: [102] }",
+    "Spin { times: 1, word: NoBuffer }",
+    "Again { word: NoBuffer }",
+];
+
+#[test]
+fn tries_after_one_idle_turn_are_joined(rt: HostRuntime) -> Result<(), Fail> {
+    may_cross_threads();
+    let mut journal = Journal::new(rt.alloc())?;
+    for noted in &TRIES {
+        note(&mut journal, *noted)?;
+    }
+    assert_shown(&rt, rt.alloc(), &journal, &JOINED_TRIES)
+}
+
+const ANSWERS: [Answer<'static>; 9] = [
+    Answer::Refused(Refusal::Empty),
+    Answer::Ok,
+    Answer::Number(1024),
+    Answer::Bytes {
+        size: 5,
+        bytes: b"he",
+    },
+    Answer::Done(Told::Address(1030)),
+    Answer::Done(Told::Accepted),
+    Answer::Done(Told::Rejected(Reason::Busy)),
+    Answer::Done(Told::Bytes {
+        size: 9,
+        bytes: b"hello",
+    }),
+    Answer::Done(Told::Ended(Refusal::ChanClosed)),
+];
+
+const NOTED_ANSWERS: [&str; 9] = [
+    "Called { number: 1, answer: Refused(Empty) }",
+    "Called { number: 1, answer: Ok }",
+    "Called { number: 1, answer: Number(1024) }",
+    "Called { number: 1, answer: Bytes { size: 5, bytes: [104, 101] } }",
+    "Called { number: 1, answer: Done(Address(1030)) }",
+    "Called { number: 1, answer: Done(Accepted) }",
+    "Called { number: 1, answer: Done(Rejected(Busy)) }",
+    "Called { number: 1, answer: Done(Bytes { size: 9, bytes: [104, 101, 108, 108, 111] }) }",
+    "Called { number: 1, answer: Done(Ended(ChanClosed)) }",
+];
+
+#[test]
+fn answers_are_noted(rt: HostRuntime) -> Result<(), Fail> {
+    let mut journal = Journal::new(rt.alloc())?;
+    for answer in &ANSWERS {
+        journal.reserve(1, 488)?;
+        journal.note(Entry::Called {
+            number: 1,
+            answer: *answer,
+        });
+    }
+    assert_shown(&rt, rt.alloc(), &journal, &NOTED_ANSWERS)
+}
