@@ -1,7 +1,7 @@
 -- The answer of a call: the first refusal whose condition holds, or else the answer of success.
 -- Source: docs/PROFILE.md, "Calls" and "Words of refusal". E is the endpoint of the line's domain, node and port.
 use Rattle.std.specs.Prelude.{ℕ, ◌+◌, Bool, false, not, List, [], ◌∷◌, length, take, nat_lt, nat_le, ◌==◌, find, Option, None, Some, is_some, unwrap_or, if◌then◌else◌}
-use Rattle.mc_base.specs.Limits.{item_size}
+use Rattle.mc_base.specs.Limits.{item_size, first_address, record_limit, creation_limit, request_limit}
 use Rattle.mc_base.specs.NameMap.{address_in}
 use Rattle.mc_base.specs.Frame.{made}
 use Rattle.mc_base.specs.Letter.{spelling, msg}
@@ -80,8 +80,8 @@ lacks_buffers s (p ∷ ps) = nat_lt (free_to s p.0) (length (p ∷ ps))
 abbrev pub holds : DomainState → ℕ → DomainCall → Refusal → Bool
 holds s node call NodeInvalid = nat_le s.nodes node
 holds s node call ExistsAlready = is_some (place_at s (here node call))
-holds s node call EndpLimit = nat_le 64 (length s.endpoints + length s.ended)
-holds s node call AddressSpent = nat_le 60000 s.endpoints_given
+holds s node call EndpLimit = nat_le record_limit (length s.endpoints + length s.ended)
+holds s node call AddressSpent = nat_le creation_limit s.endpoints_given
 holds s node call EndpInvalid = not (is_some (place_at s (here node call)))
 holds s node call PeerInvalid = not (is_some (named s call))
 holds s node call OnChannel = has_channel (endpoint_at s (here node call))
@@ -89,7 +89,7 @@ holds s node call ChanConnected = has_channel (endpoint_at s (here node call))
 holds s node call MsgSize = nat_lt item_size (content_size call)
 holds s node call NoBuffer = lacks_buffers s (success_puts s node call)
 holds s node call Empty = length (queue_at s (here node call)) == 0
-holds s node call RequestLimit = nat_le 64 (length s.requests)
+holds s node call RequestLimit = nat_le request_limit (length s.requests)
 holds s node call RequestInvalid = not (is_some (request_named s call))
 holds s node call Pending = not (is_complete (request_named s call))
 holds s node call TooLate = is_complete (request_named s call)
@@ -137,7 +137,7 @@ result_of (Some r) = result_by r.asked r.outcome
 
 -- the answer of success
 abbrev pub success : DomainState → ℕ → DomainCall → PlainAnswer
-success s node (create_at port) = tells (1024 + s.endpoints_given)
+success s node (create_at port) = tells (first_address + s.endpoints_given)
 success s node (delete_at port) = tells (length (queue_at s (local node port)))
 success s node (lookup_of name) = tells s.requests_given
 success s node (send_from port to priority bytes) = agrees

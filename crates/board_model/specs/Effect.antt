@@ -1,6 +1,7 @@
 -- What a call changes. A refused call changes nothing.
 -- Source: docs/PROFILE.md, "Calls".
 use Rattle.std.specs.Prelude.{ℕ, ◌+◌, ◌-◌, ◌%◌, ◌^◌, true, false, ◌==◌, List, [], ◌∷◌, ◌++◌, map, Option, None, Some, option_map, option_to_list, unwrap_or, if◌then◌else◌}
+use Rattle.mc_base.specs.Limits.{first_address}
 use Rattle.mc_base.specs.FullName.{end_name}
 use Rattle.mc_base.specs.declared.name.Local.{Local}
 use Rattle.mc_base.specs.declared.refusal.Refusal.{Refusal}
@@ -15,7 +16,7 @@ use Rattle.board_model.specs.Answer.{local, address_of, refusal, unless_refused}
 
 -- a new endpoint. Its address is 1024 and the number of endpoints that were created before
 abbrev pub new_endpoint : DomainState → Local → Endpoint
-new_endpoint s at = record { local = at; address = 1024 + s.endpoints_given; queue = []; channel = None }
+new_endpoint s at = record { local = at; address = first_address + s.endpoints_given; queue = []; channel = None }
 
 -- each linked domain is owed an announcement, after those before it. Nothing is announced to the domain itself
 abbrev pub also_owed : ℕ → Announcement → Peer → Peer
@@ -26,7 +27,7 @@ with_announced s a = with_peers s (map (also_owed s.number a) s.peers)
 
 -- an endpoint is there: linked domains are to be told, and lookups of it are complete
 abbrev pub with_endpoint : DomainState → Local → DomainState
-with_endpoint s at = with_found (with_announced (record s { endpoints = s.endpoints ++ new_endpoint s at ∷ []; endpoints_given = s.endpoints_given + 1 }) (record { local = at; address = 1024 + s.endpoints_given; create = true })) (end_name s.number at) (1024 + s.endpoints_given)
+with_endpoint s at = with_found (with_announced (record s { endpoints = s.endpoints ++ new_endpoint s at ∷ []; endpoints_given = s.endpoints_given + 1 }) (record { local = at; address = first_address + s.endpoints_given; create = true })) (end_name s.number at) (first_address + s.endpoints_given)
 
 -- an endpoint is gone: receives that wait at it are complete with a word, and linked domains are to be told
 abbrev pub ended_by_word : Refusal → Local → Request → Request

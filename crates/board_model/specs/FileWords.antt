@@ -3,6 +3,7 @@
 -- case, 9,000 at most, or a dash for none. A label is a letter a to z, and then up to 15 of a to z, digits and _.
 use Rattle.std.specs.Prelude.{ℕ, ◌+◌, ◌-◌, ◌*◌, Bool, false, ◌&&◌, List, [], ◌∷◌, length, Option, None, Some, unwrap_or, nat_le, ◌==◌, if◌then◌else◌}
 use Rattle.std.specs.List.{list_all}
+use Rattle.mc_base.specs.Limits.{asked_limit}
 use Rattle.board_model.specs.Grammar.{is_letter_byte, is_label_byte}
 
 abbrev pub is_digit : ℕ → Bool
@@ -67,7 +68,7 @@ bytes_of word = if is_dash word then Some [] else pairs_of word
 
 abbrev pub is_few : Option (List ℕ) → Bool
 is_few None = false
-is_few (Some bytes) = nat_le (length bytes) 9000
+is_few (Some bytes) = nat_le (length bytes) asked_limit
 
 abbrev pub are_bytes : List ℕ → Bool
 are_bytes word = is_few (bytes_of word)

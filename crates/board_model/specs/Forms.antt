@@ -2,6 +2,7 @@
 -- Source: docs/FORMATS.md, "Scenario files": the lines of domains and links, and the table of calls.
 use Rattle.std.specs.Prelude.{ℕ, ◌&&◌, Bool, true, false, List, [], ◌∷◌, ◌++◌, codes, bytes_eq, get_or, Option, None, Some, option_map, if◌then◌else◌}
 use Rattle.arrayvec.specs.ArrayVec.{ArrayVec}
+use Rattle.mc_base.specs.Limits.{asked_limit, try_limit}
 use Rattle.mc_base.specs.declared.name.EndName.{EndName}
 use Rattle.board_model.specs.declared.scenario.DomainLine.{DomainLine}
 use Rattle.board_model.specs.declared.scenario.LinkLine.{LinkLine}
@@ -162,7 +163,7 @@ abbrev pub argument_numerals : ArgumentKind → List ℕ → List Numeral
 argument_numerals port word = numeral 0 65535 word ∷ []
 argument_numerals name word = name_numerals (parts_at 58 word)
 argument_numerals priority word = numeral 0 3 word ∷ []
-argument_numerals maximum word = numeral 0 9000 word ∷ []
+argument_numerals maximum word = numeral 0 asked_limit word ∷ []
 argument_numerals content word = []
 argument_numerals label word = []
 
@@ -172,7 +173,7 @@ arguments_numerals kinds words = []
 
 abbrev pub tries_numerals : Option (List ℕ) → List Numeral
 tries_numerals None = []
-tries_numerals (Some word) = numeral 1 4294967295 word ∷ []
+tries_numerals (Some word) = numeral 1 try_limit word ∷ []
 
 abbrev pub numerals : LineParts → List Numeral
 numerals no_parts = []

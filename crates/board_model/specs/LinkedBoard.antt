@@ -2,6 +2,7 @@
 -- Source: docs/FORMATS.md, "Scenario files".
 use Rattle.std.specs.Prelude.{◌≡◌, ◌⊎◌, ℕ, ◌≤◌, ◌<◌, ◌^◌, List, [], ◌∷◌, map, length, Contains}
 use Rattle.std.specs.List.{AllByRecursion}
+use Rattle.mc_base.specs.Limits.{asked_limit}
 use Rattle.board_model.specs.declared.scenario.LinkLine.{LinkLine}
 use Rattle.board_model.specs.declared.scenario.Call.{Call}
 use Rattle.board_model.specs.declared.scenario.Call.TheVariants.{Create, Delete, Lookup, MsgSend, MsgRecv, MsgRecvI, MsgAvailable, Test, Cancel, Turn}
@@ -38,9 +39,9 @@ abbrev pub HasFitArguments : Call → Type 0
 HasFitArguments (Create port) = port < 2 ^ 16
 HasFitArguments (Delete port) = port < 2 ^ 16
 HasFitArguments (Lookup name) = IsLawfulName name
-HasFitArguments (MsgSend port to priority bytes) = (port < 2 ^ 16) × IsLawfulName to × (priority ≤ 3) × (length bytes ≤ 9000) × AllByRecursion (λ b. b < 256) bytes
-HasFitArguments (MsgRecv port max) = (port < 2 ^ 16) × (max ≤ 9000)
-HasFitArguments (MsgRecvI port max) = (port < 2 ^ 16) × (max ≤ 9000)
+HasFitArguments (MsgSend port to priority bytes) = (port < 2 ^ 16) × IsLawfulName to × (priority ≤ 3) × (length bytes ≤ asked_limit) × AllByRecursion (λ b. b < 256) bytes
+HasFitArguments (MsgRecv port max) = (port < 2 ^ 16) × (max ≤ asked_limit)
+HasFitArguments (MsgRecvI port max) = (port < 2 ^ 16) × (max ≤ asked_limit)
 HasFitArguments (MsgAvailable port) = port < 2 ^ 16
 HasFitArguments (Test label) = Unit {0}
 HasFitArguments (Cancel label) = Unit {0}

@@ -10,6 +10,7 @@ use Rattle.std.proofs.lemmas.Slice.Eq.{bytes_eq-Decides}
 use Rattle.std.proofs.lemmas.List.{map-append}
 use Rattle.std.proofs.lemmas.List.Folds.{find-append}
 use Rattle.std.proofs.lemmas.Iterator.Adapters.{position_from-zero}
+use Rattle.mc_base.specs.Limits.{no_key}
 use Rattle.mc_base.specs.declared.request.RequestId.{RequestId}
 use Rattle.board_model.specs.declared.scenario.Call.{Call}
 use Rattle.board_model.specs.declared.scenario.Call.TheVariants.{Create, Delete, Lookup, MsgSend, MsgRecv, MsgRecvI, MsgAvailable, Test, Cancel, Turn}
@@ -23,7 +24,7 @@ use Rattle.board_model.proofs.MessageAlls.{all-append, all-weaken, all-without}
 use Rattle.board_model.proofs.SerialRequests.{serials, call_serials, call_gives, given_is, request_ended, success_ended, keyed_place}
 use Rattle.domain_core.specs.Calls.{place_ended, success_ends, IsFresh}
 use Rattle.domain_core.specs.DomainView.{place_of_id, has_id}
-use Rattle.board_runner.specs.Held.{Ids, id_for, id_or_none, no_id, no_key, told_for, TellsId}
+use Rattle.board_runner.specs.Held.{Ids, id_for, id_or_none, no_id, told_for, TellsId}
 use Rattle.board_runner.specs.Lines.{call_by}
 use Rattle.board_runner.specs.Near.{PlainDomain}
 use Rattle.board_runner.specs.Stations.{IsKnown, HoldsIds}

@@ -5,6 +5,7 @@ use Rattle.std.specs.List.{AllByRecursion}
 use Rattle.std.proofs.lemmas.Bool.{cond_both, ne_eqb, and_from}
 use Rattle.std.proofs.lemmas.Bool.Decides.{eqb_tells}
 use Rattle.std.proofs.lemmas.List.{append-nil}
+use Rattle.mc_base.specs.Limits.{no_key}
 use Rattle.mc_base.specs.declared.request.RequestId.{RequestId}
 use Rattle.lane_end.specs.Loop.{Loop, new_loop}
 use Rattle.lane_end.proofs.SoundLemmas.{new-one-lane}
@@ -30,7 +31,6 @@ use Rattle.domain_core.specs.declared.ends.Ends.TheVariants.{Own, Linked}
 use Rattle.domain_core.specs.Opening.{neighbour_of, neighbours_opened, ends_opened, links_in}
 use Rattle.domain_core.specs.Carrying.{PlainLink, link_to}
 use Rattle.board_runner.specs.declared.station.Station.{Station}
-use Rattle.board_runner.specs.Held.{no_key}
 use Rattle.board_runner.specs.Near.{Near, nothing_near, PlainEnds, PlainDomain, near_to, near_among, peers_of, near_of, EndsMatch}
 use Rattle.board_runner.specs.Lanes.{line_of_domain}
 use Rattle.board_runner.specs.Links.{new_link, link_to_neighbour, is_other, links_of}

@@ -3,6 +3,7 @@ use Rattle.std.proofs.Common.{◌≡◌, ℕ, ◌+◌, ◌<◌, Bool, true, fals
 use Rattle.std.specs.Prelude.{IfSome, ◌≢◌, ◌==◌}
 use Rattle.std.specs.List.{AllByRecursion}
 use Rattle.std.proofs.lemmas.List.Sums.{sum_by-cons, sum_by-append}
+use Rattle.mc_base.specs.Limits.{no_key}
 use Rattle.mc_base.specs.declared.request.RequestId.{RequestId}
 use Rattle.board_model.specs.declared.scenario.CallLine.{CallLine}
 use Rattle.board_model.specs.declared.scenario.Scenario.{Scenario}
@@ -21,7 +22,7 @@ use Rattle.board_model.proofs.WholeTurns.{turn_number}
 use Rattle.mc_journal.specs.Written.{Written}
 use Rattle.domain_core.specs.Turned.{Turns}
 use Rattle.board_runner.specs.declared.station.Station.{Station}
-use Rattle.board_runner.specs.Held.{Ids, id_for, no_key}
+use Rattle.board_runner.specs.Held.{Ids, id_for}
 use Rattle.board_runner.specs.Near.{PlainDomain, peers_of, EndsMatch}
 use Rattle.board_runner.specs.Stations.{IsKnown, HoldsIds, IsStation}
 use Rattle.board_runner.proofs.TurnEnds.{Moved}

@@ -7,6 +7,7 @@ use Rattle.std.specs.BTreeMap.{BTreeMap, get_by}
 use Rattle.std.specs.Cmp.Lexicographic.{slice_cmp}
 use Rattle.std.specs.Ordering.{nat_cmp}
 use Rattle.std.specs.Str.{bytes_eq}
+use Rattle.mc_base.specs.Limits.{no_key}
 use Rattle.mc_base.specs.declared.request.RequestId.{RequestId}
 
 -- the ids of the requests that were given for labels
@@ -16,10 +17,6 @@ Ids = BTreeMap (Bor (List ℕ)) RequestId
 -- the id that is held for a label
 abbrev pub id_for : Ids → List ℕ → Option RequestId
 id_for ids label = get_by (λ k. slice_cmp nat_cmp label k.now) ids
-
--- the key that no request has
-abbrev pub no_key : ℕ
-no_key = 4294967295
 
 -- the id for a label for which none is held: it names no request
 abbrev pub no_id : RequestId

@@ -1,6 +1,7 @@
 -- What a runner does with the call of a line at the line's station.
 -- Source: docs/PROFILE.md, "Serial run" and "Tries".
 use Rattle.std.specs.Prelude.{◌≡◌, ℕ, ◌+◌, ◌≤◌, ◌<◌, ◌^◌, Bool, true, false, ◌&&◌, option_map, if◌then◌else◌}
+use Rattle.mc_base.specs.Limits.{asked_limit}
 use Rattle.mc_base.specs.declared.request.Done.{Done}
 use Rattle.mc_base.specs.declared.request.Done.TheVariants as done
 use Rattle.mc_base.specs.declared.request.RequestId.{RequestId}
@@ -61,7 +62,7 @@ GivesWithin n other = Unit {0}
 pub record CallsDomain (node : ℕ) (call : DomainCall) (old new : PlainDomain) (lines lines' : List Line) (m : Made) : Type 0 where
   pub calls : Calls (EndsMoved Sends Receives) node call old new lines lines' (plain_answer m.answer) m.given
   pub gives : option_map (λ i. i.serial) m.given ≡ request_given calls.turned_to.state node call
-  pub bytes_fit : bytes_in_answer m.answer ≤ 9000
+  pub bytes_fit : bytes_in_answer m.answer ≤ asked_limit
 
 -- the call of a line, with its turn. Its answer is not noted yet, and the id that it gives is not held
 pub record MakesCall (line : CallLine) (old new : Station) (m : Made) : Type 0 where
@@ -71,7 +72,7 @@ pub record MakesCall (line : CallLine) (old new : Station) (m : Made) : Type 0 w
   pub number : new.number ≡ old.number
   pub dropped : new.dropped ≡ old.dropped
   pub domain_number : new.domain_number ≡ old.domain_number
-  pub bytes_fit : bytes_in_answer m.answer ≤ 9000
+  pub bytes_fit : bytes_in_answer m.answer ≤ asked_limit
   pub drops_fit : dropped_by line.call (plain_answer m.answer) < 2 ^ 32
 
 -- a call that is made again is noted by its word, and all else stays

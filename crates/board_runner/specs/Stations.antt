@@ -2,6 +2,7 @@
 -- Source: docs/PROFILE.md, "Serial run". The frames of a lane stand at its two ends, and so do the buffers that came back.
 use Rattle.std.specs.Prelude.{◌≡◌, ◌≢◌, ℕ, ◌+◌, ◌≤◌, ◌<◌, List, [], ◌∷◌, ◌++◌, map, sum_by, find, ◌==◌, Option, None, Some, option_map, IfSome, IsSome}
 use Rattle.std.specs.List.{AllByRecursion}
+use Rattle.mc_base.specs.Limits.{no_key}
 use Rattle.mc_base.specs.declared.request.RequestId.{RequestId}
 use Rattle.board_model.specs.declared.scenario.Scenario.{Scenario}
 use Rattle.board_model.specs.Scenario.{Lane, lanes, script, rising, neighbours}
@@ -13,7 +14,7 @@ use Rattle.board_model.specs.SerialRun as run
 use Rattle.board_model.specs.SerialRun.{Running}
 use Rattle.domain_core.specs.Carrying.{AreLinked}
 use Rattle.board_runner.specs.declared.station.Station.{Station}
-use Rattle.board_runner.specs.Held.{Ids, id_for, no_key}
+use Rattle.board_runner.specs.Held.{Ids, id_for}
 use Rattle.board_runner.specs.Near.{Near, nothing_near, PlainDomain, near_of, peers_of, EndsMatch}
 
 -- ---- requests and labels

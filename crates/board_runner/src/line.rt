@@ -1,6 +1,7 @@
 //! The calls of a line: each with its turn, and made again as often as the line says where it is refused with one of six words.
 
 ghost use Rattle.std.specs.Prelude.{◌≡◌, ◌<◌, ◌≤◌, ◌+◌, ◌*◌, ◌^◌, true, false, IfOk, OnOk, MatchOption, length};
+ghost use Rattle.mc_base.specs.Limits.{asked_limit};
 ghost use Rattle.board_model.specs.Journal.{refuses, noted_again};
 ghost use Rattle.board_model.specs.SerialRun.{more_calls};
 ghost use Rattle.board_model.specs.Step.{is_tried, is_tried_word};
@@ -41,8 +42,8 @@ pub fn run_line<'a>(
     requires at { at < length stations.old }
     requires next { IsSomeNext line.now at stations.old }
     requires counts { CountsFit stations.old }
-    requires asks { AsksAtMost 9000 line.now.call }
-    requires room { length room.old ≡ 9000 }
+    requires asks { AsksAtMost asked_limit line.now.call }
+    requires room { length room.old ≡ asked_limit }
     ensures run { OnOk result (RunsLine line.now at stations.old stations.new) }
     ensures counts { OnOk result (OneLineMore at stations.old stations.new) }
 {
@@ -77,8 +78,8 @@ fn call_once<'a>(
     requires at { at < length stations.old }
     requires next { IsSomeNext line.now at stations.old }
     requires counts { CountsFit stations.old }
-    requires asks { AsksAtMost 9000 line.now.call }
-    requires room { length room.old ≡ 9000 }
+    requires asks { AsksAtMost asked_limit line.now.call }
+    requires room { length room.old ≡ asked_limit }
     ensures run { IfOk result (λ is_again. CallsLine line.now may_try is_again at stations.old stations.new) }
     ensures counts { IfOk result (λ is_again. CountsCall is_again at stations.old stations.new) }
 {
@@ -95,8 +96,8 @@ fn call_and_note<'a>(
 ) -> Result<bool, NoMemory>
     requires count { MayCount station.old }
     requires drops { station.old.dropped ≤ 2 ^ 32 * station.old.number }
-    requires asks { AsksAtMost 9000 line.now.call }
-    requires room { length room.old ≡ 9000 }
+    requires asks { AsksAtMost asked_limit line.now.call }
+    requires room { length room.old ≡ asked_limit }
     ensures { IfOk result (λ is_again. Tries line.now may_try station.old station.new is_again) }
 {
     let made = call_line(station, line, room)?;
@@ -118,8 +119,8 @@ fn call_line<'r>(
     line: &CallLine,
     room: &'r mut [u8],
 ) -> Result<Made<'r>, NoMemory>
-    requires asks { AsksAtMost 9000 line.now.call }
-    requires room { length room.old ≡ 9000 }
+    requires asks { AsksAtMost asked_limit line.now.call }
+    requires room { length room.old ≡ asked_limit }
     ensures { IfOk result (λ made. MakesCall line.now station.old station.new made) }
 {
     call_domain(
@@ -139,8 +140,8 @@ fn call_domain<'r>(
     line: &CallLine,
     room: &'r mut [u8],
 ) -> Result<Made<'r>, NoMemory>
-    requires asks { AsksAtMost 9000 line.now.call }
-    requires room { length room.old ≡ 9000 }
+    requires asks { AsksAtMost asked_limit line.now.call }
+    requires room { length room.old ≡ asked_limit }
     ensures call { IfOk result (λ made. CallsDomain line.now.node (call_by ids.now domain.old.ids line.now.call) domain.old domain.new journal.old.lines journal.new.lines made) }
     ensures drops { IfOk result (λ made. dropped_by line.now.call (plain_answer made.answer) < 2 ^ 32) }
 {
@@ -223,7 +224,7 @@ fn note_called<'a>(
 ) -> Result<(), NoMemory>
     requires count { MayCount station.old }
     requires drops { station.old.dropped ≤ 2 ^ 32 * station.old.number }
-    requires bytes_fit { bytes_in_answer made.answer ≤ 9000 }
+    requires bytes_fit { bytes_in_answer made.answer ≤ asked_limit }
     requires drops_fit { dropped_by line.now.call (plain_answer made.answer) < 2 ^ 32 }
     ensures { OnOk result (NotesCalled line.now made.entry station.old station.new) }
 {

@@ -1,6 +1,7 @@
 //! The serial run.
 
 ghost use Rattle.std.specs.Prelude.{◌≡◌, ◌<◌, IfOk, OnOk, count_by, length, nat_lt};
+ghost use Rattle.mc_base.specs.Limits.{asked_limit};
 ghost use Rattle.board_model.specs.Language.{IsLawfulBoard};
 ghost use Rattle.board_model.specs.SerialRun.{opened, finished, serial_run};
 ghost use Rattle.board_runner.specs.Outcome.{IsOutcome};
@@ -12,11 +13,8 @@ use crate::line::run_line;
 use crate::opening::open_stations;
 use crate::station::Station;
 use board_model::{DomainLine, Scenario};
-use mc_base::NoMemory;
+use mc_base::{MAX_ASKED, NoMemory};
 use std::alloc::Global;
-
-/// The most bytes that a receive asks for.
-const MAX_ASKED: usize = 9000;
 
 /// Runs a lawful board, and tells what the run left. Its lines are run in the file's order, each look shows all that stands on the
 /// lanes, and between two calls of a line with tries every other domain makes one turn. Want of memory is the only refusal; it
@@ -51,7 +49,7 @@ fn run_lines<'a>(
 ) -> Result<(), NoMemory>
     requires lawful { IsLawfulBoard scenario.now }
     requires run { IsRun scenario.now (opened scenario.now) stations.old }
-    requires room { length room.old ≡ 9000 }
+    requires room { length room.old ≡ asked_limit }
     ensures { OnOk result (IsRun scenario.now (finished scenario.now) stations.new) }
 {
     let domains = scenario.domains.as_slice();

@@ -2,6 +2,7 @@
 -- Source: docs/PROFILE.md, "Calls". One turn; then the frames that the call puts; the answer of the state after the turn; and the
 -- effect of the call.
 use Rattle.std.specs.Prelude.{◌≡◌, ◌≢◌, ◌≤◌, ℕ, List, ◌∷◌, ◌++◌, length, map, take, drop, Contains, IfSome, Option, None, Some, option_to_list, Result, Ok, Err}
+use Rattle.mc_base.specs.Limits.{no_key}
 use Rattle.mc_base.specs.declared.refusal.Refusal.{Refusal}
 use Rattle.mc_base.specs.declared.refusal.Refusal.TheVariants.{Pending}
 use Rattle.mc_base.specs.declared.request.Done.{Done}
@@ -36,7 +37,7 @@ place_ended s node call = unless_refused (refusal s node call) None (success_end
 -- a key that no request has, and the serial of the next request
 pub record IsFresh (ids : List RequestId) (s : DomainState) (id : RequestId) : Type 0 where
   pub differs : Contains (map (λ i. i.key) ids) id.key → ⊥
-  pub is_key : id.key ≢ 4294967295
+  pub is_key : id.key ≢ no_key
   pub serial : id.serial ≡ s.requests_given
 
 -- A call after its turn. Its answer and its effect are those of the state; at the ends towards each peer it makes the moves of the

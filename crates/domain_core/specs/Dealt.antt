@@ -1,6 +1,7 @@
 -- What frames that are taken mean for what the domain holds, for the lane and for the journal.
 -- Source: docs/PROFILE.md, "What a domain does with a taken frame".
 use Rattle.std.specs.Prelude.{◌≡◌, ℕ, ◌+◌, ◌≤◌, ◌<◌, true, false, List, ◌∷◌, [], ◌++◌, length, take, drop, map, position, slice_index, Some, option_map}
+use Rattle.mc_base.specs.Limits.{item_size}
 use Rattle.mc_base.specs.Frame.{source_of}
 use Rattle.mc_base.specs.declared.fate.Fate.{Fate}
 use Rattle.mc_base.specs.declared.fate.Fate.TheVariants.{Queued, Handed}
@@ -56,7 +57,7 @@ pub record IsQueued (peer : ℕ) (h : Held) (frame : List ℕ) (place priority s
   pub item : message_in peer frame size ≡ item_of peer frame
   pub says : slice_index frame 19 ≡ priority
   pub within : place < length h.endpoints
-  pub size_fits : size ≤ 488
+  pub size_fits : size ≤ item_size
   pub content_fits : 24 + size ≤ length frame
 
 -- a verdict: a pending receive of so many bytes at most is complete with the message
@@ -66,7 +67,7 @@ pub record IsHanded (peer : ℕ) (h : Held) (q : Requests) (frame : List ℕ) (i
   pub item : message_in peer frame size ≡ item_of peer frame
   pub pending : IsPending q id
   pub asks : (at : Local) × (option_map (λ r. r.ask) (request_of q id) ≡ Some (Message at max))
-  pub size_fits : size ≤ 488
+  pub size_fits : size ≤ item_size
   pub content_fits : 24 + size ≤ length frame
 
 -- the verdict on a frame, by the book, the endpoints and the requests

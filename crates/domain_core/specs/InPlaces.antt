@@ -2,6 +2,7 @@
 -- Source: docs/PROFILE.md, "Lanes". Such a buffer waits at an endpoint, or a complete request holds it. Each place is told by
 -- counts.
 use Rattle.std.specs.Prelude.{◌≡◌, ℕ, ◌+◌, ◌≤◌, Bool, cond, not, ◌&&◌, List, [], ◌∷◌, ◌++◌, length, map, count_by, Option, None, Some, is_some, nat_lt, ◌==◌}
+use Rattle.mc_base.specs.Limits.{item_size}
 use Rattle.mc_base.specs.declared.request.Slot.{Slot}
 use Rattle.buffer_book.specs.Book.{Book, Kept, place_at, kept_at, queued_at}
 use Rattle.message_queue.specs.Queue.{Waiting}
@@ -36,7 +37,7 @@ is_of peer s = s.peer == peer
 -- what is kept has a message's size at most
 abbrev pub IsShort : Option Kept → Type 0
 IsShort None = Unit {0}
-IsShort (Some k) = k.size ≤ 488
+IsShort (Some k) = k.size ≤ item_size
 
 -- A lane from a peer, by the peer's number and the buffers that are out; the slots that wait or were handed; the book; and the
 -- numbers of the lane's buffers that are out and not in the book

@@ -3,13 +3,14 @@
 -- it is tested off.
 use Rattle.std.specs.Prelude.{◌≡◌, ◌≤◌, Bool, false, ◌&&◌, List, [], ◌∷◌, length, map, Option, None, Some, is_none, if◌then◌else◌}
 use Rattle.std.specs.List.{AllByRecursion, flat_map}
+use Rattle.mc_base.specs.Limits.{request_limit}
 use Rattle.mc_base.specs.declared.request.Slot.{Slot}
 use Rattle.buffer_book.specs.Book.{AllDiffer}
 use Rattle.request_set.specs.declared.ask.Ask.{Ask}
 use Rattle.request_set.specs.declared.ask.Ask.TheVariants as ask
 use Rattle.request_set.specs.declared.ask.Complete.{Complete}
 use Rattle.request_set.specs.declared.ask.Complete.TheVariants as complete
-use Rattle.request_set.specs.Requests.{Standing, Requests, request_limit, keys, receives_at}
+use Rattle.request_set.specs.Requests.{Standing, Requests, keys, receives_at}
 use Rattle.board_model.specs.Dealing.{same_name}
 use Rattle.domain_core.specs.declared.requests.Waiters.{Waiters}
 use Rattle.domain_core.specs.declared.requests.Waiters.TheVariants as waiters

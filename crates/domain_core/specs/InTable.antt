@@ -2,6 +2,7 @@
 -- Source: the code of the table.
 use Rattle.std.specs.Prelude.{◌≡◌, ℕ, ◌+◌, ◌<◌, ◌≤◌, List, [], ◌∷◌, length, vec_capacity}
 use Rattle.std.specs.List.{AllByRecursion}
+use Rattle.mc_base.specs.Limits.{first_address, record_limit}
 use Rattle.message_queue.specs.Queue.{Queue, empty_queue}
 use Rattle.domain_core.specs.declared.endpoints.Endpoint.{Endpoint}
 use Rattle.domain_core.specs.declared.endpoints.Endpoints.TheInside.{Inside}
@@ -16,7 +17,7 @@ HaveRoom room es = AllByRecursion (λ e. e.queue.room ≡ room) es
 
 -- none has an address that is reserved
 abbrev pub HaveAddresses : List Endpoint → Type 0
-HaveAddresses es = AllByRecursion (λ e. 1024 ≤ e.address) es
+HaveAddresses es = AllByRecursion (λ e. first_address ≤ e.address) es
 
 -- each has a lower address than all that follow it
 abbrev pub AreInOrder : List Endpoint → Type 0
@@ -31,10 +32,10 @@ IsSpare room q = q ≡ empty_queue room
 pub record HasQueues (t : Inside) : Type 0 where
   pub rooms : HaveRoom t.room t.records.items
   pub spare : AllByRecursion (IsSpare t.room) t.spare.items
-  pub records : length t.records.items + length t.spare.items ≡ 64
+  pub records : length t.records.items + length t.spare.items ≡ record_limit
   pub addresses : HaveAddresses t.records.items
   pub order : AreInOrder t.records.items
   -- the address that comes next is above them
-  pub below : AllByRecursion (λ e. e.address < 1024 + t.given) t.records.items
-  pub records_room : 64 ≤ vec_capacity t.records
-  pub spare_room : 64 ≤ vec_capacity t.spare
+  pub below : AllByRecursion (λ e. e.address < first_address + t.given) t.records.items
+  pub records_room : record_limit ≤ vec_capacity t.records
+  pub spare_room : record_limit ≤ vec_capacity t.spare

@@ -3,6 +3,7 @@
 -- in the book of buffers.
 use Rattle.std.specs.Prelude.{ℕ, ◌+◌, List, [], ◌∷◌, ◌++◌, map, slice_get, Option, None, Some}
 use Rattle.std.specs.List.{flat_map}
+use Rattle.mc_base.specs.Limits.{first_address}
 use Rattle.mc_base.specs.declared.name.Local.{Local}
 use Rattle.mc_base.specs.declared.request.Slot.{Slot}
 use Rattle.message_queue.specs.Queue.{Waiting, empty_queue, pushed, popped_best, popped_oldest}
@@ -24,7 +25,7 @@ abbrev pub new_record : ℕ → Local → ℕ → Endpoint
 new_record room at address = record { local = at; address = address; queue = empty_queue room }
 
 abbrev pub with_record : Records → Local → Records
-with_record r at = record r { endpoints = r.endpoints ++ new_record r.room at (1024 + r.given) ∷ []; given = r.given + 1 }
+with_record r at = record r { endpoints = r.endpoints ++ new_record r.room at (first_address + r.given) ∷ []; given = r.given + 1 }
 
 -- a buffer more, last at the endpoint at a place
 abbrev pub with_waiting : Waiting → Endpoint → Endpoint

@@ -2,6 +2,7 @@
 -- Source: the code of the domain.
 use Rattle.std.specs.Prelude.{◌≡◌, ◌≤◌, ◌<◌, ◌+◌, ℕ, List, [], ◌∷◌, length, Contains}
 use Rattle.std.specs.List.{AllByRecursion}
+use Rattle.mc_base.specs.Limits.{creation_limit}
 use Rattle.buffer_book.specs.Book.{Book}
 use Rattle.request_set.specs.Requests.{Requests}
 use Rattle.endpoint_table.specs.Table as endpoint_table
@@ -53,4 +54,4 @@ pub record AreSound {L : Type 0} (v : EndsView L) (b : Book) (r : Records) (q : 
   pub room : buffers_count v ps ≤ r.room
   pub receives : AreReceives q
   pub tied : AreTied r t (numbers_of ps)
-  pub given : r.given ≤ 60000
+  pub given : r.given ≤ creation_limit

@@ -3,6 +3,7 @@
 -- Source: docs/PROFILE.md, "A domain" and "Names".
 use Rattle.std.specs.Prelude.{◌≡◌, ◌<◌, ◌+◌, ℕ, true, not, List, map, filter, ◌==◌}
 use Rattle.std.specs.List.{AllByRecursion}
+use Rattle.mc_base.specs.Limits.{first_address}
 use Rattle.endpoint_table.specs.declared.record.Record.{Record}
 use Rattle.endpoint_table.specs.InTable.{IsRising}
 use Rattle.endpoint_table.specs.Table.{Table, is_in_use}
@@ -24,7 +25,7 @@ pub record AreTied (r : Records) (t : Table) (peers : List ℕ) : Type 0 where
   pub live : filter (λ x. x.live) t.records ≡ map live_record r.endpoints
   -- addresses rise, and are those that were given
   pub rising : IsRising t.records
-  pub below : AllByRecursion (λ x. x.address < 1024 + t.given) t.records
+  pub below : AllByRecursion (λ x. x.address < first_address + t.given) t.records
   -- none is left that is in use no more
   pub used : AllByRecursion (λ x. is_in_use t.owing x ≡ true) t.records
   pub linked : map (λ o. o.peer) t.owing ≡ linked_among r.number peers

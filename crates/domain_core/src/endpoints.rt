@@ -3,6 +3,7 @@
 ghost use Rattle.std.specs.Prelude.{◌≡◌, ◌≤◌, ◌<◌, ◌+◌, [], false, IfOk, IfSome, IsNone, ◌^◌, ◌==◌, filter, length, map, sum_by, is_some, position, slice_get, Some, option_map, vec_capacity};
 ghost use Rattle.std.specs.List.{AllByRecursion};
 ghost use Rattle.std.specs.Ordering.{nat_cmp};
+ghost use Rattle.mc_base.specs.Limits.{first_address};
 ghost use Rattle.board_model.specs.State.{address_at, endpoint_at, place_at, place_of_address};
 ghost use Rattle.board_model.specs.Answer.{has_channel};
 ghost use Rattle.board_model.specs.Choice.{best, oldest};
@@ -90,7 +91,7 @@ impl Endpoints {
         requires live { filter (λ x. x.live) table.now.records ≡ map live_record self.now.endpoints }
         ensures address { (b : Book) → result ≡ address_at (holding (endpoints_in b self.now.endpoints)) at }
         ensures live { (b : Book) → is_some result ≡ is_some (place_at (holding (endpoints_in b self.now.endpoints)) at) }
-        ensures range { IfSome result (λ a. 1024 ≤ a) }
+        ensures range { IfSome result (λ a. first_address ≤ a) }
         ensures channel { (b : Book) → has_channel (endpoint_at (holding (endpoints_in b self.now.endpoints)) at) ≡ false }
     {
         let place = self.place_at(table, at)?;
@@ -109,7 +110,7 @@ impl Endpoints {
     pub fn add(&mut self, at: Local) -> u32
         requires few { length self.old.endpoints < 64 }
         requires given { self.old.given < 60000 }
-        ensures address { result ≡ 1024 + self.old.given }
+        ensures address { result ≡ first_address + self.old.given }
         ensures added { self.new ≡ with_record self.old at }
     {
         let queue = self.spare.pop().unwrap();

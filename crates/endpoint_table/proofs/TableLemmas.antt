@@ -5,13 +5,14 @@ use Rattle.std.specs.List.{AllByRecursion, list_any}
 use Rattle.std.specs.VecDeque.{deque_capacity}
 use Rattle.std.specs.Vec.{with_items}
 use Rattle.std.proofs.lemmas.List.{length_push, length-map, with_items_is}
+use Rattle.mc_base.specs.Limits.{record_limit, creation_limit, first_address}
 use Rattle.mc_base.specs.declared.name.Local.{Local}
 use Rattle.mc_base.specs.NameMap.{learned, forgotten}
 use Rattle.endpoint_table.specs.declared.record.Record.{Record}
 use Rattle.endpoint_table.specs.declared.announced.Announced.{Announced}
 use Rattle.endpoint_table.specs.declared.debts.Debt.{Debt}
 use Rattle.endpoint_table.specs.declared.table.EndpointTable.TheInside.{Inside}
-use Rattle.endpoint_table.specs.Table.{Table, Owing, is_in_use, is_live_at, ended, also_owing, told_oldest, nothing_owed, opening_table, created, deleted, paid_to, ended_in, record_limit, creation_limit, first_address}
+use Rattle.endpoint_table.specs.Table.{Table, Owing, is_in_use, is_live_at, ended, also_owing, told_oldest, nothing_owed, opening_table, created, deleted, paid_to, ended_in}
 use Rattle.endpoint_table.specs.InTable.{table_of, debt_of_none, owing_in, one_more, one_less, owes, settled_events, settled_records, without_ended, IsOrderly, IsTight, HasBounds, IsIndexed, IsKept, name_in}
 use Rattle.endpoint_table.proofs.RecordLemmas.{all-weaken, most_owed-most, most_owed-ended}
 use Rattle.endpoint_table.proofs.DebtLemmas.{IsNear, nearly-told, nearly-all, within-told, within-announced, owed-all-announced, settled-tight, owing-told, owing-announced, owing-settled}

@@ -3,6 +3,7 @@
 use Rattle.std.specs.Prelude.{◌≡◌, ◌<◌, ◌≤◌, ◌+◌, ◌-◌, ◌⊎◌, ⊤, ℕ, Bool, true, false, not, nat_le, ◌==◌, List, [], ◌∷◌, length, map, filter, drop, vec_capacity, if◌then◌else◌}
 use Rattle.std.specs.List.{AllByRecursion, HoldsAt, list_any}
 use Rattle.std.specs.VecDeque.{deque_capacity}
+use Rattle.mc_base.specs.Limits.{record_limit, creation_limit, first_address}
 use Rattle.mc_base.specs.declared.name.EndName.{EndName}
 use Rattle.mc_base.specs.declared.name.Local.{Local}
 use Rattle.mc_base.specs.NameMap.{Names, learned}
@@ -10,7 +11,7 @@ use Rattle.endpoint_table.specs.declared.record.Record.{Record}
 use Rattle.endpoint_table.specs.declared.announced.Announced.{Announced}
 use Rattle.endpoint_table.specs.declared.debts.Debt.{Debt}
 use Rattle.endpoint_table.specs.declared.table.EndpointTable.TheInside.{Inside}
-use Rattle.endpoint_table.specs.Table.{Table, Owing, record_limit, creation_limit, first_address, tells_gone, is_live_at}
+use Rattle.endpoint_table.specs.Table.{Table, Owing, tells_gone, is_live_at}
 
 -- the latest of the events are owed to a linked domain
 abbrev pub owing_of : List Announced → Debt → Owing

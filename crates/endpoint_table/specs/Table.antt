@@ -2,6 +2,7 @@
 -- Source: docs/PROFILE.md, "A domain" and "Names".
 use Rattle.std.specs.Prelude.{ℕ, ◌+◌, Bool, true, false, not, ◌&&◌, ◌||◌, ◌==◌, nat_lt, nat_le, List, [], ◌∷◌, ◌++◌, length, map, filter, find, drop, slice_get, Option, None, Some, is_some, option_and_then, Result, Ok, Err, if◌then◌else◌}
 use Rattle.std.specs.List.{list_any}
+use Rattle.mc_base.specs.Limits.{first_address, record_limit, creation_limit}
 use Rattle.mc_base.specs.FullName.{end_name, full_name}
 use Rattle.mc_base.specs.declared.name.Local.{Local}
 use Rattle.mc_base.specs.declared.refusal.Refusal.{Refusal}
@@ -24,16 +25,6 @@ pub record Table : Type 0 where
   pub records : List Record
   pub owing : List Owing
   pub given : ℕ
-
--- the most records in use, the most endpoints ever created, and the first address
-abbrev pub record_limit : ℕ
-record_limit = 64
-
-abbrev pub creation_limit : ℕ
-creation_limit = 60000
-
-abbrev pub first_address : ℕ
-first_address = 1024
 
 abbrev pub nothing_owed : ℕ → Owing
 nothing_owed peer = record { peer = peer; owed = [] }

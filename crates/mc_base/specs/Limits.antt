@@ -29,3 +29,31 @@ name_size = 31
 -- the address of the name service
 abbrev pub name_service_address : ℕ
 name_service_address = 53
+
+-- the address of a domain's first endpoint
+abbrev pub first_address : ℕ
+first_address = 1024
+
+-- the most endpoint records in use
+abbrev pub record_limit : ℕ
+record_limit = 64
+
+-- the most endpoints that a domain ever makes
+abbrev pub creation_limit : ℕ
+creation_limit = 60000
+
+-- the most requests that stand
+abbrev pub request_limit : ℕ
+request_limit = 64
+
+-- the key that no request has
+abbrev pub no_key : ℕ
+no_key = 4294967295
+
+-- the most bytes that a line of a scenario sends or asks for
+abbrev pub asked_limit : ℕ
+asked_limit = 9000
+
+-- the most tries of a line
+abbrev pub try_limit : ℕ
+try_limit = 4294967295

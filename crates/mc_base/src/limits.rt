@@ -57,3 +57,6 @@ pub const MAX_POOL: u32 = 256;
 
 /// How many frames a turn takes from a lane at most, and how many owed ones it puts.
 pub const TURN_FRAMES: usize = 8;
+
+/// The most bytes that a line of a scenario sends or asks for.
+pub const MAX_ASKED: usize = 9000;

@@ -3,9 +3,10 @@
 use Rattle.std.specs.Prelude.{◌≡◌, ◌≢◌, ◌⊎◌, ⊤, ℕ, ◌≤◌, List, [], ◌∷◌, length, filter_map, Option, IsSome, option_map}
 use Rattle.std.specs.List.{AllByRecursion}
 use Rattle.slab.specs.Slab.{get, slab_len}
+use Rattle.mc_base.specs.Limits.{request_limit, no_key}
 use Rattle.request_set.specs.declared.set.Request.{Request}
 use Rattle.request_set.specs.declared.set.RequestSet.TheInside.{Inside}
-use Rattle.request_set.specs.Requests.{Standing, Requests, request_limit, no_key}
+use Rattle.request_set.specs.Requests.{Standing, Requests}
 
 abbrev pub standing_of : ℕ → Request → Standing
 standing_of key r = record { id = record { key = key; serial = r.serial }; ask = r.ask; complete = r.complete }

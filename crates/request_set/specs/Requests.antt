@@ -23,14 +23,6 @@ pub record Requests : Type 0 where
 abbrev pub no_requests : Requests
 no_requests = record { standing = []; given = 0 }
 
--- the most requests that stand
-abbrev pub request_limit : ℕ
-request_limit = 64
-
--- the key that no request has
-abbrev pub no_key : ℕ
-no_key = 4294967295
-
 -- ---- one request
 
 abbrev pub is_id : RequestId → Standing → Bool

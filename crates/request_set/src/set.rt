@@ -2,7 +2,8 @@
 
 ghost use Rattle.std.specs.Prelude.{◌≡◌, ◌≢◌, ◌≤◌, ◌+◌, ◌↔◌, ◌&&◌, ◌==◌, IsErr, IsSome, IfOk, IfSome, OnOk, OnErr, Some, is_none, length, find, position, option_map};
 ghost use Rattle.std.specs.List.{AllByRecursion};
-ghost use Rattle.request_set.specs.Requests.{Requests, no_requests, request_limit, no_key, keys, request_of, IsPending, with_request, without_request, with_complete, receives_at, waits_at, oldest_waiting, listed, tested, cancelled, progress_of};
+ghost use Rattle.mc_base.specs.Limits.{request_limit, no_key};
+ghost use Rattle.request_set.specs.Requests.{Requests, no_requests, keys, request_of, IsPending, with_request, without_request, with_complete, receives_at, waits_at, oldest_waiting, listed, tested, cancelled, progress_of};
 ghost use Rattle.slab.specs.Slab.{get};
 ghost use Rattle.request_set.specs.InSet.{standing_of, standing_in};
 

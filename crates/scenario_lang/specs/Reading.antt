@@ -3,6 +3,7 @@
 use Rattle.std.specs.Prelude.{◌≡◌, ℕ, ◌+◌, ◌*◌, ◌++◌, ◌&&◌, false, List, [], ◌∷◌, map, length, codes, bytes_eq, Option, None, Some, unwrap_or, Result, Ok, Err, nat_le, if◌then◌else◌}
 use Rattle.std.specs.Borrow.{Bor}
 use Rattle.arrayvec.specs.ArrayVec.{ArrayVec}
+use Rattle.mc_base.specs.Limits.{asked_limit, try_limit}
 use Rattle.mc_base.specs.declared.name.EndName.{EndName}
 use Rattle.board_model.specs.declared.scenario.DomainLine.{DomainLine}
 use Rattle.board_model.specs.declared.scenario.Call.{Call}
@@ -67,7 +68,7 @@ after_bytes front None = None
 after_bytes front (Some bytes) = Some (front ++ bytes)
 
 abbrev pub few_bytes : List ℕ → Result (List ℕ) LineReason
-few_bytes bytes = if nat_le (length bytes) 9000 then Ok bytes else Err Bytes
+few_bytes bytes = if nat_le (length bytes) asked_limit then Ok bytes else Err Bytes
 
 abbrev pub bytes_in : List ℕ → Result (List ℕ) LineReason
 bytes_in word = if is_dash word then Ok [] else (pairs_in word >>= few_bytes)
@@ -154,7 +155,7 @@ receive_in words = do
   p ← next_word words
   m ← next_word p.1
   port ← number_in (numeral 0 65535 p.0)
-  most ← number_in (numeral 0 9000 m.0)
+  most ← number_in (numeral 0 asked_limit m.0)
   Ok (port, most)
 
 abbrev pub label_in : List ℕ → Result (ArrayVec ℕ) LineReason
@@ -233,7 +234,7 @@ parts_in caller words = do
 
 abbrev pub tries_in : Option (List ℕ) → Result (Option ℕ) LineReason
 tries_in None = Ok None
-tries_in (Some word) = number_in (numeral 1 4294967295 word) >>= λ n. Ok (Some n)
+tries_in (Some word) = number_in (numeral 1 try_limit word) >>= λ n. Ok (Some n)
 
 abbrev pub told_in : Option (List ℕ) → Result (Option (ArrayVec ℕ)) LineReason
 told_in None = Ok None

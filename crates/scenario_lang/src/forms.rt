@@ -11,7 +11,7 @@ use crate::fault::LineFault;
 use crate::lines::name_parts;
 use crate::numerals::{bytes, is_label, number};
 use board_model::{Call, DomainLine, Label, LineReason, Seq};
-use mc_base::{EndName, Priority};
+use mc_base::{EndName, MAX_ASKED, Priority};
 use std::alloc::Global;
 
 /// The first word, and the others.
@@ -154,7 +154,7 @@ fn receive(words: &[&[u8]]) -> Result<(u16, u32), LineFault>
     let (port, rest) = next(words)?;
     let (max, _) = next(rest)?;
     let port = number(0, 65_535, port)?;
-    let max = number(0, 9000, max)?;
+    let max = number(0, MAX_ASKED as u64, max)?;
     Ok((port as u16, max as u32))
 }
 

@@ -12,10 +12,8 @@ ghost use Rattle.board_model.specs.Grammar.{is_letter_byte, is_label_byte as is_
 
 use crate::fault::LineFault;
 use board_model::LineReason;
+use mc_base::MAX_ASKED;
 use std::alloc::Global;
-
-/// The most bytes that a message has.
-const MOST_BYTES: usize = 9000;
 
 fn is_digit(byte: u8) -> bool
     ensures { result ≡ is_a_digit byte }
@@ -132,7 +130,7 @@ pub fn bytes(alloc: Global, word: &[u8]) -> Result<Vec<u8>, LineFault>
         return Ok(Vec::new(alloc));
     }
     let bytes = pairs(alloc, word)?;
-    if bytes.len() > MOST_BYTES {
+    if bytes.len() > MAX_ASKED {
         return Err(LineFault::Refused(LineReason::Bytes));
     }
     Ok(bytes)

@@ -1,6 +1,7 @@
 //! Calls that make and end endpoints, send and receive messages, and make turns alone.
 
 ghost use Rattle.std.specs.Prelude.{◌<◌, ◌≤◌, ◌^◌, ℕ, IfOk, length};
+ghost use Rattle.mc_base.specs.Limits.{asked_limit};
 ghost use Rattle.board_model.specs.DomainCall.{create_at, delete_at, send_from, receive_at, available_at, turn_alone};
 ghost use Rattle.board_model.specs.Tallies.{number_told};
 ghost use Rattle.mc_journal.specs.Entry.{plain_answer};
@@ -71,7 +72,7 @@ pub fn receive<'r>(
     at: Local,
     out: &'r mut [u8],
 ) -> Result<Made<'r>, NoMemory>
-    requires { length out.old ≤ 9000 }
+    requires { length out.old ≤ asked_limit }
     ensures { IfOk result (λ made. CallsDomain at.node (receive_at at.port (length out.old)) domain.old domain.new journal.old.lines journal.new.lines made) }
 {
     journal.reserve(CALL_ENTRIES, CALL_BYTES)?;

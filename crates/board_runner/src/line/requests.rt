@@ -1,6 +1,7 @@
 //! Calls that give and end requests.
 
 ghost use Rattle.std.specs.Prelude.{◌≡◌, ℕ, IfOk, length};
+ghost use Rattle.mc_base.specs.Limits.{asked_limit};
 ghost use Rattle.board_model.specs.DomainCall.{lookup_of, request_at, test_of, cancel_of};
 ghost use Rattle.domain_core.specs.DomainView.{place_of_id};
 ghost use Rattle.board_runner.specs.Lines.{CallsDomain};
@@ -51,7 +52,7 @@ pub fn test<'r>(
     id: RequestId,
     out: &'r mut [u8],
 ) -> Result<Made<'r>, NoMemory>
-    requires { length out.old ≡ 9000 }
+    requires { length out.old ≡ asked_limit }
     ensures { IfOk result (λ made. (node : ℕ) → CallsDomain node (test_of (place_of_id domain.old.ids id)) domain.old domain.new journal.old.lines journal.new.lines made) }
 {
     journal.reserve(CALL_ENTRIES, CALL_BYTES)?;

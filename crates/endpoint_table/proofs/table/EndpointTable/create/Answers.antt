@@ -2,12 +2,13 @@ use Rattle.std.proofs.Common.{rules, arith, ◌≡◌, ◌<◌, ◌≤◌, ◌+�
 use Rattle.std.specs.Prelude.{find, option_map, None, Result, Ok, Err, IsOk, IsErr}
 use Rattle.std.specs.List.{AllByRecursion}
 use Rattle.std.specs.Vec.{with_items}
+use Rattle.mc_base.specs.Limits.{first_address}
 use Rattle.mc_base.specs.NameMap.{learned}
 use Rattle.endpoint_table.specs.declared.debts.Debt.{Debt}
 use Rattle.endpoint_table.specs.declared.record.Record.{Record}
 use Rattle.endpoint_table.specs.declared.announced.Announced.{Announced}
 use Rattle.endpoint_table.specs.declared.table.EndpointTable.TheInside.{Inside}
-use Rattle.endpoint_table.specs.Table.{Table, created, first_address, is_live_at, live_at}
+use Rattle.endpoint_table.specs.Table.{Table, created, is_live_at, live_at}
 use Rattle.endpoint_table.specs.InTable.{HasBounds, name_in, one_more}
 use Rattle.endpoint_table.proofs.IndexLemmas.{none-live, room-for-name}
 use Rattle.endpoint_table.proofs.TableLemmas.{debts-fit, room-to-create, kept-created, view-created, written-items}
