@@ -88,12 +88,15 @@ fn sends_on<S: SendEnd, R: RecvEnd>(from: &mut R, to: &mut S) -> u32 {
         return 0;
     }
     let (buffer, len) = from.take();
-    if len > 0 {
-        let (frame, _) = buffer.bytes().split_at(len as usize);
-        to.put(frame);
-    }
+    let (frame, _) = buffer.bytes().split_at(len as usize);
+    puts(to, frame);
     from.give_back(buffer);
     len
+}
+
+/// Whether the one frame, of three bytes, is sent on once.
+fn sends_on_once<S: SendEnd, R: RecvEnd>(from: &mut R, to: &mut S) -> bool {
+    sends_on(from, to) == 3 && sends_on(from, to) == 0
 }
 
 // 512 bytes, few of which are the same.
@@ -140,18 +143,20 @@ fn sizes_from_1_to_256_are_made(rt: HostRuntime) {
     }
 }
 
+fn assert_rows(rt: &impl Abort, lane: &mut Pair, rows: &[Row]) {
+    for (i, (deed, due)) in rows.iter().enumerate() {
+        assert!(rt; lane.does(*deed) == *due, "row {i}");
+    }
+}
+
 /// Asserts what comes of each deed on a plain lane of two buffers.
 fn assert_deeds(rt: &impl Abort, alloc: Global, rows: &[Row]) -> Result<(), Fail> {
-    let Ok(mut lane) = Pair::new(alloc, 2) else {
-        return Err("no lane".into());
-    };
-    for (i, (deed, due)) in rows.iter().enumerate() {
-        assert_eq!(rt; lane.does(*deed), *due, "row {i}");
-    }
+    let mut lane = Pair::new(alloc, 2)?;
+    assert_rows(rt, &mut lane, rows);
     Ok(())
 }
 
-const IN_ORDER: [Row; 7] = [
+const IN_ORDER: &[Row] = &[
     (Put(b"a"), 1),
     (PutLong, 1),
     (Take(b"a"), 0),
@@ -163,10 +168,10 @@ const IN_ORDER: [Row; 7] = [
 
 #[test]
 fn frames_arrive_once_and_in_order(rt: HostRuntime) -> Result<(), Fail> {
-    assert_deeds(&rt, rt.alloc(), &IN_ORDER)
+    assert_deeds(&rt, rt.alloc(), IN_ORDER)
 }
 
-const RUNNING_OUT: [Row; 16] = [
+const RUNNING_OUT: &[Row] = &[
     (Put(b"a"), 1),
     (Put(b"b"), 1),
     (Put(b"c"), 0),
@@ -187,10 +192,10 @@ const RUNNING_OUT: [Row; 16] = [
 
 #[test]
 fn a_lane_of_two_runs_out_and_goes_on(rt: HostRuntime) -> Result<(), Fail> {
-    assert_deeds(&rt, rt.alloc(), &RUNNING_OUT)
+    assert_deeds(&rt, rt.alloc(), RUNNING_OUT)
 }
 
-const IN_REVERSE: [Row; 15] = [
+const IN_REVERSE: &[Row] = &[
     (Put(b"a"), 1),
     (Put(b"b"), 1),
     (Shuttle, 0),
@@ -210,7 +215,7 @@ const IN_REVERSE: [Row; 15] = [
 
 #[test]
 fn buffers_come_back_as_they_were_given(rt: HostRuntime) -> Result<(), Fail> {
-    assert_deeds(&rt, rt.alloc(), &IN_REVERSE)
+    assert_deeds(&rt, rt.alloc(), IN_REVERSE)
 }
 
 /// A deed on a lane to oneself, which needs no shuttle.
@@ -226,7 +231,7 @@ fn does_alone(lane: &mut LoopLane, deed: Deed) -> u32 {
     }
 }
 
-const TO_ONESELF: [Row; 21] = [
+const TO_ONESELF: &[Row] = &[
     (Take(b"a"), 0),
     (Put(b"a"), 1),
     (PutLong, 1),
@@ -250,19 +255,17 @@ const TO_ONESELF: [Row; 21] = [
     (TakeTwo, 0),
 ];
 
-fn assert_alone(rt: &impl Abort, alloc: Global, rows: &[Row]) -> Result<(), Fail> {
-    let Ok(mut lane) = LoopLane::new(alloc, 2) else {
-        return Err("no lane".into());
-    };
+fn assert_alone(rt: &impl Abort, lane: &mut LoopLane, rows: &[Row]) {
     for (i, (deed, due)) in rows.iter().enumerate() {
-        assert_eq!(rt; does_alone(&mut lane, *deed), *due, "row {i}");
+        assert!(rt; does_alone(lane, *deed) == *due, "row {i}");
     }
-    Ok(())
 }
 
 #[test]
 fn a_lane_to_oneself_does_the_same(rt: HostRuntime) -> Result<(), Fail> {
-    assert_alone(&rt, rt.alloc(), &TO_ONESELF)
+    let mut lane = LoopLane::new(rt.alloc(), 2)?;
+    assert_alone(&rt, &mut lane, TO_ONESELF);
+    Ok(())
 }
 
 // A receiver with one frame, and a sender.
@@ -276,38 +279,34 @@ fn ends(alloc: Global) -> Result<(PlainRecv, PlainSend), LaneFault> {
 
 #[test]
 fn frames_are_sent_on_over_plain_ends(rt: HostRuntime) -> Result<(), Fail> {
-    let Ok((mut from, mut to)) = ends(rt.alloc()) else {
-        return Err("no lanes".into());
-    };
-    for due in [3, 0] {
-        assert_eq!(rt; sends_on(&mut from, &mut to), due);
-    }
+    let (mut from, mut to) = ends(rt.alloc())?;
+    assert!(rt; sends_on_once(&mut from, &mut to));
     Ok(())
+}
+
+// Whether so many bytes are sent on, after which no buffer is free and none came back.
+fn fills_up(from: &mut AnyRecv, to: &mut AnySend, len: u32) -> bool {
+    sends_on(from, to) == len && to.free_len() == 0 && to.look() == 0
 }
 
 #[test]
 fn frames_are_sent_on_over_ends_of_any_kind(rt: HostRuntime) -> Result<(), Fail> {
-    let Ok((from, to)) = ends(rt.alloc()) else {
-        return Err("no lanes".into());
-    };
+    let (from, to) = ends(rt.alloc())?;
     let (mut from, mut to) = (AnyRecv::Plain(from), AnySend::Plain(to));
-    for due in [3, 0] {
-        assert_eq!(rt; sends_on(&mut from, &mut to), due);
-        assert_eq!(rt; (to.free_len(), to.look()), (0, 0));
-    }
+    assert!(rt; fills_up(&mut from, &mut to, 3) && fills_up(&mut from, &mut to, 0));
     Ok(())
+}
+
+// Whether one frame is sent on from one lane to another.
+fn sends_on_alone(from: &mut LoopLane, to: &mut LoopLane) -> bool {
+    does_alone(from, Put(b"abc"));
+    sends_on_once(from, to) && does_alone(to, Take(b"abc")) == 1
 }
 
 #[test]
 fn frames_are_sent_on_over_lanes_to_oneself(rt: HostRuntime) -> Result<(), Fail> {
-    let (Ok(mut from), Ok(mut to)) = (LoopLane::new(rt.alloc(), 1), LoopLane::new(rt.alloc(), 1))
-    else {
-        return Err("no lanes".into());
-    };
-    does_alone(&mut from, Put(b"abc"));
-    for due in [3, 0] {
-        assert_eq!(rt; sends_on(&mut from, &mut to), due);
-    }
-    assert_eq!(rt; does_alone(&mut to, Take(b"abc")), 1);
+    let mut from = LoopLane::new(rt.alloc(), 1)?;
+    let mut to = LoopLane::new(rt.alloc(), 1)?;
+    assert!(rt; sends_on_alone(&mut from, &mut to));
     Ok(())
 }

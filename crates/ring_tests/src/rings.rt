@@ -24,31 +24,21 @@ fn offer_all(on: &Ring, mut driver: Driver, mut buffers: Vec<Buffer>) -> Driver
     driver
 }
 
-// Fetches until it has so many: their numbers and lengths.
-fn fetch_all(alloc: Global, on: &Ring, mut device: Device, count: usize) -> Vec<(u16, u32)>
+// Fetches until it has so many: whether they come in the order in which all buffers of a ring of this size were offered.
+fn fetches_in_order(on: &Ring, mut device: Device, size: u32) -> bool
     requires { device.ring ≡ on.now.ring }
 {
-    let mut seen = Vec::new(alloc);
+    let mut next = 0;
     for _ in 0..u64::MAX {
-        if seen.len() >= count {
+        if next >= size {
             break;
         }
         if let Some((buffer, len)) = device.fetch(on) {
-            if seen.push((buffer.number(), len)).is_err() {
-                break;
+            if u32::from(buffer.number()) != size - 1 - next || len != next {
+                return false;
             }
+            next += 1;
         }
-    }
-    seen
-}
-
-fn is_in_order(seen: &[(u16, u32)], size: u32) -> bool {
-    let mut next = 0;
-    for (number, len) in seen {
-        if next >= size || *number as u32 != size - 1 - next || *len != next {
-            return false;
-        }
-        next += 1;
     }
     next == size
 }
@@ -56,49 +46,52 @@ fn is_in_order(seen: &[(u16, u32)], size: u32) -> bool {
 #[test]
 fn two_threads_keep_the_order(rt: HostRuntime) -> Result<(), Fail> {
     may_cross_threads();
-    let alloc = rt.alloc();
-    let Ok((ring, driver, device, buffers)) = Ring::new(alloc, 1, 256) else {
-        return Err("no ring".into());
-    };
-    let (_driver, seen) = join(
+    let (ring, driver, device, buffers) = Ring::new(rt.alloc(), 1, 256)?;
+    let (_, is_in_order) = join(
         &rt,
         || offer_all(&ring, driver, buffers),
-        || fetch_all(alloc, &ring, device, 256),
+        || fetches_in_order(&ring, device, 256),
     );
-    assert!(rt; is_in_order(seen.as_slice(), 256));
+    assert!(rt; is_in_order);
     Ok(())
 }
 
+// Whether nothing is there to fetch.
+fn fetches_none(on: &Ring, device: &mut Device) -> bool
+    requires { device.old.ring ≡ on.now.ring }
+    ensures { device.new.ring ≡ on.now.ring }
+{
+    device.fetch(on).is_none()
+}
+
+/// Whether a new ring of this size shows nothing, and then all that is offered, in that order.
+fn keeps_the_order(alloc: Global, size: u32) -> bool {
+    let Ok((ring, driver, mut device, buffers)) = Ring::new(alloc, 0, size) else {
+        return false;
+    };
+    let is_empty = fetches_none(&ring, &mut device);
+    let _driver = offer_all(&ring, driver, buffers);
+    let shown = device.look(&ring);
+    is_empty && shown == size && fetches_in_order(&ring, device, size)
+}
+
 #[test]
-fn the_least_and_the_greatest_size(rt: HostRuntime) -> Result<(), Fail> {
-    let alloc = rt.alloc();
+fn the_least_and_the_greatest_size(rt: HostRuntime) {
     for size in [2, 256] {
-        let Ok((ring, driver, mut device, buffers)) = Ring::new(alloc, 0, size) else {
-            return Err("no ring".into());
-        };
-        assert!(rt; device.fetch(&ring).is_none());
-        let _driver = offer_all(&ring, driver, buffers);
-        assert_eq!(rt; device.look(&ring), size);
-        let seen = fetch_all(alloc, &ring, device, size as usize);
-        assert!(rt; is_in_order(seen.as_slice(), size));
+        assert!(rt; keeps_the_order(rt.alloc(), size), "{size}");
     }
-    Ok(())
+}
+
+fn refusal(alloc: Global, queue: u8, size: u32) -> Option<RingFault> {
+    Ring::new(alloc, queue, size).err()
 }
 
 #[test]
 fn other_queues_and_sizes_are_refused(rt: HostRuntime) {
-    assert!(rt; matches!(Ring::new(rt.alloc(), 1, 3), Err(RingFault::Size)));
+    assert!(rt; matches!(refusal(rt.alloc(), 1, 3), Some(RingFault::Size)));
     for size in [2, 3] {
-        assert!(rt; matches!(Ring::new(rt.alloc(), 2, size), Err(RingFault::Queue)));
+        assert!(rt; matches!(refusal(rt.alloc(), 2, size), Some(RingFault::Queue)));
     }
-}
-
-// The last of the buffers.
-fn last_of(driver: &Driver, mut buffers: Vec<Buffer>) -> Option<Buffer>
-    requires { AreHeld role.Driver driver.now buffers.items }
-    ensures { IfSome result (λ b. HoldsNumber role.Driver driver.now b.number) }
-{
-    buffers.pop()
 }
 
 // The device's part of a round: the next buffer, which has 16 bytes, is given back with none.
@@ -196,32 +189,30 @@ fn is_at_rest(closed: &Closed) -> bool {
         && closed.returned_left().is_empty()
 }
 
+/// Whether a ring at rest is queue 1 of two buffers, whose halves looked once a round and saw a buffer each time.
+fn looked_each_round(closed: &Closed) -> bool {
+    is_at_rest(closed)
+        && closed.queue() == 1
+        && closed.size() == 2
+        && closed.device_looks() == 70_000
+        && closed.device_saw() == 70_000
+        && closed.driver_looks() == 70_000
+        && closed.driver_saw() == 70_000
+}
+
 #[test]
 fn seventy_thousand_rounds_on_one_thread(rt: HostRuntime) -> Result<(), Fail> {
-    let Ok((ring, mut driver, mut device, buffers)) = Ring::new(rt.alloc(), 1, 2) else {
-        return Err("no ring".into());
-    };
-    let Some(first) = last_of(&driver, buffers) else {
-        return Err("no buffer".into());
-    };
-    let done = rounds(&ring, &mut driver, &mut device, first, 70_000);
-    assert_eq!(rt; done, 70_000);
+    let (ring, mut driver, mut device, mut buffers) = Ring::new(rt.alloc(), 1, 2)?;
+    let done = rounds(&ring, &mut driver, &mut device, buffers.remove(1), 70_000);
     let closed = ring.finish(driver, device);
-    assert!(rt; is_at_rest(&closed));
-    assert!(rt; closed.queue() == 1 && closed.size() == 2);
-    assert!(rt; closed.device_looks() == 70_000 && closed.device_saw() == 70_000);
-    assert!(rt; closed.driver_looks() == 70_000 && closed.driver_saw() == 70_000);
+    assert!(rt; done == 70_000 && looked_each_round(&closed));
     Ok(())
 }
 
 #[test]
 fn seventy_thousand_rounds_on_two_threads(rt: HostRuntime) -> Result<(), Fail> {
-    let Ok((ring, driver, device, buffers)) = Ring::new(rt.alloc(), 1, 2) else {
-        return Err("no ring".into());
-    };
-    let Some(first) = last_of(&driver, buffers) else {
-        return Err("no buffer".into());
-    };
+    let (ring, driver, device, mut buffers) = Ring::new(rt.alloc(), 1, 2)?;
+    let first = buffers.remove(1);
     let (driver, device) = join(
         &rt,
         || drive(&ring, driver, first, 70_000),
@@ -299,21 +290,37 @@ fn reclaim_numbers(alloc: Global, on: &Ring, driver: &mut Driver) -> Result<Vec<
     Ok(back)
 }
 
+/// Whether eight buffers are fetched, given back from the one at this place on, and reclaimed in the order given.
+fn reclaims_as_given(
+    alloc: Global,
+    on: &Ring,
+    driver: &mut Driver,
+    device: &mut Device,
+    turned: usize,
+) -> Result<bool, AllocError>
+    requires rings { (driver.old.ring ≡ on.now.ring) × (device.old.ring ≡ on.now.ring) }
+    requires sound { IsSound role.Device device.old }
+{
+    let mut held = VecDeque::new(alloc);
+    fetch_reversed(on, device, &mut held)?;
+    turn(device, &mut held, turned);
+    let given = give_in_turn(alloc, on, device, &mut held)?;
+    let back = reclaim_numbers(alloc, on, driver)?;
+    Ok(given.len() == 8 && given == back)
+}
+
+/// The same over a new ring of eight buffers, all of which are offered.
+fn come_back_as_given(alloc: Global, turned: usize) -> bool {
+    let Ok((ring, driver, mut device, buffers)) = Ring::new(alloc, 0, 8) else {
+        return false;
+    };
+    let mut driver = offer_all(&ring, driver, buffers);
+    reclaims_as_given(alloc, &ring, &mut driver, &mut device, turned) == Ok(true)
+}
+
 #[test]
-fn buffers_come_back_in_the_order_given(rt: HostRuntime) -> Result<(), Fail> {
-    let alloc = rt.alloc();
+fn buffers_come_back_in_the_order_given(rt: HostRuntime) {
     for turned in [0, 3] {
-        let Ok((ring, driver, mut device, buffers)) = Ring::new(alloc, 0, 8) else {
-            return Err("no ring".into());
-        };
-        let mut driver = offer_all(&ring, driver, buffers);
-        let mut held = VecDeque::new(alloc);
-        fetch_reversed(&ring, &mut device, &mut held)?;
-        turn(&device, &mut held, turned);
-        let given = give_in_turn(alloc, &ring, &mut device, &mut held)?;
-        let back = reclaim_numbers(alloc, &ring, &mut driver)?;
-        assert_eq!(rt; given.len(), 8);
-        assert!(rt; given == back);
+        assert!(rt; come_back_as_given(rt.alloc(), turned), "{turned}");
     }
-    Ok(())
 }

@@ -1,4 +1,11 @@
-use shared_words::{Field, RingFault, RingTable, may_cross_threads, word_of};
+ghost use Rattle.std.specs.Prelude.{◌≡◌};
+ghost use Rattle.shared_words.specs.declared.view.Role.TheVariants as role;
+ghost use Rattle.shared_words.specs.declared.view.Staged.TheVariants.{Idle};
+ghost use Rattle.shared_words.specs.Shown.{IsHalfOf, HoldsNumber};
+
+use mc_base::Buffer;
+use shared_words::{Field, Half, RingFault, RingTable, may_cross_threads, word_of};
+use std::alloc::Global;
 use std::process::Abort;
 use std::test::Fail;
 
@@ -48,35 +55,51 @@ fn the_words_are_those_of_the_layout(rt: HostRuntime) {
     assert_words(&rt, &WORDS);
 }
 
+// Offers the buffer, whose number is 1, with the length 26.
+fn offer(table: &RingTable, driver: &mut Half, buffer: Buffer)
+    requires driver { IsHalfOf table.now role.Driver driver.old × (driver.old.view.staged ≡ Idle) }
+    requires holds { (buffer.number ≡ 1) × HoldsNumber driver.old 1 }
+    ensures { IsHalfOf table.now role.Driver driver.new × (driver.new.view.staged ≡ Idle) }
+{
+    table.put_len(driver, 1, 26);
+    table.put_avail(driver, 1);
+    table.publish_avail(driver, buffer);
+}
+
+// Whether one is shown, and fetched as it was offered.
+fn is_fetched(table: &RingTable, device: &mut Half) -> bool
+    requires { IsHalfOf table.now role.Device device.old × (device.old.view.staged ≡ Idle) }
+    ensures { IsHalfOf table.now role.Device device.new × (device.new.view.staged ≡ Idle) }
+{
+    if table.look_avail(device) != 1 {
+        return false;
+    }
+    let id = table.read_avail(device);
+    let (buffer, len) = table.fetch_len(device);
+    id == 1 && buffer.number() == 1 && len == 26
+}
+
 #[test]
 fn an_offer_is_fetched_step_by_step(rt: HostRuntime) -> Result<(), Fail> {
     may_cross_threads();
-    let Ok((table, mut driver, mut device, mut buffers)) = RingTable::new(rt.alloc(), 1, 2) else {
-        return Err("no table".into());
-    };
-    let buffer = buffers.remove(1);
-    table.put_len(&mut driver, 1, 26);
-    table.put_avail(&mut driver, 1);
-    table.publish_avail(&mut driver, buffer);
-    let shown = table.look_avail(&mut device);
-    assert_eq!(rt; shown, 1);
-    if shown == 0 {
-        return Ok(());
-    }
-    let id = table.read_avail(&mut device);
-    let (buffer, len) = table.fetch_len(&mut device);
-    assert!(rt; id == 1 && buffer.number() == 1 && len == 26);
+    let (table, mut driver, mut device, mut buffers) = RingTable::new(rt.alloc(), 1, 2)?;
+    offer(&table, &mut driver, buffers.remove(1));
+    let is_fetched = is_fetched(&table, &mut device);
     let closed = table.close(driver, device);
-    assert!(rt; closed.words.len() == 18 && closed.home.len() == 2);
+    assert!(rt; is_fetched && closed.words.len() == 18 && closed.home.len() == 2);
     Ok(())
+}
+
+fn refusal(alloc: Global, queue: u8, size: u32) -> Option<RingFault> {
+    RingTable::new(alloc, queue, size).err()
 }
 
 #[test]
 fn other_queues_and_sizes_are_refused(rt: HostRuntime) {
     for size in [0, 1, 3, 257, 512] {
-        assert!(rt; matches!(RingTable::new(rt.alloc(), 0, size), Err(RingFault::Size)));
+        assert!(rt; matches!(refusal(rt.alloc(), 0, size), Some(RingFault::Size)));
     }
     for size in [2, 3] {
-        assert!(rt; matches!(RingTable::new(rt.alloc(), 2, size), Err(RingFault::Queue)));
+        assert!(rt; matches!(refusal(rt.alloc(), 2, size), Some(RingFault::Queue)));
     }
 }
