@@ -8,6 +8,19 @@ use split_ring::{Closed, Device, Driver, Ring};
 use std::alloc::{AllocError, Global};
 use std::collections::VecDeque;
 
+/// Offers the buffers of a new ring, the last first.
+pub(crate) fn offer_new(on: &Ring, driver: &mut Driver, mut buffers: Vec<Buffer>)
+    requires ring { driver.old.ring ≡ on.now.ring }
+    requires held { AreHeld role.Driver driver.old buffers.items }
+    requires sound { IsSound role.Driver driver.old }
+    ensures ring { driver.new.ring ≡ on.now.ring }
+    ensures sound { IsSound role.Driver driver.new }
+{
+    while let Some(buffer) = buffers.pop() {
+        driver.offer(on, buffer, 64);
+    }
+}
+
 pub(crate) fn offer_all(on: &Ring, driver: &mut Driver, free: &mut VecDeque<Buffer>)
     requires ring { driver.old.ring ≡ on.now.ring }
     requires held { AreHeld role.Driver driver.old free.old.items }
@@ -102,25 +115,24 @@ fn rounds_of(
     on: &Ring,
     driver: &mut Driver,
     device: &mut Device,
-    free: &mut VecDeque<Buffer>,
     rounds: u32,
     is_reverse: bool,
 ) -> Result<(), AllocError>
     requires rings { (driver.old.ring ≡ on.now.ring) × (device.old.ring ≡ on.now.ring) }
-    requires free { AreHeld role.Driver driver.old free.old.items }
     requires sound { IsSound role.Driver driver.old × IsSound role.Device device.old }
     ensures rings { (driver.new.ring ≡ on.now.ring) × (device.new.ring ≡ on.now.ring) }
 {
+    let mut free = VecDeque::new(alloc);
     let mut held = VecDeque::new(alloc);
     for _ in 0..rounds {
-        offer_all(on, driver, free);
+        offer_all(on, driver, &mut free);
         fetch_all(on, device, &mut held)?;
         if is_reverse {
             give_all_back(on, device, &mut held);
         } else {
             give_all(on, device, &mut held);
         }
-        reclaim_all(on, driver, free)?;
+        reclaim_all(on, driver, &mut free)?;
     }
     Ok(())
 }
@@ -131,7 +143,7 @@ pub fn run(
     ring: Ring,
     mut driver: Driver,
     mut device: Device,
-    mut buffers: Vec<Buffer>,
+    buffers: Vec<Buffer>,
     rounds: u32,
     is_reverse: bool,
 ) -> Result<Closed, AllocError>
@@ -139,18 +151,7 @@ pub fn run(
     requires held { AreHeld role.Driver driver buffers.items }
     requires sound { IsSound role.Driver driver × IsSound role.Device device }
 {
-    while let Some(buffer) = buffers.pop() {
-        driver.offer(&ring, buffer, 64);
-    }
-    let mut free = VecDeque::new(alloc);
-    rounds_of(
-        alloc,
-        &ring,
-        &mut driver,
-        &mut device,
-        &mut free,
-        rounds,
-        is_reverse,
-    )?;
+    offer_new(&ring, &mut driver, buffers);
+    rounds_of(alloc, &ring, &mut driver, &mut device, rounds, is_reverse)?;
     Ok(ring.finish(driver, device))
 }

@@ -11,9 +11,11 @@ mod two;
 
 use part::Part;
 use split_ring::Ring;
+use std::alloc::AllocError;
+use std::thread::Threads;
 use std::{env, io};
 
-fn number(word: Option<&String>) -> u32 {
+fn number(word: Option<String>) -> u32 {
     match word {
         Some(word) => word.parse().unwrap_or(0),
         None => 0,
@@ -29,34 +31,52 @@ fn part_of(mode: &str) -> Option<Part> {
     }
 }
 
-fn main(rt: HostRuntime) -> io::Result<()> {
+/// How many buffers the driver reclaimed in rounds over a ring of this size, where there is one.
+fn reclaimed<R: Threads + Sync + AllocGlobal>(
+    rt: &R,
+    mode: &str,
+    size: u32,
+    rounds: u32,
+) -> Result<Option<u64>, AllocError> {
     let alloc = rt.alloc();
-    let mut words = Vec::new(alloc);
-    for word in env::args(&rt)? {
-        words.push(word)?;
-    }
-    let size = number(words.get(2));
-    let rounds = number(words.get(3));
-    let mode = match words.get(1) {
-        Some(word) => word.as_str(),
-        None => "one",
-    };
-    if let Some(part) = part_of(mode) {
-        let fetched = part::run(alloc, size, rounds, part)?;
-        println!(rt; "{mode} {size} {rounds} fetched {fetched}")?;
-        return Ok(());
-    }
     let Ok((ring, driver, device, buffers)) = Ring::new(alloc, 1, size) else {
-        println!(rt; "no ring of {size}")?;
-        return Ok(());
+        return Ok(None);
     };
     let closed = match mode {
-        "two" => two::run(&rt, ring, driver, device, buffers, rounds),
+        "two" => two::run(rt, ring, driver, device, buffers, rounds),
         "order" => batch::run(alloc, ring, driver, device, buffers, rounds, false)?,
         "reverse" => batch::run(alloc, ring, driver, device, buffers, rounds, true)?,
         _ => one::run(ring, driver, device, buffers, rounds),
     };
-    let looks = closed.driver_saw();
-    println!(rt; "{mode} {size} {rounds} reclaimed {looks}")?;
-    Ok(())
+    Ok(Some(closed.driver_saw()))
+}
+
+/// Does the rounds, and prints what they did.
+fn report<R: Threads + Sync + AllocGlobal + Print>(
+    rt: &R,
+    mode: &str,
+    size: u32,
+    rounds: u32,
+) -> io::Result<()> {
+    if let Some(part) = part_of(mode) {
+        let fetched = part::run(rt.alloc(), size, rounds, part)?;
+        return println!(rt; "{mode} {size} {rounds} fetched {fetched}");
+    }
+    match reclaimed(rt, mode, size, rounds)? {
+        Some(count) => println!(rt; "{mode} {size} {rounds} reclaimed {count}"),
+        None => println!(rt; "no ring of {size}"),
+    }
+}
+
+fn main(rt: HostRuntime) -> io::Result<()> {
+    let mut words = env::args(&rt)?;
+    words.next();
+    let mode = words.next();
+    let size = number(words.next());
+    let rounds = number(words.next());
+    let mode = match &mode {
+        Some(word) => word.as_str(),
+        None => "one",
+    };
+    report(&rt, mode, size, rounds)
 }

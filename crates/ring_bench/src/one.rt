@@ -1,10 +1,34 @@
 //! Both halves on one thread.
-ghost use Rattle.std.specs.Prelude.{◌≡◌};
+ghost use Rattle.std.specs.Prelude.{◌≡◌, IfSome};
 ghost use Rattle.shared_words.specs.declared.view.Role.TheVariants as role;
-ghost use Rattle.split_ring.specs.Ends.{AreHeld};
+ghost use Rattle.split_ring.specs.Ends.{AreHeld, HoldsNumber};
 
 use mc_base::Buffer;
 use split_ring::{Closed, Device, Driver, Ring};
+
+fn rounds_of(
+    on: &Ring,
+    driver: &mut Driver,
+    device: &mut Device,
+    mut hand: Option<Buffer>,
+    rounds: u32,
+)
+    requires rings { (driver.old.ring ≡ on.now.ring) × (device.old.ring ≡ on.now.ring) }
+    requires held { IfSome hand (λ b. HoldsNumber role.Driver driver.old b.number) }
+    ensures { (driver.new.ring ≡ on.now.ring) × (device.new.ring ≡ on.now.ring) }
+{
+    for _ in 0..rounds {
+        let Some(buffer) = hand else { break };
+        driver.offer(on, buffer, 64);
+        if let Some((fetched, _)) = device.fetch(on) {
+            device.give(on, fetched, 0);
+        }
+        hand = match driver.reclaim(on) {
+            Some((buffer, _)) => Some(buffer),
+            None => None,
+        };
+    }
+}
 
 /// A buffer at a time is offered, fetched, given back and reclaimed.
 pub fn run(
@@ -17,17 +41,7 @@ pub fn run(
     requires rings { (driver.ring ≡ ring.ring) × (device.ring ≡ ring.ring) }
     requires held { AreHeld role.Driver driver buffers.items }
 {
-    let mut hand = buffers.pop();
-    for _ in 0..rounds {
-        let Some(buffer) = hand else { break };
-        driver.offer(&ring, buffer, 64);
-        if let Some((fetched, _)) = device.fetch(&ring) {
-            device.give(&ring, fetched, 0);
-        }
-        hand = match driver.reclaim(&ring) {
-            Some((buffer, _)) => Some(buffer),
-            None => None,
-        };
-    }
+    let hand = buffers.pop();
+    rounds_of(&ring, &mut driver, &mut device, hand, rounds);
     ring.finish(driver, device)
 }

@@ -10,5 +10,5 @@ popped : (half : End) (bs more : List Stored) (r : Option Stored) → bs ≡ mor
 popped half bs more None is held = tt
 popped half bs more (Some b) is held = last_held role.Driver half bs more b is held
 
-pub loop-init : goal.loop-init
-loop-init c = record { driver = c.requires.rings.0; device = c.requires.rings.1; held = popped c.args.driver c.args.buffers.items c.pop-hand.new.self.items c.pop-hand.result c.pop-hand.ensures.items c.requires.held }
+pub rounds_of-requires-clause-held : goal.rounds_of-requires-clause-held
+rounds_of-requires-clause-held c = popped c.args.driver c.args.buffers.items c.pop-hand.new.self.items c.pop-hand.result c.pop-hand.ensures.items c.requires.held

@@ -2,11 +2,11 @@ use Rattle.std.proofs.Common.{◌≡◌, IfSome}
 use Rattle.mc_base.specs.Stored.{Stored}
 use Rattle.shared_words.specs.declared.view.Role.TheVariants as role
 use Rattle.split_ring.specs.Ends.{HoldsNumber}
-use Rattle.ring_bench.proofs.one.run.Given as goal
+use Rattle.ring_bench.proofs.one.rounds_of.Given as goal
 
 abbrev pub invariant-loop : goal.invariant-loop
 invariant-loop l = record {
-  driver : l.driver.ring ≡ l.ring.ring;
-  device : l.device.ring ≡ l.ring.ring;
+  driver : l.driver.ring ≡ l.on.ring;
+  device : l.device.ring ≡ l.on.ring;
   held : IfSome l.hand (λ (b : Stored). HoldsNumber role.Driver l.driver b.number);
 }
