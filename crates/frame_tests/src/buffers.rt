@@ -4,7 +4,6 @@ use std::test::Fail;
 #[test]
 fn a_new_buffer_is_zero(rt: HostRuntime) -> Result<(), Fail> {
     let buffer = Buffer::new(rt.alloc(), 7).ok().ok_or("memory")?;
-    assert_eq!(rt; buffer.number(), 7);
-    assert_eq!(rt; buffer.bytes().len(), 512);
+    assert!(rt; buffer.number() == 7 && buffer.bytes().len() == 512);
     Ok(())
 }

@@ -6,6 +6,14 @@ const HI: [u8; 26] = [
     0, 4, 0, 0, 1, 4, 0, 0, 0, 0, 0, 0, 10, 0, 0, 0, 0x4d, 1, 1, 1, 0, 0, 0, 0, 0x68, 0x69,
 ];
 
+/// Whether the frame of these bytes has this source, destination and payload.
+fn is_read(bytes: &[u8], src: u32, dst: u32, payload: &[u8]) -> bool {
+    match decode(bytes) {
+        Ok(frame) => frame.src == src && frame.dst == dst && frame.payload == payload,
+        Err(_) => false,
+    }
+}
+
 #[test]
 fn frames_are_read(rt: HostRuntime) {
     // Bytes after the payload, and any in reserved and flags.
@@ -32,14 +40,7 @@ fn frames_are_read(rt: HostRuntime) {
         (&shorter, 1024, 1025, &HI[16..25]),
     ];
     for (bytes, src, dst, payload) in rows {
-        match decode(bytes) {
-            Ok(frame) => {
-                assert_eq!(rt; frame.src, src);
-                assert_eq!(rt; frame.dst, dst);
-                assert_eq!(rt; frame.payload, payload);
-            }
-            Err(fault) => assert!(rt; false, "{fault:?}"),
-        }
+        assert!(rt; is_read(bytes, src, dst, payload), "{src} {dst}");
     }
 }
 
@@ -70,14 +71,11 @@ fn faults_are_told(rt: HostRuntime) {
 #[test]
 fn a_frame_is_written(rt: HostRuntime) {
     let mut out = [0xee; 512];
-    assert_eq!(rt; encode_into(1024, 1025, &HI[16..], &mut out), 26);
-    assert_eq!(rt; &out[..26], HI.as_slice());
-    assert_eq!(rt; &out[26..], [0xee; 486].as_slice());
+    assert!(rt; encode_into(1024, 1025, &HI[16..], &mut out) == 26);
+    let (written, rest) = out.split_at(26);
+    assert!(rt; written == HI.as_slice() && rest == [0xee; 486].as_slice());
     let mut header = [0xee; 17];
     write_header(0x0403_0201, 0xffff_ffff, 0x0605, &mut header);
-    assert_eq!(rt;
-        header,
-        [1, 2, 3, 4, 255, 255, 255, 255, 0, 0, 0, 0, 5, 6, 0, 0, 0xee]
-    );
+    assert!(rt; header == [1, 2, 3, 4, 255, 255, 255, 255, 0, 0, 0, 0, 5, 6, 0, 0, 0xee]);
     made_is_frame();
 }

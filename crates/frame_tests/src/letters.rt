@@ -3,7 +3,7 @@ ghost use Rattle.mc_base.specs.Letter.{HasSpelling, plain_letter};
 
 use bridge_frame::{letters_read_back, no_payload_has_two_letters, read_letter, write_letter};
 use mc_base::{Bits, Kind, Letter, LetterFault, Priority, Reason};
-use std::alloc::{AllocError, Global};
+use std::alloc::Global;
 use std::process::Abort;
 use std::test::Fail;
 
@@ -169,24 +169,25 @@ fn each_letter_is_written(rt: HostRuntime) -> Result<(), Fail> {
 }
 
 /// Whether the letter of these bytes is shown as this text.
-fn is_read_as(alloc: Global, bytes: &[u8], text: &str) -> Result<bool, AllocError> {
+fn is_read_as(alloc: Global, bytes: &[u8], text: &str) -> bool {
     let Ok(letter) = read_letter(bytes) else {
-        return Ok(false);
+        return false;
     };
-    let shown = format!(in alloc; "{letter:?}")?;
-    Ok(shown.as_str() == text)
+    match format!(in alloc; "{letter:?}") {
+        Ok(shown) => shown.as_str() == text,
+        Err(_) => false,
+    }
 }
 
-fn assert_read(rt: &impl Abort, alloc: Global, rows: &[(&[u8], &str)]) -> Result<(), Fail> {
+fn assert_read(rt: &impl Abort, alloc: Global, rows: &[(&[u8], &str)]) {
     for (bytes, text) in rows {
-        assert!(rt; is_read_as(alloc, bytes, text)?, "{text}");
+        assert!(rt; is_read_as(alloc, bytes, text), "{text}");
     }
-    Ok(())
 }
 
 #[test]
-fn each_letter_is_read(rt: HostRuntime) -> Result<(), Fail> {
-    assert_read(&rt, rt.alloc(), &LETTERS)
+fn each_letter_is_read(rt: HostRuntime) {
+    assert_read(&rt, rt.alloc(), &LETTERS);
 }
 
 fn fault_of(payload: &[u8]) -> Option<LetterFault> {
