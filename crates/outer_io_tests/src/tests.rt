@@ -1,13 +1,15 @@
-ghost use Rattle.std.specs.Prelude.{◌++◌, ◌≤◌, ℕ, None, IsOk, length, codes, decimal};
+ghost use Rattle.std.specs.Prelude.{◌++◌, ◌<◌, ◌≤◌, ℕ, None, IsOk, length, codes, decimal};
 ghost use Rattle.outer_io.specs.Faults.{HasCause};
 ghost use Rattle.mc_base.specs.Text.{hex_text};
 ghost use Rattle.outer_io.specs.Puts.{Puts};
 ghost use Rattle.outer_io.specs.Writes.{Writes};
 
+use mc_base::NoMemory;
 use outer_io::{
     Failed, MemSink, MemSource, ReadFault, Sink, Source, StdSink, StdSource, Writer, read_all,
     write_all,
 };
+use std::alloc::{AllocError, Global};
 use std::process::Abort;
 use std::test::Fail;
 
@@ -61,8 +63,10 @@ impl Sink for Narrow {
     }
 }
 
-/// What reads into a buffer of three bytes give, one after the other, and the buffer after each.
-const READS: [(Result<usize, Failed>, [u8; 3]); 5] = [
+/// What a read into a buffer of three bytes gives, and the buffer after it.
+type Read = (Result<usize, Failed>, [u8; 3]);
+
+const READS: [Read; 5] = [
     (Ok(2), [1, 2, 0]),
     (Err(Failed), [1, 2, 0]),
     (Ok(2), [3, 4, 0]),
@@ -70,23 +74,30 @@ const READS: [(Result<usize, Failed>, [u8; 3]); 5] = [
     (Ok(0), [5, 4, 0]),
 ];
 
-fn assert_reads(
-    rt: &impl Abort,
-    source: &mut MemSource,
-    rows: &[(Result<usize, Failed>, [u8; 3])],
-) {
+fn assert_reads(rt: &impl Abort, source: &mut MemSource, rows: &[Read]) {
     let mut buf = [0u8; 3];
     for (i, (count, held)) in rows.iter().enumerate() {
-        assert!(rt; source.read(&mut buf) == *count, "read {i}");
-        assert!(rt; buf == *held, "read {i}");
+        assert!(rt; source.read(&mut buf) == *count && buf == *held, "read {i}");
     }
+}
+
+/// A source of these bytes whose reads fail at one call.
+fn failing_source(
+    alloc: Global,
+    bytes: &[u8],
+    failing: u64,
+    step: usize,
+) -> Result<MemSource, AllocError>
+    requires { 0 < step }
+{
+    let bytes = bytes.to_vec(alloc)?;
+    Ok(MemSource::new(bytes, [failing].to_vec(alloc)?, step))
 }
 
 #[test]
 fn memory_source_reads(rt: HostRuntime) -> Result<(), Fail> {
-    let alloc = rt.alloc();
-    // a step of 2; call 1 fails
-    let mut source = MemSource::new([1, 2, 3, 4, 5].to_vec(alloc)?, [1].to_vec(alloc)?, 2);
+    // call 1 fails; a step of 2
+    let mut source = failing_source(rt.alloc(), &[1, 2, 3, 4, 5], 1, 2)?;
     assert_reads(&rt, &mut source, &READS);
     Ok(())
 }
@@ -98,6 +109,16 @@ const WRITES: [(&[u8], Result<usize, Failed>); 4] = [
     (b"cd", Ok(1)),
     (b"d", Err(Failed)),
 ];
+
+/// A sink whose writes fail at one call.
+fn failing_sink(alloc: Global, failing: u64, step: usize, room: usize) -> Result<MemSink, NoMemory>
+    requires { 0 < step }
+{
+    match [failing].to_vec(alloc) {
+        Ok(failing) => MemSink::new(alloc, failing, step, room),
+        Err(_) => Err(NoMemory),
+    }
+}
 
 /// Whether so many bytes of a piece are taken, or the write fails.
 fn is_taken(sink: &mut MemSink, piece: &[u8], count: Result<usize, Failed>) -> bool {
@@ -112,20 +133,30 @@ fn assert_writes(rt: &impl Abort, sink: &mut MemSink, rows: &[(&[u8], Result<usi
 
 #[test]
 fn memory_sink_writes(rt: HostRuntime) -> Result<(), Fail> {
-    let alloc = rt.alloc();
-    // a step of 2 and room for 3; call 1 fails
-    let mut sink = MemSink::new(alloc, [1].to_vec(alloc)?, 2, 3)
-        .ok()
-        .ok_or("memory")?;
+    // call 1 fails; a step of 2 and room for 3
+    let mut sink = failing_sink(rt.alloc(), 1, 2, 3)?;
     assert_writes(&rt, &mut sink, &WRITES);
     assert!(rt; sink.written() == b"abc".as_slice());
     Ok(())
 }
 
+const TEXT: &[u8] = b"two lines\nof it\n";
+
+/// Whether the whole text is read from a source that fails at one call, or this is the fault.
+fn is_read(alloc: Global, step: usize, limit: usize, failing: u64, fault: Option<ReadFault>) -> bool
+    requires { 0 < step }
+{
+    let Ok(mut source) = failing_source(alloc, TEXT, failing, step) else {
+        return false;
+    };
+    match read_all(alloc, &mut source, limit) {
+        Ok(bytes) => fault.is_none() && bytes.as_slice() == TEXT,
+        Err(why) => fault == Some(why),
+    }
+}
+
 #[test]
-fn reads_to_the_end(rt: HostRuntime) -> Result<(), Fail> {
-    let alloc = rt.alloc();
-    let text = b"two lines\nof it\n".as_slice();
+fn reads_to_the_end(rt: HostRuntime) {
     // step, limit, failing call
     let cases = [
         (1, 16, 17, None),
@@ -136,70 +167,66 @@ fn reads_to_the_end(rt: HostRuntime) -> Result<(), Fail> {
         (1, 16, 0, Some(ReadFault::Failed)),
     ];
     for (step, limit, failing, fault) in cases {
-        let mut source = MemSource::new(text.to_vec(alloc)?, [failing].to_vec(alloc)?, step);
-        match read_all(alloc, &mut source, limit) {
-            Ok(bytes) => {
-                assert_eq!(rt; fault, None);
-                assert_eq!(rt; bytes.as_slice(), text);
-            }
-            Err(e) => assert_eq!(rt; fault, Some(e)),
-        }
+        assert!(rt;
+            is_read(rt.alloc(), step, limit, failing, fault),
+            "{step} {limit} {failing}"
+        );
     }
-    Ok(())
+}
+
+/// Whether a source of so many bytes gives as many as the limit, or is refused where it has more, after so many reads.
+fn ends_after(alloc: Global, left: u64, limit: usize, reads: u64) -> bool {
+    let mut source = Counting { left, reads: 0 };
+    let ends = match read_all(alloc, &mut source, limit) {
+        Ok(bytes) => left <= limit as u64 && bytes.len() == limit,
+        Err(_) => left > limit as u64,
+    };
+    ends && source.reads == reads
 }
 
 #[test]
-fn makes_no_read_after_the_end(rt: HostRuntime) -> Result<(), Fail> {
-    let alloc = rt.alloc();
+fn makes_no_read_after_the_end(rt: HostRuntime) {
     // bytes, limit, reads
     for (left, limit, reads) in [(0, 0, 1), (3, 3, 4), (4, 3, 4), (9000, 9000, 9001)] {
-        let mut source = Counting { left, reads: 0 };
-        let length = read_all(alloc, &mut source, limit)
-            .ok()
-            .map(|bytes| bytes.len());
-        let whole = if left <= limit as u64 {
-            Some(limit)
-        } else {
-            None
-        };
-        assert_eq!(rt; length, whole);
-        assert_eq!(rt; source.reads, reads);
+        assert!(rt;
+            ends_after(rt.alloc(), left, limit, reads),
+            "{left} {limit}"
+        );
     }
-    Ok(())
+}
+
+/// Whether writing a piece ends so, with this last byte and so many writes and faults.
+fn ends_at(sink: &mut Narrow, piece: &[u8], end: Result<(), Failed>, at: (u8, u64, u64)) -> bool {
+    write_all(sink, piece) == end && (sink.last, sink.writes, sink.faults) == at
 }
 
 #[test]
-fn writes_whole_or_a_part(rt: HostRuntime) -> Result<(), Fail> {
+fn writes_whole_or_a_part(rt: HostRuntime) {
     let mut sink = Narrow {
         last: 0,
         writes: 0,
         room: 3,
         faults: 0,
     };
-    assert_eq!(rt; write_all(&mut sink, b""), Ok(()));
-    assert_eq!(rt; sink.writes, 0);
-    assert_eq!(rt; write_all(&mut sink, b"ab"), Ok(()));
-    assert_eq!(rt; (sink.last, sink.writes), (b'b', 2));
-    assert_eq!(rt; write_all(&mut sink, b"cde"), Err(Failed));
-    assert_eq!(rt; (sink.last, sink.writes, sink.faults), (b'c', 3, 1));
-    Ok(())
+    assert!(rt; ends_at(&mut sink, b"", Ok(()), (0, 0, 0)));
+    assert!(rt; ends_at(&mut sink, b"ab", Ok(()), (b'b', 2, 0)));
+    assert!(rt; ends_at(&mut sink, b"cde", Err(Failed), (b'c', 3, 1)));
 }
 
 #[test]
 fn adapts_a_reader(rt: HostRuntime) -> Result<(), Fail> {
-    let bytes = read_all(rt.alloc(), &mut StdSource::new(b"text".as_slice()), 4);
-    assert_eq!(rt; bytes.ok().ok_or("read")?.as_slice(), b"text".as_slice());
+    let bytes = read_all(rt.alloc(), &mut StdSource::new(b"text".as_slice()), 4)?;
+    assert!(rt; bytes.as_slice() == b"text".as_slice());
     Ok(())
 }
 
 #[test]
-fn adapts_a_writer(rt: HostRuntime) -> Result<(), Fail> {
+fn adapts_a_writer(rt: HostRuntime) {
     let mut room = [0u8; 3];
     let mut sink = StdSink::new(room.as_mut_slice());
     // a slice takes no byte where it is full
-    assert_eq!(rt; write_all(&mut sink, b"abcd"), Err(Failed));
-    assert_eq!(rt; room.as_slice(), b"abc".as_slice());
-    Ok(())
+    assert!(rt; write_all(&mut sink, b"abcd") == Err(Failed));
+    assert!(rt; room.as_slice() == b"abc".as_slice());
 }
 
 /// A word, a number, a blank, hexadecimal and a newline.
@@ -224,10 +251,21 @@ fn write_line<K: Sink>(sink: &mut K, n: u64, bytes: &[u8]) -> Result<(), Failed>
     out.finish()
 }
 
+const LINE: &[u8] = b"line 18446744073709551615 000faaff\n";
+
+/// Whether so many bytes of the line are written to a sink that fails at one call, and a failure is told where some lack.
+fn is_written_so_far(alloc: Global, step: usize, failing: u64, written: usize) -> bool
+    requires { 0 < step }
+{
+    let Ok(mut sink) = failing_sink(alloc, failing, step, 99) else {
+        return false;
+    };
+    let result = write_line(&mut sink, u64::MAX, &[0, 15, 170, 255]);
+    result.is_ok() == (written == LINE.len()) && LINE.get(..written) == Some(sink.written())
+}
+
 #[test]
-fn writes_piece_by_piece(rt: HostRuntime) -> Result<(), Fail> {
-    let alloc = rt.alloc();
-    let text = b"line 18446744073709551615 000faaff\n".as_slice();
+fn writes_piece_by_piece(rt: HostRuntime) {
     // step, failing call, bytes written
     for (step, failing, written) in [
         (99, 9, 35),
@@ -237,60 +275,62 @@ fn writes_piece_by_piece(rt: HostRuntime) -> Result<(), Fail> {
         (99, 0, 0),
         (10, 3, 30),
     ] {
-        let mut sink = MemSink::new(alloc, [failing].to_vec(alloc)?, step, 99)
-            .ok()
-            .ok_or("memory")?;
-        let result = write_line(&mut sink, u64::MAX, &[0, 15, 170, 255]);
-        assert_eq!(rt; result.is_ok(), written == text.len());
-        assert_eq!(rt; sink.written(), text.get(..written).ok_or("shorter")?);
+        assert!(rt;
+            is_written_so_far(rt.alloc(), step, failing, written),
+            "{step} {failing}"
+        );
     }
-    Ok(())
+}
+
+/// Two lines with no bytes, and 65 bytes.
+fn write_hexadecimal(sink: &mut MemSink) -> Result<(), Failed> {
+    let mut out = Writer::new(sink);
+    put_line(&mut out, 7, &[]);
+    put_line(&mut out, 8, &[]);
+    out.put_hex([0xc5; 65].as_slice());
+    out.finish()
+}
+
+fn is_hexadecimal(written: &[u8]) -> bool {
+    written.len() == 18 + 130 && written.starts_with(b"line 7 -\nline 8 -\nc5c5")
 }
 
 #[test]
 fn hexadecimal_in_long_and_short(rt: HostRuntime) -> Result<(), Fail> {
-    let alloc = rt.alloc();
-    let mut sink = MemSink::new(alloc, Vec::new(alloc), 99, 200)
-        .ok()
-        .ok_or("memory")?;
-    let mut out = Writer::new(&mut sink);
-    put_line(&mut out, 7, &[]);
-    put_line(&mut out, 8, &[]);
-    out.put_hex([0xc5; 65].as_slice());
-    assert_eq!(rt; out.finish(), Ok(()));
-    assert_eq!(rt; sink.written().len(), 18 + 130);
-    assert_eq!(rt;
-        sink.written().get(..22).ok_or("short")?,
-        b"line 7 -\nline 8 -\nc5c5".as_slice()
-    );
+    let mut sink = MemSink::new(rt.alloc(), Vec::new(rt.alloc()), 99, 200)?;
+    let result = write_hexadecimal(&mut sink);
+    assert!(rt; result.is_ok() && is_hexadecimal(sink.written()));
     Ok(())
 }
 
 /// Pieces that fill what is gathered, and one that is longer than all that can be.
-#[test]
-fn gathers_more_than_fits(rt: HostRuntime) -> Result<(), Fail> {
-    let alloc = rt.alloc();
-    let mut sink = MemSink::new(alloc, Vec::new(alloc), 99, 20_000)
-        .ok()
-        .ok_or("memory")?;
-    let mut out = Writer::new(&mut sink);
+fn write_more_than_fits(sink: &mut MemSink) -> Result<(), Failed> {
+    let mut out = Writer::new(sink);
     out.put(b"ab");
     out.put([7; 5000].as_slice());
     for _ in 0..1000 {
         out.put(b"0123456789");
     }
-    assert_eq!(rt; out.finish(), Ok(()));
-    assert_eq!(rt; sink.written().len(), 2 + 5000 + 10_000);
-    assert!(rt; sink.written().starts_with(b"ab\x07\x07"));
-    assert!(rt; sink.written().ends_with(b"01234567890123456789"));
+    out.finish()
+}
+
+fn is_gathered(written: &[u8]) -> bool {
+    written.len() == 2 + 5000 + 10_000
+        && written.starts_with(b"ab\x07\x07")
+        && written.ends_with(b"01234567890123456789")
+}
+
+#[test]
+fn gathers_more_than_fits(rt: HostRuntime) -> Result<(), Fail> {
+    let mut sink = MemSink::new(rt.alloc(), Vec::new(rt.alloc()), 99, 20_000)?;
+    let result = write_more_than_fits(&mut sink);
+    assert!(rt; result.is_ok() && is_gathered(sink.written()));
     Ok(())
 }
 
 #[test]
 fn faults_have_a_message(rt: HostRuntime) -> Result<(), Fail> {
-    assert_eq!(rt;
-        format!(in rt.alloc(); "{}", ReadFault::TooLong)?.as_str(),
-        "more bytes came than the limit"
-    );
+    let text = ReadFault::TooLong.to_string(rt.alloc())?;
+    assert!(rt; text.as_str() == "more bytes came than the limit");
     Ok(())
 }
