@@ -1,4 +1,4 @@
-ghost use Rattle.std.specs.Prelude.{◌≡◌, ◌≢◌, ◌≤◌, ◌<◌, ◌+◌, ℕ, OnOk, IfOk, Some, None};
+ghost use Rattle.std.specs.Prelude.{◌≡◌, ◌≢◌, ◌≤◌, ◌<◌, ◌+◌, ℕ, OnOk, IfOk, Some, None, IsTrue};
 ghost use Rattle.mc_base.specs.Limits.{buffer_size};
 ghost use Rattle.mc_base.specs.declared.request.Slot.{Slot};
 ghost use Rattle.buffer_book.specs.Book.{IsAway, IsQueued, slot_of};
@@ -95,11 +95,14 @@ fn lend(alloc: Global, book: &mut BufferBook, slot: Slot) -> Result<PacketId, No
     Ok(book.lend(slot))
 }
 
-/// Releases a packet. Its buffer is away then.
-fn give_up(book: &mut BufferBook, id: PacketId) -> Result<Buffer, BufInvalid>
-    ensures { OnOk result (IsAway book.new (slot_of id)) }
+/// Releases a packet, and tells whether it was lent. Its buffer is away then.
+fn give_up(book: &mut BufferBook, id: PacketId) -> bool
+    ensures { IsTrue result → IsAway book.new (slot_of id) }
 {
-    book.release(id)
+    match book.release(id) {
+        Ok(_) => true,
+        Err(BufInvalid) => false,
+    }
 }
 
 /// Lends the first buffers of a peer.
@@ -121,56 +124,73 @@ fn lend_first(
     Ok(ids)
 }
 
+/// Whether so many buffers of a peer are queued, and so many lent.
+fn holds(book: &BufferBook, peer: u8, queue: u32, lent: u32) -> bool {
+    book.places(peer) == Places { queue, lent }
+}
+
+/// Whether a packet shows so many bytes of a counting buffer from a place on.
+fn shows(book: &BufferBook, id: PacketId, start: u32, size: u32) -> bool {
+    match book.lent_bytes(id) {
+        Ok(bytes) => is_stretch(bytes, start, size),
+        Err(BufInvalid) => false,
+    }
+}
+
+/// Whether a buffer has this number, and counts up from 0 still.
+fn is_whole(buffer: &Buffer, number: usize) -> bool {
+    buffer.number() as usize == number && is_stretch(buffer.bytes(), 0, 512)
+}
+
+/// Releases a packet, and tells whether its buffer is this one, and whole.
+fn gives_back(book: &mut BufferBook, id: PacketId, number: usize) -> bool {
+    match book.release(id) {
+        Ok(buffer) => is_whole(&buffer, number),
+        Err(BufInvalid) => false,
+    }
+}
+
+/// Queues, lends and releases buffer 2 of peer 3, and tells whether it is each time where it must be.
+fn goes_round(alloc: Global, start: u32, size: u32) -> Result<bool, NoMemory>
+    requires { start + size ≤ buffer_size }
+{
+    let slot = Slot { peer: 3, buffer: 2 };
+    let first = PacketId {
+        peer: 3,
+        buffer: 2,
+        serial: 0,
+    };
+    let mut book = BufferBook::new(alloc, &[(1, 2), (3, 4)])?;
+    let slot = queue(alloc, &mut book, slot, start, size)?;
+    let queued = holds(&book, 3, 1, 0) && is_stretch(book.bytes(slot), start, size);
+    let id = book.lend(slot);
+    let lent = id == first && holds(&book, 3, 0, 1) && shows(&book, id, start, size);
+    let released = gives_back(&mut book, id, 2)
+        && holds(&book, 1, 0, 0)
+        && holds(&book, 3, 0, 0)
+        && holds(&book, 7, 0, 0);
+    Ok(queued && lent && released)
+}
+
 #[test]
 fn a_buffer_is_queued_lent_and_released(rt: HostRuntime) -> Result<(), Fail> {
     may_cross_threads();
-    let alloc = rt.alloc();
     for (start, size) in [(24, 0), (24, 488), (0, 512), (512, 0), (7, 1)] {
-        let Ok(mut book) = BufferBook::new(alloc, &[(1, 2), (3, 4)]) else {
-            return Err("no book".into());
-        };
-        let slot = Slot { peer: 3, buffer: 2 };
-        let Ok(slot) = queue(alloc, &mut book, slot, start, size) else {
-            return Err("no buffer".into());
-        };
-        assert_eq!(rt; book.places(3), Places { queue: 1, lent: 0 });
-        assert!(rt; is_stretch(book.bytes(slot), start, size));
-        let id = book.lend(slot);
-        assert_eq!(rt;
-            id,
-            PacketId {
-                peer: 3,
-                buffer: 2,
-                serial: 0
-            }
-        );
-        assert_eq!(rt; book.places(3), Places { queue: 0, lent: 1 });
-        let Ok(bytes) = book.lent_bytes(id) else {
-            return Err("not lent".into());
-        };
-        assert!(rt; is_stretch(bytes, start, size));
-        let Ok(buffer) = book.release(id) else {
-            return Err("not released".into());
-        };
-        assert_eq!(rt; buffer.number(), 2);
-        assert!(rt; is_stretch(buffer.bytes(), 0, 512));
-        for peer in [1, 3, 7] {
-            assert_eq!(rt; book.places(peer), Places { queue: 0, lent: 0 });
-        }
+        assert!(rt; goes_round(rt.alloc(), start, size)?, "{start} {size}");
     }
     Ok(())
 }
 
-#[test]
-fn an_id_that_is_not_lent_is_refused(rt: HostRuntime) -> Result<(), Fail> {
-    let alloc = rt.alloc();
-    let Ok(mut book) = BufferBook::new(alloc, &[(1, 2), (3, 4)]) else {
-        return Err("no book".into());
-    };
-    let slot = Slot { peer: 3, buffer: 1 };
-    let Ok(first) = lend(alloc, &mut book, slot) else {
-        return Err("no buffer".into());
-    };
+/// Whether an id is refused, and leaves the one packet of peer 3 lent.
+fn is_refused(book: &mut BufferBook, id: PacketId, lent: PacketId) -> bool {
+    book.lent_bytes(id).is_err()
+        && !give_up(book, id)
+        && holds(book, 3, 0, 1)
+        && book.lent_bytes(lent).is_ok()
+}
+
+/// Whether all ids are refused that differ from that of the one packet.
+fn are_refused(book: &mut BufferBook, first: PacketId) -> bool {
     let strange = [
         PacketId { serial: 1, ..first },
         PacketId { buffer: 0, ..first },
@@ -178,62 +198,74 @@ fn an_id_that_is_not_lent_is_refused(rt: HostRuntime) -> Result<(), Fail> {
         PacketId { peer: 1, ..first },
         PacketId { peer: 7, ..first },
     ];
-    for id in strange {
-        assert!(rt; book.lent_bytes(id).is_err());
-        assert!(rt; matches!(book.release(id), Err(BufInvalid)));
-        assert_eq!(rt; book.places(3), Places { queue: 0, lent: 1 });
-        assert!(rt; book.lent_bytes(first).is_ok());
+    for id in &strange {
+        if !is_refused(book, *id, first) {
+            return false;
+        }
     }
+    true
+}
+
+#[test]
+fn an_id_that_is_not_lent_is_refused(rt: HostRuntime) -> Result<(), Fail> {
+    let mut book = BufferBook::new(rt.alloc(), &[(1, 2), (3, 4)])?;
+    let first = lend(rt.alloc(), &mut book, Slot { peer: 3, buffer: 1 })?;
+    assert!(rt; are_refused(&mut book, first));
     Ok(())
+}
+
+/// Lends a buffer, releases it and lends it again, and tells whether only the second id is lent then, and released once.
+fn is_lent_again(alloc: Global, book: &mut BufferBook, slot: Slot) -> Result<bool, NoMemory>
+    requires { IsAway book.old slot }
+{
+    let old = lend(alloc, book, slot)?;
+    if !give_up(book, old) {
+        return Ok(false);
+    }
+    let new = lend(alloc, book, slot)?;
+    Ok(
+        (old.serial, new.serial) == (0, 1)
+            && book.lent_bytes(old).is_err()
+            && !give_up(book, old)
+            && give_up(book, new)
+            && !give_up(book, new),
+    )
 }
 
 #[test]
 fn a_buffer_that_is_lent_again_has_another_id(rt: HostRuntime) -> Result<(), Fail> {
-    let alloc = rt.alloc();
-    let Ok(mut book) = BufferBook::new(alloc, &[(0, 2)]) else {
-        return Err("no book".into());
-    };
     let slot = Slot { peer: 0, buffer: 1 };
-    let Ok(old) = lend(alloc, &mut book, slot) else {
-        return Err("no buffer".into());
-    };
-    if give_up(&mut book, old).is_err() {
-        return Err("not released".into());
-    }
-    let Ok(new) = lend(alloc, &mut book, slot) else {
-        return Err("no buffer".into());
-    };
-    assert_eq!(rt; (old.serial, new.serial), (0, 1));
-    assert!(rt; book.lent_bytes(old).is_err());
-    assert!(rt; book.release(old).is_err());
-    assert!(rt; book.release(new).is_ok());
-    assert!(rt; book.release(new).is_err());
+    let mut book = BufferBook::new(rt.alloc(), &[(0, 2)])?;
+    assert!(rt; is_lent_again(rt.alloc(), &mut book, slot)?);
     Ok(())
+}
+
+/// Whether the four packets of peer 3 are released in this order.
+fn are_released(book: &mut BufferBook, ids: &[PacketId], order: &[usize]) -> bool {
+    let mut lent = 4u32;
+    for place in order {
+        let Some(id) = ids.get(*place) else {
+            return false;
+        };
+        if !holds(book, 3, 0, lent) || !gives_back(book, *id, *place) {
+            return false;
+        }
+        lent = lent.saturating_sub(1);
+    }
+    holds(book, 3, 0, 0)
+}
+
+/// The same of a new book.
+fn are_lent_and_released(alloc: Global, order: &[usize]) -> Result<bool, NoMemory> {
+    let mut book = BufferBook::new(alloc, &[(1, 2), (3, 4)])?;
+    let ids = lend_first(alloc, &mut book, 3, 4)?;
+    Ok(are_released(&mut book, &ids, order))
 }
 
 #[test]
 fn buffers_are_released_in_any_order(rt: HostRuntime) -> Result<(), Fail> {
-    let alloc = rt.alloc();
-    for order in ORDERS {
-        let Ok(mut book) = BufferBook::new(alloc, &[(1, 2), (3, 4)]) else {
-            return Err("no book".into());
-        };
-        let Ok(ids) = lend_first(alloc, &mut book, 3, 4) else {
-            return Err("no buffer".into());
-        };
-        let mut lent = 4u32;
-        for place in order {
-            let Some(id) = ids.get(place) else {
-                return Err("no id".into());
-            };
-            assert_eq!(rt; book.places(3), Places { queue: 0, lent });
-            let Ok(buffer) = book.release(*id) else {
-                return Err("not released".into());
-            };
-            assert_eq!(rt; buffer.number() as usize, place);
-            lent = lent.saturating_sub(1);
-        }
-        assert_eq!(rt; book.places(3), Places { queue: 0, lent: 0 });
+    for (i, order) in ORDERS.iter().enumerate() {
+        assert!(rt; are_lent_and_released(rt.alloc(), order)?, "row {i}");
     }
     Ok(())
 }
@@ -254,8 +286,7 @@ fn withdraws_last(alloc: Global, first: u16) -> Result<bool, NoMemory>
     queue(alloc, &mut book, one, 0, 512)?;
     let slot = queue(alloc, &mut book, other, 24, 488)?;
     let buffer = book.withdraw(slot);
-    let alone = book.places(1) == Places { queue: 1, lent: 0 };
-    Ok(alone && buffer.number() == other.buffer && is_stretch(buffer.bytes(), 0, 512))
+    Ok(holds(&book, 1, 1, 0) && is_whole(&buffer, other.buffer as usize))
 }
 
 #[test]

@@ -1,18 +1,11 @@
 use endpoint_table::{EndpointTable, Local, Refusal, may_cross_threads};
+use mc_base::NoMemory;
 use std::alloc::Global;
 use std::process::Abort;
 use std::test::Fail;
 
 fn at(node: u8, port: u16) -> Local {
     Local { node, port }
-}
-
-/// The table of domain 1 with two nodes, linked to these.
-fn table(alloc: Global, peers: &[u8]) -> Result<EndpointTable, Fail> {
-    let Ok(table) = EndpointTable::new(alloc, 1, 2, peers) else {
-        return Err("no memory".into());
-    };
-    Ok(table)
 }
 
 /// Creates the endpoints of node 0 with the ports 0 to 63, and tells whether they got the addresses from 1024 on.
@@ -112,11 +105,13 @@ fn holds(table: &mut EndpointTable, step: Step) -> bool {
     }
 }
 
-/// Asserts what each call answers.
-fn assert_steps(rt: &impl Abort, table: &mut EndpointTable, steps: &[Step]) {
+/// Asserts what each call answers of the table of domain 1 with two nodes, linked to these.
+fn assert_steps(rt: &impl Abort, alloc: Global, peers: &[u8], steps: &[Step]) -> Result<(), Fail> {
+    let mut table = EndpointTable::new(alloc, 1, 2, peers)?;
     for (i, step) in steps.iter().enumerate() {
-        assert!(rt; holds(table, *step), "step {i}");
+        assert!(rt; holds(&mut table, *step), "step {i}");
     }
+    Ok(())
 }
 
 const FOUND_AND_DELETED: [Step; 28] = [
@@ -155,9 +150,7 @@ const FOUND_AND_DELETED: [Step; 28] = [
 #[test]
 fn an_endpoint_is_created_found_and_deleted(rt: HostRuntime) -> Result<(), Fail> {
     may_cross_threads();
-    let mut table = table(rt.alloc(), &[])?;
-    assert_steps(&rt, &mut table, &FOUND_AND_DELETED);
-    Ok(())
+    assert_steps(&rt, rt.alloc(), &[], &FOUND_AND_DELETED)
 }
 
 const REFUSALS: [Step; 9] = [
@@ -174,9 +167,7 @@ const REFUSALS: [Step; 9] = [
 
 #[test]
 fn refusals_come_in_their_order(rt: HostRuntime) -> Result<(), Fail> {
-    let mut table = table(rt.alloc(), &[])?;
-    assert_steps(&rt, &mut table, &REFUSALS);
-    Ok(())
+    assert_steps(&rt, rt.alloc(), &[], &REFUSALS)
 }
 
 const LAST_ADDRESS: [Step; 6] = [
@@ -190,9 +181,7 @@ const LAST_ADDRESS: [Step; 6] = [
 
 #[test]
 fn the_addresses_end(rt: HostRuntime) -> Result<(), Fail> {
-    let mut table = table(rt.alloc(), &[])?;
-    assert_steps(&rt, &mut table, &LAST_ADDRESS);
-    Ok(())
+    assert_steps(&rt, rt.alloc(), &[], &LAST_ADDRESS)
 }
 
 const TOLD_IN_ORDER: [Step; 22] = [
@@ -223,9 +212,7 @@ const TOLD_IN_ORDER: [Step; 22] = [
 
 #[test]
 fn each_peer_is_told_all_in_order(rt: HostRuntime) -> Result<(), Fail> {
-    let mut table = table(rt.alloc(), &[0, 3])?;
-    assert_steps(&rt, &mut table, &TOLD_IN_ORDER);
-    Ok(())
+    assert_steps(&rt, rt.alloc(), &[0, 3], &TOLD_IN_ORDER)
 }
 
 const IN_USE: [Step; 13] = [
@@ -247,24 +234,26 @@ const IN_USE: [Step; 13] = [
 
 #[test]
 fn a_record_is_in_use_until_all_were_told(rt: HostRuntime) -> Result<(), Fail> {
-    let mut table = table(rt.alloc(), &[0, 3])?;
-    assert_steps(&rt, &mut table, &IN_USE);
-    Ok(())
+    assert_steps(&rt, rt.alloc(), &[0, 3], &IN_USE)
 }
 
 /// The name that is owed after the creation of an endpoint.
-fn name_is(alloc: Global, domain: u8, local: Local, name: &[u8]) -> Result<bool, Fail> {
-    let Ok(mut table) = EndpointTable::new(alloc, domain, 16, &[2]) else {
-        return Err("no memory".into());
-    };
+fn name_is(alloc: Global, domain: u8, local: Local, name: &[u8]) -> Result<bool, NoMemory> {
+    let mut table = EndpointTable::new(alloc, domain, 16, &[2])?;
     Ok(table.create(local) == Ok(1024) && is_owed(&table, 2, name, 1024, true))
 }
 
+/// The domain, the node and the port of an endpoint, and its name.
+const NAMES: [(u8, u8, u16, &[u8]); 3] = [
+    (7, 15, 65_535, b"mcapi:7:15:65535"),
+    (0, 0, 0, b"mcapi:0:0:0"),
+    (1, 10, 100, b"mcapi:1:10:100"),
+];
+
 #[test]
 fn names_are_decimal(rt: HostRuntime) -> Result<(), Fail> {
-    let alloc = rt.alloc();
-    assert!(rt; name_is(alloc, 7, at(15, 65535), b"mcapi:7:15:65535")?);
-    assert!(rt; name_is(alloc, 0, at(0, 0), b"mcapi:0:0:0")?);
-    assert!(rt; name_is(alloc, 1, at(10, 100), b"mcapi:1:10:100")?);
+    for (domain, node, port, name) in &NAMES {
+        assert!(rt; name_is(rt.alloc(), *domain, at(*node, *port), name)?);
+    }
     Ok(())
 }

@@ -1,6 +1,6 @@
 use mc_base::{NoMemory, Reason, Refusal};
 use mc_journal::{Answer, Entry, Journal, Told, may_cross_threads};
-use std::alloc::Global;
+use std::alloc::{AllocError, Global};
 use std::process::Abort;
 use std::test::Fail;
 
@@ -27,6 +27,21 @@ fn note(journal: &mut Journal, noted: Noted) -> Result<(), NoMemory> {
     Ok(())
 }
 
+fn note_all(journal: &mut Journal, lines: &[Noted]) -> Result<(), NoMemory> {
+    for line in lines {
+        note(journal, *line)?;
+    }
+    Ok(())
+}
+
+/// Whether an entry is shown so.
+fn is_shown(alloc: Global, journal: &Journal, at: usize, line: &str) -> Result<bool, AllocError> {
+    match journal.entry(at) {
+        Some(entry) => Ok(format!(in alloc; "{entry:?}")?.as_str() == line),
+        None => Ok(false),
+    }
+}
+
 /// Asserts that the journal's entries are shown so, and that there are no more.
 fn assert_shown(
     rt: &impl Abort,
@@ -35,12 +50,9 @@ fn assert_shown(
     lines: &[&str],
 ) -> Result<(), Fail> {
     for (i, line) in lines.iter().enumerate() {
-        let entry = journal.entry(i).ok_or("entry")?;
-        let shown = format!(in alloc; "{entry:?}")?;
-        assert!(rt; shown.as_str() == *line, "line {i}");
+        assert!(rt; is_shown(alloc, journal, i, line)?, "line {i}");
     }
-    assert!(rt; journal.len() == lines.len());
-    assert!(rt; journal.entry(lines.len()).is_none());
+    assert!(rt; journal.len() == lines.len() && journal.entry(lines.len()).is_none());
     Ok(())
 }
 
@@ -78,9 +90,7 @@ const JOINED_TRIES: [&str; 8] = [
 fn tries_after_one_idle_turn_are_joined(rt: HostRuntime) -> Result<(), Fail> {
     may_cross_threads();
     let mut journal = Journal::new(rt.alloc())?;
-    for noted in &TRIES {
-        note(&mut journal, *noted)?;
-    }
+    note_all(&mut journal, &TRIES)?;
     assert_shown(&rt, rt.alloc(), &journal, &JOINED_TRIES)
 }
 
@@ -114,9 +124,7 @@ const NOTED_ANSWERS: [&str; 9] = [
     "Called { number: 1, answer: Done(Ended(ChanClosed)) }",
 ];
 
-#[test]
-fn answers_are_noted(rt: HostRuntime) -> Result<(), Fail> {
-    let mut journal = Journal::new(rt.alloc())?;
+fn note_answers(journal: &mut Journal) -> Result<(), NoMemory> {
     for answer in &ANSWERS {
         journal.reserve(1, 488)?;
         journal.note(Entry::Called {
@@ -124,5 +132,12 @@ fn answers_are_noted(rt: HostRuntime) -> Result<(), Fail> {
             answer: *answer,
         });
     }
+    Ok(())
+}
+
+#[test]
+fn answers_are_noted(rt: HostRuntime) -> Result<(), Fail> {
+    let mut journal = Journal::new(rt.alloc())?;
+    note_answers(&mut journal)?;
     assert_shown(&rt, rt.alloc(), &journal, &NOTED_ANSWERS)
 }

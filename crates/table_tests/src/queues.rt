@@ -3,7 +3,6 @@ ghost use Rattle.std.specs.Prelude.{◌≡◌, IfSome, length};
 use mc_base::{NoMemory, Priority, Slot};
 use message_queue::{MessageQueue, may_cross_threads};
 use std::alloc::Global;
-use std::process::Abort;
 use std::test::Fail;
 
 fn slot(buffer: u16) -> Slot {
@@ -15,12 +14,16 @@ fn full_queue(alloc: Global, priorities: [u8; 4]) -> Option<MessageQueue>
     ensures room { IfSome result (λ q. q.room ≡ 4) }
     ensures full { IfSome result (λ q. length q.waiting ≡ 4) }
 {
-    let mut queue = MessageQueue::new(alloc, 4).ok()?;
     let [a, b, c, d] = priorities;
-    queue.push(slot(0), Priority::new(a)?);
-    queue.push(slot(1), Priority::new(b)?);
-    queue.push(slot(2), Priority::new(c)?);
-    queue.push(slot(3), Priority::new(d)?);
+    let a = Priority::new(a)?;
+    let b = Priority::new(b)?;
+    let c = Priority::new(c)?;
+    let d = Priority::new(d)?;
+    let mut queue = MessageQueue::new(alloc, 4).ok()?;
+    queue.push(slot(0), a);
+    queue.push(slot(1), b);
+    queue.push(slot(2), c);
+    queue.push(slot(3), d);
     Some(queue)
 }
 
@@ -51,45 +54,52 @@ fn are_taken(queue: &mut MessageQueue, order: &[(u16, u8)]) -> bool {
     best_of(queue).is_none()
 }
 
-fn assert_orders(rt: &impl Abort, alloc: Global, rows: &[Row]) -> Result<(), Fail> {
-    for (i, (priorities, order)) in rows.iter().enumerate() {
-        let mut queue = full_queue(alloc, *priorities).ok_or("memory")?;
-        assert!(rt; are_taken(&mut queue, order), "row {i}");
-    }
-    Ok(())
+/// Whether a row's order is that of its priorities.
+fn is_order(alloc: Global, (priorities, order): &Row) -> Option<bool> {
+    let mut queue = full_queue(alloc, *priorities)?;
+    Some(are_taken(&mut queue, order))
 }
 
 #[test]
 fn the_oldest_of_the_best_priority_comes_first(rt: HostRuntime) -> Result<(), Fail> {
-    assert_orders(&rt, rt.alloc(), &ORDERS)
+    for (i, row) in ORDERS.iter().enumerate() {
+        assert!(rt; is_order(rt.alloc(), row).ok_or("memory")?, "row {i}");
+    }
+    Ok(())
 }
 
-/// Whether this buffer is the oldest of so many, which is taken.
+/// Whether this buffer is the oldest of so many.
+fn is_front(queue: &MessageQueue, buffer: u16, count: u32) -> bool {
+    queue.front() == Some(slot(buffer)) && queue.len() == count
+}
+
+/// The same, and it is taken.
 fn is_oldest(queue: &mut MessageQueue, buffer: u16, count: u32) -> bool {
-    queue.front() == Some(slot(buffer))
-        && queue.len() == count
-        && queue.pop_oldest() == Some(slot(buffer))
+    is_front(queue, buffer, count) && queue.pop_oldest() == Some(slot(buffer))
+}
+
+/// Whether buffers 0 to 3 are taken in this order, each as the oldest.
+fn are_oldest(queue: &mut MessageQueue) -> bool {
+    for buffer in 0..4 {
+        if !is_oldest(queue, buffer, 4 - u32::from(buffer)) {
+            return false;
+        }
+    }
+    queue.pop_oldest().is_none()
 }
 
 #[test]
 fn the_oldest_is_taken_whatever_its_priority(rt: HostRuntime) -> Result<(), Fail> {
     let mut queue = full_queue(rt.alloc(), [2, 0, 1, 0]).ok_or("memory")?;
-    for buffer in 0..4 {
-        assert!(rt;
-            is_oldest(&mut queue, buffer, 4 - u32::from(buffer)),
-            "{buffer}"
-        );
-    }
-    assert!(rt; queue.pop_oldest().is_none());
+    assert!(rt; are_oldest(&mut queue));
     Ok(())
 }
 
 #[test]
 fn front_stays(rt: HostRuntime) -> Result<(), Fail> {
     let queue = full_queue(rt.alloc(), [3, 0, 0, 0]).ok_or("memory")?;
-    assert_eq!(rt; queue.front(), Some(slot(0)));
-    assert_eq!(rt; queue.front(), Some(slot(0)));
-    assert_eq!(rt; queue.len(), 4);
+    assert!(rt; is_front(&queue, 0, 4));
+    assert!(rt; is_front(&queue, 0, 4));
     Ok(())
 }
 
@@ -114,13 +124,20 @@ fn a_new_queue_is_empty(rt: HostRuntime) -> Result<(), Fail> {
     Ok(())
 }
 
+/// Pushes the oldest of a full queue once more, last and with the worst priority.
+fn push_again(queue: &mut MessageQueue) -> Option<()>
+    requires { length queue.old.waiting ≡ queue.old.room }
+{
+    let worst = Priority::new(3)?;
+    let oldest = queue.pop_oldest()?;
+    queue.push(oldest, worst);
+    Some(())
+}
+
 #[test]
 fn room_comes_back(rt: HostRuntime) -> Result<(), Fail> {
     let mut queue = full_queue(rt.alloc(), [0, 1, 1, 1]).ok_or("memory")?;
-    // The oldest once more, last and with the worst priority.
-    let worst = Priority::new(3).ok_or("priority")?;
-    let oldest = queue.pop_oldest().ok_or("empty")?;
-    queue.push(oldest, worst);
+    push_again(&mut queue).ok_or("empty")?;
     assert!(rt; are_taken(&mut queue, &[(1, 1), (2, 1), (3, 1), (0, 3)]));
     Ok(())
 }

@@ -1,6 +1,6 @@
 use mc_base::{EndName, Local, Reason, Refusal, RequestId, RequestLimit, Slot};
 use request_set::{Ask, Complete, RequestSet, may_cross_threads};
-use std::alloc::{AllocError, Global};
+use std::alloc::AllocError;
 use std::process::Abort;
 use std::test::Fail;
 
@@ -116,17 +116,27 @@ const CALLS: [Row; 18] = [
     (Cancel(4), Ok(None), None, &[]),
 ];
 
-/// Asserts what each call answers, and what stands from then on.
-fn assert_rows(rt: &impl Abort, alloc: Global, rows: &[Row]) -> Result<(), Fail> {
-    let mut set = RequestSet::new(alloc)?;
-    let mut ids = Vec::new(alloc);
-    for (i, (call, answer, waiting, serials)) in rows.iter().enumerate() {
-        assert!(rt; made(&mut set, &mut ids, *call)? == *answer, "row {i}");
-        assert!(rt;
-            set.waiting(HERE).map(|id| id.serial) == *waiting,
-            "row {i}"
-        );
-        assert!(rt; stand(&set, serials), "row {i}");
+/// Whether a call answers what it must, and this stands from then on.
+fn holds(
+    set: &mut RequestSet,
+    ids: &mut Vec<RequestId>,
+    (call, answer, waiting, serials): Row,
+) -> Result<bool, AllocError> {
+    Ok(
+        made(set, ids, call)? == answer
+            && set.waiting(HERE).map(|id| id.serial) == waiting
+            && stand(set, serials),
+    )
+}
+
+fn assert_rows(
+    rt: &impl Abort,
+    set: &mut RequestSet,
+    ids: &mut Vec<RequestId>,
+    rows: &[Row],
+) -> Result<(), Fail> {
+    for (i, row) in rows.iter().enumerate() {
+        assert!(rt; holds(set, ids, *row)?, "row {i}");
     }
     Ok(())
 }
@@ -134,8 +144,12 @@ fn assert_rows(rt: &impl Abort, alloc: Global, rows: &[Row]) -> Result<(), Fail>
 #[test]
 fn calls_answer_and_leave_the_others(rt: HostRuntime) -> Result<(), Fail> {
     may_cross_threads();
-    assert_rows(&rt, rt.alloc(), &CALLS)
+    let mut set = RequestSet::new(rt.alloc())?;
+    let mut ids = Vec::new(rt.alloc());
+    assert_rows(&rt, &mut set, &mut ids, &CALLS)
 }
+
+const FULL: [(Call, Answer); 64] = [(Add(Ask::Packet(HERE)), Ok(None)); 64];
 
 /// Calls where 64 requests stand.
 const LIMIT: [(Call, Answer); 5] = [
@@ -146,45 +160,52 @@ const LIMIT: [(Call, Answer); 5] = [
     (Test(64), Err(Refusal::Pending)),
 ];
 
-/// Makes the calls after 64 requests, asserts what each answers, and tells the serial of the last request that stands.
-fn last_after(
+/// Asserts what each call answers.
+fn assert_answers(
     rt: &impl Abort,
-    alloc: Global,
+    set: &mut RequestSet,
+    ids: &mut Vec<RequestId>,
     rows: &[(Call, Answer)],
-) -> Result<Option<u64>, Fail> {
-    let mut set = RequestSet::new(alloc)?;
-    let mut ids = Vec::new(alloc);
-    for i in 0..64 {
-        let answer = made(&mut set, &mut ids, Add(Ask::Packet(HERE)))?;
-        assert!(rt; answer == Ok(None), "request {i}");
-    }
+) -> Result<(), Fail> {
     for (i, (call, answer)) in rows.iter().enumerate() {
-        assert!(rt; made(&mut set, &mut ids, *call)? == *answer, "row {i}");
+        assert!(rt; made(set, ids, *call)? == *answer, "row {i}");
     }
-    assert!(rt; set.listed(64).is_none());
-    Ok(set.listed(63).map(|(id, _, _)| id.serial))
+    Ok(())
+}
+
+/// Whether 64 requests stand, the last of them with this serial.
+fn is_last(set: &RequestSet, serial: u64) -> bool {
+    set.listed(63).map(|(id, _, _)| id.serial) == Some(serial) && set.listed(64).is_none()
 }
 
 #[test]
 fn sixty_four_stand_and_no_more(rt: HostRuntime) -> Result<(), Fail> {
-    let last = last_after(&rt, rt.alloc(), &LIMIT)?;
-    assert!(rt; last == Some(64));
+    let mut set = RequestSet::new(rt.alloc())?;
+    let mut ids = Vec::new(rt.alloc());
+    assert_answers(&rt, &mut set, &mut ids, &FULL)?;
+    assert_answers(&rt, &mut set, &mut ids, &LIMIT)?;
+    assert!(rt; is_last(&set, 64));
     Ok(())
+}
+
+/// Whether a request that got the place of another tells what was asked and how it is complete.
+fn tells_all(set: &mut RequestSet) -> Result<bool, RequestLimit> {
+    let first = set.add(Ask::Connect(1))?;
+    let _done = set.cancel(first);
+    let ask = Ask::Packet(HERE);
+    let complete = Complete::Packet(SLOT);
+    let id = set.add(ask)?;
+    set.complete(id, complete);
+    Ok(
+        (id.key, id.serial) == (first.key, 1)
+            && set.listed(0) == Some((id, ask, Some(complete)))
+            && set.listed(1).is_none(),
+    )
 }
 
 #[test]
 fn a_place_tells_what_was_asked_and_how_it_is_complete(rt: HostRuntime) -> Result<(), Fail> {
     let mut set = RequestSet::new(rt.alloc())?;
-    let first = set.add(Ask::Connect(1))?;
-    let _done = set.cancel(first);
-    let ask = Ask::Packet(HERE);
-    let id = set.add(ask)?;
-    set.complete(id, Complete::Packet(SLOT));
-    assert_eq!(rt; (id.key, id.serial), (first.key, 1));
-    assert_eq!(rt;
-        set.listed(0),
-        Some((id, ask, Some(Complete::Packet(SLOT))))
-    );
-    assert_eq!(rt; set.listed(1), None);
+    assert!(rt; tells_all(&mut set)?);
     Ok(())
 }
