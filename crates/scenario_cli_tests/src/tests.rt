@@ -206,24 +206,50 @@ fn outcome_of<T: Threads + Sync>(
     Ok((status, output))
 }
 
-/// Asserts the status and the output of a call.
-fn assert_outcome<T: Threads + Sync + Abort>(
+/// Whether this status and this output come of a call.
+fn comes_out<T: Threads + Sync>(
     rt: &T,
     alloc: Global,
     given: Given<'_>,
     status: u8,
     written: &[u8],
-) -> Result<(), Fail> {
+) -> Result<bool, AllocError> {
     let (answer, output) = outcome_of(rt, alloc, given)?;
-    assert_eq!(rt; answer, status);
-    assert_eq!(rt; output.written(), written);
-    Ok(())
+    Ok(answer == status && output.written() == written)
+}
+
+/// Whether a scenario is run to its end, and its report ends so.
+fn ends_with<T: Threads + Sync>(
+    rt: &T,
+    alloc: Global,
+    text: &[u8],
+    end: &[u8],
+) -> Result<bool, AllocError> {
+    let (status, output) = outcome_of(rt, alloc, serial(text))?;
+    Ok(status == 0 && output.written().ends_with(end))
+}
+
+/// Whether this status and this output come of a text of one byte, so many times.
+fn repeated_comes_out<T: Threads + Sync>(
+    rt: &T,
+    alloc: Global,
+    words: &[&str],
+    (byte, length): (u8, usize),
+    status: u8,
+    written: &[u8],
+) -> Result<bool, AllocError> {
+    let text = Vec::from_elem(alloc, byte, length)?;
+    let given = Given {
+        words,
+        ..serial(&text)
+    };
+    comes_out(rt, alloc, given, status, written)
 }
 
 /// Words and a text, and the status and the output that come of them.
 type Outcome<'a> = (&'a [&'a str], &'a [u8], u8, &'a [u8]);
 
-const OUTCOMES: [Outcome<'static>; 15] = [
+static OUTCOMES: [Outcome<'static>; 15] = [
     (SERIAL, MESSAGE, 0, MESSAGE_REPORT),
     (SERIAL, ONE_BUFFER, 0, ONE_BUFFER_REPORT),
     (SERIAL, NO_CALL, 0, NO_CALL_REPORT),
@@ -246,12 +272,12 @@ fn assert_outcomes<T: Threads + Sync + Abort>(
     alloc: Global,
     rows: &[Outcome<'_>],
 ) -> Result<(), Fail> {
-    for (words, text, status, written) in rows {
+    for (i, (words, text, status, written)) in rows.iter().enumerate() {
         let given = Given {
             words: *words,
             ..serial(*text)
         };
-        assert_outcome(rt, alloc, given, *status, *written)?;
+        assert!(rt; comes_out(rt, alloc, given, *status, *written)?, "row {i}");
     }
     Ok(())
 }
@@ -264,7 +290,7 @@ fn statuses_and_outputs(rt: HostRuntime) -> Result<(), Fail> {
 /// A call, its status, and what was due, of which the first so many bytes come.
 type Cut<'a> = (Given<'a>, u8, &'a [u8], usize);
 
-const CUTS: [Cut<'static>; 11] = [
+static CUTS: [Cut<'static>; 11] = [
     (
         Given {
             failing_read: 0,
@@ -367,64 +393,67 @@ const CUTS: [Cut<'static>; 11] = [
     ),
 ];
 
-fn assert_cuts<T: Threads + Sync + Abort>(
+fn is_cut<T: Threads + Sync>(
     rt: &T,
     alloc: Global,
-    rows: &[Cut<'_>],
-) -> Result<(), Fail> {
-    for (given, status, due, length) in rows {
-        let written = due.get(..*length).ok_or("length")?;
-        assert_outcome(rt, alloc, *given, *status, written)?;
+    (given, status, due, length): Cut<'_>,
+) -> Result<bool, AllocError> {
+    match due.get(..length) {
+        Some(written) => comes_out(rt, alloc, given, status, written),
+        None => Ok(false),
     }
-    Ok(())
 }
 
 /// What a stream that fails leaves: the status, and the first bytes of what was due.
 #[test]
 fn streams_that_fail(rt: HostRuntime) -> Result<(), Fail> {
-    assert_cuts(&rt, rt.alloc(), &CUTS)
-}
-
-/// An input of the most bytes is read, and one byte more is not.
-#[test]
-fn limit_of_the_input(rt: HostRuntime) -> Result<(), Fail> {
-    let alloc = rt.alloc();
-    for (length, status, written) in [
-        (8_388_608usize, 3u8, b"refused 1 long\n".as_slice()),
-        (8_388_609, 7, b"".as_slice()),
-    ] {
-        let text = Vec::from_elem(alloc, b'7', length)?;
-        assert_outcome(&rt, alloc, serial(&text), status, written)?;
+    for (i, row) in CUTS.iter().enumerate() {
+        assert!(rt; is_cut(&rt, rt.alloc(), *row)?, "row {i}");
     }
     Ok(())
 }
 
-/// A message of 9,000 bytes is a scenario's, though it fits no frame; one of 9,001 is in none.
+/// How many bytes are read, and the status and the output that come of them.
+static INPUTS: [(usize, u8, &[u8]); 2] = [(8_388_608, 3, b"refused 1 long\n"), (8_388_609, 7, b"")];
+
+/// An input of the most bytes is read, and one byte more is not.
 #[test]
-fn longest_message(rt: HostRuntime) -> Result<(), Fail> {
-    let alloc = rt.alloc();
+fn limit_of_the_input(rt: HostRuntime) -> Result<(), Fail> {
+    for (length, status, written) in &INPUTS {
+        let repeated = (b'7', *length);
+        assert!(rt; repeated_comes_out(&rt, rt.alloc(), SERIAL, repeated, *status, written)?);
+    }
+    Ok(())
+}
+
+/// A scenario that sends a message of so many bytes.
+fn message_of(alloc: Global, size: usize) -> Result<Vec<u8>, AllocError> {
     let mut text = Vec::from_slice(
         alloc,
         b"domain 0 nodes 1 pool 1\n0.0 create 0\n0.0 msg_send 0 0:0:0 1 ",
     )?;
-    for _ in 0..9000 {
+    for _ in 0..size {
         text.extend_from_slice(b"00")?;
     }
-    let mut longer = Vec::from_slice(alloc, &text)?;
     text.push(b'\n')?;
-    longer.extend_from_slice(b"00\n")?;
-    let (answer, output) = outcome_of(&rt, alloc, serial(&text))?;
-    assert_eq!(rt; answer, 0);
-    assert!(rt;
-        output.written().ends_with(
-            b"
+    Ok(text)
+}
+
+/// The end of the report of a message that fits no frame.
+const TOO_LONG_A_MESSAGE: &[u8] = b"
 idle 1
 call 2 msg_size
 messages accepted 0 taken 0 dropped 0 queued 0 ring 0
 lane 0 0 free 1 ring 0 queue 0 lent 0
 end
-"
-        )
-    );
-    assert_outcome(&rt, alloc, serial(&longer), 3, b"refused 3 bytes\n")
+";
+
+/// A message of 9,000 bytes is a scenario's, though it fits no frame; one of 9,001 is in none.
+#[test]
+fn longest_message(rt: HostRuntime) -> Result<(), Fail> {
+    let alloc = rt.alloc();
+    assert!(rt; ends_with(&rt, alloc, &message_of(alloc, 9000)?, TOO_LONG_A_MESSAGE)?);
+    let longer = message_of(alloc, 9001)?;
+    assert!(rt; comes_out(&rt, alloc, serial(&longer), 3, b"refused 3 bytes\n")?);
+    Ok(())
 }

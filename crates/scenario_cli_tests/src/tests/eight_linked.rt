@@ -217,7 +217,7 @@ lane 7 7 free 1 ring 0 queue 0 lent 0
 end
 ";
 
-const BOARD: [Outcome<'static>; 1] = [(SERIAL, EIGHT_LINKED, 0, EIGHT_LINKED_REPORT)];
+static BOARD: [Outcome<'static>; 1] = [(SERIAL, EIGHT_LINKED, 0, EIGHT_LINKED_REPORT)];
 
 #[test]
 fn eight_domains_all_linked(rt: HostRuntime) -> Result<(), Fail> {

@@ -1,5 +1,5 @@
-use crate::tests::{EMPTY, Given, assert_outcome};
-use std::alloc::{AllocError, Global};
+use crate::tests::{EMPTY, Given, comes_out, repeated_comes_out};
+use std::alloc::Global;
 use std::process::Abort;
 use std::test::Fail;
 use std::thread::Threads;
@@ -20,17 +20,6 @@ pub fn frame(text: &[u8]) -> Given<'_> {
     }
 }
 
-/// The text of these pieces, each as often as it stands there.
-pub fn joined(alloc: Global, pieces: &[(&str, usize)]) -> Result<Vec<u8>, AllocError> {
-    let mut text = Vec::new(alloc);
-    for (piece, times) in pieces {
-        for _ in 0..*times {
-            text.extend_from_slice(piece.as_bytes())?;
-        }
-    }
-    Ok(text)
-}
-
 /// A text, and the status and the line that come of it.
 type Told<'a> = (&'a [u8], u8, &'a str);
 
@@ -40,14 +29,17 @@ fn assert_told<T: Threads + Sync + Abort>(
     alloc: Global,
     rows: &[Told<'_>],
 ) -> Result<(), Fail> {
-    for (text, status, line) in rows {
-        assert_outcome(rt, alloc, frame(*text), *status, line.as_bytes())?;
+    for (i, (text, status, line)) in rows.iter().enumerate() {
+        assert!(rt;
+            comes_out(rt, alloc, frame(*text), *status, line.as_bytes())?,
+            "row {i}"
+        );
     }
     Ok(())
 }
 
 /// Frames whose lines are worked out by hand from the layouts.
-const WORKED: [Told<'static>; 8] = [
+static WORKED: [Told<'static>; 8] = [
     (MESSAGE, 0, MESSAGE_LINE),
     // Bytes after the payload.
     (
@@ -98,7 +90,7 @@ fn worked_frames(rt: HostRuntime) -> Result<(), Fail> {
 }
 
 /// Texts that spell bytes or none, whatever the bytes mean.
-const HEXADECIMAL: [Told<'static>; 19] = [
+static HEXADECIMAL: [Told<'static>; 19] = [
     (b"", 1, "wrong 0 frame_short\n"),
     (b" \t\r\n", 1, "wrong 0 frame_short\n"),
     (b"0", 1, "wrong 1 hex\n"),
@@ -128,19 +120,20 @@ fn hexadecimal_texts(rt: HostRuntime) -> Result<(), Fail> {
     assert_told(&rt, rt.alloc(), &HEXADECIMAL)
 }
 
+/// A byte and how often it stands, and the status and the line that come of it.
+static LIMITS: [((u8, usize), u8, &str); 4] = [
+    ((b'7', 8_388_608), 1, "wrong 4194304 frame_long\n"),
+    ((b'7', 8_388_607), 1, "wrong 8388607 hex\n"),
+    ((b' ', 8_388_608), 1, "wrong 0 frame_short\n"),
+    ((b'7', 8_388_609), 7, ""),
+];
+
 /// Inputs of the most bytes and of one more. The place of a frame that is too long is the number of its bytes.
 #[test]
 fn limit_of_the_text(rt: HostRuntime) -> Result<(), Fail> {
-    let alloc = rt.alloc();
-    let cases = [
-        (b'7', 8_388_608usize, 1u8, "wrong 4194304 frame_long\n"),
-        (b'7', 8_388_607, 1, "wrong 8388607 hex\n"),
-        (b' ', 8_388_608, 1, "wrong 0 frame_short\n"),
-        (b'7', 8_388_609, 7, ""),
-    ];
-    for (byte, length, status, line) in cases {
-        let text = Vec::from_elem(alloc, byte, length)?;
-        assert_outcome(&rt, alloc, frame(&text), status, line.as_bytes())?;
+    for (repeated, status, line) in &LIMITS {
+        let written = line.as_bytes();
+        assert!(rt; repeated_comes_out(&rt, rt.alloc(), FRAME, *repeated, *status, written)?);
     }
     Ok(())
 }
@@ -159,7 +152,7 @@ const WRONG: Given<'static> = Given {
 };
 
 /// What a stream that fails leaves: the status, and the first so many bytes of what was due.
-const CUTS: [(Given<'static>, u8, &str); 8] = [
+static CUTS: [(Given<'static>, u8, &str); 8] = [
     (
         Given {
             failing_read: 0,
@@ -201,9 +194,11 @@ const CUTS: [(Given<'static>, u8, &str); 8] = [
 
 #[test]
 fn streams_that_fail(rt: HostRuntime) -> Result<(), Fail> {
-    let alloc = rt.alloc();
-    for (given, status, written) in &CUTS {
-        assert_outcome(&rt, alloc, *given, *status, written.as_bytes())?;
+    for (i, (given, status, written)) in CUTS.iter().enumerate() {
+        assert!(rt;
+            comes_out(&rt, rt.alloc(), *given, *status, written.as_bytes())?,
+            "row {i}"
+        );
     }
     Ok(())
 }

@@ -288,7 +288,7 @@ lane 1 1 free 2 ring 0 queue 0 lent 0
 end
 ";
 
-const BOARDS: [Outcome<'static>; 4] = [
+static BOARDS: [Outcome<'static>; 4] = [
     (SERIAL, RING_OF_TWO, 0, RING_OF_TWO_REPORT),
     (SERIAL, LOOKED_UP_BEFORE, 0, LOOKED_UP_BEFORE_REPORT),
     (SERIAL, TRIES_OF_TWO, 0, TRIES_OF_TWO_REPORT),

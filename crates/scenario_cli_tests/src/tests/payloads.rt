@@ -1,6 +1,6 @@
-use crate::tests::assert_outcome;
-use crate::tests::frame::{frame, joined};
-use std::alloc::Global;
+use crate::tests::comes_out;
+use crate::tests::frame::frame;
+use std::alloc::{AllocError, Global};
 use std::process::Abort;
 use std::test::Fail;
 use std::thread::Threads;
@@ -17,10 +17,62 @@ const LONG_PACKET: &str = "00040000 01040000 00000000 f001 0000 4d01070001000000
 /// All before the bytes of a message of 489 bytes.
 const LONGER_MESSAGE: &str = "00040000 01040000 00000000 f101 0000 4d01010200000000";
 
+fn extend(text: &mut Vec<u8>, pieces: Pieces<'_>) -> Result<(), AllocError> {
+    for (piece, times) in pieces {
+        for _ in 0..*times {
+            text.extend_from_slice(piece.as_bytes())?;
+        }
+    }
+    Ok(())
+}
+
+fn joined(alloc: Global, pieces: Pieces<'_>) -> Result<Vec<u8>, AllocError> {
+    let mut text = Vec::new(alloc);
+    extend(&mut text, pieces)?;
+    Ok(text)
+}
+
+/// Whether this status and this line come of a text.
+fn is_told<T: Threads + Sync>(
+    rt: &T,
+    alloc: Global,
+    text: &[u8],
+    status: u8,
+    line: Pieces<'_>,
+) -> Result<bool, AllocError> {
+    let due = joined(alloc, line)?;
+    comes_out(rt, alloc, frame(text), status, &due)
+}
+
 /// The header's length, the payload, and the words of the line behind the first.
 type Payload<'a> = (&'a str, &'a str, &'a str);
 
-/// Asserts the status and the line of each payload: the first words of the line, and then its own.
+/// Whether this status and a line of these first words and its own come of a payload.
+fn is_payload_told<'a, T: Threads + Sync>(
+    rt: &T,
+    alloc: Global,
+    status: u8,
+    first: &'a str,
+    (len, payload, words): Payload<'a>,
+) -> Result<bool, AllocError> {
+    let text = joined(
+        alloc,
+        &[
+            ("00040000 01040000 00000000", 1),
+            (len, 1),
+            ("0000", 1),
+            (payload, 1),
+        ],
+    )?;
+    is_told(
+        rt,
+        alloc,
+        &text,
+        status,
+        &[(first, 1), (words, 1), ("\n", 1)],
+    )
+}
+
 fn assert_payloads<'a, T: Threads + Sync + Abort>(
     rt: &T,
     alloc: Global,
@@ -28,24 +80,14 @@ fn assert_payloads<'a, T: Threads + Sync + Abort>(
     first: &'a str,
     rows: &[Payload<'a>],
 ) -> Result<(), Fail> {
-    for (len, payload, words) in rows {
-        let text = joined(
-            alloc,
-            &[
-                ("00040000 01040000 00000000", 1),
-                (*len, 1),
-                ("0000", 1),
-                (*payload, 1),
-            ],
-        )?;
-        let line = joined(alloc, &[(first, 1), (*words, 1), ("\n", 1)])?;
-        assert_outcome(rt, alloc, frame(&text), status, &line)?;
+    for (i, row) in rows.iter().enumerate() {
+        assert!(rt; is_payload_told(rt, alloc, status, first, *row)?, "row {i}");
     }
     Ok(())
 }
 
 /// Each letter, and both ends of each range.
-const LETTERS: [Payload<'static>; 19] = [
+static LETTERS: [Payload<'static>; 19] = [
     ("0800", "4d01 01 00 00000000", "msg 0 -"),
     ("0900", "4d01 01 03 00000000 ff", "msg 3 ff"),
     ("0800", "4d01 02 00 01000000", "connect 1 packet"),
@@ -85,7 +127,7 @@ fn letters(rt: HostRuntime) -> Result<(), Fail> {
 }
 
 /// Each fault of a letter, and of two neighbours in the order the first.
-const FAULTS_OF_LETTERS: [Payload<'static>; 41] = [
+static FAULTS_OF_LETTERS: [Payload<'static>; 41] = [
     ("0700", "00010100 000000", "12 payload_short"),
     ("0700", "4d010100 00000000", "12 payload_short"),
     ("0800", "4c020100 00000000", "16 magic"),
@@ -138,7 +180,7 @@ fn faults_of_letters(rt: HostRuntime) -> Result<(), Fail> {
 /// An announcement: the header's length, the field of the name, and what follows it; and the status and the line.
 type Announcement<'a> = (&'a str, Pieces<'a>, &'a str, u8, Pieces<'a>);
 
-const ANNOUNCEMENTS: [Announcement<'static>; 20] = [
+static ANNOUNCEMENTS: [Announcement<'static>; 20] = [
     (
         "2800",
         &[("61", 1), ("00", 31)],
@@ -284,31 +326,31 @@ const ANNOUNCEMENTS: [Announcement<'static>; 20] = [
     ("0000", &[("00", 0)], "", 1, &[("wrong 12 ns_size\n", 1)]),
 ];
 
-fn assert_announcements<T: Threads + Sync + Abort>(
+fn is_announcement_told<T: Threads + Sync>(
     rt: &T,
     alloc: Global,
-    rows: &[Announcement<'_>],
-) -> Result<(), Fail> {
-    for (len, name, rest, status, told) in rows {
-        let mut text = joined(
-            alloc,
-            &[("00040000 35000000 00000000", 1), (*len, 1), ("0000", 1)],
-        )?;
-        text.extend_from_slice(&joined(alloc, *name)?)?;
-        text.extend_from_slice(rest.as_bytes())?;
-        let line = joined(alloc, *told)?;
-        assert_outcome(rt, alloc, frame(&text), *status, &line)?;
-    }
-    Ok(())
+    (len, name, rest, status, line): Announcement<'_>,
+) -> Result<bool, AllocError> {
+    let header = [("00040000 35000000 00000000", 1), (len, 1), ("0000", 1)];
+    let mut text = joined(alloc, &header)?;
+    extend(&mut text, name)?;
+    text.extend_from_slice(rest.as_bytes())?;
+    is_told(rt, alloc, &text, status, line)
 }
 
 #[test]
 fn announcements(rt: HostRuntime) -> Result<(), Fail> {
-    assert_announcements(&rt, rt.alloc(), &ANNOUNCEMENTS)
+    for (i, row) in ANNOUNCEMENTS.iter().enumerate() {
+        assert!(rt; is_announcement_told(&rt, rt.alloc(), *row)?, "row {i}");
+    }
+    Ok(())
 }
 
+/// A text, and the status and the line that come of it.
+type Frame<'a> = (Pieces<'a>, u8, Pieces<'a>);
+
 /// Frames of the most bytes, and of one more.
-const LONGEST_FRAMES: [(Pieces<'static>, u8, Pieces<'static>); 9] = [
+static LONGEST_FRAMES: [Frame<'static>; 9] = [
     (
         &[(LONG_MESSAGE, 1), ("a5", 488)],
         0,
@@ -345,13 +387,19 @@ const LONGEST_FRAMES: [(Pieces<'static>, u8, Pieces<'static>); 9] = [
     (&[("ff", 513)], 1, &[("wrong 513 frame_long\n", 1)]),
 ];
 
+fn is_frame_told<T: Threads + Sync>(
+    rt: &T,
+    alloc: Global,
+    (pieces, status, line): Frame<'_>,
+) -> Result<bool, AllocError> {
+    let text = joined(alloc, pieces)?;
+    is_told(rt, alloc, &text, status, line)
+}
+
 #[test]
 fn longest_frames(rt: HostRuntime) -> Result<(), Fail> {
-    let alloc = rt.alloc();
-    for (pieces, status, told) in &LONGEST_FRAMES {
-        let text = joined(alloc, *pieces)?;
-        let line = joined(alloc, *told)?;
-        assert_outcome(&rt, alloc, frame(&text), *status, &line)?;
+    for (i, row) in LONGEST_FRAMES.iter().enumerate() {
+        assert!(rt; is_frame_told(&rt, rt.alloc(), *row)?, "row {i}");
     }
     Ok(())
 }

@@ -4,7 +4,7 @@ use super::{Outcome, SERIAL, assert_outcomes};
 use std::test::Fail;
 
 /// Texts of no scenario, each with the first line that is refused and its first reason.
-const REFUSALS: [Outcome<'static>; 12] = [
+static REFUSALS: [Outcome<'static>; 12] = [
     (SERIAL, b"", 3, b"refused 1 domain\n"),
     (
         SERIAL,

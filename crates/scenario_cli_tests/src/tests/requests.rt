@@ -1,8 +1,7 @@
 //! Requests end to end: texts of scenarios, and what the report tells of their calls.
 
-use super::{MESSAGE, assert_outcome, outcome_of, serial};
+use super::{MESSAGE, comes_out, ends_with, outcome_of, serial};
 use std::alloc::{AllocError, Global};
-use std::process::Abort;
 use std::test::Fail;
 use std::thread::Threads;
 
@@ -239,34 +238,31 @@ fn joined(alloc: Global, first: &[u8], rest: &[u8]) -> Result<Vec<u8>, AllocErro
     Ok(all)
 }
 
-/// Asserts what the report of a case tells.
-fn assert_case<T: Threads + Sync + Abort>(
-    rt: &T,
-    alloc: Global,
-    case: Case<'_>,
-) -> Result<(), Fail> {
-    let text = joined(alloc, TWO_ENDPOINTS, case.lines)?;
-    let due = joined(alloc, TWO_CREATED, case.calls)?;
-    let report = assert_calls(rt, alloc, &text, &due)?;
-    assert!(rt; report.ends_with(case.end));
-    Ok(())
-}
-
-/// Asserts the lines of a report that tell calls, and answers the report.
-fn assert_calls<T: Threads + Sync + Abort>(
+/// Whether a text is run to its end, and its report tells just these calls and ends so.
+fn reports<T: Threads + Sync>(
     rt: &T,
     alloc: Global,
     text: &[u8],
     due: &[u8],
-) -> Result<Vec<u8>, Fail> {
+    end: &[u8],
+) -> Result<bool, AllocError> {
     let (status, output) = outcome_of(rt, alloc, serial(text))?;
-    assert_eq!(rt; status, 0);
     let calls = calls_in(alloc, output.written())?;
-    assert_eq!(rt; calls.as_slice(), due);
-    Ok(Vec::from_slice(alloc, output.written())?)
+    Ok(status == 0 && calls.as_slice() == due && output.written().ends_with(end))
 }
 
-const CASES: [Case<'static>; 10] = [
+/// Whether the report of a case tells what it must.
+fn is_reported<T: Threads + Sync>(
+    rt: &T,
+    alloc: Global,
+    case: Case<'_>,
+) -> Result<bool, AllocError> {
+    let text = joined(alloc, TWO_ENDPOINTS, case.lines)?;
+    let due = joined(alloc, TWO_CREATED, case.calls)?;
+    reports(rt, alloc, &text, &due, case.end)
+}
+
+static CASES: [Case<'static>; 10] = [
     BEST_FIRST,
     CANCELLED_AND_TESTED,
     NO_BYTES_ASKED,
@@ -281,9 +277,8 @@ const CASES: [Case<'static>; 10] = [
 
 #[test]
 fn requests_end_to_end(rt: HostRuntime) -> Result<(), Fail> {
-    let alloc = rt.alloc();
-    for case in &CASES {
-        assert_case(&rt, alloc, *case)?;
+    for (i, case) in CASES.iter().enumerate() {
+        assert!(rt; is_reported(&rt, rt.alloc(), *case)?, "row {i}");
     }
     Ok(())
 }
@@ -296,64 +291,88 @@ fn extend_by_bytes(text: &mut Vec<u8>, count: usize) -> Result<(), AllocError> {
     Ok(())
 }
 
-/// A message has at most 488 bytes, and may have none.
-#[test]
-fn sizes_of_messages(rt: HostRuntime) -> Result<(), Fail> {
-    let alloc = rt.alloc();
+/// Sends a message of so many bytes.
+fn extend_by_message(text: &mut Vec<u8>, size: usize) -> Result<(), AllocError> {
+    text.extend_from_slice(b"0.0 msg_send 1 0:0:2 0 ")?;
+    extend_by_bytes(text, size)?;
+    text.push(b'\n')?;
+    Ok(())
+}
+
+/// Sends messages of no byte, 488 and 489, and receives one.
+fn messages_of_sizes(alloc: Global) -> Result<Vec<u8>, AllocError> {
     let mut text = Vec::from_slice(
         alloc,
         b"domain 0 nodes 1 pool 2\n0.0 create 1\n0.0 create 2\n0.0 msg_send 1 0:0:2 0 -\n",
     )?;
-    for size in [488usize, 489] {
-        text.extend_from_slice(b"0.0 msg_send 1 0:0:2 0 ")?;
-        extend_by_bytes(&mut text, size)?;
-        text.push(b'\n')?;
-    }
+    extend_by_message(&mut text, 488)?;
+    extend_by_message(&mut text, 489)?;
     text.extend_from_slice(b"0.0 msg_recv 2 488\n")?;
-    assert_calls(
-        &rt,
-        alloc,
-        &text,
-        b"call 1 ok 1024\ncall 2 ok 1025\ncall 3 ok\ncall 4 ok\ncall 5 msg_size\ncall 6 ok 0 -\n",
-    )?;
+    Ok(text)
+}
+
+const CALLS_OF_SIZES: &[u8] =
+    b"call 1 ok 1024\ncall 2 ok 1025\ncall 3 ok\ncall 4 ok\ncall 5 msg_size\ncall 6 ok 0 -\n";
+
+/// A message has at most 488 bytes, and may have none.
+#[test]
+fn sizes_of_messages(rt: HostRuntime) -> Result<(), Fail> {
+    let text = messages_of_sizes(rt.alloc())?;
+    assert!(rt; reports(&rt, rt.alloc(), &text, CALLS_OF_SIZES, b"end\n")?);
     Ok(())
 }
 
-/// 64 requests stand and the next is refused, until one has ended.
-#[test]
-fn at_most_64_requests(rt: HostRuntime) -> Result<(), Fail> {
-    let alloc = rt.alloc();
-    let mut text = Vec::from_slice(alloc, b"domain 0 nodes 1 pool 1\n0.0 create 1\n")?;
+fn extend_by_requests(text: &mut Vec<u8>) -> Result<(), AllocError> {
     for tens in b'0'..=b'7' {
         for ones in b'0'..=b'7' {
             text.extend_from_slice(b"0.0 r")?;
-            text.push(tens)?;
-            text.push(ones)?;
+            text.extend_from_slice(&[tens, ones])?;
             text.extend_from_slice(b" = msg_recv_i 1 1\n")?;
         }
     }
+    Ok(())
+}
+
+/// Makes 64 requests and tries more, one of them after one of the first has ended.
+fn many_requests(alloc: Global) -> Result<Vec<u8>, AllocError> {
+    let mut text = Vec::from_slice(alloc, b"domain 0 nodes 1 pool 1\n0.0 create 1\n")?;
+    extend_by_requests(&mut text)?;
     text.extend_from_slice(
         b"0.0 late = msg_recv_i 1 1\n0.0 test late\n0.0 cancel r36\n0.0 next = msg_recv_i 1 1\n0.0 over = msg_recv_i 1 1\n",
     )?;
-    let (status, output) = outcome_of(&rt, alloc, serial(&text))?;
-    assert_eq!(rt; status, 0);
-    let calls = calls_in(alloc, output.written())?;
-    assert!(rt;
-        calls.ends_with(
-            b"call 65 ok 63
+    Ok(text)
+}
+
+const CALLS_AT_THE_LIMIT: &[u8] = b"call 65 ok 63
 call 66 request_limit
 call 67 request_invalid
 call 68 ok
 call 69 ok 64
 call 70 request_limit
-"
-        )
-    );
+";
+
+/// Whether a text is run to its end, and its report tells these calls last.
+fn ends_with_calls<T: Threads + Sync>(
+    rt: &T,
+    alloc: Global,
+    text: &[u8],
+    last: &[u8],
+) -> Result<bool, AllocError> {
+    let (status, output) = outcome_of(rt, alloc, serial(text))?;
+    let calls = calls_in(alloc, output.written())?;
+    Ok(status == 0 && calls.ends_with(last))
+}
+
+/// 64 requests stand and the next is refused, until one has ended.
+#[test]
+fn at_most_64_requests(rt: HostRuntime) -> Result<(), Fail> {
+    let text = many_requests(rt.alloc())?;
+    assert!(rt; ends_with_calls(&rt, rt.alloc(), &text, CALLS_AT_THE_LIMIT)?);
     Ok(())
 }
 
 /// Lines that are in no scenario, of labels and of a priority, each with the refusal.
-const LINES_OF_NONE: [(&[u8], &[u8]); 14] = [
+static LINES_OF_NONE: [(&[u8], &[u8]); 14] = [
     (b"0.0 msg_recv_i 1 1\n", b"refused 6 form\n"),
     (
         b"0.0 r = msg_recv_i 1 1\n0.0 r = msg_recv_i 1 1\n",
@@ -382,15 +401,23 @@ const LINES_OF_NONE: [(&[u8], &[u8]); 14] = [
 const LONGEST_LABEL: &[u8] =
     b"0.0 abcdefghijklmn_9 = msg_recv_i 1 9000\n0.0 test abcdefghijklmn_9\n";
 
+/// Whether lines after a scenario are refused so.
+fn is_refused<T: Threads + Sync>(
+    rt: &T,
+    alloc: Global,
+    lines: &[u8],
+    refusal: &[u8],
+) -> Result<bool, AllocError> {
+    let text = joined(alloc, MESSAGE, lines)?;
+    comes_out(rt, alloc, serial(&text), 3, refusal)
+}
+
 #[test]
 fn lines_of_no_scenario(rt: HostRuntime) -> Result<(), Fail> {
-    let alloc = rt.alloc();
-    for (line, refusal) in &LINES_OF_NONE {
-        let text = joined(alloc, MESSAGE, *line)?;
-        assert_outcome(&rt, alloc, serial(&text), 3, *refusal)?;
+    for (i, (lines, refusal)) in LINES_OF_NONE.iter().enumerate() {
+        assert!(rt; is_refused(&rt, rt.alloc(), *lines, *refusal)?, "row {i}");
     }
-    let text = joined(alloc, MESSAGE, LONGEST_LABEL)?;
-    let (status, _) = outcome_of(&rt, alloc, serial(&text))?;
-    assert_eq!(rt; status, 0);
+    let text = joined(rt.alloc(), MESSAGE, LONGEST_LABEL)?;
+    assert!(rt; ends_with(&rt, rt.alloc(), &text, b"end\n")?);
     Ok(())
 }

@@ -201,7 +201,7 @@ lane 0 0 free 1 ring 0 queue 0 lent 0
 end
 ";
 
-const BOARDS: [Outcome<'static>; 5] = [
+static BOARDS: [Outcome<'static>; 5] = [
     (SERIAL, DELETED_WITH_TWO, 0, DELETED_WITH_TWO_REPORT),
     (SERIAL, TRIES_ALONE, 0, TRIES_ALONE_REPORT),
     (SERIAL, OWN_NAME_TWICE, 0, OWN_NAME_TWICE_REPORT),
