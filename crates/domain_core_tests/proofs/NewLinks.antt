@@ -3,23 +3,16 @@ use Rattle.std.proofs.Common.{◌≡◌, ◌∙◌, ℕ, List, [], ◌∷◌, �
 use Rattle.std.proofs.lemmas.List.FromFn.{length-range_with_len}
 use Rattle.std.specs.List.{AllByRecursion}
 use Rattle.lane_end.specs.Numbers.{IsLaneSize}
-use Rattle.lane_end.specs.PlainSender.{Sender}
-use Rattle.lane_end.specs.PlainReceiver.{Receiver}
 use Rattle.domain_core.specs.Carrying.{PlainLink}
-use Rattle.domain_core.specs.Opening.{AreLinksOf, IsOpenLink}
-use Rattle.domain_core_tests.specs.NewLinks.{new_link}
-
-abbrev pub IsOpen : PlainLink → Type 0
-IsOpen l = IsOpenLink (λ (s : Sender). s.size) (λ (s : Sender). s.free) (λ (r : Receiver). r.size) (λ (r : Receiver). r.shown) (λ (r : Receiver). r.out) l
+use Rattle.domain_core.specs.Opening.{AreLinksOf}
+use Rattle.domain_core_tests.specs.NewLinks.{IsOpen, new_link}
 
 pub new-open : (peer size : ℕ) → IsLaneSize size → IsOpen (new_link peer size)
 new-open peer size fits = record { size_to_is = refl; size_from_is = refl; fits = fits.1; all_free = length-range_with_len 0 size; none_shown = refl; none_out = refl }
 
--- a list that holds one new link alone
-pub one-open : (ls first : List PlainLink) (l : PlainLink) (peer size : ℕ) → ls ≡ first ++ l ∷ [] → first ≡ [] → l ≡ new_link peer size → IsLaneSize size → AllByRecursion IsOpen ls
-one-open ls first l peer size items none is fits =
-    let same : ls ≡ l ∷ [] = items ∙ ap (λ (xs : List PlainLink). xs ++ l ∷ []) none in
-    subst (λ (xs : List PlainLink). AllByRecursion IsOpen xs) (sym same) (subst IsOpen (sym is) (new-open peer size fits), tt)
+-- a link that was just made is open
+pub link-open : (l : PlainLink) (peer size : ℕ) → l ≡ new_link peer size → IsLaneSize size → IsOpen l
+link-open l peer size is fits = subst IsOpen (sym is) (new-open peer size fits)
 
 -- ---- the links of a domain 3 to domains 0, 2 and 5
 

@@ -4,7 +4,7 @@ ghost use Rattle.domain_core.specs.Going.{Goes};
 
 use domain_core::{Domain, Entry, Journal, Places, may_cross_threads};
 use lane_end::{AnyRecv, AnySend, RecvEnd, SendEnd};
-use mc_base::{EndName, Fate, Local, NoMemory, Priority, Refusal};
+use mc_base::{EndName, Fate, Local, NoMemory, Priority, Refusal, RequestId};
 use std::alloc::Global;
 use std::process::Abort;
 use std::test::Fail;
@@ -43,6 +43,54 @@ fn alone(alloc: Global, nodes: u8, pool: u32) -> Result<Domain<AnySend, AnyRecv>
     Domain::open(alloc, 3, nodes, pool, Vec::new(alloc))
 }
 
+/// A domain without links, what it noted, and the ids of its requests.
+#[derive(Drop)]
+struct Lone {
+    journal: Journal,
+    ids: Vec<RequestId>,
+    domain: Domain<AnySend, AnyRecv>,
+}
+
+impl Lone {
+    /// With so many nodes, and so many buffers in its pool.
+    fn open(alloc: Global, nodes: u8, pool: u32) -> Result<Lone, Fail>
+        requires some_nodes { 1 ≤ nodes }
+        requires nodes { nodes ≤ 16 }
+        requires some_pool { 1 ≤ pool }
+        requires pool { pool ≤ 256 }
+    {
+        Ok(Lone {
+            journal: Journal::new(alloc)?,
+            ids: Vec::new(alloc),
+            domain: alone(alloc, nodes, pool)?,
+        })
+    }
+}
+
+/// Asserts something of a value, where it was made, and drops it. To drop what owns much takes long to prove, and so it is
+/// done here alone.
+fn assert_of<T: Drop, F: FnOnce(&mut T) -> Result<(), Fail>>(
+    opened: Result<T, Fail>,
+    assertion: F,
+) -> Result<(), Fail>
+    requires { F.IsAlwaysCallable assertion }
+{
+    checked(opened, assertion)?;
+    Ok(())
+}
+
+/// Asserts something of a value, where it was made, and gives it back.
+fn checked<T: Drop, F: FnOnce(&mut T) -> Result<(), Fail>>(
+    opened: Result<T, Fail>,
+    assertion: F,
+) -> Result<T, Fail>
+    requires { F.IsAlwaysCallable assertion }
+{
+    let mut value = opened?;
+    assertion(&mut value)?;
+    Ok(value)
+}
+
 /// Makes a call. Answers `None` where a message has other bytes than it must.
 fn made<S: SendEnd, R: RecvEnd>(
     domain: &mut Domain<S, R>,
@@ -59,13 +107,22 @@ fn made<S: SendEnd, R: RecvEnd>(
             domain,
             journal,
             from,
-            (3, to),
+            end_at(3, to),
             priority,
             byte,
             size,
         ),
-        SendAbroad(from, to) => sent(domain, journal, from, (4, to), 0, 0, 2),
+        SendAbroad(from, to) => sent(domain, journal, from, end_at(4, to), 0, 0, 2),
         Receive(port, max, byte) => received(domain, journal, port, max, byte),
+    }
+}
+
+/// The endpoint of a domain at node 0 and this port.
+fn end_at(domain: u8, port: u16) -> EndName {
+    EndName {
+        domain,
+        node: 0,
+        port,
     }
 }
 
@@ -73,7 +130,7 @@ fn sent<S: SendEnd, R: RecvEnd>(
     domain: &mut Domain<S, R>,
     journal: &mut Journal,
     from: u16,
-    to: (u8, u16),
+    to: EndName,
     priority: u8,
     byte: u8,
     size: usize,
@@ -91,12 +148,6 @@ fn sent<S: SendEnd, R: RecvEnd>(
     let from = Local {
         node: 0,
         port: from,
-    };
-    let (number, port) = to;
-    let to = EndName {
-        domain: number,
-        node: 0,
-        port,
     };
     let answer = domain.msg_send(journal, from, to, priority, bytes);
     Some(answer.map(|()| 0))
@@ -160,6 +211,11 @@ fn assert_answers<S: SendEnd, R: RecvEnd>(
     Ok(())
 }
 
+/// The same of a domain without links.
+fn assert_calls(rt: &impl Abort, lone: &mut Lone, rows: &[Answered]) -> Result<(), Fail> {
+    assert_answers(rt, &mut lone.domain, &mut lone.journal, rows)
+}
+
 const ANSWERS_OF_CALLS: [Answered; 20] = [
     (Create(0, 1), Ok(1024)),
     (Create(0, 2), Ok(1025)),
@@ -185,9 +241,9 @@ const ANSWERS_OF_CALLS: [Answered; 20] = [
 
 #[test]
 fn calls_answer(rt: HostRuntime) -> Result<(), Fail> {
-    let mut domain = alone(rt.alloc(), 2, 2)?;
-    let mut journal = Journal::new(rt.alloc())?;
-    assert_answers(&rt, &mut domain, &mut journal, &ANSWERS_OF_CALLS)
+    assert_of(Lone::open(rt.alloc(), 2, 2), |lone| {
+        assert_calls(&rt, lone, &ANSWERS_OF_CALLS)
+    })
 }
 
 const FOUR_PRIORITIES: [Answered; 8] = [
@@ -210,12 +266,12 @@ fn has_one_left(domain: &Domain<AnySend, AnyRecv>) -> bool {
 
 #[test]
 fn the_best_priority_comes_first(rt: HostRuntime) -> Result<(), Fail> {
-    let mut domain = alone(rt.alloc(), 1, 4)?;
-    let mut journal = Journal::new(rt.alloc())?;
-    assert_answers(&rt, &mut domain, &mut journal, &FOUR_PRIORITIES)?;
-    assert!(rt; has_one_left(&domain));
     may_cross_threads();
-    Ok(())
+    assert_of(Lone::open(rt.alloc(), 1, 4), |lone| {
+        assert_calls(&rt, lone, &FOUR_PRIORITIES)?;
+        assert!(rt; has_one_left(&lone.domain));
+        Ok(())
+    })
 }
 
 const MESSAGES_APART: [Answered; 12] = [
@@ -235,33 +291,31 @@ const MESSAGES_APART: [Answered; 12] = [
 
 #[test]
 fn each_message_keeps_its_own_bytes(rt: HostRuntime) -> Result<(), Fail> {
-    let mut domain = alone(rt.alloc(), 1, 2)?;
-    let mut journal = Journal::new(rt.alloc())?;
-    assert_answers(&rt, &mut domain, &mut journal, &MESSAGES_APART)?;
-    assert_eq!(rt; domain.messages_queued(), 0);
-    Ok(())
+    assert_of(Lone::open(rt.alloc(), 1, 2), |lone| {
+        assert_calls(&rt, lone, &MESSAGES_APART)?;
+        assert!(rt; lone.domain.messages_queued() == 0);
+        Ok(())
+    })
 }
 
 /// Makes 64 endpoints, and asserts that there is no more room.
-fn assert_filled(
-    rt: &impl Abort,
-    domain: &mut Domain<AnySend, AnyRecv>,
-    journal: &mut Journal,
-) -> Result<(), Fail> {
+fn assert_filled(rt: &impl Abort, lone: &mut Lone) -> Result<(), Fail> {
     for port in 0..64 {
         let row = (Create(0, port), Ok(1024 + u32::from(port)));
-        assert!(rt; answers(domain, journal, row)?, "{port}");
+        assert!(rt;
+            answers(&mut lone.domain, &mut lone.journal, row)?,
+            "{port}"
+        );
     }
-    let row = (Create(0, 64), Err(Refusal::EndpLimit));
-    assert!(rt; answers(domain, journal, row)?);
-    Ok(())
+    assert_calls(rt, lone, &[(Create(0, 64), Err(Refusal::EndpLimit))])
 }
 
 #[test]
 fn sixty_four_endpoints_at_once(rt: HostRuntime) -> Result<(), Fail> {
-    let mut domain = alone(rt.alloc(), 1, 1)?;
-    let mut journal = Journal::new(rt.alloc())?;
-    assert_filled(&rt, &mut domain, &mut journal)
+    assert_of(
+        Lone::open(rt.alloc(), 1, 1),
+        |lone| assert_filled(&rt, lone),
+    )
 }
 
 /// An entry as its kind, its peer or its line, its count or its fate, and how many bytes it has.
@@ -289,20 +343,25 @@ fn told(entry: Entry<'_>) -> Line {
 }
 
 /// Asserts that the journal's entries are these.
-fn assert_lines(rt: &impl Abort, journal: &Journal, lines: &[Line]) -> Result<(), Fail> {
+fn assert_lines(rt: &impl Abort, journal: &Journal, lines: &[Line]) {
     assert!(rt; journal.len() == lines.len());
-    assert_last_lines(rt, journal, lines)
+    assert_last_lines(rt, journal, lines);
 }
 
 /// Asserts that the journal's last entries are these.
-fn assert_last_lines(rt: &impl Abort, journal: &Journal, lines: &[Line]) -> Result<(), Fail> {
+fn assert_last_lines(rt: &impl Abort, journal: &Journal, lines: &[Line]) {
     let before = journal.len().saturating_sub(lines.len());
     for (i, line) in lines.iter().enumerate() {
-        let entry = journal.entry(before.saturating_add(i)).ok_or("entry")?;
-        assert!(rt; told(entry) == *line, "line {i}");
+        assert!(rt;
+            line_at(journal, before.saturating_add(i)) == Some(*line),
+            "line {i}"
+        );
     }
     assert!(rt; journal.entry(journal.len()).is_none());
-    Ok(())
+}
+
+fn line_at(journal: &Journal, i: usize) -> Option<Line> {
+    Some(told(journal.entry(i)?))
 }
 
 const CALLS: [Call; 5] = [
@@ -323,22 +382,19 @@ const LINES_OF_CALLS: [Line; 7] = [
     (b'b', 3, 1, 0),
 ];
 
-fn make_all(
-    domain: &mut Domain<AnySend, AnyRecv>,
-    journal: &mut Journal,
-    calls: &[Call],
-) -> Result<(), NoMemory> {
+fn make_all(lone: &mut Lone, calls: &[Call]) -> Result<(), NoMemory> {
     for call in calls {
-        journal.reserve(160, 67_584)?;
-        made(domain, journal, *call);
+        lone.journal.reserve(160, 67_584)?;
+        made(&mut lone.domain, &mut lone.journal, *call);
     }
     Ok(())
 }
 
 #[test]
 fn what_happens_is_noted(rt: HostRuntime) -> Result<(), Fail> {
-    let mut domain = alone(rt.alloc(), 1, 2)?;
-    let mut journal = Journal::new(rt.alloc())?;
-    make_all(&mut domain, &mut journal, &CALLS)?;
-    assert_lines(&rt, &journal, &LINES_OF_CALLS)
+    assert_of(Lone::open(rt.alloc(), 1, 2), |lone| {
+        make_all(lone, &CALLS)?;
+        assert_lines(&rt, &lone.journal, &LINES_OF_CALLS);
+        Ok(())
+    })
 }

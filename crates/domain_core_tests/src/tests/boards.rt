@@ -1,10 +1,12 @@
 //! Two domains that are linked.
 
-ghost use Rattle.std.specs.Prelude.{◌≡◌, ◌≤◌, IfOk};
+ghost use Rattle.std.specs.Prelude.{◌≡◌, ◌≤◌, ◌∷◌, [], IfOk};
 ghost use Rattle.domain_core.specs.Carrying.{AreJoined};
+ghost use Rattle.domain_core.specs.Opening.{AreLinksOf, ends_opened};
+ghost use Rattle.lane_end.specs.Loop.{new_loop};
 ghost use Rattle.lane_end.specs.Numbers.{IsLaneSize};
 ghost use Rattle.domain_core.specs.Going.{PlainGoes};
-ghost use Rattle.domain_core_tests.specs.NewLinks.{new_link};
+ghost use Rattle.domain_core_tests.specs.NewLinks.{IsOpen, new_link};
 
 use super::steps::Said::{Address, Held, Idle, Message, Number};
 use super::steps::Step::{Available, Begin, Cancel, Delete, Lookup, Plain, Test, Turn};
@@ -69,13 +71,9 @@ impl Pair {
     /// Whose link has so many buffers each way.
     fn open(alloc: Global, size: u32) -> Result<Pair, Fail> {
         let (there, back) = link(alloc, size)?;
-        let mut links_of_three = Vec::new(alloc);
-        links_of_three.push(there)?;
-        let mut links_of_four = Vec::new(alloc);
-        links_of_four.push(back)?;
         Ok(Pair {
-            three: Domain::open(alloc, 3, 1, 2, links_of_three)?,
-            four: Domain::open(alloc, 4, 1, 2, links_of_four)?,
+            three: linked(alloc, 3, there)?,
+            four: linked(alloc, 4, back)?,
         })
     }
 
@@ -106,17 +104,17 @@ type Outcome = Result<Option<steps::Answered>, NoMemory>;
 /// The two domains, and what they noted.
 #[derive(Drop)]
 struct Board {
-    pair: Pair,
     threes: Notes,
     fours: Notes,
+    pair: Pair,
 }
 
 impl Board {
     fn open(alloc: Global, size: u32) -> Result<Board, Fail> {
         Ok(Board {
-            pair: Pair::open(alloc, size)?,
             threes: no_notes(alloc)?,
             fours: no_notes(alloc)?,
+            pair: Pair::open(alloc, size)?,
         })
     }
 
@@ -151,6 +149,20 @@ fn no_notes(alloc: Global) -> Result<Notes, NoMemory> {
         journal: Journal::new(alloc)?,
         ids: Vec::new(alloc),
     })
+}
+
+/// A domain of one node and a pool of two buffers, with this link.
+fn linked(alloc: Global, number: u8, link: PlainLink) -> Result<PlainDomain, Fail>
+    requires number { number ≤ 7 }
+    requires peers { AreLinksOf number (link ∷ []) }
+    requires open { IsOpen link }
+    ensures number { IfOk result (λ d. d.state.number ≡ number) }
+    ensures ends { IfOk result (λ d. d.ends ≡ ends_opened number (new_loop 2) (link ∷ [])) }
+{
+    let mut links = Vec::new(alloc);
+    links.push(link)?;
+    let domain = Domain::open(alloc, number, 1, 2, links)?;
+    Ok(domain)
 }
 
 /// The ends of a link between domains 3 and 4.
@@ -207,8 +219,9 @@ fn assert_deeds(rt: &impl Abort, board: &mut Board, rows: &[Row]) -> Result<(), 
 
 /// The same of a new board, whose link has so many buffers each way.
 fn assert_all(rt: &impl Abort, alloc: Global, size: u32, rows: &[Row]) -> Result<(), Fail> {
-    let mut board = Board::open(alloc, size)?;
-    assert_deeds(rt, &mut board, rows)
+    assert_of(Board::open(alloc, size), |board| {
+        assert_deeds(rt, board, rows)
+    })
 }
 
 const CARRIED: Row = (Carry, Ok(Number(0)));

@@ -1,6 +1,6 @@
 //! What becomes of the frames of a linked domain, whatever bytes they have.
 
-ghost use Rattle.std.specs.Prelude.{◌≡◌, ◌≤◌, ◌<◌, [], IfOk, length};
+ghost use Rattle.std.specs.Prelude.{◌≡◌, ◌≤◌, ◌<◌, [], IfOk, IsTrue, length};
 ghost use Rattle.lane_end.specs.PlainLane.{AreOneLane};
 ghost use Rattle.lane_end.specs.AnySender as any_sender;
 ghost use Rattle.lane_end.specs.AnyReceiver as any_receiver;
@@ -65,6 +65,16 @@ impl Feed {
         }
     }
 
+    fn give_all(&mut self, rows: &[Row]) {
+        for (given, _) in rows {
+            match *given {
+                Frame(bytes) => self.give(bytes),
+                Name(name, addr, flags) => self.give(&announced(name, addr, flags)),
+                Port(port, addr) => self.give(&port_announced(port, addr)),
+            }
+        }
+    }
+
     /// Lets a frame of 1 to 512 bytes come.
     fn give(&mut self, frame: &[u8]) {
         if self.send.free_len() == 0 || frame.is_empty() || frame.len() > 512 {
@@ -105,87 +115,95 @@ fn fed(alloc: Global, rows: &[Row]) -> Result<Domain<AnySend, AnyRecv>, Fail> {
     let Ok(mut feed) = Feed::new(alloc) else {
         return Err("no lane".into());
     };
-    for (given, _) in rows {
-        match *given {
-            Frame(bytes) => feed.give(bytes),
-            Name(name, addr, flags) => feed.give(&announced(name, addr, flags)),
-            Port(port, addr) => feed.give(&port_announced(port, addr)),
-        }
-    }
+    feed.give_all(rows);
     let mut links = Vec::new(alloc);
     links.push(feed.into_link(alloc)?)?;
     let domain = Domain::open(alloc, 0, 1, 2, links)?;
     Ok(domain)
 }
 
+/// Domain 0, linked to domain 1, and what it noted.
+#[derive(Drop)]
+struct Noted {
+    journal: Journal,
+    domain: Domain<AnySend, AnyRecv>,
+}
+
+impl Noted {
+    /// From domain 1 these frames have come.
+    fn open(alloc: Global, rows: &[Row]) -> Result<Noted, Fail> {
+        Ok(Noted {
+            journal: Journal::new(alloc)?,
+            domain: fed(alloc, rows)?,
+        })
+    }
+}
+
 /// A frame that comes, and what becomes of it.
 type Row = (Given, Fate);
 
 /// Asserts what became of the frames that were taken.
-fn assert_fates(rt: &impl Abort, journal: &Journal, rows: &[Row]) -> Result<(), Fail> {
+fn assert_fates(rt: &impl Abort, journal: &Journal, rows: &[Row]) {
     let mut taken = 0;
     for i in 0..journal.len() {
         if let Some(Entry::Take { fate, .. }) = journal.entry(i) {
-            let (_, due) = rows.get(taken).ok_or("no such frame")?;
-            assert_eq!(rt; fate, *due, "frame {taken}");
+            assert!(rt; is_due(rows, taken, fate), "frame {taken}");
             taken += 1;
         }
     }
-    assert_eq!(rt; taken, rows.len());
-    Ok(())
+    assert!(rt; taken == rows.len());
+}
+
+/// Whether there is such a frame, and this is what becomes of it.
+fn is_due(rows: &[Row], frame: usize, fate: Fate) -> bool
+    ensures { IsTrue result → frame < length rows.now }
+{
+    match rows.get(frame) {
+        Some((_, due)) => *due == fate,
+        None => false,
+    }
 }
 
 /// Makes an endpoint at port 1, and makes turns until all frames are taken, 8 a turn.
-fn assert_dealt(
-    rt: &impl Abort,
-    alloc: Global,
-    rows: &[Row],
-) -> Result<Domain<AnySend, AnyRecv>, Fail> {
-    let mut domain = fed(alloc, rows)?;
-    let mut journal = Journal::new(alloc)?;
-    assert_answers(rt, &mut domain, &mut journal, &[(Create(0, 1), Ok(1024))])?;
+fn assert_dealt(rt: &impl Abort, noted: &mut Noted, rows: &[Row]) -> Result<(), Fail> {
+    let row = (Create(0, 1), Ok(1024));
+    assert_answers(rt, &mut noted.domain, &mut noted.journal, &[row])?;
     for _ in 0..rows.len() / 8 {
-        journal.reserve(160, 67_584)?;
-        domain.turn(&mut journal);
+        noted.journal.reserve(160, 67_584)?;
+        noted.domain.turn(&mut noted.journal);
     }
-    assert_fates(rt, &journal, rows)?;
-    Ok(domain)
+    assert_fates(rt, &noted.journal, rows);
+    Ok(())
 }
 
 /// Asserts that a lookup of endpoint 1:0:N finds an address, or waits.
 fn assert_known(
     rt: &impl Abort,
-    alloc: Global,
-    domain: &mut Domain<AnySend, AnyRecv>,
+    noted: &mut Noted,
     port: u16,
     due: Result<Done, Refusal>,
 ) -> Result<(), Fail> {
-    let mut journal = Journal::new(alloc)?;
-    journal.reserve(160, 67_584)?;
-    let name = EndName {
-        domain: 1,
-        node: 0,
-        port,
-    };
-    let id = domain.lookup(&mut journal, name)?;
-    assert_eq!(rt; end_of(alloc, domain, id)?, due, "{port}");
+    let id = looked_up(noted, port)?;
+    assert!(rt; end_of(noted, id)? == due, "{port}");
     Ok(())
 }
 
-/// How a request ends, of which no bytes come.
-fn end_of(
-    alloc: Global,
-    domain: &mut Domain<AnySend, AnyRecv>,
-    id: RequestId,
-) -> Result<Result<Done, Refusal>, NoMemory> {
-    let mut journal = Journal::new(alloc)?;
-    journal.reserve(160, 67_584)?;
-    let mut out = [0; 488];
-    Ok(domain.test(&mut journal, id, &mut out))
+/// Begins a lookup of endpoint 1:0:N.
+fn looked_up(noted: &mut Noted, port: u16) -> Result<RequestId, Fail> {
+    noted.journal.reserve(160, 67_584)?;
+    Ok(noted.domain.lookup(&mut noted.journal, end_at(1, port))?)
 }
 
-/// Frames of each kind. The endpoint is there when the ninth is taken.
-const DEALT: [Row; 31] = [
+/// How a request ends, of which no bytes come.
+fn end_of(noted: &mut Noted, id: RequestId) -> Result<Result<Done, Refusal>, NoMemory> {
+    let mut out = [0; 488];
+    noted.journal.reserve(160, 67_584)?;
+    Ok(noted.domain.test(&mut noted.journal, id, &mut out))
+}
+
+/// Frames of each kind. The endpoint is there when the ninth is taken. A static, since a constant's byte strings are proved
+/// again in each function that names it.
+static DEALT: [Row; 31] = [
     (
         Frame(b"\x00\x04\x00\x00\x00\x04\x00\x00\x00\x00\x00\x00\x00\x00\x00"),
         Fate::FrameShort,
@@ -302,23 +320,25 @@ const RECEIVED_OF_DEALT: [Answered; 5] = [
 ];
 
 /// Asserts what the frames of each kind have left.
-fn assert_left(
-    rt: &impl Abort,
-    alloc: Global,
-    domain: &mut Domain<AnySend, AnyRecv>,
-) -> Result<(), Fail> {
-    assert!(rt; domain.places(1) == Some(Places { queue: 3, lent: 0 }));
+fn assert_left(rt: &impl Abort, noted: &mut Noted) -> Result<(), Fail> {
+    assert!(rt; noted.domain.places(1) == Some(Places { queue: 3, lent: 0 }));
     // The name that was announced twice has the later address.
-    assert_known(rt, alloc, domain, 1, Ok(Done::Address(1031)))?;
-    assert_known(rt, alloc, domain, 2, Err(Refusal::Pending))?;
-    let mut journal = Journal::new(alloc)?;
-    assert_answers(rt, domain, &mut journal, &RECEIVED_OF_DEALT)
+    assert_known(rt, noted, 1, Ok(Done::Address(1031)))?;
+    assert_known(rt, noted, 2, Err(Refusal::Pending))?;
+    assert_answers(
+        rt,
+        &mut noted.domain,
+        &mut noted.journal,
+        &RECEIVED_OF_DEALT,
+    )
 }
 
 #[test]
 fn each_frame_has_its_word(rt: HostRuntime) -> Result<(), Fail> {
-    let mut domain = assert_dealt(&rt, rt.alloc(), &DEALT)?;
-    assert_left(&rt, rt.alloc(), &mut domain)
+    assert_of(Noted::open(rt.alloc(), &DEALT), |noted| {
+        assert_dealt(&rt, noted, &DEALT)?;
+        assert_left(&rt, noted)
+    })
 }
 
 /// 65 names, a known one with another address, one that is gone, and the last again.
@@ -345,20 +365,18 @@ const KNOWN: [Known; 5] = [
     (74, Ok(Done::Address(3001))),
 ];
 
-fn assert_all_known(
-    rt: &impl Abort,
-    alloc: Global,
-    domain: &mut Domain<AnySend, AnyRecv>,
-    rows: &[Known],
-) -> Result<(), Fail> {
+fn assert_all_known(rt: &impl Abort, noted: &mut Noted, rows: &[Known]) -> Result<(), Fail> {
     for (port, due) in rows {
-        assert_known(rt, alloc, domain, *port, *due)?;
+        assert_known(rt, noted, *port, *due)?;
     }
     Ok(())
 }
 
 #[test]
 fn sixty_five_names_of_a_peer(rt: HostRuntime) -> Result<(), Fail> {
-    let mut domain = assert_dealt(&rt, rt.alloc(), &many_names())?;
-    assert_all_known(&rt, rt.alloc(), &mut domain, &KNOWN)
+    let rows = many_names();
+    assert_of(Noted::open(rt.alloc(), &rows), |noted| {
+        assert_dealt(&rt, noted, &rows)?;
+        assert_all_known(&rt, noted, &KNOWN)
+    })
 }

@@ -2,6 +2,7 @@ ghost use Rattle.std.specs.Prelude.{◌≤◌, ◌<◌, length};
 
 use domain_core::{Link, PeerLane};
 use lane_end::{LoopLane, plain_lane};
+use std::process::Abort;
 use std::test::Fail;
 
 // Puts a frame, looks at the frames that came and takes one, gives its buffer back, and looks at the buffers: what both
@@ -21,25 +22,27 @@ fn round<P: PeerLane>(lane: &mut P, frame: &[u8]) -> (u32, u32)
     (shown, lane.look_back())
 }
 
+// Asserts what both looks show in a round, and how many buffers are free then.
+fn assert_round<P: PeerLane + Drop>(rt: &impl Abort, mut lane: P, shown: (u32, u32), free: u32) {
+    assert!(rt; round(&mut lane, b"a") == shown);
+    assert!(rt; lane.free_len() == free);
+}
+
 #[test]
 fn lanes_of_both_kinds(rt: HostRuntime) -> Result<(), Fail> {
-    let Ok(mut own) = LoopLane::new(rt.alloc(), 2) else {
+    let Ok(own) = LoopLane::new(rt.alloc(), 2) else {
         return Err("no lane".into());
     };
-    let (shown, back) = round(&mut own, b"a");
-    assert_eq!(rt; (shown, back), (1, 1));
-    assert_eq!(rt; PeerLane::free_len(&own), 2);
+    assert_round(&rt, own, (1, 1), 2);
     let Ok((send, recv)) = plain_lane(rt.alloc(), 2) else {
         return Err("no lane".into());
     };
-    let mut link = Link {
+    let link = Link {
         peer: 1,
         size: 2,
         send,
         recv,
     };
-    let (shown, back) = round(&mut link, b"a");
-    assert_eq!(rt; (shown, back), (0, 0));
-    assert_eq!(rt; link.free_len(), 1);
+    assert_round(&rt, link, (0, 0), 1);
     Ok(())
 }

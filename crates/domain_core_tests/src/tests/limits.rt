@@ -52,12 +52,15 @@ type Row = (u8, u32, u32);
 /// The creation of the endpoint was put to each.
 const AFTER_A_CREATION: [Row; 3] = [(0, 1, 0), (2, 2, 1), (5, 256, 255)];
 
-fn assert_links(rt: &impl Abort, links: &[PlainLink], rows: &[Row]) -> Result<(), Fail> {
-    assert_eq!(rt; links.len(), rows.len());
+fn row_of(link: &PlainLink) -> Row {
+    (link.peer, link.size, link.send.free_len())
+}
+
+fn assert_links(rt: &impl Abort, links: &[PlainLink], rows: &[Row]) {
+    assert!(rt; links.len() == rows.len());
     for (link, row) in links.iter().zip(rows) {
-        assert_eq!(rt; (link.peer, link.size, link.send.free_len()), *row);
+        assert!(rt; row_of(link) == *row);
     }
-    Ok(())
 }
 
 /// Asserts that there are lanes to these domains, and to no other.
@@ -72,35 +75,48 @@ fn assert_peers(rt: &impl Abort, domain: &Domain<PlainSend, PlainRecv>, peers: &
 /// Makes an endpoint and a turn, and asserts that they go well.
 fn assert_created(
     rt: &impl Abort,
-    alloc: Global,
     domain: &mut Domain<PlainSend, PlainRecv>,
+    journal: &mut Journal,
 ) -> Result<(), Fail> {
-    let mut journal = Journal::new(alloc)?;
-    assert!(rt; answers(domain, &mut journal, (Create(0, 1), Ok(1024)))?);
+    assert_answers(rt, domain, journal, &[(Create(0, 1), Ok(1024))])?;
     journal.reserve(160, 67_584)?;
-    assert!(rt; !domain.turn(&mut journal));
+    assert!(rt; !domain.turn(journal));
     Ok(())
 }
 
 #[test]
 fn links_of_each_size_are_opened_and_given_back(rt: HostRuntime) -> Result<(), Fail> {
-    let mut domain = between(rt.alloc())?;
-    assert_peers(&rt, &domain, &[0, 2, 3, 5]);
-    assert_created(&rt, rt.alloc(), &mut domain)?;
-    assert_links(&rt, &domain.into_links(), &AFTER_A_CREATION)
+    let mut journal = Journal::new(rt.alloc())?;
+    let domain = checked(between(rt.alloc()), |domain| {
+        assert_peers(&rt, domain, &[0, 2, 3, 5]);
+        assert_created(&rt, domain, &mut journal)
+    })?;
+    assert_links(&rt, &domain.into_links(), &AFTER_A_CREATION);
+    Ok(())
+}
+
+/// Whether an endpoint is made, with this address, and deleted.
+fn comes_and_goes(lone: &mut Lone, address: u32) -> Result<bool, NoMemory> {
+    let at = Local { node: 0, port: 1 };
+    // Neither call uses more than its part of the room.
+    lone.journal.reserve(2 * CALL_ENTRIES, 2 * CALL_BYTES)?;
+    Ok(
+        lone.domain.create(&mut lone.journal, at) == Ok(address)
+            && lone.domain.delete(&mut lone.journal, at) == Ok(0),
+    )
+}
+
+/// Makes 60,000 endpoints, and asserts that there is no address for another.
+fn assert_all_spent(rt: &impl Abort, lone: &mut Lone) -> Result<(), Fail> {
+    for i in 0..60_000 {
+        assert!(rt; comes_and_goes(lone, 1024 + i)?, "{i}");
+    }
+    assert_calls(rt, lone, &[(Create(0, 1), Err(Refusal::AddressSpent))])
 }
 
 #[test]
 fn sixty_thousand_endpoints_one_after_the_other(rt: HostRuntime) -> Result<(), Fail> {
-    let mut domain = alone(rt.alloc(), 1, 1)?;
-    let mut journal = Journal::new(rt.alloc())?;
-    let at = Local { node: 0, port: 1 };
-    for i in 0..60_000 {
-        // Neither call uses more than its part of the room.
-        journal.reserve(2 * CALL_ENTRIES, 2 * CALL_BYTES)?;
-        assert_eq!(rt; domain.create(&mut journal, at), Ok(1024 + i), "{i}");
-        assert_eq!(rt; domain.delete(&mut journal, at), Ok(0), "{i}");
-    }
-    let row = (Create(0, 1), Err(Refusal::AddressSpent));
-    assert_answers(&rt, &mut domain, &mut journal, &[row])
+    assert_of(Lone::open(rt.alloc(), 1, 1), |lone| {
+        assert_all_spent(&rt, lone)
+    })
 }

@@ -5,7 +5,7 @@ ghost use Rattle.domain_core.specs.Ends.{EndsMoved};
 ghost use Rattle.domain_core.specs.Going.{Goes};
 
 use super::*;
-use mc_base::{Done, RequestId};
+use mc_base::Done;
 
 mod endpoints;
 mod requests;
@@ -84,16 +84,11 @@ pub fn stepped<S: SendEnd, R: RecvEnd>(
         }
         Begin(port, max) => {
             let answer = domain.msg_recv_i(journal, Local { node: 0, port }, max);
-            begun(ids, answer).map(Some)
+            begun(ids, answer)
         }
         Lookup(number, port) => {
-            let name = EndName {
-                domain: number,
-                node: 0,
-                port,
-            };
-            let answer = domain.lookup(journal, name);
-            begun(ids, answer).map(Some)
+            let answer = domain.lookup(journal, end_at(number, port));
+            begun(ids, answer)
         }
         Available(port) => {
             let answer = domain.msg_available(journal, Local { node: 0, port });
@@ -116,15 +111,15 @@ fn number(answer: Result<u32, Refusal>) -> Answered {
 fn begun(
     ids: &mut Vec<RequestId>,
     answer: Result<RequestId, Refusal>,
-) -> Result<Answered, NoMemory> {
+) -> Result<Option<Answered>, NoMemory> {
     match answer {
         Ok(id) => {
             if ids.push(id).is_err() {
                 return Err(NoMemory);
             }
-            Ok(Ok(Number(id.serial)))
+            Ok(Some(Ok(Number(id.serial))))
         }
-        Err(word) => Ok(Err(word)),
+        Err(word) => Ok(Some(Err(word))),
     }
 }
 
@@ -161,28 +156,6 @@ fn places((queue, lent): (u32, u32)) -> Option<Places> {
     Some(Places { queue, lent })
 }
 
-/// A domain without links, what it noted, and the ids of its requests.
-#[derive(Drop)]
-struct Lone {
-    domain: Domain<AnySend, AnyRecv>,
-    journal: Journal,
-    ids: Vec<RequestId>,
-}
-
-impl Lone {
-    /// Whose pool has so many buffers.
-    fn open(alloc: Global, pool: u32) -> Result<Lone, NoMemory>
-        requires some_pool { 1 ≤ pool }
-        requires pool { pool ≤ 256 }
-    {
-        Ok(Lone {
-            domain: alone(alloc, 1, pool)?,
-            journal: Journal::new(alloc)?,
-            ids: Vec::new(alloc),
-        })
-    }
-}
-
 /// Whether a call answers what it must, and this is held from then on.
 fn holds(lone: &mut Lone, (step, due, held): Row) -> Result<bool, NoMemory> {
     lone.journal.reserve(160, 67_584)?;
@@ -200,6 +173,5 @@ fn assert_rows(rt: &impl Abort, lone: &mut Lone, rows: &[Row]) -> Result<(), Fai
 
 /// The same in a new domain, whose pool has two buffers.
 fn assert_all(rt: &impl Abort, alloc: Global, rows: &[Row]) -> Result<(), Fail> {
-    let mut lone = Lone::open(alloc, 2)?;
-    assert_rows(rt, &mut lone, rows)
+    assert_of(Lone::open(alloc, 1, 2), |lone| assert_rows(rt, lone, rows))
 }

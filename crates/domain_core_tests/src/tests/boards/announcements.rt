@@ -96,10 +96,11 @@ fn are_all_acted_on(journal: &Journal) -> bool {
 
 #[test]
 fn what_is_owed_is_told_in_order(rt: HostRuntime) -> Result<(), Fail> {
-    let mut board = Board::open(rt.alloc(), 2)?;
-    assert_deeds(&rt, &mut board, &CREATED_AND_DELETED)?;
-    assert!(rt; are_all_acted_on(&board.fours.journal));
-    Ok(())
+    assert_of(Board::open(rt.alloc(), 2), |board| {
+        assert_deeds(&rt, board, &CREATED_AND_DELETED)?;
+        assert!(rt; are_all_acted_on(&board.fours.journal));
+        Ok(())
+    })
 }
 
 /// The buffers of the link are carried there and back, and each domain makes a turn.
@@ -149,8 +150,9 @@ fn assert_in_use(rt: &impl Abort, board: &mut Board) -> Result<(), Fail> {
 
 #[test]
 fn a_record_is_in_use_until_the_end_is_told(rt: HostRuntime) -> Result<(), Fail> {
-    let mut board = Board::open(rt.alloc(), 2)?;
-    assert_in_use(&rt, &mut board)
+    assert_of(Board::open(rt.alloc(), 2), |board| {
+        assert_in_use(&rt, board)
+    })
 }
 
 const NINE: [Row; 7] = [
@@ -200,12 +202,12 @@ const LINES_OF_NINE_OWED: [Line; 13] = [
 fn assert_nine(rt: &impl Abort, board: &mut Board) -> Result<(), Fail> {
     create_all(rt, board, 18)?;
     assert_deeds(rt, board, &NINE)?;
-    assert_lines(rt, &board.fours.journal, &LINES_OF_NINE_TAKEN)?;
-    assert_last_lines(rt, &board.threes.journal, &LINES_OF_NINE_OWED)
+    assert_lines(rt, &board.fours.journal, &LINES_OF_NINE_TAKEN);
+    assert_last_lines(rt, &board.threes.journal, &LINES_OF_NINE_OWED);
+    Ok(())
 }
 
 #[test]
 fn a_turn_puts_and_takes_eight_frames(rt: HostRuntime) -> Result<(), Fail> {
-    let mut board = Board::open(rt.alloc(), 9)?;
-    assert_nine(&rt, &mut board)
+    assert_of(Board::open(rt.alloc(), 9), |board| assert_nine(&rt, board))
 }

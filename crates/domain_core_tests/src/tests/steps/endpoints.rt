@@ -85,18 +85,18 @@ fn assert_filled(rt: &impl Abort, lone: &mut Lone) -> Result<(), Fail> {
     for port in 0..64u16 {
         let serial = u64::from(port);
         let lookup = (Lookup(3, 99), Ok(Number(serial)), (0, 0));
-        assert!(rt; holds(lone, lookup)?, "{port}");
         let create = (Plain(Create(0, port)), Ok(Number(1024 + serial)), (0, 0));
-        assert!(rt; holds(lone, create)?, "{port}");
+        assert!(rt; holds(lone, lookup)? && holds(lone, create)?, "{port}");
     }
     Ok(())
 }
 
 #[test]
 fn sixty_four_lookups_and_endpoints(rt: HostRuntime) -> Result<(), Fail> {
-    let mut lone = Lone::open(rt.alloc(), 1)?;
-    assert_filled(&rt, &mut lone)?;
-    assert_rows(&rt, &mut lone, &LIMITS)
+    assert_of(Lone::open(rt.alloc(), 1, 1), |lone| {
+        assert_filled(&rt, lone)?;
+        assert_rows(&rt, lone, &LIMITS)
+    })
 }
 
 const TURNS: [Row; 6] = [

@@ -76,8 +76,7 @@ const LIMIT: [Row; 3] = [
 
 /// Makes an endpoint, and requests 64 messages there.
 fn assert_filled(rt: &impl Abort, lone: &mut Lone) -> Result<(), Fail> {
-    let create = (Plain(Create(0, 1)), Ok(Number(1024)), (0, 0));
-    assert!(rt; holds(lone, create)?);
+    assert_rows(rt, lone, &[(Plain(Create(0, 1)), Ok(Number(1024)), (0, 0))])?;
     for serial in 0..64 {
         let row = (Begin(1, 8), Ok(Number(serial)), (0, 0));
         assert!(rt; holds(lone, row)?, "{serial}");
@@ -87,9 +86,10 @@ fn assert_filled(rt: &impl Abort, lone: &mut Lone) -> Result<(), Fail> {
 
 #[test]
 fn sixty_four_requests_at_once(rt: HostRuntime) -> Result<(), Fail> {
-    let mut lone = Lone::open(rt.alloc(), 1)?;
-    assert_filled(&rt, &mut lone)?;
-    assert_rows(&rt, &mut lone, &LIMIT)
+    assert_of(Lone::open(rt.alloc(), 1, 1), |lone| {
+        assert_filled(&rt, lone)?;
+        assert_rows(&rt, lone, &LIMIT)
+    })
 }
 
 const HANDED: [Row; 4] = [
@@ -109,7 +109,9 @@ const LINES_OF_HANDED: [Line; 5] = [
 
 #[test]
 fn a_handed_message_is_noted(rt: HostRuntime) -> Result<(), Fail> {
-    let mut lone = Lone::open(rt.alloc(), 1)?;
-    assert_rows(&rt, &mut lone, &HANDED)?;
-    assert_lines(&rt, &lone.journal, &LINES_OF_HANDED)
+    assert_of(Lone::open(rt.alloc(), 1, 1), |lone| {
+        assert_rows(&rt, lone, &HANDED)?;
+        assert_lines(&rt, &lone.journal, &LINES_OF_HANDED);
+        Ok(())
+    })
 }
