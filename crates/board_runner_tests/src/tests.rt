@@ -1,4 +1,5 @@
-ghost use Rattle.std.specs.Prelude.{◌≡◌, length};
+ghost use Rattle.std.specs.Prelude.{◌≡◌, ◌<◌, IfSome, Ok, length};
+ghost use Rattle.board_model.specs.Language.{told_by};
 ghost use Rattle.board_runner.specs.Told.{IsToldByText};
 
 use board_model::{LanePlaces, Scenario, Seq, Totals};
@@ -71,12 +72,15 @@ fn journal(alloc: Global, lines: &[Noted]) -> Option<Journal> {
     Some(journal)
 }
 
-/// An outcome of the board of `TEXT`, though of no run.
-fn outcome(alloc: Global) -> Option<Outcome> {
+fn journals(alloc: Global) -> Option<Seq<Journal>> {
     let mut journals = Seq::new(Vec::new(alloc));
     let second = journal(alloc, &[Idle, Told(1, 1024), Refused(2, Refusal::Empty)])?;
     journals.push(second).ok()?;
     journals.push(journal(alloc, &[Told(1, 1024)])?).ok()?;
+    Some(journals)
+}
+
+fn places(alloc: Global) -> Option<Seq<LanePlaces>> {
     let mut places = Seq::new(Vec::new(alloc));
     let lane = LanePlaces {
         from: 2,
@@ -87,10 +91,15 @@ fn outcome(alloc: Global) -> Option<Outcome> {
         lent: 0,
     };
     places.push(lane).ok()?;
+    Some(places)
+}
+
+/// An outcome of the board of `TEXT`, though of no run.
+fn outcome(alloc: Global) -> Option<Outcome> {
     Some(Outcome {
-        journals,
+        journals: journals(alloc)?,
         rings: Seq::new(Vec::new(alloc)),
-        places,
+        places: places(alloc)?,
         channels: Seq::new(Vec::new(alloc)),
         messages: Totals {
             accepted: 4,
@@ -112,31 +121,34 @@ fn write(scenario: &Scenario, outcome: &Outcome, sink: &mut MemSink) -> Option<R
     Some(write_report(scenario, outcome, sink))
 }
 
-fn report_in(alloc: Global, text: &[u8], room: usize) -> Option<(Result<(), Failed>, MemSink)> {
-    let mut sink = MemSink::new(alloc, Vec::new(alloc), 7, room).ok()?;
+fn read(alloc: Global, text: &[u8]) -> Option<Scenario>
+    ensures told { IfSome result (λ s. told_by text.now ≡ Ok s) }
+    ensures short { IfSome result (λ _. length text.now < 1_000_000) }
+{
     if text.len() >= 1_000_000 {
         return None;
     }
-    match read_scenario(alloc, text) {
-        Ok(scenario) => {
-            let outcome = outcome(alloc)?;
-            let written = write(&scenario, &outcome, &mut sink)?;
-            Some((written, sink))
-        }
-        Err(_) => None,
-    }
+    read_scenario(alloc, text).ok()
+}
+
+fn report(alloc: Global, sink: &mut MemSink) -> Option<Result<(), Failed>> {
+    let scenario = read(alloc, TEXT)?;
+    let outcome = outcome(alloc)?;
+    write(&scenario, &outcome, sink)
+}
+
+/// Whether the report is written so far as there is room, and its end is this.
+fn is_written(alloc: Global, room: usize, end: Result<(), Failed>) -> Option<bool> {
+    let mut sink = MemSink::new(alloc, Vec::new(alloc), 7, room).ok()?;
+    let written = report(alloc, &mut sink)?;
+    Some(written == end && Some(sink.written()) == REPORT.get(..room))
 }
 
 #[test]
 fn writes_journals_in_rising_number(rt: HostRuntime) -> Result<(), Fail> {
-    let alloc = rt.alloc();
     let whole = REPORT.len();
-    let (written, sink) = report_in(alloc, TEXT, whole).ok_or("memory")?;
-    assert_eq!(rt; written, Ok(()));
-    assert_eq!(rt; sink.written(), REPORT);
-    let (written, sink) = report_in(alloc, TEXT, whole - 1).ok_or("memory")?;
-    assert_eq!(rt; written, Err(Failed));
-    assert_eq!(rt; Some(sink.written()), REPORT.get(..whole - 1));
+    assert!(rt; is_written(rt.alloc(), whole, Ok(())).ok_or("memory")?);
+    assert!(rt; is_written(rt.alloc(), whole - 1, Err(Failed)).ok_or("memory")?);
     Ok(())
 }
 
@@ -169,8 +181,11 @@ const MESSAGES: Totals = Totals {
     ring: 1,
 };
 
-/// The lanes in the report's order: from and to, free, in the ring, queued and lent.
-const PLACES: [(u8, u8, u32, u32, u32, u32); 4] = [
+/// A lane: from and to, free, in the ring, queued and lent.
+type Lane = (u8, u8, u32, u32, u32, u32);
+
+/// The lanes in the report's order.
+static PLACES: [Lane; 4] = [
     (2, 2, 4, 0, 0, 0),
     (2, 5, 8, 0, 0, 0),
     (5, 2, 5, 1, 1, 1),
@@ -178,26 +193,33 @@ const PLACES: [(u8, u8, u32, u32, u32, u32); 4] = [
 ];
 
 fn run(alloc: Global, text: &[u8]) -> Option<Outcome> {
-    if text.len() >= 1_000_000 {
-        return None;
-    }
-    let scenario = read_scenario(alloc, text).ok()?;
+    let scenario = read(alloc, text)?;
     run_serial(alloc, &scenario).ok()
+}
+
+fn are_lanes(places: &[LanePlaces], due: &[Lane]) -> bool {
+    for (lane, due) in places.iter().zip(due) {
+        let told = (
+            lane.from, lane.to, lane.free, lane.ring, lane.queue, lane.lent,
+        );
+        if told != *due {
+            return false;
+        }
+    }
+    places.len() == due.len()
+}
+
+fn has_numbers(outcome: &Outcome) -> bool {
+    outcome.messages == MESSAGES
+        && outcome.journals.as_slice().len() == 2
+        && outcome.rings.as_slice().len() == 0
+        && outcome.channels.as_slice().len() == 0
+        && are_lanes(outcome.places.as_slice(), &PLACES)
 }
 
 #[test]
 fn a_run_leaves_its_numbers(rt: HostRuntime) -> Result<(), Fail> {
     let outcome = run(rt.alloc(), NUMBERS).ok_or("memory")?;
-    assert_eq!(rt; outcome.messages, MESSAGES);
-    assert_eq!(rt; outcome.journals.as_slice().len(), 2);
-    assert_eq!(rt; outcome.rings.as_slice().len(), 0);
-    assert_eq!(rt; outcome.channels.as_slice().len(), 0);
-    assert_eq!(rt; outcome.places.as_slice().len(), 4);
-    for (lane, due) in outcome.places.as_slice().iter().zip(&PLACES) {
-        let told = (
-            lane.from, lane.to, lane.free, lane.ring, lane.queue, lane.lent,
-        );
-        assert_eq!(rt; told, *due);
-    }
+    assert!(rt; has_numbers(&outcome));
     Ok(())
 }
