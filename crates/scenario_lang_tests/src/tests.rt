@@ -7,7 +7,7 @@ use std::test::Fail;
 type Refusal = (&'static [u8], u32, LineReason);
 
 /// Texts that are refused before the calls are read.
-const REFUSED_LINES: [Refusal; 48] = [
+static REFUSED_LINES: [Refusal; 48] = [
     (b"", 1, LineReason::Domain),
     (b"\n", 2, LineReason::Domain),
     (b"# nothing\n \t\n", 3, LineReason::Domain),
@@ -153,7 +153,7 @@ const REFUSED_LINES: [Refusal; 48] = [
 /// A line after one domain, and the reason of its refusal.
 type RefusedCall = (&'static [u8], LineReason);
 
-const REFUSED_CALLS: [RefusedCall; 73] = [
+static REFUSED_CALLS: [RefusedCall; 73] = [
     (b"0 create 1", LineReason::Form),
     (b"0.0.0 create 1", LineReason::Form),
     (b"0:0 create 1", LineReason::Form),
@@ -230,7 +230,7 @@ const REFUSED_CALLS: [RefusedCall; 73] = [
 ];
 
 /// Texts with labels, of which one is told or used where it may not.
-const REFUSED_LABELS: [Refusal; 8] = [
+static REFUSED_LABELS: [Refusal; 8] = [
     (
         b"domain 0 nodes 1 pool 1\n0.0 x = lookup 0:0:1\n0.0 x = lookup 0:0:1\n",
         3,
@@ -276,7 +276,7 @@ const REFUSED_LABELS: [Refusal; 8] = [
 /// A text that is read, and its canonical text.
 type Read = (&'static [u8], &'static [u8]);
 
-const READ: [Read; 12] = [
+static READ: [Read; 12] = [
     (
         b"domain 0 nodes 1 pool 2\n0.0 create 1\n0.0 create 2\n0.0 msg_send 1 0:0:2 1 6869\n0.0 msg_recv 2 488\n",
         b"domain 0 nodes 1 pool 2\n0.0 create 1\n0.0 create 2\n0.0 msg_send 1 0:0:2 1 6869\n0.0 msg_recv 2 488\n",
@@ -402,7 +402,7 @@ fn texts_are_read_and_written_in_canonical_form(rt: HostRuntime) {
 }
 
 /// A domain line, and a call line with as many bytes of a message, and as many blanks at its end.
-fn message(alloc: Global, bytes: u32, blanks: u32) -> Result<Vec<u8>, Fail> {
+fn message(alloc: Global, bytes: u32, blanks: u32) -> Result<Vec<u8>, AllocError> {
     let mut text = Vec::from_slice(alloc, b"domain 0 nodes 1 pool 1\n0.0 msg_send 1 0:0:2 1 ")?;
     for _ in 0..bytes {
         text.extend_from_slice(b"5a")?;
@@ -413,21 +413,42 @@ fn message(alloc: Global, bytes: u32, blanks: u32) -> Result<Vec<u8>, Fail> {
     Ok(text)
 }
 
-#[test]
-fn bytes_and_lines_at_their_limits(rt: HostRuntime) -> Result<(), Fail> {
-    let alloc = rt.alloc();
-    assert!(rt; is_read(alloc, &message(alloc, 9000, 0)?));
-    assert!(rt; is_refused(alloc, &message(alloc, 9001, 0)?, 2, LineReason::Bytes));
-    assert!(rt; is_read(alloc, &message(alloc, 9000, 1977)?));
-    assert!(rt; is_refused(alloc, &message(alloc, 9000, 1978)?, 2, LineReason::Long));
-    assert!(rt; is_refused(alloc, &message(alloc, 9999, 0)?, 2, LineReason::Long));
+/// How many bytes and blanks, and the reason for which the text is refused, if it is.
+type Limit = (u32, u32, Option<LineReason>);
+
+static LIMITS: [Limit; 5] = [
+    (9000, 0, None),
+    (9001, 0, Some(LineReason::Bytes)),
+    (9000, 1977, None),
+    (9000, 1978, Some(LineReason::Long)),
+    (9999, 0, Some(LineReason::Long)),
+];
+
+fn is_limit(alloc: Global, (bytes, blanks, reason): Limit) -> Result<bool, AllocError> {
+    let text = message(alloc, bytes, blanks)?;
+    Ok(match reason {
+        None => is_read(alloc, &text),
+        Some(reason) => is_refused(alloc, &text, 2, reason),
+    })
+}
+
+/// Whether a remark is read behind the longest line, and refused where it is too long itself.
+fn is_remark_limited(alloc: Global) -> Result<bool, AllocError> {
     let mut text = message(alloc, 9000, 1977)?;
     text.extend_from_slice(b"\r\n#")?;
-    assert!(rt; is_read(alloc, &text));
+    let short = is_read(alloc, &text);
     for _ in 0..20_000 {
         text.push(b'x')?;
     }
-    assert!(rt; is_refused(alloc, &text, 3, LineReason::Long));
+    Ok(short && is_refused(alloc, &text, 3, LineReason::Long))
+}
+
+#[test]
+fn bytes_and_lines_at_their_limits(rt: HostRuntime) -> Result<(), Fail> {
+    for (i, row) in LIMITS.iter().enumerate() {
+        assert!(rt; is_limit(rt.alloc(), *row)?, "row {i}");
+    }
+    assert!(rt; is_remark_limited(rt.alloc())?);
     Ok(())
 }
 
