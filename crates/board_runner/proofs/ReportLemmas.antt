@@ -1,46 +1,11 @@
--- The text of a call's line, and of journals, piece by piece.
-use Rattle.std.proofs.Common.{◌≡◌, Bool, true, false, refl, List, ℕ, zero, suc, ◌+◌, ◌<◌, [], ◌∷◌, ◌++◌, length, map, take, get_or, append_assoc, append-nil, add-one, ap, sym, ◌∙◌, arith}
-use Rattle.std.specs.Prelude.{codes, decimal, nat_lt, if◌then◌else◌}
-use Rattle.mc_base.specs.Text.{hex_text}
+-- The text of the journals, one by one.
+use Rattle.std.proofs.Common.{◌≡◌, refl, List, ℕ, zero, suc, ◌+◌, ◌<◌, [], ◌∷◌, ◌++◌, length, map, take, get_or, append_assoc, append-nil, add-one, ap, sym, ◌∙◌, arith}
+use Rattle.std.specs.Prelude.{codes, decimal}
 use Rattle.board_model.specs.declared.scenario.DomainLine.{DomainLine}
-use Rattle.board_model.specs.Journal.{PlainResult, found_at, was_accepted, was_rejected, brought, ended_by, PlainAnswer, refuses, agrees, tells, gives, completes}
-use Rattle.board_model.specs.Grammar.{spaced, line_of}
-use Rattle.board_model.specs.Report.{answer_words, result_words, lines_text, journals_text}
+use Rattle.board_model.specs.Grammar.{line_of}
+use Rattle.board_model.specs.Report.{lines_text, journals_text}
 use Rattle.mc_journal.specs.Written.{Written}
 use Rattle.board_runner.specs.Outcome.{lines_in}
-
--- the number stands before the words of the answer
-pub line_of-answer : (number : List ℕ) (a : PlainAnswer) → line_of (codes "call" ∷ number ∷ answer_words a) ≡ codes "call " ++ (number ++ (codes " " ++ (spaced (answer_words a) ++ (10 ∷ []))))
-line_of-answer number (refuses word) = simp append_assoc
-line_of-answer number agrees = simp append_assoc
-line_of-answer number (tells n) = simp append_assoc
-line_of-answer number (gives size bytes) = simp append_assoc
-line_of-answer number (completes result) = simp append_assoc
-
--- the words of a size and bytes
-abbrev pub sized : Bool → ℕ → List ℕ → List (List ℕ)
-sized b size bytes = if b then codes "truncated" ∷ decimal size ∷ hex_text bytes ∷ [] else decimal size ∷ hex_text bytes ∷ []
-
--- a result has words
-pub spaced-done : (r : PlainResult) → spaced (codes "done" ∷ result_words r) ≡ codes "done " ++ spaced (result_words r)
-spaced-done (found_at address) = refl
-spaced-done was_accepted = refl
-spaced-done (was_rejected reason) = refl
-spaced-done (brought size bytes) = go (nat_lt (length bytes) size)
-  where
-    go : (b : Bool) → spaced (codes "done" ∷ sized b size bytes) ≡ codes "done " ++ spaced (sized b size bytes)
-    go true = refl
-    go false = refl
-spaced-done (ended_by word) = refl
-
-pub spaced-brought : (size : ℕ) (bytes : List ℕ) → spaced (result_words (brought size bytes)) ≡ (if nat_lt (length bytes) size then codes "truncated " else []) ++ spaced (decimal size ∷ hex_text bytes ∷ [])
-spaced-brought size bytes = go (nat_lt (length bytes) size)
-  where
-    go : (b : Bool) → spaced (sized b size bytes) ≡ (if b then codes "truncated " else []) ++ spaced (decimal size ∷ hex_text bytes ∷ [])
-    go true = refl
-    go false = refl
-
--- ---- journals
 
 abbrev numbers_in : List DomainLine → List ℕ
 numbers_in ds = map (λ d. d.domain) ds

@@ -23,5 +23,5 @@ mod stations;
 mod tally;
 
 pub use outcome::{ChannelTotals, Outcome};
-pub use report::{fault_word, reason_word, write_report};
+pub use report::write_report;
 pub use serial::run_serial;

@@ -11,17 +11,12 @@ ghost use Rattle.board_model.specs.Report.{report_of, journals_text, lines_text,
 ghost use Rattle.board_runner.specs.Outcome.{lines_in};
 ghost use Rattle.board_runner.specs.Told.{IsToldByText};
 
-mod entry;
-mod words;
-
 use crate::Outcome;
 use crate::board::rising_numbers;
 use board_model::{LanePlaces, Scenario, Totals};
-use domain_core::Journal;
-use entry::put_entry;
+use mc_journal::{Journal, put_entries};
 use outer_io::{Failed, Sink, Writer};
 use scenario_lang::put_scenario;
-pub use words::{fault_word, reason_word};
 
 /// Writes the report: the scenario, the journal of each domain, and what became of messages and buffers. It goes to the
 /// sink piece by piece and takes no memory. Some text tells the scenario, of whatever length, and the outcome has one journal
@@ -76,15 +71,6 @@ fn put_journal<K: Sink>(out: &mut Writer<'_, K>, domain: u8, journal: &Journal)
     out.put_number(domain as u64);
     out.put(b"\n");
     put_entries(out, journal);
-}
-
-fn put_entries<K: Sink>(out: &mut Writer<'_, K>, journal: &Journal)
-    ensures { Puts K.Sink out.old out.new (lines_text journal.now.lines) }
-{
-    for at in 0..journal.len() {
-        let entry = journal.entry(at).unwrap();
-        put_entry(out, entry);
-    }
 }
 
 fn put_messages<K: Sink>(out: &mut Writer<'_, K>, totals: &Totals)

@@ -1,2 +1,4 @@
+pub mod AnswerText
 pub mod Journals
 pub mod SameWords
+pub mod Standing

@@ -10,15 +10,14 @@ ghost use Rattle.scenario_cli.specs.Content.{IsToldOf};
 ghost use Rattle.scenario_cli.specs.Due.{IsFrameDue};
 
 mod content;
-mod place;
+mod fault;
 mod words;
 
 use crate::hex::{HexFault, read_hex};
 use crate::status::{self, after_write};
-use board_runner::fault_word;
 use content::read_content;
+use fault::{fault_word, place_of};
 use outer_io::Sink;
-use place::place_of;
 use std::alloc::Global;
 use words::{write_right, write_wrong};
 

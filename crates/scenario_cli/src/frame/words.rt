@@ -12,8 +12,8 @@ ghost use Rattle.scenario_cli.specs.FrameText.{kind_text, letter_words, announce
 ghost use Rattle.scenario_cli.specs.Content.{content_line};
 
 use crate::frame::content::Content;
-use board_runner::reason_word;
 use mc_base::{Bits, Kind, Letter, NAME_SERVICE_ADDRESS, Ns};
+use mc_journal::reason_word;
 use outer_io::{Failed, Sink, Writer};
 
 /// Writes the line of a sound frame.

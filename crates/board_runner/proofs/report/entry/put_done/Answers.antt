@@ -1,6 +1,0 @@
-use Rattle.board_runner.proofs.ReportLemmas.{spaced-done}
-use Rattle.outer_io.proofs.Writing.{puts_then}
-use Rattle.board_runner.proofs.report.entry.put_done.Goals as goal
-
-pub returns : goal.returns
-returns g c = rw spaced-done (puts_then _ _ _ _ _ _ c.put.ensures c.put_result.ensures)

@@ -1,0 +1,5 @@
+use Rattle.outer_io.proofs.Writing.{puts_then}
+use Rattle.mc_journal.proofs.text.put_sized.Goals as goal
+
+pub returns : goal.returns
+returns g c = puts_then _ _ _ _ _ _ c.put_number.ensures (puts_then _ _ _ _ _ _ c.put.ensures c.put_hex.ensures)

@@ -1,0 +1,203 @@
+//! The text of a journal: a line for each entry.
+
+ghost use Rattle.std.specs.Prelude.{◌≡◌, ◌++◌, ◌∷◌, [], codes, decimal, length, nat_lt, if◌then◌else◌};
+ghost use Rattle.mc_base.specs.Text.{hex_text};
+ghost use Rattle.outer_io.specs.Puts.{Puts};
+ghost use Rattle.board_model.specs.Grammar.{spaced, line_of};
+ghost use Rattle.board_model.specs.Journal.{brought};
+ghost use Rattle.board_model.specs.Report.{line_text, lines_text, answer_words, result_words};
+ghost use Rattle.board_model.specs.Words.{reason_text, fate_text, refusal_text};
+ghost use Rattle.mc_journal.specs.Entry.{line_of_entry, plain_answer, result_of_told};
+
+use crate::entry::{Answer, Entry, Told};
+use crate::journal::Journal;
+use crate::words::{fate_word, reason_word, refusal_word};
+use mc_base::{Fate, Reason, Refusal};
+use outer_io::{Sink, Writer};
+
+/// Puts the lines of a journal, each with its newline. It takes no memory. Where a write failed, the writer tells it at its end.
+pub fn put_entries<K: Sink>(out: &mut Writer<'_, K>, journal: &Journal)
+    ensures { Puts K.Sink out.old out.new (lines_text journal.now.lines) }
+{
+    for at in 0..journal.len() {
+        let entry = journal.entry(at).unwrap();
+        put_entry(out, entry);
+    }
+}
+
+fn put_entry<K: Sink>(out: &mut Writer<'_, K>, entry: Entry<'_>)
+    ensures { Puts K.Sink out.old out.new (line_text (line_of_entry entry.entry)) }
+{
+    match entry {
+        Entry::Turn => out.put(b"turn\n"),
+        Entry::Back { peer, count } => put_look(out, b"back ", peer, count),
+        Entry::Put { peer, frame } => put_frame(out, peer, frame),
+        Entry::See { peer, count } => put_look(out, b"see ", peer, count),
+        Entry::Take { peer, frame, fate } => put_take(out, peer, frame, fate),
+        Entry::Idle { turns } => put_idle(out, turns),
+        Entry::Again { word } => put_again(out, word),
+        Entry::Spin { times, word } => put_spin(out, times, word),
+        Entry::Called { number, answer } => put_call(out, number, answer),
+    }
+}
+
+fn put_idle<K: Sink>(out: &mut Writer<'_, K>, turns: u64)
+    ensures { Puts K.Sink out.old out.new (line_of (codes "idle" ∷ decimal turns ∷ [])) }
+{
+    out.put(b"idle ");
+    out.put_number(turns);
+    out.put(b"\n");
+}
+
+fn put_again<K: Sink>(out: &mut Writer<'_, K>, word: Refusal)
+    ensures { Puts K.Sink out.old out.new (line_of (codes "again" ∷ refusal_text word ∷ [])) }
+{
+    out.put(b"again ");
+    out.put(refusal_word(word));
+    out.put(b"\n");
+}
+
+fn put_spin<K: Sink>(out: &mut Writer<'_, K>, times: u64, word: Refusal)
+    ensures { Puts K.Sink out.old out.new (line_of (codes "spin" ∷ decimal times ∷ refusal_text word ∷ [])) }
+{
+    out.put(b"spin ");
+    out.put_number(times);
+    out.put(b" ");
+    out.put(refusal_word(word));
+    out.put(b"\n");
+}
+
+/// A line of a look: its word with a blank, the peer and what was shown.
+fn put_look<K: Sink>(out: &mut Writer<'_, K>, word: &[u8], peer: u8, count: u32)
+    ensures { Puts K.Sink out.old out.new (word.now ++ (decimal peer ++ (32 ∷ (decimal count ++ (10 ∷ []))))) }
+{
+    out.put(word);
+    out.put_number(peer as u64);
+    out.put(b" ");
+    out.put_number(count as u64);
+    out.put(b"\n");
+}
+
+fn put_frame<K: Sink>(out: &mut Writer<'_, K>, peer: u8, frame: &[u8])
+    ensures { Puts K.Sink out.old out.new (line_of (codes "put" ∷ decimal peer ∷ hex_text frame.now ∷ [])) }
+{
+    out.put(b"put ");
+    out.put_number(peer as u64);
+    out.put(b" ");
+    out.put_hex(frame);
+    out.put(b"\n");
+}
+
+fn put_take<K: Sink>(out: &mut Writer<'_, K>, peer: u8, frame: &[u8], fate: Fate)
+    ensures { Puts K.Sink out.old out.new (line_of (codes "take" ∷ decimal peer ∷ hex_text frame.now ∷ fate_text fate ∷ [])) }
+{
+    out.put(b"take ");
+    out.put_number(peer as u64);
+    out.put(b" ");
+    out.put_hex(frame);
+    out.put(b" ");
+    out.put(fate_word(fate));
+    out.put(b"\n");
+}
+
+fn put_call<K: Sink>(out: &mut Writer<'_, K>, number: u32, answer: Answer<'_>)
+    ensures { Puts K.Sink out.old out.new (line_of (codes "call" ∷ decimal number ∷ answer_words (plain_answer answer.entry))) }
+{
+    out.put(b"call ");
+    out.put_number(number as u64);
+    out.put(b" ");
+    put_answer(out, answer);
+    out.put(b"\n");
+}
+
+fn put_answer<K: Sink>(out: &mut Writer<'_, K>, answer: Answer<'_>)
+    ensures { Puts K.Sink out.old out.new (spaced (answer_words (plain_answer answer.entry))) }
+{
+    match answer {
+        Answer::Refused(word) => out.put(refusal_word(word)),
+        Answer::Ok => out.put(b"ok"),
+        Answer::Number(n) => put_ok_number(out, n),
+        Answer::Bytes { size, bytes } => put_bytes(out, size, bytes),
+        Answer::Done(told) => put_done(out, told),
+    }
+}
+
+/// How a request was complete.
+fn put_done<K: Sink>(out: &mut Writer<'_, K>, told: Told<'_>)
+    ensures { Puts K.Sink out.old out.new (spaced (codes "done" ∷ result_words (result_of_told told.entry))) }
+{
+    out.put(b"done ");
+    put_result(out, told);
+}
+
+fn put_result<K: Sink>(out: &mut Writer<'_, K>, told: Told<'_>)
+    ensures { Puts K.Sink out.old out.new (spaced (result_words (result_of_told told.entry))) }
+{
+    match told {
+        Told::Address(address) => out.put_number(address as u64),
+        Told::Accepted => out.put(b"accepted"),
+        Told::Rejected(reason) => put_rejected(out, reason),
+        Told::Bytes { size, bytes } => put_brought(out, size, bytes),
+        Told::Ended(word) => out.put(refusal_word(word)),
+    }
+}
+
+fn put_rejected<K: Sink>(out: &mut Writer<'_, K>, reason: Reason)
+    ensures { Puts K.Sink out.old out.new (spaced (codes "rejected" ∷ reason_text reason ∷ [])) }
+{
+    out.put(b"rejected ");
+    out.put(reason_word(reason));
+}
+
+/// A size and bytes: truncated where there are fewer bytes than the size.
+fn put_brought<K: Sink>(out: &mut Writer<'_, K>, size: u32, bytes: &[u8])
+    ensures { Puts K.Sink out.old out.new (spaced (result_words (brought size bytes.now))) }
+{
+    out.put(cut_word(size, bytes));
+    put_sized(out, size, bytes);
+}
+
+/// The word, with a blank, of bytes that are fewer than the size.
+fn cut_word(size: u32, bytes: &[u8]) -> &'static [u8]
+    ensures { result.now ≡ (if nat_lt (length bytes.now) size then codes "truncated " else []) }
+{
+    if bytes.len() < size as usize {
+        b"truncated "
+    } else {
+        b""
+    }
+}
+
+fn put_sized<K: Sink>(out: &mut Writer<'_, K>, size: u32, bytes: &[u8])
+    ensures { Puts K.Sink out.old out.new (spaced (decimal size ∷ hex_text bytes.now ∷ [])) }
+{
+    out.put_number(size as u64);
+    out.put(b" ");
+    out.put_hex(bytes);
+}
+
+fn put_ok_number<K: Sink>(out: &mut Writer<'_, K>, n: u64)
+    ensures { Puts K.Sink out.old out.new (spaced (codes "ok" ∷ decimal n ∷ [])) }
+{
+    out.put(b"ok ");
+    out.put_number(n);
+}
+
+/// A size and bytes: truncated where there are fewer bytes than the size.
+fn put_bytes<K: Sink>(out: &mut Writer<'_, K>, size: u32, bytes: &[u8])
+    ensures { Puts K.Sink out.old out.new (spaced ((if nat_lt (length bytes.now) size then codes "truncated" else codes "ok") ∷ decimal size ∷ hex_text bytes.now ∷ [])) }
+{
+    out.put(bytes_word(size, bytes));
+    out.put(b" ");
+    put_sized(out, size, bytes);
+}
+
+fn bytes_word(size: u32, bytes: &[u8]) -> &'static [u8]
+    ensures { result.now ≡ (if nat_lt (length bytes.now) size then codes "truncated" else codes "ok") }
+{
+    if bytes.len() < size as usize {
+        b"truncated"
+    } else {
+        b"ok"
+    }
+}
