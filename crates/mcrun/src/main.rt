@@ -24,18 +24,9 @@ fn main(rt: HostRuntime) -> ExitCode {
 /// The words after the program's name, or `None` at want of memory. An argument that is no text is none of the words of
 /// any form, so then there are no words.
 fn words<R: Env + AllocGlobal>(rt: &R, alloc: Global) -> Option<Vec<String>> {
-    let mut words = Vec::new(alloc);
     match env::args(rt) {
-        Ok(args) => {
-            for word in args.skip(1) {
-                words.push(word).ok()?;
-            }
-        }
-        Err(fault) => {
-            if fault.kind() == io::ErrorKind::OutOfMemory {
-                return None;
-            }
-        }
+        Ok(args) => args.skip(1).collect(alloc).ok(),
+        Err(fault) if fault.kind() == io::ErrorKind::OutOfMemory => None,
+        Err(_) => Some(Vec::new(alloc)),
     }
-    Some(words)
 }
