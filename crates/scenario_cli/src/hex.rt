@@ -1,10 +1,11 @@
 //! Bytes as hexadecimal text: digits of either case, two a byte, and blanks anywhere.
 
-ghost use Rattle.std.specs.Prelude.{◌≡◌, ◌<◌, IfOk, IfErr, IfSome, IsNone, true, false, None};
-ghost use Rattle.scenario_cli.specs.Hex.{bytes_spelled, hex_fault, is_digit, digit_value, is_blank as is_blank_byte};
+ghost use Rattle.std.specs.Prelude.{◌≡◌, ◌<◌, IfOk, IfErr, IfSome, None};
+ghost use Rattle.scenario_cli.specs.Hex.{bytes_spelled, hex_fault, is_blank as is_blank_byte};
 ghost use Rattle.scenario_cli.specs.declared.hex.HexFault.TheVariants.{NoMemory as no_memory};
 ghost use Rattle.scenario_cli.specs.HexFault.{IsHexFault, TakesDigit};
 
+use scenario_lang::hex_digit;
 use std::alloc::Global;
 
 /// Why a text is not read as bytes.
@@ -28,7 +29,7 @@ pub fn read_hex(alloc: Global, text: &[u8]) -> Result<Vec<u8>, HexFault>
     };
     let mut high = None;
     for (place, byte) in text.iter().enumerate() {
-        match digit_of(*byte) {
+        match hex_digit(*byte) {
             Some(digit) => high = take_digit(&mut bytes, high, digit)?,
             None if is_blank(*byte) => {}
             None => return Err(HexFault::At { place }),
@@ -53,19 +54,6 @@ fn take_digit(bytes: &mut Vec<u8>, high: Option<u8>, digit: u8) -> Result<Option
     match bytes.push(16 * high + digit) {
         Ok(()) => Ok(None),
         Err(_) => Err(HexFault::NoMemory),
-    }
-}
-
-/// The value of a digit, or `None` where the byte is no digit.
-fn digit_of(byte: u8) -> Option<u8>
-    ensures value { IfSome result (λ v. (is_digit byte ≡ true) × (v ≡ digit_value byte) × (v < 16)) }
-    ensures none { IsNone result → is_digit byte ≡ false }
-{
-    match byte {
-        b'0'..=b'9' => Some(byte - b'0'),
-        b'a'..=b'f' => Some(byte - b'a' + 10),
-        b'A'..=b'F' => Some(byte - b'A' + 10),
-        _ => None,
     }
 }
 

@@ -20,5 +20,6 @@ mod writing;
 pub use board_model::LineReason;
 pub use canonical::put_scenario;
 pub use fault::ScenarioFault;
+pub use numerals::hex_digit;
 pub use reading::{canonical_text_is_read_back, read_scenario};
 pub use writing::write_scenario;

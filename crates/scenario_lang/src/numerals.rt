@@ -68,15 +68,15 @@ pub fn number(least: u64, most: u64, word: &[u8]) -> Result<u64, LineFault>
     }
 }
 
-/// The value of a hexadecimal digit of either case.
-fn hex(digit: u8) -> Option<u8>
-    ensures value { result ≡ digit_value digit }
+/// The value of a hexadecimal digit of either case, or `None` where the byte is no digit.
+pub fn hex_digit(byte: u8) -> Option<u8>
+    ensures value { result ≡ digit_value byte }
     ensures small { IfSome result (λ v. v < 16) }
 {
-    match digit {
-        b'0'..=b'9' => Some(digit - b'0'),
-        b'a'..=b'f' => Some(digit - b'a' + 10),
-        b'A'..=b'F' => Some(digit - b'A' + 10),
+    match byte {
+        b'0'..=b'9' => Some(byte - b'0'),
+        b'a'..=b'f' => Some(byte - b'a' + 10),
+        b'A'..=b'F' => Some(byte - b'A' + 10),
         _ => None,
     }
 }
@@ -85,8 +85,8 @@ fn hex(digit: u8) -> Option<u8>
 fn byte(high: u8, low: u8) -> Option<u8>
     ensures { result ≡ byte_of (digit_value high) (digit_value low) }
 {
-    let high = hex(high)?;
-    let low = hex(low)?;
+    let high = hex_digit(high)?;
+    let low = hex_digit(low)?;
     Some(high * 16 + low)
 }
 

@@ -13,10 +13,10 @@ loop-place-preserved c =
     let place = c.loop-place.place in
     let so_far = subst (λ (r : List ℕ). Reading text c.loop-place.bytes.items r place c.loop-place.high) (drop_more text place 0 c.loop-place-test.true) c.loop-place.invariant in
     let rest = drop (place + 1) text in
-    elim c.match-digit_of.branch [
+    let x = get_or text place 0 in
+    elim c.match-hex_digit.branch [
       | in-Some+in_ok-high-in-Some w ↦
-          let read = w.in-Some.ensures.value in
-          rw (w.bytes-is, w.high-is) (after_digit text c.loop-place.bytes.items w.take_digit.new.bytes.items rest place (get_or text place 0) w.in-Some.digit c.loop-place.high w.in_ok-high-in-Some.high read.0 read.1 read.2 w.in_ok-high-in-Some.ensures.taken so_far)
+          rw (w.bytes-is, w.high-is) (after_digit text c.loop-place.bytes.items w.take_digit.new.bytes.items rest place x w.in-Some.digit c.loop-place.high w.in_ok-high-in-Some.high (sym w.in-Some.ensures.value) w.in-Some.ensures.small w.in_ok-high-in-Some.ensures.taken so_far)
       | in-None w ↦
-          rw (w.bytes-is, w.high-is) (after_blank text c.loop-place.bytes.items rest place (get_or text place 0) c.loop-place.high (w.in-None.ensures.none refl) (sym w.if-is_blank.ensures) so_far)
+          rw (w.bytes-is, w.high-is) (after_blank text c.loop-place.bytes.items rest place x c.loop-place.high (sym w.in-None.ensures.value) (sym w.if-is_blank.ensures) so_far)
     ]
