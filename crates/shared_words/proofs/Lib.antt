@@ -9,3 +9,4 @@ pub mod Steps
 pub mod HalfLemmas
 pub mod Beginning
 pub mod Ending
+pub mod NoteLemmas

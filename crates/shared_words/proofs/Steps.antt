@@ -12,14 +12,14 @@ use Rattle.shared_words.specs.declared.view.Staged.{Staged}
 use Rattle.shared_words.specs.declared.view.Staged.TheVariants.{Idle, LengthStored, NumberStored, BothStored, NumberRead}
 use Rattle.shared_words.specs.declared.view.HalfView.{HalfView}
 use Rattle.shared_words.specs.declared.view.View.{View}
-use Rattle.shared_words.specs.declared.view.View.TheVariants.{Opening, Live}
+use Rattle.shared_words.specs.declared.view.View.TheVariants.{Opening, Live, Note}
 use Rattle.shared_words.specs.Layout.{word}
 use Rattle.shared_words.specs.Entry.{Entry, number_of, times}
 use Rattle.shared_words.specs.Way.{Way, way_of, other, Homes}
 use Rattle.shared_words.specs.Places.{begins, starts_with, Holds}
 use Rattle.shared_words.specs.Staging.{StagedHolds}
 use Rattle.shared_words.specs.LastEntries.{HasNumber, HasLength}
-use Rattle.shared_words.specs.Views.{of_role}
+use Rattle.shared_words.specs.Views.{of_role, IsNoteOf}
 use Rattle.shared_words.specs.RingRule.{RingState, Running, RingRule}
 use Rattle.shared_words.specs.Change.{staging, writing, looking, taking, ahead}
 use Rattle.shared_words.specs.Slots.{Slot, fronted, carried_times, front_value}
@@ -51,12 +51,14 @@ device_only a b c Device ne = absurd (ne refl)
 pub record Found (role : Role) (key : Shape) (s : RingState) (id : ℕ) (v : HalfView) : Type 0 where
   pub yours : HalfView
   pub sides : Sides role key s.words s.homes v yours
+  pub notes : (j : ℕ) (n : HalfView) → get_elem? s.views j ≡ some (Note (other role) n) → IsNoteOf n yours
   pub keeps : (words' : List ℕ) (homes' : Homes) (w : HalfView) → Grows v w → Sides role key words' homes' w yours → RingRule key record { words = words'; homes = homes'; views = set s.views id (Live role w) }
 
 pub found : (role : Role) (key : Shape) (s : RingState) (id : ℕ) (v : HalfView) (u : View) → RingRule key s → get_elem? s.views id ≡ some u → u ≡ Live role v → Found role key s id v
 found Driver key s id v u holds at is = let r = running key s id u holds at (λ m e. let q : Opening m ≡ Live Driver v = sym e ∙ is in cc) in
     let at' : get_elem? s.views id ≡ some (Live Driver v) = at ∙ ap some is in let k = r.views.each id (Live Driver v) at' in record {
       yours = r.device;
+      notes = λ j n atj. r.views.each j (Note Device n) atj;
       sides = subst (λ (x : HalfView). Sides Driver key s.words s.homes x r.device) (sym k.0) (driver_side key s.words s.homes r.driver r.device r.content);
       keeps = λ words' homes' w g b. inr record {
         driver = w;
@@ -70,6 +72,7 @@ found Driver key s id v u holds at is = let r = running key s id u holds at (λ 
 found Device key s id v u holds at is = let r = running key s id u holds at (λ m e. let q : Opening m ≡ Live Device v = sym e ∙ is in cc) in
     let at' : get_elem? s.views id ≡ some (Live Device v) = at ∙ ap some is in let k = r.views.each id (Live Device v) at' in record {
       yours = r.driver;
+      notes = λ j n atj. r.views.each j (Note Driver n) atj;
       sides = subst (λ (x : HalfView). Sides Device key s.words s.homes x r.driver) (sym k.0) (device_side key s.words s.homes r.driver r.device r.content);
       keeps = λ words' homes' w g b. inr record {
         driver = r.driver;

@@ -17,3 +17,4 @@ pub mod Start
 pub mod TableHolds
 pub mod Parting
 pub mod Closed
+pub mod Notes

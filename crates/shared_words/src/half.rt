@@ -27,3 +27,14 @@ impl Model for Half {
 
     ghost invariant = { λ h. SeatHolds h.seat.table_id.slots h.seat.me h.written h.taken h.read };
 }
+
+impl Half {
+    ghost use Rattle.std.specs.Prelude.{◌≡◌, ◌%◌, ◌^◌, length};
+
+    /// How many entries it wrote, modulo 65536.
+    pub fn written(&self) -> u16
+        ensures { result ≡ length self.now.view.written % 2 ^ 16 }
+    {
+        self.written
+    }
+}

@@ -148,3 +148,35 @@ impl Join<View> for Unite {
 
     ghost spent = { Spent };
 }
+
+/// A note, a copy of a half's view, parts from it.
+pub(crate) struct PartNote;
+
+impl Split<View> for PartNote {
+    ghost use Rattle.shared_words.specs.Notes.{kept_view, note_of};
+
+    ghost left = { kept_view };
+
+    ghost right = { note_of };
+}
+
+/// The other half takes the note in.
+pub(crate) struct TakeNote;
+
+impl Join<View> for TakeNote {
+    ghost use Rattle.shared_words.specs.Notes.{with_note};
+    ghost use Rattle.shared_words.specs.declared.view.View.TheVariants.{Spent};
+
+    ghost both = { with_note };
+
+    ghost spent = { Spent };
+}
+
+/// A load that shows the half what the note that it took in says.
+pub(crate) struct ReadNote;
+
+impl Play<Option<Buffer>, View> for ReadNote {
+    ghost use Rattle.shared_words.specs.Notes.{note_read};
+
+    ghost then = { note_read };
+}

@@ -11,6 +11,7 @@ mod offering;
 mod returning;
 mod rule;
 mod table;
+mod telling;
 mod threads;
 mod view;
 

@@ -1,5 +1,5 @@
 //! How a ring begins.
-ghost use Rattle.std.specs.Prelude.{◌≡◌, ◌≤◌, ◌<◌, ◌↔◌, ℕ, [], map, IfOk, IsTrue, IsErrOf, slice_index, vec_len};
+ghost use Rattle.std.specs.Prelude.{◌≡◌, ◌≤◌, ◌<◌, ◌↔◌, ℕ, [], map, IfOk, IsTrue, IsErrOf, slice_index, vec_len, vec_capacity};
 ghost use Rattle.mc_base.specs.Limits.{buffer_size};
 ghost use Rattle.shared_words.specs.declared.view.Role.TheVariants.{Driver, Device};
 ghost use Rattle.shared_words.specs.Layout.{word_count};
@@ -54,7 +54,8 @@ fn first_words(alloc: Global, queue: u8, size: u32) -> Result<Vec<u64>, AllocErr
 
 fn first_buffers(alloc: Global, size: u32) -> Result<Vec<Buffer>, AllocError>
     requires { size ≤ 256 }
-    ensures { IfOk result (λ v. v.items ≡ map new_buffer (numbers_from 0 size)) }
+    ensures buffers { IfOk result (λ v. v.items ≡ map new_buffer (numbers_from 0 size)) }
+    ensures room { IfOk result (λ v. size ≤ vec_capacity v) }
 {
     let mut buffers = Vec::with_capacity(alloc, size as usize)?;
     for id in 0..size as u16 {
@@ -121,6 +122,7 @@ impl RingTable {
         ensures views { IfOk result (λ r. (r.1.view ≡ new_view buffer_size) × (r.2.view ≡ new_view buffer_size)) }
         ensures table { IfOk result (λ r. (r.0.queue ≡ queue) × (size_of r.0.ring ≡ size)) }
         ensures buffers { IfOk result (λ r. r.3.items ≡ map new_buffer (numbers_from 0 size)) }
+        ensures room { IfOk result (λ r. size ≤ vec_capacity r.3) }
     {
         if queue > 1 {
             return Err(RingFault::Queue);

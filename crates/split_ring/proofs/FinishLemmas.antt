@@ -18,6 +18,7 @@ use Rattle.shared_words.proofs.WayLemmas.{ahead_is}
 use Rattle.shared_words.proofs.WordLemmas.{size_facts}
 use Rattle.shared_words.proofs.HalfLemmas.{place_is, masked}
 use Rattle.shared_words.proofs.Beginning.{numbers-more}
+use Rattle.split_ring.proofs.LengthLemmas.{often-numbers, held_count_is}
 use Rattle.split_ring.specs.declared.counts.Counts.{Counts}
 use Rattle.split_ring.specs.declared.finish.Entries.{Entries}
 use Rattle.split_ring.specs.declared.finish.Entries.TheVariants.{Offered, Returned}
@@ -58,10 +59,6 @@ standing_is words z entries t count left s is stands = ap (numbers_standing word
 pub between_is : (z : ℕ) (written taken left : List Entry) → IsRingSize z → written ≡ taken ++ left → Below z left → (between (length taken % 65536) (length written % 65536) ≡ length left) × (length left ≤ z)
 between_is z written taken left s order below = let long = ap (length {A = Entry}) order ∙ length-append taken left in let few = fewer z left below in let small = size_facts z s in
     (ahead_is (length written) (length taken) (omega (arith, long)) (omega (arith, long, few, small)) ∙ (let h : length written - length taken ≡ length left = omega (arith, long) in h), few)
-
-often-map : (x : ℕ) (es : List Entry) → often x (map number_of es) ≡ times x es
-often-map x [] = refl
-often-map x (e ∷ es) = let h = often-map x es in omega (arith, h)
 
 -- What is known at the end
 
@@ -112,11 +109,13 @@ module _ (ring : TableShown) (d e : HalfShown) (words : List ℕ) (home : List (
         driver_shown = c.driver_shown;
         driver_holds = d_holds;
         device_holds = e_holds;
+        driver_count = let a = held_count_is Driver d.view.taken d.view.written r.driver_held z (λ x. let h = d_holds x in let o = kd.sound.owned x in let g = ap (λ (g : RingId). inside (size_of g) x) d_on in omega (arith, h, o, g)) in omega (arith, a);
+        device_count = let a = held_count_is Device e.view.taken e.view.written r.device_held z (λ x. let h = e_holds x in let o = ke.sound.owned x in omega (arith, h, o)) in omega (arith, a);
         each_once = λ x. let once = c.each_once x in let a = d_holds x in let b = e_holds x in let size_d = ap (λ (g : RingId). inside (size_of g) x) d_on in
             let p = by-append (λ (n : ℕ). n) x r.driver_held (r.offered_left ++ (r.device_held ++ r.returned_left)) in
             let q = by-append (λ (n : ℕ). n) x r.offered_left (r.device_held ++ r.returned_left) in
             let t = by-append (λ (n : ℕ). n) x r.device_held r.returned_left in
-            let u = ap (often x) offered ∙ often-map x c.offered_left in let v = ap (often x) returned ∙ often-map x c.returned_left in omega (arith, once, a, b, size_d, p, q, t, u, v);
+            let u = ap (often x) offered ∙ often-numbers x c.offered_left in let v = ap (often x) returned ∙ often-numbers x c.returned_left in omega (arith, once, a, b, size_d, p, q, t, u, v);
         all_words = subst (AreFinal (shape_of ring) d.view.written e.view.written) (sym words_are) c.all_words;
         driver_looked = dl ∙ kd.looks;
         driver_saw = ds ∙ kd.saw;

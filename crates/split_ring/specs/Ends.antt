@@ -26,6 +26,10 @@ writes e half = record half { written = half.written ++ e ∷ [] }
 abbrev pub looks_at : ℕ → End → End
 looks_at n half = record half { shown = length half.taken + n; looks = half.looks ++ n ∷ [] }
 
+-- a meeting shows n entries of the other half
+abbrev pub shows : ℕ → End → End
+shows n half = record half { shown = n }
+
 -- an entry is fetched or reclaimed
 abbrev pub takes : Entry → End → End
 takes e half = record half { taken = half.taken ++ e ∷ [] }

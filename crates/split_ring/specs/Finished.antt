@@ -1,6 +1,6 @@
 -- What is known of a ring that is finished: of its words, of where its buffers are, and of what its halves saw.
 -- Source: VIRTIO 1.2, section 2.7; docs/PROFILE.md: the driver owns all buffers.
-use Rattle.std.specs.Prelude.{◌≡◌, ℕ, ◌≤◌, ◌%◌, ◌^◌, List, ◌++◌, map, length, sum}
+use Rattle.std.specs.Prelude.{◌≡◌, ℕ, ◌+◌, ◌≤◌, ◌%◌, ◌^◌, List, ◌++◌, map, length, sum}
 use Rattle.shared_words.specs.Entry.{Entry, number_of, often, inside}
 use Rattle.shared_words.specs.Shown.{TableShown, size_of, shape_of}
 use Rattle.shared_words.specs.Closed.{AreFinal}
@@ -38,6 +38,9 @@ pub record IsFinished (ring : TableShown) (driver device : End) (closed : Finish
   -- each number is held by a half as often as it had it and took it, less as it wrote it
   pub driver_holds : (x : ℕ) → often x closed.driver_held ≡ holding_of Driver driver x
   pub device_holds : (x : ℕ) → often x closed.device_held ≡ holding_of Device device x
+  -- so many numbers does it hold
+  pub driver_count : length closed.driver_held + length driver.written ≡ size_of ring.ring + length driver.taken
+  pub device_count : length closed.device_held + length device.written ≡ length device.taken
   -- each number below the size stands exactly once in the four lists, and any other nowhere
   pub each_once : (x : ℕ) → often x (closed.driver_held ++ (closed.offered_left ++ (closed.device_held ++ closed.returned_left))) ≡ inside (size_of ring.ring) x
   -- every word is a function of the queue, the size and the two lists

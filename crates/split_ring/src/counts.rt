@@ -2,7 +2,7 @@
 ghost use Rattle.std.specs.Prelude.{◌≡◌, ◌+◌, ◌-◌, ◌<◌, ◌%◌, ◌^◌};
 
 /// The counts of one half.
-#[derive(Drop)]
+#[derive(Debug, Drop)]
 pub(crate) struct Counts {
     /// How many entries it took, modulo 65536.
     pub taken: u16,
@@ -33,6 +33,13 @@ impl Counts {
         self.left = shown;
         self.looks = self.looks.wrapping_add(1);
         self.saw = self.saw.wrapping_add(shown as u64);
+    }
+
+    /// A meeting showed all that the other half wrote, a count modulo 65536.
+    pub fn show(&mut self, written: u16)
+        ensures { self.new ≡ record self.old { left = (written + 65536 - self.old.taken) % 65536 } }
+    {
+        self.left = u32::from(written.wrapping_sub(self.taken));
     }
 
     /// One of the entries that are left is taken.

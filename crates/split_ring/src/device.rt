@@ -9,6 +9,7 @@ use crate::counts::Counts;
 use crate::ring::Ring;
 use mc_base::Buffer;
 use shared_words::Half;
+use std::fmt;
 use std::marker::Model;
 
 /// The device's half of a ring. Contracts see the ring, the lists of what it gave back and what it fetched, how many
@@ -31,6 +32,14 @@ impl Model for Device {
     ghost view = { λ h. end_of h.half };
 
     ghost invariant = { λ h. IsKept role.Device h.half h.counts × HasFlags role.Device h.half h.held.items };
+}
+
+impl fmt::Debug for Device {
+    fn fmt<W: fmt::Write>(&self, f: &mut fmt::Formatter<W>) -> fmt::Result {
+        f.debug_struct("Device")
+            .field("counts", &self.counts)
+            .finish_non_exhaustive()
+    }
 }
 
 impl Device {
@@ -62,7 +71,7 @@ impl Device {
         shown
     }
 
-    /// The oldest offered buffer that a look showed, with its length. Where none is left it looks once, and answers
+    /// The oldest offered buffer that a look or a meeting showed, with its length. Where none is left it looks once, and answers
     /// `None` exactly where that look showed none.
     pub fn fetch(&mut self, on: &Ring) -> Option<(Buffer, u32)>
         requires ring { self.old.ring ≡ on.now.ring }

@@ -9,6 +9,7 @@ use crate::counts::Counts;
 use crate::ring::Ring;
 use mc_base::Buffer;
 use shared_words::Half;
+use std::fmt;
 use std::marker::Model;
 
 /// The driver's half of a ring. Contracts see the ring, the lists of what it offered and what it reclaimed, how many
@@ -31,6 +32,14 @@ impl Model for Driver {
     ghost view = { λ h. end_of h.half };
 
     ghost invariant = { λ h. IsKept role.Driver h.half h.counts × HasFlags role.Driver h.half h.held.items };
+}
+
+impl fmt::Debug for Driver {
+    fn fmt<W: fmt::Write>(&self, f: &mut fmt::Formatter<W>) -> fmt::Result {
+        f.debug_struct("Driver")
+            .field("counts", &self.counts)
+            .finish_non_exhaustive()
+    }
 }
 
 impl Driver {
@@ -62,7 +71,7 @@ impl Driver {
         shown
     }
 
-    /// The oldest returned buffer that a look showed, with its length. Where none is left it looks once, and answers
+    /// The oldest returned buffer that a look or a meeting showed, with its length. Where none is left it looks once, and answers
     /// `None` exactly where that look showed none.
     pub fn reclaim(&mut self, on: &Ring) -> Option<(Buffer, u32)>
         requires ring { self.old.ring ≡ on.now.ring }

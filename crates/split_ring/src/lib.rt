@@ -9,6 +9,7 @@ mod counts;
 mod device;
 mod driver;
 mod finish;
+mod meeting;
 mod ring;
 mod room;
 mod threads;

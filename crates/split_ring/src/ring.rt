@@ -1,5 +1,5 @@
 //! The ring itself.
-ghost use Rattle.std.specs.Prelude.{◌≡◌, ◌≤◌, ◌<◌, ◌↔◌, map, IfOk, IsErrOf};
+ghost use Rattle.std.specs.Prelude.{◌≡◌, ◌≤◌, ◌<◌, ◌↔◌, map, IfOk, IsErrOf, vec_capacity};
 ghost use Rattle.mc_base.specs.Limits.{buffer_size};
 ghost use Rattle.shared_words.specs.declared.view.Role.TheVariants as role;
 ghost use Rattle.shared_words.specs.Shape.{IsRingSize};
@@ -15,6 +15,7 @@ use crate::room::Room;
 use mc_base::Buffer;
 use shared_words::{RingFault, RingTable};
 use std::alloc::Global;
+use std::fmt;
 use std::marker::Model;
 
 /// A split virtqueue. Its two halves lend it to each call, so threads can share it.
@@ -39,6 +40,15 @@ impl Model for Ring {
     ghost invariant = { λ r. (r.queue ≡ r.table.queue) × (r.size ≡ size_of r.table.ring) × IsRingSize r.size × HasRoom r.room r.size };
 }
 
+impl fmt::Debug for Ring {
+    fn fmt<W: fmt::Write>(&self, f: &mut fmt::Formatter<W>) -> fmt::Result {
+        f.debug_struct("Ring")
+            .field("queue", &self.queue)
+            .field("size", &self.size)
+            .finish_non_exhaustive()
+    }
+}
+
 impl Ring {
     /// A ring with its two halves and its buffers, 0 to `size` less 1 and all zeros, which the driver holds.
     ///
@@ -54,6 +64,7 @@ impl Ring {
         ensures halves { IfOk result (λ r. (r.1 ≡ new_end r.0.ring) × (r.2 ≡ new_end r.0.ring)) }
         ensures sound { IfOk result (λ r. IsSound role.Driver r.1 × IsSound role.Device r.2) }
         ensures buffers { IfOk result (λ r. r.3.items ≡ map new_buffer (numbers_from 0 size)) }
+        ensures room { IfOk result (λ r. size ≤ vec_capacity r.3) }
         ensures held { IfOk result (λ r. AreHeld role.Driver r.1 r.3.items) }
     {
         let (table, driver, device, buffers) = match RingTable::new(alloc, queue, size) {
