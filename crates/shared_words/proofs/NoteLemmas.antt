@@ -120,15 +120,15 @@ shown_grows v n = omega arith
 note_not_opening : (role : Role) (n : HalfView) (m : ℕ) → Note role n ≢ Opening m
 note_not_opening role n m e = cc
 
-pub joins_note : (key : Shape) (id other_id : ℕ) (u w : View) (role : Role) (v n : HalfView) → u ≡ Live role v → w ≡ Note (other role) n → v.staged ≡ Idle → Joins (RingRule key) id u other_id w (with_note u w) Spent
-joins_note key id other_id u w role v n uis wis idle s holds at ne at' =
+pub joins_note : (key : Shape) (id other_id : ℕ) (u w : View) (role : Role) (v n : HalfView) → u ≡ Live role v → w ≡ Note (other role) n → Joins (RingRule key) id u other_id w (with_note u w) Spent
+joins_note key id other_id u w role v n uis wis s holds at ne at' =
     let f = found role key s id v u holds at uis in
     let v' : HalfView = showing_all n v in
     let there : get_elem? s.views other_id ≡ some (Note (other role) n) = sym (set_else s.views id other_id (with_note u w) ne) ∙ (at' ∙ ap some wis) in
     let here : get_elem? s.views id ≡ some (Live role v) = at ∙ ap some uis in
     let high = prefix_length n.written f.yours.written (f.notes other_id n there).written in
-    let low = f.sides.your_way.entries.shown_first in let most = f.sides.your_way.entries.written_first in
-    let kept = show_keeps role key s.words s.homes v f.yours f.sides (max v.shown (length n.written)) v.looks idle (omega (arith, low)) (omega (arith, most, high)) in
+    let most = f.sides.your_way.entries.written_first in
+    let kept = show_keeps role key s.words s.homes v f.yours f.sides (max v.shown (length n.written)) v.looks (omega arith) (omega (arith, most, high)) in
     let one : RingRule key record { words = s.words; homes = s.homes; views = set s.views id (Live role v') } = f.keeps s.words s.homes v' (prefix-refl v.written, prefix-refl v.taken, prefix-refl v.looks, shown_grows v n) kept in
     let s1 : RingState = record { words = s.words; homes = s.homes; views = set s.views id (Live role v') } in
     let at1 : get_elem? s1.views id ≡ some (Live role v') = set_here s.views id (Live role v') (at_short s.views id (Live role v) here) in

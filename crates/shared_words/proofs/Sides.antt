@@ -203,7 +203,7 @@ module _ (role : Role) (key : Shape) (words : List ℕ) (homes : Homes) (m y : H
       way_shows (other role) z (set words i x) homes' y.written m.taken m.shown m.staged
       (way_stays (other role) z words homes y.written m.taken m.shown m.staged s.your_way.entries i x homes' far.idx
       (λ n e le lt there. (far.number (n % z) (mod-lt n some_size), far.len ((way_of (other role) z).len_place n (number_of e)) (len_place_small (other role) z n (number_of e) (your_left_small (number_of e) there)), same e there)))
-      shown' st' low high none_read
+      shown' st' low high (λ k e. absurd (none_read k e))
 
   abbrev pub staging : Staged → HalfView
   staging st = record m { staged = st }
@@ -274,14 +274,43 @@ module _ (role : Role) (key : Shape) (words : List ℕ) (homes : Homes) (m y : H
       ap (λ (w : ℕ). (w + 65536 - length m.taken % 65536) % 65536) s.your_way.entries.idx ∙ ahead_is (length y.written) (length m.taken) (omega (arith, a)) (omega (arith, f, sm))
 
   -- more entries of the other half are shown
-  pub show_keeps : (shown' : ℕ) (looks' : List ℕ) → m.staged ≡ Idle → length m.taken ≤ shown' → shown' ≤ length y.written → Sides role key words homes record m { shown = shown'; looks = looks' } y
-  show_keeps shown' looks' idle low high = record {
+  pub show_keeps : (shown' : ℕ) (looks' : List ℕ) → m.shown ≤ shown' → shown' ≤ length y.written → Sides role key words homes record m { shown = shown'; looks = looks' } y
+  show_keeps shown' looks' more high = record {
     shape = s.shape;
     word_count = s.word_count;
     slot_count = s.slot_count;
     my_way = record { entries = s.my_way.entries; staged = s.my_way.staged; staged_in_order = s.my_way.staged_in_order; out = s.my_way.out; in_range = s.my_way.in_range; last_entries = s.my_way.last_entries; longest = s.my_way.longest };
     your_way = record {
-      entries = way_shows (other role) z words homes y.written m.taken m.shown m.staged s.your_way.entries shown' m.staged low high (λ k e. idle_not_read k (sym idle ∙ e));
+      entries = way_shows (other role) z words homes y.written m.taken m.shown m.staged s.your_way.entries shown' m.staged (let low = s.your_way.entries.shown_first in omega (arith, low, more)) high (λ k e. (e, more));
+      staged = s.your_way.staged;
+      staged_in_order = s.your_way.staged_in_order;
+      out = s.your_way.out;
+      in_range = s.your_way.in_range;
+      last_entries = s.your_way.last_entries;
+      longest = s.your_way.longest;
+    };
+    i_own = s.i_own;
+    you_own = s.you_own;
+    constants = s.constants;
+  }
+
+  -- another count of steps
+  pub count_keeps : (steps' : ℕ) → Sides role key words homes record m { steps = steps' } y
+  count_keeps steps' = record {
+    shape = s.shape;
+    word_count = s.word_count;
+    slot_count = s.slot_count;
+    my_way = record {
+      entries = s.my_way.entries;
+      staged = s.my_way.staged;
+      staged_in_order = s.my_way.staged_in_order;
+      out = s.my_way.out;
+      in_range = s.my_way.in_range;
+      last_entries = s.my_way.last_entries;
+      longest = s.my_way.longest;
+    };
+    your_way = record {
+      entries = s.your_way.entries;
       staged = s.your_way.staged;
       staged_in_order = s.your_way.staged_in_order;
       out = s.your_way.out;

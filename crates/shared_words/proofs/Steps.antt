@@ -26,7 +26,7 @@ use Rattle.shared_words.specs.Slots.{Slot, fronted, carried_times, front_value}
 use Rattle.shared_words.specs.HalfHolds.{HalfHolds}
 use Rattle.shared_words.specs.Kinds.{Seated, desc_len_stored, avail_entry_stored, used_id_stored, used_len_stored, index_published, index_loaded, number_loaded, len_loaded}
 use Rattle.shared_words.proofs.WayLemmas.{number_not_len, len_place_small, get_apart}
-use Rattle.shared_words.proofs.Sides.{Sides, driver_side, device_side, driver_content, device_content, some_size, i_hold, your_left_small, left_not_mine, your_length, your_count, publish_keeps, look_is, show_keeps, read_keeps, next_is, take_keeps}
+use Rattle.shared_words.proofs.Sides.{Sides, driver_side, device_side, driver_content, device_content, some_size, i_hold, your_left_small, left_not_mine, your_length, your_count, publish_keeps, look_is, show_keeps, read_keeps, next_is, take_keeps, count_keeps}
 use Rattle.shared_words.proofs.Stores.{number_here, len_here, number_stored, length_stored, stored_here}
 use Rattle.shared_words.proofs.ViewLemmas.{Grows, prefix-refl, views_step}
 use Rattle.shared_words.proofs.Fronts.{front_act, front_carried, front_out}
@@ -52,7 +52,7 @@ pub record Found (role : Role) (key : Shape) (s : RingState) (id : ℕ) (v : Hal
   pub yours : HalfView
   pub sides : Sides role key s.words s.homes v yours
   pub notes : (j : ℕ) (n : HalfView) → get_elem? s.views j ≡ some (Note (other role) n) → IsNoteOf n yours
-  pub keeps : (words' : List ℕ) (homes' : Homes) (w : HalfView) → Grows v w → Sides role key words' homes' w yours → RingRule key record { words = words'; homes = homes'; views = set s.views id (Live role w) }
+  pub keeps : (words' : List ℕ) (homes' : Homes) (w : HalfView) → Grows v w → Sides role key words' homes' (record w { steps = v.steps }) yours → RingRule key record { words = words'; homes = homes'; views = set s.views id (Live role w) }
 
 pub found : (role : Role) (key : Shape) (s : RingState) (id : ℕ) (v : HalfView) (u : View) → RingRule key s → get_elem? s.views id ≡ some u → u ≡ Live role v → Found role key s id v
 found Driver key s id v u holds at is = let r = running key s id u holds at (λ m e. let q : Opening m ≡ Live Driver v = sym e ∙ is in cc) in
@@ -66,7 +66,7 @@ found Driver key s id v u holds at is = let r = running key s id u holds at (λ 
         driver_seat = r.driver_seat;
         device_seat = r.device_seat;
         views = views_step (of_role r.driver r.device) (of_role w r.device) (of_role r.driver_seat r.device_seat) s.views r.views Driver id v w at' g refl (driver_only r.driver w r.device);
-        content = driver_content key words' homes' w r.device b;
+        content = driver_content key words' homes' w r.device (count_keeps Driver key words' homes' (record w { steps = v.steps }) r.device b w.steps);
       };
     }
 found Device key s id v u holds at is = let r = running key s id u holds at (λ m e. let q : Opening m ≡ Live Device v = sym e ∙ is in cc) in
@@ -80,7 +80,7 @@ found Device key s id v u holds at is = let r = running key s id u holds at (λ 
         driver_seat = r.driver_seat;
         device_seat = r.device_seat;
         views = views_step (of_role r.driver r.device) (of_role r.driver w) (of_role r.driver_seat r.device_seat) s.views r.views Device id v w at' g refl (device_only r.device w r.driver);
-        content = device_content key words' homes' r.driver w b;
+        content = device_content key words' homes' r.driver w (count_keeps Device key words' homes' (record w { steps = v.steps }) r.driver b w.steps);
       };
     }
 
@@ -103,7 +103,7 @@ module _ (role : Role) (key : Shape) (id : ℕ) (me : Seated) (v : HalfView) (a 
   carried_once x = let k = h.once x in let l = Rattle.shared_words.proofs.CountLemmas.inside-le key.size x in omega (arith, k, l)
 
   -- a store of a word, with the slot n brought to the front
-  pub fronting : (n i r : ℕ) (w : HalfView) (then : Seated → Type 0) (s : RingState) → (f : Found role key s id v) → Grows v w → Sides role key (set s.words i r) s.homes w f.yours → then (Live role w, fronted n me.1)
+  pub fronting : (n i r : ℕ) (w : HalfView) (then : Seated → Type 0) (s : RingState) → (f : Found role key s id v) → Grows v w → Sides role key (set s.words i r) s.homes (record w { steps = v.steps }) f.yours → then (Live role w, fronted n me.1)
       → (u : View) × (act : Act (Option Stored)) × Valid s.homes me.1 act × RingRule key (stepped s i r id me.1 u act) × then (u, carried_after me.1 act)
   fronting n i r w then s f g b told = let act = front_act n me.1 in let o = front_out n me.1 s.homes (carried_out s.homes f.sides.my_way.out) carried_once in (
     Live role w,
@@ -193,16 +193,16 @@ allows_publish role key slots id i new len me v b below is staged_is next carrie
           ((λ j. Live role (writing (buf j, ln j) (same j))), ap rest carried'),
     )
 
-pub allows_look : (role : Role) (key : Shape) (slots id i : ℕ) (me : Seated) (v : HalfView) → me.0 ≡ Live role v → v.staged ≡ Idle → slots ≡ key.size → i ≡ (way_of (other role) key.size).idx
+pub allows_look : (role : Role) (key : Shape) (slots id i : ℕ) (me : Seated) (v : HalfView) → me.0 ≡ Live role v → slots ≡ key.size → i ≡ (way_of (other role) key.size).idx
     → Allows (RingRule key) slots id me i (λ n. n) (index_loaded role (step slots i 0 0 none) me)
-allows_look role key slots id i me v is idle sized word s holds deep at _ =
+allows_look role key slots id i me v is sized word s holds deep at _ =
     let f = found role key s id v me.0 holds at is in let r : ℕ = get_or s.words i 0 in let n : ℕ = ahead r (length v.taken) in let w : HalfView = looking n v in
     let look : n ≡ length f.yours.written - length v.taken = ap (λ (j : ℕ). ahead (get_or s.words j 0) (length v.taken)) word ∙ look_is role key s.words s.homes v f.yours f.sides in
     let long = your_length role key s.words s.homes v f.yours f.sides in let count = your_count role key s.words s.homes v f.yours f.sides in
     let low = f.sides.your_way.entries.shown_first in let high = f.sides.your_way.entries.written_first in
     let fit = Rattle.shared_words.proofs.Sides.your_fit role key s.words s.homes v f.yours f.sides in
     let word_is : r ≡ length f.yours.written % 65536 = ap (λ (j : ℕ). get_or s.words j 0) word ∙ f.sides.your_way.entries.idx in
-    let kept = show_keeps role key s.words s.homes v f.yours f.sides (length v.taken + n) (v.looks ++ n ∷ []) idle (omega arith) (omega (arith, look, long)) in (
+    let kept = show_keeps role key s.words s.homes v f.yours f.sides (length v.taken + n) (v.looks ++ n ∷ []) (omega (arith, look, high)) (omega (arith, look, long)) in (
       Live role w,
       keeps,
       tt,

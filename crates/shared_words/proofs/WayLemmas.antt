@@ -182,15 +182,15 @@ module _ (role : Role) (z : ℕ) (words : List ℕ) (homes : Homes) (written tak
   }
 
   -- more is shown
-  pub way_shows : (shown' : ℕ) (st' : Staged) → length taken ≤ shown' → shown' ≤ length written → ((id : ℕ) → st' ≢ NumberRead id) → WayHolds (way_of role z) z words homes written taken shown' st'
-  way_shows shown' st' low high none_read = record {
+  pub way_shows : (shown' : ℕ) (st' : Staged) → length taken ≤ shown' → shown' ≤ length written → ((id : ℕ) → st' ≡ NumberRead id → (st ≡ NumberRead id) × (shown ≤ shown')) → WayHolds (way_of role z) z words homes written taken shown' st'
+  way_shows shown' st' low high read_before = record {
     left = o.left;
     idx = o.idx;
     in_order = o.in_order;
     shown_first = low;
     written_first = high;
     standing = o.standing;
-    read = λ id e. absurd (none_read id e);
+    read = λ id e. let was = read_before id e in let r = o.read id was.0 in (omega (arith, r, was), r.1);
   }
 
   -- the taker reads the next number

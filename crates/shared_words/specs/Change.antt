@@ -1,4 +1,4 @@
--- How a step changes the view of the half that makes it.
+-- How a step changes the view of the half that makes it. Each of these changes is one step, and counts as one.
 -- Source: docs/ARCHITECTURE.md, the table of the kinds of step.
 use Rattle.std.specs.Prelude.{◌≡◌, ℕ, ◌+◌, ◌-◌, ◌%◌, [], ◌∷◌, ◌++◌, length}
 use Rattle.shared_words.specs.Entry.{Entry}
@@ -8,19 +8,19 @@ use Rattle.shared_words.specs.declared.view.HalfView.{HalfView}
 
 -- something is staged
 abbrev pub staging : Staged → HalfView → HalfView
-staging staged view = record view { staged = staged }
+staging staged view = record view { staged = staged; steps = view.steps + 1 }
 
 -- what was staged is offered or returned
 abbrev pub writing : Entry → HalfView → HalfView
-writing e view = record view { written = view.written ++ e ∷ []; staged = Idle }
+writing e view = record view { written = view.written ++ e ∷ []; staged = Idle; steps = view.steps + 1 }
 
 -- a look shows n entries that were not taken
 abbrev pub looking : ℕ → HalfView → HalfView
-looking n view = record view { shown = length view.taken + n; looks = view.looks ++ n ∷ [] }
+looking n view = record view { shown = length view.taken + n; looks = view.looks ++ n ∷ []; steps = view.steps + 1 }
 
 -- the entry whose number was read is fetched or reclaimed
 abbrev pub taking : Entry → HalfView → HalfView
-taking e view = record view { taken = view.taken ++ e ∷ []; staged = Idle }
+taking e view = record view { taken = view.taken ++ e ∷ []; staged = Idle; steps = view.steps + 1 }
 
 -- how many entries a load of idx shows beyond those that were taken
 abbrev pub ahead : ℕ → ℕ → ℕ

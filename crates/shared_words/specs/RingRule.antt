@@ -58,7 +58,7 @@ pub record Running (key : Shape) (s : RingState) : Type 0 where
 
 -- the view of a half that has done nothing
 abbrev pub new_view : ℕ → HalfView
-new_view longest = record { written = []; taken = []; shown = 0; looks = []; staged = Idle; longest = longest }
+new_view longest = record { written = []; taken = []; shown = 0; looks = []; staged = Idle; steps = 0; longest = longest }
 
 -- a ring that has not begun: no half is there, nothing was written, and every slot is at home and empty
 pub record NotBegun (key : Shape) (s : RingState) : Type 0 where

@@ -63,7 +63,6 @@ impl RingTable {
     /// Loads the available index: how many offered buffers the device has not fetched yet.
     pub fn look_avail(&self, half: &mut Half) -> u32
         requires device { IsHalfOf self.now Device half.old }
-        requires idle { half.old.view.staged ≡ Idle }
         ensures view { half.new ≡ with_view (looking result half.old.view) half.old }
         ensures shown { half.old.view.shown ≤ half.new.view.shown }
         ensures room { length half.old.view.taken + result ≤ size_of self.now.ring + length half.old.view.written }

@@ -60,7 +60,6 @@ impl RingTable {
     /// Loads the used index: how many returned buffers the driver has not reclaimed yet.
     pub fn look_used(&self, half: &mut Half) -> u32
         requires driver { IsHalfOf self.now Driver half.old }
-        requires idle { half.old.view.staged ≡ Idle }
         ensures view { half.new ≡ with_view (looking result half.old.view) half.old }
         ensures shown { half.old.view.shown ≤ half.new.view.shown }
         ensures room { length half.old.view.taken + result ≤ length half.old.view.written }

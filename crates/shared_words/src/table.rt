@@ -5,8 +5,8 @@ use std::marker::Model;
 
 /// One split virtqueue: its fields as atomic words, and a slot for each buffer that stands in it.
 ///
-/// Two halves step on it, each from one thread at a time. Each call but `close` makes one atomic step, waits for
-/// nobody and cannot fail.
+/// Two halves step on it, each from one thread at a time. Each call but `tell` and `close` makes exactly one atomic step,
+/// which the half's view counts. No call waits for anybody, and none can fail.
 #[derive(Drop)]
 pub struct RingTable {
     pub(crate) board: Board,

@@ -1,6 +1,5 @@
 //! How one half tells the other what it knows.
 ghost use Rattle.std.specs.Prelude.{◌≡◌};
-ghost use Rattle.shared_words.specs.declared.view.Staged.TheVariants.{Idle};
 ghost use Rattle.shared_words.specs.Way.{other};
 ghost use Rattle.shared_words.specs.Shown.{size_of, with_view};
 ghost use Rattle.shared_words.specs.Notes.{showing_all, NoteFits};
@@ -15,7 +14,6 @@ impl RingTable {
     pub fn tell(&self, from: &mut Half, to: &mut Half)
         requires rings { (from.old.ring ≡ self.now.ring) × (to.old.ring ≡ self.now.ring) }
         requires others { to.old.role ≡ other from.old.role }
-        requires idle { to.old.view.staged ≡ Idle }
         ensures from { from.new ≡ from.old }
         ensures to { to.new ≡ with_view (showing_all from.old.view to.old.view) to.old }
         ensures fits { NoteFits to.old.role (size_of self.now.ring) from.old.view to.old.view }

@@ -32,6 +32,9 @@ pub struct HalfView {
     /// What each look showed.
     pub looks: LinkedList<u64>,
     pub staged: Staged,
+    /// How many steps this half made: the loads and stores of its calls. Notes, and the parting and joining of views, are
+    /// none of them.
+    pub steps: u64,
     /// The most bytes that a length can tell.
     pub longest: u64,
 }

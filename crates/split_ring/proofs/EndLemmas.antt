@@ -39,8 +39,12 @@ sound_takes role e half s left not_held low =
       room = s.room;
     }
 
-pub kept_writes : (role : Role) (e : Entry) (half : HalfShown) (counts : Counts) → IsKept role half counts → HoldsNumber role (end_of half) (number_of e) → IsKept role (with_view (writing e half.view) half) counts
-kept_writes role e half counts k held = record {
+-- a view with another count of steps, which no end shows
+abbrev pub counted : ℕ → HalfView → HalfView
+counted steps view = record view { steps = steps }
+
+kept_writes : (role : Role) (e : Entry) (half : HalfShown) (counts : Counts) (steps : ℕ) → IsKept role half counts → HoldsNumber role (end_of half) (number_of e) → IsKept role (with_view (counted steps (writing e half.view)) half) counts
+kept_writes role e half counts steps k held = record {
   same_role = k.same_role;
   idle = refl;
   sound = sound_writes role e (end_of half) k.sound held;
@@ -50,9 +54,9 @@ kept_writes role e half counts k held = record {
   saw = k.saw;
 }
 
-pub kept_takes : (role : Role) (e : Entry) (half : HalfShown) (counts : Counts) → IsKept role half counts → IsLeft (end_of half) → (HoldsNumber role (end_of half) (number_of e) → ⊥) → number_of e < size_of half.ring
-    → IsKept role (with_view (taking e half.view) half) (record counts { taken = (counts.taken + 1) % 2 ^ 16; left = counts.left - 1 })
-kept_takes role e half counts k left not_held low = record {
+kept_takes : (role : Role) (e : Entry) (half : HalfShown) (counts : Counts) (steps : ℕ) → IsKept role half counts → IsLeft (end_of half) → (HoldsNumber role (end_of half) (number_of e) → ⊥) → number_of e < size_of half.ring
+    → IsKept role (with_view (counted steps (taking e half.view)) half) (record counts { taken = (counts.taken + 1) % 2 ^ 16; left = counts.left - 1 })
+kept_takes role e half counts steps k left not_held low = record {
   same_role = k.same_role;
   idle = refl;
   sound = sound_takes role e (end_of half) k.sound left not_held low;
@@ -63,11 +67,11 @@ kept_takes role e half counts k left not_held low = record {
 }
 
 -- what the table says of a number that was not held, once its number was read
-pub not_held_before : (role : Role) (h now : HalfShown) (r n : ℕ) → h.role ≡ role → now ≡ with_view (staging (NumberRead r) h.view) h → (table.HoldsNumber now n → ⊥) → HoldsNumber role (end_of h) n → ⊥
+not_held_before : (role : Role) (h now : HalfShown) (r n : ℕ) → h.role ≡ role → now ≡ with_view (staging (NumberRead r) h.view) h → (table.HoldsNumber now n → ⊥) → HoldsNumber role (end_of h) n → ⊥
 not_held_before role h now r n same is none_there held =
     none_there (subst (λ (x : HalfShown). table.HoldsNumber x n) (sym is) (subst (λ (x : Role). times n h.view.written < begins x (size_of h.ring) n + times n h.view.taken) (sym same) held))
 
-pub read_below : (h now : HalfShown) (on on' : TableShown) (r n : ℕ) → now ≡ with_view (staging (NumberRead r) h.view) h → n ≡ number_in now.view.staged → r < size_of on.ring → on ≡ on' → h.ring ≡ on'.ring → n < size_of h.ring
+read_below : (h now : HalfShown) (on on' : TableShown) (r n : ℕ) → now ≡ with_view (staging (NumberRead r) h.view) h → n ≡ number_in now.view.staged → r < size_of on.ring → on ≡ on' → h.ring ≡ on'.ring → n < size_of h.ring
 read_below h now on on' r n is number low same fit = let q : size_of on.ring ≡ size_of h.ring = ap (λ (x : TableShown). size_of x.ring) same ∙ ap size_of (sym fit) in let s = ap (λ (x : HalfShown). number_in x.view.staged) is in omega (arith, number, s, low, q)
 
 flag-le : (b : Bool) → cond b 1 0 ≤ 1
@@ -75,8 +79,8 @@ flag-le true = omega arith
 flag-le false = omega arith
 
 -- the flags after a number was written or taken
-pub flags_write : (role : Role) (e : Entry) (half : HalfShown) (flags : List Bool) → HasFlags role half flags → number_of e < length flags → HoldsNumber role (end_of half) (number_of e) → HasFlags role (with_view (writing e half.view) half) (set flags (number_of e) false)
-flags_write role e half flags f low held = let n : ℕ = number_of e in record {
+flags_write : (role : Role) (e : Entry) (half : HalfShown) (flags : List Bool) (steps : ℕ) → HasFlags role half flags → number_of e < length flags → HoldsNumber role (end_of half) (number_of e) → HasFlags role (with_view (counted steps (writing e half.view)) half) (set flags (number_of e) false)
+flags_write role e half flags steps f low held = let n : ℕ = number_of e in record {
   count = length-set flags n false ∙ f.count;
   each = λ x. let h = f.each x in let more = times-append x half.view.written (e ∷ []) in dite (ℕ_discrete n x)
       (λ q. let b = subst (λ (y : ℕ). get_or (set flags n false) y false ≡ false) q (get_or-set_same flags n false false low) in let c = ap {B = ℕ} (λ (v : Bool). cond v 1 0) b in let t = times-is x e q in
@@ -84,8 +88,8 @@ flags_write role e half flags f low held = let n : ℕ = number_of e in record {
       (λ ne. let b = get_or-set_other flags n x false false (λ q. ne (sym q)) in let c = ap {B = ℕ} (λ (v : Bool). cond v 1 0) b in let t = times-other x e ne in omega (arith, h, more, c, t));
 }
 
-pub flags_take : (role : Role) (e : Entry) (half : HalfShown) (flags : List Bool) → HasFlags role half flags → number_of e < length flags → (HoldsNumber role (end_of half) (number_of e) → ⊥) → HasFlags role (with_view (taking e half.view) half) (set flags (number_of e) true)
-flags_take role e half flags f low free = let n : ℕ = number_of e in record {
+flags_take : (role : Role) (e : Entry) (half : HalfShown) (flags : List Bool) (steps : ℕ) → HasFlags role half flags → number_of e < length flags → (HoldsNumber role (end_of half) (number_of e) → ⊥) → HasFlags role (with_view (counted steps (taking e half.view)) half) (set flags (number_of e) true)
+flags_take role e half flags steps f low free = let n : ℕ = number_of e in record {
   count = length-set flags n true ∙ f.count;
   each = λ x. let h = f.each x in let more = times-append x half.view.taken (e ∷ []) in dite (ℕ_discrete n x)
       (λ q. let b = subst (λ (y : ℕ). get_or (set flags n true) y false ≡ true) q (get_or-set_same flags n true false low) in let c = ap {B = ℕ} (λ (v : Bool). cond v 1 0) b in let t = times-is x e q in
@@ -94,7 +98,7 @@ flags_take role e half flags f low free = let n : ℕ = number_of e in record {
 }
 
 -- a number that is held is below the size
-pub held_below : (role : Role) (half : End) (n : ℕ) → IsSound role half → HoldsNumber role half n → n < size_of half.ring
+held_below : (role : Role) (half : End) (n : ℕ) → IsSound role half → HoldsNumber role half n → n < size_of half.ring
 held_below role half n s held = let d = s.differ n in inside-lt (size_of half.ring) n (omega (arith, d, held))
 
 -- at the beginning the driver holds every number, and the device none
@@ -130,5 +134,33 @@ pub device_flags : (z x : ℕ) → flag_count (replicate z false) x ≡ begins r
 device_flags z x = no-flags z x
 
 -- a number that was just taken is held
-pub taken_held : (role : Role) (e : Entry) (half : End) → IsSound role half → HoldsNumber role (takes e half) (number_of e)
+taken_held : (role : Role) (e : Entry) (half : End) → IsSound role half → HoldsNumber role (takes e half) (number_of e)
 taken_held role e half s = let o = s.owned (number_of e) in let more = times-append (number_of e) half.taken (e ∷ []) in let one = times-is (number_of e) e refl in omega (arith, o, more, one)
+
+-- a half that wrote an entry, whatever steps that took
+pub half_writes : (role : Role) (e : Entry) (half new : HalfShown) (counts : Counts) (flags : List Bool) (id steps : ℕ) → IsKept role half counts → HasFlags role half flags → HoldsNumber role (end_of half) (number_of e) → id ≡ number_of e
+    → new ≡ with_view (counted steps (writing e half.view)) half → IsKept role new counts × HasFlags role new (set flags id false)
+half_writes role e half new counts flags id steps k f held same is = let low = held_below role (end_of half) (number_of e) k.sound held in let count = f.count in (
+  subst (λ (x : HalfShown). IsKept role x counts) (sym is) (kept_writes role e half counts steps k held),
+  subst (λ (x : HalfShown × ℕ). HasFlags role x.0 (set flags x.1 false)) (λ i. (sym is i, sym same i)) (flags_write role e half flags steps f (omega (arith, low, count)) held),
+)
+
+-- a half that read a number, and took the entry with it
+pub record HasTaken (role : Role) (e : Entry) (new : HalfShown) (counts : Counts) (flags : List Bool) (id : ℕ) : Type 0 where
+  pub is_kept : IsKept role new (record counts { taken = (counts.taken + 1) % 2 ^ 16; left = counts.left - 1 })
+  pub has_flags : HasFlags role new (set flags id true)
+  pub is_held : HoldsNumber role (end_of new) (number_of e)
+
+pub half_takes : (role : Role) (e : Entry) (half read new : HalfShown) (on on' : TableShown) (counts : Counts) (flags : List Bool) (id : ℕ) → IsKept role half counts → HasFlags role half flags → IsLeft (end_of half) → on ≡ on' → half.ring ≡ on'.ring
+    → read ≡ with_view (staging (NumberRead id) half.view) half → id < size_of on.ring → new ≡ with_view (taking e read.view) read → number_of e ≡ number_in read.view.staged → (table.HoldsNumber read (number_of e) → ⊥)
+    → HasTaken role e new counts flags id
+half_takes role e half read new on on' counts flags id k f left same fit reads below takes_it number none_there =
+    let steps : ℕ = half.view.steps + 1 + 1 in
+    let is : new ≡ with_view (counted steps (taking e half.view)) half = takes_it ∙ ap (λ (x : HalfShown). with_view (taking e x.view) x) reads in
+    let low = read_below half read on on' id (number_of e) reads number below same fit in let count = f.count in
+    let free = not_held_before role half read id (number_of e) k.same_role reads none_there in
+    let num : number_of e ≡ id = number ∙ ap (λ (x : HalfShown). number_in x.view.staged) reads in record {
+      is_kept = subst (λ (x : HalfShown). IsKept role x (record counts { taken = (counts.taken + 1) % 2 ^ 16; left = counts.left - 1 })) (sym is) (kept_takes role e half counts steps k left free low);
+      has_flags = subst (λ (x : HalfShown × ℕ). HasFlags role x.0 (set flags x.1 true)) (λ i. (sym is i, num i)) (flags_take role e half flags steps f (omega (arith, low, count)) free);
+      is_held = subst (λ (x : HalfShown). HoldsNumber role (end_of x) (number_of e)) (sym is) (taken_held role e (end_of half) k.sound);
+    }

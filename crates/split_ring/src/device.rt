@@ -102,7 +102,8 @@ impl Device {
     {
         self.counts.take();
         let id = on.table.read_avail(&mut self.half);
+        let entry = on.table.fetch_len(&mut self.half);
         self.held[id as usize] = true;
-        on.table.fetch_len(&mut self.half)
+        entry
     }
 }

@@ -102,7 +102,8 @@ impl Driver {
     {
         self.counts.take();
         let id = on.table.read_used_id(&mut self.half);
+        let entry = on.table.reclaim_len(&mut self.half);
         self.held[id as usize] = true;
-        on.table.reclaim_len(&mut self.half)
+        entry
     }
 }

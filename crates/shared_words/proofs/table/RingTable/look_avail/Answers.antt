@@ -10,5 +10,5 @@ load-found-requires c = let t = c.self.inside in let h = c.half.inside in let me
     let within = c.word_of-word.ensures.within in let size = m.size in let words = m.words in let word = c.word_of-word.ensures.word in (
       m.same,
       omega (arith, within, size, words),
-      allows_look Device key t.board.shared.table_id.slots h.seat.id c.word_of-word.result h.seat.me me.view m.live c.requires.idle m.slots (omega (arith, word, size)),
+      allows_look Device key t.board.shared.table_id.slots h.seat.id c.word_of-word.result h.seat.me me.view m.live m.slots (omega (arith, word, size)),
     )

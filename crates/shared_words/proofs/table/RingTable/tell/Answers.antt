@@ -27,7 +27,7 @@ join_seat-requires c = let t = c.self.inside in let h = c.from.inside in let k =
       e.3 ∙ m.same,
       ap (λ (x : Seated). x.1) e.4,
       omega (arith, words),
-      joins_note t.board.shared.key k.seat.id c.split_seat-note.result.id k.seat.me.0 c.split_seat-note.result.me.0 to.role to.view from.view n.live w c.requires.idle,
+      joins_note t.board.shared.key k.seat.id c.split_seat-note.result.id k.seat.me.0 c.split_seat-note.result.me.0 to.role to.view from.view n.live w,
     )
 
 pub load-zero-requires : goal.load-zero-requires
