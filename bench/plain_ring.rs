@@ -1,11 +1,9 @@
 //! A split virtqueue in plain Rust, with the same words and sequentially consistent steps as `split_ring`, for
 //! bench/ring.sh to compare with. It rests on no proof: its slots are cells that two threads reach.
 //!
-//! Words: a mode, the size of the ring, and the number of rounds. The modes `one`, `two`, `order` and `reverse` move
-//! buffers round; `make`, `offer` and `fetch` do a part of that with a new ring each round.
+//! Words: a mode, the size of the ring, and the number of rounds, as of crates/ring_bench.
 use std::cell::UnsafeCell;
 use std::collections::VecDeque;
-use std::hint::black_box;
 use std::sync::atomic::{AtomicU64, Ordering::SeqCst};
 
 #[allow(dead_code)]
@@ -22,6 +20,8 @@ struct Ring {
 
 unsafe impl Sync for Ring {}
 
+/// Two halves never share a cache line, so that two threads don't wait for each other's counts.
+#[repr(align(128))]
 #[derive(Default)]
 struct Half {
     written: u16,
@@ -110,13 +110,19 @@ impl Ring {
     }
 }
 
+/// The length of a buffer in a round, which differs from round to round.
+fn length(round: u32, number: u16) -> u32 {
+    round.wrapping_add(number as u32) % 512
+}
+
 fn one(ring: &Ring, driver: &mut Half, device: &mut Half, mut buffers: Vec<Buffer>, rounds: u32) {
     let mut hand = buffers.pop();
-    for _ in 0..rounds {
+    for round in 0..rounds {
         let Some(buffer) = hand else { break };
-        ring.offer(driver, buffer, 64);
-        if let Some((buffer, _)) = ring.fetch(device) {
-            ring.give(device, buffer, 0);
+        let len = length(round, buffer.number);
+        ring.offer(driver, buffer, len);
+        if let Some((buffer, len)) = ring.fetch(device) {
+            ring.give(device, buffer, len);
         }
         hand = ring.reclaim(driver).map(|(buffer, _)| buffer);
     }
@@ -127,20 +133,22 @@ fn two(ring: &Ring, driver: &mut Half, device: &mut Half, buffers: Vec<Buffer>, 
         scope.spawn(|| {
             let mut done = 0;
             while done < rounds {
-                if let Some((buffer, _)) = ring.fetch(device) {
-                    ring.give(device, buffer, 0);
+                if let Some((buffer, len)) = ring.fetch(device) {
+                    ring.give(device, buffer, len);
                     done += 1;
                 }
             }
         });
         for buffer in buffers {
-            ring.offer(driver, buffer, 64);
+            let len = length(0, buffer.number);
+            ring.offer(driver, buffer, len);
         }
         let mut done = 0;
         while done < rounds {
             if let Some((buffer, _)) = ring.reclaim(driver) {
-                ring.offer(driver, buffer, 64);
                 done += 1;
+                let len = length(done, buffer.number);
+                ring.offer(driver, buffer, len);
             }
         }
     });
@@ -149,15 +157,17 @@ fn two(ring: &Ring, driver: &mut Half, device: &mut Half, buffers: Vec<Buffer>, 
 fn batch(ring: &Ring, driver: &mut Half, device: &mut Half, buffers: Vec<Buffer>, rounds: u32, reverse: bool) {
     let mut free: VecDeque<Buffer> = buffers.into();
     let mut held = VecDeque::with_capacity(ring.size);
-    for _ in 0..rounds {
+    for round in 0..rounds {
         while let Some(buffer) = free.pop_front() {
-            ring.offer(driver, buffer, 64);
+            let len = length(round, buffer.number);
+            ring.offer(driver, buffer, len);
         }
         while let Some((buffer, _)) = ring.fetch(device) {
             held.push_back(buffer);
         }
         while let Some(buffer) = if reverse { held.pop_back() } else { held.pop_front() } {
-            ring.give(device, buffer, 0);
+            let len = length(round, buffer.number);
+            ring.give(device, buffer, len);
         }
         while let Some((buffer, _)) = ring.reclaim(driver) {
             free.push_back(buffer);
@@ -165,42 +175,18 @@ fn batch(ring: &Ring, driver: &mut Half, device: &mut Half, buffers: Vec<Buffer>
     }
 }
 
-// A longer part less a shorter one is one call alone.
-fn part(mode: &str, size: usize, rounds: u32) -> usize {
-    let mut fetched = 0;
-    for _ in 0..rounds {
-        let (ring, buffers) = black_box(Ring::new(size));
-        let (mut driver, mut device) = (Half::default(), Half::default());
-        let mut free: VecDeque<Buffer> = buffers.into();
-        let mut held = VecDeque::with_capacity(size);
-        if mode != "make" {
-            while let Some(buffer) = free.pop_front() {
-                ring.offer(&mut driver, buffer, 64);
-            }
-        }
-        if mode == "fetch" {
-            while let Some((buffer, _)) = ring.fetch(&mut device) {
-                held.push_back(buffer);
-            }
-        }
-        fetched += held.len();
-    }
-    fetched
-}
-
 fn main() {
     let words: Vec<String> = std::env::args().collect();
     let size = words[2].parse().unwrap();
     let rounds = words[3].parse().unwrap();
-    if ["make", "offer", "fetch"].contains(&words[1].as_str()) {
-        let fetched = part(&words[1], size, rounds);
-        println!("{} {} {} fetched {}", words[1], size, rounds, fetched);
-        return;
-    }
-    let (ring, buffers) = Ring::new(size);
+    let (ring, mut buffers) = Ring::new(size);
     let (mut driver, mut device) = (Half::default(), Half::default());
     match words[1].as_str() {
         "two" => two(&ring, &mut driver, &mut device, buffers, rounds),
+        "ping" => {
+            buffers.truncate(1);
+            two(&ring, &mut driver, &mut device, buffers, rounds)
+        }
         "order" => batch(&ring, &mut driver, &mut device, buffers, rounds, false),
         "reverse" => batch(&ring, &mut driver, &mut device, buffers, rounds, true),
         _ => one(&ring, &mut driver, &mut device, buffers, rounds),

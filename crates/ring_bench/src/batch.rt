@@ -3,6 +3,7 @@ ghost use Rattle.std.specs.Prelude.{◌≡◌, OnOk};
 ghost use Rattle.shared_words.specs.declared.view.Role.TheVariants as role;
 ghost use Rattle.split_ring.specs.Ends.{AreHeld, IsSound};
 
+use crate::length::length;
 use mc_base::Buffer;
 use split_ring::{Closed, Device, Driver, Ring};
 use std::alloc::{AllocError, Global};
@@ -17,11 +18,12 @@ pub(crate) fn offer_new(on: &Ring, driver: &mut Driver, mut buffers: Vec<Buffer>
     ensures sound { IsSound role.Driver driver.new }
 {
     while let Some(buffer) = buffers.pop() {
-        driver.offer(on, buffer, 64);
+        let len = length(0, buffer.number());
+        driver.offer(on, buffer, len);
     }
 }
 
-pub(crate) fn offer_all(on: &Ring, driver: &mut Driver, free: &mut VecDeque<Buffer>)
+fn offer_all(on: &Ring, driver: &mut Driver, free: &mut VecDeque<Buffer>, round: u32)
     requires ring { driver.old.ring ≡ on.now.ring }
     requires held { AreHeld role.Driver driver.old free.old.items }
     requires sound { IsSound role.Driver driver.old }
@@ -30,15 +32,12 @@ pub(crate) fn offer_all(on: &Ring, driver: &mut Driver, free: &mut VecDeque<Buff
     ensures sound { IsSound role.Driver driver.new }
 {
     while let Some(buffer) = free.pop_front() {
-        driver.offer(on, buffer, 64);
+        let len = length(round, buffer.number());
+        driver.offer(on, buffer, len);
     }
 }
 
-pub(crate) fn fetch_all(
-    on: &Ring,
-    device: &mut Device,
-    held: &mut VecDeque<Buffer>,
-) -> Result<(), AllocError>
+fn fetch_all(on: &Ring, device: &mut Device, held: &mut VecDeque<Buffer>) -> Result<(), AllocError>
     requires ring { device.old.ring ≡ on.now.ring }
     requires held { AreHeld role.Device device.old held.old.items }
     requires sound { IsSound role.Device device.old }
@@ -59,7 +58,7 @@ pub(crate) fn fetch_all(
     Ok(())
 }
 
-fn give_all(on: &Ring, device: &mut Device, held: &mut VecDeque<Buffer>)
+fn give_all(on: &Ring, device: &mut Device, held: &mut VecDeque<Buffer>, round: u32)
     requires ring { device.old.ring ≡ on.now.ring }
     requires held { AreHeld role.Device device.old held.old.items }
     requires sound { IsSound role.Device device.old }
@@ -68,11 +67,12 @@ fn give_all(on: &Ring, device: &mut Device, held: &mut VecDeque<Buffer>)
     ensures sound { IsSound role.Device device.new }
 {
     while let Some(buffer) = held.pop_front() {
-        device.give(on, buffer, 0);
+        let len = length(round, buffer.number());
+        device.give(on, buffer, len);
     }
 }
 
-fn give_all_back(on: &Ring, device: &mut Device, held: &mut VecDeque<Buffer>)
+fn give_all_back(on: &Ring, device: &mut Device, held: &mut VecDeque<Buffer>, round: u32)
     requires ring { device.old.ring ≡ on.now.ring }
     requires held { AreHeld role.Device device.old held.old.items }
     requires sound { IsSound role.Device device.old }
@@ -81,7 +81,8 @@ fn give_all_back(on: &Ring, device: &mut Device, held: &mut VecDeque<Buffer>)
     ensures sound { IsSound role.Device device.new }
 {
     while let Some(buffer) = held.pop_back() {
-        device.give(on, buffer, 0);
+        let len = length(round, buffer.number());
+        device.give(on, buffer, len);
     }
 }
 
@@ -124,13 +125,13 @@ fn rounds_of(
 {
     let mut free = VecDeque::new(alloc);
     let mut held = VecDeque::new(alloc);
-    for _ in 0..rounds {
-        offer_all(on, driver, &mut free);
+    for round in 0..rounds {
+        offer_all(on, driver, &mut free, round);
         fetch_all(on, device, &mut held)?;
         if is_reverse {
-            give_all_back(on, device, &mut held);
+            give_all_back(on, device, &mut held, round);
         } else {
-            give_all(on, device, &mut held);
+            give_all(on, device, &mut held, round);
         }
         reclaim_all(on, driver, &mut free)?;
     }

@@ -1,33 +1,25 @@
 //! Moves buffers over a ring, so that `bench/ring.sh` can time it. It prints what it did, and no time.
 //!
-//! Words: a mode, the size of the ring, and the number of rounds. The modes `one`, `two`, `order` and `reverse` move
-//! buffers round; `make`, `offer` and `fetch` do a part of that with a new ring each round.
+//! Words: a mode, the size of the ring, and the number of rounds. On one thread: `one` moves one buffer at a time, `order` all
+//! of them, and `reverse` all of them with the order turned round. On two threads, one for each half: `two` moves all
+//! buffers, and `ping` one alone. The lengths differ from round to round.
 #![tactic(auto)]
 
 mod batch;
+mod length;
 mod one;
-mod part;
 mod two;
 
-use part::Part;
 use split_ring::Ring;
 use std::alloc::AllocError;
 use std::thread::Threads;
 use std::{env, io};
+use two::Load;
 
 fn number(word: Option<String>) -> u32 {
     match word {
         Some(word) => word.parse().unwrap_or(0),
         None => 0,
-    }
-}
-
-fn part_of(mode: &str) -> Option<Part> {
-    match mode {
-        "make" => Some(Part::Make),
-        "offer" => Some(Part::Offer),
-        "fetch" => Some(Part::Fetch),
-        _ => None,
     }
 }
 
@@ -43,7 +35,8 @@ fn reclaimed<R: Threads + Sync + AllocGlobal>(
         return Ok(None);
     };
     let closed = match mode {
-        "two" => two::run(rt, ring, driver, device, buffers, rounds),
+        "two" => two::run(rt, ring, driver, device, buffers, Load::All, rounds),
+        "ping" => two::run(rt, ring, driver, device, buffers, Load::One, rounds),
         "order" => batch::run(alloc, ring, driver, device, buffers, rounds, false)?,
         "reverse" => batch::run(alloc, ring, driver, device, buffers, rounds, true)?,
         _ => one::run(ring, driver, device, buffers, rounds),
@@ -58,10 +51,6 @@ fn report<R: Threads + Sync + AllocGlobal + Print>(
     size: u32,
     rounds: u32,
 ) -> io::Result<()> {
-    if let Some(part) = part_of(mode) {
-        let fetched = part::run(rt.alloc(), size, rounds, part)?;
-        return println!(rt; "{mode} {size} {rounds} fetched {fetched}");
-    }
     match reclaimed(rt, mode, size, rounds)? {
         Some(count) => println!(rt; "{mode} {size} {rounds} reclaimed {count}"),
         None => println!(rt; "no ring of {size}"),

@@ -3,6 +3,7 @@ ghost use Rattle.std.specs.Prelude.{◌≡◌, IfSome};
 ghost use Rattle.shared_words.specs.declared.view.Role.TheVariants as role;
 ghost use Rattle.split_ring.specs.Ends.{AreHeld, HoldsNumber};
 
+use crate::length::length;
 use mc_base::Buffer;
 use split_ring::{Closed, Device, Driver, Ring};
 
@@ -17,11 +18,12 @@ fn rounds_of(
     requires held { IfSome hand (λ b. HoldsNumber role.Driver driver.old b.number) }
     ensures { (driver.new.ring ≡ on.now.ring) × (device.new.ring ≡ on.now.ring) }
 {
-    for _ in 0..rounds {
+    for round in 0..rounds {
         let Some(buffer) = hand else { break };
-        driver.offer(on, buffer, 64);
-        if let Some((fetched, _)) = device.fetch(on) {
-            device.give(on, fetched, 0);
+        let len = length(round, buffer.number());
+        driver.offer(on, buffer, len);
+        if let Some((fetched, len)) = device.fetch(on) {
+            device.give(on, fetched, len);
         }
         hand = match driver.reclaim(on) {
             Some((buffer, _)) => Some(buffer),

@@ -13,6 +13,7 @@ use crate::kinds::{
 };
 use crate::table::RingTable;
 use mc_base::Buffer;
+use std::mem;
 
 impl RingTable {
     /// Stores the length of an offer in the descriptor of its buffer, which the driver holds.
@@ -49,10 +50,11 @@ impl RingTable {
         ensures { half.new ≡ with_view (writing (buffer, len_in half.old.view.staged) half.old.view) half.old }
     {
         let id = buffer.number();
-        let _empty = self
+        let empty = self
             .board
             .shared
             .exchange(&mut half.seat, id as usize, Some(buffer));
+        mem::forget(empty);
         half.written = half.written.wrapping_add(1);
         let word = word_of(self.size, Field::AvailIdx);
         self.board

@@ -11,6 +11,7 @@ use crate::half::Half;
 use crate::kinds::{LoadUsedId, LoadUsedIdx, LoadUsedLen, PublishUsed, StoreUsedId, StoreUsedLen};
 use crate::table::RingTable;
 use mc_base::Buffer;
+use std::mem;
 
 impl RingTable {
     /// Stores the number of a buffer that the device holds at the next place of the used ring.
@@ -46,10 +47,11 @@ impl RingTable {
         ensures { half.new ≡ with_view (writing (buffer, len_in half.old.view.staged) half.old.view) half.old }
     {
         let id = buffer.number();
-        let _empty = self
+        let empty = self
             .board
             .shared
             .exchange(&mut half.seat, id as usize, Some(buffer));
+        mem::forget(empty);
         half.written = half.written.wrapping_add(1);
         let word = word_of(self.size, Field::UsedIdx);
         self.board

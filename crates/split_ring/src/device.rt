@@ -44,6 +44,7 @@ impl fmt::Debug for Device {
 
 impl Device {
     /// Gives back a buffer that the device holds, with a length of at most 512. It is last of those returned.
+    #[inline(always)]
     pub fn give(&mut self, on: &Ring, buffer: Buffer, len: u32)
         requires ring { self.old.ring ≡ on.now.ring }
         requires holds { HoldsNumber role.Device self.old buffer.number }
@@ -73,6 +74,7 @@ impl Device {
 
     /// The oldest offered buffer that a look or a meeting showed, with its length. Where none is left it looks once, and answers
     /// `None` exactly where that look showed none.
+    #[inline(always)]
     pub fn fetch(&mut self, on: &Ring) -> Option<(Buffer, u32)>
         requires ring { self.old.ring ≡ on.now.ring }
         ensures fetched { TakesNext self.old result self.new }
@@ -90,6 +92,7 @@ impl Device {
     }
 
     // Fetches the next buffer, which was shown.
+    #[inline(always)]
     fn take(&mut self, on: &Ring) -> (Buffer, u32)
         requires ring { self.old.ring ≡ on.now.ring }
         requires left { IsLeft self.old }

@@ -44,6 +44,7 @@ impl fmt::Debug for Driver {
 
 impl Driver {
     /// Offers a buffer that the driver holds, with a length of at most 512. It is last of those offered.
+    #[inline(always)]
     pub fn offer(&mut self, on: &Ring, buffer: Buffer, len: u32)
         requires ring { self.old.ring ≡ on.now.ring }
         requires holds { HoldsNumber role.Driver self.old buffer.number }
@@ -73,6 +74,7 @@ impl Driver {
 
     /// The oldest returned buffer that a look or a meeting showed, with its length. Where none is left it looks once, and answers
     /// `None` exactly where that look showed none.
+    #[inline(always)]
     pub fn reclaim(&mut self, on: &Ring) -> Option<(Buffer, u32)>
         requires ring { self.old.ring ≡ on.now.ring }
         ensures reclaimed { TakesNext self.old result self.new }
@@ -90,6 +92,7 @@ impl Driver {
     }
 
     // Reclaims the next buffer, which was shown.
+    #[inline(always)]
     fn take(&mut self, on: &Ring) -> (Buffer, u32)
         requires ring { self.old.ring ≡ on.now.ring }
         requires left { IsLeft self.old }

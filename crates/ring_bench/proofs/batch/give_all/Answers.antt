@@ -10,6 +10,6 @@ give-requires-clause-holds c = first_held role.Device c.loop-buffer.device c.loo
 pub loop-buffer-preserved : goal.loop-buffer-preserved
 loop-buffer-preserved c = record {
   ring = ap (λ (x : End). x.ring) c.give.ensures.returned ∙ c.loop-buffer.invariant.ring;
-  held = tail_held role.Device c.loop-buffer.device c.give.new.self c.loop-buffer.held.items c.pop_front.new.self.items c.in-Some.buffer 0 c.in-Some.ensures.items c.give.ensures.returned c.loop-buffer.invariant.held;
+  held = tail_held role.Device c.loop-buffer.device c.give.new.self c.loop-buffer.held.items c.pop_front.new.self.items c.in-Some.buffer c.length-len.result c.in-Some.ensures.items c.give.ensures.returned c.loop-buffer.invariant.held;
   sound = c.give.ensures.sound;
 }

@@ -10,6 +10,6 @@ offer-requires-clause-holds c = first_held role.Driver c.loop-buffer.driver c.lo
 pub loop-buffer-preserved : goal.loop-buffer-preserved
 loop-buffer-preserved c = record {
   ring = ap (λ (x : End). x.ring) c.offer.ensures.offered ∙ c.loop-buffer.invariant.ring;
-  held = tail_held role.Driver c.loop-buffer.driver c.offer.new.self c.loop-buffer.free.items c.pop_front.new.self.items c.in-Some.buffer 64 c.in-Some.ensures.items c.offer.ensures.offered c.loop-buffer.invariant.held;
+  held = tail_held role.Driver c.loop-buffer.driver c.offer.new.self c.loop-buffer.free.items c.pop_front.new.self.items c.in-Some.buffer c.length-len.result c.in-Some.ensures.items c.offer.ensures.offered c.loop-buffer.invariant.held;
   sound = c.offer.ensures.sound;
 }
