@@ -13,6 +13,7 @@ use Rattle.mc_base.specs.Stored.{Stored}
 use Rattle.shared_words.specs.declared.table.RingTable.TheInside as table
 use Rattle.shared_words.specs.declared.half.Half.TheInside as half
 use Rattle.shared_words.specs.declared.view.Role.{Role}
+use Rattle.shared_words.specs.declared.view.Role.TheVariants.{Driver, Device}
 use Rattle.shared_words.specs.declared.view.Staged.{Staged}
 use Rattle.shared_words.specs.declared.view.Staged.TheVariants.{Idle, NumberRead}
 use Rattle.shared_words.specs.declared.view.HalfView.{HalfView}
@@ -24,7 +25,8 @@ use Rattle.shared_words.specs.Shape.{IsRingSize, IsShape}
 use Rattle.shared_words.specs.Places.{begins, Holds}
 use Rattle.shared_words.specs.Change.{staging, writing, looking, taking, IsStored, number_in}
 use Rattle.shared_words.specs.Slots.{Slot, fronted, carried_times, front_value}
-use Rattle.shared_words.specs.Kinds.{Seated, len_loaded}
+use Rattle.shared_words.specs.Kinds.{Seated, by_either, len_loaded}
+use Rattle.shared_words.specs.Way.{way_of}
 use Rattle.shared_words.specs.HalfHolds.{HalfHolds, SeatHolds, role_in, half_in}
 use Rattle.shared_words.specs.TableHolds.{TableHolds}
 use Rattle.shared_words.specs.Shown.{RingId, TableShown, HalfShown, IsHalfOf, with_view, HoldsNumber, size_of}
@@ -177,6 +179,19 @@ pub place_here : (role : Role) (t : table.Inside) (h : half.Inside) (me : HalfSh
 place_here role t h me m on is n count e = let z : ℕ = t.board.shared.key.size in let size : size_of on.ring ≡ z = ap (λ (x : TableShown). x.ring.table.slots) (sym is) ∙ m.slots in
     ap (λ (y : ℕ). n % y) size ∙ (ap (λ (y : ℕ). y % z) e ∙ place_is count z m.shape.size)
 
+-- the ring's size, as a caller sees it
+pub size_here : (role : Role) (t : table.Inside) (h : half.Inside) (view : HalfView) → Met role view t h → (on : TableShown) → shown_table t ≡ on → size_of on.ring ≡ t.board.shared.key.size
+size_here role t h view m on is = ap (λ (x : TableShown). x.ring.table.slots) (sym is) ∙ m.slots
+
+-- the place of a length, by the count that the half keeps modulo 65536
+pub len_place_here : (role : Role) (z y n count id : ℕ) → IsRingSize z → y ≡ z → n ≡ count % 65536 → (way_of role y).len ((way_of role y).len_place n id) ≡ (way_of role z).len ((way_of role z).len_place count id)
+len_place_here Driver z y n count id s same e = ap (λ (x : ℕ). (way_of Driver x).len ((way_of Driver x).len_place n id)) same
+len_place_here Device z y n count id s same e = ap (λ (x : ℕ). (way_of Device x).len ((way_of Device x).len_place n id)) same ∙ ap (way_of Device z).len (ap (λ (x : ℕ). x % z) e ∙ place_is count z s)
+
+-- a number that was read is below the size
+pub read_low : (role : Role) (h : half.Inside) (on : TableShown) (me : HalfShown) → SeatHolds h.seat.table_id.slots h.seat.me h.written h.taken h.read → shown_half h.seat.table_id h.seat.me ≡ me → IsHalfOf on role me → me.view.staged ≡ NumberRead (number_in me.view.staged) → h.read < size_of on.ring
+read_low role h on me seat is fit reads = let n = seat.holds.number_read (number_in me.view.staged) (ap (λ (x : HalfShown). x.view.staged) is ∙ reads) in let s = ap (λ (x : HalfShown). size_of x.ring) is ∙ ap size_of fit.same_ring in omega (arith, n, s)
+
 -- What a half gets with the length of the next entry
 
 pub record Got (role : Role) (view : HalfView) (t : table.Inside) (h : half.Inside) (me' : Seated) (r : ℕ) : Type 0 where
@@ -189,9 +204,9 @@ pub record Got (role : Role) (view : HalfView) (t : table.Inside) (h : half.Insi
   pub low : h.read < t.board.shared.key.size
   pub fresh : times h.read view.written ≡ begins role t.board.shared.key.size h.read + times h.read view.taken
 
-pub gets : (role : Role) (t : table.Inside) (h : half.Inside) (me : HalfShown) (me' : Seated) (i r : ℕ) → Met role me.view t h → me.view.staged ≡ NumberRead (number_in me.view.staged) → len_loaded role (step t.board.shared.table_id.slots i 0 0 none) h.seat.me r me' → Got role me.view t h me' r
+pub gets : (role : Role) (t : table.Inside) (h : half.Inside) (me : HalfShown) (me' : Seated) (i r : ℕ) → Met role me.view t h → me.view.staged ≡ NumberRead (number_in me.view.staged) → by_either len_loaded (step t.board.shared.table_id.slots i 0 0 none) h.seat.me r me' → Got role me.view t h me' r
 gets role t h me me' i r m is told = let n = m.holds.number_read (number_in me.view.staged) is in
-    let g = told me.view h.read m.live (is ∙ ap NumberRead (sym n.0)) in record {
+    let g = told role me.view h.read m.live (is ∙ ap NumberRead (sym n.0)) in record {
       buffer = g.0;
       number = g.1;
       is_read = n.0;

@@ -10,7 +10,6 @@ use Rattle.atomic_table.proofs.Lists.{at_set, set_here, set_else, set_again, at_
 use Rattle.shared_words.specs.declared.rule.Shape.{Shape}
 use Rattle.shared_words.specs.declared.view.Role.{Role}
 use Rattle.shared_words.specs.declared.view.Role.TheVariants.{Driver, Device}
-use Rattle.shared_words.specs.declared.view.Staged.TheVariants.{Idle}
 use Rattle.shared_words.specs.declared.view.HalfView.{HalfView}
 use Rattle.shared_words.specs.declared.view.View.{View}
 use Rattle.shared_words.specs.declared.view.View.TheVariants.{Opening, Live, Note, Told, Spent}

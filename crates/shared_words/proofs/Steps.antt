@@ -24,7 +24,7 @@ use Rattle.shared_words.specs.RingRule.{RingState, Running, RingRule}
 use Rattle.shared_words.specs.Change.{staging, writing, looking, taking, ahead}
 use Rattle.shared_words.specs.Slots.{Slot, fronted, carried_times, front_value}
 use Rattle.shared_words.specs.HalfHolds.{HalfHolds}
-use Rattle.shared_words.specs.Kinds.{Seated, desc_len_stored, avail_entry_stored, used_id_stored, used_len_stored, index_published, index_loaded, number_loaded, len_loaded}
+use Rattle.shared_words.specs.Kinds.{Seated, desc_len_stored, avail_entry_stored, used_id_stored, used_len_stored, by_either, index_published, index_loaded, number_loaded, len_loaded}
 use Rattle.shared_words.proofs.WayLemmas.{number_not_len, len_place_small, get_apart}
 use Rattle.shared_words.proofs.Sides.{Sides, driver_side, device_side, driver_content, device_content, some_size, i_hold, your_left_small, left_not_mine, your_length, your_count, publish_keeps, look_is, show_keeps, read_keeps, next_is, take_keeps, count_keeps}
 use Rattle.shared_words.proofs.Stores.{number_here, len_here, number_stored, length_stored, stored_here}
@@ -90,6 +90,9 @@ unmoved v = (prefix-refl v.written, prefix-refl v.taken, prefix-refl v.looks, le
 
 same_live : (role : Role) (v v' : HalfView) (u : View) → u ≡ Live role v → u ≡ Live role v' → v ≡ v'
 same_live role v v' u a b = let q : Live role v ≡ Live role v' = sym a ∙ b in cc
+
+same_half : (role role' : Role) (v v' : HalfView) (u : View) → u ≡ Live role v → u ≡ Live role' v' → ◌≡◌ {A = Role × HalfView} (role, v) (role', v')
+same_half role role' v v' u a b = let q : Live role v ≡ Live role' v' = sym a ∙ b in let r : role ≡ role' = cc in let w : v ≡ v' = cc in λ j. (r j, w j)
 
 same_front : (b b' : Stored) (below below' : List Slot) → (b.number, Some b) ∷ below ≡ (b'.number, Some b') ∷ below' → b ≡ b'
 same_front b b' below below' e = let value : Some b ≡ Some b' = ap front_value e in cc
@@ -178,7 +181,7 @@ allows_used_len key slots id i n len me v is staged_is brief word s holds deep a
 
 pub allows_publish : (role : Role) (key : Shape) (slots id i new len : ℕ) (me : Seated) (v : HalfView) (b : Stored) (below : List Slot) → me.0 ≡ Live role v → v.staged ≡ BothStored b.number len → new ≡ (length v.written + 1) % 65536
     → me.1 ≡ (b.number, Some b) ∷ below → i ≡ (way_of role key.size).idx
-    → Allows (RingRule key) slots id me i (λ _. new) (λ _. index_published role (step slots i new 0 none) me new)
+    → Allows (RingRule key) slots id me i (λ _. new) (λ _. by_either index_published (step slots i new 0 none) me new)
 allows_publish role key slots id i new len me v b below is staged_is next carried word s holds deep at _ =
     let f = found role key s id v me.0 holds at is in let w : HalfView = writing (b, len) v in
     let kept = publish_keeps role key s.words s.homes v f.yours f.sides new len b staged_is next in (
@@ -187,14 +190,14 @@ allows_publish role key slots id i new len me v b below is staged_is next carrie
       tt,
       subst (λ (t : List Slot × ℕ). RingRule key (stepped s t.1 new id t.0 (Live role w) gives)) (λ j. (sym carried j, sym word j))
           (f.keeps (set s.words (way_of role key.size).idx new) (set s.homes b.number (some (Some b))) w (((b, len) ∷ [], refl), prefix-refl v.taken, prefix-refl v.looks, le_refl v.shown) kept),
-      λ v' b' len' below' is' st' carried'. let same : v ≡ v' = same_live role v v' me.0 is is' in
+      λ role' v' b' len' below' is' st' carried'. let same = same_half role role' v v' me.0 is is' in
           let buf : b ≡ b' = same_front b b' below below' (sym carried ∙ carried') in
-          let staged' : BothStored b.number len ≡ BothStored b'.number len' = sym staged_is ∙ (ap (λ (x : HalfView). x.staged) same ∙ st') in let ln : len ≡ len' = cc in
-          ((λ j. Live role (writing (buf j, ln j) (same j))), ap rest carried'),
+          let staged' : BothStored b.number len ≡ BothStored b'.number len' = sym staged_is ∙ (ap (λ (x : Role × HalfView). x.1.staged) same ∙ st') in let ln : len ≡ len' = cc in
+          ((λ j. Live (same j).0 (writing (buf j, ln j) (same j).1)), ap rest carried'),
     )
 
 pub allows_look : (role : Role) (key : Shape) (slots id i : ℕ) (me : Seated) (v : HalfView) → me.0 ≡ Live role v → slots ≡ key.size → i ≡ (way_of (other role) key.size).idx
-    → Allows (RingRule key) slots id me i (λ n. n) (index_loaded role (step slots i 0 0 none) me)
+    → Allows (RingRule key) slots id me i (λ n. n) (by_either index_loaded (step slots i 0 0 none) me)
 allows_look role key slots id i me v is sized word s holds deep at _ =
     let f = found role key s id v me.0 holds at is in let r : ℕ = get_or s.words i 0 in let n : ℕ = ahead r (length v.taken) in let w : HalfView = looking n v in
     let look : n ≡ length f.yours.written - length v.taken = ap (λ (j : ℕ). ahead (get_or s.words j 0) (length v.taken)) word ∙ look_is role key s.words s.homes v f.yours f.sides in
@@ -208,13 +211,13 @@ allows_look role key slots id i me v is sized word s holds deep at _ =
       tt,
       subst (λ (ws : List ℕ). RingRule key record { words = ws; homes = s.homes; views = set s.views id (Live role w) }) (sym (set-get_or s.words i 0))
           (f.keeps s.words s.homes w (prefix-refl v.written, prefix-refl v.taken, (n ∷ [], refl), omega (arith, look, long, high)) kept),
-      λ v' is'. let same : v ≡ v' = same_live role v v' me.0 is is' in subst (λ (x : HalfView). let k = ahead r (length x.taken) in
-          (Live role w ≡ Live role (looking k x)) × (me.1 ≡ me.1) × (r < 65536) × (x.shown ≤ length x.taken + k) × (length x.taken + k + starts_with role slots ≤ slots + length x.written) × (k ≤ slots)) same
+      λ role' v' is'. let same = same_half role role' v v' me.0 is is' in subst (λ (x : Role × HalfView). let k = ahead r (length x.1.taken) in
+          (Live role w ≡ Live x.0 (looking k x.1)) × (me.1 ≡ me.1) × (r < 65536) × (x.1.shown ≤ length x.1.taken + k) × (length x.1.taken + k + starts_with x.0 slots ≤ slots + length x.1.written) × (k ≤ slots)) same
           (refl, refl, omega (arith, word_is), omega (arith, look, long, high), subst (λ (y : ℕ). length v.taken + n + starts_with role y ≤ y + length v.written) (sym sized) (omega (arith, look, long, count)), omega (arith, look, long, fit, sized)),
     )
 
 pub allows_read : (role : Role) (key : Shape) (slots id i : ℕ) (me : Seated) (v : HalfView) → me.0 ≡ Live role v → v.staged ≡ Idle → length v.taken < v.shown → slots ≡ key.size → i ≡ (way_of (other role) key.size).number (length v.taken % key.size)
-    → Allows (RingRule key) slots id me i (λ n. n) (number_loaded role (step slots i 0 0 none) me)
+    → Allows (RingRule key) slots id me i (λ n. n) (by_either number_loaded (step slots i 0 0 none) me)
 allows_read role key slots id i me v is idle more sized word s holds deep at _ =
     let f = found role key s id v me.0 holds at is in let r : ℕ = get_or s.words i 0 in let w : HalfView = staging (NumberRead r) v in
     let word_is : r ≡ get_or s.words ((way_of (other role) key.size).number (length v.taken % key.size)) 0 = ap (λ (j : ℕ). get_or s.words j 0) word in
@@ -224,11 +227,11 @@ allows_read role key slots id i me v is idle more sized word s holds deep at _ =
       keeps,
       tt,
       subst (λ (ws : List ℕ). RingRule key record { words = ws; homes = s.homes; views = set s.views id (Live role w) }) (sym (set-get_or s.words i 0)) (f.keeps s.words s.homes w (unmoved v) kept),
-      λ v' is'. let same : v ≡ v' = same_live role v v' me.0 is is' in (ap (λ (x : HalfView). Live role (staging (NumberRead r) x)) same, refl, omega (arith, low, word_is, sized)),
+      λ role' v' is'. let same = same_half role role' v v' me.0 is is' in (ap (λ (x : Role × HalfView). Live x.0 (staging (NumberRead r) x.1)) same, refl, omega (arith, low, word_is, sized)),
     )
 
 pub allows_take : (role : Role) (key : Shape) (slots id i n : ℕ) (me : Seated) (v : HalfView) → me.0 ≡ Live role v → v.staged ≡ NumberRead n → slots ≡ key.size → i ≡ (way_of (other role) key.size).len ((way_of (other role) key.size).len_place (length v.taken) n)
-    → Allows (RingRule key) slots id me i (λ n. n) (len_loaded role (step slots i 0 0 none) me)
+    → Allows (RingRule key) slots id me i (λ n. n) (by_either len_loaded (step slots i 0 0 none) me)
 allows_take role key slots id i n me v is staged_is sized word s holds deep at _ =
     let f = found role key s id v me.0 holds at is in let r : ℕ = get_or s.words i 0 in let way : Way = way_of (other role) key.size in
     let e = next_is role key s.words s.homes v f.yours f.sides n staged_is in let x : Entry = e.0 in let num : number_of x ≡ n = e.4 in
@@ -247,13 +250,13 @@ allows_take role key slots id i n me v is staged_is sized word s holds deep at _
       subst (λ (ws : List ℕ). RingRule key record { words = ws; homes = set s.homes n none; views = set s.views id (Live role w) }) (sym (set-get_or s.words i 0))
           (subst (λ (t : ℕ × Entry). RingRule key record { words = s.words; homes = set s.homes t.0 none; views = set s.views id (Live role (taking t.1 v)) }) (λ j. (num j, entry j))
           (f.keeps s.words (set s.homes (number_of x) none) (taking x v) (prefix-refl v.written, (x ∷ [], refl), prefix-refl v.looks, le_refl v.shown) kept)),
-      λ v' n' is' st'. let same : v ≡ v' = same_live role v v' me.0 is is' in
-          let both : NumberRead n ≡ NumberRead n' = sym staged_is ∙ (ap (λ (y : HalfView). y.staged) same ∙ st') in let same_n : n ≡ n' = cc in (
+      λ role' v' n' is' st'. let same = same_half role role' v v' me.0 is is' in
+          let both : NumberRead n ≡ NumberRead n' = sym staged_is ∙ (ap (λ (y : Role × HalfView). y.1.staged) same ∙ st') in let same_n : n ≡ n' = cc in (
             x.0,
             num ∙ same_n,
-            ap (λ (y : HalfView). Live role (taking (x.0, r) y)) same,
+            ap (λ (y : Role × HalfView). Live y.0 (taking (x.0, r) y.1)) same,
             ap (λ (k : ℕ). (k, Some x.0) ∷ me.1) same_n,
-            subst (λ (y : HalfView). r ≤ y.longest) same (omega (arith, len, range, longest)),
-            subst (λ (t : HalfView × ℕ × ℕ). times t.1 t.0.written ≡ begins role t.2 t.1 + times t.1 t.0.taken) (λ j. (same j, same_n j, sym sized j)) free.0,
+            subst (λ (y : Role × HalfView). r ≤ y.1.longest) same (omega (arith, len, range, longest)),
+            subst (λ (t : (Role × HalfView) × ℕ × ℕ). times t.1 t.0.1.written ≡ begins t.0.0 t.2 t.1 + times t.1 t.0.1.taken) (λ j. (same j, same_n j, sym sized j)) free.0,
           ),
     )

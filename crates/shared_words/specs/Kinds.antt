@@ -24,6 +24,10 @@ Seated = Me (Option Stored) View
 abbrev pub Made : Type 0
 Made = Step (Option Stored)
 
+-- a kind of step that each half makes, on its own way
+abbrev pub by_either : (Role → Made → Seated → ℕ → Seated → Type 0) → Made → Seated → ℕ → Seated → Type 0
+by_either kind made old r new = (role : Role) → kind role made old r new
+
 -- begin: both views are new, and every slot is taken
 abbrev pub begun : Made → Seated → ℕ → Seated → Type 0
 begun made old r new = (longest : ℕ) → old.0 ≡ Opening longest → (new.0 ≡ Whole (new_view longest) (new_view longest)) × (new.1 ≡ map vacant (numbers_from 0 made.slots))

@@ -1,5 +1,5 @@
 //! How a ring ends.
-ghost use Rattle.std.specs.Prelude.{◌≡◌, ◌≤◌, ℕ, [], vec_capacity};
+ghost use Rattle.std.specs.Prelude.{◌≡◌, ◌≤◌, [], vec_capacity};
 ghost use Rattle.std.specs.Slots.{slots_items, slots_len, IsFull};
 ghost use Rattle.shared_words.specs.declared.view.Role.TheVariants.{Driver, Device};
 ghost use Rattle.shared_words.specs.declared.view.Staged.TheVariants.{Idle};

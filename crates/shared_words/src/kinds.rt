@@ -27,40 +27,40 @@ impl Play<Option<Buffer>, View> for StoreAvailEntry {
     ghost then = { avail_entry_stored };
 }
 
-pub(crate) struct PublishAvail;
+/// Publish available index by the driver, and used index by the device.
+pub(crate) struct PublishIdx;
 
-impl Play<Option<Buffer>, View> for PublishAvail {
-    ghost use Rattle.shared_words.specs.Kinds.{index_published};
-    ghost use Rattle.shared_words.specs.declared.view.Role.TheVariants.{Driver};
+impl Play<Option<Buffer>, View> for PublishIdx {
+    ghost use Rattle.shared_words.specs.Kinds.{by_either, index_published};
 
-    ghost then = { index_published Driver };
+    ghost then = { by_either index_published };
 }
 
-pub(crate) struct LoadAvailIdx;
+/// Load available index by the device, and used index by the driver.
+pub(crate) struct LoadIdx;
 
-impl Play<Option<Buffer>, View> for LoadAvailIdx {
-    ghost use Rattle.shared_words.specs.Kinds.{index_loaded};
-    ghost use Rattle.shared_words.specs.declared.view.Role.TheVariants.{Device};
+impl Play<Option<Buffer>, View> for LoadIdx {
+    ghost use Rattle.shared_words.specs.Kinds.{by_either, index_loaded};
 
-    ghost then = { index_loaded Device };
+    ghost then = { by_either index_loaded };
 }
 
-pub(crate) struct LoadAvailEntry;
+/// Load available entry by the device, and used id by the driver.
+pub(crate) struct LoadNumber;
 
-impl Play<Option<Buffer>, View> for LoadAvailEntry {
-    ghost use Rattle.shared_words.specs.Kinds.{number_loaded};
-    ghost use Rattle.shared_words.specs.declared.view.Role.TheVariants.{Device};
+impl Play<Option<Buffer>, View> for LoadNumber {
+    ghost use Rattle.shared_words.specs.Kinds.{by_either, number_loaded};
 
-    ghost then = { number_loaded Device };
+    ghost then = { by_either number_loaded };
 }
 
-pub(crate) struct LoadDescLen;
+/// Load descriptor length by the device, and used length by the driver.
+pub(crate) struct LoadLen;
 
-impl Play<Option<Buffer>, View> for LoadDescLen {
-    ghost use Rattle.shared_words.specs.Kinds.{len_loaded};
-    ghost use Rattle.shared_words.specs.declared.view.Role.TheVariants.{Device};
+impl Play<Option<Buffer>, View> for LoadLen {
+    ghost use Rattle.shared_words.specs.Kinds.{by_either, len_loaded};
 
-    ghost then = { len_loaded Device };
+    ghost then = { by_either len_loaded };
 }
 
 /// The halves part.
@@ -88,42 +88,6 @@ impl Play<Option<Buffer>, View> for StoreUsedLen {
     ghost use Rattle.shared_words.specs.Kinds.{used_len_stored};
 
     ghost then = { used_len_stored };
-}
-
-pub(crate) struct PublishUsed;
-
-impl Play<Option<Buffer>, View> for PublishUsed {
-    ghost use Rattle.shared_words.specs.Kinds.{index_published};
-    ghost use Rattle.shared_words.specs.declared.view.Role.TheVariants.{Device};
-
-    ghost then = { index_published Device };
-}
-
-pub(crate) struct LoadUsedIdx;
-
-impl Play<Option<Buffer>, View> for LoadUsedIdx {
-    ghost use Rattle.shared_words.specs.Kinds.{index_loaded};
-    ghost use Rattle.shared_words.specs.declared.view.Role.TheVariants.{Driver};
-
-    ghost then = { index_loaded Driver };
-}
-
-pub(crate) struct LoadUsedId;
-
-impl Play<Option<Buffer>, View> for LoadUsedId {
-    ghost use Rattle.shared_words.specs.Kinds.{number_loaded};
-    ghost use Rattle.shared_words.specs.declared.view.Role.TheVariants.{Driver};
-
-    ghost then = { number_loaded Driver };
-}
-
-pub(crate) struct LoadUsedLen;
-
-impl Play<Option<Buffer>, View> for LoadUsedLen {
-    ghost use Rattle.shared_words.specs.Kinds.{len_loaded};
-    ghost use Rattle.shared_words.specs.declared.view.Role.TheVariants.{Driver};
-
-    ghost then = { len_loaded Driver };
 }
 
 /// The device's view passes to a seat without slots, and the old seat is spent.

@@ -14,6 +14,7 @@ mod table;
 mod telling;
 mod threads;
 mod view;
+mod ways;
 
 pub use closing::ClosedTable;
 pub use fault::RingFault;

@@ -1,19 +1,17 @@
 //! The steps of the available way: the driver offers, and the device fetches.
-ghost use Rattle.std.specs.Prelude.{◌≡◌, ℕ, ◌+◌, ◌<◌, ◌≤◌, length};
+ghost use Rattle.std.specs.Prelude.{◌≡◌, ◌+◌, ◌<◌, ◌≤◌, length};
 ghost use Rattle.mc_base.specs.Limits.{buffer_size};
 ghost use Rattle.shared_words.specs.declared.view.Role.TheVariants.{Driver, Device};
-ghost use Rattle.shared_words.specs.declared.view.Staged.TheVariants.{Idle, LengthStored, NumberStored, BothStored, NumberRead};
+ghost use Rattle.shared_words.specs.declared.view.Staged.TheVariants.{Idle, LengthStored, BothStored, NumberRead};
 ghost use Rattle.shared_words.specs.Change.{staging, writing, looking, taking, number_in, len_in};
 ghost use Rattle.shared_words.specs.Shown.{IsHalfOf, HoldsNumber, with_view, size_of};
 
 use crate::field::{Field, word_of};
 use crate::half::Half;
-use crate::kinds::{
-    LoadAvailEntry, LoadAvailIdx, LoadDescLen, PublishAvail, StoreAvailEntry, StoreDescLen,
-};
+use crate::kinds::{StoreAvailEntry, StoreDescLen};
 use crate::table::RingTable;
+use crate::view::Role;
 use mc_base::Buffer;
-use std::mem;
 
 impl RingTable {
     /// Stores the length of an offer in the descriptor of its buffer, which the driver holds.
@@ -49,17 +47,7 @@ impl RingTable {
         requires stored { half.old.view.staged ≡ BothStored buffer.number (len_in half.old.view.staged) }
         ensures { half.new ≡ with_view (writing (buffer, len_in half.old.view.staged) half.old.view) half.old }
     {
-        let id = buffer.number();
-        let empty = self
-            .board
-            .shared
-            .exchange(&mut half.seat, id as usize, Some(buffer));
-        mem::forget(empty);
-        half.written = half.written.wrapping_add(1);
-        let word = word_of(self.size, Field::AvailIdx);
-        self.board
-            .shared
-            .store::<PublishAvail>(&mut half.seat, word, half.written as u64);
+        self.publish(half, Role::Driver, buffer);
     }
 
     /// Loads the available index: how many offered buffers the device has not fetched yet.
@@ -70,9 +58,7 @@ impl RingTable {
         ensures room { length half.old.view.taken + result ≤ size_of self.now.ring + length half.old.view.written }
         ensures size { result ≤ size_of self.now.ring }
     {
-        let word = word_of(self.size, Field::AvailIdx);
-        let found = self.board.shared.load::<LoadAvailIdx>(&mut half.seat, word);
-        ((found + 65536 - half.taken as u64) % 65536) as u32
+        self.look(half, Role::Device)
     }
 
     /// Loads the number of the next offered buffer, which was shown and not fetched.
@@ -83,13 +69,7 @@ impl RingTable {
         ensures view { half.new ≡ with_view (staging (NumberRead result) half.old.view) half.old }
         ensures below { result < size_of self.now.ring }
     {
-        let word = word_of(self.size, Field::AvailRing(self.place(half.taken)));
-        let found = self
-            .board
-            .shared
-            .load::<LoadAvailEntry>(&mut half.seat, word) as u16;
-        half.read = found;
-        found
+        self.read(half, Role::Device)
     }
 
     /// Loads the length of the buffer whose number was read. The buffer comes from its slot and is fetched.
@@ -101,15 +81,6 @@ impl RingTable {
         ensures fits { result.1 ≤ buffer_size }
         ensures not_held { HoldsNumber half.old result.0.number → ⊥ }
     {
-        let id = half.read;
-        let word = word_of(self.size, Field::DescLen(id));
-        let len = self.board.shared.load::<LoadDescLen>(&mut half.seat, word) as u32;
-        let got = self
-            .board
-            .shared
-            .exchange(&mut half.seat, id as usize, None);
-        half.taken = half.taken.wrapping_add(1);
-        let Some(buffer) = got else { unreachable!() };
-        (buffer, len)
+        self.take(half, Role::Device)
     }
 }

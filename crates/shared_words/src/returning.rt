@@ -8,10 +8,10 @@ ghost use Rattle.shared_words.specs.Shown.{IsHalfOf, HoldsNumber, with_view, siz
 
 use crate::field::{Field, word_of};
 use crate::half::Half;
-use crate::kinds::{LoadUsedId, LoadUsedIdx, LoadUsedLen, PublishUsed, StoreUsedId, StoreUsedLen};
+use crate::kinds::{StoreUsedId, StoreUsedLen};
 use crate::table::RingTable;
+use crate::view::Role;
 use mc_base::Buffer;
-use std::mem;
 
 impl RingTable {
     /// Stores the number of a buffer that the device holds at the next place of the used ring.
@@ -46,17 +46,7 @@ impl RingTable {
         requires stored { half.old.view.staged ≡ BothStored buffer.number (len_in half.old.view.staged) }
         ensures { half.new ≡ with_view (writing (buffer, len_in half.old.view.staged) half.old.view) half.old }
     {
-        let id = buffer.number();
-        let empty = self
-            .board
-            .shared
-            .exchange(&mut half.seat, id as usize, Some(buffer));
-        mem::forget(empty);
-        half.written = half.written.wrapping_add(1);
-        let word = word_of(self.size, Field::UsedIdx);
-        self.board
-            .shared
-            .store::<PublishUsed>(&mut half.seat, word, half.written as u64);
+        self.publish(half, Role::Device, buffer);
     }
 
     /// Loads the used index: how many returned buffers the driver has not reclaimed yet.
@@ -67,9 +57,7 @@ impl RingTable {
         ensures room { length half.old.view.taken + result ≤ length half.old.view.written }
         ensures size { result ≤ size_of self.now.ring }
     {
-        let word = word_of(self.size, Field::UsedIdx);
-        let found = self.board.shared.load::<LoadUsedIdx>(&mut half.seat, word);
-        ((found + 65536 - half.taken as u64) % 65536) as u32
+        self.look(half, Role::Driver)
     }
 
     /// Loads the number of the next returned buffer, which was shown and not reclaimed.
@@ -80,10 +68,7 @@ impl RingTable {
         ensures view { half.new ≡ with_view (staging (NumberRead result) half.old.view) half.old }
         ensures below { result < size_of self.now.ring }
     {
-        let word = word_of(self.size, Field::UsedId(self.place(half.taken)));
-        let found = self.board.shared.load::<LoadUsedId>(&mut half.seat, word) as u16;
-        half.read = found;
-        found
+        self.read(half, Role::Driver)
     }
 
     /// Loads the length of the buffer whose number was read. The buffer comes from its slot and is reclaimed.
@@ -95,15 +80,6 @@ impl RingTable {
         ensures fits { result.1 ≤ buffer_size }
         ensures not_held { HoldsNumber half.old result.0.number → ⊥ }
     {
-        let id = half.read;
-        let word = word_of(self.size, Field::UsedLen(self.place(half.taken)));
-        let len = self.board.shared.load::<LoadUsedLen>(&mut half.seat, word) as u32;
-        let got = self
-            .board
-            .shared
-            .exchange(&mut half.seat, id as usize, None);
-        half.taken = half.taken.wrapping_add(1);
-        let Some(buffer) = got else { unreachable!() };
-        (buffer, len)
+        self.take(half, Role::Driver)
     }
 }

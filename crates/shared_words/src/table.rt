@@ -31,8 +31,16 @@ impl Model for RingTable {
 }
 
 impl RingTable {
-    ghost use Rattle.std.specs.Prelude.{◌≡◌, ◌%◌};
+    ghost use Rattle.std.specs.Prelude.{◌≡◌, ◌%◌, ◌<◌};
     ghost use Rattle.shared_words.specs.Shown.{size_of};
+
+    /// How many buffers the ring has.
+    pub(crate) fn size(&self) -> u32
+        ensures value { result ≡ size_of self.now.ring }
+        ensures some { 0 < result }
+    {
+        self.size
+    }
 
     /// The place of the entry of this count.
     pub(crate) fn place(&self, count: u16) -> u16

@@ -1,11 +1,26 @@
-//! What the halves of a ring know. No value of these types is made: contracts and proofs alone speak of them.
+//! What the halves of a ring know. No value of these types but `Role` is made: contracts and proofs alone speak of them.
 use mc_base::Buffer;
 use std::collections::LinkedList;
 
 /// Which half of a ring. The driver offers buffers, and the device returns them.
+#[derive(Clone, Copy)]
 pub enum Role {
     Driver,
     Device,
+}
+
+impl Role {
+    ghost use Rattle.std.specs.Prelude.{◌≡◌};
+    ghost use Rattle.shared_words.specs.Way.{other};
+
+    pub(crate) fn other(self) -> Role
+        ensures { result ≡ other self }
+    {
+        match self {
+            Role::Driver => Role::Device,
+            Role::Device => Role::Driver,
+        }
+    }
 }
 
 /// What a half has begun and not ended. At most one thing is.

@@ -8,7 +8,7 @@ use Rattle.shared_words.specs.declared.field.Field.TheVariants.{AvailIdx, UsedId
 use Rattle.shared_words.specs.declared.view.Role.TheVariants.{Driver, Device}
 use Rattle.shared_words.specs.declared.field.Field.{Field}
 use Rattle.shared_words.specs.Layout.{word, field_at}
-use Rattle.shared_words.specs.Entry.{Entry, number_of, times, often, inside}
+use Rattle.shared_words.specs.Entry.{Entry, number_of, often, inside}
 use Rattle.shared_words.specs.Shape.{IsRingSize}
 use Rattle.shared_words.specs.Slots.{numbers_from}
 use Rattle.shared_words.specs.Shown.{RingId, TableShown, HalfShown, size_of, shape_of}

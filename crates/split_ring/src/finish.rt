@@ -1,5 +1,5 @@
 //! How a ring is finished.
-ghost use Rattle.std.specs.Prelude.{◌≡◌, ◌+◌, ◌<◌, ◌≤◌, ℕ, [], ◌∷◌, ◌++◌, if◌then◌else◌, length, slice_index, vec_capacity, vec_len};
+ghost use Rattle.std.specs.Prelude.{◌≡◌, ◌+◌, ◌<◌, ◌≤◌, ℕ, [], ◌∷◌, ◌++◌, if◌then◌else◌, length, vec_capacity, vec_len};
 ghost use Rattle.shared_words.specs.Entry.{often};
 ghost use Rattle.shared_words.specs.Layout.{word_count, field_at};
 ghost use Rattle.shared_words.specs.Shape.{IsRingSize};

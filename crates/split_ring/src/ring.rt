@@ -1,6 +1,5 @@
 //! The ring itself.
 ghost use Rattle.std.specs.Prelude.{◌≡◌, ◌≤◌, ◌<◌, ◌↔◌, map, IfOk, IsErrOf, vec_capacity};
-ghost use Rattle.mc_base.specs.Limits.{buffer_size};
 ghost use Rattle.shared_words.specs.declared.view.Role.TheVariants as role;
 ghost use Rattle.shared_words.specs.Shape.{IsRingSize};
 ghost use Rattle.shared_words.specs.Slots.{numbers_from};

@@ -1,4 +1,4 @@
-use Rattle.std.proofs.Common.{◌∙◌, ap, sym, subst, set, true}
+use Rattle.std.proofs.Common.{◌∙◌, ap, sym, subst}
 use Rattle.shared_words.specs.declared.view.Role.TheVariants as role
 use Rattle.shared_words.specs.Entry.{Entry}
 use Rattle.split_ring.specs.Ends.{End, IsLeft}
