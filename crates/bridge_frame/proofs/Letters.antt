@@ -9,7 +9,7 @@ use Rattle.mc_base.specs.FaultRow.{first_fault, row}
 use Rattle.mc_base.proofs.FaultRows.{first_fault-passed}
 use Rattle.mc_base.specs.declared.fault.LetterFault.TheVariants.{PayloadShort, Magic, Version}
 use Rattle.byteorder.specs.Endian.{little_bytes, little_number}
-use Rattle.mc_base.specs.Letter.{IsLetter, PlainLetter, bytes_of_bits, fields, plain_letter, spelled}
+use Rattle.mc_base.specs.Letter.{IsLetter, PlainLetter, bytes_of_bits, plain_letter, spelled, version_1}
 use Rattle.mc_base.specs.LetterFaults.{fields_in, field_faults, letter_faults}
 use Rattle.mc_base.specs.declared.letter.Letter.{Letter}
 use Rattle.mc_base.specs.declared.letter.Letter.TheVariants as letter
@@ -38,8 +38,7 @@ pub spelled-fields_in : (payload : List ℕ) → IsHeaded payload → spelled (f
 spelled-fields_in (a ∷ b ∷ k ∷ g ∷ rest) headed =
     let channel : little_bytes 4 (little_number 4 rest) ≡ take 4 rest = little_bytes-little_number 4 rest (omega (arith, headed.long)) (λ i. headed.bytes (suc (suc (suc (suc i))))) in
     let magic : a ≡ 0x4d = headed.magic in
-    let version : b ≡ 1 = headed.version in
-    ap (λ (front : List ℕ). 0x4d ∷ 1 ∷ k ∷ g ∷ (front ++ drop 4 rest)) channel ∙ rw (magic, version, take-append-drop 4 rest) refl
+    ap (λ (front : List ℕ). 0x4d ∷ b ∷ k ∷ g ∷ (front ++ drop 4 rest)) channel ∙ rw (magic, take-append-drop 4 rest) refl
 spelled-fields_in [] headed = absurd (omega (arith, headed.long))
 spelled-fields_in (a ∷ []) headed = absurd (omega (arith, headed.long))
 spelled-fields_in (a ∷ b ∷ []) headed = absurd (omega (arith, headed.long))
@@ -84,24 +83,24 @@ channel_stands : (channel : ℕ) → 0 < channel → (channel == 0) ≡ false
 channel_stands channel positive = search rules
 
 scalar_of_bits : (bits : Bits) (channel : ℕ) (content : List ℕ) → length content ≡ bytes_of_bits bits → 0 < channel → channel < 2 ^ 32 → IsBytes content
-    → IsRead (fields 8 (bytes_of_bits bits) channel content) (letter.Scalar channel bits (little_number (bytes_of_bits bits) content))
+    → IsRead (version_1 8 (bytes_of_bits bits) channel content) (letter.Scalar channel bits (little_number (bytes_of_bits bits) content))
 scalar_of_bits B8 channel content whole positive small bytes = record {
-  fields_are = ap (λ (xs : List ℕ). fields 8 1 channel xs) (content_of 1 content whole bytes);
+  fields_are = ap (λ (xs : List ℕ). version_1 8 1 channel xs) (content_of 1 content whole bytes);
   lawful = ((positive, small), little_from-lt 0 1 content bytes);
   faultless = rw (channel_stands channel positive, whole) refl;
 }
 scalar_of_bits B16 channel content whole positive small bytes = record {
-  fields_are = ap (λ (xs : List ℕ). fields 8 2 channel xs) (content_of 2 content whole bytes);
+  fields_are = ap (λ (xs : List ℕ). version_1 8 2 channel xs) (content_of 2 content whole bytes);
   lawful = ((positive, small), little_from-lt 0 2 content bytes);
   faultless = rw (channel_stands channel positive, whole) refl;
 }
 scalar_of_bits B32 channel content whole positive small bytes = record {
-  fields_are = ap (λ (xs : List ℕ). fields 8 4 channel xs) (content_of 4 content whole bytes);
+  fields_are = ap (λ (xs : List ℕ). version_1 8 4 channel xs) (content_of 4 content whole bytes);
   lawful = ((positive, small), little_from-lt 0 4 content bytes);
   faultless = rw (channel_stands channel positive, whole) refl;
 }
 scalar_of_bits B64 channel content whole positive small bytes = record {
-  fields_are = ap (λ (xs : List ℕ). fields 8 8 channel xs) (content_of 8 content whole bytes);
+  fields_are = ap (λ (xs : List ℕ). version_1 8 8 channel xs) (content_of 8 content whole bytes);
   lawful = ((positive, small), little_from-lt 0 8 content bytes);
   faultless = rw (channel_stands channel positive, whole) refl;
 }
@@ -109,5 +108,5 @@ scalar_of_bits B64 channel content whole positive small bytes = record {
 -- a scalar of as many bytes as the argument says
 pub scalar_is_read : (bits : Bits) (argument channel value : ℕ) (content : List ℕ) → argument ≡ bytes_of_bits bits
     → value ≡ little_number argument content → length content ≡ argument → 0 < channel → channel < 2 ^ 32 → IsBytes content
-    → IsRead (fields 8 argument channel content) (letter.Scalar channel bits value)
+    → IsRead (version_1 8 argument channel content) (letter.Scalar channel bits value)
 scalar_is_read bits argument channel value content width number whole positive small bytes = rw (number, width) (scalar_of_bits bits channel content (whole ∙ width) positive small bytes)

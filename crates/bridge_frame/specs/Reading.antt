@@ -2,7 +2,7 @@
 -- Source: the payload header, version 1, of docs/FORMATS.md.
 use Rattle.std.specs.Prelude.{◌≡◌, ◌<◌, ℕ, Result, Ok, Err, Some, None, List, []}
 use Rattle.mc_base.specs.FaultRow.{first_fault}
-use Rattle.mc_base.specs.Letter.{Fields, fields, fields_of, plain_letter, HasSpelling}
+use Rattle.mc_base.specs.Letter.{Fields, version_1, fields_of, plain_letter, HasSpelling}
 use Rattle.mc_base.specs.LetterFaults.{field_faults}
 use Rattle.mc_base.specs.declared.letter.Letter.{Letter}
 use Rattle.mc_base.specs.declared.fault.LetterFault.{LetterFault}
@@ -21,4 +21,4 @@ IsReading f (Err e) = first_fault (field_faults f) ≡ Some e
 -- the channel of a letter with neither argument nor content, or the first fault, whichever kind without both it is
 abbrev pub IsBare : ℕ → ℕ → List ℕ → Result ℕ LetterFault → Type 0
 IsBare argument channel content (Ok c) = (c ≡ channel) × (argument ≡ 0) × (0 < channel) × (content ≡ [])
-IsBare argument channel content (Err e) = first_fault (field_faults (fields 3 argument channel content)) ≡ Some e
+IsBare argument channel content (Err e) = first_fault (field_faults (version_1 3 argument channel content)) ≡ Some e

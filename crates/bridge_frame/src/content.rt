@@ -2,7 +2,7 @@
 
 ghost use Rattle.std.specs.Prelude.{◌≡◌, ◌<◌, ◌≤◌, ◌⊎◌, MatchResult, [], length};
 ghost use Rattle.mc_base.specs.declared.fault.LetterFault.TheVariants.{Argument, Channel, Size};
-ghost use Rattle.mc_base.specs.Letter.{fields};
+ghost use Rattle.mc_base.specs.Letter.{version_1};
 ghost use Rattle.bridge_frame.specs.Reading.{IsBare, IsReading};
 
 use byteorder::{ByteOrder, LittleEndian};
@@ -10,7 +10,7 @@ use mc_base::{Bits, ITEM_SIZE, Kind, Letter, LetterFault, Priority, Reason};
 
 /// A message: the argument is its priority, and it is on no channel.
 pub fn message(argument: u8, channel: u32, content: &[u8]) -> Result<Letter<'_>, LetterFault>
-    ensures { IsReading (fields 1 argument channel content.now) result }
+    ensures { IsReading (version_1 1 argument channel content.now) result }
 {
     let Some(priority) = Priority::new(argument) else {
         return Err(LetterFault::Argument);
@@ -24,7 +24,7 @@ pub fn message(argument: u8, channel: u32, content: &[u8]) -> Result<Letter<'_>,
 
 /// A connect: the argument tells what the channel carries.
 pub fn connect(argument: u8, channel: u32, content: &[u8]) -> Result<Letter<'static>, LetterFault>
-    ensures { IsReading (fields 2 argument channel content.now) result }
+    ensures { IsReading (version_1 2 argument channel content.now) result }
 {
     let kind = match argument {
         0 => Kind::Packet,
@@ -37,7 +37,7 @@ pub fn connect(argument: u8, channel: u32, content: &[u8]) -> Result<Letter<'sta
 
 /// A reject: the argument tells the reason.
 pub fn reject(argument: u8, channel: u32, content: &[u8]) -> Result<Letter<'static>, LetterFault>
-    ensures { IsReading (fields 4 argument channel content.now) result }
+    ensures { IsReading (version_1 4 argument channel content.now) result }
 {
     let reason = match argument {
         1 => Reason::NoEndpoint,
@@ -51,7 +51,7 @@ pub fn reject(argument: u8, channel: u32, content: &[u8]) -> Result<Letter<'stat
 
 /// A packet.
 pub fn packet(argument: u8, channel: u32, content: &[u8]) -> Result<Letter<'_>, LetterFault>
-    ensures { IsReading (fields 7 argument channel content.now) result }
+    ensures { IsReading (version_1 7 argument channel content.now) result }
 {
     no_argument(argument)?;
     let channel = numbered(channel)?;
@@ -61,7 +61,7 @@ pub fn packet(argument: u8, channel: u32, content: &[u8]) -> Result<Letter<'_>, 
 
 /// A scalar: the argument tells how many bytes it has.
 pub fn scalar(argument: u8, channel: u32, content: &[u8]) -> Result<Letter<'static>, LetterFault>
-    ensures { IsReading (fields 8 argument channel content.now) result }
+    ensures { IsReading (version_1 8 argument channel content.now) result }
 {
     let bits = match argument {
         1 => Bits::B8,

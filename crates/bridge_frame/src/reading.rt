@@ -1,6 +1,6 @@
 ghost use Rattle.std.specs.Prelude.{◌≡◌, IfOk, IsOkAnd, MatchResult, None, Some};
 ghost use Rattle.mc_base.specs.FaultRow.{first_fault};
-ghost use Rattle.mc_base.specs.Letter.{IsLetter, PlainLetter, fields, plain_letter};
+ghost use Rattle.mc_base.specs.Letter.{IsLetter, PlainLetter, plain_letter, version_1};
 ghost use Rattle.mc_base.specs.LetterFaults.{letter_faults};
 ghost use Rattle.bridge_frame.specs.Reading.{IsReading};
 
@@ -46,7 +46,7 @@ fn letter_of(
     channel: u32,
     content: &[u8],
 ) -> Result<Letter<'_>, LetterFault>
-    ensures { IsReading (fields kind argument channel content.now) result }
+    ensures { IsReading (version_1 kind argument channel content.now) result }
 {
     match kind {
         1 => message(argument, channel, content),

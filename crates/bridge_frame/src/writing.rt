@@ -1,5 +1,5 @@
 ghost use Rattle.std.specs.Prelude.{◌≡◌, ◌≤◌, ◌<◌, ◌+◌, ◌^◌, [], ◌++◌, length, drop};
-ghost use Rattle.mc_base.specs.Letter.{HasSpelling, bytes_of_bits, fields, plain_letter, scalar, spelled, spelling};
+ghost use Rattle.mc_base.specs.Letter.{HasSpelling, bytes_of_bits, plain_letter, scalar, spelled, spelling, version_1};
 
 use crate::{MAGIC, VERSION};
 use byteorder::{ByteOrder, LittleEndian};
@@ -46,7 +46,7 @@ pub fn write_letter(letter: &Letter<'_>, out: &mut [u8]) -> usize
 /// Writes the header of a letter. The rest of `out` stays.
 fn write_header(kind: u8, argument: u8, channel: u32, out: &mut [u8])
     requires { 8 ≤ length out.old }
-    ensures { out.new ≡ spelled (fields kind argument channel []) ++ drop 8 out.old }
+    ensures { out.new ≡ spelled (version_1 kind argument channel []) ++ drop 8 out.old }
 {
     out[0] = MAGIC;
     out[1] = VERSION;
@@ -58,9 +58,9 @@ fn write_header(kind: u8, argument: u8, channel: u32, out: &mut [u8])
 /// Writes a letter of these fields, and answers its length. The rest of `out` stays.
 fn write_fields(kind: u8, argument: u8, channel: u32, content: &[u8], out: &mut [u8]) -> usize
     requires { 8 + length content.now ≤ length out.old }
-    ensures written { let text = spelled (fields kind argument channel content.now) in
+    ensures written { let text = spelled (version_1 kind argument channel content.now) in
         out.new ≡ text ++ drop (length text) out.old }
-    ensures len { result ≡ length (spelled (fields kind argument channel content.now)) }
+    ensures len { result ≡ length (spelled (version_1 kind argument channel content.now)) }
 {
     write_header(kind, argument, channel, out);
     let end = LETTER_HEADER_SIZE + content.len();

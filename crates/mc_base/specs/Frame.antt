@@ -3,7 +3,7 @@
 -- (2 bytes each), and then the payload. Any bytes may stand in reserved, in flags and after the payload.
 use Rattle.std.specs.Prelude.{◌≡◌, ℕ, ◌-◌, ◌≤◌, List, [], ◌∷◌, ◌++◌, length, take, drop, nat_lt}
 use Rattle.byteorder.specs.Endian.{little_bytes}
-use Rattle.mc_base.specs.Limits.{buffer_size, frame_header_size}
+use Rattle.mc_base.specs.Limits.{frame_header_size, longest_frame}
 use Rattle.mc_base.specs.Bytes.{number_at}
 use Rattle.mc_base.specs.FaultRow.{FaultRow, row}
 use Rattle.mc_base.specs.declared.fault.FrameFault.{FrameFault}
@@ -26,7 +26,7 @@ payload_of frame = take (payload_length_of frame) (drop frame_header_size frame)
 -- the frame has this source, destination and payload
 pub record IsFrame (frame : List ℕ) (src dst : ℕ) (payload : List ℕ) : Type 0 where
   pub has_header : frame_header_size ≤ length frame
-  pub fits_buffer : length frame ≤ buffer_size
+  pub fits_buffer : length frame ≤ longest_frame
   pub source : src ≡ source_of frame
   pub destination : dst ≡ destination_of frame
   pub length_fits : payload_length_of frame ≤ length frame - frame_header_size
@@ -44,6 +44,6 @@ made src dst payload = header src dst (length payload) ++ payload
 abbrev pub frame_faults : List ℕ → List (FaultRow FrameFault)
 frame_faults frame =
     row FrameShort (nat_lt (length frame) frame_header_size) (length frame)
-    ∷ row FrameLong (nat_lt buffer_size (length frame)) (length frame)
+    ∷ row FrameLong (nat_lt longest_frame (length frame)) (length frame)
     ∷ row HeaderLen (nat_lt (length frame - frame_header_size) (payload_length_of frame)) 12
     ∷ []

@@ -55,32 +55,37 @@ bytes_of_bits B16 = 2
 bytes_of_bits B32 = 4
 bytes_of_bits B64 = 8
 
--- the fields of a payload after magic and version
+-- the fields of a payload after magic
 pub record Fields : Type 0 where
+  pub version : ℕ
   pub kind : ℕ
   pub argument : ℕ
   pub channel : ℕ
   pub content : List ℕ
 
-abbrev pub fields : ℕ → ℕ → ℕ → List ℕ → Fields
-fields kind argument channel content = record { kind = kind; argument = argument; channel = channel; content = content }
+abbrev pub fields : ℕ → ℕ → ℕ → ℕ → List ℕ → Fields
+fields version kind argument channel content = record { version = version; kind = kind; argument = argument; channel = channel; content = content }
+
+-- the fields of a letter of version 1
+abbrev pub version_1 : ℕ → ℕ → ℕ → List ℕ → Fields
+version_1 = fields 1
 
 -- the table of letters: the fields of each
 abbrev pub fields_of : PlainLetter → Fields
-fields_of (msg priority bytes) = fields 1 priority 0 bytes
-fields_of (connect channel kind) = fields 2 (kind_number kind) channel []
-fields_of (accept channel) = fields 3 0 channel []
-fields_of (reject channel reason) = fields 4 (reason_number reason) channel []
-fields_of (recv_open channel) = fields 5 0 channel []
-fields_of (send_open channel) = fields 6 0 channel []
-fields_of (packet channel bytes) = fields 7 0 channel bytes
-fields_of (scalar channel bits value) = fields 8 (bytes_of_bits bits) channel (little_bytes (bytes_of_bits bits) value)
-fields_of (send_close channel) = fields 9 0 channel []
-fields_of (recv_close channel) = fields 10 0 channel []
+fields_of (msg priority bytes) = version_1 1 priority 0 bytes
+fields_of (connect channel kind) = version_1 2 (kind_number kind) channel []
+fields_of (accept channel) = version_1 3 0 channel []
+fields_of (reject channel reason) = version_1 4 (reason_number reason) channel []
+fields_of (recv_open channel) = version_1 5 0 channel []
+fields_of (send_open channel) = version_1 6 0 channel []
+fields_of (packet channel bytes) = version_1 7 0 channel bytes
+fields_of (scalar channel bits value) = version_1 8 (bytes_of_bits bits) channel (little_bytes (bytes_of_bits bits) value)
+fields_of (send_close channel) = version_1 9 0 channel []
+fields_of (recv_close channel) = version_1 10 0 channel []
 
--- magic, version and the fields
+-- magic and the fields
 abbrev pub spelled : Fields → List ℕ
-spelled f = 0x4d ∷ 1 ∷ f.kind ∷ f.argument ∷ (little_bytes 4 f.channel ++ f.content)
+spelled f = 0x4d ∷ f.version ∷ f.kind ∷ f.argument ∷ (little_bytes 4 f.channel ++ f.content)
 
 -- the one spelling of a letter
 abbrev pub spelling : PlainLetter → List ℕ

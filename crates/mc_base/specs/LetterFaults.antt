@@ -8,14 +8,14 @@ use Rattle.mc_base.specs.Letter.{Fields, fields}
 use Rattle.mc_base.specs.declared.fault.LetterFault.{LetterFault}
 use Rattle.mc_base.specs.declared.fault.LetterFault.TheVariants.{PayloadShort, Magic, Version, Kind, Argument, Channel, Size}
 
--- what a kind allows: its arguments, its channels, and the lengths of its content by the argument
+-- what a kind allows: its arguments, its channels, and the contents, by all fields
 pub record Form : Type 0 where
   pub kind : ℕ
   pub argument : ℕ → Bool
   pub channel : ℕ → Bool
-  pub content : ℕ → ℕ → Bool
+  pub content : Fields → Bool
 
-abbrev pub form : ℕ → (ℕ → Bool) → (ℕ → Bool) → (ℕ → ℕ → Bool) → Form
+abbrev pub form : ℕ → (ℕ → Bool) → (ℕ → Bool) → (Fields → Bool) → Form
 form kind argument channel content = record { kind = kind; argument = argument; channel = channel; content = content }
 
 abbrev pub only : ℕ → ℕ → Bool
@@ -27,11 +27,14 @@ from_to low high n = nat_le low n && nat_le n high
 abbrev pub a_channel : ℕ → Bool
 a_channel n = not (n == 0)
 
-abbrev pub nothing : ℕ → ℕ → Bool
-nothing argument n = n == 0
+abbrev pub nothing : Fields → Bool
+nothing f = length f.content == 0
 
-abbrev pub an_item : ℕ → ℕ → Bool
-an_item argument n = nat_le n item_size
+abbrev pub an_item : Fields → Bool
+an_item f = nat_le (length f.content) item_size
+
+abbrev pub a_scalar : Fields → Bool
+a_scalar f = length f.content == f.argument
 
 abbrev pub a_width : ℕ → Bool
 a_width n = n == 1 || (n == 2 || (n == 4 || n == 8))
@@ -46,7 +49,7 @@ forms =
     ∷ form 5 (only 0) a_channel nothing
     ∷ form 6 (only 0) a_channel nothing
     ∷ form 7 (only 0) a_channel an_item
-    ∷ form 8 a_width a_channel (λ argument n. n == argument)
+    ∷ form 8 a_width a_channel a_scalar
     ∷ form 9 (only 0) a_channel nothing
     ∷ form 10 (only 0) a_channel nothing
     ∷ []
@@ -66,7 +69,7 @@ allows (Some f) test = test f
 
 -- the fields of a payload, where it is long enough to have them
 abbrev pub fields_in : List ℕ → Fields
-fields_in payload = fields (slice_index payload 2) (slice_index payload 3) (number_at 4 4 payload) (drop letter_header_size payload)
+fields_in payload = fields (slice_index payload 1) (slice_index payload 2) (slice_index payload 3) (number_at 4 4 payload) (drop letter_header_size payload)
 
 -- the faults of the fields in their order, with the place of each in a frame without more header
 abbrev pub field_faults : Fields → List (FaultRow LetterFault)
@@ -74,7 +77,7 @@ field_faults f =
     row Kind (not (is_some (form_of f.kind))) 18
     ∷ row Argument (not (allows (form_of f.kind) (λ form. form.argument f.argument))) 19
     ∷ row Channel (not (allows (form_of f.kind) (λ form. form.channel f.channel))) 20
-    ∷ row Size (not (allows (form_of f.kind) (λ form. form.content f.argument (length f.content)))) 12
+    ∷ row Size (not (allows (form_of f.kind) (λ form. form.content f))) 12
     ∷ []
 
 -- the faults of a payload in their order: those before the fields, and then those of the fields
@@ -82,5 +85,5 @@ abbrev pub letter_faults : List ℕ → List (FaultRow LetterFault)
 letter_faults payload =
     row PayloadShort (nat_lt (length payload) letter_header_size) 12
     ∷ row Magic (not (slice_index payload 0 == 0x4d)) 16
-    ∷ row Version (not (slice_index payload 1 == 1)) 17
+    ∷ row Version (not ((fields_in payload).version == 1)) 17
     ∷ field_faults (fields_in payload)

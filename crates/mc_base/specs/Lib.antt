@@ -8,6 +8,7 @@ pub mod Letter
 pub mod LetterFaults
 pub mod Announcement
 pub mod Fault
+pub mod Reading
 pub mod Text
 pub mod NameMap
 pub mod FullName

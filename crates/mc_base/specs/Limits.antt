@@ -6,6 +6,14 @@ use Rattle.std.specs.Prelude.{ℕ}
 abbrev pub buffer_size : ℕ
 buffer_size = 512
 
+-- the bytes of a buffer of a domain's own pool
+abbrev pub pool_buffer_size : ℕ
+pool_buffer_size = 512
+
+-- the most bytes of a frame
+abbrev pub longest_frame : ℕ
+longest_frame = 512
+
 -- the most bytes of a message or packet
 abbrev pub item_size : ℕ
 item_size = 488

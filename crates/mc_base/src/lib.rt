@@ -8,6 +8,7 @@ mod buffer;
 mod channel;
 mod fate;
 mod fault;
+mod laws;
 mod letter;
 mod limits;
 mod name;
@@ -20,12 +21,13 @@ pub use buffer::Buffer;
 pub use channel::{Bits, Kind, Reason, Side};
 pub use fate::Fate;
 pub use fault::{Fault, FrameFault, LetterFault, NsFault};
+pub use laws::limits_are_those_defined;
 pub use letter::Letter;
 pub use limits::{
-    BUFFER_SIZE, FIRST_ADDRESS, FRAME_HEADER_SIZE, ITEM_SIZE, LETTER_HEADER_SIZE, MAX_ASKED,
-    MAX_CHANNELS, MAX_DOMAINS, MAX_ENDPOINTS, MAX_ENDPOINTS_EVER, MAX_NODES,
+    BUFFER_SIZE, FIRST_ADDRESS, FRAME_HEADER_SIZE, ITEM_SIZE, LETTER_HEADER_SIZE, LONGEST_FRAME,
+    MAX_ASKED, MAX_CHANNELS, MAX_DOMAINS, MAX_ENDPOINTS, MAX_ENDPOINTS_EVER, MAX_NODES,
     MAX_OWED_ANNOUNCEMENTS, MAX_OWED_REPLIES, MAX_POOL, MAX_REQUESTS, MAX_RING_SIZE,
-    NAME_SERVICE_ADDRESS, NAME_SIZE, NAMES_KNOWN, NS_SIZE, TURN_FRAMES,
+    NAME_SERVICE_ADDRESS, NAME_SIZE, NAMES_KNOWN, NS_SIZE, POOL_BUFFER_SIZE, TURN_FRAMES,
 };
 pub use name::{EndName, Local};
 pub use priority::Priority;

@@ -1,6 +1,12 @@
 /// How many bytes a buffer has.
 pub const BUFFER_SIZE: usize = 512;
 
+/// How many bytes a buffer of a domain's own pool has.
+pub const POOL_BUFFER_SIZE: usize = 512;
+
+/// How many bytes a frame has at most.
+pub const LONGEST_FRAME: usize = 512;
+
 /// How many bytes a message or a packet has at most.
 pub const ITEM_SIZE: usize = 488;
 

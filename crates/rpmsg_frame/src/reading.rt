@@ -3,7 +3,7 @@ ghost use Rattle.mc_base.specs.FaultRow.{first_fault};
 ghost use Rattle.mc_base.specs.Frame.{IsFrame, frame_faults};
 
 use byteorder::{ByteOrder, LittleEndian};
-use mc_base::{BUFFER_SIZE, FRAME_HEADER_SIZE, FrameFault};
+use mc_base::{FRAME_HEADER_SIZE, FrameFault, LONGEST_FRAME};
 
 /// A frame: the addresses that it comes from and goes to, and its payload.
 #[derive(Clone, Copy, Debug)]
@@ -31,7 +31,7 @@ pub fn decode(frame: &[u8]) -> Result<Frame<'_>, FrameFault>
     if frame.len() < FRAME_HEADER_SIZE {
         return Err(FrameFault::FrameShort);
     }
-    if frame.len() > BUFFER_SIZE {
+    if frame.len() > LONGEST_FRAME {
         return Err(FrameFault::FrameLong);
     }
     let (_, body) = frame.split_at(FRAME_HEADER_SIZE);

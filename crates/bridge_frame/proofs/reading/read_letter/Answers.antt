@@ -1,7 +1,7 @@
 use Rattle.std.proofs.Common.{◌≡◌, ◌-◌, ◌∙◌, length, drop, slice_index, refl, subst, arith}
 use Rattle.byteorder.specs.Endian.{little_number}
 use Rattle.byteorder.specs.Numbers.{little_from-take}
-use Rattle.mc_base.specs.Letter.{Fields, fields}
+use Rattle.mc_base.specs.Letter.{Fields, version_1}
 use Rattle.mc_base.specs.LetterFaults.{fields_in}
 use Rattle.bridge_frame.specs.Reading.{IsReading}
 use Rattle.bridge_frame.proofs.Letters.{IsHeaded, reading_is_complete, reading_is_sound, reading_tells_fault}
@@ -20,8 +20,8 @@ read c =
     let payload = c.args.payload.now in
     let channel : c.read_u32-channel.result ≡ little_number 4 (drop 4 payload) =
     c.read_u32-channel.ensures ∙ little_from-take 0 4 (length payload - 4) (drop 4 payload) (omega arith) in
-    let same : fields (slice_index payload 2) (slice_index payload 3) c.read_u32-channel.result c.split_at.result.1.now ≡ fields_in payload =
-    rw (channel, c.split_at.ensures.back) refl in
+    let same : version_1 (slice_index payload 2) (slice_index payload 3) c.read_u32-channel.result c.split_at.result.1.now ≡ fields_in payload =
+    rw (channel, c.split_at.ensures.back, c.if-payload-ne-VERSION.false) refl in
     subst (λ (f : Fields). IsReading f c.letter_of.result) same c.letter_of.ensures
 
 pub returns-clause-sound : goal.returns-clause-sound
