@@ -10,6 +10,7 @@ mod reading;
 mod writing;
 
 pub use laws::{letters_read_back, no_payload_has_two_letters};
+pub use mc_base::{Letter, LetterFault};
 pub use reading::read_letter;
 pub use writing::write_letter;
 

@@ -1,1 +1,2 @@
 pub mod FaultRows
+pub mod Readings

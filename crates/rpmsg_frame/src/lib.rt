@@ -8,5 +8,6 @@ mod reading;
 mod writing;
 
 pub use laws::made_is_frame;
+pub use mc_base::FrameFault;
 pub use reading::{Frame, decode};
 pub use writing::{encode_into, write_header};
