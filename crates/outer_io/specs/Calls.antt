@@ -1,6 +1,7 @@
 -- How a count of calls grows, where it is told.
 -- Source: docs/PROFILE.md, "The outside". A count is a u64, and stands still at the greatest one.
-use Rattle.std.specs.Prelude.{◌≡◌, ◌≢◌, ℕ, ◌+◌, ◌≤◌, ⊤, Option, None, Some, Result, MatchResult}
+use Rattle.std.specs.Prelude.{◌≡◌, ◌≢◌, ℕ, ◌+◌, ◌≤◌, ⊤, List, length, Option, None, Some, Result, MatchResult}
+use Rattle.std.specs.Io.KnownBytes.{Consumes}
 use Rattle.outer_io.specs.Faults.{one_more}
 
 -- one call was made
@@ -18,3 +19,8 @@ abbrev pub CountsAtMost : Option ℕ → Option ℕ → ℕ → Type 0
 CountsAtMost None new n = ⊤
 CountsAtMost (Some before) None n = ⊥
 CountsAtMost (Some before) (Some now) n = now ≤ before + n
+
+-- at most `limit` bytes were read, and no more reads were made than these and one: since each read that is not at the end and
+-- doesn't fail moves one byte at least, and any may fail, none was made after one that failed
+abbrev pub ReadsStop : Option (List ℕ) → Option (List ℕ) → Option ℕ → Option ℕ → ℕ → Type 0
+ReadsStop old new before now limit = (bytes : List ℕ) × (length bytes ≤ limit) × Consumes old new bytes × CountsAtMost before now (length bytes + 1)

@@ -162,6 +162,8 @@ impl Sink for MemSink {
 
     ghost faults = { λ s. s.faults };
 
+    ghost calls = { λ s. Some s.calls };
+
     ghost takes = { λ s n. NoneListed s.failing s.calls × (n ≤ room_left s) };
 
     fn write(&mut self, piece: &[u8]) -> Result<usize, Failed>
@@ -169,6 +171,7 @@ impl Sink for MemSink {
         ensures bound { IfOk result (λ n. (0 < n) × (n ≤ length piece.now)) }
         ensures bytes { WriteAppends (Some self.old.written) (Some self.new.written) result piece.now }
         ensures cause { HasCause self.old.faults self.new.faults result }
+        ensures counted { CountsOne (Some self.old.calls) (Some self.new.calls) }
         ensures room { (n : ℕ) → NoneListed self.old.failing self.old.calls × (n ≤ room_left self.old) → length piece.now ≤ n → IsOkAnd result (λ k. NoneListed self.new.failing self.new.calls × (n - k ≤ room_left self.new)) }
         ensures fails { IsErr result ↔ (Contains self.old.failing self.old.calls ⊎ room_left self.old ≡ 0) }
         ensures count { IfOk result (λ n. n ≡ write_count self.old (length piece.now)) }

@@ -1,7 +1,7 @@
 ghost use Rattle.std.specs.Prelude.{◌≡◌, ◌≤◌, ◌<◌, ◌+◌, List, ℕ, Option, None, length, IfOk, IsOk, IsErrOf, MatchOption, MatchResult};
 ghost use Rattle.std.specs.Io.KnownBytes.{ReadConsumes, Consumes, IsAtEnd};
 ghost use Rattle.outer_io.specs.Faults.{Rose, HasCause};
-ghost use Rattle.outer_io.specs.Calls.{CountsOne, CountsEnd, CountsAtMost};
+ghost use Rattle.outer_io.specs.Calls.{CountsOne, CountsEnd, CountsAtMost, ReadsStop};
 
 use crate::Failed;
 use std::alloc::Global;
@@ -51,7 +51,7 @@ pub enum ReadFault {
 }
 
 /// How many bytes are asked for at once.
-const CHUNK: usize = 8192;
+const CHUNK: usize = 65_536;
 
 /// All bytes to the end, which are at most `limit`. `Failed` comes exactly where a read failed, which is then the last,
 /// `TooLong` where more bytes came than `limit`, and `NoMemory` at want of memory. At most `limit` + 1 reads are made, and
@@ -72,6 +72,7 @@ pub fn read_all<S: Source>(
     ensures no_fault { (IsErrOf result ReadFault.Failed → ⊥) → S.faults source.new ≡ S.faults source.old }
     ensures reads { CountsAtMost (S.calls source.old) (S.calls source.new) (limit + 1) }
     ensures few_reads { IfOk result (λ v. CountsAtMost (S.calls source.old) (S.calls source.new) (length v.items + 1)) }
+    ensures none_after_failure { IsErrOf result ReadFault.Failed → ReadsStop (S.rest source.old) (S.rest source.new) (S.calls source.old) (S.calls source.new) limit }
     ensures none_after_end { MatchResult result (λ _. CountsOne (S.ends source.old) (S.ends source.new)) (λ _. S.ends source.new ≡ S.ends source.old) }
 {
     let mut bytes = Vec::new(alloc);

@@ -86,6 +86,7 @@ impl<W: Write + Drop> Sink for StdSink<W> {
         ensures bound { IfOk result (λ n. (0 < n) × (n ≤ length piece.now)) }
         ensures bytes { WriteAppends None None result piece.now }
         ensures cause { HasCause self.old self.new result }
+        ensures counted { CountsOne None None }
         ensures room { (n : ℕ) → ⊥ → length piece.now ≤ n → IfOk result (λ _. ⊥) }
         ensures ok { OnOk result (self.new ≡ self.old) }
         ensures err { OnErr result (self.new ≡ one_more self.old) }

@@ -6,7 +6,7 @@ use crate::{Failed, Sink, write_all};
 use arrayvec::ArrayVec;
 
 /// How many bytes are gathered before they are written.
-const GATHERED: usize = 4096;
+const GATHERED: usize = 32_768;
 
 /// How many bytes are spelled in hexadecimal at once.
 const HEX_BYTES: usize = 64;
@@ -37,18 +37,30 @@ impl<'a, K: Sink> Writer<'a, K> {
 
     /// Puts a piece of any length: it is gathered with what came before, or written after it. After a failure it is
     /// dropped.
+    #[inline(always)]
     pub fn put(&mut self, piece: &[u8])
         ensures { Puts K.Sink self.old self.new piece.now }
     {
         if self.gathers(piece) {
             return;
         }
+        self.put_after(piece);
+    }
+
+    /// Writes what is gathered, and puts a piece after it.
+    #[cold]
+    #[inline(never)]
+    fn put_after(&mut self, piece: &[u8])
+        requires { self.old.failed ≡ false }
+        ensures { Puts K.Sink self.old self.new piece.now }
+    {
         self.write_gathered();
         self.put_first(piece);
     }
 
     /// Gathers a piece, if there is room. After a failure it is dropped.
     #[tactic(auto, unfolding(crate::specs::Puts::Puts))]
+    #[inline(always)]
     fn gathers(&mut self, piece: &[u8]) -> bool
         ensures puts { result ≡ true → Puts K.Sink self.old self.new piece.now }
         ensures full { result ≡ false → (self.new ≡ self.old) × (self.old.failed ≡ false) }
@@ -84,7 +96,20 @@ impl<'a, K: Sink> Writer<'a, K> {
     }
 
     /// Puts a number in decimal digits.
+    #[inline(always)]
     pub fn put_number(&mut self, n: u64)
+        ensures { Puts K.Sink self.old self.new (decimal n) }
+    {
+        if n < 10 {
+            self.put(&[b'0' + n as u8]);
+        } else {
+            self.put_digits(n);
+        }
+    }
+
+    /// Puts a number of two digits or more.
+    #[inline(never)]
+    fn put_digits(&mut self, n: u64)
         ensures { Puts K.Sink self.old self.new (decimal n) }
     {
         self.put(itoa::Buffer::new().format(n).as_bytes());

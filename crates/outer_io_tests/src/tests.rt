@@ -307,22 +307,22 @@ fn hexadecimal_in_long_and_short(rt: HostRuntime) -> Result<(), Fail> {
 fn write_more_than_fits(sink: &mut MemSink) -> Result<(), Failed> {
     let mut out = Writer::new(sink);
     out.put(b"ab");
-    out.put([7; 5000].as_slice());
-    for _ in 0..1000 {
+    out.put([7; 40_000].as_slice());
+    for _ in 0..4000 {
         out.put(b"0123456789");
     }
     out.finish()
 }
 
 fn is_gathered(written: &[u8]) -> bool {
-    written.len() == 2 + 5000 + 10_000
+    written.len() == 2 + 40_000 + 40_000
         && written.starts_with(b"ab\x07\x07")
         && written.ends_with(b"01234567890123456789")
 }
 
 #[test]
 fn gathers_more_than_fits(rt: HostRuntime) -> Result<(), Fail> {
-    let mut sink = MemSink::new(rt.alloc(), Vec::new(rt.alloc()), 99, 20_000)?;
+    let mut sink = MemSink::new(rt.alloc(), Vec::new(rt.alloc()), 9_999, 90_000)?;
     let result = write_more_than_fits(&mut sink);
     assert!(rt; result.is_ok() && is_gathered(sink.written()));
     Ok(())
