@@ -14,3 +14,5 @@ mod headers;
 mod known_names;
 #[cfg(test)]
 mod letters;
+#[cfg(test)]
+mod readings;
