@@ -1,6 +1,7 @@
 -- What is owed to linked domains, as the latest of the events.
 use Rattle.std.proofs.Common.{◌≡◌, ◌⊎◌, ◌<◌, ◌≤◌, ◌+◌, ◌-◌, ◌∙◌, ℕ, zero, suc, Bool, true, false, List, [], ◌∷◌, ◌++◌, length, map, take, drop, get_or, set, cond, refl, sym, ap, subst, inl, inr, arith}
-use Rattle.std.specs.Prelude.{◌==◌, nat_le, find, slice_get, option_map, option_and_then, Some, None}
+use Rattle.std.specs.Prelude.{◌==◌, nat_le, find, slice_get, option_map, option_and_then, Option, Some, None}
+use Rattle.std.proofs.lemmas.Option.{slice_get_past}
 use Rattle.std.specs.List.{AllByRecursion, list_any}
 use Rattle.std.proofs.lemmas.Bool.{cases_Bool, cases_lt, eq-eqb, eqb-true, eqb-false, le-leb, leb-true, or_parts, or_cases, or_left, or_right, or_from, both_ways}
 use Rattle.std.proofs.lemmas.List.{length_push}
@@ -239,3 +240,11 @@ oldest_owed-some es peer ds d is =
 
 pub oldest_owed-none : (es : List Announced) (peer : ℕ) (ds : List Debt) → None ≡ find (λ (x : Debt). x.peer == peer) ds → option_and_then (λ (o : Owing). slice_get o.owed 0) (find (λ (o : Owing). o.peer == peer) (owing_in es ds)) ≡ None
 oldest_owed-none es peer ds is = ap (option_and_then (λ (o : Owing). slice_get o.owed 0)) (find-owing es peer ds ∙ ap (option_map (owing_of es)) (sym is))
+
+nothing_owed_by : (debt : Option Debt) (es : List Announced) (peer : ℕ) (ds : List Debt) → debt ≡ find (λ (x : Debt). x.peer == peer) ds → length es ≡ 0 → option_and_then (λ (o : Owing). slice_get o.owed 0) (find (λ (o : Owing). o.peer == peer) (owing_in es ds)) ≡ None
+nothing_owed_by None es peer ds is none = oldest_owed-none es peer ds is
+nothing_owed_by (Some d) es peer ds is none = oldest_owed-some es peer ds d is ∙ slice_get_past es (length es - d.owed) (omega (arith, none))
+
+-- with no events nothing is owed
+pub nothing_owed : (es : List Announced) (peer : ℕ) (ds : List Debt) → length es ≡ 0 → option_and_then (λ (o : Owing). slice_get o.owed 0) (find (λ (o : Owing). o.peer == peer) (owing_in es ds)) ≡ None
+nothing_owed es peer ds none = nothing_owed_by (find (λ (x : Debt). x.peer == peer) ds) es peer ds refl none

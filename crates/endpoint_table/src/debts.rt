@@ -101,6 +101,9 @@ pub fn oldest_owed(events: &VecDeque<Announced>, debts: &[Debt], peer: u8) -> Op
     requires { AllByRecursion (λ d. d.owed ≤ length events.now.items) debts.now }
     ensures { result ≡ option_and_then (λ o. slice_get o.owed 0) (find (λ o. o.peer == peer) (owing_in events.now.items debts.now)) }
 {
+    if events.is_empty() {
+        return None;
+    }
     let debt = debt_to(debts, peer)?;
     let place = events.len().saturating_sub(debt.owed);
     let event = events.get(place)?;

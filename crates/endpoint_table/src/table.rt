@@ -165,11 +165,7 @@ impl EndpointTable {
         ensures lawful { IfSome result (λ ns. IsTrue (is_name ns.name.items)) }
     {
         let event = debts::oldest_owed(&self.events, &self.debts, peer)?;
-        Some(Ns {
-            name: name_of(self.domain, event.local),
-            addr: event.address,
-            create: event.create,
-        })
+        Some(announcement_of(self.domain, event))
     }
 
     /// Notes that a linked domain was told the oldest announcement that was owed to it. A record that was in use for this
@@ -179,6 +175,19 @@ impl EndpointTable {
     {
         debts::pay(&mut self.debts, peer);
         settle(&mut self.records, &mut self.events, &mut self.debts);
+    }
+}
+
+/// What is announced of an endpoint of this domain. Its name takes room that is not cleared where nothing is owed.
+#[inline(never)]
+fn announcement_of(domain: u8, event: Announced) -> Ns
+    ensures announced { (result.name.items, result.addr, result.create) ≡ announcement_of domain event }
+    ensures lawful { IsTrue (is_name result.name.items) }
+{
+    Ns {
+        name: name_of(domain, event.local),
+        addr: event.address,
+        create: event.create,
     }
 }
 

@@ -1,6 +1,6 @@
-use Rattle.std.proofs.Common.{rules, arith, ◌∙◌, ◌-◌, ◌<◌, ◌≤◌, length, sym}
+use Rattle.std.proofs.Common.{rules, arith, ◌≡◌, ◌∙◌, ◌-◌, ◌<◌, ◌≤◌, length, sym}
 use Rattle.std.proofs.lemmas.Option.{slice_get_past, slice_get_read}
-use Rattle.endpoint_table.proofs.DebtLemmas.{oldest_owed-some, oldest_owed-none}
+use Rattle.endpoint_table.proofs.DebtLemmas.{oldest_owed-some, oldest_owed-none, nothing_owed}
 use Rattle.endpoint_table.proofs.debts.oldest_owed.Goals as goal
 
 pub returns-in_err-debt : goal.returns-in_err-debt
@@ -20,3 +20,9 @@ returns c =
     let event = c.in_ok-event.event.now in
     let within : length es - d.owed < length es = search (rules, arith) in
     sym (slice_get_read es (length es) (length es - d.owed) event (search rules) within (search rules)) ∙ sym (oldest_owed-some es c.args.peer c.args.debts.now d c.in_ok-debt.ensures)
+
+pub returns-then-is_empty : goal.returns-then-is_empty
+returns-then-is_empty c =
+    let es = c.args.events.now.items in
+    let none : length es ≡ 0 = search (rules, arith) in
+    sym (nothing_owed es c.args.peer c.args.debts.now none)
