@@ -19,3 +19,4 @@ pub mod CanonicalCallLines
 pub mod ToldParts
 pub mod LinesTold
 pub mod ReadBack
+mod SearchLemmas

@@ -17,7 +17,7 @@ use crate::calls::{call_line, call_parts};
 use crate::fault::LineFault;
 use crate::forms::{domain_line, link_line};
 use crate::labels::Labels;
-use crate::lines::words;
+use crate::lines::find_words;
 use board_model::{CallLine, LineReason, LinkLine, Scenario, Seq};
 use std::alloc::Global;
 
@@ -40,7 +40,11 @@ fn is_text_byte(byte: u8) -> bool
 fn is_text(line: &[u8]) -> bool
     ensures { result ≡ list_all is_of_text line.now }
 {
-    line.iter().all(|byte| is_text_byte(*byte))
+    let mut all = true;
+    for byte in line {
+        all &= is_text_byte(*byte);
+    }
+    all
 }
 
 fn is_domain(told: &Scenario, domain: u8) -> bool
@@ -245,8 +249,13 @@ impl<'a> Above<'a> {
         self.tell_call(alloc, first, rest)
     }
 
-    /// Tells a line.
-    pub fn tell_line(&mut self, alloc: Global, line: &'a [u8]) -> Result<(), LineFault>
+    /// Tells a line. `words` is room for its words, whatever it holds.
+    pub fn tell_line(
+        &mut self,
+        alloc: Global,
+        words: &mut Vec<&'a [u8]>,
+        line: &'a [u8],
+    ) -> Result<(), LineFault>
         requires { Keeps self.old.labels.told.keys self.old.told }
         ensures told { Answers (λ _. self.new.told) result (line_told self.old.told line.now) }
         ensures keeps { OnOk result (Keeps self.new.labels.told.keys self.new.told) }
@@ -257,8 +266,8 @@ impl<'a> Above<'a> {
         if line.len() > LONGEST_LINE {
             return Err(LineFault::Refused(LineReason::Long));
         }
-        let words = words(alloc, line)?;
-        self.tell_words(alloc, &words)
+        find_words(words, line)?;
+        self.tell_words(alloc, words)
     }
 
     /// All that was told.

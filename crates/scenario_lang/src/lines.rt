@@ -1,6 +1,6 @@
 //! The lines of a file, the words of a line and the parts of a word, each found from the front.
 
-ghost use Rattle.std.specs.Prelude.{◌≡◌, ◌≤◌, ◌<◌, ◌∷◌, [], true, false, not, IfOk, IfErr, take, drop, length, option_map};
+ghost use Rattle.std.specs.Prelude.{◌≡◌, ◌≤◌, ◌<◌, ◌∷◌, [], true, false, not, OnOk, IfErr, take, drop, length, option_map};
 ghost use Rattle.std.specs.List.{list_all};
 ghost use Rattle.board_model.specs.FileLines.{lines_of, words_of, parts_at, ends_word};
 ghost use Rattle.board_model.specs.FileLines.{is_blank as is_a_blank};
@@ -9,9 +9,9 @@ ghost use Rattle.scenario_lang.specs.Reading.{seen};
 ghost use Rattle.scenario_lang.specs.Fronts.{is_other, ends_at, unreturned, Cuts, two_parts, three_parts};
 
 use crate::fault::LineFault;
-use std::alloc::Global;
+use memchr::{memchr, memchr2};
 
-/// How many bytes stand before the first that is this one.
+/// Counts the bytes before the first that is `stop`.
 fn length_before(stop: u8, text: &[u8]) -> usize
     ensures front { list_all (is_other stop) (take result text.now) ≡ true }
     ensures end { ends_at stop (drop result text.now) ≡ true }
@@ -35,13 +35,25 @@ fn without_return(line: &[u8]) -> &[u8]
     if last[0] == b'\r' { front } else { line }
 }
 
+/// Counts the bytes before the first newline.
+fn line_length(text: &[u8]) -> usize
+    ensures front { list_all (is_other 10) (take result text.now) ≡ true }
+    ensures end { ends_at 10 (drop result text.now) ≡ true }
+    ensures within { result ≤ length text.now }
+{
+    match memchr(b'\n', text) {
+        Some(at) => at,
+        None => text.len(),
+    }
+}
+
 /// The first line of a text, and what follows it.
 pub fn first_line(text: &[u8]) -> (&[u8], &[u8])
     requires { 1 ≤ length text.now }
     ensures line { lines_of text.now ≡ result.0.now ∷ lines_of result.1.now }
     ensures shorter { length result.1.now < length text.now }
 {
-    let (front, after) = text.split_at(length_before(b'\n', text));
+    let (front, after) = text.split_at(line_length(text));
     match after {
         [_, rest @ ..] => (without_return(front), rest),
         [] => (front, after),
@@ -54,7 +66,22 @@ fn is_blank(byte: u8) -> bool
     byte == b' ' || byte == b'\t'
 }
 
-/// How many bytes stand before the first blank.
+/// Counts the bytes before the first blank, by vectors. It pays on long words alone.
+fn blank_at(text: &[u8]) -> usize
+    ensures front { list_all (λ b. not (is_a_blank b)) (take result text.now) ≡ true }
+    ensures end { ends_word (drop result text.now) ≡ true }
+    ensures within { result ≤ length text.now }
+{
+    match memchr2(b' ', b'\t', text) {
+        Some(at) => at,
+        None => text.len(),
+    }
+}
+
+/// The bytes of a word that are looked at one by one. Most words have fewer.
+const SHORT_WORD: usize = 12;
+
+/// Counts the bytes before the first blank.
 fn word_length(text: &[u8]) -> usize
     ensures front { list_all (λ b. not (is_a_blank b)) (take result text.now) ≡ true }
     ensures end { ends_word (drop result text.now) ≡ true }
@@ -62,17 +89,21 @@ fn word_length(text: &[u8]) -> usize
 {
     let mut count = 0;
     while count < text.len() && !is_blank(text[count]) {
+        if count == SHORT_WORD {
+            let (_, rest) = text.split_at(count);
+            return count + blank_at(rest);
+        }
         count += 1;
     }
     count
 }
 
-/// The words of a line.
-pub fn words(alloc: Global, line: &[u8]) -> Result<Vec<&[u8]>, LineFault>
-    ensures words { IfOk result (λ words. seen words.items ≡ words_of line.now) }
+/// Replaces what a list holds by the words of a line.
+pub fn find_words<'a>(words: &mut Vec<&'a [u8]>, line: &'a [u8]) -> Result<(), LineFault>
+    ensures words { OnOk result (seen words.new.items ≡ words_of line.now) }
     ensures memory { IfErr result (λ e. e ≡ no_memory) }
 {
-    let mut words = Vec::new(alloc);
+    words.clear();
     let mut rest = line;
     while let [byte, after @ ..] = rest {
         if is_blank(*byte) {
@@ -85,7 +116,7 @@ pub fn words(alloc: Global, line: &[u8]) -> Result<Vec<&[u8]>, LineFault>
             rest = after;
         }
     }
-    Ok(words)
+    Ok(())
 }
 
 /// What stands before a separator in a word, and after it.

@@ -1,13 +1,13 @@
 //! What a word says: a number, bytes or a label.
 
-ghost use Rattle.std.specs.Prelude.{◌≡◌, ◌≤◌, ◌^◌, ◌<◌, ℕ, List, Some, None, IfOk, IfErr, IfSome, option_map};
+ghost use Rattle.std.specs.Prelude.{◌≡◌, ◌≤◌, ◌^◌, ◌<◌, ◌*◌, ℕ, List, Some, None, true, false, nat_lt, if◌then◌else◌, length, IfOk, IfErr, IfSome, option_map};
 ghost use Rattle.board_model.specs.FileWords.{numeral, number_from, number_of, digit_value, pairs_of, bytes_of};
 ghost use Rattle.board_model.specs.FileWords.{is_digit as is_a_digit};
 ghost use Rattle.board_model.specs.FileWords.{is_label as spells_label, is_dash as spells_none};
 ghost use Rattle.std.specs.List.{list_all};
 ghost use Rattle.board_model.specs.declared.reason.LineReason.TheVariants.{Number as wrong_number};
 ghost use Rattle.scenario_lang.specs.declared.fault.LineFault.TheVariants.{Refused as refused};
-ghost use Rattle.scenario_lang.specs.Reading.{Answers, at_most, number_in, byte_of, pairs_in, bytes_in};
+ghost use Rattle.scenario_lang.specs.Reading.{Answers, at_most, number_in, pairs_in, bytes_in};
 ghost use Rattle.board_model.specs.Grammar.{is_letter_byte, is_label_byte as is_of_label};
 
 use crate::fault::LineFault;
@@ -68,49 +68,63 @@ pub fn number(least: u64, most: u64, word: &[u8]) -> Result<u64, LineFault>
     }
 }
 
-/// The value of a hexadecimal digit of either case, or `None` where the byte is no digit.
+/// What `digit_or_none` returns for a byte that is no digit.
+const NO_DIGIT: u8 = 255;
+
+/// Returns the value of a hexadecimal digit of either case, or `NO_DIGIT`.
+#[inline(always)]
+fn digit_or_none(byte: u8) -> u8
+    ensures { digit_value byte ≡ (if nat_lt result 16 then Some result else None) }
+{
+    match byte {
+        b'0'..=b'9' => byte - b'0',
+        b'a'..=b'f' => byte - b'a' + 10,
+        b'A'..=b'F' => byte - b'A' + 10,
+        _ => NO_DIGIT,
+    }
+}
+
+/// Returns the value of a hexadecimal digit of either case, or `None` where the byte is no digit.
 pub fn hex_digit(byte: u8) -> Option<u8>
     ensures value { result ≡ digit_value byte }
     ensures small { IfSome result (λ v. v < 16) }
 {
-    match byte {
-        b'0'..=b'9' => Some(byte - b'0'),
-        b'a'..=b'f' => Some(byte - b'a' + 10),
-        b'A'..=b'F' => Some(byte - b'A' + 10),
-        _ => None,
-    }
+    let value = digit_or_none(byte);
+    if value < 16 { Some(value) } else { None }
 }
 
-/// The byte that two digits write.
-fn byte(high: u8, low: u8) -> Option<u8>
-    ensures { result ≡ byte_of (digit_value high) (digit_value low) }
+/// Writes the bytes of pairs of digits, and returns whether all are digits. The loop ends nowhere early, so that it is
+/// compiled to vectors.
+fn decode(word: &[u8], out: &mut [u8]) -> bool
+    requires { length word.now ≡ 2 * length out.old }
+    ensures bytes { result ≡ true → pairs_of word.now ≡ Some out.new }
+    ensures none { result ≡ false → pairs_of word.now ≡ None }
 {
-    let high = hex_digit(high)?;
-    let low = hex_digit(low)?;
-    Some(high * 16 + low)
+    let mut all = true;
+    for i in 0..out.len() {
+        let high = digit_or_none(word[2 * i]);
+        let low = digit_or_none(word[2 * i + 1]);
+        all &= (high < 16) & (low < 16);
+        out[i] = (high % 16) * 16 + low % 16;
+    }
+    all
 }
 
-/// The bytes that pairs of digits write.
+/// Reads bytes from pairs of digits.
 fn pairs(alloc: Global, word: &[u8]) -> Result<Vec<u8>, LineFault>
     ensures { Answers (λ v. v.items) result (pairs_in word.now) }
 {
-    let Ok(mut bytes) = Vec::with_capacity(alloc, word.len() / 2) else {
-        return Err(LineFault::NoMemory);
-    };
-    let mut rest = word;
-    while let [high, low, after @ ..] = rest {
-        let Some(value) = byte(*high, *low) else {
-            return Err(LineFault::Refused(LineReason::Bytes));
-        };
-        if bytes.push(value).is_err() {
-            return Err(LineFault::NoMemory);
-        }
-        rest = after;
-    }
-    if !rest.is_empty() {
+    if word.len() % 2 != 0 {
         return Err(LineFault::Refused(LineReason::Bytes));
     }
-    Ok(bytes)
+    let Ok(mut bytes) = vec![in alloc; 0u8; word.len() / 2] else {
+        return Err(LineFault::NoMemory);
+    };
+    if decode(word, &mut bytes) {
+        Ok(bytes)
+    } else {
+        Err(LineFault::Refused(LineReason::Bytes))
+    }
 }
 
 fn is_dash(word: &[u8]) -> bool

@@ -40,11 +40,12 @@ fn lines_told(alloc: Global, text: &[u8]) -> Result<Scenario, ScenarioFault>
     ensures refused { IfRefused result (λ line reason. told_by text.now ≡ Err (refused line reason)) }
 {
     let mut above = Above::new(alloc);
+    let mut words = Vec::new(alloc);
     let mut number = 1u32;
     let mut rest = text;
     while !rest.is_empty() {
         let (line, after) = first_line(rest);
-        if let Err(fault) = above.tell_line(alloc, line) {
+        if let Err(fault) = above.tell_line(alloc, &mut words, line) {
             return Err(at_line(number, fault));
         }
         number += 1;

@@ -1,8 +1,10 @@
-use Rattle.std.proofs.Common.{◌≡◌, ◌++◌, ◌∷◌, [], rules, sym, ◌∙◌}
-use Rattle.scenario_lang.proofs.NumeralLemmas.{pairs_step}
+use Rattle.std.proofs.Common.{ap, ◌≡◌, ◌%◌, length, arith}
+use Rattle.std.proofs.lemmas.Bool.Decides.{nat_tests}
+use Rattle.scenario_lang.specs.Reading.{some_bytes}
+use Rattle.scenario_lang.proofs.NumeralLemmas.{odd_pairs}
 use Rattle.scenario_lang.proofs.numerals.pairs.Goals as goal
 
-pub loop-rest-preserved : goal.loop-rest-preserved
-loop-rest-preserved c =
-    let grown : c.push.new.self.items ≡ c.loop-rest.bytes.items ++ c.in-Some.value ∷ [] = search rules in
-    pairs_step c.args.word.now c.loop-rest.bytes.items c.push.new.self.items c.loop-rest.rest.now c.in-Some.value c.in-len2-up.len_at_least (sym c.byte.ensures ∙ c.in-Some.is) grown c.loop-rest.invariant
+pub returns-then-word-ne0 : goal.returns-then-word-ne0
+returns-then-word-ne0 c =
+    let odd : length c.args.word.now % 2 ≡ 1 = grind (arith, nat_tests, c.if-word-ne0.true) in
+    ap some_bytes (odd_pairs c.args.word.now odd)

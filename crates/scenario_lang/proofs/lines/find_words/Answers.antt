@@ -1,7 +1,7 @@
 use Rattle.std.proofs.Common.{sym, ◌≡◌, ◌∙◌, ◌∷◌, ◌++◌, [], rules, drop, take, false}
 use Rattle.board_model.specs.FileLines.{words_of, ends_word}
 use Rattle.scenario_lang.proofs.FrontLemmas.{ends_word-first, word_front-taken, words_grown}
-use Rattle.scenario_lang.proofs.lines.words.Goals as goal
+use Rattle.scenario_lang.proofs.lines.find_words.Goals as goal
 
 pub loop-rest-preserved : goal.loop-rest-preserved
 loop-rest-preserved c =

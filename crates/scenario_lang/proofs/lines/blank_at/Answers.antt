@@ -1,0 +1,12 @@
+use Rattle.std.proofs.Common.{arith}
+use Rattle.memchr.specs.Find.{is_byte2, NoneBefore, Nowhere, Passes}
+use Rattle.scenario_lang.proofs.SearchLemmas.{none_passes}
+use Rattle.scenario_lang.proofs.lines.blank_at.Goals as goal
+
+pub returns-in-Some-clause-front : goal.returns-in-Some-clause-front
+returns-in-Some-clause-front c =
+    let found = c.in-Some.ensures in
+    none_passes (is_byte2 32 9) c.args.text.now c.in-Some.at (omega (arith, found.0.high)) found.0.before
+
+pub returns-in-None-clause-front : goal.returns-in-None-clause-front
+returns-in-None-clause-front c = none_passes (is_byte2 32 9) c.args.text.now _ (omega arith) c.in-None.ensures
