@@ -9,13 +9,14 @@ use Rattle.board_model.specs.declared.scenario.Scenario.{Scenario}
 use Rattle.board_model.specs.LinkedBoard.{IsTold, IsSamePair, IsLinkedBoard}
 use Rattle.board_model.specs.FileLines.{lines_of}
 use Rattle.board_model.specs.FileWords.{numeral, is_number, number, are_bytes}
-use Rattle.board_model.specs.Forms.{LineParts, no_parts, domain_parts, link_parts, call_parts, CallParts, call_line, numerals, contents, tries_numerals, arguments_numerals}
+use Rattle.board_model.specs.Forms.{form, LineParts, no_parts, domain_parts, link_parts, call_parts, CallParts, call_line, numerals, contents, tries_numerals, arguments_numerals}
 use Rattle.board_model.specs.LineReasons.{is_domain, is_same_pair, is_link_size, word_reasons, with_parts}
 use Rattle.board_model.specs.Language.{nothing_told, told_by, IsLawfulBoard}
 use Rattle.board_model.proofs.MessageAlls.{all-weaken}
 use Rattle.board_model.proofs.ListsApart.{all-map}
 use Rattle.board_model.proofs.LawfulTests.{none-pass, all-both, any-contains}
 use Rattle.board_model.proofs.LawfulWords.{number_fits}
+use Rattle.board_model.proofs.LawfulForms.{call-fits}
 use Rattle.board_model.proofs.LawfulLines.{lines_few}
 use Rattle.board_model.proofs.LawfulParts.{FitsCall, FitsIfRead}
 use Rattle.board_model.proofs.LawfulSizes.{size-fits}
@@ -70,14 +71,14 @@ link_on s a b q none board =
 call_on : (s : Scenario) (c : CallParts) → FitsCall c → HoldNot (word_reasons s (Some (call_parts c))) → IsLinkedBoard s → length s.calls + 1 < 2 ^ 32 → IsLinkedBoard (with_parts s (Some (call_parts c)))
 call_on s c fits none board few =
     let numbers = from_not (list_all is_number (numerals (call_parts c))) none.1.0 in
-    let others = tries_numerals c.tries ++ arguments_numerals c.form.arguments c.arguments in
+    let others = tries_numerals c.tries ++ arguments_numerals (form c.callee).arguments 0 c.arguments in
     let first = and_parts (is_number (numeral 0 7 c.domain)) (is_number (numeral 0 15 c.node) && list_all is_number others) numbers in
     let second = and_parts (is_number (numeral 0 15 c.node)) (list_all is_number others) first.1 in
-    let arguments = (all-both is_number (tries_numerals c.tries) (arguments_numerals c.form.arguments c.arguments) second.1).1 in
+    let arguments = (all-both is_number (tries_numerals c.tries) (arguments_numerals (form c.callee).arguments 0 c.arguments) second.1).1 in
     with_call s (call_line c) board
     (domain_told s (number c.domain) (from_not (is_domain s (number c.domain)) none.1.1.1.1.0))
     (number_fits 0 15 c.node second.0).1
-    (fits.form_fits c.arguments fits.arguments_fit arguments (from_not (list_all are_bytes (contents (call_parts c))) none.1.1.0))
+    (call-fits c.callee c.arguments fits.arguments_fit arguments (from_not (list_all are_bytes (contents (call_parts c))) none.1.1.0))
     few
 
 line_on : (s : Scenario) (p : Option LineParts) → FitsIfRead p → HoldNot (word_reasons s p) → IsLinkedBoard s → length s.calls + 1 < 2 ^ 32 → IsLinkedBoard (with_parts s p)

@@ -1,122 +1,96 @@
--- Lines that fit a form of call, with words that pass, tell calls whose arguments are in their ranges.
-use Rattle.std.proofs.Common.{◌≡◌, ℕ, ◌≤◌, ◌<◌, ◌^◌, Bool, true, false, ◌&&◌, List, [], ◌∷◌, ◌++◌, Option, Some, None, arith}
-use Rattle.std.specs.Prelude.{codes, bytes_eq}
+-- The words of a call that fit its form and pass as numbers and bytes tell a call whose arguments are in their ranges.
+use Rattle.std.proofs.Common.{◌≡◌, ℕ, ◌≤◌, ◌<◌, ◌^◌, true, ◌&&◌, List, [], ◌∷◌, length, refl, arith}
 use Rattle.std.specs.List.{AllByRecursion, list_all}
-use Rattle.std.proofs.lemmas.Bool.{and_parts, cond_both}
-use Rattle.board_model.specs.declared.scenario.Call.TheVariants.{MsgSend}
-use Rattle.board_model.specs.Grammar.{IsLawfulName}
+use Rattle.std.proofs.lemmas.Bool.{and_parts}
+use Rattle.mc_base.specs.Limits.{asked_limit}
+use Rattle.board_model.specs.declared.scenario.Call.{Call}
+use Rattle.board_model.specs.declared.form.ArgumentKind.{ArgumentKind}
+use Rattle.board_model.specs.declared.form.ArgumentKind.TheVariants.{Port, Name, Priority, Content, Maximum, Label}
+use Rattle.board_model.specs.declared.form.Callee.{Callee}
+use Rattle.board_model.specs.declared.form.Callee.TheVariants as callee
+use Rattle.board_model.specs.Grammar.{IsLawfulName, form_words, call_words}
 use Rattle.board_model.specs.LinkedBoard.{HasFitArguments}
-use Rattle.board_model.specs.FileWords.{numeral, is_number, number, are_bytes, bytes}
+use Rattle.board_model.specs.FileWords.{numeral, is_number, number, content, are_bytes, is_label}
 use Rattle.board_model.specs.FileLines.{parts_at}
-use Rattle.board_model.specs.Forms.{ArgumentKind, port, name, priority, content, maximum, name_from, name_in, CallForm, argument, forms, form_in, are_three, arguments_fit, name_numerals, arguments_numerals, arguments_contents}
+use Rattle.board_model.specs.Forms.{Value, bits_told, are_three, argument_fits, name_numerals, argument_numerals, argument_contents, name_from, value, Values, made, form, arguments_fit, arguments_numerals, arguments_contents, values, call_made}
 use Rattle.board_model.proofs.LawfulTests.{all-both}
 use Rattle.board_model.proofs.LawfulWords.{number_fits, bytes_below, bytes_few}
 
--- words of this form's arguments that pass make a call with arguments in their ranges
-abbrev pub FitsForm : CallForm → Type 0
-FitsForm f = (a : List (List ℕ)) → arguments_fit f.arguments a ≡ true → list_all is_number (arguments_numerals f.arguments a) ≡ true → list_all are_bytes (arguments_contents f.arguments a) ≡ true → HasFitArguments (f.makes a)
-
-abbrev Numbers : List ArgumentKind → List (List ℕ) → Type 0
-Numbers kinds a = list_all is_number (arguments_numerals kinds a) ≡ true
-
 -- ---- kinds of arguments
 
-port_fits : (word : List ℕ) (rest : Bool) → (is_number (numeral 0 65535 word) && rest) ≡ true → number word < 2 ^ 16
-port_fits word rest e = let fits = number_fits 0 65535 word (and_parts (is_number (numeral 0 65535 word)) rest e).0 in let most = fits.1 in omega arith
+-- an argument in its range, where the one before it tells so many bits
+abbrev pub IsFit : (kind : ArgumentKind) → (bits : ℕ) → Value kind → Type 0
+IsFit Port bits n = n < 2 ^ 16
+IsFit Name bits n = IsLawfulName n
+IsFit Priority bits n = n ≤ 3
+IsFit Content bits bs = (length bs ≤ asked_limit) × AllByRecursion (λ b. b < 256) bs
+IsFit Maximum bits n = n ≤ asked_limit
+IsFit Label bits label = is_label label.items ≡ true
 
-parts_fit : (parts : List (List ℕ)) → are_three parts ≡ true → list_all is_number (name_numerals parts) ≡ true → IsLawfulName (name_from parts)
-parts_fit [] three all = absurd cc
-parts_fit (d ∷ []) three all = absurd cc
-parts_fit (d ∷ n ∷ []) three all = absurd cc
-parts_fit (d ∷ n ∷ p ∷ []) three all =
+abbrev pub AreFit : (kinds : List ArgumentKind) → (bits : ℕ) → Values kinds → Type 0
+AreFit [] bits arguments = Unit {0}
+AreFit (k ∷ ks) bits arguments = IsFit k bits arguments.0 × AreFit ks (bits_told k arguments.0) arguments.1
+
+one_number : (least most : ℕ) (word : List ℕ) → (is_number (numeral least most word) && true) ≡ true → number word ≤ most
+one_number least most word e = (number_fits least most word (and_parts (is_number (numeral least most word)) true e).0).1
+
+name_fits : (parts : List (List ℕ)) → are_three parts ≡ true → list_all is_number (name_numerals parts) ≡ true → IsLawfulName (name_from parts)
+name_fits [] three all = absurd cc
+name_fits (d ∷ []) three all = absurd cc
+name_fits (d ∷ n ∷ []) three all = absurd cc
+name_fits (d ∷ n ∷ p ∷ []) three all =
     let first = and_parts (is_number (numeral 0 7 d)) (is_number (numeral 0 15 n) && (is_number (numeral 0 65535 p) && true)) all in
     let second = and_parts (is_number (numeral 0 15 n)) (is_number (numeral 0 65535 p) && true) first.1 in
-    ((number_fits 0 7 d first.0).1, (number_fits 0 15 n second.0).1, port_fits p true second.1)
-parts_fit (d ∷ n ∷ p ∷ q ∷ qs) three all = absurd cc
+    ((number_fits 0 7 d first.0).1, (number_fits 0 15 n second.0).1, omega (arith, one_number 0 65535 p second.1))
+name_fits (d ∷ n ∷ p ∷ q ∷ qs) three all = absurd cc
 
--- ---- forms
+kind_fits : (kind : ArgumentKind) (bits : ℕ) (word : List ℕ) → argument_fits kind word ≡ true → list_all is_number (argument_numerals kind bits word) ≡ true → list_all are_bytes (argument_contents kind word) ≡ true → IsFit kind bits (value kind word)
+kind_fits Port bits word fit numbers bytes = omega (arith, one_number 0 65535 word numbers)
+kind_fits Name bits word fit numbers bytes = name_fits (parts_at 58 word) fit numbers
+kind_fits Priority bits word fit numbers bytes = one_number 0 3 word numbers
+kind_fits Content bits word fit numbers bytes = ((bytes_few 0 asked_limit word (and_parts (are_bytes (content 0 asked_limit word)) true bytes).0).1, bytes_below word)
+kind_fits Maximum bits word fit numbers bytes = one_number 0 asked_limit word numbers
+kind_fits Label bits word fit numbers bytes = fit
 
--- a word too many or too few fits no form
-no_more : (b : Bool) → (b && false) ≡ true → ⊥
-no_more true e = cc
-no_more false e = cc
+pub values-fit : (kinds : List ArgumentKind) (bits : ℕ) (words : List (List ℕ)) → arguments_fit kinds words ≡ true → list_all is_number (arguments_numerals kinds bits words) ≡ true → list_all are_bytes (arguments_contents kinds words) ≡ true → AreFit kinds bits (values kinds words)
+values-fit [] bits words fit numbers bytes = tt
+values-fit (k ∷ ks) bits [] fit numbers bytes = absurd cc
+values-fit (k ∷ ks) bits (w ∷ ws) fit numbers bytes =
+    let next : ℕ = bits_told k (value k w) in
+    let forms = and_parts (argument_fits k w) (arguments_fit ks ws) fit in
+    let ranges = all-both is_number (argument_numerals k bits w) (arguments_numerals ks next ws) numbers in
+    let contents = all-both are_bytes (argument_contents k w) (arguments_contents ks ws) bytes in
+    (kind_fits k bits w forms.0 ranges.0 contents.0, values-fit ks next ws forms.1 ranges.1 contents.1)
 
-one_port : (a : List (List ℕ)) → arguments_fit (port ∷ []) a ≡ true → Numbers (port ∷ []) a → number (argument 0 a) < 2 ^ 16
-one_port [] fit all = absurd cc
-one_port (p ∷ []) fit all = port_fits p true all
-one_port (p ∷ q ∷ qs) fit all = absurd cc
+-- ---- the table
 
-port_and_most : (a : List (List ℕ)) → arguments_fit (port ∷ maximum ∷ []) a ≡ true → Numbers (port ∷ maximum ∷ []) a → (number (argument 0 a) < 2 ^ 16) × (number (argument 1 a) ≤ 9000)
-port_and_most [] fit all = absurd cc
-port_and_most (p ∷ []) fit all = absurd cc
-port_and_most (p ∷ m ∷ []) fit all =
-    let first = and_parts (is_number (numeral 0 65535 p)) (is_number (numeral 0 9000 m) && true) all in
-    (port_fits p (is_number (numeral 0 9000 m) && true) all, (number_fits 0 9000 m (and_parts (is_number (numeral 0 9000 m)) true first.1).0).1)
-port_and_most (p ∷ m ∷ q ∷ qs) fit all = absurd cc
+abbrev pub call_with : (c : Callee) → Values (form c).arguments → Call
+call_with c arguments = made (form c).arguments (form c).makes arguments
 
-one_name : (a : List (List ℕ)) → arguments_fit (name ∷ []) a ≡ true → Numbers (name ∷ []) a → IsLawfulName (name_in (argument 0 a))
-one_name [] fit all = absurd cc
-one_name (n ∷ []) fit all = parts_fit (parts_at 58 n) (and_parts (are_three (parts_at 58 n)) true fit).0 (all-both is_number (name_numerals (parts_at 58 n)) [] all).0
-one_name (n ∷ q ∷ qs) fit all = absurd (no_more (are_three (parts_at 58 n)) fit)
+-- a call is written as the row that makes it, with the arguments of which it is made
+pub words-made : (c : Callee) (arguments : Values (form c).arguments) → call_words (call_with c arguments) ≡ form_words c arguments
+words-made callee.Create arguments = refl
+words-made callee.Delete arguments = refl
+words-made callee.Lookup arguments = refl
+words-made callee.MsgSend arguments = refl
+words-made callee.MsgRecv arguments = refl
+words-made callee.MsgRecvI arguments = refl
+words-made callee.MsgAvailable arguments = refl
+words-made callee.Test arguments = refl
+words-made callee.Cancel arguments = refl
+words-made callee.Turn arguments = refl
 
-send_fits : FitsForm (record { word = codes "msg_send"; arguments = port ∷ name ∷ priority ∷ content ∷ []; labelled = false; makes = λ a. MsgSend (number (argument 0 a)) (name_in (argument 1 a)) (number (argument 2 a)) (bytes (argument 3 a)) })
-send_fits [] fit all few = absurd cc
-send_fits (p ∷ []) fit all few = absurd cc
-send_fits (p ∷ n ∷ []) fit all few = absurd (no_more (are_three (parts_at 58 n)) fit)
-send_fits (p ∷ n ∷ q ∷ []) fit all few = absurd (no_more (are_three (parts_at 58 n)) fit)
-send_fits (p ∷ n ∷ q ∷ b ∷ []) fit all few =
-    let first = and_parts (is_number (numeral 0 65535 p)) (list_all is_number (name_numerals (parts_at 58 n) ++ numeral 0 3 q ∷ [])) all in
-    let second = all-both is_number (name_numerals (parts_at 58 n)) (numeral 0 3 q ∷ []) first.1 in (
-      port_fits p (list_all is_number (name_numerals (parts_at 58 n) ++ numeral 0 3 q ∷ [])) all,
-      parts_fit (parts_at 58 n) (and_parts (are_three (parts_at 58 n)) true fit).0 second.0,
-      (number_fits 0 3 q (and_parts (is_number (numeral 0 3 q)) true second.1).0).1,
-      bytes_few b (and_parts (are_bytes b) true few).0,
-      bytes_below b,
-    )
-send_fits (p ∷ n ∷ q ∷ b ∷ r ∷ rs) fit all few = absurd (no_more (are_three (parts_at 58 n)) fit)
+has_fit : (c : Callee) (arguments : Values (form c).arguments) → AreFit (form c).arguments 0 arguments → HasFitArguments (call_with c arguments)
+has_fit callee.Create arguments h = h.0
+has_fit callee.Delete arguments h = h.0
+has_fit callee.Lookup arguments h = h.0
+has_fit callee.MsgSend arguments h = (h.0, h.1.0, h.1.1.0, h.1.1.1.0.0, h.1.1.1.0.1)
+has_fit callee.MsgRecv arguments h = (h.0, h.1.0)
+has_fit callee.MsgRecvI arguments h = (h.0, h.1.0)
+has_fit callee.MsgAvailable arguments h = h.0
+has_fit callee.Test arguments h = tt
+has_fit callee.Cancel arguments h = tt
+has_fit callee.Turn arguments h = tt
 
--- ---- all forms
-
-forms_fit : AllByRecursion FitsForm forms
-forms_fit = (
-  λ a fit all few. one_port a fit all,
-  (
-    λ a fit all few. one_port a fit all,
-    (
-      λ a fit all few. one_name a fit all,
-      (
-        send_fits,
-        (
-          λ a fit all few. port_and_most a fit all,
-          (
-            λ a fit all few. port_and_most a fit all,
-            (
-              λ a fit all few. one_port a fit all,
-              (
-                λ a fit all few. tt,
-                (
-                  λ a fit all few. tt,
-                  (
-                    λ a fit all few. tt,
-                    tt,
-                  ),
-                ),
-              ),
-            ),
-          ),
-        ),
-      ),
-    ),
-  ),
-)
-
-abbrev pub FitsIfFound : Option CallForm → Type 0
-FitsIfFound None = Unit {0}
-FitsIfFound (Some f) = FitsForm f
-
-found_in : (fs : List CallForm) → AllByRecursion FitsForm fs → (word : List ℕ) → FitsIfFound (form_in fs word)
-found_in [] all word = tt
-found_in (f ∷ fs) all word = cond_both (bytes_eq word f.word) (Some f) (form_in fs word) FitsIfFound (λ e. all.0) (λ e. found_in fs all.1 word)
-
-pub form_fits : (word : List ℕ) → FitsIfFound (form_in forms word)
-form_fits word = found_in forms forms_fit word
+pub call-fits : (c : Callee) (words : List (List ℕ)) → arguments_fit (form c).arguments words ≡ true → list_all is_number (arguments_numerals (form c).arguments 0 words) ≡ true → list_all are_bytes (arguments_contents (form c).arguments words) ≡ true → HasFitArguments (call_made c words)
+call-fits c words fit numbers bytes = has_fit c (values (form c).arguments words) (values-fit (form c).arguments 0 words fit numbers bytes)

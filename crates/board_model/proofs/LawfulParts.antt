@@ -1,14 +1,15 @@
--- The parts of a line that fits a form: those of a call line are of a form of call, with as many arguments.
+-- The parts of a line that fits a form: those of a call line fit the form of its call.
 use Rattle.std.proofs.Common.{◌≡◌, ℕ, true, ◌&&◌, cond, List, [], ◌∷◌, Option, Some, None}
 use Rattle.std.specs.Prelude.{codes, bytes_eq}
 use Rattle.std.proofs.lemmas.Bool.{and_parts, cond_both}
 use Rattle.board_model.specs.FileLines.{parts_at, says_nothing}
-use Rattle.board_model.specs.Forms.{CallForm, forms, form_in, CallParts, LineParts, no_parts, domain_parts, link_parts, call_parts, domain_form, link_form, told_at, tries_at, told_fits, arguments_fit, call_of, callee_form, call_form, spoken, parts_of}
-use Rattle.board_model.proofs.LawfulForms.{FitsForm, FitsIfFound, form_fits}
+use Rattle.board_model.specs.Forms.{form, callee_of, CallParts, LineParts, no_parts, domain_parts, link_parts, call_parts, domain_form, link_form, told_at, tries_at, told_fits, tries_fit, arguments_fit, fits, call_of, callee_form, call_form, spoken, parts_of}
+use Rattle.board_model.specs.declared.form.Callee.{Callee}
 
 pub record FitsCall (c : CallParts) : Type 0 where
-  pub form_fits : FitsForm c.form
-  pub arguments_fit : arguments_fit c.form.arguments c.arguments ≡ true
+  pub told_fits : told_fits (form c.callee).labelled c.told ≡ true
+  pub tries_fit : tries_fit (form c.callee).tried c.tries ≡ true
+  pub arguments_fit : arguments_fit (form c.callee).arguments c.arguments ≡ true
 
 abbrev pub FitsParts : LineParts → Type 0
 FitsParts no_parts = Unit {0}
@@ -41,16 +42,21 @@ link_fits (a ∷ b ∷ v ∷ q ∷ r ∷ rs) = tt
 
 -- ---- calls
 
-call_fits : (domain node : List ℕ) (told tries : Option (List ℕ)) (arguments : List (List ℕ)) (f : Option CallForm) → FitsIfFound f → FitsIfRead (call_of domain node told tries arguments f)
-call_fits domain node told tries arguments None fits = tt
-call_fits domain node told tries arguments (Some f) fits =
-    let c : CallParts = record { domain = domain; node = node; told = told; tries = tries; form = f; arguments = arguments } in
-    cond_both (told_fits f.labelled told && arguments_fit f.arguments arguments) (Some (call_parts c)) None FitsIfRead
-    (λ e. record { form_fits = fits; arguments_fit = (and_parts (told_fits f.labelled told) (arguments_fit f.arguments arguments) e).1 }) (λ e. tt)
+parts_right : (c : CallParts) → fits c ≡ true → FitsCall c
+parts_right c e =
+    let first = and_parts (told_fits (form c.callee).labelled c.told) (tries_fit (form c.callee).tried c.tries && arguments_fit (form c.callee).arguments c.arguments) e in
+    let second = and_parts (tries_fit (form c.callee).tried c.tries) (arguments_fit (form c.callee).arguments c.arguments) first.1 in
+    record { told_fits = first.0; tries_fit = second.0; arguments_fit = second.1 }
+
+call_fits : (domain node : List ℕ) (told tries : Option (List ℕ)) (arguments : List (List ℕ)) (o : Option Callee) → FitsIfRead (call_of domain node told tries arguments o)
+call_fits domain node told tries arguments None = tt
+call_fits domain node told tries arguments (Some callee) =
+    let c : CallParts = record { domain = domain; node = node; told = told; tries = tries; callee = callee; arguments = arguments } in
+    cond_both (fits c) (Some (call_parts c)) None FitsIfRead (λ e. parts_right c e) (λ e. tt)
 
 callee_fits : (domain node : List ℕ) (told tries : Option (List ℕ)) (words : List (List ℕ)) → FitsIfRead (callee_form domain node told tries words)
 callee_fits domain node told tries [] = tt
-callee_fits domain node told tries (word ∷ arguments) = call_fits domain node told tries arguments (form_in forms word) (form_fits word)
+callee_fits domain node told tries (word ∷ arguments) = call_fits domain node told tries arguments (callee_of word)
 
 caller_fits : (caller words : List (List ℕ)) → FitsIfRead (call_form caller words)
 caller_fits [] words = tt

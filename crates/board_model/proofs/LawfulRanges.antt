@@ -11,7 +11,7 @@ use Rattle.board_model.specs.declared.scenario.Scenario.{Scenario}
 use Rattle.board_model.specs.declared.reason.LineReason.TheVariants.{Domain}
 use Rattle.board_model.specs.FileLines.{lines_of, words_of}
 use Rattle.board_model.specs.FileWords.{numeral, is_number, number}
-use Rattle.board_model.specs.Forms.{LineParts, parts_of, no_parts, domain_parts, link_parts, call_parts, call_line, numerals, tries_numerals, arguments_numerals}
+use Rattle.board_model.specs.Forms.{form, LineParts, parts_of, no_parts, domain_parts, link_parts, call_parts, call_line, numerals, tries_numerals, arguments_numerals}
 use Rattle.board_model.specs.LineReasons.{is_same_pair, is_link_size, word_reasons, with_parts, is_empty, line_reason}
 use Rattle.board_model.specs.Language.{RefusedLine, refused, nothing_told, told_from, IsLawfulBoard}
 use Rattle.board_model.proofs.MessageAlls.{all-append}
@@ -44,10 +44,10 @@ keeps n above (Some (link_parts a b q)) fits none h =
     record { sizes = all-append (λ (m : LinkLine). IsPowerOfTwo m.size) above.links (l ∷ []) h.sizes (size-power l.size (from_not (is_link_size l.size) new.1), tt); tries = h.tries }
 keeps n above (Some (call_parts c)) fits none h =
     let numbers = from_not (list_all is_number (numerals (call_parts c))) none.1.0 in
-    let others = tries_numerals c.tries ++ arguments_numerals c.form.arguments c.arguments in
+    let others = tries_numerals c.tries ++ arguments_numerals (form c.callee).arguments 0 c.arguments in
     let first = and_parts (is_number (numeral 0 7 c.domain)) (is_number (numeral 0 15 c.node) && list_all is_number others) numbers in
     let second = and_parts (is_number (numeral 0 15 c.node)) (list_all is_number others) first.1 in
-    let tries = (all-both is_number (tries_numerals c.tries) (arguments_numerals c.form.arguments c.arguments) second.1).0 in
+    let tries = (all-both is_number (tries_numerals c.tries) (arguments_numerals (form c.callee).arguments 0 c.arguments) second.1).0 in
     record { sizes = h.sizes; tries = all-append (λ (k : CallLine). TriesFit k.tries) above.calls (call_line c ∷ []) h.tries (tries_fit c.tries tries, tt) }
 
 all_kept : (s : Scenario) → (h : IsLawfulBoard s) → (n : ℕ) × Keeps n s

@@ -3,11 +3,11 @@ use Rattle.std.proofs.Common.{◌≡◌, ℕ, ◌+◌, ◌-◌, ◌≤◌, ◌<�
 use Rattle.std.specs.Prelude.{unwrap_or, nat_le}
 use Rattle.std.specs.List.{AllByRecursion}
 use Rattle.std.proofs.lemmas.Bool.{and_parts, cond_both, leb-true}
-use Rattle.board_model.specs.FileWords.{is_within, numeral, is_number, number_of, number, digit_value, byte_and, pairs_of, is_dash, bytes_of, is_few, are_bytes, bytes}
+use Rattle.board_model.specs.FileWords.{is_within, numeral, is_admitted, is_number, number_of, number, digit_value, byte_and, pairs_of, is_dash, bytes_of, content, are_within, are_bytes, bytes}
 
 -- ---- numbers
 
-within_fits : (least most : ℕ) (o : Option ℕ) → is_within least most o ≡ true → (least ≤ unwrap_or o 0) × (unwrap_or o 0 ≤ most)
+within_fits : (least most : ℕ) (o : Option ℕ) → is_admitted (is_within least most) o ≡ true → (least ≤ unwrap_or o 0) × (unwrap_or o 0 ≤ most)
 within_fits least most None e = absurd cc
 within_fits least most (Some n) e = let parts = and_parts (nat_le least n) (nat_le n most) e in (leb-true least n parts.0, leb-true n most parts.1)
 
@@ -52,9 +52,9 @@ or_none (Some bs) all = all
 pub bytes_below : (word : List ℕ) → AllByRecursion (λ b. b < 256) (bytes word)
 bytes_below word = or_none (bytes_of word) (cond_both (is_dash word) (Some []) (pairs_of word) AreBytes (λ e. tt) (λ e. pairs_below word))
 
-few_fits : (o : Option (List ℕ)) → is_few o ≡ true → length (unwrap_or o []) ≤ 9000
-few_fits None e = absurd cc
-few_fits (Some bs) e = leb-true (length bs) 9000 e
+few_fits : (least most : ℕ) (o : Option (List ℕ)) → are_within least most o ≡ true → (least ≤ length (unwrap_or o [])) × (length (unwrap_or o []) ≤ most)
+few_fits least most None e = absurd cc
+few_fits least most (Some bs) e = let parts = and_parts (nat_le least (length bs)) (nat_le (length bs) most) e in (leb-true least (length bs) parts.0, leb-true (length bs) most parts.1)
 
-pub bytes_few : (word : List ℕ) → are_bytes word ≡ true → length (bytes word) ≤ 9000
-bytes_few word e = few_fits (bytes_of word) e
+pub bytes_few : (least most : ℕ) (word : List ℕ) → are_bytes (content least most word) ≡ true → (least ≤ length (bytes word)) × (length (bytes word) ≤ most)
+bytes_few least most word e = few_fits least most (bytes_of word) e

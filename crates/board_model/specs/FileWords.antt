@@ -1,10 +1,8 @@
 -- What a word of a scenario file says: a number, bytes or a label.
 -- Source: docs/FORMATS.md, "Scenario files": numbers are decimal without leading zeros. Bytes are hexadecimal of either
--- case, 9,000 at most, or a dash for none. A label is a letter a to z, and then up to 15 of a to z, digits and _.
-use Rattle.std.specs.Prelude.{ℕ, ◌+◌, ◌-◌, ◌*◌, Bool, false, ◌&&◌, List, [], ◌∷◌, length, Option, None, Some, unwrap_or, nat_le, ◌==◌, if◌then◌else◌}
+-- case, or a dash for none. A label is a letter a to z, and then up to 15 of a to z, digits and _.
+use Rattle.std.specs.Prelude.{ℕ, ◌+◌, ◌-◌, ◌*◌, Bool, false, ◌&&◌, ◌||◌, List, [], ◌∷◌, length, Option, None, Some, unwrap_or, nat_le, ◌==◌, if◌then◌else◌}
 use Rattle.std.specs.List.{list_all}
-use Rattle.mc_base.specs.Limits.{asked_limit}
-use Rattle.board_model.specs.Grammar.{is_letter_byte, is_label_byte}
 
 abbrev pub is_digit : ℕ → Bool
 is_digit b = nat_le 48 b && nat_le b 57
@@ -23,21 +21,24 @@ abbrev pub number_of : List ℕ → Option ℕ
 number_of [] = None
 number_of (b ∷ bs) = if b == 48 then is_zero_alone bs else number_from 0 (b ∷ bs)
 
-abbrev pub is_within : ℕ → ℕ → Option ℕ → Bool
-is_within least most None = false
-is_within least most (Some n) = nat_le least n && nat_le n most
+abbrev pub is_within : ℕ → ℕ → ℕ → Bool
+is_within least most n = nat_le least n && nat_le n most
 
--- a word that has to be a number, and the range of the number
+-- a word that has to be a number, and which numbers it may be
 pub record Numeral : Type 0 where
-  pub least : ℕ
-  pub most : ℕ
+  pub admits : ℕ → Bool
   pub word : List ℕ
 
+-- a number of a range
 abbrev pub numeral : ℕ → ℕ → List ℕ → Numeral
-numeral least most word = record { least = least; most = most; word = word }
+numeral least most word = record { admits = is_within least most; word = word }
+
+abbrev pub is_admitted : (ℕ → Bool) → Option ℕ → Bool
+is_admitted admits None = false
+is_admitted admits (Some n) = admits n
 
 abbrev pub is_number : Numeral → Bool
-is_number n = is_within n.least n.most (number_of n.word)
+is_number n = is_admitted n.admits (number_of n.word)
 
 -- the number of a word that is one
 abbrev pub number : List ℕ → ℕ
@@ -66,16 +67,32 @@ is_dash (b ∷ c ∷ cs) = false
 abbrev pub bytes_of : List ℕ → Option (List ℕ)
 bytes_of word = if is_dash word then Some [] else pairs_of word
 
-abbrev pub is_few : Option (List ℕ) → Bool
-is_few None = false
-is_few (Some bytes) = nat_le (length bytes) asked_limit
+-- a word that has to be bytes, and how many they may be
+pub record Content : Type 0 where
+  pub least : ℕ
+  pub most : ℕ
+  pub word : List ℕ
 
-abbrev pub are_bytes : List ℕ → Bool
-are_bytes word = is_few (bytes_of word)
+abbrev pub content : ℕ → ℕ → List ℕ → Content
+content least most word = record { least = least; most = most; word = word }
+
+abbrev pub are_within : ℕ → ℕ → Option (List ℕ) → Bool
+are_within least most None = false
+are_within least most (Some bytes) = is_within least most (length bytes)
+
+abbrev pub are_bytes : Content → Bool
+are_bytes c = are_within c.least c.most (bytes_of c.word)
 
 -- the bytes of a word that writes some
 abbrev pub bytes : List ℕ → List ℕ
 bytes word = unwrap_or (bytes_of word) []
+
+-- a to z
+abbrev pub is_letter_byte : ℕ → Bool
+is_letter_byte b = nat_le 97 b && nat_le b 122
+
+abbrev pub is_label_byte : ℕ → Bool
+is_label_byte b = is_letter_byte b || ((nat_le 48 b && nat_le b 57) || b == 95)
 
 abbrev pub is_label : List ℕ → Bool
 is_label [] = false

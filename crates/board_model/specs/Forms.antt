@@ -1,6 +1,6 @@
 -- The forms of a line: the words that it may have, and what they say.
 -- Source: docs/FORMATS.md, "Scenario files": the lines of domains and links, and the table of calls.
-use Rattle.std.specs.Prelude.{ℕ, ◌&&◌, Bool, true, false, List, [], ◌∷◌, ◌++◌, codes, bytes_eq, get_or, Option, None, Some, option_map, if◌then◌else◌}
+use Rattle.std.specs.Prelude.{ℕ, ◌&&◌, Bool, true, false, List, [], ◌∷◌, ◌++◌, codes, bytes_eq, Option, None, Some, option_map, if◌then◌else◌}
 use Rattle.arrayvec.specs.ArrayVec.{ArrayVec}
 use Rattle.mc_base.specs.Limits.{asked_limit, try_limit}
 use Rattle.mc_base.specs.declared.name.EndName.{EndName}
@@ -9,61 +9,154 @@ use Rattle.board_model.specs.declared.scenario.LinkLine.{LinkLine}
 use Rattle.board_model.specs.declared.scenario.Call.{Call}
 use Rattle.board_model.specs.declared.scenario.Call.TheVariants.{Create, Delete, Lookup, MsgSend, MsgRecv, MsgRecvI, MsgAvailable, Test, Cancel, Turn}
 use Rattle.board_model.specs.declared.scenario.CallLine.{CallLine}
+use Rattle.board_model.specs.declared.form.ArgumentKind.{ArgumentKind}
+use Rattle.board_model.specs.declared.form.ArgumentKind.TheVariants.{Port, Name, Priority, Content, Maximum, Label}
+use Rattle.board_model.specs.declared.form.Callee.{Callee}
+use Rattle.board_model.specs.declared.form.Callee.TheVariants as callee
 use Rattle.board_model.specs.FileLines.{parts_at, says_nothing}
-use Rattle.board_model.specs.FileWords.{Numeral, numeral, number, bytes, is_label}
+use Rattle.board_model.specs.FileWords.{Numeral, numeral, number, content, bytes, is_label}
+use Rattle.board_model.specs.FileWords.{Content as Bytes}
 
--- what an argument is: PORT, D:N:P, PRIO, BYTES, MAX or LABEL
-pub data ArgumentKind : Type 0 where
-  port : ArgumentKind
-  name : ArgumentKind
-  priority : ArgumentKind
-  content : ArgumentKind
-  maximum : ArgumentKind
-  label : ArgumentKind
+-- ---- arguments
+
+-- what an argument is read as
+abbrev pub Value : ArgumentKind → Type 0
+Value Port = ℕ
+Value Name = EndName
+Value Priority = ℕ
+Value Content = List ℕ
+Value Maximum = ℕ
+Value Label = ArrayVec ℕ
+
+-- how many bits the argument after this one has, where this one tells it
+abbrev pub bits_told : (kind : ArgumentKind) → Value kind → ℕ
+bits_told kind value = 0
+
+abbrev pub are_three : List (List ℕ) → Bool
+are_three (d ∷ n ∷ p ∷ []) = true
+are_three parts = false
+
+-- the form of a word. A name has two colons, whatever stands between them: 58 is the colon
+abbrev pub argument_fits : ArgumentKind → List ℕ → Bool
+argument_fits Name word = are_three (parts_at 58 word)
+argument_fits Label word = is_label word
+argument_fits kind word = true
+
+abbrev pub name_numerals : List (List ℕ) → List Numeral
+name_numerals (d ∷ n ∷ p ∷ []) = numeral 0 7 d ∷ numeral 0 15 n ∷ numeral 0 65535 p ∷ []
+name_numerals parts = []
+
+-- what has to be a number in it. `bits` is what the argument before tells
+abbrev pub argument_numerals : ArgumentKind → (bits : ℕ) → List ℕ → List Numeral
+argument_numerals Port bits word = numeral 0 65535 word ∷ []
+argument_numerals Name bits word = name_numerals (parts_at 58 word)
+argument_numerals Priority bits word = numeral 0 3 word ∷ []
+argument_numerals Maximum bits word = numeral 0 asked_limit word ∷ []
+argument_numerals kind bits word = []
+
+-- what has to be bytes in it
+abbrev pub argument_contents : ArgumentKind → List ℕ → List Bytes
+argument_contents Content word = content 0 asked_limit word ∷ []
+argument_contents kind word = []
+
+-- the label that it names
+abbrev pub argument_labels : ArgumentKind → List ℕ → List (List ℕ)
+argument_labels Label word = word ∷ []
+argument_labels kind word = []
 
 -- the name of three parts
 abbrev pub name_from : List (List ℕ) → EndName
 name_from (d ∷ n ∷ p ∷ []) = record { domain = number d; node = number n; port = number p }
 name_from parts = record { domain = 0; node = 0; port = 0 }
 
--- 58 is the colon
 abbrev pub name_in : List ℕ → EndName
 name_in word = name_from (parts_at 58 word)
 
 abbrev pub label_of : List ℕ → ArrayVec ℕ
 label_of word = record { items = word }
 
--- a form of call: its word, its arguments in their order, whether it needs a label, and the call that the words of the
--- arguments make
+-- what a word says that has the form, the numbers and the bytes of its kind
+abbrev pub value : (kind : ArgumentKind) → List ℕ → Value kind
+value Port word = number word
+value Name word = name_in word
+value Priority word = number word
+value Content word = bytes word
+value Maximum word = number word
+value Label word = label_of word
+
+-- ---- calls
+
+-- the arguments of a call
+abbrev pub Values : List ArgumentKind → Type 0
+Values [] = Unit {0}
+Values (k ∷ ks) = Value k × Values ks
+
+-- what makes a call of arguments
+abbrev pub Makes : List ArgumentKind → Type 0
+Makes [] = Call
+Makes (k ∷ ks) = Value k → Makes ks
+
+abbrev pub made : (kinds : List ArgumentKind) → Makes kinds → Values kinds → Call
+made [] call arguments = call
+made (k ∷ ks) makes arguments = made ks (makes arguments.0) arguments.1
+
+-- a form of call: its word, its arguments in their order, whether it needs a label, whether it may be tried more than once,
+-- and the call that it makes
 pub record CallForm : Type 0 where
   pub word : List ℕ
   pub arguments : List ArgumentKind
   pub labelled : Bool
-  pub makes : List (List ℕ) → Call
+  pub tried : Bool
+  pub makes : Makes arguments
 
-abbrev pub form : List ℕ → List ArgumentKind → Bool → (List (List ℕ) → Call) → CallForm
-form word arguments labelled makes = record { word = word; arguments = arguments; labelled = labelled; makes = makes }
+abbrev pub row : (word : List ℕ) (arguments : List ArgumentKind) (labelled tried : Bool) → Makes arguments → CallForm
+row word arguments labelled tried makes = record { word = word; arguments = arguments; labelled = labelled; tried = tried; makes = makes }
 
-abbrev pub argument : ℕ → List (List ℕ) → List ℕ
-argument i words = get_or words i []
+abbrev no_label : Bool
+no_label = false
 
-abbrev pub forms : List CallForm
-forms =
-    form (codes "create") (port ∷ []) false (λ a. Create (number (argument 0 a)))
-    ∷ form (codes "delete") (port ∷ []) false (λ a. Delete (number (argument 0 a)))
-    ∷ form (codes "lookup") (name ∷ []) true (λ a. Lookup (name_in (argument 0 a)))
-    ∷ form (codes "msg_send") (port ∷ name ∷ priority ∷ content ∷ []) false (λ a. MsgSend (number (argument 0 a)) (name_in (argument 1 a)) (number (argument 2 a)) (bytes (argument 3 a)))
-    ∷ form (codes "msg_recv") (port ∷ maximum ∷ []) false (λ a. MsgRecv (number (argument 0 a)) (number (argument 1 a)))
-    ∷ form (codes "msg_recv_i") (port ∷ maximum ∷ []) true (λ a. MsgRecvI (number (argument 0 a)) (number (argument 1 a)))
-    ∷ form (codes "msg_available") (port ∷ []) false (λ a. MsgAvailable (number (argument 0 a)))
-    ∷ form (codes "test") (label ∷ []) false (λ a. Test (label_of (argument 0 a)))
-    ∷ form (codes "cancel") (label ∷ []) false (λ a. Cancel (label_of (argument 0 a)))
-    ∷ form (codes "turn") [] false (λ a. Turn)
+abbrev a_label : Bool
+a_label = true
+
+abbrev may_try : Bool
+may_try = true
+
+-- the table of calls
+abbrev pub form : Callee → CallForm
+form callee.Create = row (codes "create") (Port ∷ []) no_label may_try Create
+form callee.Delete = row (codes "delete") (Port ∷ []) no_label may_try Delete
+form callee.Lookup = row (codes "lookup") (Name ∷ []) a_label may_try Lookup
+form callee.MsgSend = row (codes "msg_send") (Port ∷ Name ∷ Priority ∷ Content ∷ []) no_label may_try MsgSend
+form callee.MsgRecv = row (codes "msg_recv") (Port ∷ Maximum ∷ []) no_label may_try MsgRecv
+form callee.MsgRecvI = row (codes "msg_recv_i") (Port ∷ Maximum ∷ []) a_label may_try MsgRecvI
+form callee.MsgAvailable = row (codes "msg_available") (Port ∷ []) no_label may_try MsgAvailable
+form callee.Test = row (codes "test") (Label ∷ []) no_label may_try Test
+form callee.Cancel = row (codes "cancel") (Label ∷ []) no_label may_try Cancel
+form callee.Turn = row (codes "turn") [] no_label may_try Turn
+
+abbrev pub callees : List Callee
+callees =
+    callee.Create
+    ∷ callee.Delete
+    ∷ callee.Lookup
+    ∷ callee.MsgSend
+    ∷ callee.MsgRecv
+    ∷ callee.MsgRecvI
+    ∷ callee.MsgAvailable
+    ∷ callee.Test
+    ∷ callee.Cancel
+    ∷ callee.Turn
     ∷ []
 
-abbrev pub form_in : List CallForm → List ℕ → Option CallForm
-form_in [] word = None
-form_in (f ∷ fs) word = if bytes_eq word f.word then Some f else form_in fs word
+abbrev pub callee_among : List Callee → List ℕ → Option Callee
+callee_among [] word = None
+callee_among (c ∷ cs) word = if bytes_eq word (form c).word then Some c else callee_among cs word
+
+-- the call with this word
+abbrev pub callee_of : List ℕ → Option Callee
+callee_of word = callee_among callees word
+
+-- ---- lines
 
 -- the parts of a call line: D.N, the label and the number of tries where they are told, and the arguments
 pub record CallParts : Type 0 where
@@ -71,7 +164,7 @@ pub record CallParts : Type 0 where
   pub node : List ℕ
   pub told : Option (List ℕ)
   pub tries : Option (List ℕ)
-  pub form : CallForm
+  pub callee : Callee
   pub arguments : List (List ℕ)
 
 -- the parts of a line, of which each is still a word
@@ -107,15 +200,10 @@ told_fits true None = false
 told_fits false None = true
 told_fits labelled (Some word) = is_label word
 
-abbrev pub are_three : List (List ℕ) → Bool
-are_three (d ∷ n ∷ p ∷ []) = true
-are_three parts = false
-
--- a name has two colons, whatever stands between them
-abbrev pub argument_fits : ArgumentKind → List ℕ → Bool
-argument_fits name word = are_three (parts_at 58 word)
-argument_fits label word = is_label word
-argument_fits kind word = true
+-- a number of tries only where the form allows one
+abbrev pub tries_fit : Bool → Option (List ℕ) → Bool
+tries_fit tried None = true
+tries_fit tried (Some word) = tried
 
 abbrev pub arguments_fit : List ArgumentKind → List (List ℕ) → Bool
 arguments_fit [] [] = true
@@ -123,16 +211,19 @@ arguments_fit [] (w ∷ ws) = false
 arguments_fit (k ∷ ks) [] = false
 arguments_fit (k ∷ ks) (w ∷ ws) = argument_fits k w && arguments_fit ks ws
 
-abbrev pub if_fits : CallParts → Option LineParts
-if_fits c = if told_fits c.form.labelled c.told && arguments_fit c.form.arguments c.arguments then Some (call_parts c) else None
+abbrev pub fits : CallParts → Bool
+fits c = told_fits (form c.callee).labelled c.told && (tries_fit (form c.callee).tried c.tries && arguments_fit (form c.callee).arguments c.arguments)
 
-abbrev pub call_of : (domain node : List ℕ) → (told tries : Option (List ℕ)) → (arguments : List (List ℕ)) → Option CallForm → Option LineParts
+abbrev pub if_fits : CallParts → Option LineParts
+if_fits c = if fits c then Some (call_parts c) else None
+
+abbrev pub call_of : (domain node : List ℕ) → (told tries : Option (List ℕ)) → (arguments : List (List ℕ)) → Option Callee → Option LineParts
 call_of domain node told tries arguments None = None
-call_of domain node told tries arguments (Some f) = if_fits (record { domain = domain; node = node; told = told; tries = tries; form = f; arguments = arguments })
+call_of domain node told tries arguments (Some c) = if_fits (record { domain = domain; node = node; told = told; tries = tries; callee = c; arguments = arguments })
 
 abbrev pub callee_form : (domain node : List ℕ) → (told tries : Option (List ℕ)) → List (List ℕ) → Option LineParts
 callee_form domain node told tries [] = None
-callee_form domain node told tries (word ∷ arguments) = call_of domain node told tries arguments (form_in forms word)
+callee_form domain node told tries (word ∷ arguments) = call_of domain node told tries arguments (callee_of word)
 
 abbrev pub tries_form : (domain node : List ℕ) → Option (List ℕ) → Option (List ℕ) × List (List ℕ) → Option LineParts
 tries_form domain node told read = callee_form domain node told read.0 read.1
@@ -155,21 +246,9 @@ parts_of [] = Some no_parts
 parts_of (w ∷ ws) = if says_nothing (w ∷ ws) then Some no_parts else spoken w ws
 
 -- the words that have to be numbers
-abbrev pub name_numerals : List (List ℕ) → List Numeral
-name_numerals (d ∷ n ∷ p ∷ []) = numeral 0 7 d ∷ numeral 0 15 n ∷ numeral 0 65535 p ∷ []
-name_numerals parts = []
-
-abbrev pub argument_numerals : ArgumentKind → List ℕ → List Numeral
-argument_numerals port word = numeral 0 65535 word ∷ []
-argument_numerals name word = name_numerals (parts_at 58 word)
-argument_numerals priority word = numeral 0 3 word ∷ []
-argument_numerals maximum word = numeral 0 asked_limit word ∷ []
-argument_numerals content word = []
-argument_numerals label word = []
-
-abbrev pub arguments_numerals : List ArgumentKind → List (List ℕ) → List Numeral
-arguments_numerals (k ∷ ks) (w ∷ ws) = argument_numerals k w ++ arguments_numerals ks ws
-arguments_numerals kinds words = []
+abbrev pub arguments_numerals : List ArgumentKind → (bits : ℕ) → List (List ℕ) → List Numeral
+arguments_numerals (k ∷ ks) bits (w ∷ ws) = argument_numerals k bits w ++ arguments_numerals ks (bits_told k (value k w)) ws
+arguments_numerals kinds bits words = []
 
 abbrev pub tries_numerals : Option (List ℕ) → List Numeral
 tries_numerals None = []
@@ -179,20 +258,21 @@ abbrev pub numerals : LineParts → List Numeral
 numerals no_parts = []
 numerals (domain_parts d n p) = numeral 0 7 d ∷ numeral 1 16 n ∷ numeral 1 256 p ∷ []
 numerals (link_parts a b q) = numeral 0 7 a ∷ numeral 0 7 b ∷ numeral 0 18446744073709551615 q ∷ []
-numerals (call_parts c) = numeral 0 7 c.domain ∷ numeral 0 15 c.node ∷ (tries_numerals c.tries ++ arguments_numerals c.form.arguments c.arguments)
+numerals (call_parts c) = numeral 0 7 c.domain ∷ numeral 0 15 c.node ∷ (tries_numerals c.tries ++ arguments_numerals (form c.callee).arguments 0 c.arguments)
 
 -- the words that have to be bytes
-abbrev pub argument_contents : ArgumentKind → List ℕ → List (List ℕ)
-argument_contents content word = word ∷ []
-argument_contents kind word = []
-
-abbrev pub arguments_contents : List ArgumentKind → List (List ℕ) → List (List ℕ)
+abbrev pub arguments_contents : List ArgumentKind → List (List ℕ) → List Bytes
 arguments_contents (k ∷ ks) (w ∷ ws) = argument_contents k w ++ arguments_contents ks ws
 arguments_contents kinds words = []
 
-abbrev pub contents : LineParts → List (List ℕ)
-contents (call_parts c) = arguments_contents c.form.arguments c.arguments
+abbrev pub contents : LineParts → List Bytes
+contents (call_parts c) = arguments_contents (form c.callee).arguments c.arguments
 contents parts = []
+
+-- the labels that a call names
+abbrev pub arguments_labels : List ArgumentKind → List (List ℕ) → List (List ℕ)
+arguments_labels (k ∷ ks) (w ∷ ws) = argument_labels k w ++ arguments_labels ks ws
+arguments_labels kinds words = []
 
 -- what a line says
 pub data Statement : Type 0 where
@@ -201,8 +281,17 @@ pub data Statement : Type 0 where
   says_link : LinkLine → Statement
   says_call : CallLine → Statement
 
+-- what the words of arguments say
+abbrev pub values : (kinds : List ArgumentKind) → List (List ℕ) → Values kinds
+values [] words = tt
+values (k ∷ ks) [] = (value k [], values ks [])
+values (k ∷ ks) (w ∷ ws) = (value k w, values ks ws)
+
+abbrev pub call_made : Callee → List (List ℕ) → Call
+call_made c words = made (form c).arguments (form c).makes (values (form c).arguments words)
+
 abbrev pub call_line : CallParts → CallLine
-call_line c = record { domain = number c.domain; node = number c.node; label = option_map label_of c.told; tries = option_map number c.tries; call = c.form.makes c.arguments }
+call_line c = record { domain = number c.domain; node = number c.node; label = option_map label_of c.told; tries = option_map number c.tries; call = call_made c.callee c.arguments }
 
 abbrev pub statement : LineParts → Statement
 statement no_parts = says_none

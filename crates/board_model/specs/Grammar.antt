@@ -1,6 +1,6 @@
--- How a scenario is written: its canonical text, the bytes of its labels, and the ranges of its names and domains.
+-- How a scenario is written: its canonical text, and the ranges of its names and domains.
 -- Source: docs/FORMATS.md, "Scenario files".
-use Rattle.std.specs.Prelude.{ℕ, ◌<◌, ◌≤◌, ◌^◌, Bool, ◌&&◌, ◌||◌, ◌==◌, nat_le, List, [], ◌∷◌, ◌++◌, codes, decimal, Option, None, Some}
+use Rattle.std.specs.Prelude.{ℕ, ◌<◌, ◌≤◌, ◌^◌, List, [], ◌∷◌, ◌++◌, codes, decimal, Option, None, Some}
 use Rattle.std.specs.List.{flat_map}
 use Rattle.mc_base.specs.Text.{hex_text}
 use Rattle.mc_base.specs.declared.name.EndName.{EndName}
@@ -10,7 +10,12 @@ use Rattle.board_model.specs.declared.scenario.Call.{Call}
 use Rattle.board_model.specs.declared.scenario.Call.TheVariants.{Create, Delete, Lookup, MsgSend, MsgRecv, MsgRecvI, MsgAvailable, Test, Cancel, Turn}
 use Rattle.board_model.specs.declared.scenario.CallLine.{CallLine}
 use Rattle.board_model.specs.declared.scenario.Scenario.{Scenario}
+use Rattle.board_model.specs.declared.form.ArgumentKind.{ArgumentKind}
+use Rattle.board_model.specs.declared.form.ArgumentKind.TheVariants.{Port, Name, Priority, Content, Maximum, Label}
+use Rattle.board_model.specs.declared.form.Callee.{Callee}
+use Rattle.board_model.specs.declared.form.Callee.TheVariants as callee
 use Rattle.board_model.specs.Scenario.{label_in}
+use Rattle.board_model.specs.Forms.{Value, Values, form}
 
 -- words with one space between them
 abbrev pub spaced : List (List ℕ) → List ℕ
@@ -32,18 +37,35 @@ link_text l = line_of (codes "link" ∷ decimal l.driver ∷ decimal l.device �
 abbrev pub name_text : EndName → List ℕ
 name_text n = decimal n.domain ++ (58 ∷ (decimal n.node ++ (58 ∷ decimal n.port)))
 
--- the forms of the calls: the word, and the arguments in their order
+-- an argument as its word
+abbrev pub argument_text : (kind : ArgumentKind) → Value kind → List ℕ
+argument_text Port n = decimal n
+argument_text Name n = name_text n
+argument_text Priority n = decimal n
+argument_text Content bytes = hex_text bytes
+argument_text Maximum n = decimal n
+argument_text Label label = label.items
+
+abbrev pub argument_texts : (kinds : List ArgumentKind) → Values kinds → List (List ℕ)
+argument_texts [] arguments = []
+argument_texts (k ∷ ks) arguments = argument_text k arguments.0 ∷ argument_texts ks arguments.1
+
+-- the words of a form with these arguments
+abbrev pub form_words : (c : Callee) → Values (form c).arguments → List (List ℕ)
+form_words c arguments = (form c).word ∷ argument_texts (form c).arguments arguments
+
+-- the words of a call: its form, and its arguments in their order
 abbrev pub call_words : Call → List (List ℕ)
-call_words (Create port) = codes "create" ∷ decimal port ∷ []
-call_words (Delete port) = codes "delete" ∷ decimal port ∷ []
-call_words (Lookup name) = codes "lookup" ∷ name_text name ∷ []
-call_words (MsgSend port to priority bytes) = codes "msg_send" ∷ decimal port ∷ name_text to ∷ decimal priority ∷ hex_text bytes ∷ []
-call_words (MsgRecv port max) = codes "msg_recv" ∷ decimal port ∷ decimal max ∷ []
-call_words (MsgRecvI port max) = codes "msg_recv_i" ∷ decimal port ∷ decimal max ∷ []
-call_words (MsgAvailable port) = codes "msg_available" ∷ decimal port ∷ []
-call_words (Test label) = codes "test" ∷ label.items ∷ []
-call_words (Cancel label) = codes "cancel" ∷ label.items ∷ []
-call_words Turn = codes "turn" ∷ []
+call_words (Create port) = form_words callee.Create (port, tt)
+call_words (Delete port) = form_words callee.Delete (port, tt)
+call_words (Lookup name) = form_words callee.Lookup (name, tt)
+call_words (MsgSend port to priority bytes) = form_words callee.MsgSend (port, (to, (priority, (bytes, tt))))
+call_words (MsgRecv port max) = form_words callee.MsgRecv (port, (max, tt))
+call_words (MsgRecvI port max) = form_words callee.MsgRecvI (port, (max, tt))
+call_words (MsgAvailable port) = form_words callee.MsgAvailable (port, tt)
+call_words (Test label) = form_words callee.Test (label, tt)
+call_words (Cancel label) = form_words callee.Cancel (label, tt)
+call_words Turn = form_words callee.Turn tt
 
 -- a label, and the sign that sets it apart
 abbrev pub label_words : Option (List ℕ) → List (List ℕ)
@@ -69,13 +91,6 @@ canonical s = flat_map domain_text s.domains ++ (flat_map link_text s.links ++ f
 -- the ranges of a name
 abbrev pub IsLawfulName : EndName → Type 0
 IsLawfulName n = (n.domain ≤ 7) × (n.node ≤ 15) × (n.port < 2 ^ 16)
-
--- the bytes of a label: first a to z, and then a to z, digits and _
-abbrev pub is_letter_byte : ℕ → Bool
-is_letter_byte b = nat_le 97 b && nat_le b 122
-
-abbrev pub is_label_byte : ℕ → Bool
-is_label_byte b = is_letter_byte b || ((nat_le 48 b && nat_le b 57) || b == 95)
 
 -- the ranges of a domain line
 pub record IsLawfulDomain (d : DomainLine) : Type 0 where

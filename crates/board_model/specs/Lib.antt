@@ -1,9 +1,9 @@
 pub mod Lists
 pub mod Scenario
-pub mod Grammar
 pub mod FileLines
 pub mod FileWords
 pub mod Forms
+pub mod Grammar
 pub mod LineReasons
 pub mod Language
 pub mod Words

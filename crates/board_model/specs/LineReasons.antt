@@ -4,7 +4,7 @@ use Rattle.std.specs.Prelude.{ℕ, Bool, true, false, not, ◌&&◌, ◌||◌, L
 use Rattle.std.specs.List.{list_all, list_any}
 use Rattle.board_model.specs.declared.scenario.LinkLine.{LinkLine}
 use Rattle.board_model.specs.declared.scenario.Call.{Call}
-use Rattle.board_model.specs.declared.scenario.Call.TheVariants.{Lookup, MsgRecvI, Test, Cancel}
+use Rattle.board_model.specs.declared.scenario.Call.TheVariants.{Lookup, MsgRecvI}
 use Rattle.board_model.specs.declared.scenario.CallLine.{CallLine}
 use Rattle.board_model.specs.declared.scenario.Scenario.{Scenario}
 use Rattle.board_model.specs.declared.reason.LineReason.{LineReason}
@@ -12,7 +12,7 @@ use Rattle.board_model.specs.declared.reason.LineReason.TheVariants.{Byte, Long,
 use Rattle.board_model.specs.Scenario.{label_in}
 use Rattle.board_model.specs.FileLines.{words_of}
 use Rattle.board_model.specs.FileWords.{number, is_number, are_bytes}
-use Rattle.board_model.specs.Forms.{LineParts, call_parts, parts_of, numerals, contents, Statement, says_none, says_domain, says_link, says_call, statement}
+use Rattle.board_model.specs.Forms.{form, arguments_labels, LineParts, call_parts, parts_of, numerals, contents, Statement, says_none, says_domain, says_link, says_call, statement}
 
 -- 0x20 to 0x7e, and the tab
 abbrev pub is_text_byte : ℕ → Bool
@@ -76,13 +76,12 @@ tells_wrong_label above labelled d None = false
 tells_wrong_label above labelled d (Some label) = not labelled || is_told above d label
 
 -- a label that the same domain has not told before, or not for a request
-abbrev pub uses_wrong_label : Scenario → ℕ → Call → Bool
-uses_wrong_label above d (Test label) = not (is_request above d label.items)
-uses_wrong_label above d (Cancel label) = not (is_request above d label.items)
-uses_wrong_label above d call = false
+abbrev pub names_wrong_label : Scenario → ℕ → List (List ℕ) → Bool
+names_wrong_label above d labels = list_any (λ label. not (is_request above d label)) labels
 
 abbrev pub has_wrong_label : Scenario → LineParts → Bool
-has_wrong_label above (call_parts c) = tells_wrong_label above c.form.labelled (number c.domain) c.told || uses_wrong_label above (number c.domain) (c.form.makes c.arguments)
+has_wrong_label above (call_parts c) =
+    tells_wrong_label above (form c.callee).labelled (number c.domain) c.told || names_wrong_label above (number c.domain) (arguments_labels (form c.callee).arguments c.arguments)
 has_wrong_label above parts = false
 
 -- a reason, and whether it holds

@@ -1,18 +1,20 @@
 //! What a board is and does: scenarios as plain types, and in `specs/` the definitions that everything is proved
 //! against. It has no code of its own beyond the types and the laws.
 //!
-//! `specs/` is to be read in this order: Lists, Scenario, Grammar, FileLines, FileWords, Forms, LineReasons, Language,
+//! `specs/` is to be read in this order: Lists, Scenario, FileLines, FileWords, Forms, Grammar, LineReasons, Language,
 //! LinkedBoard, Words, Journal, State, Choice, Dealing, Turn, DomainCall, Answer, Effect, Labels, Step, Run, Traffic,
 //! Board, Channels, Messages, Takings, Drops, Totals, Tallies, Places, Serial, Loads, SerialRun, Report, Headline,
 //! Laws, MessageLaws, SerialLaws, LanguageLaws.
 #![tactic(auto)]
 
+mod form;
 pub mod laws;
 mod reason;
 mod scenario;
 mod seq;
 mod totals;
 
+pub use form::{ArgumentKind, Callee};
 pub use reason::LineReason;
 pub use scenario::{Call, CallLine, DomainLine, Label, LinkLine, Scenario};
 pub use seq::Seq;

@@ -4,8 +4,9 @@ use Rattle.std.specs.Prelude.{nat_le, nat_lt, ◌==◌, unwrap_or}
 use Rattle.std.specs.List.{list_all, flat_map, AllByRecursion}
 use Rattle.std.proofs.lemmas.Bool.{and_from, le-leb, cases_lt}
 use Rattle.std.proofs.lemmas.Bool.Decides.{nat_tests}
+use Rattle.mc_base.specs.Limits.{asked_limit}
 use Rattle.mc_base.specs.Text.{hex_digit, hex_byte, hex_text}
-use Rattle.board_model.specs.FileWords.{digit_value, byte_and, pairs_of, bytes_of, is_few, are_bytes, bytes}
+use Rattle.board_model.specs.FileWords.{digit_value, byte_and, pairs_of, bytes_of, content, are_within, are_bytes, bytes}
 use Rattle.scenario_lang.proofs.SpacedLemmas.{is_seen}
 use Rattle.scenario_lang.proofs.PlainLemmas.{IsPlain, first_no_sign}
 
@@ -62,8 +63,9 @@ pub bytes_of-hex : (bs : List ℕ) → AllByRecursion (λ b. b < 256) bs → byt
 bytes_of-hex [] small = refl
 bytes_of-hex (b ∷ bs) small = pairs_of-hex (b ∷ bs) small
 
-pub are_bytes-hex : (bs : List ℕ) → AllByRecursion (λ b. b < 256) bs → length bs ≤ 9000 → are_bytes (hex_text bs) ≡ true
-are_bytes-hex bs small few = ap is_few (bytes_of-hex bs small) ∙ le-leb (length bs) 9000 few
+pub are_bytes-hex : (bs : List ℕ) → AllByRecursion (λ b. b < 256) bs → length bs ≤ asked_limit → are_bytes (content 0 asked_limit (hex_text bs)) ≡ true
+are_bytes-hex bs small few =
+    ap (are_within 0 asked_limit) (bytes_of-hex bs small) ∙ and_from (nat_le 0 (length bs)) (nat_le (length bs) asked_limit) (le-leb 0 (length bs) (omega arith)) (le-leb (length bs) asked_limit few)
 
 pub bytes-hex : (bs : List ℕ) → AllByRecursion (λ b. b < 256) bs → bytes (hex_text bs) ≡ bs
 bytes-hex bs small = ap (λ (o : Option (List ℕ)). unwrap_or o []) (bytes_of-hex bs small)

@@ -1,157 +1,99 @@
--- What the readers tell of the line of a call is what the table of reasons says.
-use Rattle.std.proofs.Common.{◌≡◌, ℕ, length, true, false, List, [], ◌∷◌, refl, sym, inl, inr, true≢false}
-use Rattle.std.specs.Prelude.{codes, bytes_eq, nat_le, Result, Ok, Err, if◌then◌else◌, option_map}
+-- What the readers tell of the arguments of a call is what the table of reasons says.
+use Rattle.std.proofs.Common.{◌≡◌, ℕ, true, ◌&&◌, List, [], ◌∷◌, length, refl, ◌∙◌, Option, Some, None, inl, inr}
+use Rattle.std.specs.Prelude.{not, Result, Ok, Err, unwrap_or, if◌then◌else◌}
 use Rattle.std.specs.List.{list_all}
-use Rattle.board_model.specs.declared.scenario.Call.{Call}
-use Rattle.board_model.specs.declared.scenario.Call.TheVariants.{Create, Delete, Lookup, MsgSend, MsgRecv, MsgRecvI, MsgAvailable, Test, Cancel, Turn}
-use Rattle.arrayvec.specs.ArrayVec.{ArrayVec}
+use Rattle.std.proofs.lemmas.List.Folds.{list_all-append}
+use Rattle.mc_base.specs.Limits.{asked_limit}
+use Rattle.board_model.specs.declared.form.ArgumentKind.{ArgumentKind}
+use Rattle.board_model.specs.declared.form.ArgumentKind.TheVariants.{Port, Name, Priority, Content, Maximum, Label}
+use Rattle.board_model.specs.declared.form.Callee.{Callee}
+use Rattle.board_model.specs.declared.form.Callee.TheVariants as callee
 use Rattle.board_model.specs.declared.reason.LineReason.{LineReason}
-use Rattle.board_model.specs.declared.reason.LineReason.TheVariants.{Number, Bytes}
+use Rattle.board_model.specs.declared.reason.LineReason.TheVariants.{Form, Number, Bytes}
 use Rattle.board_model.specs.FileLines.{parts_at}
-use Rattle.board_model.specs.FileWords.{Numeral, numeral, number, is_number, are_bytes, bytes, is_dash, pairs_of, is_label}
-use Rattle.board_model.specs.Forms.{port, name, priority, content, maximum, label, argument, name_in, label_of, form_in, forms, arguments_fit, are_three, arguments_numerals, arguments_contents}
-use Rattle.scenario_lang.specs.declared.callee.Callee.{Callee}
-use Rattle.scenario_lang.specs.declared.callee.Callee.TheVariants as callee
-use Rattle.scenario_lang.specs.Reading.{row, made, callee_of, call_in, port_in, lookup_in, send_in, receive_in, label_in_words, name_at, bytes_in}
-use Rattle.scenario_lang.proofs.Options.{cases_bool, cases_option, both_hold}
+use Rattle.board_model.specs.FileWords.{Numeral, numeral, is_number, is_within, content, are_within, are_bytes, bytes_of}
+use Rattle.board_model.specs.FileWords.{Content as Bytes_word}
+use Rattle.board_model.specs.Forms.{Value, bits_told, are_three, argument_fits, name_numerals, argument_numerals, argument_contents, name_from, value, Makes, made, form, arguments_fit, arguments_numerals, arguments_contents, values, call_made}
+use Rattle.scenario_lang.specs.Fronts.{three_parts}
+use Rattle.scenario_lang.specs.Reading.{◌>>=◌, or_form, number_in, some_bytes, few_bytes, bytes_in, name_at, value_in, argument_in, call_from, call_by, call_in}
+use Rattle.scenario_lang.proofs.Options.{cases_bool, both_hold}
+use Rattle.scenario_lang.proofs.TableLemmas.{content_ends, row_plain}
 
--- a value whose words are all numbers and bytes, or the first reason
-abbrev pub checked : {A : Type 0} → List Numeral → List (List ℕ) → A → Result A LineReason
-checked ns cs x = if list_all is_number ns then (if list_all are_bytes cs then Ok x else Err Bytes) else Err Number
+-- ---- words
 
--- ---- the table of forms by the names of its calls
-
-pub form_in-callee : (word : List ℕ) → form_in forms word ≡ option_map row (callee_of word)
-form_in-callee word = elim (cases_bool (bytes_eq word (codes "create"))) [
-  | inl h ↦ rw h refl
-  | inr a ↦ elim (cases_bool (bytes_eq word (codes "delete"))) [
-    | inl h ↦ rw (a, h) refl
-    | inr b ↦ elim (cases_bool (bytes_eq word (codes "lookup"))) [
-      | inl h ↦ rw (a, b, h) refl
-      | inr c ↦ elim (cases_bool (bytes_eq word (codes "msg_send"))) [
-        | inl h ↦ rw (a, b, c, h) refl
-        | inr d ↦ elim (cases_bool (bytes_eq word (codes "msg_recv"))) [
-          | inl h ↦ rw (a, b, c, d, h) refl
-          | inr e ↦ elim (cases_bool (bytes_eq word (codes "msg_recv_i"))) [
-            | inl h ↦ rw (a, b, c, d, e, h) refl
-            | inr f ↦ elim (cases_bool (bytes_eq word (codes "msg_available"))) [
-              | inl h ↦ rw (a, b, c, d, e, f, h) refl
-              | inr g ↦ elim (cases_bool (bytes_eq word (codes "test"))) [
-                | inl h ↦ rw (a, b, c, d, e, f, g, h) refl
-                | inr i ↦ elim (cases_bool (bytes_eq word (codes "cancel"))) [
-                  | inl h ↦ rw (a, b, c, d, e, f, g, i, h) refl
-                  | inr j ↦ elim (cases_bool (bytes_eq word (codes "turn"))) [
-                    | inl h ↦ rw (a, b, c, d, e, f, g, i, j, h) refl
-                    | inr k ↦ rw (a, b, c, d, e, f, g, i, j, k) refl
-                  ]
-                ]
-              ]
-            ]
-          ]
-        ]
-      ]
-    ]
+name_checked : (parts : List (List ℕ)) →
+    (or_form (three_parts parts) >>= λ p. number_in (numeral 0 7 p.0) >>= λ d. number_in (numeral 0 15 p.1) >>= λ n. number_in (numeral 0 65535 p.2) >>= λ q. Ok (record { domain = d; node = n; port = q }))
+    ≡ (if not (are_three parts) then Err Form else if not (list_all is_number (name_numerals parts)) then Err Number else Ok (name_from parts))
+name_checked [] = refl
+name_checked (d ∷ []) = refl
+name_checked (d ∷ n ∷ []) = refl
+name_checked (d ∷ n ∷ p ∷ []) = elim (cases_bool (is_number (numeral 0 7 d))) [
+  | inr bad ↦ rw bad refl
+  | inl one ↦ elim (cases_bool (is_number (numeral 0 15 n))) [
+    | inr bad ↦ rw (one, bad) refl
+    | inl two ↦ elim (cases_bool (is_number (numeral 0 65535 p))) [ inl h ↦ rw (one, two, h) refl | inr h ↦ rw (one, two, h) refl ]
   ]
 ]
+name_checked (d ∷ n ∷ p ∷ q ∷ qs) = refl
+
+pub name_value : (word : List ℕ) → name_at word ≡ value_in Name 0 word
+unfolding name_at
+name_value word = name_checked (parts_at 58 word)
+
+few_checked : (least most : ℕ) (o : Option (List ℕ)) → (some_bytes o >>= few_bytes least most) ≡ (if not (are_within least most o && true) then Err Bytes else Ok (unwrap_or o []))
+few_checked least most None = refl
+few_checked least most (Some bs) = elim (cases_bool (is_within least most (length bs))) [ inl h ↦ rw h refl | inr h ↦ rw h refl ]
+
+pub bytes_value : (word : List ℕ) → bytes_in 0 asked_limit word ≡ value_in Content 0 word
+bytes_value word = few_checked 0 asked_limit (bytes_of word)
 
 -- ---- arguments
 
-one_port : (f : ℕ → Call) (words : List (List ℕ)) → arguments_fit (port ∷ []) words ≡ true → made (port_in words) f ≡ checked (arguments_numerals (port ∷ []) words) (arguments_contents (port ∷ []) words) (f (number (argument 0 words)))
-unfolding port_in
-one_port f [] fit = absurd cc
-one_port f (w ∷ []) fit = elim (cases_bool (is_number (numeral 0 65535 w))) [ inl h ↦ rw h refl | inr h ↦ rw h refl ]
-one_port f (w ∷ v ∷ vs) fit = absurd cc
+-- a value whose words are all numbers and bytes, or the first reason
+abbrev pub checked : {A : Type 0} → List Numeral → List Bytes_word → A → Result A LineReason
+checked ns cs x = if list_all is_number ns then (if list_all are_bytes cs then Ok x else Err Bytes) else Err Number
 
-port_and_most : (f : ℕ → ℕ → Call) (words : List (List ℕ)) → arguments_fit (port ∷ maximum ∷ []) words ≡ true → made (receive_in words) (λ x. f x.0 x.1) ≡ checked (arguments_numerals (port ∷ maximum ∷ []) words) (arguments_contents (port ∷ maximum ∷ []) words) (f (number (argument 0 words)) (number (argument 1 words)))
-unfolding receive_in
-port_and_most f [] fit = absurd cc
-port_and_most f (w ∷ []) fit = absurd cc
-port_and_most f (w ∷ v ∷ []) fit = elim (cases_bool (is_number (numeral 0 65535 w))) [
-  | inl h ↦ elim (cases_bool (is_number (numeral 0 9000 v))) [ inl k ↦ rw (h, k) refl | inr k ↦ rw (h, k) refl ]
-  | inr h ↦ rw h refl
-]
-port_and_most f (w ∷ v ∷ u ∷ us) fit = absurd cc
-
-one_label : (f : ArrayVec ℕ → Call) (words : List (List ℕ)) → arguments_fit (label ∷ []) words ≡ true → made (label_in_words words) f ≡ checked (arguments_numerals (label ∷ []) words) (arguments_contents (label ∷ []) words) (f (label_of (argument 0 words)))
-unfolding label_in_words
-one_label f [] fit = absurd cc
-one_label f (w ∷ []) fit = rw ((both_hold (is_label w) true fit).0) refl
-one_label f (w ∷ v ∷ vs) fit = absurd (true≢false (sym (both_hold (is_label w) false fit).1))
-
-record AreThree (parts : List (List ℕ)) : Type 0 where
-  pub first : List ℕ
-  pub second : List ℕ
-  pub third : List ℕ
-  pub whole : parts ≡ first ∷ second ∷ third ∷ []
-
-three : (parts : List (List ℕ)) → are_three parts ≡ true → AreThree parts
-three [] h = absurd cc
-three (a ∷ []) h = absurd cc
-three (a ∷ b ∷ []) h = absurd cc
-three (a ∷ b ∷ c ∷ []) h = record { first = a; second = b; third = c; whole = refl }
-three (a ∷ b ∷ c ∷ d ∷ ds) h = absurd cc
-
-one_name : (words : List (List ℕ)) → arguments_fit (name ∷ []) words ≡ true → made (lookup_in words) Lookup ≡ checked (arguments_numerals (name ∷ []) words) (arguments_contents (name ∷ []) words) (Lookup (name_in (argument 0 words)))
-unfolding lookup_in name_at
-one_name [] fit = absurd cc
-one_name (w ∷ v ∷ vs) fit = absurd (true≢false (sym (both_hold (are_three (parts_at 58 w)) false fit).1))
-one_name (w ∷ []) fit =
-    let p = three (parts_at 58 w) (both_hold (are_three (parts_at 58 w)) true fit).0 in
-    elim (cases_bool (is_number (numeral 0 7 p.first))) [
-      | inr bad ↦ rw (p.whole, bad) refl
-      | inl one ↦ elim (cases_bool (is_number (numeral 0 15 p.second))) [
-        | inr bad ↦ rw (p.whole, one, bad) refl
-        | inl two ↦ elim (cases_bool (is_number (numeral 0 65535 p.third))) [ inl h ↦ rw (p.whole, one, two, h) refl | inr h ↦ rw (p.whole, one, two, h) refl ]
-      ]
+-- an argument without bytes before others
+plain_step : (k : ArgumentKind) (ks : List ArgumentKind) (bits : ℕ) (w : List ℕ) (ws : List (List ℕ)) (makes : Value k → Makes ks) → argument_contents k w ≡ [] → argument_fits k w ≡ true →
+    call_from ks (bits_told k (value k w)) ws (makes (value k w)) ≡ checked (arguments_numerals ks (bits_told k (value k w)) ws) (arguments_contents ks ws) (made ks (makes (value k w)) (values ks ws)) →
+    call_from (k ∷ ks) bits (w ∷ ws) makes ≡ checked (arguments_numerals (k ∷ ks) bits (w ∷ ws)) (arguments_contents (k ∷ ks) (w ∷ ws)) (made (k ∷ ks) makes (values (k ∷ ks) (w ∷ ws)))
+unfolding argument_in
+plain_step k ks bits w ws makes none fit rest =
+    let both = list_all-append is_number (argument_numerals k bits w) (arguments_numerals ks (bits_told k (value k w)) ws) in
+    elim (cases_bool (list_all is_number (argument_numerals k bits w))) [
+      | inl right ↦ rw (fit, none, right, both, right) rest
+      | inr wrong ↦ rw (fit, wrong, both, wrong) refl
     ]
 
-bytes_checked : (word : List ℕ) → bytes_in word ≡ (if are_bytes word then Ok (bytes word) else Err Bytes)
-bytes_checked word = elim (cases_bool (is_dash word)) [
-  | inl dash ↦ rw dash refl
-  | inr other ↦ elim (cases_option (pairs_of word)) [
-    | inl odd ↦ rw (other, odd) refl
-    | inr read ↦ elim (cases_bool (nat_le (length read.0) 9000)) [ inl h ↦ rw (other, read.1, h) refl | inr h ↦ rw (other, read.1, h) refl ]
-  ]
-]
+call_from-checked : (ks : List ArgumentKind) (bits : ℕ) (ws : List (List ℕ)) (makes : Makes ks) → arguments_fit ks ws ≡ true → content_ends ks ≡ true → call_from ks bits ws makes ≡ checked (arguments_numerals ks bits ws) (arguments_contents ks ws) (made ks makes (values ks ws))
+unfolding argument_in
+call_from-checked [] bits [] makes fit ends = refl
+call_from-checked [] bits (w ∷ ws) makes fit ends = absurd cc
+call_from-checked (k ∷ ks) bits [] makes fit ends = absurd cc
+call_from-checked (Content ∷ []) bits (w ∷ []) makes fit ends = elim (cases_bool (are_bytes (content 0 asked_limit w))) [ inl h ↦ rw h refl | inr h ↦ rw h refl ]
+call_from-checked (Content ∷ []) bits (w ∷ v ∷ vs) makes fit ends = absurd cc
+call_from-checked (Content ∷ k ∷ ks) bits (w ∷ ws) makes fit ends = absurd cc
+call_from-checked (Port ∷ ks) bits (w ∷ ws) makes fit ends = plain_step Port ks bits w ws makes refl refl (call_from-checked ks 0 ws (makes (value Port w)) fit ends)
+call_from-checked (Name ∷ ks) bits (w ∷ ws) makes fit ends =
+    let h = both_hold (argument_fits Name w) (arguments_fit ks ws) fit in
+    plain_step Name ks bits w ws makes refl h.0 (call_from-checked ks 0 ws (makes (value Name w)) h.1 ends)
+call_from-checked (Priority ∷ ks) bits (w ∷ ws) makes fit ends = plain_step Priority ks bits w ws makes refl refl (call_from-checked ks 0 ws (makes (value Priority w)) fit ends)
+call_from-checked (Maximum ∷ ks) bits (w ∷ ws) makes fit ends = plain_step Maximum ks bits w ws makes refl refl (call_from-checked ks 0 ws (makes (value Maximum w)) fit ends)
+call_from-checked (Label ∷ ks) bits (w ∷ ws) makes fit ends =
+    let h = both_hold (argument_fits Label w) (arguments_fit ks ws) fit in
+    plain_step Label ks bits w ws makes refl h.0 (call_from-checked ks 0 ws (makes (value Label w)) h.1 ends)
 
-send_checked : (words : List (List ℕ)) → arguments_fit (port ∷ name ∷ priority ∷ content ∷ []) words ≡ true → send_in words ≡ checked (arguments_numerals (port ∷ name ∷ priority ∷ content ∷ []) words) (arguments_contents (port ∷ name ∷ priority ∷ content ∷ []) words) (MsgSend (number (argument 0 words)) (name_in (argument 1 words)) (number (argument 2 words)) (bytes (argument 3 words)))
-unfolding send_in name_at
-send_checked [] fit = absurd cc
-send_checked (p ∷ []) fit = absurd cc
-send_checked (p ∷ w ∷ []) fit = absurd (true≢false (sym (both_hold (are_three (parts_at 58 w)) false fit).1))
-send_checked (p ∷ w ∷ k ∷ []) fit = absurd (true≢false (sym (both_hold (are_three (parts_at 58 w)) false fit).1))
-send_checked (p ∷ w ∷ k ∷ b ∷ c ∷ cs) fit = absurd (true≢false (sym (both_hold (are_three (parts_at 58 w)) false fit).1))
-send_checked (p ∷ w ∷ k ∷ b ∷ []) fit =
-    let n = three (parts_at 58 w) (both_hold (are_three (parts_at 58 w)) true fit).0 in
-    elim (cases_bool (is_number (numeral 0 65535 p))) [
-      | inr bad ↦ rw (n.whole, bad) refl
-      | inl one ↦ elim (cases_bool (is_number (numeral 0 7 n.first))) [
-        | inr bad ↦ rw (n.whole, one, bad) refl
-        | inl two ↦ elim (cases_bool (is_number (numeral 0 15 n.second))) [
-          | inr bad ↦ rw (n.whole, one, two, bad) refl
-          | inl thr ↦ elim (cases_bool (is_number (numeral 0 65535 n.third))) [
-            | inr bad ↦ rw (n.whole, one, two, thr, bad) refl
-            | inl four ↦ elim (cases_bool (is_number (numeral 0 3 k))) [
-              | inr bad ↦ rw (n.whole, one, two, thr, four, bad) refl
-              | inl five ↦ elim (cases_bool (are_bytes b)) [ inl h ↦ rw (n.whole, one, two, thr, four, five, bytes_checked b, h) refl | inr h ↦ rw (n.whole, one, two, thr, four, five, bytes_checked b, h) refl ]
-            ]
-          ]
-        ]
-      ]
-    ]
+pub call_by-row : (c : Callee) (words : List (List ℕ)) → call_in c words ≡ call_by c words
+call_by-row callee.Create words = refl
+call_by-row callee.Delete words = refl
+call_by-row callee.Lookup words = refl
+call_by-row callee.MsgSend words = refl
+call_by-row callee.MsgRecv words = refl
+call_by-row callee.MsgRecvI words = refl
+call_by-row callee.MsgAvailable words = refl
+call_by-row callee.Test words = refl
+call_by-row callee.Cancel words = refl
+call_by-row callee.Turn words = refl
 
-no_words : (words : List (List ℕ)) → arguments_fit [] words ≡ true → ◌≡◌ {A = Result Call LineReason} (Ok Turn) (checked (arguments_numerals [] words) (arguments_contents [] words) Turn)
-no_words [] fit = refl
-no_words (w ∷ ws) fit = absurd cc
-
-pub call_checked : (c : Callee) (words : List (List ℕ)) → arguments_fit (row c).arguments words ≡ true → call_in c words ≡ checked (arguments_numerals (row c).arguments words) (arguments_contents (row c).arguments words) ((row c).makes words)
-call_checked callee.Create words fit = one_port Create words fit
-call_checked callee.Delete words fit = one_port Delete words fit
-call_checked callee.Lookup words fit = one_name words fit
-call_checked callee.MsgSend words fit = send_checked words fit
-call_checked callee.MsgRecv words fit = port_and_most (λ p m. MsgRecv p m) words fit
-call_checked callee.MsgRecvI words fit = port_and_most (λ p m. MsgRecvI p m) words fit
-call_checked callee.MsgAvailable words fit = one_port MsgAvailable words fit
-call_checked callee.Test words fit = one_label Test words fit
-call_checked callee.Cancel words fit = one_label Cancel words fit
-call_checked callee.Turn words fit = no_words words fit
+pub call-checked : (c : Callee) (words : List (List ℕ)) → arguments_fit (form c).arguments words ≡ true → call_in c words ≡ checked (arguments_numerals (form c).arguments 0 words) (arguments_contents (form c).arguments words) (call_made c words)
+call-checked c words fit = call_by-row c words ∙ call_from-checked (form c).arguments 0 words (form c).makes fit (row_plain c).ends

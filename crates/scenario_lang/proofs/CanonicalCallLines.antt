@@ -1,5 +1,5 @@
 -- Lines of calls in the canonical text are read: none is refused, and each tells what it was written for.
-use Rattle.std.proofs.Common.{◌≡◌, ℕ, ◌+◌, ◌≤◌, Bool, true, false, ◌&&◌, ◌||◌, List, ◌∷◌, ◌++◌, Option, Some, None, refl, sym, ap, ◌∙◌, arith, length-append}
+use Rattle.std.proofs.Common.{◌≡◌, ℕ, ◌+◌, ◌≤◌, ◌<◌, ◌^◌, Bool, true, false, ◌&&◌, ◌||◌, List, ◌∷◌, ◌++◌, Option, Some, None, refl, sym, subst, ap, ◌∙◌, arith, length-append}
 use Rattle.std.specs.Prelude.{decimal, option_map, ◌==◌}
 use Rattle.std.specs.List.{list_all}
 use Rattle.std.proofs.lemmas.Bool.{and_from, not_from_true}
@@ -9,42 +9,41 @@ use Rattle.arrayvec.specs.ArrayVec.{ArrayVec}
 use Rattle.board_model.specs.declared.scenario.Call.{Call}
 use Rattle.board_model.specs.declared.scenario.CallLine.{CallLine}
 use Rattle.board_model.specs.declared.scenario.Scenario.{Scenario}
+use Rattle.board_model.specs.declared.form.Callee.{Callee}
 use Rattle.board_model.specs.Scenario.{label_in}
-use Rattle.board_model.specs.Grammar.{spaced, call_words, label_words, tries_words, caller_text}
-use Rattle.board_model.specs.LinkedBoard.{HasFitArguments}
+use Rattle.board_model.specs.Grammar.{spaced, argument_texts, form_words, call_words, label_words, tries_words, caller_text}
 use Rattle.board_model.specs.FileLines.{parts_at}
 use Rattle.board_model.specs.FileWords.{is_digit, numeral, is_number, number}
-use Rattle.board_model.specs.Forms.{CallForm, CallParts, LineParts, call_parts, label_of, told_at, tries_at, told_fits, arguments_fit, if_fits, call_of, callee_form, tries_form, told_form, call_form, parts_of, numerals, tries_numerals, arguments_numerals, says_call, call_line}
-use Rattle.board_model.specs.LineReasons.{is_domain, has_wrong_domain, gives_request, tells_wrong_label, uses_wrong_label, has_wrong_label, word_reasons, with_statement}
+use Rattle.board_model.specs.Forms.{Values, form, call_made, CallParts, call_parts, label_of, told_at, tries_at, told_fits, tries_fit, arguments_fit, if_fits, call_of, tries_form, told_form, call_form, parts_of, numerals, tries_numerals, arguments_numerals, arguments_labels, says_call, call_line}
+use Rattle.board_model.specs.LineReasons.{is_domain, has_wrong_domain, tells_wrong_label, names_wrong_label, has_wrong_label, word_reasons, with_statement}
+use Rattle.board_model.proofs.LawfulForms.{AreFit, call_with}
 use Rattle.board_model.proofs.LawfulTelling.{HoldNot}
 use Rattle.board_model.proofs.LawfulRanges.{TriesFit}
 use Rattle.scenario_lang.proofs.DecimalLemmas.{Begins, decimal-begins, number-decimal, is_number-decimal}
 use Rattle.scenario_lang.proofs.SpacedLemmas.{is_word, all-pass, room, room-append}
 use Rattle.scenario_lang.proofs.PlainLemmas.{IsPlain, begun_plain, decimal-plain, decimal-few, label-plain}
 use Rattle.scenario_lang.proofs.NameWordLemmas.{two_parts, joined-seen}
-use Rattle.scenario_lang.proofs.CanonicalCalls.{NamesLabel, IsSpelled, call-spelled}
+use Rattle.scenario_lang.proofs.TableLemmas.{IsPlainRow, row_plain, AreTextsOf, texts-of, no_label-before, no_tries-before}
 use Rattle.scenario_lang.proofs.CanonicalLines.{IsRead, words_read}
 
--- a call line that may be told here
-pub record FitsHere (above : Scenario) (k : CallLine) : Type 0 where
+-- a line of this call with these arguments that may be told here
+pub record FitsHere (above : Scenario) (k : CallLine) (c : Callee) (arguments : Values (form c).arguments) : Type 0 where
+  pub says : call_words k.call ≡ form_words c arguments
+  pub makes : call_with c arguments ≡ k.call
   pub told_domain : is_domain above k.domain ≡ true
   pub domain_fits : k.domain ≤ 7
   pub node_fits : k.node ≤ 15
-  pub tries_fit : TriesFit k.tries
-  pub arguments_fit : HasFitArguments k.call
-  pub names_label : NamesLabel k.call
-  pub label_fits : told_fits (gives_request k.call) (label_in k) ≡ true
-  pub label_right : (tells_wrong_label above (gives_request k.call) k.domain (label_in k) || uses_wrong_label above k.domain k.call) ≡ false
+  pub tries_within : TriesFit k.tries
+  pub tried_right : tries_fit (form c).tried (option_map decimal k.tries) ≡ true
+  pub arguments_fit : AreFit (form c).arguments 0 arguments
+  pub label_fits : told_fits (form c).labelled (label_in k) ≡ true
+  pub label_right : (tells_wrong_label above (form c).labelled k.domain (label_in k) || names_wrong_label above k.domain (arguments_labels (form c).arguments (argument_texts (form c).arguments arguments))) ≡ false
 
 abbrev pub front_words : CallLine → List (List ℕ) → List (List ℕ)
 front_words k call = label_words (label_in k) ++ (tries_words k.tries ++ call)
 
 abbrev pub line_words : CallLine → List (List ℕ)
 line_words k = caller_text k ∷ front_words k (call_words k.call)
-
--- the parts of the line of a call
-abbrev parts_told : (k : CallLine) → IsSpelled k.call (call_words k.call) → CallParts
-parts_told k s = record { domain = decimal k.domain; node = decimal k.node; told = label_in k; tries = option_map decimal k.tries; form = s.form; arguments = s.arguments }
 
 told_words : (o : Option (List ℕ)) (t : Option ℕ) (call : List (List ℕ)) → TriesFit t → told_at call ≡ (None, call) → told_at (label_words o ++ (tries_words t ++ call)) ≡ (o, tries_words t ++ call)
 told_words None None call fits none = none
@@ -69,25 +68,8 @@ begun_call_line ds rest ws s =
     ∙ says_call_line s.first (s.others ++ rest) ws s.digit
     ∙ ap (λ (t : List ℕ). call_form (parts_at 46 (t ++ rest)) ws) (sym s.front)
 
-fits_form : (c : CallParts) → told_fits c.form.labelled c.told ≡ true → arguments_fit c.form.arguments c.arguments ≡ true → if_fits c ≡ Some (call_parts c)
-fits_form c told fit = rw (told, fit) refl
-
-parts_read : (above : Scenario) (k : CallLine) (h : FitsHere above k) (s : IsSpelled k.call (call_words k.call)) → parts_of (line_words k) ≡ Some (call_parts (parts_told k s))
-parts_read above k h s =
-    let d : List ℕ = decimal k.domain in
-    let n : List ℕ = decimal k.node in
-    let ws : List (List ℕ) = front_words k (call_words k.call) in
-    let tried : Option (List ℕ) = option_map decimal k.tries in
-    let domain_small = h.domain_fits in
-    let node_small = h.node_fits in
-    let told : told_fits s.form.labelled (label_in k) ≡ true = ap (λ (b : Bool). told_fits b (label_in k)) s.labelled ∙ h.label_fits in
-    begun_call_line d (46 ∷ n) ws (decimal-begins k.domain (omega arith))
-    ∙ ap (λ (ps : List (List ℕ)). call_form ps ws) (two_parts 46 k.domain k.node refl (omega arith) (omega arith))
-    ∙ ap (λ (r : Option (List ℕ) × List (List ℕ)). told_form d n r) (told_words (label_in k) k.tries (call_words k.call) h.tries_fit s.no_label)
-    ∙ ap (λ (r : Option (List ℕ) × List (List ℕ)). tries_form d n (label_in k) r) (tried_words k.tries (call_words k.call) s.no_tries)
-    ∙ ap (λ (vs : List (List ℕ)). callee_form d n (label_in k) tried vs) s.whole
-    ∙ ap (λ (f : Option CallForm). call_of d n (label_in k) tried s.arguments f) s.found
-    ∙ fits_form (parts_told k s) told s.fit
+fits_form : (p : CallParts) → told_fits (form p.callee).labelled p.told ≡ true → tries_fit (form p.callee).tried p.tries ≡ true → arguments_fit (form p.callee).arguments p.arguments ≡ true → if_fits p ≡ Some (call_parts p)
+fits_form p told tried fit = rw (told, tried, fit) refl
 
 label_back : (o : Option (ArrayVec ℕ)) → option_map label_of (option_map (λ l. l.items) o) ≡ o
 label_back None = refl
@@ -100,28 +82,9 @@ tries_back (Some n) fits = ap (λ (m : ℕ). Some m) (number-decimal n (omega (a
 abbrev made_line : ℕ → ℕ → Option (ArrayVec ℕ) → Option ℕ → Call → CallLine
 made_line d n l t c = record { domain = d; node = n; label = l; tries = t; call = c }
 
-line_back : (above : Scenario) (k : CallLine) (h : FitsHere above k) (s : IsSpelled k.call (call_words k.call)) → call_line (parts_told k s) ≡ k
-line_back above k h s =
-    let domain_small = h.domain_fits in
-    let node_small = h.node_fits in
-    ap (λ (d : ℕ). made_line d (number (decimal k.node)) (option_map label_of (label_in k)) (option_map number (option_map decimal k.tries)) (s.form.makes s.arguments)) (number-decimal k.domain (omega arith))
-    ∙ ap (λ (n : ℕ). made_line k.domain n (option_map label_of (label_in k)) (option_map number (option_map decimal k.tries)) (s.form.makes s.arguments)) (number-decimal k.node (omega arith))
-    ∙ ap (λ (l : Option (ArrayVec ℕ)). made_line k.domain k.node l (option_map number (option_map decimal k.tries)) (s.form.makes s.arguments)) (label_back k.label)
-    ∙ ap (λ (t : Option ℕ). made_line k.domain k.node k.label t (s.form.makes s.arguments)) (tries_back k.tries h.tries_fit)
-    ∙ ap (λ (c : Call). made_line k.domain k.node k.label k.tries c) s.makes
-
 tries_numbers : (t : Option ℕ) → TriesFit t → list_all is_number (tries_numerals (option_map decimal t)) ≡ true
 tries_numbers None fits = refl
 tries_numbers (Some n) fits = all-pass is_number (tries_numerals (Some (decimal n))) (is_number-decimal 1 4294967295 n fits.0 (omega (arith, fits.1)) (omega (arith, fits.1)), tt)
-
-call_numbers : (above : Scenario) (k : CallLine) (h : FitsHere above k) (s : IsSpelled k.call (call_words k.call)) → list_all is_number (numerals (call_parts (parts_told k s))) ≡ true
-call_numbers above k h s =
-    let domain_small = h.domain_fits in
-    let node_small = h.node_fits in
-    let tried : List _ = tries_numerals (option_map decimal k.tries) in
-    let others : List _ = arguments_numerals s.form.arguments s.arguments in
-    and_from (is_number (numeral 0 7 (decimal k.domain))) (is_number (numeral 0 15 (decimal k.node)) && list_all is_number (tried ++ others)) (is_number-decimal 0 7 k.domain (omega arith) domain_small (omega arith))
-    (and_from (is_number (numeral 0 15 (decimal k.node))) (list_all is_number (tried ++ others)) (is_number-decimal 0 15 k.node (omega arith) node_small (omega arith)) (list_all-append is_number tried others ∙ and_from (list_all is_number tried) (list_all is_number others) (tries_numbers k.tries h.tries_fit) s.numbers))
 
 -- words that are seen, of at most so many bytes
 record AreSeen (most : ℕ) (ws : List (List ℕ)) : Type 0 where
@@ -148,34 +111,86 @@ caller_plain k domain_small node_small =
     begun_plain 21 (decimal k.domain) (46 ∷ decimal k.node) (decimal-begins k.domain (omega arith)) (joined-seen 46 k.domain k.node refl (omega arith) (omega arith))
     (omega (arith, length-append (decimal k.domain) (46 ∷ decimal k.node), decimal-few k.domain (omega arith), decimal-few k.node (omega arith)))
 
-line_seen : (above : Scenario) (k : CallLine) → FitsHere above k → IsSpelled k.call (call_words k.call) → AreSeen 20000 (line_words k)
-line_seen above k h s =
-    let caller = caller_plain k h.domain_fits h.node_fits in
-    let call : AreSeen 18100 (call_words k.call) = record { seen = s.seen; few = s.few } in
-    let front = both_seen 20 18120 (label_words (label_in k)) (tries_words k.tries ++ call_words k.call) (label_seen (label_in k) (gives_request k.call) h.label_fits) (both_seen 20 18100 (tries_words k.tries) (call_words k.call) (tries_seen k.tries h.tries_fit) call) in
-    record {
-      seen = and_from (is_word (caller_text k)) (list_all is_word (front_words k (call_words k.call))) caller.is front.seen;
-      few = omega (arith, caller.few, front.few);
-    }
+abbrev caller_words : CallLine → List (List ℕ) → List (List ℕ)
+caller_words k call = caller_text k ∷ front_words k call
 
-right_label : (above : Scenario) (k : CallLine) (h : FitsHere above k) (s : IsSpelled k.call (call_words k.call)) → has_wrong_label above (call_parts (parts_told k s)) ≡ false
-right_label above k h s =
-    let domain_small = h.domain_fits in
-    let d : ℕ = number (decimal k.domain) in
-    ap (λ (b : Bool). tells_wrong_label above b d (label_in k) || uses_wrong_label above d (s.form.makes s.arguments)) s.labelled
-    ∙ ap (λ (m : ℕ). tells_wrong_label above (gives_request k.call) m (label_in k) || uses_wrong_label above m (s.form.makes s.arguments)) (number-decimal k.domain (omega arith))
-    ∙ ap (λ (c : Call). tells_wrong_label above (gives_request k.call) k.domain (label_in k) || uses_wrong_label above k.domain c) s.makes
-    ∙ h.label_right
+module _ (above : Scenario) (k : CallLine) (c : Callee) (arguments : Values (form c).arguments) (h : FitsHere above k c arguments) where
+  row : IsPlainRow c
+  row = row_plain c
 
-spelled_read : (above : Scenario) (k : CallLine) → FitsHere above k → IsSpelled k.call (call_words k.call) → IsRead above (spaced (line_words k)) (with_statement above (says_call k))
-spelled_read above k h s =
-    let p : LineParts = call_parts (parts_told k s) in
-    let seen = line_seen above k h s in
-    let back = line_back above k h s in
-    let told : has_wrong_domain above (says_call (call_line (parts_told k s))) ≡ false = ap (λ (l : CallLine). has_wrong_domain above (says_call l)) back ∙ not_from_true _ h.told_domain in
-    let none : HoldNot (word_reasons above (Some p)) = (refl, (not_from_true _ (call_numbers above k h s), (not_from_true _ s.contents, (refl, (told, (refl, (right_label above k h s, tt))))))) in
-    let r = words_read above (line_words k) p seen.seen seen.few (parts_read above k h s) none in
-    record { text = r.text; passes = r.passes; tells = r.tells ∙ ap (λ (l : CallLine). with_statement above (says_call l)) back }
+  abbrev texts : List (List ℕ)
+  texts = argument_texts (form c).arguments arguments
 
-pub call-read : (above : Scenario) (k : CallLine) → FitsHere above k → IsRead above (spaced (line_words k)) (with_statement above (says_call k))
-call-read above k h = spelled_read above k h (call-spelled k.call h.arguments_fit h.names_label)
+  abbrev words : List (List ℕ)
+  words = (form c).word ∷ texts
+
+  spelled : AreTextsOf (form c).arguments 0 arguments
+  spelled = texts-of (form c).arguments 0 arguments h.arguments_fit
+
+  -- the parts of the line
+  abbrev parts : CallParts
+  parts = record { domain = decimal k.domain; node = decimal k.node; told = label_in k; tries = option_map decimal k.tries; callee = c; arguments = texts }
+
+  domain_small : k.domain < 2 ^ 32
+  domain_small = omega (arith, h.domain_fits)
+
+  node_small : k.node < 2 ^ 32
+  node_small = omega (arith, h.node_fits)
+
+  parts_read : parts_of (caller_words k words) ≡ Some (call_parts parts)
+  parts_read =
+      let d : List ℕ = decimal k.domain in
+      let n : List ℕ = decimal k.node in
+      let tried : Option (List ℕ) = option_map decimal k.tries in
+      let ws : List (List ℕ) = front_words k words in
+      begun_call_line d (46 ∷ n) ws (decimal-begins k.domain (omega (arith, domain_small)))
+      ∙ ap (λ (ps : List (List ℕ)). call_form ps ws) (two_parts 46 k.domain k.node refl domain_small node_small)
+      ∙ ap (λ (r : Option (List ℕ) × List (List ℕ)). told_form d n r) (told_words (label_in k) k.tries words h.tries_within (no_label-before (form c).word (form c).arguments 0 arguments h.arguments_fit))
+      ∙ ap (λ (r : Option (List ℕ) × List (List ℕ)). tries_form d n (label_in k) r) (tried_words k.tries words (no_tries-before (form c).word texts row.no_try))
+      ∙ ap (λ (o : Option Callee). call_of d n (label_in k) tried texts o) row.named
+      ∙ fits_form parts h.label_fits h.tried_right spelled.fit
+
+  call_back : call_made c texts ≡ k.call
+  call_back = ap (λ (vs : Values (form c).arguments). call_with c vs) spelled.back ∙ h.makes
+
+  line_back : call_line parts ≡ k
+  line_back =
+      ap (λ (d : ℕ). made_line d (number (decimal k.node)) (option_map label_of (label_in k)) (option_map number (option_map decimal k.tries)) (call_made c texts)) (number-decimal k.domain (omega (arith, domain_small)))
+      ∙ ap (λ (n : ℕ). made_line k.domain n (option_map label_of (label_in k)) (option_map number (option_map decimal k.tries)) (call_made c texts)) (number-decimal k.node (omega (arith, node_small)))
+      ∙ ap (λ (l : Option (ArrayVec ℕ)). made_line k.domain k.node l (option_map number (option_map decimal k.tries)) (call_made c texts)) (label_back k.label)
+      ∙ ap (λ (t : Option ℕ). made_line k.domain k.node k.label t (call_made c texts)) (tries_back k.tries h.tries_within)
+      ∙ ap (λ (x : Call). made_line k.domain k.node k.label k.tries x) call_back
+
+  call_numbers : list_all is_number (numerals (call_parts parts)) ≡ true
+  call_numbers =
+      let tried : List _ = tries_numerals (option_map decimal k.tries) in
+      let others : List _ = arguments_numerals (form c).arguments 0 texts in
+      and_from (is_number (numeral 0 7 (decimal k.domain))) (is_number (numeral 0 15 (decimal k.node)) && list_all is_number (tried ++ others)) (is_number-decimal 0 7 k.domain (omega arith) h.domain_fits (omega (arith, domain_small)))
+      (and_from (is_number (numeral 0 15 (decimal k.node))) (list_all is_number (tried ++ others)) (is_number-decimal 0 15 k.node (omega arith) h.node_fits (omega (arith, node_small)))
+      (list_all-append is_number tried others ∙ and_from (list_all is_number tried) (list_all is_number others) (tries_numbers k.tries h.tries_within) spelled.numbers))
+
+  line_seen : AreSeen 20000 (caller_words k words)
+  line_seen =
+      let caller = caller_plain k h.domain_fits h.node_fits in
+      let call : AreSeen 18100 words = record { seen = and_from (is_word (form c).word) (list_all is_word texts) row.seen spelled.seen; few = omega (arith, row.few, spelled.few) } in
+      let front = both_seen 20 18120 (label_words (label_in k)) (tries_words k.tries ++ words) (label_seen (label_in k) (form c).labelled h.label_fits) (both_seen 20 18100 (tries_words k.tries) words (tries_seen k.tries h.tries_within) call) in
+      record {
+        seen = and_from (is_word (caller_text k)) (list_all is_word (front_words k words)) caller.is front.seen;
+        few = omega (arith, caller.few, front.few);
+      }
+
+  right_label : has_wrong_label above (call_parts parts) ≡ false
+  right_label =
+      ap (λ (m : ℕ). tells_wrong_label above (form c).labelled m (label_in k) || names_wrong_label above m (arguments_labels (form c).arguments texts)) (number-decimal k.domain (omega (arith, domain_small)))
+      ∙ h.label_right
+
+  words_read_here : IsRead above (spaced (caller_words k words)) (with_statement above (says_call k))
+  words_read_here =
+      let told : has_wrong_domain above (says_call (call_line parts)) ≡ false = ap (λ (l : CallLine). has_wrong_domain above (says_call l)) line_back ∙ not_from_true _ h.told_domain in
+      let none : HoldNot (word_reasons above (Some (call_parts parts))) = (refl, (not_from_true _ call_numbers, (not_from_true _ spelled.contents, (refl, (told, (refl, (right_label, tt))))))) in
+      let r = words_read above (caller_words k words) (call_parts parts) line_seen.seen line_seen.few parts_read none in
+      record { text = r.text; passes = r.passes; tells = r.tells ∙ ap (λ (l : CallLine). with_statement above (says_call l)) line_back }
+
+  pub call-read : IsRead above (spaced (line_words k)) (with_statement above (says_call k))
+  call-read =
+      subst (λ (ws : List (List ℕ)). IsRead above (spaced (caller_words k ws)) (with_statement above (says_call k))) (sym h.says) words_read_here

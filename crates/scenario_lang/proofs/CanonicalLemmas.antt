@@ -1,10 +1,13 @@
 -- The text of a line, piece by piece.
 use Rattle.std.proofs.Common.{◌≡◌, List, ℕ, [], ◌∷◌, ◌++◌, append_assoc, Option, None, Some, refl, sym, ap, ◌∙◌}
-use Rattle.std.specs.Prelude.{codes, decimal}
+use Rattle.std.specs.Prelude.{map, codes, decimal}
+use Rattle.std.specs.List.{flat_map}
+use Rattle.std.proofs.lemmas.List.{append-nil}
 use Rattle.board_model.specs.declared.scenario.Call.{Call}
 use Rattle.board_model.specs.declared.scenario.Call.TheVariants.{Create, Delete, Lookup, MsgSend, MsgRecv, MsgRecvI, MsgAvailable, Test, Cancel, Turn}
 use Rattle.board_model.specs.Grammar.{spaced, line_of, call_words, label_words, tries_words}
-use Rattle.scenario_lang.specs.CallFronts.{label_front, tries_front}
+use Rattle.scenario_lang.specs.declared.canonical.Argument.{Argument}
+use Rattle.scenario_lang.specs.CallFronts.{label_front, tries_front, argument_word, blank_then}
 
 -- a line begins with its caller and a blank
 caller_then : (caller words : List ℕ) → (caller ++ 32 ∷ words) ++ (10 ∷ []) ≡ caller ++ (32 ∷ (words ++ (10 ∷ [])))
@@ -60,3 +63,9 @@ line_of-call caller label tries c =
     ap (λ (t : List ℕ). t ++ 10 ∷ []) spelled
     ∙ caller_then caller (label_front label ++ (tries_front tries ++ spaced (call_words c)))
     ∙ ap (λ (t : List ℕ). caller ++ 32 ∷ t) (append_assoc (label_front label) (tries_front tries ++ spaced (call_words c)) (10 ∷ []) ∙ ap (λ (t : List ℕ). label_front label ++ t) (append_assoc (tries_front tries) (spaced (call_words c)) (10 ∷ [])))
+
+-- ---- the words of a call
+
+pub spaced-arguments : (word : List ℕ) (arguments : List Argument) → spaced (word ∷ map argument_word arguments) ≡ word ++ flat_map blank_then arguments
+spaced-arguments word [] = sym (append-nil word)
+spaced-arguments word (a ∷ others) = ap (λ (t : List ℕ). word ++ 32 ∷ t) (spaced-arguments (argument_word a) others)

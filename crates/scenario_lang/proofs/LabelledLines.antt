@@ -1,5 +1,5 @@
 -- A call line that is read has its label, and gives a request where its label is in place.
-use Rattle.std.proofs.Common.{◌≡◌, ℕ, Bool, true, false, List, Option, Some, None, refl, sym, ap, ◌∙◌, subst, inl, inr}
+use Rattle.std.proofs.Common.{◌≡◌, ℕ, Bool, true, false, List, [], ◌∷◌, Option, Some, None, refl, sym, ap, ◌∙◌, subst, inl, inr}
 use Rattle.std.specs.Prelude.{Result, Ok, Err, IfSome, option_map}
 use Rattle.arrayvec.specs.ArrayVec.{ArrayVec}
 use Rattle.board_model.specs.declared.scenario.Call.{Call}
@@ -8,14 +8,16 @@ use Rattle.board_model.specs.declared.scenario.Scenario.{Scenario}
 use Rattle.board_model.specs.declared.reason.LineReason.{LineReason}
 use Rattle.board_model.specs.declared.reason.LineReason.TheVariants.{Form}
 use Rattle.board_model.specs.FileWords.{numeral, is_label}
-use Rattle.board_model.specs.Forms.{label_of}
+use Rattle.board_model.specs.Forms.{bits_told, label_of, Values, Makes, made, form, CallParts}
 use Rattle.board_model.specs.LineReasons.{gives_request, tells_wrong_label}
 use Rattle.board_model.specs.Scenario.{label_in}
-use Rattle.scenario_lang.specs.declared.callee.Callee.{Callee}
-use Rattle.scenario_lang.specs.declared.callee.Callee.TheVariants as callee
-use Rattle.scenario_lang.specs.Reading.{◌>>=◌, ReadParts, row, made, call_in, told_in, number_in, tries_in, call_line_in}
+use Rattle.board_model.specs.declared.form.ArgumentKind.{ArgumentKind}
+use Rattle.board_model.specs.declared.form.Callee.{Callee}
+use Rattle.board_model.specs.declared.form.Callee.TheVariants as callee
+use Rattle.scenario_lang.specs.Reading.{◌>>=◌, argument_in, call_from, call_in, told_in, number_in, tries_in, call_line_in}
 use Rattle.scenario_lang.specs.Reading.{label_in as label_read}
 use Rattle.scenario_lang.proofs.Options.{cases_bool}
+use Rattle.scenario_lang.proofs.CallLemmas.{call_by-row}
 
 -- each reader of a chain that gives a value has given one
 pub bind_ok : {A B : Type 0} (r : Result A LineReason) (f : A → Result B LineReason) (y : B) → (r >>= f) ≡ Ok y → (x : A) × (r ≡ Ok x) × (f x ≡ Ok y)
@@ -62,30 +64,40 @@ is_chain (Ok d) (Ok n) (Ok t) (Ok l) (Ok c) line h =
     let e : record { domain = d; node = n; label = l; tries = t; call = c } ≡ line = ok_is (record { domain = d; node = n; label = l; tries = t; call = c }) line h in
     record { label = ap (λ (z : CallLine). Ok z.label) e; call = ap (λ (z : CallLine). Ok z.call) e }
 
-line_chain : (p : ReadParts) (line : CallLine) → call_line_in p ≡ Ok line → IsChain (told_in p.told) (call_in p.callee p.arguments) line
+line_chain : (p : CallParts) (line : CallLine) → call_line_in p ≡ Ok line → IsChain (told_in p.told) (call_in p.callee p.arguments) line
 unfolding call_line_in
 line_chain p line h = is_chain (number_in (numeral 0 7 p.domain)) (number_in (numeral 0 15 p.node)) (tries_in p.tries) (told_in p.told) (call_in p.callee p.arguments) line h
 
-pub line_label : (p : ReadParts) (line : CallLine) → call_line_in p ≡ Ok line → label_in line ≡ p.told
+pub line_label : (p : CallParts) (line : CallLine) → call_line_in p ≡ Ok line → label_in line ≡ p.told
 line_label p line h = told_is p.told line.label (line_chain p line h).label
 
-made_ok : {A : Type 0} (r : Result A LineReason) (f : A → Call) (y : Call) → made r f ≡ Ok y → (x : A) × (f x ≡ y)
-made_ok (Ok x) f y h = (x, ok_is (f x) y h)
-made_ok (Err reason) f y h = absurd cc
+-- a call with a label gives a request
+gives_made : (c : Callee) (arguments : Values (form c).arguments) → (form c).labelled ≡ gives_request (made (form c).arguments (form c).makes arguments)
+gives_made callee.Create arguments = refl
+gives_made callee.Delete arguments = refl
+gives_made callee.Lookup arguments = refl
+gives_made callee.MsgSend arguments = refl
+gives_made callee.MsgRecv arguments = refl
+gives_made callee.MsgRecvI arguments = refl
+gives_made callee.MsgAvailable arguments = refl
+gives_made callee.Test arguments = refl
+gives_made callee.Cancel arguments = refl
+gives_made callee.Turn arguments = refl
 
-call_gives : (c : Callee) (words : List (List ℕ)) (call : Call) → call_in c words ≡ Ok call → (row c).labelled ≡ true → gives_request call ≡ true
-call_gives callee.Create words call h labelled = absurd cc
-call_gives callee.Delete words call h labelled = absurd cc
-call_gives callee.Lookup words call h labelled = ap gives_request (sym (made_ok _ _ call h).1)
-call_gives callee.MsgSend words call h labelled = absurd cc
-call_gives callee.MsgRecv words call h labelled = absurd cc
-call_gives callee.MsgRecvI words call h labelled = ap gives_request (sym (made_ok _ _ call h).1)
-call_gives callee.MsgAvailable words call h labelled = absurd cc
-call_gives callee.Test words call h labelled = absurd cc
-call_gives callee.Cancel words call h labelled = absurd cc
-call_gives callee.Turn words call h labelled = absurd cc
+-- a call that is read is made of some arguments
+is_made : (ks : List ArgumentKind) (bits : ℕ) (words : List (List ℕ)) (makes : Makes ks) (call : Call) → call_from ks bits words makes ≡ Ok call → (arguments : Values ks) × (made ks makes arguments ≡ call)
+is_made [] bits words makes call h = (tt, ok_is makes call h)
+is_made (k ∷ ks) bits words makes call h =
+    let first = bind_ok (argument_in k bits words) (λ x. call_from ks (bits_told k x.0) x.1 (makes x.0)) call h in
+    let rest = is_made ks (bits_told k first.0.0) first.0.1 (makes first.0.0) call first.2 in
+    ((first.0.0, rest.0), rest.1)
 
-pub line_gives : (p : ReadParts) (line : CallLine) → call_line_in p ≡ Ok line → (row p.callee).labelled ≡ true → gives_request line.call ≡ true
+call_gives : (c : Callee) (words : List (List ℕ)) (call : Call) → call_in c words ≡ Ok call → (form c).labelled ≡ true → gives_request call ≡ true
+call_gives c words call h labelled =
+    let arguments = is_made (form c).arguments 0 words (form c).makes call (sym (call_by-row c words) ∙ h) in
+    ap gives_request (sym arguments.1) ∙ sym (gives_made c arguments.0) ∙ labelled
+
+pub line_gives : (p : CallParts) (line : CallLine) → call_line_in p ≡ Ok line → (form p.callee).labelled ≡ true → gives_request line.call ≡ true
 line_gives p line h labelled = call_gives p.callee p.arguments line.call (line_chain p line h).call labelled
 
 right_told : (above : Scenario) (labelled : Bool) (d : ℕ) (label : List ℕ) → tells_wrong_label above labelled d (Some label) ≡ false → labelled ≡ true
@@ -93,9 +105,9 @@ right_told above true d label h = refl
 right_told above false d label h = absurd cc
 
 -- a line whose label is in place gives a request
-pub line_right : (above : Scenario) (p : ReadParts) (line : CallLine) → call_line_in p ≡ Ok line → tells_wrong_label above (row p.callee).labelled line.domain p.told ≡ false → IfSome (label_in line) (λ label. gives_request line.call ≡ true)
+pub line_right : (above : Scenario) (p : CallParts) (line : CallLine) → call_line_in p ≡ Ok line → tells_wrong_label above (form p.callee).labelled line.domain p.told ≡ false → IfSome (label_in line) (λ label. gives_request line.call ≡ true)
 line_right above p line h right = subst (λ (t : Option (List ℕ)). IfSome t (λ label. gives_request line.call ≡ true)) (sym (line_label p line h)) (told_right above p line p.told h right)
   where
-    told_right : (above : Scenario) (p : ReadParts) (line : CallLine) (told : Option (List ℕ)) → call_line_in p ≡ Ok line → tells_wrong_label above (row p.callee).labelled line.domain told ≡ false → IfSome told (λ label. gives_request line.call ≡ true)
+    told_right : (above : Scenario) (p : CallParts) (line : CallLine) (told : Option (List ℕ)) → call_line_in p ≡ Ok line → tells_wrong_label above (form p.callee).labelled line.domain told ≡ false → IfSome told (λ label. gives_request line.call ≡ true)
     told_right above p line None h right = tt
-    told_right above p line (Some label) h right = line_gives p line h (right_told above (row p.callee).labelled line.domain label right)
+    told_right above p line (Some label) h right = line_gives p line h (right_told above (form p.callee).labelled line.domain label right)

@@ -4,8 +4,9 @@ pub mod FrontLemmas
 pub mod NumeralLemmas
 pub mod LabelLemmas
 pub mod ShapeLemmas
-pub mod LabelledLines
+pub mod TableLemmas
 pub mod CallLemmas
+pub mod LabelledLines
 pub mod TellingLemmas
 pub mod FewCalls
 pub mod DecimalLemmas
@@ -13,10 +14,8 @@ pub mod SpacedLemmas
 pub mod PlainLemmas
 pub mod NameWordLemmas
 pub mod ByteWordLemmas
-pub mod CanonicalCalls
 pub mod CanonicalLines
 pub mod CanonicalCallLines
-pub mod ToldParts
 pub mod LinesTold
 pub mod ReadBack
 mod SearchLemmas

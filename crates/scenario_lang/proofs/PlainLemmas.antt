@@ -6,8 +6,7 @@ use Rattle.std.proofs.lemmas.Bool.{and_parts, and_from}
 use Rattle.std.proofs.lemmas.Bool.Decides.{nat_tests}
 use Rattle.std.proofs.lemmas.List.{append-nil}
 use Rattle.std.proofs.lemmas.Fmt.{length-decimal-le}
-use Rattle.board_model.specs.Grammar.{is_letter_byte, is_label_byte}
-use Rattle.board_model.specs.FileWords.{is_digit, is_label}
+use Rattle.board_model.specs.FileWords.{is_digit, is_letter_byte, is_label_byte, is_label}
 use Rattle.scenario_lang.proofs.Options.{cases_bool}
 use Rattle.scenario_lang.proofs.DecimalLemmas.{Begins, decimal-begins, decimal-digits}
 use Rattle.scenario_lang.proofs.SpacedLemmas.{is_seen, is_word}

@@ -7,41 +7,37 @@ use Rattle.board_model.specs.declared.scenario.CallLine.{CallLine}
 use Rattle.board_model.specs.declared.reason.LineReason.{LineReason}
 use Rattle.board_model.specs.FileLines.{begins_with, words_of, parts_at}
 use Rattle.board_model.specs.FileWords.{numeral, number, is_number, are_bytes, is_label}
-use Rattle.board_model.specs.Forms.{CallParts, call_parts, numerals, contents, arguments_numerals, arguments_contents, call_line, told_fits, arguments_fit, callee_form, call_form, told_at, tries_at, parts_of}
-use Rattle.board_model.specs.LineReasons.{is_domain, is_text_byte, tells_wrong_label, uses_wrong_label, line_reason, with_parts}
+use Rattle.board_model.specs.Forms.{form, callee_of, CallParts, call_parts, numerals, contents, arguments_numerals, arguments_contents, arguments_labels, call_line, told_fits, tries_fit, arguments_fit, callee_form, call_form, told_at, tries_at, parts_of}
+use Rattle.board_model.specs.LineReasons.{is_domain, is_text_byte, tells_wrong_label, names_wrong_label, line_reason, with_parts}
 use Rattle.board_model.specs.Language.{RefusedLine, refused, unless_refused, told_from}
-use Rattle.scenario_lang.specs.declared.callee.Callee.{Callee}
-use Rattle.scenario_lang.specs.declared.callee.Callee.TheVariants as callee
+use Rattle.board_model.specs.declared.form.Callee.{Callee}
 use Rattle.scenario_lang.specs.declared.fault.LineFault.{LineFault}
 use Rattle.scenario_lang.specs.declared.fault.LineFault.TheVariants as line_fault
 use Rattle.scenario_lang.specs.Refused.{IfRefused}
 use Rattle.scenario_lang.specs.Fronts.{two_parts}
-use Rattle.scenario_lang.specs.Reading.{◌>>=◌, Fails, or_form, next_word, ReadParts, row, callee_of, if_fits, parts_in, call_line_in}
-use Rattle.scenario_lang.specs.Telling.{tell_call, call_told, used_word, is_no_request, words_told, line_told, answered, parts_told, fault_at}
+use Rattle.scenario_lang.specs.Reading.{◌>>=◌, Fails, or_form, next_word, if_right, parts_in, call_line_in}
+use Rattle.scenario_lang.specs.Telling.{tell_call, call_told, words_told, line_told, answered, parts_told, fault_at}
 use Rattle.scenario_lang.proofs.Options.{cases_bool, cases_option}
-use Rattle.scenario_lang.proofs.CallLemmas.{checked, form_in-callee, call_checked}
+use Rattle.scenario_lang.proofs.CallLemmas.{checked, call-checked}
 use Rattle.scenario_lang.proofs.ShapeLemmas.{domain_bridge, link_bridge}
 
-abbrev read : (d n : List ℕ) → (told tries : Option (List ℕ)) → Callee → List (List ℕ) → ReadParts
-read d n told tries c args = record { domain = d; node = n; told = told; tries = tries; callee = c; arguments = args }
-
 abbrev parts : (d n : List ℕ) → (told tries : Option (List ℕ)) → Callee → List (List ℕ) → CallParts
-parts d n told tries c args = record { domain = d; node = n; told = told; tries = tries; form = row c; arguments = args }
+parts d n told tries c args = record { domain = d; node = n; told = told; tries = tries; callee = c; arguments = args }
 
 told_some : (labelled : Bool) (word : List ℕ) → told_fits labelled (Some word) ≡ is_label word
 told_some true word = refl
 told_some false word = refl
 
-line_checked : (d n : List ℕ) (told tries : Option (List ℕ)) (c : Callee) (args : List (List ℕ)) → told_fits (row c).labelled told ≡ true → arguments_fit (row c).arguments args ≡ true → call_line_in (read d n told tries c args) ≡ checked (numerals (call_parts (parts d n told tries c args))) (contents (call_parts (parts d n told tries c args))) (call_line (parts d n told tries c args))
+line_checked : (d n : List ℕ) (told tries : Option (List ℕ)) (c : Callee) (args : List (List ℕ)) → told_fits (form c).labelled told ≡ true → arguments_fit (form c).arguments args ≡ true → call_line_in (parts d n told tries c args) ≡ checked (numerals (call_parts (parts d n told tries c args))) (contents (call_parts (parts d n told tries c args))) (call_line (parts d n told tries c args))
 unfolding call_line_in
 line_checked d n None None c args right fit =
     elim (cases_bool (is_number (numeral 0 7 d))) [
       | inr bad ↦ rw bad refl
       | inl one ↦ elim (cases_bool (is_number (numeral 0 15 n))) [
         | inr bad ↦ rw (one, bad) refl
-        | inl two ↦ elim (cases_bool (list_all is_number (arguments_numerals (row c).arguments args))) [
-          | inr bad ↦ rw (one, two, call_checked c args fit, bad) refl
-          | inl numbers ↦ elim (cases_bool (list_all are_bytes (arguments_contents (row c).arguments args))) [ inl h ↦ rw (one, two, call_checked c args fit, numbers, h) refl | inr h ↦ rw (one, two, call_checked c args fit, numbers, h) refl ]
+        | inl two ↦ elim (cases_bool (list_all is_number (arguments_numerals (form c).arguments 0 args))) [
+          | inr bad ↦ rw (one, two, call-checked c args fit, bad) refl
+          | inl numbers ↦ elim (cases_bool (list_all are_bytes (arguments_contents (form c).arguments args))) [ inl h ↦ rw (one, two, call-checked c args fit, numbers, h) refl | inr h ↦ rw (one, two, call-checked c args fit, numbers, h) refl ]
         ]
       ]
     ]
@@ -52,68 +48,53 @@ line_checked d n None (Some k) c args right fit =
         | inr bad ↦ rw (one, bad) refl
         | inl two ↦ elim (cases_bool (is_number (numeral 1 4294967295 k))) [
           | inr bad ↦ rw (one, two, bad) refl
-          | inl tried ↦ elim (cases_bool (list_all is_number (arguments_numerals (row c).arguments args))) [
-            | inr bad ↦ rw (one, two, tried, call_checked c args fit, bad) refl
-            | inl numbers ↦ elim (cases_bool (list_all are_bytes (arguments_contents (row c).arguments args))) [ inl h ↦ rw (one, two, tried, call_checked c args fit, numbers, h) refl | inr h ↦ rw (one, two, tried, call_checked c args fit, numbers, h) refl ]
+          | inl tried ↦ elim (cases_bool (list_all is_number (arguments_numerals (form c).arguments 0 args))) [
+            | inr bad ↦ rw (one, two, tried, call-checked c args fit, bad) refl
+            | inl numbers ↦ elim (cases_bool (list_all are_bytes (arguments_contents (form c).arguments args))) [ inl h ↦ rw (one, two, tried, call-checked c args fit, numbers, h) refl | inr h ↦ rw (one, two, tried, call-checked c args fit, numbers, h) refl ]
           ]
         ]
       ]
     ]
 line_checked d n (Some l) None c args right fit =
-    let here : is_label l ≡ true = sym (told_some (row c).labelled l) ∙ right in
+    let here : is_label l ≡ true = sym (told_some (form c).labelled l) ∙ right in
     elim (cases_bool (is_number (numeral 0 7 d))) [
       | inr bad ↦ rw bad refl
       | inl one ↦ elim (cases_bool (is_number (numeral 0 15 n))) [
         | inr bad ↦ rw (one, bad) refl
-        | inl two ↦ elim (cases_bool (list_all is_number (arguments_numerals (row c).arguments args))) [
-          | inr bad ↦ rw (one, two, here, call_checked c args fit, bad) refl
-          | inl numbers ↦ elim (cases_bool (list_all are_bytes (arguments_contents (row c).arguments args))) [ inl h ↦ rw (one, two, here, call_checked c args fit, numbers, h) refl | inr h ↦ rw (one, two, here, call_checked c args fit, numbers, h) refl ]
+        | inl two ↦ elim (cases_bool (list_all is_number (arguments_numerals (form c).arguments 0 args))) [
+          | inr bad ↦ rw (one, two, here, call-checked c args fit, bad) refl
+          | inl numbers ↦ elim (cases_bool (list_all are_bytes (arguments_contents (form c).arguments args))) [ inl h ↦ rw (one, two, here, call-checked c args fit, numbers, h) refl | inr h ↦ rw (one, two, here, call-checked c args fit, numbers, h) refl ]
         ]
       ]
     ]
 line_checked d n (Some l) (Some k) c args right fit =
-    let here : is_label l ≡ true = sym (told_some (row c).labelled l) ∙ right in
+    let here : is_label l ≡ true = sym (told_some (form c).labelled l) ∙ right in
     elim (cases_bool (is_number (numeral 0 7 d))) [
       | inr bad ↦ rw bad refl
       | inl one ↦ elim (cases_bool (is_number (numeral 0 15 n))) [
         | inr bad ↦ rw (one, bad) refl
         | inl two ↦ elim (cases_bool (is_number (numeral 1 4294967295 k))) [
           | inr bad ↦ rw (one, two, bad) refl
-          | inl tried ↦ elim (cases_bool (list_all is_number (arguments_numerals (row c).arguments args))) [
-            | inr bad ↦ rw (one, two, tried, here, call_checked c args fit, bad) refl
-            | inl numbers ↦ elim (cases_bool (list_all are_bytes (arguments_contents (row c).arguments args))) [ inl h ↦ rw (one, two, tried, here, call_checked c args fit, numbers, h) refl | inr h ↦ rw (one, two, tried, here, call_checked c args fit, numbers, h) refl ]
+          | inl tried ↦ elim (cases_bool (list_all is_number (arguments_numerals (form c).arguments 0 args))) [
+            | inr bad ↦ rw (one, two, tried, here, call-checked c args fit, bad) refl
+            | inl numbers ↦ elim (cases_bool (list_all are_bytes (arguments_contents (form c).arguments args))) [ inl h ↦ rw (one, two, tried, here, call-checked c args fit, numbers, h) refl | inr h ↦ rw (one, two, tried, here, call-checked c args fit, numbers, h) refl ]
           ]
         ]
       ]
     ]
 
--- the label that a call names
-used_same : (above : Scenario) (d : ℕ) (c : Callee) (args : List (List ℕ)) → arguments_fit (row c).arguments args ≡ true → uses_wrong_label above d ((row c).makes args) ≡ is_no_request above d (used_word c args)
-used_same above d callee.Create args fit = refl
-used_same above d callee.Delete args fit = refl
-used_same above d callee.Lookup args fit = refl
-used_same above d callee.MsgSend args fit = refl
-used_same above d callee.MsgRecv args fit = refl
-used_same above d callee.MsgRecvI args fit = refl
-used_same above d callee.MsgAvailable args fit = refl
-used_same above d callee.Test [] fit = absurd cc
-used_same above d callee.Test (w ∷ ws) fit = refl
-used_same above d callee.Cancel [] fit = absurd cc
-used_same above d callee.Cancel (w ∷ ws) fit = refl
-used_same above d callee.Turn args fit = refl
-
-checked_told : (above : Scenario) (d n : List ℕ) (told tries : Option (List ℕ)) (c : Callee) (args : List (List ℕ)) → arguments_fit (row c).arguments args ≡ true → (checked (numerals (call_parts (parts d n told tries c args))) (contents (call_parts (parts d n told tries c args))) (call_line (parts d n told tries c args)) >>= tell_call above (read d n told tries c args)) ≡ parts_told above (Some (call_parts (parts d n told tries c args)))
+checked_told : (above : Scenario) (d n : List ℕ) (told tries : Option (List ℕ)) (c : Callee) (args : List (List ℕ)) → arguments_fit (form c).arguments args ≡ true → (checked (numerals (call_parts (parts d n told tries c args))) (contents (call_parts (parts d n told tries c args))) (call_line (parts d n told tries c args)) >>= tell_call above (parts d n told tries c args)) ≡ parts_told above (Some (call_parts (parts d n told tries c args)))
 checked_told above d n told tries c args fit = elim (cases_bool (list_all is_number (numerals (call_parts (parts d n told tries c args))))) [
   | inr bad ↦ rw bad refl
   | inl numbers ↦ elim (cases_bool (list_all are_bytes (contents (call_parts (parts d n told tries c args))))) [
     | inr bad ↦ rw (numbers, bad) refl
     | inl some_bytes ↦ elim (cases_bool (is_domain above (number d))) [
       | inr bad ↦ rw (numbers, some_bytes, bad) refl
-      | inl known ↦ elim (cases_bool (tells_wrong_label above (row c).labelled (number d) told)) [
+      | inl known ↦ elim (cases_bool (tells_wrong_label above (form c).labelled (number d) told)) [
         | inl bad ↦ rw (numbers, some_bytes, known, bad) refl
-        | inr right ↦ elim (cases_bool (is_no_request above (number d) (used_word c args))) [
-          | inl bad ↦ rw (numbers, some_bytes, known, right, used_same above (number d) c args fit, bad) refl
-          | inr good ↦ rw (numbers, some_bytes, known, right, used_same above (number d) c args fit, good) refl
+        | inr right ↦ elim (cases_bool (names_wrong_label above (number d) (arguments_labels (form c).arguments args))) [
+          | inl bad ↦ rw (numbers, some_bytes, known, right, bad) refl
+          | inr good ↦ rw (numbers, some_bytes, known, right, good) refl
         ]
       ]
     ]
@@ -122,22 +103,28 @@ checked_told above d n told tries c args fit = elim (cases_bool (list_all is_num
 
 -- the words after label and tries
 abbrev after_tries : Scenario → (d n : List ℕ) → (told tries : Option (List ℕ)) → List (List ℕ) → Result Scenario LineReason
-after_tries above d n told tries words = (next_word words >>= λ name. or_form (callee_of name.0) >>= λ c. if_fits (read d n told tries c name.1)) >>= λ p. call_line_in p >>= λ line. tell_call above p line
+after_tries above d n told tries words = (next_word words >>= λ name. or_form (callee_of name.0) >>= λ c. if_right (parts d n told tries c name.1)) >>= λ p. call_line_in p >>= λ line. tell_call above p line
 
 callee_bridge : (above : Scenario) (d n : List ℕ) (told tries : Option (List ℕ)) (words : List (List ℕ)) → after_tries above d n told tries words ≡ parts_told above (callee_form d n told tries words)
 callee_bridge above d n told tries [] = refl
 callee_bridge above d n told tries (word ∷ args) = elim (cases_option (callee_of word)) [
-  | inl unknown ↦ rw (form_in-callee word, unknown) refl
-  | inr known ↦ elim (cases_bool (told_fits (row known.0).labelled told)) [
-    | inr bad ↦ rw (form_in-callee word, known.1, bad) refl
-    | inl right ↦ elim (cases_bool (arguments_fit (row known.0).arguments args)) [
-      | inr bad ↦ rw (form_in-callee word, known.1, right, bad) refl
-      | inl fit ↦ rw (form_in-callee word, known.1, right, fit) (ap (λ (r : Result CallLine LineReason). r >>= tell_call above (read d n told tries known.0 args)) (line_checked d n told tries known.0 args right fit) ∙ checked_told above d n told tries known.0 args fit)
-    ]
-  ]
+  | inl unknown ↦ rw unknown refl
+  | inr known ↦
+      let c : Callee = known.0 in
+      let p : CallParts = parts d n told tries c args in
+      elim (cases_bool (told_fits (form c).labelled told)) [
+        | inr bad ↦ rw (known.1, bad) refl
+        | inl right ↦ elim (cases_bool (tries_fit (form c).tried tries)) [
+          | inr bad ↦ rw (known.1, right, bad) refl
+          | inl tried ↦ elim (cases_bool (arguments_fit (form c).arguments args)) [
+            | inr bad ↦ rw (known.1, right, tried, bad) refl
+            | inl fit ↦ rw (known.1, right, tried, fit) (ap (λ (r : Result CallLine LineReason). r >>= tell_call above p) (line_checked d n told tries c args right fit) ∙ checked_told above d n told tries c args fit)
+          ]
+        ]
+      ]
 ]
 
-caller_bridge : (above : Scenario) (caller words : List (List ℕ)) → ((or_form (two_parts caller) >>= λ who. next_word (tries_at (told_at words).1).1 >>= λ name. or_form (callee_of name.0) >>= λ c. if_fits (read who.0 who.1 (told_at words).0 (tries_at (told_at words).1).0 c name.1)) >>= λ p. call_line_in p >>= λ line. tell_call above p line) ≡ parts_told above (call_form caller words)
+caller_bridge : (above : Scenario) (caller words : List (List ℕ)) → ((or_form (two_parts caller) >>= λ who. next_word (tries_at (told_at words).1).1 >>= λ name. or_form (callee_of name.0) >>= λ c. if_right (parts who.0 who.1 (told_at words).0 (tries_at (told_at words).1).0 c name.1)) >>= λ p. call_line_in p >>= λ line. tell_call above p line) ≡ parts_told above (call_form caller words)
 caller_bridge above [] words = refl
 caller_bridge above (d ∷ []) words = refl
 caller_bridge above (d ∷ n ∷ []) words = callee_bridge above d n (told_at words).0 (tries_at (told_at words).1).0 (tries_at (told_at words).1).1

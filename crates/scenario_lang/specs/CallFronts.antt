@@ -1,6 +1,10 @@
--- What stands before the words of a call in its line.
+-- The pieces in which the line of a call is put: what stands before its words, and its arguments.
 -- Source: docs/FORMATS.md, "Scenario files".
 use Rattle.std.specs.Prelude.{ℕ, List, [], ◌∷◌, ◌++◌, codes, decimal, Option, None, Some}
+use Rattle.mc_base.specs.Text.{hex_text}
+use Rattle.board_model.specs.Grammar.{name_text}
+use Rattle.scenario_lang.specs.declared.canonical.Argument.{Argument}
+use Rattle.scenario_lang.specs.declared.canonical.Argument.TheVariants.{Number, Name, Content, Label}
 
 -- what stands before a call for its label
 abbrev pub label_front : Option (List ℕ) → List ℕ
@@ -11,3 +15,14 @@ label_front (Some label) = label ++ codes " = "
 abbrev pub tries_front : Option ℕ → List ℕ
 tries_front None = []
 tries_front (Some tries) = codes "try " ++ (decimal tries ++ (32 ∷ []))
+
+-- an argument as its word
+abbrev pub argument_word : Argument → List ℕ
+argument_word (Number n) = decimal n
+argument_word (Name name) = name_text name
+argument_word (Content bytes) = hex_text bytes.now
+argument_word (Label label) = label.now
+
+-- and with a blank before it
+abbrev pub blank_then : Argument → List ℕ
+blank_then argument = 32 ∷ argument_word argument

@@ -1,6 +1,6 @@
 -- What a line tells after those above it, or the first reason for which it is refused, in the order in which a reader asks.
 -- Source: docs/FORMATS.md, "Scenario files"; `board_model` has the table of reasons.
-use Rattle.std.specs.Prelude.{◌≡◌, ℕ, Bool, false, not, ◌&&◌, List, [], ◌∷◌, length, codes, bytes_eq, nat_lt, ◌==◌, Option, None, Some, Result, Ok, Err, if◌then◌else◌}
+use Rattle.std.specs.Prelude.{◌≡◌, ℕ, Bool, not, ◌&&◌, List, [], ◌∷◌, length, codes, bytes_eq, nat_lt, ◌==◌, Option, None, Some, Result, Ok, Err, if◌then◌else◌}
 use Rattle.std.specs.List.{list_all, list_any}
 use Rattle.std.specs.Borrow.{Bor}
 use Rattle.board_model.specs.declared.scenario.DomainLine.{DomainLine}
@@ -9,15 +9,13 @@ use Rattle.board_model.specs.declared.scenario.Scenario.{Scenario}
 use Rattle.board_model.specs.declared.reason.LineReason.{LineReason}
 use Rattle.board_model.specs.declared.reason.LineReason.TheVariants.{Byte, Long, Order, Domain, Link, Label}
 use Rattle.board_model.specs.FileLines.{begins_with, words_of}
-use Rattle.board_model.specs.Forms.{LineParts, says_domain, says_link, says_call}
-use Rattle.board_model.specs.LineReasons.{is_text_byte, is_late, is_domain, has_wrong_domain, has_wrong_link, tells_wrong_label, is_told, is_request, first_reason, word_reasons, with_statement, with_parts}
-use Rattle.scenario_lang.specs.declared.callee.Callee.{Callee}
-use Rattle.scenario_lang.specs.declared.callee.Callee.TheVariants as callee
+use Rattle.board_model.specs.Forms.{form, arguments_labels, CallParts, LineParts, says_domain, says_link, says_call}
+use Rattle.board_model.specs.LineReasons.{is_text_byte, is_late, is_domain, has_wrong_domain, has_wrong_link, tells_wrong_label, names_wrong_label, is_told, is_request, first_reason, word_reasons, with_statement, with_parts}
 use Rattle.scenario_lang.specs.declared.fault.LineFault.{LineFault}
 use Rattle.scenario_lang.specs.declared.fault.LineFault.TheVariants as line_fault
 use Rattle.scenario_lang.specs.declared.fault.ScenarioFault.{ScenarioFault}
 use Rattle.scenario_lang.specs.declared.fault.ScenarioFault.TheVariants as scenario_fault
-use Rattle.scenario_lang.specs.Reading.{◌>>=◌, ReadParts, row, domain_in, link_in, parts_in, call_line_in}
+use Rattle.scenario_lang.specs.Reading.{◌>>=◌, domain_in, link_in, parts_in, call_line_in}
 
 abbrev pub tell_domain : Scenario → DomainLine → Result Scenario LineReason
 tell_domain above line = if is_late above (says_domain line) then Err Order else if is_domain above line.domain then Err Domain else Ok (with_statement above (says_domain line))
@@ -39,21 +37,11 @@ link_told above words = do
   line ← link_in words
   tell_link above line
 
--- the word of the label that a call names
-abbrev pub used_word : Callee → List (List ℕ) → Option (List ℕ)
-used_word callee.Test (w ∷ ws) = Some w
-used_word callee.Cancel (w ∷ ws) = Some w
-used_word other words = None
-
-abbrev pub is_no_request : Scenario → ℕ → Option (List ℕ) → Bool
-is_no_request above d None = false
-is_no_request above d (Some label) = not (is_request above d label)
-
-abbrev pub tell_call : Scenario → ReadParts → CallLine → Result Scenario LineReason
+abbrev pub tell_call : Scenario → CallParts → CallLine → Result Scenario LineReason
 tell_call above p line =
     if not (is_domain above line.domain) then Err Domain
-    else if tells_wrong_label above (row p.callee).labelled line.domain p.told then Err Label
-    else if is_no_request above line.domain (used_word p.callee p.arguments) then Err Label
+    else if tells_wrong_label above (form p.callee).labelled line.domain p.told then Err Label
+    else if names_wrong_label above line.domain (arguments_labels (form p.callee).arguments p.arguments) then Err Label
     else Ok (with_statement above (says_call line))
 
 unfoldable pub call_told : Scenario → List ℕ → List (List ℕ) → Result Scenario LineReason

@@ -2,23 +2,23 @@
 
 ghost use Rattle.std.specs.Prelude.{◌≡◌, true, OnOk, IfErr, IfSome, option_map};
 ghost use Rattle.std.specs.List.{list_any, list_all};
-ghost use Rattle.board_model.specs.LineReasons.{tells_wrong_label, is_same_pair, gives_request, with_statement};
+ghost use Rattle.board_model.specs.LineReasons.{tells_wrong_label, names_wrong_label, is_same_pair, gives_request, with_statement};
 ghost use Rattle.board_model.specs.LineReasons.{is_domain as tells_domain, is_text_byte as is_of_text, is_link_size as is_size};
-ghost use Rattle.board_model.specs.Forms.{says_call};
+ghost use Rattle.board_model.specs.Forms.{argument_labels, arguments_labels, says_call};
 ghost use Rattle.board_model.specs.FileLines.{begins_with};
 ghost use Rattle.board_model.specs.Language.{nothing_told};
 ghost use Rattle.board_model.specs.Scenario.{label_in};
 ghost use Rattle.scenario_lang.specs.declared.fault.LineFault.TheVariants.{NoMemory as no_memory};
-ghost use Rattle.scenario_lang.specs.Reading.{Answers, seen, row};
-ghost use Rattle.scenario_lang.specs.Telling.{used_word, is_no_request, Keeps, domain_told, link_told, call_told, words_told, line_told};
+ghost use Rattle.scenario_lang.specs.Reading.{Answers, seen};
+ghost use Rattle.scenario_lang.specs.Telling.{Keeps, domain_told, link_told, call_told, words_told, line_told};
 
-use crate::callee::Callee;
 use crate::calls::{call_line, call_parts};
 use crate::fault::LineFault;
 use crate::forms::{domain_line, link_line};
 use crate::labels::Labels;
 use crate::lines::find_words;
-use board_model::{CallLine, LineReason, LinkLine, Scenario, Seq};
+use crate::table::row_of;
+use board_model::{ArgumentKind, CallLine, LineReason, LinkLine, Scenario, Seq};
 use std::alloc::Global;
 
 /// The most bytes of a line.
@@ -72,16 +72,6 @@ fn is_link_size(size: u64) -> bool
     matches!(size, 2 | 4 | 8 | 16 | 32 | 64 | 128 | 256)
 }
 
-/// The label that a call names.
-fn used<'a>(callee: Callee, words: &[&'a [u8]]) -> Option<&'a [u8]>
-    ensures { option_map (λ l. l.now) result ≡ used_word callee (seen words.now) }
-{
-    match callee {
-        Callee::Test | Callee::Cancel => words.first().copied(),
-        _ => None,
-    }
-}
-
 fn is_comment(word: &[u8]) -> bool
     ensures { result ≡ begins_with 35 word.now }
 {
@@ -107,25 +97,39 @@ impl<'a> Above<'a> {
     }
 
     /// Whether a label stands before a call that has none, or was told before in its domain.
-    fn is_told_wrong(&self, callee: Callee, domain: u8, told: Option<&'a [u8]>) -> bool
+    fn is_told_wrong(&self, labelled: bool, domain: u8, told: Option<&'a [u8]>) -> bool
         requires { Keeps self.now.labels.told.keys self.now.told }
-        ensures { result ≡ tells_wrong_label self.now.told (row callee).labelled domain (option_map (λ w. w.now) told.entry) }
+        ensures { result ≡ tells_wrong_label self.now.told labelled domain (option_map (λ w. w.now) told.entry) }
     {
         match told {
-            Some(label) => !callee.is_labelled() || self.labels.has(domain, label),
+            Some(label) => !labelled || self.labels.has(domain, label),
             None => false,
         }
     }
 
-    /// Whether a label is named that its domain has not told.
-    fn is_used_wrong(&self, domain: u8, used: Option<&'a [u8]>) -> bool
+    /// Whether an argument names a label that its domain has not told.
+    fn is_named_wrong(&self, domain: u8, kind: ArgumentKind, word: &'a [u8]) -> bool
         requires { Keeps self.now.labels.told.keys self.now.told }
-        ensures { result ≡ is_no_request self.now.told domain (option_map (λ w. w.now) used.entry) }
+        ensures { result ≡ names_wrong_label self.now.told domain (argument_labels kind word.now) }
     {
-        match used {
-            Some(label) => !self.labels.has(domain, label),
-            None => false,
+        match kind {
+            ArgumentKind::Label => !self.labels.has(domain, word),
+            _ => false,
         }
+    }
+
+    /// Whether any of the arguments names such a label.
+    fn are_named_wrong(&self, domain: u8, kinds: &[ArgumentKind], words: &[&'a [u8]]) -> bool
+        requires { Keeps self.now.labels.told.keys self.now.told }
+        ensures { result ≡ names_wrong_label self.now.told domain (arguments_labels kinds.now (seen words.now)) }
+    {
+        let [kind, kinds @ ..] = kinds else {
+            return false;
+        };
+        let [word, words @ ..] = words else {
+            return false;
+        };
+        self.is_named_wrong(domain, *kind, word) || self.are_named_wrong(domain, kinds, words)
     }
 
     /// Tells the line of a domain, by its words after the first.
@@ -193,8 +197,9 @@ impl<'a> Above<'a> {
         if !is_domain(&self.told, line.domain) {
             return Err(LineFault::Refused(LineReason::Domain));
         }
-        if self.is_told_wrong(parts.callee, line.domain, parts.told)
-            || self.is_used_wrong(line.domain, used(parts.callee, parts.arguments))
+        let row = row_of(parts.callee);
+        if self.is_told_wrong(row.labelled, line.domain, parts.told)
+            || self.are_named_wrong(line.domain, row.arguments, parts.arguments)
         {
             return Err(LineFault::Refused(LineReason::Label));
         }

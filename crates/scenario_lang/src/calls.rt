@@ -1,17 +1,17 @@
 //! A call line: `D.N [label =] [try K] call arguments`.
 
 ghost use Rattle.std.specs.Prelude.{◌≡◌, option_map};
-ghost use Rattle.board_model.specs.Forms.{are_three, arguments_fit, told_fits, told_at, tries_at};
-ghost use Rattle.board_model.specs.FileLines.{parts_at};
-ghost use Rattle.scenario_lang.specs.Reading.{Answers, seen, row, parts_in, tries_in, told_in, call_line_in};
+ghost use Rattle.board_model.specs.Forms.{argument_fits, arguments_fit, told_fits, tries_fit, told_at, tries_at};
+ghost use Rattle.scenario_lang.specs.Reading.{Answers, Reads, seen, parts_in, tries_in, told_in, call_line_in};
 ghost use Rattle.scenario_lang.specs.Parts.{read_parts};
 
-use crate::callee::Callee;
+use crate::arguments::{call, label};
 use crate::fault::LineFault;
-use crate::forms::{call, label, next};
+use crate::forms::next;
 use crate::lines::{caller, name_parts};
 use crate::numerals::{is_label, number};
-use board_model::{CallLine, Label, LineReason};
+use crate::table::{callee_of, row_of};
+use board_model::{ArgumentKind, CallLine, Callee, Label, LineReason};
 use std::alloc::Global;
 
 /// The parts of a call line, of which each is still a word.
@@ -25,7 +25,7 @@ pub(crate) struct CallParts<'w, 'a> {
     pub arguments: &'w [&'a [u8]],
 }
 
-/// The label that stands before a call, and the words after it.
+/// Takes off the label before a call.
 fn told<'w, 'a>(words: &'w [&'a [u8]]) -> (Option<&'a [u8]>, &'w [&'a [u8]])
     ensures { told_at (seen words.now) ≡ (option_map (λ w. w.now) result.0, seen result.1.now) }
 {
@@ -35,7 +35,7 @@ fn told<'w, 'a>(words: &'w [&'a [u8]]) -> (Option<&'a [u8]>, &'w [&'a [u8]])
     }
 }
 
-/// The number of tries that stands before a call, and the words after it.
+/// Takes off the number of tries before a call.
 fn tries<'w, 'a>(words: &'w [&'a [u8]]) -> (Option<&'a [u8]>, &'w [&'a [u8]])
     ensures { tries_at (seen words.now) ≡ (option_map (λ w. w.now) result.0, seen result.1.now) }
 {
@@ -45,55 +45,70 @@ fn tries<'w, 'a>(words: &'w [&'a [u8]]) -> (Option<&'a [u8]>, &'w [&'a [u8]])
     }
 }
 
-fn is_name(word: &[u8]) -> bool
-    ensures { result ≡ are_three (parts_at 58 word.now) }
-{
-    name_parts(word).is_some()
-}
-
-/// Whether the words have the form of the call's arguments.
-fn fit(callee: Callee, words: &[&[u8]]) -> bool
-    ensures { result ≡ arguments_fit (row callee).arguments (seen words.now) }
-{
-    match callee {
-        Callee::Create | Callee::Delete | Callee::MsgAvailable => words.len() == 1,
-        Callee::Lookup => words.len() == 1 && is_name(words[0]),
-        Callee::MsgSend => words.len() == 4 && is_name(words[1]),
-        Callee::MsgRecv | Callee::MsgRecvI => words.len() == 2,
-        Callee::Test | Callee::Cancel => words.len() == 1 && is_label(words[0]),
-        Callee::Turn => words.is_empty(),
-    }
-}
-
 /// Whether a label stands where the call needs one, and no other word in its place.
-fn is_told_right(callee: Callee, told: Option<&[u8]>) -> bool
-    ensures { result ≡ told_fits (row callee).labelled (option_map (λ w. w.now) told.entry) }
+fn is_told_right(labelled: bool, told: Option<&[u8]>) -> bool
+    ensures { result ≡ told_fits labelled (option_map (λ w. w.now) told.entry) }
 {
     match told {
         Some(word) => is_label(word),
-        None => !callee.is_labelled(),
+        None => !labelled,
     }
 }
 
-/// The parts of a call line, if its words fit a form.
+/// Whether the number of tries is left out where the call takes none.
+fn is_tried_right(tried: bool, tries: Option<&[u8]>) -> bool
+    ensures { result ≡ tries_fit tried (option_map (λ w. w.now) tries.entry) }
+{
+    tried || tries.is_none()
+}
+
+/// Whether a word has the form of an argument.
+fn is_argument(kind: ArgumentKind, word: &[u8]) -> bool
+    ensures { result ≡ argument_fits kind word.now }
+{
+    match kind {
+        ArgumentKind::Name => name_parts(word).is_some(),
+        ArgumentKind::Label => is_label(word),
+        _ => true,
+    }
+}
+
+/// Whether the words have the form of these arguments.
+fn are_arguments(kinds: &[ArgumentKind], words: &[&[u8]]) -> bool
+    ensures { result ≡ arguments_fit kinds.now (seen words.now) }
+{
+    let [kind, kinds @ ..] = kinds else {
+        return words.is_empty();
+    };
+    let [word, words @ ..] = words else {
+        return false;
+    };
+    is_argument(*kind, word) && are_arguments(kinds, words)
+}
+
+/// Takes the parts of a call line, whose words must fit a form.
 #[tactic(auto, unfolding(crate::specs::Reading::parts_in))]
 pub fn call_parts<'w, 'a>(
     first: &'a [u8],
     words: &'w [&'a [u8]],
-) -> Result<CallParts<'w, 'a>, LineFault>
-    ensures { Answers read_parts result (parts_in first.now (seen words.now)) }
+) -> Result<CallParts<'w, 'a>, LineReason>
+    ensures { Reads read_parts result (parts_in first.now (seen words.now)) }
 {
     let Some((domain, node)) = caller(first) else {
-        return Err(LineFault::Refused(LineReason::Form));
+        return Err(LineReason::Form);
     };
     let (told, rest) = told(words);
     let (tries, rest) = tries(rest);
     let (word, arguments) = next(rest)?;
-    let Some(callee) = Callee::of(word) else {
-        return Err(LineFault::Refused(LineReason::Form));
+    let Some(callee) = callee_of(word) else {
+        return Err(LineReason::Form);
     };
-    if !is_told_right(callee, told) || !fit(callee, arguments) {
-        return Err(LineFault::Refused(LineReason::Form));
+    let row = row_of(callee);
+    if !is_told_right(row.labelled, told)
+        || !is_tried_right(row.tried, tries)
+        || !are_arguments(row.arguments, arguments)
+    {
+        return Err(LineReason::Form);
     }
     Ok(CallParts {
         domain,
@@ -105,8 +120,8 @@ pub fn call_parts<'w, 'a>(
     })
 }
 
-fn tries_of(tries: Option<&[u8]>) -> Result<Option<u32>, LineFault>
-    ensures { Answers (λ tries. tries) result (tries_in (option_map (λ w. w.now) tries.entry)) }
+fn tries_of(tries: Option<&[u8]>) -> Result<Option<u32>, LineReason>
+    ensures { Reads (λ tries. tries) result (tries_in (option_map (λ w. w.now) tries.entry)) }
 {
     let Some(word) = tries else {
         return Ok(None);
@@ -115,8 +130,8 @@ fn tries_of(tries: Option<&[u8]>) -> Result<Option<u32>, LineFault>
     Ok(Some(tries as u32))
 }
 
-fn label_of(told: Option<&[u8]>) -> Result<Option<Label>, LineFault>
-    ensures { Answers (λ label. label) result (told_in (option_map (λ w. w.now) told.entry)) }
+fn label_of(told: Option<&[u8]>) -> Result<Option<Label>, LineReason>
+    ensures { Reads (λ label. label) result (told_in (option_map (λ w. w.now) told.entry)) }
 {
     let Some(word) = told else {
         return Ok(None);
@@ -125,7 +140,7 @@ fn label_of(told: Option<&[u8]>) -> Result<Option<Label>, LineFault>
     Ok(Some(label))
 }
 
-/// What a call line says.
+/// Reads a call line.
 #[tactic(auto, unfolding(crate::specs::Reading::call_line_in))]
 pub fn call_line(alloc: Global, parts: &CallParts<'_, '_>) -> Result<CallLine, LineFault>
     ensures { Answers (λ line. line) result (call_line_in (read_parts parts.now)) }

@@ -1,15 +1,17 @@
 //! The canonical text of a scenario, put piece by piece.
 
-ghost use Rattle.std.specs.Prelude.{◌≡◌, ◌++◌, ◌∷◌, [], codes, decimal};
+ghost use Rattle.std.specs.Prelude.{◌≡◌, ◌++◌, ◌∷◌, [], map, codes, decimal};
 ghost use Rattle.std.specs.List.{flat_map};
-ghost use Rattle.mc_base.specs.Text.{hex_text};
 ghost use Rattle.outer_io.specs.Puts.{Puts};
 ghost use Rattle.board_model.specs.Scenario.{label_in};
-ghost use Rattle.scenario_lang.specs.CallFronts.{label_front, tries_front};
+ghost use Rattle.board_model.specs.Forms.{form};
+ghost use Rattle.scenario_lang.specs.CallFronts.{label_front, tries_front, argument_word, blank_then};
 ghost use Rattle.board_model.specs.Grammar.{canonical, domain_text, link_text, call_text, call_words, caller_text, name_text, spaced, line_of};
 
-use board_model::{Call, CallLine, DomainLine, LinkLine, Scenario};
-use mc_base::{EndName, Priority};
+use self::Argument::{Content, Label, Name, Number};
+use crate::table::row_of;
+use board_model::{Call, CallLine, Callee, DomainLine, LinkLine, Scenario};
+use mc_base::EndName;
 use outer_io::{Sink, Writer};
 
 /// Puts the canonical text of a scenario. It takes no memory.
@@ -109,68 +111,86 @@ fn put_tries<K: Sink>(out: &mut Writer<'_, K>, tries: Option<u32>)
     }
 }
 
+/// An argument of a call, to be put as its word.
+#[derive(Clone, Copy)]
+enum Argument<'a> {
+    Number(u64),
+    Name(EndName),
+    Content(&'a [u8]),
+    Label(&'a [u8]),
+}
+
 fn put_call<K: Sink>(out: &mut Writer<'_, K>, call: &Call)
     ensures { Puts K.Sink out.old out.new (spaced (call_words call.now)) }
 {
     match call {
-        Call::Create { port } => put_create(out, *port),
-        Call::Delete { port } => put_delete(out, *port),
-        Call::Lookup { name } => put_lookup(out, *name),
+        Call::Create { port } => put_form(out, Callee::Create, &[Number(*port as u64)]),
+        Call::Delete { port } => put_form(out, Callee::Delete, &[Number(*port as u64)]),
+        Call::Lookup { name } => put_form(out, Callee::Lookup, &[Name(*name)]),
         Call::MsgSend {
             port,
             to,
             priority,
             bytes,
-        } => put_send(out, *port, *to, *priority, bytes.as_slice()),
-        Call::MsgRecv { port, max } => put_receive(out, *port, *max),
-        Call::MsgRecvI { port, max } => put_request(out, *port, *max),
-        Call::MsgAvailable { port } => put_available(out, *port),
-        Call::Test { label } => put_test(out, label.as_slice()),
-        Call::Cancel { label } => put_cancel(out, label.as_slice()),
-        Call::Turn => out.put(b"turn"),
+        } => put_form(
+            out,
+            Callee::MsgSend,
+            &[
+                Number(*port as u64),
+                Name(*to),
+                Number(priority.number() as u64),
+                Content(bytes.as_slice()),
+            ],
+        ),
+        Call::MsgRecv { port, max } => put_form(
+            out,
+            Callee::MsgRecv,
+            &[Number(*port as u64), Number(*max as u64)],
+        ),
+        Call::MsgRecvI { port, max } => put_form(
+            out,
+            Callee::MsgRecvI,
+            &[Number(*port as u64), Number(*max as u64)],
+        ),
+        Call::MsgAvailable { port } => {
+            put_form(out, Callee::MsgAvailable, &[Number(*port as u64)])
+        }
+        Call::Test { label } => put_form(out, Callee::Test, &[Label(label.as_slice())]),
+        Call::Cancel { label } => put_form(out, Callee::Cancel, &[Label(label.as_slice())]),
+        Call::Turn => put_form(out, Callee::Turn, &[]),
     }
 }
 
-fn put_create<K: Sink>(out: &mut Writer<'_, K>, port: u16)
-    ensures { Puts K.Sink out.old out.new (spaced (codes "create" ∷ decimal port ∷ [])) }
+/// Puts the word of a call and its arguments.
+fn put_form<K: Sink>(out: &mut Writer<'_, K>, callee: Callee, arguments: &[Argument<'_>])
+    ensures { Puts K.Sink out.old out.new (spaced ((form callee).word ∷ map argument_word arguments.now)) }
 {
-    out.put(b"create ");
-    out.put_number(port as u64);
+    out.put(row_of(callee).word);
+    put_arguments(out, arguments);
 }
 
-fn put_delete<K: Sink>(out: &mut Writer<'_, K>, port: u16)
-    ensures { Puts K.Sink out.old out.new (spaced (codes "delete" ∷ decimal port ∷ [])) }
+fn put_arguments<K: Sink>(out: &mut Writer<'_, K>, arguments: &[Argument<'_>])
+    ensures { Puts K.Sink out.old out.new (flat_map blank_then arguments.now) }
 {
-    out.put(b"delete ");
-    out.put_number(port as u64);
+    for argument in arguments {
+        put_argument(out, *argument);
+    }
 }
 
-fn put_lookup<K: Sink>(out: &mut Writer<'_, K>, name: EndName)
-    ensures { Puts K.Sink out.old out.new (spaced (codes "lookup" ∷ name_text name ∷ [])) }
+/// Puts a blank and an argument.
+fn put_argument<K: Sink>(out: &mut Writer<'_, K>, argument: Argument<'_>)
+    ensures { Puts K.Sink out.old out.new (blank_then argument.entry) }
 {
-    out.put(b"lookup ");
-    put_name(out, name);
-}
-
-fn put_send<K: Sink>(
-    out: &mut Writer<'_, K>,
-    port: u16,
-    to: EndName,
-    priority: Priority,
-    bytes: &[u8],
-)
-    ensures { Puts K.Sink out.old out.new (spaced (codes "msg_send" ∷ decimal port ∷ name_text to ∷ decimal priority ∷ hex_text bytes.now ∷ [])) }
-{
-    out.put(b"msg_send ");
-    out.put_number(port as u64);
     out.put(b" ");
-    put_name(out, to);
-    out.put(b" ");
-    out.put_number(priority.number() as u64);
-    out.put(b" ");
-    out.put_hex(bytes);
+    match argument {
+        Number(number) => out.put_number(number),
+        Name(name) => put_name(out, name),
+        Content(bytes) => out.put_hex(bytes),
+        Label(label) => out.put(label),
+    }
 }
 
+/// Puts D:N:P.
 fn put_name<K: Sink>(out: &mut Writer<'_, K>, name: EndName)
     ensures { Puts K.Sink out.old out.new (name_text name) }
 {
@@ -179,43 +199,4 @@ fn put_name<K: Sink>(out: &mut Writer<'_, K>, name: EndName)
     out.put_number(name.node as u64);
     out.put(b":");
     out.put_number(name.port as u64);
-}
-
-fn put_receive<K: Sink>(out: &mut Writer<'_, K>, port: u16, max: u32)
-    ensures { Puts K.Sink out.old out.new (spaced (codes "msg_recv" ∷ decimal port ∷ decimal max ∷ [])) }
-{
-    out.put(b"msg_recv ");
-    out.put_number(port as u64);
-    out.put(b" ");
-    out.put_number(max as u64);
-}
-
-fn put_request<K: Sink>(out: &mut Writer<'_, K>, port: u16, max: u32)
-    ensures { Puts K.Sink out.old out.new (spaced (codes "msg_recv_i" ∷ decimal port ∷ decimal max ∷ [])) }
-{
-    out.put(b"msg_recv_i ");
-    out.put_number(port as u64);
-    out.put(b" ");
-    out.put_number(max as u64);
-}
-
-fn put_available<K: Sink>(out: &mut Writer<'_, K>, port: u16)
-    ensures { Puts K.Sink out.old out.new (spaced (codes "msg_available" ∷ decimal port ∷ [])) }
-{
-    out.put(b"msg_available ");
-    out.put_number(port as u64);
-}
-
-fn put_test<K: Sink>(out: &mut Writer<'_, K>, label: &[u8])
-    ensures { Puts K.Sink out.old out.new (spaced (codes "test" ∷ label.now ∷ [])) }
-{
-    out.put(b"test ");
-    out.put(label);
-}
-
-fn put_cancel<K: Sink>(out: &mut Writer<'_, K>, label: &[u8])
-    ensures { Puts K.Sink out.old out.new (spaced (codes "cancel" ∷ label.now ∷ [])) }
-{
-    out.put(b"cancel ");
-    out.put(label);
 }

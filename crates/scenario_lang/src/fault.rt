@@ -7,13 +7,24 @@ use board_model::LineReason;
 pub enum ScenarioFault {
     /// The line, counted from 1, is refused.
     Refused { line: u32, reason: LineReason },
-    /// Want of memory. It may come at any time.
+    /// Out of memory. It may come at any time.
     NoMemory,
 }
 
-/// Why reading stopped inside a line.
+/// Why reading stopped inside a line, where memory is taken. A reader that takes none returns a `LineReason`.
 #[derive(Clone, Copy)]
 pub(crate) enum LineFault {
     Refused(LineReason),
     NoMemory,
+}
+
+impl From<LineReason> for LineFault {
+    ghost use Rattle.std.specs.Prelude.{◌≡◌};
+    ghost use Rattle.scenario_lang.specs.declared.fault.LineFault.TheVariants as line_fault;
+
+    ghost from_gives = { λ reason e. e ≡ line_fault.Refused reason };
+
+    fn from(reason: LineReason) -> LineFault {
+        LineFault::Refused(reason)
+    }
 }

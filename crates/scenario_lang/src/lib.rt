@@ -6,7 +6,7 @@
 #![tactic(auto)]
 
 mod above;
-mod callee;
+mod arguments;
 mod calls;
 mod canonical;
 mod fault;
@@ -15,9 +15,10 @@ mod labels;
 mod lines;
 mod numerals;
 mod reading;
+mod table;
 mod writing;
 
-pub use board_model::LineReason;
+pub use board_model::{Call, CallLine, DomainLine, LineReason, LinkLine, Scenario};
 pub use canonical::put_scenario;
 pub use fault::ScenarioFault;
 pub use numerals::hex_digit;

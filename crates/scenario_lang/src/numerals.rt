@@ -1,18 +1,15 @@
 //! What a word says: a number, bytes or a label.
 
-ghost use Rattle.std.specs.Prelude.{◌≡◌, ◌≤◌, ◌^◌, ◌<◌, ◌*◌, ℕ, List, Some, None, true, false, nat_lt, if◌then◌else◌, length, IfOk, IfErr, IfSome, option_map};
+ghost use Rattle.std.specs.Prelude.{◌≡◌, ◌≤◌, ◌^◌, ◌<◌, ◌*◌, ℕ, List, Some, None, true, false, nat_lt, if◌then◌else◌, length, IfOk, IfSome, option_map};
 ghost use Rattle.board_model.specs.FileWords.{numeral, number_from, number_of, digit_value, pairs_of, bytes_of};
 ghost use Rattle.board_model.specs.FileWords.{is_digit as is_a_digit};
 ghost use Rattle.board_model.specs.FileWords.{is_label as spells_label, is_dash as spells_none};
 ghost use Rattle.std.specs.List.{list_all};
-ghost use Rattle.board_model.specs.declared.reason.LineReason.TheVariants.{Number as wrong_number};
-ghost use Rattle.scenario_lang.specs.declared.fault.LineFault.TheVariants.{Refused as refused};
-ghost use Rattle.scenario_lang.specs.Reading.{Answers, at_most, number_in, pairs_in, bytes_in};
-ghost use Rattle.board_model.specs.Grammar.{is_letter_byte, is_label_byte as is_of_label};
+ghost use Rattle.scenario_lang.specs.Reading.{Answers, Reads, at_most, number_in, some_bytes, pairs_in, bytes_in};
+ghost use Rattle.board_model.specs.FileWords.{is_letter_byte, is_label_byte as is_of_label};
 
 use crate::fault::LineFault;
 use board_model::LineReason;
-use mc_base::MAX_ASKED;
 use std::alloc::Global;
 
 fn is_digit(byte: u8) -> bool
@@ -56,15 +53,14 @@ fn number_to(most: u64, word: &[u8]) -> Option<u64>
     }
 }
 
-/// The number that a word writes, in its range.
-pub fn number(least: u64, most: u64, word: &[u8]) -> Result<u64, LineFault>
-    ensures number { Answers (λ n. n) result (number_in (numeral least most word.now)) }
-    ensures refused { IfErr result (λ e. e ≡ refused wrong_number) }
+/// Reads the number that a word writes, in its range.
+pub fn number(least: u64, most: u64, word: &[u8]) -> Result<u64, LineReason>
+    ensures number { Reads (λ n. n) result (number_in (numeral least most word.now)) }
     ensures within { IfOk result (λ n. n ≤ most) }
 {
     match number_to(most, word) {
         Some(value) if value >= least => Ok(value),
-        _ => Err(LineFault::Refused(LineReason::Number)),
+        _ => Err(LineReason::Number),
     }
 }
 
@@ -136,15 +132,22 @@ fn is_dash(word: &[u8]) -> bool
     }
 }
 
-/// The bytes that a word writes, of which there are at most 9,000.
-pub fn bytes(alloc: Global, word: &[u8]) -> Result<Vec<u8>, LineFault>
-    ensures { Answers (λ v. v.items) result (bytes_in word.now) }
+/// Reads the bytes that a word writes, however many they are.
+fn all_bytes(alloc: Global, word: &[u8]) -> Result<Vec<u8>, LineFault>
+    ensures { Answers (λ v. v.items) result (some_bytes (bytes_of word.now)) }
 {
     if is_dash(word) {
         return Ok(Vec::new(alloc));
     }
-    let bytes = pairs(alloc, word)?;
-    if bytes.len() > MAX_ASKED {
+    pairs(alloc, word)
+}
+
+/// Reads the bytes that a word writes, from `least` to `most` of them.
+pub fn bytes(alloc: Global, least: usize, most: usize, word: &[u8]) -> Result<Vec<u8>, LineFault>
+    ensures { Answers (λ v. v.items) result (bytes_in least most word.now) }
+{
+    let bytes = all_bytes(alloc, word)?;
+    if bytes.len() < least || bytes.len() > most {
         return Err(LineFault::Refused(LineReason::Bytes));
     }
     Ok(bytes)

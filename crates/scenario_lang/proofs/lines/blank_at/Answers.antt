@@ -1,5 +1,5 @@
 use Rattle.std.proofs.Common.{arith}
-use Rattle.memchr.specs.Find.{is_byte2, NoneBefore, Nowhere, Passes}
+use Rattle.memchr.specs.Find.{is_byte2}
 use Rattle.scenario_lang.proofs.SearchLemmas.{none_passes}
 use Rattle.scenario_lang.proofs.lines.blank_at.Goals as goal
 

@@ -1,5 +1,5 @@
 use Rattle.std.proofs.Common.{arith}
-use Rattle.memchr.specs.Find.{is_byte, NoneBefore, Nowhere, Passes}
+use Rattle.memchr.specs.Find.{is_byte}
 use Rattle.scenario_lang.proofs.SearchLemmas.{none_passes}
 use Rattle.scenario_lang.proofs.lines.line_length.Goals as goal
 

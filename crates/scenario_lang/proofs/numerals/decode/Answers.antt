@@ -1,4 +1,4 @@
-use Rattle.std.proofs.Common.{ap, ◌∙◌, ◌≡◌, ◌*◌, drop, length, arith, rules}
+use Rattle.std.proofs.Common.{arith, rules}
 use Rattle.board_model.specs.FileWords.{pairs_of}
 use Rattle.scenario_lang.proofs.NumeralLemmas.{decoded_step, nothing_before}
 use Rattle.scenario_lang.proofs.numerals.decode.Goals as goal

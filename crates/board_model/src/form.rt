@@ -1,0 +1,31 @@
+/// A call that a line may make. The table of forms in `specs/Forms.antt` has a row for each.
+#[derive(Clone, Copy, Debug, PartialEq, Eq)]
+pub enum Callee {
+    Create,
+    Delete,
+    Lookup,
+    MsgSend,
+    MsgRecv,
+    MsgRecvI,
+    MsgAvailable,
+    Test,
+    Cancel,
+    Turn,
+}
+
+/// What an argument of a call is.
+#[derive(Clone, Copy, Debug, PartialEq, Eq)]
+pub enum ArgumentKind {
+    /// PORT: the port of an endpoint of the caller's node, 0 to 65535.
+    Port,
+    /// D:N:P: the name of an endpoint.
+    Name,
+    /// PRIO: 0 to 3.
+    Priority,
+    /// BYTES: at most 9,000.
+    Content,
+    /// MAX: 0 to 9000.
+    Maximum,
+    /// LABEL: that of a request.
+    Label,
+}

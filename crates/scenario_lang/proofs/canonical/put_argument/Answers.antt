@@ -1,0 +1,14 @@
+use Rattle.outer_io.proofs.Writing.{puts_then}
+use Rattle.scenario_lang.proofs.canonical.put_argument.Goals as goal
+
+pub returns-in-Number : goal.returns-in-Number
+returns-in-Number g c = rw c.in-Number.is (puts_then _ _ _ _ _ _ c.put.ensures c.put_number.ensures)
+
+pub returns-in-Name : goal.returns-in-Name
+returns-in-Name g c = rw c.in-Name.is (puts_then _ _ _ _ _ _ c.put.ensures c.put_name.ensures)
+
+pub returns-in-Content : goal.returns-in-Content
+returns-in-Content g c = rw c.in-Content.is (puts_then _ _ _ _ _ _ c.put.ensures c.put_hex.ensures)
+
+pub returns-in-Label : goal.returns-in-Label
+returns-in-Label g c = rw c.in-Label.is (puts_then _ _ _ _ _ _ c.put.ensures c.put-in-Label.ensures)

@@ -1,0 +1,178 @@
+//! The arguments of a call, read one after the other from the words behind its name.
+
+ghost use Rattle.std.specs.Prelude.{◌≡◌, ◌≤◌, length};
+ghost use Rattle.board_model.specs.declared.form.ArgumentKind.TheVariants as kind;
+ghost use Rattle.scenario_lang.specs.Reading.{Answers, Reads, seen, next_word, name_at, label_in, argument_in, call_in};
+
+use crate::fault::LineFault;
+use crate::lines::name_parts;
+use crate::numerals::{bytes, is_label, number};
+use board_model::{Call, Callee, Label, LineReason, Seq};
+use mc_base::{EndName, MAX_ASKED, Priority};
+use std::alloc::Global;
+
+/// Words of arguments that are not read yet. Each method reads the next one.
+#[derive(Drop)]
+pub(crate) struct Arguments<'w, 'a> {
+    rest: &'w [&'a [u8]],
+}
+
+impl<'w, 'a> Arguments<'w, 'a> {
+    pub fn new(words: &'w [&'a [u8]]) -> Arguments<'w, 'a>
+        ensures { result.rest.now ≡ words.now }
+    {
+        Arguments { rest: words }
+    }
+
+    /// Takes the next word.
+    fn word(&mut self) -> Result<&'a [u8], LineReason>
+        ensures { Reads (λ x. (x.now, seen self.new.rest.now)) result (next_word (seen self.old.rest.now)) }
+    {
+        match self.rest {
+            [word, rest @ ..] => {
+                self.rest = rest;
+                Ok(*word)
+            }
+            [] => Err(LineReason::Form),
+        }
+    }
+
+    /// Reads PORT.
+    #[tactic(auto, unfolding(crate::specs::Reading::argument_in))]
+    pub fn port(&mut self) -> Result<u16, LineReason>
+        ensures { Reads (λ x. (x, seen self.new.rest.now)) result (argument_in kind.Port 0 (seen self.old.rest.now)) }
+    {
+        let word = self.word()?;
+        let port = number(0, 65_535, word)?;
+        Ok(port as u16)
+    }
+
+    /// Reads D:N:P.
+    #[tactic(auto, unfolding(crate::specs::Reading::argument_in), using(crate::proofs::CallLemmas::name_value))]
+    pub fn name(&mut self) -> Result<EndName, LineReason>
+        ensures { Reads (λ x. (x, seen self.new.rest.now)) result (argument_in kind.Name 0 (seen self.old.rest.now)) }
+    {
+        let word = self.word()?;
+        name(word)
+    }
+
+    /// Reads PRIO.
+    #[tactic(auto, unfolding(crate::specs::Reading::argument_in))]
+    pub fn priority(&mut self) -> Result<Priority, LineReason>
+        ensures { Reads (λ x. (x, seen self.new.rest.now)) result (argument_in kind.Priority 0 (seen self.old.rest.now)) }
+    {
+        let word = self.word()?;
+        let priority = number(0, 3, word)?;
+        Ok(Priority::new(priority as u8).unwrap())
+    }
+
+    /// Reads BYTES.
+    #[tactic(auto, unfolding(crate::specs::Reading::argument_in), using(crate::proofs::CallLemmas::bytes_value))]
+    pub fn content(&mut self, alloc: Global) -> Result<Vec<u8>, LineFault>
+        ensures { Answers (λ x. (x.items, seen self.new.rest.now)) result (argument_in kind.Content 0 (seen self.old.rest.now)) }
+    {
+        let word = self.word()?;
+        bytes(alloc, 0, MAX_ASKED, word)
+    }
+
+    /// Reads MAX.
+    #[tactic(auto, unfolding(crate::specs::Reading::argument_in))]
+    pub fn maximum(&mut self) -> Result<u32, LineReason>
+        ensures { Reads (λ x. (x, seen self.new.rest.now)) result (argument_in kind.Maximum 0 (seen self.old.rest.now)) }
+    {
+        let word = self.word()?;
+        let max = number(0, MAX_ASKED as u64, word)?;
+        Ok(max as u32)
+    }
+
+    /// Reads LABEL.
+    #[tactic(auto, unfolding(crate::specs::Reading::argument_in))]
+    pub fn label(&mut self) -> Result<Label, LineReason>
+        ensures { Reads (λ x. (x, seen self.new.rest.now)) result (argument_in kind.Label 0 (seen self.old.rest.now)) }
+    {
+        let word = self.word()?;
+        label(word)
+    }
+}
+
+/// Reads D:N:P.
+#[tactic(auto, unfolding(crate::specs::Reading::name_at))]
+fn name(word: &[u8]) -> Result<EndName, LineReason>
+    ensures { Reads (λ name. name) result (name_at word.now) }
+{
+    let Some((domain, node, port)) = name_parts(word) else {
+        return Err(LineReason::Form);
+    };
+    let domain = number(0, 7, domain)?;
+    let node = number(0, 15, node)?;
+    let port = number(0, 65_535, port)?;
+    Ok(EndName {
+        domain: domain as u8,
+        node: node as u8,
+        port: port as u16,
+    })
+}
+
+/// Copies the bytes of a label.
+fn label_from(word: &[u8]) -> Label
+    requires { length word.now ≤ 16 }
+    ensures { result.items ≡ word.now }
+{
+    let mut label = Label::new();
+    for byte in word {
+        label.push(*byte);
+    }
+    label
+}
+
+/// Reads a label.
+pub fn label(word: &[u8]) -> Result<Label, LineReason>
+    ensures { Reads (λ label. label) result (label_in word.now) }
+{
+    if !is_label(word) {
+        return Err(LineReason::Form);
+    }
+    Ok(label_from(word))
+}
+
+/// Reads a call with its arguments.
+pub fn call(alloc: Global, callee: Callee, words: &[&[u8]]) -> Result<Call, LineFault>
+    ensures { Answers (λ call. call) result (call_in callee (seen words.now)) }
+{
+    let mut arguments = Arguments::new(words);
+    match callee {
+        Callee::Create => Ok(Call::Create {
+            port: arguments.port()?,
+        }),
+        Callee::Delete => Ok(Call::Delete {
+            port: arguments.port()?,
+        }),
+        Callee::Lookup => Ok(Call::Lookup {
+            name: arguments.name()?,
+        }),
+        Callee::MsgSend => Ok(Call::MsgSend {
+            port: arguments.port()?,
+            to: arguments.name()?,
+            priority: arguments.priority()?,
+            bytes: Seq::new(arguments.content(alloc)?),
+        }),
+        Callee::MsgRecv => Ok(Call::MsgRecv {
+            port: arguments.port()?,
+            max: arguments.maximum()?,
+        }),
+        Callee::MsgRecvI => Ok(Call::MsgRecvI {
+            port: arguments.port()?,
+            max: arguments.maximum()?,
+        }),
+        Callee::MsgAvailable => Ok(Call::MsgAvailable {
+            port: arguments.port()?,
+        }),
+        Callee::Test => Ok(Call::Test {
+            label: arguments.label()?,
+        }),
+        Callee::Cancel => Ok(Call::Cancel {
+            label: arguments.label()?,
+        }),
+        Callee::Turn => Ok(Call::Turn),
+    }
+}
