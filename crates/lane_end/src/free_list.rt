@@ -88,7 +88,9 @@ impl FreeList {
         ensures left { buffers.new.items ≡ [] }
         ensures room { deque_capacity buffers.new ≡ deque_capacity buffers.old }
     {
-        self.buffers.append(buffers).unwrap();
+        if !buffers.is_empty() {
+            self.buffers.append(buffers).unwrap();
+        }
     }
 }
 

@@ -91,7 +91,9 @@ impl Inbox {
         ensures left { frames.new.items ≡ [] }
         ensures room { deque_capacity frames.new ≡ deque_capacity frames.old }
     {
-        self.frames.append(frames).unwrap();
+        if !frames.is_empty() {
+            self.frames.append(frames).unwrap();
+        }
     }
 }
 
