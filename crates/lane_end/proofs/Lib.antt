@@ -1,3 +1,11 @@
 pub mod CountLemmas
 pub mod LaneLemmas
 pub mod SoundLemmas
+pub mod EntryLemmas
+pub mod ReceiverLemmas
+pub mod SenderLemmas
+pub mod OpeningLemmas
+pub mod PrimingLemmas
+pub mod MeetingLemmas
+pub mod ExactLemmas
+pub mod AnyLaneLemmas

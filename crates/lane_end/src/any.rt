@@ -1,5 +1,6 @@
 //! Ends of any kind, for code that is not generic over its ends.
 
+use crate::opening::{DeviceRecv, DeviceSend, DriverRecv, DriverSend};
 use crate::plain_recv::PlainRecv;
 use crate::plain_send::PlainSend;
 use crate::recv_end::RecvEnd;
@@ -8,19 +9,27 @@ use mc_base::Buffer;
 
 /// A sending end of any kind.
 #[derive(Debug, Drop)]
-pub enum AnySend {
+pub enum AnySend<'a> {
     /// A sender in one memory with its receiver.
     Plain(PlainSend),
+    /// A sender over the driver's half of queue 1.
+    Driver(DriverSend<'a>),
+    /// A sender over the device's half of queue 0.
+    Device(DeviceSend<'a>),
 }
 
 /// A receiving end of any kind.
 #[derive(Debug, Drop)]
-pub enum AnyRecv {
+pub enum AnyRecv<'a> {
     /// A receiver in one memory with its sender.
     Plain(PlainRecv),
+    /// A receiver over the driver's half of queue 0.
+    Driver(DriverRecv<'a>),
+    /// A receiver over the device's half of queue 1.
+    Device(DeviceRecv<'a>),
 }
 
-impl SendEnd for AnySend {
+impl<'a> SendEnd for AnySend<'a> {
     ghost use Rattle.lane_end.specs.AnySender.{size_of_any, free_of_any, AnySends, AnySends-none, AnySends-both, AnySends-size};
 
     ghost size = { size_of_any };
@@ -38,23 +47,29 @@ impl SendEnd for AnySend {
     fn free_len(&self) -> u32 {
         match self {
             AnySend::Plain(end) => end.free_len(),
+            AnySend::Driver(end) => end.free_len(),
+            AnySend::Device(end) => end.free_len(),
         }
     }
 
     fn look(&mut self) -> u32 {
         match self {
             AnySend::Plain(end) => end.look(),
+            AnySend::Driver(end) => end.look(),
+            AnySend::Device(end) => end.look(),
         }
     }
 
     fn put(&mut self, frame: &[u8]) {
         match self {
             AnySend::Plain(end) => end.put(frame),
+            AnySend::Driver(end) => end.put(frame),
+            AnySend::Device(end) => end.put(frame),
         }
     }
 }
 
-impl RecvEnd for AnyRecv {
+impl<'a> RecvEnd for AnyRecv<'a> {
     ghost use Rattle.lane_end.specs.AnyReceiver.{size_of_any, shown_of_any, out_of_any, AnyReceives, AnyReceives-none, AnyReceives-both, AnyReceives-size};
 
     ghost size = { size_of_any };
@@ -74,18 +89,24 @@ impl RecvEnd for AnyRecv {
     fn look(&mut self) -> u32 {
         match self {
             AnyRecv::Plain(end) => end.look(),
+            AnyRecv::Driver(end) => end.look(),
+            AnyRecv::Device(end) => end.look(),
         }
     }
 
     fn take(&mut self) -> (Buffer, u32) {
         match self {
             AnyRecv::Plain(end) => end.take(),
+            AnyRecv::Driver(end) => end.take(),
+            AnyRecv::Device(end) => end.take(),
         }
     }
 
     fn give_back(&mut self, buffer: Buffer) {
         match self {
             AnyRecv::Plain(end) => end.give_back(buffer),
+            AnyRecv::Driver(end) => end.give_back(buffer),
+            AnyRecv::Device(end) => end.give_back(buffer),
         }
     }
 }

@@ -28,7 +28,7 @@ impl Carried {
 }
 
 // Copies a frame over the first bytes of a buffer.
-fn copy(frame: &[u8], out: &mut [u8])
+pub(crate) fn copy(frame: &[u8], out: &mut [u8])
     requires { length frame.now ≤ length out.old }
     ensures { take (length frame.now) out.new ≡ frame.now }
 {

@@ -1,7 +1,8 @@
 //! The ends of lanes. A lane carries frames one way, each in one of its buffers, and its size is how many it has.
 //!
 //! [`SendEnd`] and [`RecvEnd`] say what every end does, whatever carries the frames. Plain ends stand in one memory, and
-//! a shuttle carries between them; a [`LoopLane`] is both ends at once. Only making an end takes memory.
+//! a shuttle carries between them; a [`LoopLane`] is both ends at once. Ends over rings need no shuttle: [`open_queue1`] opens the
+//! lane from the driver of a link to its device, and [`open_queue0`] the lane back. Only making an end takes memory.
 #![tactic(auto)]
 
 mod any;
@@ -10,16 +11,26 @@ mod fault;
 mod free_list;
 mod inbox;
 mod loop_lane;
+mod meeting;
+mod opening;
 mod plain;
 mod plain_recv;
 mod plain_send;
+mod priming;
 mod recv_end;
+mod ring_half;
+mod ring_recv;
+mod ring_send;
 mod send_end;
 mod threads;
 
 pub use any::{AnyRecv, AnySend};
 pub use fault::LaneFault;
 pub use loop_lane::LoopLane;
+pub use meeting::{
+    ends_stay_of_one_ring, finished_ends_are_one_lane, looks_between_meetings_are_exact, meet_ends,
+};
+pub use opening::{DeviceRecv, DeviceSend, DriverRecv, DriverSend, open_queue0, open_queue1};
 pub use plain::{ends_stay_one_lane, plain_lane, shuttle};
 pub use plain_recv::PlainRecv;
 pub use plain_send::PlainSend;

@@ -2,16 +2,24 @@
 
 use crate::any::{AnyRecv, AnySend};
 use crate::loop_lane::LoopLane;
+use crate::opening::{DeviceRecv, DeviceSend, DriverRecv, DriverSend};
 use crate::plain_recv::PlainRecv;
 use crate::plain_send::PlainSend;
 
-fn crosses_threads<T: Send + Sync>() {}
+fn is_shared<T: Send + Sync>() {}
 
-/// Shows that the ends may move between threads, and that threads may share them.
-pub fn may_cross_threads() {
-    crosses_threads::<PlainSend>();
-    crosses_threads::<PlainRecv>();
-    crosses_threads::<LoopLane>();
-    crosses_threads::<AnySend>();
-    crosses_threads::<AnyRecv>();
+fn moves<T: Send>() {}
+
+/// Shows that all ends may move between threads, and that threads may share those that stand in one memory. An end over a
+/// ring is one thread's at a time.
+pub fn may_cross_threads<'a>() {
+    is_shared::<PlainSend>();
+    is_shared::<PlainRecv>();
+    is_shared::<LoopLane>();
+    moves::<DriverSend<'a>>();
+    moves::<DeviceRecv<'a>>();
+    moves::<DeviceSend<'a>>();
+    moves::<DriverRecv<'a>>();
+    moves::<AnySend<'a>>();
+    moves::<AnyRecv<'a>>();
 }

@@ -1,0 +1,20 @@
+use Rattle.std.proofs.Common.{◌≡◌, ◌∙◌, List, [], ◌∷◌, ◌++◌, sym, ap, Option, Some, append_assoc}
+use Rattle.std.specs.Option.{option_to_list}
+use Rattle.mc_base.specs.Stored.{Stored}
+use Rattle.lane_end.proofs.PrimingLemmas.{offers-more}
+use Rattle.lane_end.proofs.priming.offer_all.Goals as goal
+
+front : (xs rest : List Stored) (o : Option Stored) (x : Stored) → xs ≡ option_to_list o ++ rest → o ≡ Some x → xs ≡ x ∷ rest
+front xs rest o x is some = is ∙ ap (λ (y : Option Stored). option_to_list y ++ rest) some
+
+pub loop-buffer-preserved : goal.loop-buffer-preserved
+loop-buffer-preserved c =
+    let i = c.loop-buffer.invariant in let done = i.offered.0 in let left = c.loop-buffer.buffers.items in let rest = c.pop_front.new.self.items in let b = c.in-Some.buffer in
+    let f = front left rest c.pop_front.result b c.pop_front.ensures.items c.in-Some.is in record {
+      offered = (
+        done ++ b ∷ [],
+        i.offered.1 ∙ (ap (λ (l : List Stored). done ++ l) f ∙ sym (append_assoc done (b ∷ []) rest)),
+        offers-more c.args.driver.now c.loop-buffer.driver c.offer.new.self done left rest b i.offered.2 f c.offer.ensures.offered c.offer.ensures.sound,
+      );
+      room = c.pop_front.ensures.capacity ∙ i.room;
+    }

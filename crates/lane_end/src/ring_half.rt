@@ -1,0 +1,103 @@
+ghost use Rattle.std.specs.Prelude.{◌≡◌, ◌≤◌, ℕ, length};
+ghost use Rattle.mc_base.specs.Limits.{buffer_size};
+ghost use Rattle.shared_words.specs.declared.view.Role.{Role};
+ghost use Rattle.split_ring.specs.Ends.{End, writes, looks_at, takes, IsLeft, HoldsNumber, IsSound};
+ghost use Rattle.lane_end.specs.Opened.{given_length};
+
+use mc_base::{BUFFER_SIZE, Buffer};
+use split_ring::{Device, Driver, Ring};
+use std::fmt::Debug;
+
+/// A half of a ring, the driver's or the device's, as the ends of lanes use it. What the one offers and reclaims, the
+/// other gives and fetches.
+pub trait RingHalf: Debug + Drop {
+    /// Which half it is.
+    ghost role: { Role };
+
+    /// What it wrote and took, and what its looks showed.
+    ghost end: { Self → End };
+
+    /// Looks once at the other half's index, and answers how many entries are shown and not taken.
+    fn look_once(&mut self, on: &Ring) -> u32
+        requires ring { (end self.old).ring ≡ on.now.ring }
+        ensures looked { end self.new ≡ looks_at result (end self.old) }
+        ensures shown { (end self.old).shown ≤ (end self.new).shown }
+        ensures sound { IsSound role (end self.new) };
+
+    /// Takes the oldest entry that is shown: a buffer with its length.
+    fn take_next(&mut self, on: &Ring) -> (Buffer, u32)
+        requires ring { (end self.old).ring ≡ on.now.ring }
+        requires left { IsLeft (end self.old) }
+        ensures taken { end self.new ≡ takes (result.0, result.1) (end self.old) }
+        ensures fits { result.1 ≤ buffer_size }
+        ensures sound { IsSound role (end self.new) };
+
+    /// Writes a buffer that it holds, with the length of the frame in it.
+    fn write(&mut self, on: &Ring, buffer: Buffer, len: u32)
+        requires ring { (end self.old).ring ≡ on.now.ring }
+        requires holds { HoldsNumber role (end self.old) buffer.number }
+        requires fits { len ≤ buffer_size }
+        ensures written { end self.new ≡ writes (buffer, len) (end self.old) }
+        ensures sound { IsSound role (end self.new) };
+
+    /// Writes a buffer that it holds, whose frame was dealt with.
+    fn write_back(&mut self, on: &Ring, buffer: Buffer)
+        requires ring { (end self.old).ring ≡ on.now.ring }
+        requires holds { HoldsNumber role (end self.old) buffer.number }
+        ensures written { end self.new ≡ writes (buffer, given_length role) (end self.old) }
+        ensures sound { IsSound role (end self.new) };
+}
+
+impl RingHalf for Driver {
+    ghost use Rattle.shared_words.specs.declared.view.Role.TheVariants as roles;
+
+    ghost role = { roles.Driver };
+
+    ghost end = { λ d. d };
+
+    fn look_once(&mut self, on: &Ring) -> u32 {
+        self.look(on)
+    }
+
+    fn take_next(&mut self, on: &Ring) -> (Buffer, u32) {
+        let Some(next) = self.reclaim(on) else {
+            unreachable!()
+        };
+        next
+    }
+
+    fn write(&mut self, on: &Ring, buffer: Buffer, len: u32) {
+        self.offer(on, buffer, len);
+    }
+
+    fn write_back(&mut self, on: &Ring, buffer: Buffer) {
+        self.offer(on, buffer, BUFFER_SIZE as u32);
+    }
+}
+
+impl RingHalf for Device {
+    ghost use Rattle.shared_words.specs.declared.view.Role.TheVariants as roles;
+
+    ghost role = { roles.Device };
+
+    ghost end = { λ d. d };
+
+    fn look_once(&mut self, on: &Ring) -> u32 {
+        self.look(on)
+    }
+
+    fn take_next(&mut self, on: &Ring) -> (Buffer, u32) {
+        let Some(next) = self.fetch(on) else {
+            unreachable!()
+        };
+        next
+    }
+
+    fn write(&mut self, on: &Ring, buffer: Buffer, len: u32) {
+        self.give(on, buffer, len);
+    }
+
+    fn write_back(&mut self, on: &Ring, buffer: Buffer) {
+        self.give(on, buffer, 0);
+    }
+}
