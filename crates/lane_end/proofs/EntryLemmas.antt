@@ -2,13 +2,11 @@
 use Rattle.std.proofs.Common.{◌≡◌, ℕ, ◌+◌, ◌<◌, ◌≤◌, Bool, true, false, cond, List, [], ◌∷◌, ◌++◌, length, take, drop, sym, refl, ap, ◌∙◌, arith}
 use Rattle.std.specs.Prelude.{◌==◌}
 use Rattle.std.proofs.lemmas.List.{map-append, length-map, take-append-drop, drop-append-le}
-use Rattle.mc_base.specs.Stored.{Stored}
 use Rattle.shared_words.specs.Entry.{Entry, number_of, times}
 use Rattle.shared_words.specs.Places.{starts_with}
 use Rattle.shared_words.specs.Way.{other}
 use Rattle.shared_words.specs.declared.view.Role.{Role}
 use Rattle.shared_words.specs.declared.view.Role.TheVariants.{Driver, Device}
-use Rattle.lane_end.specs.Held.{numbers_of}
 use Rattle.lane_end.specs.Numbers.{often}
 use Rattle.lane_end.specs.ReceiverContract.{without}
 use Rattle.lane_end.specs.Entries.{numbers_in}
@@ -22,9 +20,6 @@ times-often x (e ∷ es) = ap (λ (n : ℕ). (cond (number_of e == x) 1 0) + n) 
 
 pub numbers-length : (es : List Entry) → length (numbers_in es) ≡ length es
 numbers-length es = length-map es number_of
-
-pub buffers-length : (bs : List Stored) → length (numbers_of bs) ≡ length bs
-buffers-length bs = length-map bs (λ (b : Stored). b.number)
 
 pub numbers-append : (es fs : List Entry) → numbers_in (es ++ fs) ≡ numbers_in es ++ numbers_in fs
 numbers-append es fs = map-append number_of es fs

@@ -5,14 +5,13 @@ use Rattle.shared_words.specs.Entry.{Entry, IsPrefix}
 use Rattle.shared_words.specs.Shown.{TableShown, size_of}
 use Rattle.shared_words.specs.declared.view.Role.{Role}
 use Rattle.shared_words.specs.declared.view.Role.TheVariants.{Driver, Device}
-use Rattle.split_ring.specs.Ends.{End, shows, IsSound}
+use Rattle.split_ring.specs.Ends.{End}
 use Rattle.split_ring.specs.Finished.{FinishedRing}
 use Rattle.lane_end.specs.Entries.{frame_in, load_in, loads_in, numbers_in}
 use Rattle.lane_end.specs.Opened.{taken_before, written_before}
 use Rattle.lane_end.specs.RingSender.{RingSender, sender_size}
 use Rattle.lane_end.specs.RingReceiver.{RingReceiver, receiver_size, given_entries}
 use Rattle.lane_end.specs.RingLane.{IsSender, IsReceiver, AreOfOneRing, IsRingLane, sender_met, receiver_met, HaveMet, IsFinishedBetween, IsFinishedLane}
-use Rattle.lane_end.specs.KeptRing.{KeepsSender, KeepsReceiver}
 use Rattle.lane_end.proofs.EntryLemmas.{numbers-append, taken-other}
 
 -- both ends count from the same opening
@@ -50,17 +49,10 @@ pub have-met : (s : RingSender) (r : RingReceiver) → AreOfOneRing s r → IsSe
 have-met s r one a b front back most = record {
   sends = refl;
   receives = refl;
-  still = record { ring = one.ring; role = one.role };
   all_come = sym (length-map s.half.written frame_in);
   all_back = written-count s r one a back;
   lane = ring-lane (sender_met s r) (receiver_met s r) (record { ring = one.ring; role = one.role }) a front back (met-receiver s r one a front back b most) (Rattle.std.proofs.Common.le_refl (length s.half.written));
 }
-
-pub sender-keeps-met : (on : TableShown) (capacity n : ℕ) (s : RingSender) → KeepsSender on capacity s → IsSound s.role (shows n s.half) → KeepsSender on capacity (record s { half = shows n s.half })
-sender-keeps-met on capacity n s k sound = record { ring = k.ring; sound = sound; held = k.held; count = k.count; sender = k.sender; small = k.small; room = k.room }
-
-pub receiver-keeps-met : (on : TableShown) (n : ℕ) (r : RingReceiver) → KeepsReceiver on r → IsSound r.role (shows n r.half) → r.half.shown ≤ n → KeepsReceiver on (record r { half = shows n r.half })
-receiver-keeps-met on n r k sound most = record { ring = k.ring; sound = sound; first = k.first; receiver = record { shown = let b = k.receiver.shown in omega (arith, b, most); opened = k.receiver.opened } }
 
 -- what a finished ring tells, whichever half sends
 pub finished-front : (role : Role) (ring : TableShown) (sending receiving : End) (closed : FinishedRing) → IsFinishedBetween role ring sending receiving closed

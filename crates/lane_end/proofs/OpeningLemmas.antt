@@ -1,5 +1,5 @@
 -- The ends of a lane over a ring keep, when it is opened, what they are to keep.
-use Rattle.std.proofs.Common.{◌≡◌, ℕ, zero, suc, ◌^◌, ◌+◌, ◌≤◌, List, [], ◌∷◌, length, take, drop, sym, refl, ap, ◌∙◌, arith, append-nil}
+use Rattle.std.proofs.Common.{◌≡◌, ℕ, zero, suc, ◌^◌, ◌+◌, ◌≤◌, List, [], ◌∷◌, length, take, refl, ap, ◌∙◌, arith}
 use Rattle.std.specs.Prelude.{map}
 use Rattle.std.specs.List.{range_with_len}
 use Rattle.std.proofs.lemmas.List.{length-map}
@@ -16,8 +16,7 @@ use Rattle.split_ring.specs.Ends.{End, new_end, IsSound}
 use Rattle.lane_end.specs.Held.{numbers_of}
 use Rattle.lane_end.specs.Numbers.{often, inside, all_numbers}
 use Rattle.lane_end.specs.Entries.{numbers_in}
-use Rattle.lane_end.specs.RingOpening.{new_buffers, whole, primed_driver, primed_device, queue1_sender, queue1_receiver, queue0_sender, queue0_receiver}
-use Rattle.lane_end.specs.RingLane.{IsRingLane}
+use Rattle.lane_end.specs.RingOpening.{new_buffers, whole, primed_driver, primed_device, queue1_sender, queue0_sender, queue0_receiver}
 use Rattle.lane_end.specs.KeptRing.{sender_with, KeepsSender, KeepsReceiver}
 use Rattle.lane_end.proofs.CountLemmas.{often-all}
 use Rattle.lane_end.proofs.EntryLemmas.{times-often}
@@ -72,9 +71,6 @@ module _ (on : TableShown) where
     room = room;
   }
 
-  pub queue1-receives : IsSound Device (queue1_receiver on.ring).half → KeepsReceiver on (queue1_receiver on.ring)
-  queue1-receives sound = record { ring = refl; sound = sound; first = λ x. refl; receiver = record { shown = omega arith; opened = omega arith } }
-
   pub queue0-sends : (capacity : ℕ) → IsRingSize (size_of on.ring) → size_of on.ring ≤ capacity → IsSound Device (queue0_sender on.ring).half → KeepsSender on capacity (queue0_sender on.ring)
   queue0-sends capacity size room sound = record {
     ring = refl;
@@ -93,17 +89,6 @@ module _ (on : TableShown) where
     first = λ x. ap (times x) (take-whole (size_of on.ring) (whole (new_buffers on.ring)) (whole-new on.ring)) ∙ whole-times on.ring x;
     receiver = record { shown = omega arith; opened = let w = whole-new on.ring in omega (arith, w) };
   }
-
-pub queue1-lane : (ring : RingId) → IsRingLane (queue1_sender ring) (queue1_receiver ring)
-queue1-lane ring = record { taken = ([], refl); back = ([], refl); shown = omega arith; looked = omega arith }
-
-pub queue0-lane : (ring : RingId) → IsRingLane (queue0_sender ring) (queue0_receiver ring)
-queue0-lane ring = record {
-  taken = ([], refl);
-  back = ([], sym (append-nil (numbers_in (drop (size_of ring) (whole (new_buffers ring))))));
-  shown = omega arith;
-  looked = omega arith;
-}
 
 module _ (ring : RingId) where
   pub queue1-is : (driver : End) (buffers : List Stored) → driver ≡ new_end ring → buffers ≡ new_buffers ring → sender_with Driver driver buffers ≡ queue1_sender ring

@@ -5,7 +5,7 @@ use Rattle.std.proofs.lemmas.List.{take-append-le}
 use Rattle.shared_words.specs.Entry.{Entry, number_of, times}
 use Rattle.shared_words.specs.Places.{begins}
 use Rattle.shared_words.specs.Shown.{TableShown}
-use Rattle.split_ring.specs.Ends.{looks_at, takes, writes, IsLeft, HoldsNumber, IsSound}
+use Rattle.split_ring.specs.Ends.{looks_at, takes, writes, HoldsNumber, IsSound}
 use Rattle.lane_end.specs.Numbers.{often, AreApart}
 use Rattle.lane_end.specs.ReceiverContract.{without}
 use Rattle.lane_end.specs.Entries.{numbers_in}
@@ -51,9 +51,6 @@ module _ (on : TableShown) (r : RingReceiver) (k : KeepsReceiver on r) where
       let p = often-contained (out_at r) n c in
       let o = often-struck (numbers_in (given_entries r)) (numbers_in r.half.taken) are-among n in
       let g = given-times n in let t = times-often n r.half.taken in omega (arith, p, o, g, t)
-
-  pub shown-left : 0 < r.shown → IsLeft r.half
-  shown-left some = let s = k.receiver.shown in omega (arith, s, some)
 
   pub look-keeps : (n : ℕ) → IsSound r.role (looks_at n r.half) → KeepsReceiver on (looked n r)
   look-keeps n sound = record { ring = k.ring; sound = sound; first = k.first; receiver = record { shown = omega arith; opened = k.receiver.opened } }

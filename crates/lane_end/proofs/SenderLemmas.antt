@@ -1,21 +1,18 @@
 -- What a sender over a ring keeps, and where a put and a look lead.
-use Rattle.std.proofs.Common.{◌≡◌, ℕ, ◌+◌, ◌<◌, ◌≤◌, List, [], ◌∷◌, ◌++◌, length, drop, sym, refl, ap, ◌∙◌, subst, arith, length-append, append-nil, append_assoc, le_refl}
+use Rattle.std.proofs.Common.{◌≡◌, ℕ, ◌+◌, ◌≤◌, List, [], ◌∷◌, ◌++◌, length, drop, sym, refl, ap, ◌∙◌, subst, arith, length-append, append-nil, le_refl}
 use Rattle.std.specs.Prelude.{sum}
 use Rattle.std.proofs.lemmas.List.{map-append, drop-append-le}
 use Rattle.std.proofs.lemmas.List.Sums.{sum_by-append}
-use Rattle.mc_base.specs.Stored.{Stored}
 use Rattle.shared_words.specs.Entry.{Entry, number_of, times}
 use Rattle.shared_words.specs.Places.{begins, starts_with}
 use Rattle.shared_words.specs.Shown.{TableShown, size_of}
-use Rattle.shared_words.specs.declared.view.Role.{Role}
-use Rattle.split_ring.specs.Ends.{End, looks_at, takes, writes, IsLeft, HoldsNumber, IsSound}
-use Rattle.lane_end.specs.Held.{numbers_of}
+use Rattle.split_ring.specs.Ends.{writes, HoldsNumber, IsSound}
 use Rattle.lane_end.specs.Numbers.{often, AreApart}
 use Rattle.lane_end.specs.SendMoves.{Looked, Sent}
 use Rattle.lane_end.specs.Entries.{frame_in, frames_in, numbers_in}
 use Rattle.lane_end.specs.Opened.{taken_before}
 use Rattle.lane_end.specs.RingSender.{RingSender, sender_size, put_by, back_to, back_known, RingSends}
-use Rattle.lane_end.specs.KeptRing.{sender_with, KeepsSender}
+use Rattle.lane_end.specs.KeptRing.{KeepsSender}
 use Rattle.lane_end.specs.LooksBack.{LooksBack}
 use Rattle.lane_end.proofs.CountLemmas.{tick-same, often-append}
 use Rattle.lane_end.proofs.EntryLemmas.{times-often, numbers-length, numbers-append}
@@ -31,9 +28,6 @@ times-append x es fs =
 module _ (on : TableShown) (capacity : ℕ) (s : RingSender) (k : KeepsSender on capacity s) where
   pub free-apart : AreApart (sender_size s) s.free
   free-apart x = let h = k.held x in let d = k.sound.differ x in omega (arith, h, d)
-
-  pub free-room : length s.free ≤ sender_size s
-  free-room = let c = k.count in let r = k.sound.room in let t = k.sound.shown in omega (arith, c, r, t)
 
   pub first-held : (n : ℕ) (rest : List ℕ) → s.free ≡ n ∷ rest → HoldsNumber s.role s.half n
   first-held n rest is = let h = k.held n in let f = ap (often n) is in let t = tick-same n n refl in omega (arith, h, f, t)
@@ -60,23 +54,6 @@ put-moves on capacity s e rest frame is k carries = record {
   deals = (number_of e, rest, is, free-apart on capacity (put_with e rest s) k, ap (λ (l : List ℕ). record { free = rest; sent = l; back = back_to s }) (numbers-append s.half.written (e ∷ [])));
 }
 
-pub look-begins : (on : TableShown) (capacity n : ℕ) (role : Role) (half new : End) (buffers : List Stored) → KeepsSender on capacity (sender_with role half buffers) → new ≡ looks_at n half → half.shown ≤ new.shown → IsSound role new
-    → LooksBack on capacity n 0 (sender_with role half buffers) (sender_with role new buffers)
-look-begins on capacity n role half new buffers k is known sound = record {
-  starts = k;
-  sound = sound;
-  role = refl;
-  ring = ap (λ (e : End). e.ring) is;
-  written = ap (λ (e : End). e.written) is;
-  looks = ap (λ (e : End). e.looks) is;
-  shown = ap (λ (e : End). e.shown) is;
-  known = known;
-  more = [];
-  taken = ap (λ (e : End). e.taken) is ∙ sym (append-nil half.taken);
-  count = refl;
-  free = sym (append-nil (numbers_of buffers));
-}
-
 module _ (on : TableShown) (capacity seen done : ℕ) (start now : RingSender) (l : LooksBack on capacity seen done start now) where
   taken-count : length now.half.taken ≡ length start.half.taken + done
   taken-count = let t = ap (λ (es : List Entry). length es) l.taken in let a = length-append start.half.taken l.more in let c = l.count in omega (arith, t, a, c)
@@ -89,14 +66,6 @@ module _ (on : TableShown) (capacity seen done : ℕ) (start now : RingSender) (
 
   same-start : starts_with now.role (sender_size now) ≡ starts_with start.role (sender_size start)
   same-start = λ i. starts_with (l.role i) (same-size i)
-
-  pub look-left : done < seen → IsLeft now.half
-  look-left below = let s = l.shown in let t = taken-count in omega (arith, s, t, below)
-
-  pub look-room : done < seen → length now.free < capacity
-  look-room below =
-      let c = l.starts.count in let room = l.starts.room in let sound = l.sound.room in let w = ap (λ (es : List Entry). length es) l.written in
-      let s = l.shown in let f = free-count in let z = same-size in let b = same-start in omega (arith, c, room, sound, w, s, f, z, b, below)
 
   -- all that the look showed is taken
   module _ (all : done ≡ seen) where
@@ -145,25 +114,3 @@ module _ (on : TableShown) (capacity seen done : ℕ) (start now : RingSender) (
             (λ i. record { free = l.free i; sent = numbers_in (l.written i); back = back-grows i }),
           );
         }
-
-    pub look-more : (length (numbers_in l.more) ≡ seen) × (now.free ≡ start.free ++ numbers_in l.more)
-    look-more = ((let n = numbers-length l.more in let c = l.count in omega (arith, n, c, all)), l.free)
-
-pub look-goes : (on : TableShown) (capacity more seen done : ℕ) (start : RingSender) (role : Role) (half new : End) (buffers all : List Stored) (b : Stored) (len : ℕ) → LooksBack on capacity seen done start (sender_with role half buffers)
-    → new ≡ takes (b, len) half → IsSound role new → all ≡ buffers ++ b ∷ [] → capacity ≤ more → LooksBack on more seen (done + 1) start (sender_with role new all)
-look-goes on capacity more seen done start role half new buffers all b len l is sound pushed room =
-    let e : Entry = (b, len) in record {
-      starts = let s = l.starts in record { ring = s.ring; sound = s.sound; held = s.held; count = s.count; sender = s.sender; small = s.small; room = let r = s.room in omega (arith, r, room) };
-      sound = sound;
-      role = l.role;
-      ring = ap (λ (h : End). h.ring) is ∙ l.ring;
-      written = ap (λ (h : End). h.written) is ∙ l.written;
-      looks = ap (λ (h : End). h.looks) is ∙ l.looks;
-      shown = ap (λ (h : End). h.shown) is ∙ l.shown;
-      known = subst (λ (h : End). start.half.shown ≤ h.shown) (sym is) l.known;
-      more = l.more ++ e ∷ [];
-      taken = ap (λ (h : End). h.taken) is ∙ (ap (λ (es : List Entry). es ++ e ∷ []) l.taken ∙ append_assoc start.half.taken l.more (e ∷ []));
-      count = let c = l.count in let a = length-append l.more (e ∷ []) in omega (arith, c, a);
-      free = ap numbers_of pushed ∙ (map-append (λ (s : Stored). s.number) buffers (b ∷ []) ∙ (ap (λ (ns : List ℕ). ns ++ b.number ∷ []) l.free
-          ∙ (append_assoc start.free (numbers_in l.more) (b.number ∷ []) ∙ ap (λ (ns : List ℕ). start.free ++ ns) (sym (numbers-append l.more (e ∷ []))))));
-    }

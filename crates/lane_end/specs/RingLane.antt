@@ -48,7 +48,6 @@ receiver_met s r = record r { half = shows (length s.half.written) r.half }
 pub record HaveMet (s : RingSender) (r : RingReceiver) (sender : RingSender) (receiver : RingReceiver) : Type 0 where
   pub sends : sender ≡ sender_met s r
   pub receives : receiver ≡ receiver_met s r
-  pub still : AreOfOneRing sender receiver
   pub all_come : come_known receiver ≡ length (put_by s)
   pub all_back : back_known sender ≡ length (given_entries r)
   pub lane : IsRingLane sender receiver

@@ -35,5 +35,8 @@ pub use plain::{ends_stay_one_lane, plain_lane, shuttle};
 pub use plain_recv::PlainRecv;
 pub use plain_send::PlainSend;
 pub use recv_end::RecvEnd;
+pub use ring_half::RingHalf;
+pub use ring_recv::RingRecv;
+pub use ring_send::RingSend;
 pub use send_end::SendEnd;
 pub use threads::may_cross_threads;

@@ -20,7 +20,8 @@ use crate::opening::{DeviceRecv, DeviceSend, DriverRecv, DriverSend};
 /// free, shown and out stays.
 pub fn meet_ends(send: &mut AnySend<'_>, recv: &mut AnyRecv<'_>)
     requires { AreEndsOfOneRing send.old recv.old }
-    ensures { EndsHaveMet send.old recv.old send.new recv.new }
+    ensures met { EndsHaveMet send.old recv.old send.new recv.new }
+    ensures still { AreEndsOfOneRing send.new recv.new }
 {
     match send {
         AnySend::Driver(send) => match recv {
