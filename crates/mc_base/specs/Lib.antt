@@ -1,5 +1,6 @@
 pub mod Limits
 pub mod Stored
+pub mod Numbers
 pub mod Lending
 pub mod Bytes
 pub mod FaultRow

@@ -1,4 +1,4 @@
-ghost use Rattle.std.specs.Prelude.{◌≡◌};
+ghost use Rattle.std.specs.Prelude.{◌≡◌, ◌≤◌};
 ghost use Rattle.shared_words.specs.declared.view.Role.TheVariants as role;
 ghost use Rattle.shared_words.specs.declared.view.Staged.TheVariants.{Idle};
 ghost use Rattle.shared_words.specs.Shown.{IsHalfOf, HoldsNumber};
@@ -59,6 +59,7 @@ fn the_words_are_those_of_the_layout(rt: HostRuntime) {
 fn offer(table: &RingTable, driver: &mut Half, buffer: Buffer)
     requires driver { IsHalfOf table.now role.Driver driver.old × (driver.old.view.staged ≡ Idle) }
     requires holds { (buffer.number ≡ 1) × HoldsNumber driver.old 1 }
+    requires fits { 26 ≤ table.now.ring.longest }
     ensures { IsHalfOf table.now role.Driver driver.new × (driver.new.view.staged ≡ Idle) }
 {
     table.put_len(driver, 1, 26);

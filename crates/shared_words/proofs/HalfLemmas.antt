@@ -7,7 +7,6 @@ use Rattle.std.proofs.lemmas.Nat.{and_mask}
 use Rattle.std.proofs.lemmas.Nat.Gcd.{dvd_of_mod-eq-zero}
 use mathlib.Core.Option.{none}
 use Rattle.atomic_table.specs.Table.{rest, step}
-use Rattle.mc_base.specs.Limits.{buffer_size}
 use Rattle.atomic_table.specs.Seated.{TableId}
 use Rattle.mc_base.specs.Stored.{Stored}
 use Rattle.shared_words.specs.declared.table.RingTable.TheInside as table
@@ -200,7 +199,7 @@ pub record Got (role : Role) (view : HalfView) (t : table.Inside) (h : half.Insi
   pub is_read : h.read ≡ number_in view.staged
   pub live : me'.0 ≡ Live role (taking (buffer, r) view)
   pub carried : me'.1 ≡ (h.read, Some buffer) ∷ h.seat.me.1
-  pub fits : r ≤ buffer_size
+  pub fits : r ≤ t.board.shared.key.length
   pub low : h.read < t.board.shared.key.size
   pub fresh : times h.read view.written ≡ begins role t.board.shared.key.size h.read + times h.read view.taken
 
@@ -212,7 +211,7 @@ gets role t h me me' i r m is told = let n = m.holds.number_read (number_in me.v
       is_read = n.0;
       live = g.2;
       carried = g.3;
-      fits = let a = g.4 in let b = m.longest in let l = m.shape.length in omega (arith, a, b, l);
+      fits = let a = g.4 in let b = m.longest in omega (arith, a, b);
       low = omega (arith, n);
       fresh = subst (λ (z : ℕ). times h.read me.view.written ≡ begins role z h.read + times h.read me.view.taken) m.slots g.5;
     }

@@ -1,7 +1,6 @@
 -- The shapes that a queue can have.
 -- Source: VIRTIO 1.2, section 2.7: the size of a queue is a power of two; the limits are docs/PROFILE.md's.
-use Rattle.std.specs.Prelude.{◌≡◌, ℕ, ◌≤◌, ◌^◌}
-use Rattle.mc_base.specs.Limits.{buffer_size}
+use Rattle.std.specs.Prelude.{◌≡◌, ℕ, ◌<◌, ◌≤◌, ◌^◌}
 use Rattle.shared_words.specs.declared.rule.Shape.{Shape}
 
 -- a power of two from 2 to 256
@@ -11,4 +10,5 @@ IsRingSize size = (k : ℕ) × (1 ≤ k) × (k ≤ 8) × (size ≡ 2 ^ k)
 pub record IsShape (key : Shape) : Type 0 where
   pub queue : key.queue ≤ 1
   pub size : IsRingSize key.size
-  pub length : key.length ≡ buffer_size
+  -- a descriptor tells its length in 32 bits
+  pub length : key.length < 2 ^ 32

@@ -73,7 +73,7 @@ fn begin(alloc: Global, queue: u8, size: u32) -> Result<(RingTable, Half, Half),
     requires size { IsRingSize size }
     ensures halves { IfOk result (λ r. IsHalfOf r.0 Driver r.1 × IsHalfOf r.0 Device r.2) }
     ensures views { IfOk result (λ r. (r.1.view ≡ new_view buffer_size) × (r.2.view ≡ new_view buffer_size)) }
-    ensures table { IfOk result (λ r. (r.0.queue ≡ queue) × (size_of r.0.ring ≡ size)) }
+    ensures table { IfOk result (λ r. (r.0.queue ≡ queue) × (size_of r.0.ring ≡ size) × (r.0.ring.longest ≡ buffer_size)) }
 {
     let first = first_words(alloc, queue, size)?;
     let words = Vec::with_capacity(alloc, first.len())?;
@@ -120,7 +120,7 @@ impl RingTable {
         ensures size_refused { IsErrOf result RingFault.Size ↔ ((queue ≤ 1) × (IsRingSize size → ⊥)) }
         ensures halves { IfOk result (λ r. IsHalfOf r.0 Driver r.1 × IsHalfOf r.0 Device r.2) }
         ensures views { IfOk result (λ r. (r.1.view ≡ new_view buffer_size) × (r.2.view ≡ new_view buffer_size)) }
-        ensures table { IfOk result (λ r. (r.0.queue ≡ queue) × (size_of r.0.ring ≡ size)) }
+        ensures table { IfOk result (λ r. (r.0.queue ≡ queue) × (size_of r.0.ring ≡ size) × (r.0.ring.longest ≡ buffer_size)) }
         ensures buffers { IfOk result (λ r. r.3.items ≡ map new_buffer (numbers_from 0 size)) }
         ensures room { IfOk result (λ r. size ≤ vec_capacity r.3) }
     {

@@ -1,6 +1,5 @@
 //! The steps of the available way: the driver offers, and the device fetches.
 ghost use Rattle.std.specs.Prelude.{◌≡◌, ◌+◌, ◌<◌, ◌≤◌, length};
-ghost use Rattle.mc_base.specs.Limits.{buffer_size};
 ghost use Rattle.shared_words.specs.declared.view.Role.TheVariants.{Driver, Device};
 ghost use Rattle.shared_words.specs.declared.view.Staged.TheVariants.{Idle, LengthStored, BothStored, NumberRead};
 ghost use Rattle.shared_words.specs.Change.{staging, writing, looking, taking, number_in, len_in};
@@ -19,7 +18,7 @@ impl RingTable {
         requires driver { IsHalfOf self.now Driver half.old }
         requires idle { half.old.view.staged ≡ Idle }
         requires holds { HoldsNumber half.old id }
-        requires fits { len ≤ buffer_size }
+        requires fits { len ≤ self.now.ring.longest }
         ensures { half.new ≡ with_view (staging (LengthStored id len) half.old.view) half.old }
     {
         let seat = &mut half.seat;
@@ -78,7 +77,7 @@ impl RingTable {
         requires read { half.old.view.staged ≡ NumberRead (number_in half.old.view.staged) }
         ensures view { half.new ≡ with_view (taking (result.0, result.1) half.old.view) half.old }
         ensures number { result.0.number ≡ number_in half.old.view.staged }
-        ensures fits { result.1 ≤ buffer_size }
+        ensures fits { result.1 ≤ self.now.ring.longest }
         ensures not_held { HoldsNumber half.old result.0.number → ⊥ }
     {
         self.take(half, Role::Device)

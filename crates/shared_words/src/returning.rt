@@ -1,6 +1,5 @@
 //! The steps of the used way: the device gives back, and the driver reclaims.
 ghost use Rattle.std.specs.Prelude.{◌≡◌, ◌+◌, ◌<◌, ◌≤◌, length};
-ghost use Rattle.mc_base.specs.Limits.{buffer_size};
 ghost use Rattle.shared_words.specs.declared.view.Role.TheVariants.{Driver, Device};
 ghost use Rattle.shared_words.specs.declared.view.Staged.TheVariants.{Idle, NumberStored, BothStored, NumberRead};
 ghost use Rattle.shared_words.specs.Change.{staging, writing, looking, taking, number_in, len_in};
@@ -31,7 +30,7 @@ impl RingTable {
     pub fn put_used_len(&self, half: &mut Half, len: u32)
         requires device { IsHalfOf self.now Device half.old }
         requires stored { half.old.view.staged ≡ NumberStored (number_in half.old.view.staged) }
-        requires fits { len ≤ buffer_size }
+        requires fits { len ≤ self.now.ring.longest }
         ensures { half.new ≡ with_view (staging (BothStored (number_in half.old.view.staged) len) half.old.view) half.old }
     {
         let word = word_of(self.size, Field::UsedLen(self.place(half.written)));
@@ -77,7 +76,7 @@ impl RingTable {
         requires read { half.old.view.staged ≡ NumberRead (number_in half.old.view.staged) }
         ensures view { half.new ≡ with_view (taking (result.0, result.1) half.old.view) half.old }
         ensures number { result.0.number ≡ number_in half.old.view.staged }
-        ensures fits { result.1 ≤ buffer_size }
+        ensures fits { result.1 ≤ self.now.ring.longest }
         ensures not_held { HoldsNumber half.old result.0.number → ⊥ }
     {
         self.take(half, Role::Driver)

@@ -1,6 +1,5 @@
 //! The steps that each half makes on its own way, and the words of a way.
 ghost use Rattle.std.specs.Prelude.{◌≡◌, ◌+◌, ◌%◌, ◌<◌, ◌≤◌, length};
-ghost use Rattle.mc_base.specs.Limits.{buffer_size};
 ghost use Rattle.shared_words.specs.declared.view.Staged.TheVariants.{Idle, BothStored, NumberRead};
 ghost use Rattle.shared_words.specs.Change.{staging, writing, looking, taking, number_in, len_in};
 ghost use Rattle.shared_words.specs.Layout.{word_count};
@@ -112,7 +111,7 @@ impl RingTable {
         requires read { half.old.view.staged ≡ NumberRead (number_in half.old.view.staged) }
         ensures view { half.new ≡ with_view (taking (result.0, result.1) half.old.view) half.old }
         ensures number { result.0.number ≡ number_in half.old.view.staged }
-        ensures fits { result.1 ≤ buffer_size }
+        ensures fits { result.1 ≤ self.now.ring.longest }
         ensures not_held { HoldsNumber half.old result.0.number → ⊥ }
     {
         let id = half.read;

@@ -1,6 +1,10 @@
 -- The end of a ring: its lists of numbers, and what is known of them.
-use Rattle.std.proofs.Common.{◌≡◌, ℕ, suc, ◌+◌, ◌-◌, ◌%◌, ◌≤◌, Bool, true, false, cond, get_or, List, [], ◌∷◌, ◌++◌, map, length, sym, refl, ap, ◌∙◌, subst, arith, Option, length-append, bit_and}
+use Rattle.std.proofs.Common.{◌≡◌, ℕ, suc, ◌+◌, ◌-◌, ◌%◌, ◌<◌, ◌≤◌, Bool, true, false, cond, get_or, List, [], ◌∷◌, ◌++◌, map, length, sym, refl, ap, ◌∙◌, subst, arith, Option, length-append, bit_and}
 use mathlib.Core.List.{map-append}
+use mathlib.Core.Logic.{dite}
+use native.Mathlib.Decide.{ℕ_discrete}
+use Rattle.std.proofs.lemmas.List.{get_or_append_left, get_or_push}
+use Rattle.std.specs.List.Sorted.{IsStrictlyIncreasing}
 use mathlib.Core.Option.{some}
 use lib.ListN.{get_elem?}
 use Rattle.mc_base.specs.Stored.{Stored}
@@ -32,6 +36,22 @@ use Rattle.split_ring.specs.Finished.{FinishedRing, IsFinished}
 pub add-count : (b : Bool) (out : List ℕ) (id x : ℕ) → often x (cond b (out ++ id ∷ []) out) ≡ often x out + cond b (often x (id ∷ [])) 0
 add-count true out id x = by-append (λ (n : ℕ). n) x out (id ∷ [])
 add-count false out id x = omega arith
+
+-- a list that rises below k rises with k at its end
+rises-push : (out : List ℕ) (k : ℕ) → IsStrictlyIncreasing out → ((i : ℕ) → i < length out → get_or out i 0 < k) → IsStrictlyIncreasing (out ++ k ∷ [])
+rises-push out k rises low i within = let n = length-append out (k ∷ []) in let here = get_or_append_left out (k ∷ []) 0 i (omega (arith, within, n)) in let below = low i (omega (arith, within, n)) in
+    dite (ℕ_discrete (i + 1) (length out))
+    (λ e. let last = get_or_push out k 0 (i + 1) (sym e) in omega (arith, here, below, last))
+    (λ ne. let next = get_or_append_left out (k ∷ []) 0 (i + 1) (omega (arith, within, n, ne)) in let up = rises i (omega (arith, within, n, ne)) in omega (arith, here, next, up))
+
+low-push : (out : List ℕ) (k : ℕ) → ((i : ℕ) → i < length out → get_or out i 0 < k) → (i : ℕ) → i < length (out ++ k ∷ []) → get_or (out ++ k ∷ []) i 0 < k + 1
+low-push out k low i within = let n = length-append out (k ∷ []) in dite (ℕ_discrete i (length out))
+    (λ e. let last = get_or_push out k 0 i (sym e) in omega (arith, last))
+    (λ ne. let here = get_or_append_left out (k ∷ []) 0 i (omega (arith, within, n, ne)) in let below = low i (omega (arith, within, n, ne)) in omega (arith, here, below))
+
+pub rises-on : (b : Bool) (out : List ℕ) (k : ℕ) → IsStrictlyIncreasing out → ((i : ℕ) → i < length out → get_or out i 0 < k) → IsStrictlyIncreasing (cond b (out ++ k ∷ []) out) × ((i : ℕ) → i < length (cond b (out ++ k ∷ []) out) → get_or (cond b (out ++ k ∷ []) out) i 0 < k + 1)
+rises-on true out k rises low = (rises-push out k rises low, low-push out k low)
+rises-on false out k rises low = (rises, λ i within. let below = low i within in omega (arith, below))
 
 -- The lists of the numbers that are left
 
@@ -88,9 +108,9 @@ module _ (ring : TableShown) (d e : HalfShown) (words : List ℕ) (home : List (
       → r.offered_left ≡ numbers_standing words (size_of ring.ring) Offered ec.taken (between ec.taken (field_at words (size_of ring.ring) AvailIdx))
       → r.returned_left ≡ numbers_standing words (size_of ring.ring) Returned dc.taken (between dc.taken (field_at words (size_of ring.ring) UsedIdx))
       → ((x : ℕ) → often x r.driver_held ≡ flag_count df x) → ((x : ℕ) → often x r.device_held ≡ flag_count ef x)
-      → r.driver_looks ≡ dc.looks → r.driver_saw ≡ dc.saw → r.device_looks ≡ ec.looks → r.device_saw ≡ ec.saw
+      → IsStrictlyIncreasing r.driver_held → IsStrictlyIncreasing r.device_held → r.driver_looks ≡ dc.looks → r.driver_saw ≡ dc.saw → r.device_looks ≡ ec.looks → r.device_saw ≡ ec.saw
       → IsFinished ring (end_of d) (end_of e) r
-  finishes dc ec df ef r kd ke fd fe d_on e_on queue size words_are off ret dh eh dl ds el es =
+  finishes dc ec df ef r kd ke fd fe d_on e_on queue size words_are off ret dh eh dr er dl ds el es =
       let offered : r.offered_left ≡ map number_of c.offered_left = off ∙ ((λ i. numbers_standing words z Offered (ke.taken i) (between (ke.taken i) (offered_idx i)))
       ∙ standing_is words z Offered (length e.view.taken) (between (length e.view.taken % 65536) (length d.view.written % 65536)) c.offered_left s offered_between.0 c.offered_stand) in
       let returned : r.returned_left ≡ map number_of c.returned_left = ret ∙ ((λ i. numbers_standing words z Returned (kd.taken i) (between (kd.taken i) (returned_idx i)))
@@ -109,6 +129,8 @@ module _ (ring : TableShown) (d e : HalfShown) (words : List ℕ) (home : List (
         driver_shown = c.driver_shown;
         driver_holds = d_holds;
         device_holds = e_holds;
+        driver_rises = dr;
+        device_rises = er;
         driver_count = let a = held_count_is Driver d.view.taken d.view.written r.driver_held z (λ x. let h = d_holds x in let o = kd.sound.owned x in let g = ap (λ (g : RingId). inside (size_of g) x) d_on in omega (arith, h, o, g)) in omega (arith, a);
         device_count = let a = held_count_is Device e.view.taken e.view.written r.device_held z (λ x. let h = e_holds x in let o = ke.sound.owned x in omega (arith, h, o)) in omega (arith, a);
         each_once = λ x. let once = c.each_once x in let a = d_holds x in let b = e_holds x in let size_d = ap (λ (g : RingId). inside (size_of g) x) d_on in

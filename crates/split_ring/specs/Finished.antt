@@ -1,6 +1,7 @@
 -- What is known of a ring that is finished: of its words, of where its buffers are, and of what its halves saw.
 -- Source: VIRTIO 1.2, section 2.7; docs/PROFILE.md: the driver owns all buffers.
 use Rattle.std.specs.Prelude.{◌≡◌, ℕ, ◌+◌, ◌≤◌, ◌%◌, ◌^◌, List, ◌++◌, map, length, sum}
+use Rattle.std.specs.List.Sorted.{IsStrictlyIncreasing}
 use Rattle.shared_words.specs.Entry.{Entry, number_of, often, inside}
 use Rattle.shared_words.specs.Shown.{TableShown, size_of, shape_of}
 use Rattle.shared_words.specs.Closed.{AreFinal}
@@ -38,7 +39,9 @@ pub record IsFinished (ring : TableShown) (driver device : End) (closed : Finish
   -- each number is held by a half as often as it had it and took it, less as it wrote it
   pub driver_holds : (x : ℕ) → often x closed.driver_held ≡ holding_of Driver driver x
   pub device_holds : (x : ℕ) → often x closed.device_held ≡ holding_of Device device x
-  -- so many numbers does it hold
+  -- its list rises, and has as many numbers as it holds
+  pub driver_rises : IsStrictlyIncreasing closed.driver_held
+  pub device_rises : IsStrictlyIncreasing closed.device_held
   pub driver_count : length closed.driver_held + length driver.written ≡ size_of ring.ring + length driver.taken
   pub device_count : length closed.device_held + length device.written ≡ length device.taken
   -- each number below the size stands exactly once in the four lists, and any other nowhere

@@ -1,5 +1,6 @@
 //! How a ring is finished.
 ghost use Rattle.std.specs.Prelude.{◌≡◌, ◌+◌, ◌<◌, ◌≤◌, ℕ, [], ◌∷◌, ◌++◌, if◌then◌else◌, length, vec_capacity, vec_len};
+ghost use Rattle.std.specs.List.Sorted.{IsStrictlyIncreasing};
 ghost use Rattle.shared_words.specs.Entry.{often};
 ghost use Rattle.shared_words.specs.Layout.{word_count, field_at};
 ghost use Rattle.shared_words.specs.Shape.{IsRingSize};
@@ -69,7 +70,8 @@ fn add(out: &mut Vec<u16>, id: u16, is_held: bool)
 fn numbers_held(held: &[bool], mut out: Vec<u16>) -> Vec<u16>
     requires few { length held.now ≤ 65536 }
     requires room { (out.items ≡ []) × (length held.now ≤ vec_capacity out) }
-    ensures { (x : ℕ) → often x result.items ≡ flag_count held.now x }
+    ensures each { (x : ℕ) → often x result.items ≡ flag_count held.now x }
+    ensures rising { IsStrictlyIncreasing result.items }
 {
     for id in 0..held.len() {
         add(&mut out, id as u16, held[id]);

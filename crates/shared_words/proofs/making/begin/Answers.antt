@@ -18,7 +18,7 @@ use Rattle.shared_words.proofs.Beginning.{opens, allows_begin, splits_part, firs
 use Rattle.shared_words.proofs.making.begin.Goals as goal
 
 shaped : (queue size : ℕ) → queue ≤ 1 → Rattle.shared_words.specs.Shape.IsRingSize size → IsShape (shape queue size)
-shaped queue size q s = record { queue = q; size = s; length = refl }
+shaped queue size q s = record { queue = q; size = s; length = omega arith }
 
 pub vacant-requires : goal.vacant-requires
 vacant-requires c = let q = c.args.queue in let z = c.args.size in

@@ -6,7 +6,7 @@ use Rattle.shared_words.specs.declared.view.View.TheVariants.{Live}
 use Rattle.shared_words.specs.Change.{taking, number_in}
 use Rattle.shared_words.specs.Slots.{Slot}
 use Rattle.shared_words.specs.Kinds.{Seated}
-use Rattle.shared_words.specs.Shown.{size_of}
+use Rattle.shared_words.specs.Shown.{TableShown, size_of}
 use Rattle.shared_words.specs.Way.{way_of, other}
 use Rattle.shared_words.specs.declared.view.Role.{Role}
 use Rattle.shared_words.proofs.Steps.{allows_take}
@@ -30,7 +30,7 @@ load-len-requires c = let t = c.self.inside in let h = c.half.inside in let me =
 pub overflow_cast-len : goal.overflow_cast-len
 overflow_cast-len c = let t = c.self.inside in let h = c.half.inside in let me = c.args.half.now in
     let m = meets c.args.role t h c.args.self.now me c.self.invariant.0 c.self.view_is c.half.invariant c.half.view_is c.requires.half in
-    let g = gets c.args.role t h me c.load-len.new.seat.me c.len_word-word.result c.load-len.result m c.requires.read c.load-len.ensures.2 in let f = g.fits in record { fits = omega (arith, f) }
+    let g = gets c.args.role t h me c.load-len.new.seat.me c.len_word-word.result c.load-len.result m c.requires.read c.load-len.ensures.2 in let f = g.fits in let l = m.shape.length in record { fits = omega (arith, f, l) }
 
 pub exchange-got-requires : goal.exchange-got-requires
 exchange-got-requires c = let t = c.self.inside in let h = c.half.inside in let me = c.args.half.now in
@@ -69,7 +69,7 @@ returns-clause-number c = let t = c.self.inside in let h = c.half.inside in let 
 pub returns-clause-fits : goal.returns-clause-fits
 returns-clause-fits c = let t = c.self.inside in let h = c.half.inside in let me = c.args.half.now in
     let m = meets c.args.role t h c.args.self.now me c.self.invariant.0 c.self.view_is c.half.invariant c.half.view_is c.requires.half in
-    (gets c.args.role t h me c.load-len.new.seat.me c.len_word-word.result c.load-len.result m c.requires.read c.load-len.ensures.2).fits
+    let f = (gets c.args.role t h me c.load-len.new.seat.me c.len_word-word.result c.load-len.result m c.requires.read c.load-len.ensures.2).fits in let l = ap (λ (x : TableShown). x.ring.longest) c.self.view_is in omega (arith, f, l)
 
 pub returns-clause-not_held : goal.returns-clause-not_held
 returns-clause-not_held c = let t = c.self.inside in let h = c.half.inside in let me = c.args.half.now in

@@ -65,6 +65,6 @@ returns c = let t = c.self.inside.table in let z = size_of t.ring in let d = c.d
     c.driver.invariant.0 c.device.invariant.0 c.driver.invariant.1 c.device.invariant.1 d_on e_on c.self.invariant.0 size refl
     (numbers_found c.as_slice-all.result.now words c.self.inside.size z Offered ec.taken (Rattle.std.proofs.Common.get_or c.as_slice-all.result.now c.word_of.result 0) (field_at words z AvailIdx) r.offered_left all size avail c.numbers_left-offered_left.ensures)
     (numbers_found c.as_slice-all.result.now words c.self.inside.size z Returned dc.taken (Rattle.std.proofs.Common.get_or c.as_slice-all.result.now c.word_of-2.result 0) (field_at words z UsedIdx) r.returned_left all size used c.numbers_left-returned_left.ensures)
-    (λ x. c.numbers_held.ensures x ∙ ap (λ (l : List Bool). flag_count l x) c.as_slice.ensures.value) (λ x. c.numbers_held-2.ensures x ∙ ap (λ (l : List Bool). flag_count l x) c.as_slice-2.ensures.value)
-    refl refl refl refl in
+    (λ x. c.numbers_held.ensures.each x ∙ ap (λ (l : List Bool). flag_count l x) c.as_slice.ensures.value) (λ x. c.numbers_held-2.ensures.each x ∙ ap (λ (l : List Bool). flag_count l x) c.as_slice-2.ensures.value)
+    c.numbers_held.ensures.rising c.numbers_held-2.ensures.rising refl refl refl refl in
     subst (λ (x : TableShown × End × End). IsFinished x.0 x.1 x.2 r) (λ i. (c.self.view_is i, c.driver.view_is i, c.device.view_is i)) is
