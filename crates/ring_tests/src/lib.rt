@@ -4,6 +4,8 @@
 #[cfg(test)]
 mod lanes;
 #[cfg(test)]
+mod meetings;
+#[cfg(test)]
 mod rings;
 #[cfg(test)]
 mod words;

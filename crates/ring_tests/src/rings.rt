@@ -11,7 +11,7 @@ use std::test::Fail;
 use std::thread::join;
 
 // Offers the buffers, the last first, with lengths from 0 on.
-fn offer_all(on: &Ring, mut driver: Driver, mut buffers: Vec<Buffer>) -> Driver
+pub(crate) fn offer_all(on: &Ring, mut driver: Driver, mut buffers: Vec<Buffer>) -> Driver
     requires ring { driver.ring ≡ on.now.ring }
     requires held { AreHeld role.Driver driver buffers.items }
     ensures { result.ring ≡ on.now.ring }
