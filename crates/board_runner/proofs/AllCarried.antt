@@ -1,4 +1,4 @@
--- All has come to a domain once each link of it was shuttled.
+-- Nothing is on its way once each link of the domain that put or gave back was shuttled.
 use Rattle.std.proofs.Common.{◌≡◌, ◌≢◌, ℕ, zero, suc, ◌+◌, ◌<◌, Bool, true, false, cond, List, [], ◌∷◌, length, slice_get, slice_set, Contains, IfSome, Option, Some, None, refl, sym, ap, ◌∙◌, subst, inl, inr, arith, eqb-true, eq-eqb, ne_eqb, true≢false}
 use Rattle.std.specs.Prelude.{◌==◌}
 use Rattle.std.specs.List.{AllByRecursion}
@@ -17,10 +17,11 @@ use Rattle.domain_core.specs.Carrying.{PlainLink, AreLinked, link_to}
 use Rattle.board_runner.specs.declared.station.Station.{Station}
 use Rattle.board_runner.specs.Near.{Near, nothing_near, PlainEnds, PlainDomain, near_to, near_among, near_of, peers_of, EndsMatch}
 use Rattle.board_runner.specs.Stations.{domain_of, near_in, near, LaneJoins, IsRun}
-use Rattle.board_runner.specs.Carried.{HasCome, IsCarried}
+use Rattle.board_runner.specs.Carried.{HasCome, OthersCarried}
+use Rattle.board_runner.specs.Runs.{AllCarried, CarriedBut}
 use Rattle.board_runner.specs.Meeting.{MayMeetAt, MeetAt}
 use Rattle.board_runner.specs.Shuttled.{carried_domain, AreLinkedPeers, Shuttles, linked, apart, MayShuttle, StationsShuttle, domains_of, numbers_of, KeepsRun, ComesFrom, ShuttlesAt}
-use Rattle.board_runner.proofs.PeersLanes.{HasPeer, has-contains, contains-has, lane-to, peer-back}
+use Rattle.board_runner.proofs.PeersLanes.{HasPeer, has-contains, contains-has, lane-to, peer-back, peer-there}
 use Rattle.board_runner.proofs.RunFinds.{mapped-at, some_same}
 use Rattle.board_runner.proofs.RunStations.{StationAt, station-at, station-number, numbers-differ, domain-at}
 use Rattle.board_runner.proofs.RunCarried.{has-come, come-stays, with_domain, stations_carried, link-come, numbers-carried, counts-carried, are-carried}
@@ -77,6 +78,11 @@ keeps-both one two three first then = record {
 
 pub shuttles-back : (i j : ℕ) (old new : List Station) → ShuttlesAt i j old new → ShuttlesAt j i old new
 shuttles-back i j old new h = record { keeps = h.keeps; there = h.back; back = h.there }
+
+no_item : {A : Type 0} (xs : List A) (i : ℕ) → i < length xs → slice_get xs i ≡ None → ⊥
+no_item [] i within none = absurd (omega (arith, within))
+no_item (x ∷ xs) zero within none = absurd cc
+no_item (x ∷ xs) (suc i) within none = no_item xs i (omega (arith, within)) none
 
 -- what is told of the stations at two places
 comes_by : (sts : List Station) (i j n m : ℕ) → slice_get (numbers_of sts) i ≡ Some n → slice_get (numbers_of sts) j ≡ Some m → HasCome (near (domains_of sts) n m) → ComesFrom sts i j
@@ -196,31 +202,32 @@ own_come n (p ∷ ps) [] matched = absurd matched
 own_come n (p ∷ ps) (Own l ∷ es) matched = come_as (near_among (p ∷ ps) (Own l ∷ es) n) (near_to (Own l)) (ap (λ (b : Bool). cond b (near_to (Own l)) (near_among ps es n)) (eq-eqb p n matched.0)) (record { put = refl; given = refl })
 own_come n (p ∷ ps) (Linked l ∷ es) matched = come_as (near_among (p ∷ ps) (Linked l ∷ es) n) (near_among ps es n) (ap (λ (b : Bool). cond b (near_to (Linked l)) (near_among ps es n)) (ne_eqb p n matched.0)) (own_come n ps es matched.2)
 
-all_every : {A : Type 0} (P : A → Type 0) → ((x : A) → P x) → (xs : List A) → AllByRecursion P xs
-all_every P each [] = tt
-all_every P each (x ∷ xs) = (each x, all_every P each xs)
+module _ (s : Scenario) (lawful : IsLawfulBoard s) (r : Running) (sts : List Station) (at : ℕ) (st : Station) (run : IsRun s r sts) (is : slice_get sts at ≡ Some st) (others : (j : ℕ) → j ≢ at → ComesFrom sts at j) where
+  board_of : IsLinkedBoard s
+  board_of = lawful_is_linked s lawful
 
--- from the domain at each other place
-abbrev pub OthersCome : List Station → ℕ → ℕ → Type 0
-OthersCome sts at count = (j : ℕ) → j < count → j ≢ at → ComesFrom sts j at
+  abbrev own : ℕ
+  own = number_in st
 
-pub come-from-all : (s : Scenario) → IsLawfulBoard s → (r : Running) (sts : List Station) (at : ℕ) (st : Station) → IsRun s r sts → slice_get sts at ≡ Some st → ((j : ℕ) → j ≢ at → ComesFrom sts j at) → (p : ℕ) → HasCome (near (domains_of sts) p (number_in st))
-come-from-all s lawful r sts at st run is others p = elim (eqb_tells p (number_in st)) [
-  | inl own ↦
-      come_as (near (domains_of sts) p (number_in st)) (near_of st.domain (number_in st)) (ap (λ (x : ℕ). near (domains_of sts) x (number_in st)) own.1 ∙ near_domain s (lawful_is_linked s lawful) r sts run at st is (number_in st))
-      (own_come (number_in st) (peers_of st.domain) st.domain.ends (matched-at s (lawful_is_linked s lawful) r sts run at st is))
-  | inr other ↦ go (domain_of (domains_of sts) p) refl other.1
-]
-  where
-    go : (o : Option PlainDomain) → domain_of (domains_of sts) p ≡ o → p ≢ number_in st → HasCome (near (domains_of sts) p (number_in st))
-    go None none other = come_as (near (domains_of sts) p (number_in st)) nothing_near (ap (λ (o : Option PlainDomain). near_in o (number_in st)) none) come_nothing
-    go (Some d) found other =
-        let place = found_place sts p d found in
-        let at_n : slice_get (numbers_of sts) at ≡ Some (number_in st) = mapped-at number_in sts at st is in
-        others place.0 (λ e. other (some_same (slice_get (numbers_of sts) at) p (number_in st) (ap (slice_get (numbers_of sts)) (sym e) ∙ place.1) at_n)) p (number_in st) place.1 at_n
+  own_at : slice_get (numbers_of sts) at ≡ Some own
+  own_at = mapped-at number_in sts at st is
 
-pub is-carried : (s : Scenario) → IsLawfulBoard s → (r : Running) (sts : List Station) (at : ℕ) (st : Station) → IsRun s r sts → slice_get sts at ≡ Some st → ((j : ℕ) → j ≢ at → ComesFrom sts j at) → IsCarried (domains_of sts) st.domain
-is-carried s lawful r sts at st run is others = record { come = all_every (λ p. HasCome (near (domains_of sts) p (number_in st))) (come-from-all s lawful r sts at st run is others) (peers_of st.domain) }
+  -- towards any domain
+  come-to-all : (p : ℕ) → HasCome (near (domains_of sts) own p)
+  come-to-all p = elim (eqb_tells p own) [
+    | inl same ↦
+        come_as (near (domains_of sts) own p) (near_of st.domain own) (ap (λ (x : ℕ). near (domains_of sts) own x) same.1 ∙ near_domain s board_of r sts run at st is own)
+        (own_come own (peers_of st.domain) st.domain.ends (matched-at s board_of r sts run at st is))
+    | inr other ↦ go (domain_of (domains_of sts) p) refl other.1
+  ]
+    where
+      go : (o : Option PlainDomain) → domain_of (domains_of sts) p ≡ o → p ≢ own → HasCome (near (domains_of sts) own p)
+      go None none other =
+          come_as (near (domains_of sts) own p) nothing_near
+          (near_domain s board_of r sts run at st is p ∙ nothing_among (peers_of st.domain) st.domain.ends p (λ has. peer-there s board_of r sts run at st is p has none)) come_nothing
+      go (Some d) found other =
+          let place = found_place sts p d found in
+          others place.0 (λ e. other (some_same (slice_get (numbers_of sts) at) p own (ap (slice_get (numbers_of sts)) (sym e) ∙ place.1) own_at)) own p own_at place.1
 
 -- what a shuttle of the link between two domains tells
 pub shuttles-linked : (one two one' two' : PlainDomain) → AreLinkedPeers one two → Contains (peers_of one) two.state.number → IfSome (link_to one.state.number two.ends) (λ b. one' ≡ carried_domain two.state.number b one)
@@ -244,10 +251,10 @@ shuttles-met s lawful r sts run low high order new h =
 
 -- ---- one station after the other
 
--- all has come to the station at a place from so many first ones
+-- what the domain at a place put and gave back has come to so many first ones
 pub record CarriedUpTo (at count : ℕ) (old now : List Station) : Type 0 where
   pub keeps : KeepsRun old now
-  pub come : (j : ℕ) → j < count → j ≢ at → ComesFrom now j at
+  pub come : (j : ℕ) → j < count → j ≢ at → ComesFrom now at j
 
 pub carried-none : (at : ℕ) (sts : List Station) → CarriedUpTo at 0 sts sts
 carried-none at sts = record { keeps = keeps-none sts; come = λ j below. absurd (omega (arith, below)) }
@@ -257,15 +264,15 @@ comes_stay old new i j keeps come n m at_n at_m =
     let was : (k x : ℕ) → slice_get (numbers_of new) k ≡ Some x → slice_get (numbers_of old) k ≡ Some x = λ k x e. ap (λ (ns : List ℕ). slice_get ns k) (sym keeps.numbers) ∙ e in
     keeps.stays n m (come n m (was i n at_n) (was j m at_m))
 
-pub carried-more : (at count : ℕ) (old now new : List Station) → CarriedUpTo at count old now → ShuttlesAt count at now new → CarriedUpTo at (count + 1) old new
+pub carried-more : (at count : ℕ) (old now new : List Station) → CarriedUpTo at count old now → ShuttlesAt at count now new → CarriedUpTo at (count + 1) old new
 carried-more at count old now new h shuttles = record {
   keeps = keeps-both old now new h.keeps shuttles.keeps;
   come = λ j below other. go j (j == count) refl below other;
 }
   where
-    go : (j : ℕ) (b : Bool) → (j == count) ≡ b → j < count + 1 → j ≢ at → ComesFrom new j at
-    go j true is below other = subst (λ (k : ℕ). ComesFrom new k at) (sym (eqb-true j count is)) shuttles.there
-    go j false not below other = comes_stay now new j at shuttles.keeps (h.come j (let differ : j ≢ count = λ e. true≢false (sym (eq-eqb j count e) ∙ not) in omega (arith, below, differ)) other)
+    go : (j : ℕ) (b : Bool) → (j == count) ≡ b → j < count + 1 → j ≢ at → ComesFrom new at j
+    go j true is below other = subst (λ (k : ℕ). ComesFrom new at k) (sym (eqb-true j count is)) shuttles.there
+    go j false not below other = comes_stay now new at j shuttles.keeps (h.come j (let differ : j ≢ count = λ e. true≢false (sym (eq-eqb j count e) ∙ not) in omega (arith, below, differ)) other)
 
 pub carried-skip : (at count : ℕ) (old now : List Station) → CarriedUpTo at count old now → count ≡ at → CarriedUpTo at (count + 1) old now
 carried-skip at count old now h is = record { keeps = h.keeps; come = λ j below other. h.come j (omega (arith, below, other, is)) other }
@@ -273,12 +280,28 @@ carried-skip at count old now h is = record { keeps = h.keeps; come = λ j below
 pub same-length : (old now : List Station) → KeepsRun old now → length now ≡ length old
 same-length old now keeps = sym (length-map now number_in) ∙ ap length keeps.numbers ∙ length-map old number_in
 
-pub all-carried : (s : Scenario) → IsLawfulBoard s → (r : Running) (old now : List Station) (at : ℕ) → IsRun s r old → CarriedUpTo at (length old) old now → IfSome (slice_get now at) (λ st. IsCarried (domains_of now) st.domain)
-all-carried s lawful r old now at run h = go (slice_get now at) refl
+-- nothing is on its way once it has come to all of them
+pub all-carried : (s : Scenario) → IsLawfulBoard s → (r : Running) (old now : List Station) (at : ℕ) (x : Station) → slice_get old at ≡ Some x → IsRun s r old → OthersCarried (number_in x) (domains_of old) → CarriedUpTo at (length old) old now → AllCarried now
+all-carried s lawful r old now at x is_x run others h a b = elim (eqb_tells a (number_in x)) [
+  | inl own ↦ go (slice_get now at) refl own.1
+  | inr other ↦ h.keeps.stays a b (others a b other.1)
+]
   where
-    others : (j : ℕ) → j ≢ at → ComesFrom now j at
-    others j other n m at_n at_m = h.come j (let within = slice_get_within (numbers_of now) j n at_n in omega (arith, within, length-map now number_in, same-length old now h.keeps)) other n m at_n at_m
+    at_x : slice_get (numbers_of now) at ≡ Some (number_in x)
+    at_x = ap (λ (ns : List ℕ). slice_get ns at) h.keeps.numbers ∙ mapped-at number_in old at x is_x
 
-    go : (o : Option Station) → slice_get now at ≡ o → IfSome o (λ st. IsCarried (domains_of now) st.domain)
-    go None none = tt
-    go (Some st) is = is-carried s lawful r now at st (h.keeps.run s r lawful run) is others
+    come_to : (j : ℕ) → j ≢ at → ComesFrom now at j
+    come_to j other n m at_n at_m = h.come j (let within = slice_get_within (numbers_of now) j m at_m in omega (arith, within, length-map now number_in, same-length old now h.keeps)) other n m at_n at_m
+
+    go : (o : Option Station) → slice_get now at ≡ o → a ≡ number_in x → HasCome (near (domains_of now) a b)
+    go None none own = let within = slice_get_within (numbers_of now) at (number_in x) at_x in absurd (no_item now at (omega (arith, within, length-map now number_in)) none)
+    go (Some st) is own =
+        let same : a ≡ number_in st = own ∙ some_same (slice_get (numbers_of now) at) (number_in x) (number_in st) at_x (mapped-at number_in now at st is) in
+        subst (λ (m : ℕ). HasCome (near (domains_of now) m b)) (sym same) (come-to-all s lawful r now at st (h.keeps.run s r lawful run) is come_to b)
+
+pub all-carried-at : (s : Scenario) → IsLawfulBoard s → (r : Running) (old now : List Station) (at : ℕ) → at < length old → IsRun s r old → CarriedBut at old → CarriedUpTo at (length old) old now → AllCarried now
+all-carried-at s lawful r old now at within run others h = go (slice_get old at) refl others
+  where
+    go : (o : Option Station) → slice_get old at ≡ o → IfSome o (λ x. OthersCarried (number_in x) (domains_of old)) → AllCarried now
+    go None none others = absurd (no_item old at within none)
+    go (Some x) is others = all-carried s lawful r old now at x is run others h

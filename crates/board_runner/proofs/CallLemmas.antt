@@ -185,12 +185,12 @@ nothing_received s node port none =
     (same_changed received (place_at s (local node port)) s.endpoints (λ e at. ap (λ (q : List Item). record e { queue = q }) (without_best-none (λ (i : Item). i.priority) e.queue (ap (λ (o : Option Endpoint). best (λ (i : Item). i.priority) (queue_in o)) (sym at) ∙ none))))
 
 -- the call does nothing
-record DoesNothing (s : DomainState) (node : ℕ) (call : DomainCall) : Type 0 where
-  effect_is : effect s node call ≡ s
-  puts_none : puts s node call ≡ []
-  returns_none : returns s node call ≡ []
-  gives_none : request_given s node call ≡ None
-  ends_none : place_ended s node call ≡ None
+pub record DoesNothing (s : DomainState) (node : ℕ) (call : DomainCall) : Type 0 where
+  pub effect_is : effect s node call ≡ s
+  pub puts_none : puts s node call ≡ []
+  pub returns_none : returns s node call ≡ []
+  pub gives_none : request_given s node call ≡ None
+  pub ends_none : place_ended s node call ≡ None
 
 record SucceedsIdly (s : DomainState) (node : ℕ) (call : DomainCall) : Type 0 where
   effect_is : success_effect s node call ≡ s
@@ -218,7 +218,7 @@ succeeds_idly s node (cancel_of p) e = absurd cc
 succeeds_idly s node turn_alone e = absurd cc
 
 -- so does one whose word is one of those with which it is made again
-tried_nothing : (s : DomainState) (node : ℕ) (call : DomainCall) → is_tried (answer s node call) ≡ true → DoesNothing s node call
+pub tried_nothing : (s : DomainState) (node : ℕ) (call : DomainCall) → is_tried (answer s node call) ≡ true → DoesNothing s node call
 tried_nothing s node call e = go (refusal s node call) refl
   where
     go : (o : Option Refusal) → refusal s node call ≡ o → DoesNothing s node call

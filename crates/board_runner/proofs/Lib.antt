@@ -1,4 +1,6 @@
 pub mod AllCarried
+pub mod QuietLemmas
+pub mod Resting
 pub mod AloneLemmas
 pub mod CallKept
 pub mod CallLanes

@@ -35,6 +35,7 @@ use Rattle.board_runner.specs.Near.{Near, nothing_near, PlainEnds, PlainDomain, 
 use Rattle.board_runner.specs.Lanes.{line_of_domain}
 use Rattle.board_runner.specs.Links.{new_link, link_to_neighbour, is_other, links_of}
 use Rattle.board_runner.specs.Opened.{IsOpened}
+use Rattle.board_runner.specs.Runs.{AllCarried}
 use Rattle.board_runner.specs.Stations.{IsKnown, domain_of, near_in, near, LaneHolds, LaneJoins, IsStation, AreStations, IsRun}
 use Rattle.board_runner.proofs.LinkLemmas.{none-below, links-differ, neighbours-opened}
 
@@ -293,6 +294,12 @@ is_run s board sts all = record {
   holds = all-weaken (λ l. IsSome (find (is_between l.sender l.receiver) (map empty_load (lanes s)))) (LaneHolds (domains_of sts) (map empty_load (lanes s))) (lane_holds (domains_of sts) (lanes s) (all_nothing s (rising s) sts all)) (lanes s) (listed (lanes s));
   joins = all-weaken (λ l. Joined s l.sender l.receiver l.size) (LaneJoins (domains_of sts)) (lane_joins s board sts all) (lanes s) (lanes_join s);
 }
+
+-- nothing is on its way
+pub opened-carried : (s : Scenario) → IsLinkedBoard s → (sts : List Station) → AreOpened s (below (λ d. d.domain) 8 (rising s)) sts → AllCarried sts
+opened-carried s board sts all a b =
+    let none : near (domains_of sts) a b ≡ nothing_near = nothing (domains_of sts) (all_nothing s (rising s) sts (opened_done s board sts all)) a b in
+    record { put = ap (λ (x : Near). x.put) none; given = ap (λ (x : Near). x.given) none }
 
 pub opened-runs : (s : Scenario) → IsLinkedBoard s → (sts : List Station) → AreOpened s (below (λ d. d.domain) 8 (rising s)) sts → IsRun s (opened s) sts
 opened-runs s board sts all = is_run s board sts (opened_done s board sts all)

@@ -12,7 +12,7 @@ use Rattle.board_model.proofs.LawfulBoards.{lawful_is_linked}
 use Rattle.board_model.proofs.MessageAlls.{all-at}
 use Rattle.board_model.proofs.PlaceBoards.{rising_differ}
 use Rattle.board_runner.specs.declared.station.Station.{Station}
-use Rattle.board_runner.specs.Runs.{IsSomeRun, At, Leads, TurnsOnce, OthersTurn, KeepCounts}
+use Rattle.board_runner.specs.Runs.{IsSomeRun, At, Leads, TurnsOnce, OthersTurn, AllCarried, KeepCounts}
 use Rattle.board_runner.specs.Stations.{IsRun}
 use Rattle.board_runner.proofs.StationCounts.{at_place}
 use Rattle.board_runner.proofs.StationLemmas.{item_at, numbers_are, domains_rise}
@@ -110,7 +110,7 @@ all_others n at old new all before =
     (at_place (λ y. Leads (λ s r. all_turned s r (others_before n s y.domain.state.number)) old new) old at x own before s r lawful h))
 
 -- the stations still stand for a run
-some_turned : (i : ℕ) (old new : List Station) (st : Station) → slice_get old i ≡ Some st → IsSomeRun old → TurnsOnce i old new → IsSomeRun new
+pub some_turned : (i : ℕ) (old new : List Station) (st : Station) → slice_get old i ≡ Some st → IsSomeRun old → TurnsOnce i old new → IsSomeRun new
 some_turned i old new st is some turns = record {
   scenario = some.scenario;
   lawful = some.lawful;
@@ -124,18 +124,20 @@ some_turned i old new st is some turns = record {
 pub record SoFar (i at : ℕ) (old new : List Station) : Type 0 where
   pub before : TurnedBefore i at old new
   pub run : IsSomeRun new
+  pub carried : AllCarried new
   pub counts : KeepCounts old new
 
-pub none_so_far : (at : ℕ) (sts : List Station) → IsSomeRun sts → SoFar 0 at sts sts
-none_so_far at sts some = record { before = none_turned at sts; run = some; counts = refl }
+pub none_so_far : (at : ℕ) (sts : List Station) → IsSomeRun sts → AllCarried sts → SoFar 0 at sts sts
+none_so_far at sts some carried = record { before = none_turned at sts; run = some; carried = carried; counts = refl }
 
-pub one_further : (i at : ℕ) (old mid new there : List Station) → i < length mid → i ≢ at → SoFar i at old mid → TurnsOnce i mid new → KeepCounts mid new → there ≡ new → SoFar (i + 1) at old there
-one_further i at old mid new there lt apart h turns same is =
+pub one_further : (i at : ℕ) (old mid new there : List Station) → i < length mid → i ≢ at → SoFar i at old mid → TurnsOnce i mid new → AllCarried new → KeepCounts mid new → there ≡ new → SoFar (i + 1) at old there
+one_further i at old mid new there lt apart h turns carried same is =
     let st = item_at mid i lt in
     let next : suc i ≡ i + 1 = omega arith in
     let go : SoFar (i + 1) at old new = record {
       before = subst (λ (n : ℕ). TurnedBefore n at old new) next (one_turned i at old mid new st.0 apart st.1 h.before turns);
       run = some_turned i mid new st.0 st.1 h.run turns;
+      carried = carried;
       counts = same ∙ h.counts;
     } in
     subst (SoFar (i + 1) at old) (sym is) go
@@ -146,6 +148,7 @@ own_further i at old new there own h is =
     let go : SoFar (i + 1) at old new = record {
       before = subst (λ (n : ℕ). TurnedBefore n at old new) next (own_skipped at old new (subst (λ (n : ℕ). TurnedBefore n at old new) own h.before));
       run = h.run;
+      carried = h.carried;
       counts = h.counts;
     } in
     subst (SoFar (i + 1) at old) (sym is) go

@@ -1,5 +1,5 @@
 -- The lanes of a board and the peers of its stations: each lane leads to a peer of its sender, and comes from a peer of its receiver.
-use Rattle.std.proofs.Common.{◌≡◌, ℕ, zero, suc, ◌<◌, List, [], ◌∷◌, map, length, get_or, find, slice_get, Contains, Some, sym, ap, ◌∙◌, inl, inr, subst, arith, eqb-true}
+use Rattle.std.proofs.Common.{◌≡◌, ℕ, zero, suc, ◌<◌, List, [], ◌∷◌, map, length, get_or, find, slice_get, Contains, Option, Some, None, Bool, true, false, cond, refl, sym, ap, ◌∙◌, inl, inr, subst, arith, eqb-true}
 use Rattle.std.specs.Prelude.{◌==◌}
 use Rattle.std.specs.List.{AllByRecursion}
 use Rattle.board_model.specs.declared.scenario.DomainLine.{DomainLine}
@@ -10,10 +10,12 @@ use Rattle.board_model.specs.SerialRun.{Running}
 use Rattle.board_model.proofs.MessageAlls.{all-at, all-found, all-weaken, found-passes}
 use Rattle.board_model.proofs.PlaceBoards.{rising_differ}
 use Rattle.board_model.proofs.WholeHas.{Has, has-weaken, has-map, has-each, has-gives}
-use Rattle.board_model.proofs.WholeJoined.{Joined, joined_back, rising_told, neighbours_join, lanes_join, found_neighbour, has_lane}
+use Rattle.board_model.proofs.WholeJoined.{Joined, joined_back, joined_found, rising_told, neighbours_join, lanes_join, found_neighbour, has_lane}
 use Rattle.board_runner.specs.declared.station.Station.{Station}
 use Rattle.board_runner.specs.Near.{peers_of}
-use Rattle.board_runner.specs.Stations.{IsRun}
+use Rattle.board_model.specs.SerialRun as serial
+use Rattle.board_runner.specs.Stations.{domain_of, IsRun}
+use Rattle.board_runner.proofs.StationLemmas.{numbers_are, domains_rise}
 use Rattle.board_runner.proofs.RunFinds.{mapped-at, find-at}
 use Rattle.board_runner.proofs.RunStations.{number_in, StationAt, station-at, station-number}
 
@@ -38,6 +40,23 @@ contains-has ps m c = go ps c.0 c.1 c.2
     go [] k within at = absurd (omega (arith, within))
     go (q ∷ qs) zero within at = inl at
     go (q ∷ qs) (suc k) within at = inr (go qs k (omega (arith, within)) at)
+
+-- where no station's domain has a number, no line tells it
+missing : (m : ℕ) (sts : List Station) (ds : List DomainLine) → map number_in sts ≡ map (λ d. d.domain) ds → domain_of (map (λ x. x.domain) sts) m ≡ None → find (λ d. d.domain == m) ds ≡ None
+missing m [] [] same none = refl
+missing m [] (d ∷ ds) same none = absurd cc
+missing m (x ∷ sts) [] same none = absurd cc
+missing m (x ∷ sts) (d ∷ ds) same none =
+    let here : number_in x ≡ d.domain = cc in
+    let rest : map number_in sts ≡ map (λ d. d.domain) ds = cc in
+    ap (λ (n : ℕ). cond (n == m) (Some d) (find (λ e. e.domain == m) ds)) (sym here) ∙ go (number_in x == m) none (missing m sts ds rest)
+  where
+    go : (b : Bool) → cond b (Some x.domain) (domain_of (map (λ y. y.domain) sts) m) ≡ None → (domain_of (map (λ y. y.domain) sts) m ≡ None → find (λ e. e.domain == m) ds ≡ None) → cond b (Some d) (find (λ e. e.domain == m) ds) ≡ None
+    go true none later = absurd cc
+    go false none later = later none
+
+none_some : {A : Type 0} (o : Option A) (x : A) → o ≡ None → o ≡ Some x → ⊥
+none_some o x none some = cc
 
 -- the line of a domain, by the place of its station
 record LineAt (s : Scenario) (i n : ℕ) (ps : List ℕ) : Type 0 where
@@ -96,6 +115,15 @@ module _ (s : Scenario) (board : IsLinkedBoard s) (r : Running) (sts : List Stat
     receives-from-peer =
         all-weaken (λ (l : Lane). Joined s l.sender l.receiver l.size) (λ l. l.receiver ≡ number_in st → HasPeer (peers_of st.domain) l.sender)
         (λ l joined is. joined_peer l.sender l.size (subst (λ (x : ℕ). Joined s x l.sender l.size) is (joined_back s l.sender l.receiver l.size joined))) (lanes s) (lanes_join s)
+
+  -- the domain of each peer is among the stations'
+  pub peer-there : (i : ℕ) (st : Station) → slice_get sts i ≡ Some st → (m : ℕ) → HasPeer (peers_of st.domain) m → domain_of (map (λ x. x.domain) sts) m ≡ None → ⊥
+  peer-there i st at m has none =
+      let j = peer_joined i st at m has in
+      let d = joined_found s board m (number_in st) j.0 (joined_back s (number_in st) m j.0 j.1) in
+      let lines : map (λ (t : serial.Station). t.line.domain) r.stations ≡ map (λ (e : DomainLine). e.domain) (rising s) = domains_rise s r.stations run.lines in
+      let nowhere : find (λ e. e.domain == m) (rising s) ≡ None = missing m sts (rising s) (numbers_are s r.stations sts run.each ∙ lines) none in
+      none_some (find (λ e. e.domain == m) (rising s)) d.0 nowhere d.1
 
   -- of two domains each is a peer of the other, or neither is
   pub peer-back : (i j : ℕ) (one two : Station) → slice_get sts i ≡ Some one → slice_get sts j ≡ Some two → HasPeer (peers_of one.domain) (number_in two) → HasPeer (peers_of two.domain) (number_in one)

@@ -24,6 +24,10 @@ map-replaced f [] i x x' at same = refl
 map-replaced {A} {B} f (y ∷ ys) zero x x' at same = let is : y ≡ x = cc in ap (λ (z : B). z ∷ map f ys) (same ∙ ap f (sym is))
 map-replaced {A} {B} f (y ∷ ys) (suc i) x x' at same = ap (λ (zs : List B). f y ∷ zs) (map-replaced f ys i x x' at same)
 
+pub all-every : {A : Type 0} (P : A → Type 0) → ((x : A) → P x) → (xs : List A) → AllByRecursion P xs
+all-every P each [] = tt
+all-every P each (x ∷ xs) = (each x, all-every P each xs)
+
 module _ {A : Type 0} (key : A → ℕ) where
   -- the item at a place has another number than each before it
   behind : (ys : List A) (i : ℕ) (x : A) (m : ℕ) → AllByRecursion (λ k. k ≡ m → ⊥) (map key ys) → slice_get ys i ≡ Some x → key x ≡ m → ⊥

@@ -27,7 +27,7 @@ use Rattle.domain_core.specs.Ends.{EndsMoved}
 use Rattle.mc_journal.specs.Entry.{plain_answer}
 use Rattle.board_runner.specs.declared.station.Station.{Station}
 use Rattle.board_runner.specs.declared.line.Made.{Made}
-use Rattle.board_runner.specs.Carried.{IsCarried}
+use Rattle.board_runner.specs.Carried.{AreCarried}
 use Rattle.board_runner.specs.Lines.{call_by, call_at_station, MakesCall, NotesAgain, NotesCalled, NotesAnswer}
 use Rattle.board_runner.specs.Runs.{IsNext, IsCalled, after_call}
 use Rattle.board_runner.specs.Stations.{IsRun, LaneHolds}
@@ -73,7 +73,7 @@ module _ (s : Scenario) (board : IsLinkedBoard s) (q : Running) (sts : List Stat
       (run_entered s board q sts at t (again (word_in (answer t.run.state line.node (call_at t.run line))) ∷ []) q.loads new stands t_at is holds kept.joins)
 
 -- a call with its turn
-module _ (s : Scenario) (board : IsLinkedBoard s) (r : Running) (sts : List Station) (stands : IsRun s r sts) (at : ℕ) (old called_to new : Station) (is_at : slice_get sts at ≡ Some old) (carried : IsCarried (domains sts) old.domain)
+module _ (s : Scenario) (board : IsLinkedBoard s) (r : Running) (sts : List Station) (stands : IsRun s r sts) (at : ℕ) (old called_to new : Station) (is_at : slice_get sts at ≡ Some old) (carried : AreCarried (domains sts))
     (line : CallLine) (m : Made) (makes : MakesCall line old called_to m) (next : IsNext s line old) (few : old.number + 1 < 2 ^ 32) where
   -- the station after its turn
   abbrev turned_to : Station

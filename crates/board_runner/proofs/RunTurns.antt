@@ -1,4 +1,4 @@
--- A turn of a domain to which all has come is the turn of the serial run.
+-- A turn of a domain, where nothing is on its way, is the turn of the serial run.
 use Rattle.std.proofs.Common.{◌≡◌, ◌≢◌, ℕ, Bool, true, false, cond, List, map, Option, Some, slice_get, slice_set, refl, sym, ap, ◌∙◌, subst, eqb-true}
 use Rattle.std.specs.Prelude.{◌==◌}
 use Rattle.std.specs.List.{AllByRecursion}
@@ -22,12 +22,12 @@ use Rattle.mc_journal.specs.Written.{Written}
 use Rattle.board_runner.specs.declared.station.Station.{Station}
 use Rattle.board_runner.specs.Near.{PlainDomain, near_of, peers_of, EndsMatch}
 use Rattle.board_runner.specs.Stations.{domain_of, near, LaneHolds, LaneJoins, IsStation, IsRun}
-use Rattle.board_runner.specs.Carried.{IsCarried}
+use Rattle.board_runner.specs.Carried.{HasCome, AreCarried}
 use Rattle.board_runner.proofs.TurnLanes.{Stands, HasBoth}
 use Rattle.board_runner.proofs.TurnEnds.{Moved, TurnedLanes, turned-lanes}
 use Rattle.board_runner.proofs.TurnLinks.{linked-one, linked-two}
 use Rattle.board_runner.proofs.TurnStations.{turned_station, station-turned}
-use Rattle.board_runner.proofs.RunFinds.{mapped-at, map-replaced, find-at, map-at}
+use Rattle.board_runner.proofs.RunFinds.{mapped-at, map-replaced, find-at, map-at, all-every}
 use Rattle.board_runner.proofs.RunStations.{domains_in, number_in, line_number, StationAt, station-at, station-number, stations-replaced, lines-differ, numbers-differ, domain-at, domain-replaced, near-was, near-replaced, holds-stands, stands-holds, has-both}
 
 -- ---- one station in the place of another
@@ -83,7 +83,7 @@ turned-once-is s r n i t visits differ at is told =
     ∙ ap (λ (o : Option run.Station). turned_by s n o r) (sym (find-at line_number r.stations i t n differ at is))
 
 module _ (s : Scenario) (board : IsLinkedBoard s) (r : Running) (sts : List Station) (i : ℕ) (st : Station) (visits : List Visit) (numbers : List (List ℕ)) (d' : PlainDomain) (j : Written)
-    (h : IsRun s r sts) (at : slice_get sts i ≡ Some st) (carried : IsCarried (domains_in sts) st.domain) (turns : Turns Moved visits numbers st.domain d') (told : j.lines ≡ noted st.journal.lines (turned visits)) where
+    (h : IsRun s r sts) (at : slice_get sts i ≡ Some st) (carried : AreCarried (domains_in sts)) (turns : Turns Moved visits numbers st.domain d') (told : j.lines ≡ noted st.journal.lines (turned visits)) where
   place : StationAt s r.stations i st
   place = station-at s r.stations sts i st h.each at
 
@@ -101,7 +101,7 @@ module _ (s : Scenario) (board : IsLinkedBoard s) (r : Running) (sts : List Stat
       turned-lanes (near (domains_in sts)) (lanes s) st.domain d' visits numbers r.loads turns
       (subst (λ (n : ℕ). EndsMatch n (peers_of st.domain) st.domain.ends) (sym number-is) place.is.matched)
       (subst Differ (sym place.is.peers) (neighbours_differ s board place.station.line))
-      carried.come
+      (all-every (λ p. HasCome (near (domains_in sts) p (number_in st))) (λ p. carried p (number_in st)) (peers_of st.domain))
       (subst (λ (n : ℕ). AllByRecursion (HasBoth (lanes s) n) (peers_of st.domain)) (sym number-is) (subst (AllByRecursion (HasBoth (lanes s) place.station.line.domain)) (sym place.is.peers) (has-both s board place.station.line i line-at)))
       (all-weaken (LaneHolds (domains_in sts) r.loads) (Stands (number_in st) (near_of st.domain) (near (domains_in sts)) r.loads)
       (holds-stands (domains_in sts) (number_in st) (near_of st.domain) (near (domains_in sts)) r.loads (near-was sts i st (number_in st) (numbers-differ s board r sts h) at refl)) (lanes s) h.holds)

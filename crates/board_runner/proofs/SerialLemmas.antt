@@ -17,6 +17,7 @@ use Rattle.board_model.specs.LinkedBoard.{Differ, IsTold, HasFitArguments, IsLin
 use Rattle.board_model.specs.Lists.{changed_at}
 use Rattle.board_model.specs.Scenario.{rising, rising_from, ranked_domain, script}
 use Rattle.board_model.specs.SerialRun.{Running, opened, opened_station, line_run, lines_run, finished}
+use Rattle.board_model.proofs.BoardsNeighbours.{told-fits}
 use Rattle.board_model.proofs.BoardsRising.{AreRising, rising-rises}
 use Rattle.board_model.proofs.LawfulBoards.{lawful_is_linked}
 use Rattle.board_model.proofs.ListsApart.{all-unmap}
@@ -27,7 +28,7 @@ use Rattle.board_model.proofs.WholeJoined.{told_found}
 use Rattle.board_model.proofs.WholeLines.{lines_of}
 use Rattle.board_runner.specs.declared.station.Station.{Station}
 use Rattle.board_runner.specs.Lines.{AsksAtMost}
-use Rattle.board_runner.specs.Runs.{IsSomeNext, At, IsNext, DropsFit, CountsFit, OneLineMore, RunsLine}
+use Rattle.board_runner.specs.Runs.{IsSomeNext, AllCarried, At, IsNext, DropsFit, CountsFit, OneLineMore, RunsLine}
 use Rattle.board_runner.specs.Shuttled.{counted}
 use Rattle.board_runner.specs.Stations.{AreStations, IsRun}
 use Rattle.board_runner.proofs.OthersLemmas.{board_numbers}
@@ -147,6 +148,7 @@ one_called before line (n ∷ ns) (suc at) differ is =
 -- where the stations stand after so many lines
 pub record Along (s : Scenario) (before : List CallLine) (sts : List Station) : Type 0 where
   pub stands : IsRun s (lines_run s (opened s) before) sts
+  pub carried : AllCarried sts
   pub called : map (λ st. st.number) sts ≡ called_of before (board_numbers s)
   pub fits : CountsFit sts
 
@@ -161,8 +163,8 @@ opened_counts s (d ∷ ds) (st ∷ sts) all =
 opened_counts s [] (st ∷ sts) all = absurd all
 opened_counts s (d ∷ ds) [] all = absurd all
 
-pub none_along : (s : Scenario) (sts : List Station) → IsRun s (opened s) sts → Along s [] sts
-none_along s sts h = let counts = opened_counts s (rising s) sts h.each in record { stands = h; called = counts.0; fits = counts.1 }
+pub none_along : (s : Scenario) (sts : List Station) → IsRun s (opened s) sts → AllCarried sts → Along s [] sts
+none_along s sts h carried = let counts = opened_counts s (rising s) sts h.each in record { stands = h; carried = carried; called = counts.0; fits = counts.1 }
 
 -- the line that comes next, at the station of its domain
 pub record Comes (s : Scenario) (line : CallLine) (at : ℕ) (sts : List Station) : Type 0 where
@@ -194,8 +196,8 @@ line_comes s board i line at sts is place h =
     some_is e = cc
 
 -- after it
-pub line_along : (s : Scenario) → IsLawfulBoard s → (i : ℕ) (line : CallLine) (at : ℕ) (sts new : List Station) → slice_get s.calls i ≡ Some line → at ≡ count_by (λ d. nat_lt d.domain line.domain) s.domains → Along s (take i s.calls) sts → RunsLine line at sts new → OneLineMore at sts new → Along s (take (i + 1) s.calls) new
-line_along s lawful i line at sts new is place h runs more =
+pub line_along : (s : Scenario) → IsLawfulBoard s → (i : ℕ) (line : CallLine) (at : ℕ) (sts new : List Station) → slice_get s.calls i ≡ Some line → at ≡ count_by (λ d. nat_lt d.domain line.domain) s.domains → Along s (take i s.calls) sts → RunsLine line at sts new → AllCarried new → OneLineMore at sts new → Along s (take (i + 1) s.calls) new
+line_along s lawful i line at sts new is place h runs carried more =
     let board = lawful_is_linked s lawful in
     let before = take i s.calls in
     let comes = line_comes s board i line at sts is place h in
@@ -204,6 +206,7 @@ line_along s lawful i line at sts new is place h runs more =
     let there : slice_get (board_numbers s) at ≡ Some line.domain = ap (slice_get (board_numbers s)) place ∙ place_is s board line.domain (all-at (λ c. IsTold s c.domain) s.calls i line board.lines_told is) in
     let go : Along s (before ++ line ∷ []) new = record {
       stands = subst (λ (z : Running). IsRun s z new) (sym (lines_run-append s (opened s) before (line ∷ []))) (runs s (lines_run s (opened s) before) lawful comes.next h.stands);
+      carried = carried;
       called = more.lines ∙ ap (changed_at (λ (k : ℕ). k + 1) at) h.called ∙ one_called before line (board_numbers s) at (rising_differ s board) there;
       fits = more.fits h.fits;
     } in
@@ -215,6 +218,10 @@ some_next s lawful line at before sts h comes = record { scenario = s; lawful = 
 -- all lines ran
 pub all_along : (s : Scenario) (i : ℕ) (sts : List Station) → length s.calls ≤ i → Along s (take i s.calls) sts → IsRun s (finished s) sts
 all_along s i sts le h = subst (λ (ls : List CallLine). IsRun s (lines_run s (opened s) ls) sts) (take_all s.calls i le) h.stands
+
+-- a line's domain is one of 0 to 7
+pub number-fits : (s : Scenario) → IsLinkedBoard s → (i : ℕ) (line : CallLine) → slice_get s.calls i ≡ Some line → line.domain < 8
+number-fits s board i line is = omega (arith, told-fits s board line.domain (all-at (λ c. IsTold s c.domain) s.calls i line board.lines_told is))
 
 -- a lawful line asks for 9,000 bytes at most
 asks : (c : Call) → HasFitArguments c → AsksAtMost 9000 c

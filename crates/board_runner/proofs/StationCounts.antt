@@ -17,7 +17,7 @@ use Rattle.board_model.proofs.WholeFinds.{some_tells}
 use Rattle.mc_journal.specs.Entry.{plain_answer}
 use Rattle.board_runner.specs.declared.station.Station.{Station}
 use Rattle.board_runner.specs.Lines.{dropped_by, NotesAnswer, Tries}
-use Rattle.board_runner.specs.Runs.{At, KeepCounts, DropsFit, CountsFit, MayCount, OneLineMore, CountsCall, IsNext, IsSomeNext, Leads}
+use Rattle.board_runner.specs.Runs.{At, KeepCounts, DropsFit, CountsFit, MayCount, OneLineMore, CountsCall, IsNext, IsSomeNext}
 use Rattle.board_runner.specs.Shuttled.{counted}
 use Rattle.board_runner.specs.Stations.{IsRun}
 use Rattle.board_runner.proofs.StationLemmas.{numbers_in, numbers_are, domains_rise, set-same}
@@ -37,8 +37,8 @@ part_at f old new at st same is =
 
 -- ---- counts
 
-pub drops_at : (old new : List Station) (at : ℕ) (st : Station) → KeepCounts old new → slice_get new at ≡ Some st → CountsFit old → DropsFit (counted st)
-drops_at old new at st same is fits = all-at DropsFit (map counted old) at (counted st) fits (ap (λ (xs : List (ℕ × ℕ)). slice_get xs at) (sym same) ∙ slice_get-map counted new at ∙ ap (option_map counted) is)
+pub drops_at : (sts : List Station) (at : ℕ) (st : Station) → slice_get sts at ≡ Some st → CountsFit sts → DropsFit (counted st)
+drops_at sts at st is fits = all-at DropsFit (map counted sts) at (counted st) fits (slice_get-map counted sts at ∙ ap (option_map counted) is)
 
 -- a list changed at a place
 pub changed_set : {A : Type 0} (f : A → A) (xs : List A) (i : ℕ) (x : A) → slice_get xs i ≡ Some x → changed_at f i xs ≡ set xs i (f x)
@@ -71,7 +71,7 @@ module _ (old carried : List Station) (at : ℕ) (st new : Station) (same : Keep
         ∙ sym (changed_set (λ (k : ℕ). k + 1) (map (λ (x : Station). x.number) carried) at st.number (slice_get-map (λ (x : Station). x.number) carried at ∙ ap (option_map (λ (x : Station). x.number)) is))
         ∙ ap (changed_at (λ (k : ℕ). k + 1) at) (lines_kept old carried same);
     fits = λ fits.
-        let before : DropsFit (counted st) = drops_at old carried at st same is fits in
+        let before : DropsFit (counted st) = drops_at carried at st is (subst (AllByRecursion DropsFit) (sym same) fits) in
         let after : DropsFit (counted new) = omega (arith, before, number, small, dropped) in
         subst (AllByRecursion DropsFit) (sym (map-set counted carried at new)) (all_set DropsFit (map counted carried) at (counted new) (subst (AllByRecursion DropsFit) (sym same) fits) after);
   }
@@ -82,6 +82,14 @@ module _ (old carried : List Station) (at : ℕ) (st new : Station) (same : Keep
       go : (b : Bool) → NotesAnswer b line h.made h.called_to new → CountsCall b at old (set carried at new)
       go true notes = counts_stay (ap₂ (λ (k n : ℕ). (k, n)) (notes.number ∙ h.makes.number) (notes.dropped ∙ h.makes.dropped))
       go false notes = one_more (notes.number ∙ ap (λ (k : ℕ). k + 1) h.makes.number) (dropped_by line.call (plain_answer h.made.answer)) h.makes.drops_fit (notes.dropped ∙ ap (λ (k : ℕ). k + dropped_by line.call (plain_answer h.made.answer)) h.makes.dropped)
+
+-- a call, and then counts that stay
+pub counts_call_after : (b : Bool) (at : ℕ) (old mid new : List Station) → CountsCall b at old mid → KeepCounts mid new → CountsCall b at old new
+counts_call_after true at old mid new counts same = same ∙ counts
+counts_call_after false at old mid new more same = record {
+  lines = lines_kept mid new same ∙ more.lines;
+  fits = λ fits. subst (AllByRecursion DropsFit) (sym same) (more.fits fits);
+}
 
 -- counts that stay, and then one line more
 pub one_line_after : (at : ℕ) (old mid new : List Station) → KeepCounts old mid → OneLineMore at mid new → OneLineMore at old new
@@ -114,6 +122,5 @@ next_at s r q line old new at st h k same is next =
 pub may_count : (s : Scenario) → IsLinkedBoard s → (line : CallLine) (st : Station) → IsNext s line st → MayCount st
 may_count s board line st next = omega (arith, slice_get_within (script s line.domain) st.number line next.comes, script-few s board line.domain)
 
-pub count_at : (line : CallLine) (old new : List Station) (at : ℕ) (st : Station) → IsSomeNext line at old → Leads (λ s r. r) old new → KeepCounts old new → slice_get new at ≡ Some st → MayCount st
-count_at line old new at st some leads same is =
-    may_count some.scenario (lawful_is_linked some.scenario some.lawful) line st (next_at some.scenario some.run some.run line old new at st some.stands (leads some.scenario some.run some.lawful some.stands) same is some.next)
+pub count_at : (line : CallLine) (sts : List Station) (at : ℕ) (st : Station) → IsSomeNext line at sts → slice_get sts at ≡ Some st → MayCount st
+count_at line sts at st some is = may_count some.scenario (lawful_is_linked some.scenario some.lawful) line st (at_place (IsNext some.scenario line) sts at st is some.next)

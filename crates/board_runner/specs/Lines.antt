@@ -1,6 +1,6 @@
 -- What a runner does with the call of a line at the line's station.
 -- Source: docs/PROFILE.md, "Serial run" and "Tries".
-use Rattle.std.specs.Prelude.{◌≡◌, ℕ, ◌+◌, ◌≤◌, ◌<◌, ◌^◌, Bool, true, false, ◌&&◌, option_map, if◌then◌else◌}
+use Rattle.std.specs.Prelude.{◌≡◌, ℕ, ◌+◌, ◌-◌, ◌≤◌, ◌<◌, ◌^◌, Bool, true, false, ◌&&◌, ◌||◌, Option, Some, slice_get, length, option_map, if◌then◌else◌}
 use Rattle.mc_base.specs.Limits.{asked_limit}
 use Rattle.mc_base.specs.declared.request.Done.{Done}
 use Rattle.mc_base.specs.declared.request.Done.TheVariants as done
@@ -11,7 +11,7 @@ use Rattle.board_model.specs.declared.scenario.Call.{Call}
 use Rattle.board_model.specs.declared.scenario.Call.TheVariants.{Create, Delete, Lookup, MsgSend, MsgRecv, MsgRecvI, MsgAvailable, Test, Cancel, Turn}
 use Rattle.board_model.specs.declared.scenario.CallLine.{CallLine}
 use Rattle.board_model.specs.DomainCall.{DomainCall, create_at, delete_at, lookup_of, send_from, receive_at, request_at, available_at, test_of, cancel_of, turn_alone}
-use Rattle.board_model.specs.Journal.{Line, PlainAnswer, again, called, noted}
+use Rattle.board_model.specs.Journal.{Line, idle_line, PlainAnswer, again, called, noted}
 use Rattle.board_model.specs.Labels.{request_given}
 use Rattle.board_model.specs.Scenario.{label_in}
 use Rattle.board_model.specs.Step.{is_tried}
@@ -51,6 +51,23 @@ AsksAtMost n other = Unit {0}
 -- how many messages a call dropped, where it is a delete
 abbrev pub dropped_by : Call → PlainAnswer → ℕ
 dropped_by call a = if is_delete call then number_told a else 0
+
+-- the last line is one of idle turns
+abbrev pub is_idle_line : Option Line → Bool
+is_idle_line (Some (idle_line n)) = true
+is_idle_line other = false
+
+abbrev pub ends_idle : List Line → Bool
+ends_idle lines = is_idle_line (slice_get lines (length lines - 1))
+
+abbrev pub is_turn : Call → Bool
+is_turn Turn = true
+is_turn other = false
+
+-- A call that is a turn alone, or is answered by a word with which it may be made again, and whose lines end with an idle turn. It put
+-- nothing, since each frame that is put has a line, and gave nothing back
+abbrev pub is_quiet : Call → PlainAnswer → List Line → Bool
+is_quiet call a lines = (is_turn call || is_tried a) && ends_idle lines
 
 -- of a message, a test gave so many bytes at most. No packet comes yet
 abbrev pub GivesWithin : ℕ → Done → Type 0

@@ -13,8 +13,8 @@ use Rattle.board_model.specs.Step.{call_at}
 use Rattle.board_model.specs.SerialRun as run
 use Rattle.board_model.specs.SerialRun.{Running, turned_once, with_entry, word_in, called_by, is_tried_at, station_of}
 use Rattle.board_runner.specs.declared.station.Station.{Station}
-use Rattle.board_runner.specs.Carried.{IsCarried}
-use Rattle.board_runner.specs.Shuttled.{counted}
+use Rattle.board_runner.specs.Carried.{AreCarried, OthersCarried}
+use Rattle.board_runner.specs.Shuttled.{counted, domains_of}
 use Rattle.board_runner.specs.Stations.{IsRun}
 
 -- the stations stand for a run of a lawful board
@@ -40,9 +40,13 @@ TurnsOnce at old new = At at (λ st. Leads (λ s r. turned_once s r st.domain.st
 abbrev pub OthersTurn : ℕ → List Station → List Station → Type 0
 OthersTurn at old new = At at (λ st. Leads (λ s r. run.all_turned s r (run.others s st.domain.state.number)) old new) old
 
--- all has come to a station
-abbrev pub CarriedAt : ℕ → List Station → Type 0
-CarriedAt at sts = At at (λ st. IsCarried (map (λ x. x.domain) sts) st.domain) sts
+-- nothing is on its way between them
+abbrev pub AllCarried : List Station → Type 0
+AllCarried sts = AreCarried (domains_of sts)
+
+-- or only what the domain at this place put and gave back
+abbrev pub CarriedBut : ℕ → List Station → Type 0
+CarriedBut at sts = At at (λ st. OthersCarried st.domain.state.number (domains_of sts)) sts
 
 -- ---- what stations count
 

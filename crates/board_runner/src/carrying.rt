@@ -1,40 +1,44 @@
-//! Shuttles between the stations of a board.
+//! Carrying between the stations of a board.
 
-ghost use Rattle.std.specs.Prelude.{◌≡◌, ◌<◌, length};
+ghost use Rattle.std.specs.Prelude.{◌≡◌, ◌≢◌, ◌<◌, length};
 ghost use Rattle.board_runner.specs.Meeting.{MayMeetAt, MeetAt};
-ghost use Rattle.board_runner.specs.Runs.{IsSomeRun, Leads, CarriedAt, KeepCounts};
-ghost use Rattle.board_runner.specs.Shuttled.{AreLinkedPeers, Shuttles, ShuttlesAt};
+ghost use Rattle.board_runner.specs.Runs.{IsSomeRun, Leads, AllCarried, CarriedBut, KeepCounts};
+ghost use Rattle.board_runner.specs.Shuttled.{ShuttlesAt};
 
 use crate::station::Station;
-use domain_core::{Domain, carry};
-use lane_end::{PlainRecv, PlainSend};
+use domain_core::carry;
 
-/// Shuttles both lanes of each link of a station, so that the looks of its turn show all that stands.
+/// Carries what the domain of a station put and gave back: it stands at the other ends of the domain's links from then on. Nothing
+/// else is on its way.
 pub fn carry_all(stations: &mut [Station<'_>], at: usize)
     requires at { at < length stations.old }
     requires run { IsSomeRun stations.old }
+    requires others { CarriedBut at stations.old }
     ensures run { Leads (λ s r. r) stations.old stations.new }
-    ensures carried { CarriedAt at stations.new }
+    ensures carried { AllCarried stations.new }
     ensures counts { KeepCounts stations.old stations.new }
 {
     for other in 0..stations.len() {
-        if other < at {
-            shuttle_at(stations, other, at);
-        }
-        if at < other {
+        if other != at {
             shuttle_at(stations, at, other);
         }
     }
 }
 
-/// Shuttles both lanes of the link between the stations at two places, where there is one.
-fn shuttle_at(stations: &mut [Station<'_>], low: usize, high: usize)
-    requires order { low < high }
-    requires within { high < length stations.old }
+/// Shuttles both lanes of the link between the stations at two places, in whichever order they stand. Where there is no link
+/// nothing happens.
+fn shuttle_at(stations: &mut [Station<'_>], one: usize, two: usize)
+    requires apart { one ≢ two }
+    requires one_within { one < length stations.old }
+    requires two_within { two < length stations.old }
     requires run { IsSomeRun stations.old }
-    ensures { ShuttlesAt low high stations.old stations.new }
+    ensures { ShuttlesAt one two stations.old stations.new }
 {
-    meet_at(stations, low, high);
+    if one < two {
+        meet_at(stations, one, two);
+    } else {
+        meet_at(stations, two, one);
+    }
 }
 
 /// What changes together with another of its kind.
@@ -56,7 +60,9 @@ impl Meets for Station<'_> {
     ghost Met = { StationsShuttle };
 
     fn meet(&mut self, other: &mut Self) {
-        carry_linked(&mut self.domain, &mut other.domain, other.domain_number);
+        if self.domain.has_peer(other.domain_number) {
+            carry(&mut self.domain, &mut other.domain);
+        }
     }
 }
 
@@ -70,19 +76,4 @@ fn meet_at<T: Meets>(items: &mut [T], low: usize, high: usize)
 {
     let (before, after) = items.split_at_mut(high);
     before[low].meet(&mut after[0]);
-}
-
-/// Shuttles both lanes of the link between two domains, where there is one. The number is the second's.
-fn carry_linked(
-    one: &mut Domain<PlainSend, PlainRecv>,
-    two: &mut Domain<PlainSend, PlainRecv>,
-    number: u8,
-)
-    requires number { number ≡ two.old.state.number }
-    requires peers { AreLinkedPeers one.old two.old }
-    ensures { Shuttles one.old two.old one.new two.new }
-{
-    if one.has_peer(number) {
-        carry(one, two);
-    }
 }

@@ -22,6 +22,7 @@ mod station;
 mod stations;
 mod tally;
 
+pub use board_model::{LanePlaces, Totals};
 pub use outcome::{ChannelTotals, Outcome};
 pub use report::write_report;
 pub use serial::run_serial;

@@ -6,8 +6,9 @@ ghost use Rattle.board_model.specs.Journal.{refuses, noted_again};
 ghost use Rattle.board_model.specs.SerialRun.{more_calls};
 ghost use Rattle.board_model.specs.Step.{is_tried, is_tried_word};
 ghost use Rattle.mc_journal.specs.Entry.{plain_answer, bytes_in_answer};
-ghost use Rattle.board_runner.specs.Lines.{CallsDomain, MakesCall, NotesCalled, Tries, AsksAtMost, call_by, dropped_by};
-ghost use Rattle.board_runner.specs.Runs.{IsSomeNext, MayCount, CountsFit, CallsLine, CountsCall, RunsLine, OneLineMore};
+ghost use Rattle.board_runner.specs.Carried.{StayCarriedWhere};
+ghost use Rattle.board_runner.specs.Lines.{CallsDomain, MakesCall, NotesCalled, Tries, AsksAtMost, call_by, dropped_by, is_quiet as is_quiet_call, ends_idle as ends_idle_lines};
+ghost use Rattle.board_runner.specs.Runs.{IsSomeNext, AllCarried, MayCount, CountsFit, CallsLine, CountsCall, RunsLine, OneLineMore};
 
 mod messages;
 mod requests;
@@ -31,8 +32,19 @@ pub struct Made<'r> {
     pub given: Option<RequestId>,
 }
 
+/// How a call ended: whether it is to be made again, and whether it was quiet, so that nothing has to be carried after it.
+#[derive(Clone, Copy)]
+struct Ended {
+    is_again: bool,
+    is_quiet: bool,
+}
+
 /// Runs a line at the station of its domain. Between two of its calls every other domain makes a turn. What is received goes
-/// through `room`. Want of memory is the only refusal.
+/// through `room`.
+///
+/// # Errors
+///
+/// `NoMemory` where a journal or the labels cannot grow.
 pub fn run_line<'a>(
     stations: &mut [Station<'a>],
     at: usize,
@@ -41,10 +53,12 @@ pub fn run_line<'a>(
 ) -> Result<(), NoMemory>
     requires at { at < length stations.old }
     requires next { IsSomeNext line.now at stations.old }
+    requires carried { AllCarried stations.old }
     requires counts { CountsFit stations.old }
     requires asks { AsksAtMost asked_limit line.now.call }
     requires room { length room.old ≡ asked_limit }
     ensures run { OnOk result (RunsLine line.now at stations.old stations.new) }
+    ensures carried { OnOk result (AllCarried stations.new) }
     ensures counts { OnOk result (OneLineMore at stations.old stations.new) }
 {
     for _call in 0..more_calls_of(line.tries) {
@@ -67,7 +81,7 @@ fn more_calls_of(tries: Option<u32>) -> u32
     }
 }
 
-/// Makes the call of a line, before which all that stands is carried to its domain, and tells whether it is to be made again.
+/// Makes the call of a line, carries what it put and gave back, and returns whether it is to be made again.
 fn call_once<'a>(
     stations: &mut [Station<'a>],
     at: usize,
@@ -77,40 +91,69 @@ fn call_once<'a>(
 ) -> Result<bool, NoMemory>
     requires at { at < length stations.old }
     requires next { IsSomeNext line.now at stations.old }
+    requires carried { AllCarried stations.old }
     requires counts { CountsFit stations.old }
     requires asks { AsksAtMost asked_limit line.now.call }
     requires room { length room.old ≡ asked_limit }
     ensures run { IfOk result (λ is_again. CallsLine line.now may_try is_again at stations.old stations.new) }
+    ensures carried { OnOk result (AllCarried stations.new) }
     ensures counts { IfOk result (λ is_again. CountsCall is_again at stations.old stations.new) }
 {
-    carry_all(stations, at);
-    call_and_note(&mut stations[at], line, may_try, room)
+    let ended = call_and_note(&mut stations[at], line, may_try, room)?;
+    if !ended.is_quiet {
+        carry_all(stations, at);
+    }
+    Ok(ended.is_again)
 }
 
-/// Makes the call of a line and notes its answer, and tells whether it is to be made again.
+/// Makes the call of a line and notes its answer.
 fn call_and_note<'a>(
     station: &mut Station<'a>,
     line: &'a CallLine,
     may_try: bool,
     room: &mut [u8],
-) -> Result<bool, NoMemory>
+) -> Result<Ended, NoMemory>
     requires count { MayCount station.old }
     requires drops { station.old.dropped ≤ 2 ^ 32 * station.old.number }
     requires asks { AsksAtMost asked_limit line.now.call }
     requires room { length room.old ≡ asked_limit }
-    ensures { IfOk result (λ is_again. Tries line.now may_try station.old station.new is_again) }
+    ensures tries { IfOk result (λ ended. Tries line.now may_try station.old station.new ended.is_again) }
+    ensures quiet { IfOk result (λ ended. StayCarriedWhere ended.is_quiet station.old.domain.ends station.new.domain.ends) }
 {
     let made = call_line(station, line, room)?;
+    let is_quiet = is_quiet(&line.call, made.answer, &station.journal);
     match word_to_try(made.answer) {
         Some(word) if may_try => {
             note_again(&mut station.journal, word)?;
-            Ok(true)
+            Ok(Ended {
+                is_again: true,
+                is_quiet,
+            })
         }
         _ => {
             note_called(station, line, made)?;
-            Ok(false)
+            Ok(Ended {
+                is_again: false,
+                is_quiet,
+            })
         }
     }
+}
+
+/// Whether a call that was answered so put nothing and gave nothing back, its turn with it: its last entry is then an idle turn,
+/// since a frame that is put is noted, and a call that is refused so, or is a turn alone, gives nothing back itself.
+fn is_quiet(call: &Call, answer: Answer<'_>, journal: &Journal) -> bool
+    ensures { result ≡ is_quiet_call call.now (plain_answer answer.entry) journal.now.lines }
+{
+    (matches!(call, Call::Turn) || word_to_try(answer).is_some()) && ends_idle(journal)
+}
+
+/// Whether the last entry is one of idle turns.
+fn ends_idle(journal: &Journal) -> bool
+    ensures { result ≡ ends_idle_lines journal.now.lines }
+{
+    let many = journal.len();
+    many > 0 && matches!(journal.entry(many - 1), Some(Entry::Idle { .. }))
 }
 
 /// Makes the call of a line. Of a message, the bytes that are given stand in `room`.

@@ -5,6 +5,7 @@ ghost use Rattle.board_model.specs.Language.{IsLawfulBoard};
 ghost use Rattle.board_model.specs.LinkedBoard.{IsLinkedBoard};
 ghost use Rattle.board_model.specs.SerialRun.{opened};
 ghost use Rattle.board_runner.specs.Opened.{IsLineIn, IsOpened};
+ghost use Rattle.board_runner.specs.Runs.{AllCarried};
 ghost use Rattle.board_runner.specs.Stations.{IsRun};
 
 use crate::board::line_of;
@@ -22,7 +23,8 @@ pub(crate) fn open_stations<'a>(
     scenario: &Scenario,
 ) -> Result<Vec<Station<'a>>, NoMemory>
     requires { IsLawfulBoard scenario.now }
-    ensures { IfOk result (λ v. IsRun scenario.now (opened scenario.now) v.items) }
+    ensures run { IfOk result (λ v. IsRun scenario.now (opened scenario.now) v.items) }
+    ensures carried { IfOk result (λ v. AllCarried v.items) }
 {
     let Ok(mut stations) = Vec::with_capacity(alloc, MAX_DOMAINS as usize) else {
         return Err(NoMemory);

@@ -1,10 +1,11 @@
 //! The serial run.
 
-ghost use Rattle.std.specs.Prelude.{◌≡◌, ◌<◌, IfOk, OnOk, count_by, length, nat_lt};
+ghost use Rattle.std.specs.Prelude.{◌≡◌, ◌<◌, ℕ, IfOk, OnOk, count_by, length, nat_lt, slice_index};
 ghost use Rattle.mc_base.specs.Limits.{asked_limit};
 ghost use Rattle.board_model.specs.Language.{IsLawfulBoard};
 ghost use Rattle.board_model.specs.SerialRun.{opened, finished, serial_run};
 ghost use Rattle.board_runner.specs.Outcome.{IsOutcome};
+ghost use Rattle.board_runner.specs.Runs.{AllCarried};
 ghost use Rattle.board_runner.specs.Stations.{IsRun};
 
 use crate::Outcome;
@@ -13,12 +14,15 @@ use crate::line::run_line;
 use crate::opening::open_stations;
 use crate::station::Station;
 use board_model::{DomainLine, Scenario};
-use mc_base::{MAX_ASKED, NoMemory};
+use mc_base::{MAX_ASKED, MAX_DOMAINS, NoMemory};
 use std::alloc::Global;
 
-/// Runs a lawful board, and tells what the run left. Its lines are run in the file's order, each look shows all that stands on the
-/// lanes, and between two calls of a line with tries every other domain makes one turn. Want of memory is the only refusal; it
-/// may come at any time.
+/// Runs a lawful board, and returns what the run left. Its lines are run in the file's order, each look shows all that stands on
+/// the lanes, and between two calls of a line with tries every other domain makes one turn.
+///
+/// # Errors
+///
+/// `NoMemory`, at any time.
 pub fn run_serial(alloc: Global, scenario: &Scenario) -> Result<Outcome, NoMemory>
     requires { IsLawfulBoard scenario.now }
     ensures { IfOk result (λ o. IsOutcome scenario.now o (serial_run scenario.now)) }
@@ -27,8 +31,7 @@ pub fn run_serial(alloc: Global, scenario: &Scenario) -> Result<Outcome, NoMemor
     outcome_of(alloc, scenario, stations)
 }
 
-/// Runs the lines of a lawful board in the file's order, and leaves its stations. Each look shows all that stands. Want of
-/// memory is the only refusal; it may come at any time.
+/// Runs the lines of a lawful board in the file's order, and returns its stations. Each look shows all that stands.
 fn run_board<'a>(alloc: Global, scenario: &'a Scenario) -> Result<Vec<Station<'a>>, NoMemory>
     requires { IsLawfulBoard scenario.now }
     ensures { IfOk result (λ stations. IsRun scenario.now (finished scenario.now) stations.items) }
@@ -49,16 +52,28 @@ fn run_lines<'a>(
 ) -> Result<(), NoMemory>
     requires lawful { IsLawfulBoard scenario.now }
     requires run { IsRun scenario.now (opened scenario.now) stations.old }
+    requires carried { AllCarried stations.old }
     requires room { length room.old ≡ asked_limit }
     ensures { OnOk result (IsRun scenario.now (finished scenario.now) stations.new) }
 {
-    let domains = scenario.domains.as_slice();
+    let places = station_places(scenario.domains.as_slice());
     let lines = scenario.calls.as_slice();
     for line in lines {
-        let at = place_of(domains, line.domain);
+        let at = places[usize::from(line.domain)];
         run_line(stations, at, line, room)?;
     }
     Ok(())
+}
+
+/// The place of each domain's station, by the domain's number.
+fn station_places(domains: &[DomainLine]) -> [usize; 8]
+    ensures { (n : ℕ) → n < 8 → slice_index result n ≡ count_by (λ d. nat_lt d.domain n) domains.now }
+{
+    let mut places = [0; 8];
+    for number in 0..MAX_DOMAINS {
+        places[usize::from(number)] = place_of(domains, number);
+    }
+    places
 }
 
 /// The place of a domain's station: behind those of the domains with lower numbers.

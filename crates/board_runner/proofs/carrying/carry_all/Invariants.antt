@@ -1,6 +1,6 @@
 use Rattle.board_runner.proofs.AllCarried.{CarriedUpTo}
 use Rattle.board_runner.proofs.carrying.carry_all.Given as goal
 
--- all has come from the stations before `other`
+-- what the domain put and gave back has come to the stations before `other`
 abbrev pub invariant-loop-other : goal.invariant-loop-other
 invariant-loop-other l = CarriedUpTo l.at l.other l.initial.stations l.stations

@@ -1,8 +1,17 @@
-use Rattle.board_runner.proofs.AllCarried.{may-meet, shuttles-met}
+use Rattle.std.proofs.Common.{arith}
+use Rattle.board_runner.proofs.AllCarried.{may-meet, shuttles-met, shuttles-back}
 use Rattle.board_runner.proofs.carrying.shuttle_at.Goals as goal
 
 pub meet_at-requires-clause-may : goal.meet_at-requires-clause-may
-meet_at-requires-clause-may c = let run = c.requires.run in may-meet run.scenario run.lawful run.run _ run.stands c.args.low c.args.high c.requires.order
+meet_at-requires-clause-may c = let run = c.requires.run in may-meet run.scenario run.lawful run.run _ run.stands c.args.one c.args.two c.if-one-two.true
 
-pub returns : goal.returns
-returns c = let run = c.requires.run in shuttles-met run.scenario run.lawful run.run _ run.stands c.args.low c.args.high c.requires.order _ c.meet_at.ensures
+pub meet_at-requires-else-one-two-clause-may : goal.meet_at-requires-else-one-two-clause-may
+meet_at-requires-else-one-two-clause-may c = let run = c.requires.run in may-meet run.scenario run.lawful run.run _ run.stands c.args.two c.args.one (omega (arith, c.if-one-two.false, c.requires.apart))
+
+pub returns-then-one-two : goal.returns-then-one-two
+returns-then-one-two c = let run = c.requires.run in shuttles-met run.scenario run.lawful run.run _ run.stands c.args.one c.args.two c.if-one-two.true _ c.meet_at.ensures
+
+pub returns-else-one-two : goal.returns-else-one-two
+returns-else-one-two c =
+    let run = c.requires.run in
+    shuttles-back c.args.two c.args.one _ _ (shuttles-met run.scenario run.lawful run.run _ run.stands c.args.two c.args.one (omega (arith, c.if-one-two.false, c.requires.apart)) _ c.meet_at-else-one-two.ensures)

@@ -46,6 +46,7 @@ loop-call-preserved c =
     record {
       tried = tried_again line at (end - (c.loop-call._call + 1)) old mid called new in_mid in_called c.loop-call.invariant.counts counts (subst (λ (n : ℕ). TriedTo line at n old mid) left c.loop-call.invariant.tried) calls c.in_ok-others_turn.ensures.run;
       next = some_again line at mid called new in_called in_new counts c.in_ok-others_turn.ensures.counts c.loop-call.invariant.next calls c.in_ok-others_turn.ensures.run;
+      carried = c.in_ok-others_turn.ensures.carried;
       counts = c.in_ok-others_turn.ensures.counts ∙ counts ∙ c.loop-call.invariant.counts;
       room = omega (arith, c.loop-call.invariant.room, c.call_once.auto.room);
     }

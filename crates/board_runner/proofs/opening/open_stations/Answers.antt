@@ -6,7 +6,7 @@ use Rattle.board_model.proofs.BoardsFound.{below}
 use Rattle.board_model.proofs.MessageAlls.{found-passes}
 use Rattle.board_model.proofs.LawfulBoards.{lawful_is_linked}
 use Rattle.board_runner.specs.Lanes.{line_of_domain}
-use Rattle.board_runner.proofs.OpeningLemmas.{AreOpened, opened-begin, opened-next, opened-none, opened-runs}
+use Rattle.board_runner.proofs.OpeningLemmas.{AreOpened, opened-begin, opened-next, opened-none, opened-runs, opened-carried}
 use Rattle.board_runner.proofs.opening.open_stations.Goals as goal
 use Rattle.board_runner.proofs.opening.open_stations.Goals.{in-Some+in_ok-station, in_default-line_of}
 
@@ -50,8 +50,15 @@ loop-number-preserved c =
           }
     ]
 
-pub returns : goal.returns
-returns c =
+pub returns-clause-carried : goal.returns-clause-carried
+returns-clause-carried c =
+    let s = c.args.scenario.now in
+    let all : c.loop-number.number ≡ 8 = omega arith in
+    opened-carried s (lawful_is_linked s c.requires) c.loop-number.stations.items
+    (subst (λ (n : ℕ). AreOpened s (below (λ (d : DomainLine). d.domain) n (rising s)) c.loop-number.stations.items) all c.loop-number.invariant.so_far)
+
+pub returns-clause-run : goal.returns-clause-run
+returns-clause-run c =
     let s = c.args.scenario.now in
     let all : c.loop-number.number ≡ 8 = omega arith in
     opened-runs s (lawful_is_linked s c.requires) c.loop-number.stations.items

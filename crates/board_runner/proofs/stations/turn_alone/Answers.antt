@@ -1,14 +1,39 @@
-use Rattle.std.proofs.Common.{length, sym}
-use Rattle.board_runner.proofs.AloneLemmas.{turns_alone, alone_counts}
+use Rattle.std.proofs.Common.{length, refl, ◌∙◌}
+use Rattle.board_runner.proofs.AloneLemmas.{turns_alone, alone_some, alone_counts, alone_but, alone_still, turns_and_carries}
 use Rattle.board_runner.proofs.OnceLemmas.{placed}
 use Rattle.board_runner.proofs.stations.turn_alone.Goals as goal
 
-pub returns-clause-run : goal.returns-clause-run
-returns-clause-run c =
-    let there = placed c.carry_all.new.stations (length c.args.stations.now) c.args.at c.index-stations-at.result (sym c.carry_all.auto.stations) c.requires.at in
-    turns_alone c.args.stations.now c.carry_all.new.stations c.args.at _ c.turn.new.self c.turn.new.journal c.carry_all.ensures.run there c.carry_all.ensures.carried _ _ c.reserve.ensures.lines c.turn.ensures.turn
+pub carry_all-requires-clause-run : goal.carry_all-requires-clause-run
+carry_all-requires-clause-run c =
+    let there = placed c.args.stations.now (length c.args.stations.now) c.args.at c.index-stations-at.result refl c.requires.at in
+    alone_some c.args.stations.now c.args.at _ c.turn-is_idle.new.self c.turn-is_idle.new.journal there c.requires.carried _ _ c.reserve.ensures.lines c.turn-is_idle.ensures.turn c.requires.run
 
-pub returns-clause-counts : goal.returns-clause-counts
-returns-clause-counts c =
-    let there = placed c.carry_all.new.stations (length c.args.stations.now) c.args.at c.index-stations-at.result (sym c.carry_all.auto.stations) c.requires.at in
-    alone_counts c.args.stations.now c.carry_all.new.stations c.args.at _ c.turn.new.self c.turn.new.journal c.carry_all.ensures.run there c.carry_all.ensures.counts
+pub carry_all-requires-clause-others : goal.carry_all-requires-clause-others
+carry_all-requires-clause-others c =
+    let there = placed c.args.stations.now (length c.args.stations.now) c.args.at c.index-stations-at.result refl c.requires.at in
+    alone_but c.args.stations.now c.args.at _ c.turn-is_idle.new.self c.turn-is_idle.new.journal there c.requires.carried _ _ c.reserve.ensures.lines c.turn-is_idle.ensures.turn c.requires.run
+
+pub returns-then-not-is_idle-clause-run : goal.returns-then-not-is_idle-clause-run
+returns-then-not-is_idle-clause-run c =
+    let there = placed c.args.stations.now (length c.args.stations.now) c.args.at c.index-stations-at.result refl c.requires.at in
+    turns_and_carries c.args.at c.args.stations.now _ c.carry_all.new.stations (turns_alone c.args.stations.now c.args.at _ c.turn-is_idle.new.self c.turn-is_idle.new.journal there c.requires.carried _ _ c.reserve.ensures.lines c.turn-is_idle.ensures.turn) c.carry_all.ensures.run
+
+pub returns-then-not-is_idle-clause-counts : goal.returns-then-not-is_idle-clause-counts
+returns-then-not-is_idle-clause-counts c =
+    let there = placed c.args.stations.now (length c.args.stations.now) c.args.at c.index-stations-at.result refl c.requires.at in
+    c.carry_all.ensures.counts ∙ alone_counts c.args.stations.now c.args.at _ c.turn-is_idle.new.self c.turn-is_idle.new.journal there c.requires.carried _ _ c.reserve.ensures.lines c.turn-is_idle.ensures.turn
+
+pub returns-else-not-is_idle-clause-run : goal.returns-else-not-is_idle-clause-run
+returns-else-not-is_idle-clause-run c =
+    let there = placed c.args.stations.now (length c.args.stations.now) c.args.at c.index-stations-at.result refl c.requires.at in
+    turns_alone c.args.stations.now c.args.at _ c.turn-is_idle.new.self c.turn-is_idle.new.journal there c.requires.carried _ _ c.reserve.ensures.lines c.turn-is_idle.ensures.turn
+
+pub returns-else-not-is_idle-clause-carried : goal.returns-else-not-is_idle-clause-carried
+returns-else-not-is_idle-clause-carried c =
+    let there = placed c.args.stations.now (length c.args.stations.now) c.args.at c.index-stations-at.result refl c.requires.at in
+    alone_still c.args.stations.now c.args.at _ c.turn-is_idle.new.self c.turn-is_idle.new.journal there c.requires.carried _ _ c.reserve.ensures.lines c.turn-is_idle.ensures.turn c.requires.run c.if-not-is_idle.false
+
+pub returns-else-not-is_idle-clause-counts : goal.returns-else-not-is_idle-clause-counts
+returns-else-not-is_idle-clause-counts c =
+    let there = placed c.args.stations.now (length c.args.stations.now) c.args.at c.index-stations-at.result refl c.requires.at in
+    alone_counts c.args.stations.now c.args.at _ c.turn-is_idle.new.self c.turn-is_idle.new.journal there c.requires.carried _ _ c.reserve.ensures.lines c.turn-is_idle.ensures.turn
