@@ -2,13 +2,13 @@ ghost use Rattle.std.specs.Prelude.{◌≡◌, ◌<◌, IfSome, Ok, length};
 ghost use Rattle.board_model.specs.Language.{told_by};
 ghost use Rattle.board_runner.specs.Told.{IsToldByText};
 
-use board_model::{LanePlaces, Scenario, Seq, Totals};
-use board_runner::{Outcome, run_serial, write_report};
+use board_model::{Scenario, Seq};
+use board_runner::{LanePlaces, Outcome, Totals, run_serial, write_report};
 use domain_core::{Answer, Entry, Journal};
 use mc_base::Refusal;
 use outer_io::{Failed, MemSink};
 use scenario_lang::read_scenario;
-use std::alloc::Global;
+use std::alloc::{AllocError, Global};
 use std::test::Fail;
 
 /// The domains don't stand in rising number.
@@ -221,5 +221,77 @@ fn has_numbers(outcome: &Outcome) -> bool {
 fn a_run_leaves_its_numbers(rt: HostRuntime) -> Result<(), Fail> {
     let outcome = run(rt.alloc(), NUMBERS).ok_or("memory")?;
     assert!(rt; has_numbers(&outcome));
+    Ok(())
+}
+
+/// The greatest board: eight domains with the greatest pools, and a link of the greatest size between each two.
+fn greatest_board(alloc: Global) -> Result<Vec<u8>, AllocError> {
+    let mut text = Vec::new(alloc);
+    for domain in 0..8 {
+        text.extend_from_slice(b"domain ")?;
+        text.push(b'0' + domain)?;
+        text.extend_from_slice(b" nodes 1 pool 256\n")?;
+    }
+    for one in 0..8 {
+        for two in one + 1..8 {
+            text.extend_from_slice(b"link ")?;
+            text.push(b'0' + one)?;
+            text.push(b' ')?;
+            text.push(b'0' + two)?;
+            text.extend_from_slice(b" size 256\n")?;
+        }
+    }
+    Ok(text)
+}
+
+/// How many buffers of all lanes are free, where none is elsewhere.
+fn all_free(places: &[LanePlaces]) -> bool {
+    for lane in places {
+        if lane.free != 256 || lane.ring != 0 || lane.queue != 0 || lane.lent != 0 {
+            return false;
+        }
+    }
+    places.len() == 64
+}
+
+#[test]
+fn the_greatest_board_runs(rt: HostRuntime) -> Result<(), Fail> {
+    let mut text = greatest_board(rt.alloc())?;
+    text.extend_from_slice(
+        b"7.0 create 1\n0.0 create 2\n0.0 turn\n7.0 turn\n0.0 msg_send 2 7:0:1 0 5a\n7.0 msg_recv 1 9\n",
+    )?;
+    text.extend_from_slice(b"0.0 turn\n3.0 turn\n0.0 r = msg_recv_i 2 9\n0.0 try 20 test r\n")?;
+    let outcome = run(rt.alloc(), &text).ok_or("memory")?;
+    let due = Totals {
+        accepted: 1,
+        taken: 1,
+        dropped: 0,
+        queued: 0,
+        ring: 0,
+    };
+    assert!(rt; outcome.messages == due);
+    assert!(rt; all_free(outcome.places.as_slice()));
+    Ok(())
+}
+
+/// Three thousand messages each way of a link, each received before the next is sent.
+#[test]
+fn a_long_script_runs(rt: HostRuntime) -> Result<(), Fail> {
+    let mut text = Vec::new(rt.alloc());
+    text.extend_from_slice(b"domain 0 nodes 1 pool 2\ndomain 1 nodes 1 pool 2\nlink 0 1 size 2\n")?;
+    text.extend_from_slice(b"0.0 create 1\n1.0 create 2\n0.0 turn\n1.0 turn\n0.0 turn\n")?;
+    for _message in 0..3_000 {
+        text.extend_from_slice(b"0.0 msg_send 1 1:0:2 1 5a5a\n1.0 msg_recv 2 9\n")?;
+        text.extend_from_slice(b"1.0 msg_send 2 0:0:1 1 5b\n0.0 msg_recv 1 9\n")?;
+    }
+    let outcome = run(rt.alloc(), &text).ok_or("memory")?;
+    let due = Totals {
+        accepted: 6_000,
+        taken: 6_000,
+        dropped: 0,
+        queued: 0,
+        ring: 0,
+    };
+    assert!(rt; outcome.messages == due);
     Ok(())
 }
