@@ -94,11 +94,6 @@ all-without-first P p [] all = tt
 all-without-first P p (x ∷ xs) all =
     cond_both (p x) xs (x ∷ without_first p xs) (λ ys. AllByRecursion P ys) (λ here. all.1) (λ other. (all.0, all-without-first P p xs all.1))
 
-pub all-take : {A : Type 0} (P : A → Type 0) (n : ℕ) (xs : List A) → AllByRecursion P xs → AllByRecursion P (take n xs)
-all-take P zero xs all = tt
-all-take P (suc n) [] all = tt
-all-take P (suc n) (x ∷ xs) all = (all.0, all-take P n xs all.1)
-
 pub all-drop : {A : Type 0} (P : A → Type 0) (n : ℕ) (xs : List A) → AllByRecursion P xs → AllByRecursion P (drop n xs)
 all-drop P zero xs all = all
 all-drop P (suc n) [] all = tt

@@ -1,5 +1,5 @@
 -- The best item of a queue: what a map of its items keeps, how many pass a test with it and without it, and that there is
--- one where the priorities are 0 to 3.
+-- one where the queue is not empty.
 use Rattle.std.proofs.Common.{◌≡◌, ℕ, ◌+◌, ◌≤◌, Bool, true, false, cond, List, [], ◌∷◌, map, Option, Some, None, refl, sym, ap, ◌∙◌, arith}
 use Rattle.std.specs.Prelude.{find, count_by, option_map, option_to_list, ◌==◌}
 use Rattle.std.specs.List.{AllByRecursion}
@@ -25,17 +25,16 @@ without_best-none priority q none =
 -- ---- a queue without a best is empty
 
 module _ {A : Type 0} (priority : A → ℕ) where
-  none_least : (m : ℕ) (x : A) (xs : List A) → AllByRecursion (λ y. priority y ≤ 3) (x ∷ xs) → AllByRecursion (λ y. (priority y == m) ≡ false) (x ∷ xs) → m ≡ least priority (x ∷ xs) → ⊥
-  none_least m x [] fit fails is = let le : priority x ≤ 3 = fit.0 in grind (arith, fails.0)
-  none_least m x (y ∷ ys) fit fails is =
+  none_least : (m : ℕ) (x : A) (xs : List A) → AllByRecursion (λ y. (priority y == m) ≡ false) (x ∷ xs) → m ≡ least priority (x ∷ xs) → ⊥
+  none_least m x [] fails is = grind (arith, fails.0)
+  none_least m x (y ∷ ys) fails is =
       let differs : m ≡ priority x → ⊥ = λ same. grind (arith, fails.0) in
       let rest : m ≡ least priority (y ∷ ys) = omega arith in
-      none_least m y ys fit.1 fails.1 rest
+      none_least m y ys fails.1 rest
 
-  pub best-none : (q : List A) → AllByRecursion (λ x. priority x ≤ 3) q → best priority q ≡ None → q ≡ []
-  best-none [] fit none = refl
-  best-none (x ∷ xs) fit none =
-      absurd (none_least (least priority (x ∷ xs)) x xs fit (none-passes (λ y. priority y == least priority (x ∷ xs)) (x ∷ xs) (sym (best_is priority (x ∷ xs)) ∙ none)) refl)
+  pub best-none : (q : List A) → best priority q ≡ None → q ≡ []
+  best-none [] none = refl
+  best-none (x ∷ xs) none = absurd (none_least (least priority (x ∷ xs)) x xs (none-passes (λ y. priority y == least priority (x ∷ xs)) (x ∷ xs) (sym (best_is priority (x ∷ xs)) ∙ none)) refl)
 
 -- ---- counts
 
@@ -58,7 +57,8 @@ count-best test priority q = rw (best_is priority q, without_best_is priority q)
 module _ {A B : Type 0} (g : A → B) (priority : A → ℕ) (outer : B → ℕ) (same : (x : A) → outer (g x) ≡ priority x) where
   least-map : (q : List A) → least outer (map g q) ≡ least priority q
   least-map [] = refl
-  least-map (x ∷ xs) = rw (same x, least-map xs) refl
+  least-map (x ∷ []) = same x
+  least-map (x ∷ y ∷ xs) = rw (same x, least-map (y ∷ xs)) refl
 
   find_map_here : (b c : Bool) (x : A) (o : Option A) (r : Option B) → b ≡ c → r ≡ option_map g o → cond b (Some (g x)) r ≡ option_map g (cond c (Some x) o)
   find_map_here b true x o r e f = rw e refl

@@ -5,7 +5,7 @@ use Rattle.std.specs.List.{AllByRecursion}
 use Rattle.std.proofs.lemmas.List.Sums.{sum_by-cons}
 use Rattle.board_model.specs.Journal.{PlainEntry, Line, joined}
 use Rattle.board_model.proofs.ListsJoined.{entry_lines, JoinsWeighNothing, sum-joined}
-use Rattle.board_model.proofs.MessageSums.{count-append}
+use Rattle.board_model.proofs.ListsCounts.{count-append}
 
 module _ (test : Line → Bool) where
   -- what an entry's lines count

@@ -4,16 +4,9 @@ use Rattle.std.proofs.Common.{◌≡◌, ℕ, zero, suc, ◌+◌, Bool, true, fa
 use Rattle.std.specs.Prelude.{position, find, slice_get, option_map, option_and_then, ◌==◌, is_some}
 use Rattle.std.specs.List.{position_from}
 use Rattle.std.proofs.lemmas.Iterator.Adapters.{position_from-zero}
+pub use Rattle.board_model.specs.Lists.{changed_first, without_first}
 use Rattle.board_model.specs.Lists.{changed_at, changed, without}
 use Rattle.board_model.specs.Choice.{least, best, without_best}
-
-abbrev pub changed_first : {A : Type 0} → (A → Bool) → (A → A) → List A → List A
-changed_first p f [] = []
-changed_first p f (x ∷ xs) = cond (p x) (f x ∷ xs) (x ∷ changed_first p f xs)
-
-abbrev pub without_first : {A : Type 0} → (A → Bool) → List A → List A
-without_first p [] = []
-without_first p (x ∷ xs) = cond (p x) xs (x ∷ without_first p xs)
 
 -- ---- places
 
@@ -31,7 +24,7 @@ position_from-shift p k (x ∷ xs) =
 position_is : {A : Type 0} (p : A → Bool) (xs : List A) → position p xs ≡ position_from p 0 xs
 position_is p xs = position_from-zero p xs
 
-position-cons : {A : Type 0} (p : A → Bool) (x : A) (xs : List A) → position p (x ∷ xs) ≡ cond (p x) (Some 0) (option_map suc (position p xs))
+pub position-cons : {A : Type 0} (p : A → Bool) (x : A) (xs : List A) → position p (x ∷ xs) ≡ cond (p x) (Some 0) (option_map suc (position p xs))
 position-cons p x xs =
     position_is p (x ∷ xs) ∙ ap (λ o. cond (p x) (Some 0) o) (position_from-shift p 0 xs ∙ ap (option_map suc) (sym (position_is p xs)))
 

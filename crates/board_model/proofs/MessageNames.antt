@@ -52,10 +52,3 @@ apart-changed p g name_same (e ∷ es) apart =
     cond_both (p e) (g e ∷ es) (e ∷ changed_first p g es) (λ fs. Apart fs)
     (λ here. rw (name_same e) apart)
     (λ other. (all-changed-first (λ f. is_at e.local f ≡ false) p g es apart.0 (λ f found not_it. rw (name_same f) not_it), apart-changed p g name_same es apart.1))
-
-pub apart-gone : (p : Endpoint → Bool) (es : List Endpoint) → Apart es → Apart (without_first p es)
-apart-gone p [] apart = tt
-apart-gone p (e ∷ es) apart =
-    cond_both (p e) es (e ∷ without_first p es) (λ fs. Apart fs)
-    (λ here. apart.1)
-    (λ other. (all-without-first (λ f. is_at e.local f ≡ false) p es apart.0, apart-gone p es apart.1))

@@ -39,16 +39,6 @@ rising_total : (f : DomainLine → ℕ) (ds : List DomainLine) → total f (risi
 rising_total f [] = refl
 rising_total f (d ∷ ds) = ranked_domain_total f d (rising_from ds) ∙ ap (λ k. f d + k) (rising_total f ds)
 
--- what holds of each domain, in rising number too
-rank_each : (P : DomainLine → Type 0) (d : DomainLine) (ds : List DomainLine) → P d → AllByRecursion P ds → AllByRecursion P (ranked_domain d ds)
-rank_each P d [] here all = (here, tt)
-rank_each P d (e ∷ es) here all =
-    cond_both (nat_lt d.domain e.domain) (d ∷ e ∷ es) (e ∷ ranked_domain d es) (AllByRecursion P) (λ first. (here, all)) (λ later. (all.0, rank_each P d es here all.1))
-
-pub rising_each : (P : DomainLine → Type 0) (ds : List DomainLine) → AllByRecursion P ds → AllByRecursion P (rising_from ds)
-rising_each P [] all = tt
-rising_each P (d ∷ ds) all = rank_each P d (rising_from ds) all.0 (rising_each P ds all.1)
-
 -- ---- sums over all lanes
 
 told_once : (s : Scenario) (p : ℕ) → IsLinkedBoard s → IsTold s p → times (λ d. d.domain) p s.domains ≡ 1

@@ -6,7 +6,7 @@ use Rattle.std.proofs.lemmas.List.{length-append}
 use Rattle.std.proofs.lemmas.Bool.{eqb-true, eq-eqb, ne_eqb, cases_Bool}
 use Rattle.std.proofs.lemmas.List.Elements.{Contains-append_cases, Contains-push_cases}
 use Rattle.board_model.specs.LinkedBoard.{Differ}
-use Rattle.board_model.proofs.MessageSums.{count-append}
+use Rattle.board_model.proofs.ListsCounts.{count-append}
 
 -- the sum of a number for each item
 abbrev pub total : {A : Type 0} → (A → ℕ) → List A → ℕ

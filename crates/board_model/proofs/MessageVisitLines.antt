@@ -5,10 +5,8 @@ use Rattle.std.proofs.lemmas.List.{length-map}
 use Rattle.std.proofs.lemmas.List.Sums.{length-filter}
 use Rattle.std.proofs.lemmas.Bool.{cond_both}
 use Rattle.board_model.specs.Journal.{Visit, Taken, Line, back_line, put_line, see_line, taken_line, looked, visit_lines}
-use Rattle.board_model.specs.Messages.{message_in, carries_message, messages_in}
-use Rattle.board_model.specs.Drops.{drops}
 use Rattle.board_model.proofs.MessageBest.{count-cons}
-use Rattle.board_model.proofs.MessageSums.{count-append, dropped_of}
+use Rattle.board_model.proofs.ListsCounts.{count-append}
 
 -- ---- lists
 
@@ -23,9 +21,6 @@ none_more false n never e = omega arith
 pub count-never : {A : Type 0} (test : A → Bool) (never : (x : A) → test x ≡ false) (xs : List A) → count_by test xs ≡ 0
 count-never test never [] = refl
 count-never test never (x ∷ xs) = count-cons test x xs ∙ none_more (test x) (count_by test xs) (never x) (count-never test never xs)
-
-pub length-messages : (sender receiver : ℕ) (fs : List (List ℕ)) → length (messages_in sender receiver fs) ≡ count_by carries_message fs
-length-messages sender receiver fs = length-map (filter carries_message fs) (message_in sender receiver) ∙ length-filter carries_message fs
 
 -- ---- the lines of a visit
 
@@ -53,26 +48,3 @@ visit_lines_count test v no_back no_see =
       count-map test (put_line v.peer) v.owed,
       count-map test (taken_line v.peer) v.takes,
     )
-
--- ---- frames that are dropped
-
--- a taken frame that carried a message, which was dropped
-abbrev pub is_dropped : Taken → Bool
-is_dropped t = drops t.fate && carries_message t.frame
-
-not_more : (a b : Bool) (n : ℕ) → a ≡ false → cond (a && b) 1 0 + n ≡ n
-not_more true b n e = absurd cc
-not_more false b n e = omega arith
-
-count-filter : {A : Type 0} (p test : A → Bool) (xs : List A) → count_by test (filter p xs) ≡ count_by (λ x. p x && test x) xs
-count-filter p test [] = refl
-count-filter p test (x ∷ xs) =
-    cond_both (p x) (x ∷ filter p xs) (filter p xs) (λ ys. count_by test ys ≡ count_by (λ y. p y && test y) (x ∷ xs))
-    (λ kept. count-cons test x (filter p xs) ∙ (ap (λ n. cond (test x) 1 0 + n) (count-filter p test xs) ∙ (ap (λ (b : Bool). cond (b && test x) 1 0 + count_by (λ y. p y && test y) xs) (sym kept) ∙ sym (count-cons (λ y. p y && test y) x xs))))
-    (λ left. count-filter p test xs ∙ sym (count-cons (λ y. p y && test y) x xs ∙ not_more (p x) (test x) (count_by (λ y. p y && test y) xs) left))
-
-pub length-dropped : (d peer : ℕ) (ts : List Taken) → length (dropped_of d peer ts) ≡ count_by is_dropped ts
-length-dropped d peer ts =
-    length-messages peer d (map (λ (t : Taken). t.frame) (filter (λ (t : Taken). drops t.fate) ts))
-    ∙ (count-map carries_message (λ (t : Taken). t.frame) (filter (λ (t : Taken). drops t.fate) ts)
-    ∙ count-filter (λ (t : Taken). drops t.fate) (λ (t : Taken). carries_message t.frame) ts)

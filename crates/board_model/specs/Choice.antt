@@ -3,10 +3,11 @@
 use Rattle.std.specs.Prelude.{ℕ, min, List, [], ◌∷◌, ◌==◌, position, slice_get, Option, Some, None, option_and_then}
 use Rattle.board_model.specs.Lists.{without}
 
--- the least priority number of a queue, of which the worst is 3
+-- the least priority number of a queue that is not empty
 abbrev pub least : {A : Type 0} → (A → ℕ) → List A → ℕ
-least priority [] = 3
-least priority (x ∷ xs) = min (priority x) (least priority xs)
+least priority [] = 0
+least priority (x ∷ []) = priority x
+least priority (x ∷ y ∷ xs) = min (priority x) (least priority (y ∷ xs))
 
 -- the place of the first item whose priority number is least
 abbrev pub best_place : {A : Type 0} → (A → ℕ) → List A → Option ℕ

@@ -66,7 +66,7 @@ abbrev pub content_in : List ℕ → List ℕ
 content_in frame = drop letter_header_size (payload_of frame)
 
 abbrev pub item_of : ℕ → List ℕ → Item
-item_of peer frame = record { peer = peer; source = source_of frame; priority = priority_in frame; content = content_in frame }
+item_of peer frame = record { peer = peer; source = source_of frame; priority = priority_in frame; channel = None; content = content_in frame; frames = [] }
 
 -- last in the queue
 abbrev pub queued_last : Item → Endpoint → Endpoint

@@ -1,6 +1,6 @@
 -- Words on lists that the other files use.
 -- Source: plain lists, counted from 0.
-use Rattle.std.specs.Prelude.{◌≡◌, ℕ, zero, suc, nat_lt, List, [], ◌∷◌, ◌++◌, Option, Some, None, if◌then◌else◌}
+use Rattle.std.specs.Prelude.{◌≡◌, ℕ, zero, suc, nat_lt, Bool, List, [], ◌∷◌, ◌++◌, Option, Some, None, if◌then◌else◌}
 
 -- the list with the item at a place changed
 abbrev pub changed_at : {A : Type 0} → (A → A) → ℕ → List A → List A
@@ -22,6 +22,15 @@ without_at (suc i) (x ∷ xs) = x ∷ without_at i xs
 abbrev pub without : {A : Type 0} → Option ℕ → List A → List A
 without None xs = xs
 without (Some i) xs = without_at i xs
+
+-- the first item that passes changed, and left out
+abbrev pub changed_first : {A : Type 0} → (A → Bool) → (A → A) → List A → List A
+changed_first passes f [] = []
+changed_first passes f (x ∷ xs) = if passes x then f x ∷ xs else x ∷ changed_first passes f xs
+
+abbrev pub without_first : {A : Type 0} → (A → Bool) → List A → List A
+without_first passes [] = []
+without_first passes (x ∷ xs) = if passes x then xs else x ∷ without_first passes xs
 
 -- a number more in a list in rising order
 abbrev pub with_rising : ℕ → List ℕ → List ℕ

@@ -1,18 +1,23 @@
--- The messages of a board, by the journals: those that were accepted, those that are queued, and those in the ring, that is, on
--- their way. What receives took is told in `Takings`, and what was dropped in `Drops`.
+-- The messages of a board: those that were accepted, those that are queued, and those in the ring, that is, on their way. What
+-- receives took is defined in `Takings`, and what was dropped in `Drops`.
 -- Source: docs/PROFILE.md, "Messages".
-use Rattle.std.specs.Prelude.{ℕ, Bool, ◌&&◌, List, [], ◌∷◌, length, drop, map, filter, is_none}
+use Rattle.std.specs.Prelude.{ℕ, Bool, ◌&&◌, List, [], ◌∷◌, length, drop, map, is_none, unwrap_or}
 use Rattle.std.specs.List.{flat_map}
-use Rattle.mc_base.specs.Frame.{source_of, destination_of}
 use Rattle.mc_base.specs.Fault.{fault}
+use Rattle.mc_base.specs.Letter.{msg}
+use Rattle.mc_base.specs.Reading.{Reading, says, reading}
 use Rattle.board_model.specs.declared.scenario.Scenario.{Scenario}
 use Rattle.board_model.specs.Scenario.{Lane, lanes}
-use Rattle.board_model.specs.Journal.{PlainEntry, put}
-use Rattle.board_model.specs.State.{Endpoint, Item}
-use Rattle.board_model.specs.Dealing.{is_message, priority_in, content_in}
+use Rattle.board_model.specs.Journal.{agrees}
+use Rattle.board_model.specs.DomainCall.{send_from}
+use Rattle.board_model.specs.State.{Endpoint, Item, DomainState, live_at}
+use Rattle.board_model.specs.Answer.{local, address_of}
+use Rattle.board_model.specs.Dealing.{is_message}
 use Rattle.board_model.specs.Traffic.{put_to, taken_from}
-use Rattle.board_model.specs.Run.{left_by}
 use Rattle.board_model.specs.Board.{DomainJournal, journal_of}
+use Rattle.board_model.specs.CallChanges.{at_live}
+use Rattle.board_model.specs.Deeds.{Deed, calls, along}
+use Rattle.board_model.specs.JournalDeeds.{deeds_of, opened, left_in}
 
 -- a message: from which domain and address, to which domain and address, its priority and its bytes
 pub record Message : Type 0 where
@@ -23,42 +28,45 @@ pub record Message : Type 0 where
   pub priority : ℕ
   pub content : List ℕ
 
--- the message that a frame on a lane carries
-abbrev pub message_in : ℕ → ℕ → List ℕ → Message
-message_in sender receiver frame = record { sender = sender; source = source_of frame; receiver = receiver; destination = destination_of frame; priority = priority_in frame; content = content_in frame }
+-- the message of an item at an address
+abbrev pub message_of : ℕ → ℕ → Item → Message
+message_of receiver destination i = record { sender = i.peer; source = i.source; receiver = receiver; destination = destination; priority = i.priority; content = i.content }
 
--- the frame carries one
+-- the message that a frame on a lane says, if it says one
+abbrev pub said_by : ℕ → ℕ → Reading → List Message
+said_by sender receiver (says source destination (msg priority content)) = record { sender = sender; source = source; receiver = receiver; destination = destination; priority = priority; content = content } ∷ []
+said_by sender receiver other = []
+
+abbrev pub messages_in : ℕ → ℕ → List (List ℕ) → List Message
+messages_in sender receiver frames = flat_map (λ f. said_by sender receiver (reading f)) frames
+
+-- whether a frame says one, by its bytes
 abbrev pub carries_message : List ℕ → Bool
 carries_message frame = is_none (fault frame) && is_message frame
 
--- the messages of frames on a lane
-abbrev pub messages_in : ℕ → ℕ → List (List ℕ) → List Message
-messages_in sender receiver frames = map (message_in sender receiver) (filter carries_message frames)
+-- ---- accepted: those of sends that answer ok
 
--- the message that stands as an item in a queue
-abbrev pub queued_message : ℕ → ℕ → Item → Message
-queued_message receiver destination i = record { sender = i.peer; source = i.source; receiver = receiver; destination = destination; priority = i.priority; content = i.content }
+abbrev pub accepted_by : ℕ → DomainState → Deed → List Message
+accepted_by d s (calls node (send_from port to priority bytes) agrees) = at_live (live_at s (local node port)) (λ e.
+    record { sender = d; source = e.address; receiver = to.domain; destination = unwrap_or (address_of s to) 0; priority = priority; content = bytes } ∷ [])
+accepted_by d s other = []
 
--- ---- accepted
+abbrev pub accepted_in : Scenario → DomainJournal → List Message
+accepted_in s j = along (accepted_by j.line.domain) (opened s j) (deeds_of s j)
 
--- a call puts a message exactly where it is a send that answers ok
-abbrev pub accepted_in : ℕ → PlainEntry → List Message
-accepted_in d (put peer frame) = messages_in d peer (frame ∷ [])
-accepted_in d other = []
-
-abbrev pub accepted : List DomainJournal → List Message
-accepted js = flat_map (λ j. flat_map (accepted_in j.line.domain) j.entries) js
+abbrev pub accepted : Scenario → List DomainJournal → List Message
+accepted s js = flat_map (accepted_in s) js
 
 -- ---- queued, and in the ring
 
 abbrev pub queued_at : ℕ → Endpoint → List Message
-queued_at d e = map (queued_message d e.address) e.queue
+queued_at d e = map (message_of d e.address) e.queue
 
-abbrev pub queued_by : Scenario → DomainJournal → List Message
-queued_by s j = flat_map (queued_at j.line.domain) (left_by s j.line j.entries).state.endpoints
+abbrev pub queued_in : Scenario → DomainJournal → List Message
+queued_in s j = flat_map (queued_at j.line.domain) (left_in s j).endpoints
 
 abbrev pub messages_queued : Scenario → List DomainJournal → List Message
-messages_queued s js = flat_map (queued_by s) js
+messages_queued s js = flat_map (queued_in s) js
 
 -- the frames that were put on a lane and not taken
 abbrev pub ring_frames : List DomainJournal → Lane → List (List ℕ)

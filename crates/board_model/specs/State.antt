@@ -1,7 +1,7 @@
 -- The state of a domain.
 -- Source: docs/PROFILE.md, "A domain". Lists, in the order in which their items came. Buffers and requests are told apart
 -- by their places in these lists.
-use Rattle.std.specs.Prelude.{ℕ, ◌+◌, Bool, false, not, ◌&&◌, List, [], ◌∷◌, ◌++◌, ◌==◌, map, count_by, position, slice_get, Option, None, Some, option_map, option_and_then, unwrap_or, is_none}
+use Rattle.std.specs.Prelude.{ℕ, ◌+◌, Bool, false, not, ◌&&◌, List, [], ◌∷◌, ◌++◌, ◌==◌, map, count_by, position, find, slice_get, Option, None, Some, option_map, option_and_then, unwrap_or, is_none}
 use Rattle.std.specs.List.{flat_map, list_any}
 use Rattle.mc_base.specs.Limits.{name_service_address}
 use Rattle.mc_base.specs.Frame.{made}
@@ -16,12 +16,16 @@ use Rattle.mc_base.specs.declared.channel.Reason.{Reason}
 use Rattle.mc_base.specs.declared.refusal.Refusal.{Refusal}
 use Rattle.board_model.specs.Scenario.{Neighbour}
 
--- a message or packet that is held: who sent it, from which address, its priority and its content
+-- a message or packet that is held: which peer sent it, from which address, its priority, the number of its channel or none, its
+-- content, and the names of the frames that brought it. What a frame is named by is left open: a domain names it by its buffer's
+-- number, and a journal by its place among the frames taken from the peer
 pub record Item : Type 0 where
   pub peer : ℕ
   pub source : ℕ
   pub priority : ℕ
+  pub channel : Option ℕ
   pub content : List ℕ
+  pub frames : List ℕ
 
 -- the stages of a channel's end
 pub data Stage : Type 0 where
@@ -133,6 +137,13 @@ place_of_address s address = position (has_address_of address) s.endpoints
 abbrev pub endpoint_at : DomainState → Local → Option Endpoint
 endpoint_at s local = option_and_then (λ i. slice_get s.endpoints i) (place_at s local)
 
+-- the live endpoint of this name, and of this address, as a map has it
+abbrev pub live_at : DomainState → Local → Option Endpoint
+live_at s local = find (is_at local) s.endpoints
+
+abbrev pub endpoint_of : DomainState → ℕ → Option Endpoint
+endpoint_of s address = find (has_address_of address) s.endpoints
+
 -- the address of the endpoint of this name
 abbrev pub address_at : DomainState → Local → Option ℕ
 address_at s local = option_map (λ e. e.address) (endpoint_at s local)
@@ -168,7 +179,15 @@ receives_at local other = false
 abbrev pub waits_at : Local → Request → Bool
 waits_at local r = is_none r.outcome && receives_at local r.asked
 
--- the place of the oldest of them
+-- whether one waits there
+abbrev pub one_waits : DomainState → Local → Bool
+one_waits s local = list_any (waits_at local) s.requests
+
+-- the oldest of them
+abbrev pub oldest_waiting : DomainState → Local → Option Request
+oldest_waiting s local = find (waits_at local) s.requests
+
+-- its place
 abbrev pub place_of_waiting : DomainState → Local → Option ℕ
 place_of_waiting s local = position (waits_at local) s.requests
 
@@ -189,6 +208,10 @@ place_of_peer s n = position (is_numbered n) s.peers
 
 abbrev pub peer_of : DomainState → ℕ → Option Peer
 peer_of s n = option_and_then (λ i. slice_get s.peers i) (place_of_peer s n)
+
+-- the peer of this number, as a map has it
+abbrev pub peer_at : DomainState → ℕ → Option Peer
+peer_at s n = find (is_numbered n) s.peers
 
 -- the free buffers of the lane to a peer
 abbrev pub free_to : DomainState → ℕ → ℕ

@@ -9,4 +9,4 @@ use Rattle.board_model.specs.Drops.{dropped}
 use Rattle.board_model.specs.Takings.{messages_taken}
 
 abbrev pub totals : Scenario → List DomainJournal → Totals
-totals s js = record { accepted = length (accepted js); taken = length (messages_taken s js); dropped = length (dropped s js); queued = length (messages_queued s js); ring = length (messages_in_ring s js) }
+totals s js = record { accepted = length (accepted s js); taken = length (messages_taken s js); dropped = length (dropped s js); queued = length (messages_queued s js); ring = length (messages_in_ring s js) }

@@ -1,12 +1,30 @@
 //! What is proved of the definitions themselves. Each function has no code: its contract is the law.
 ghost use Rattle.board_model.specs.Laws.{PlaceLaw, HeadlineLaw};
-ghost use Rattle.board_model.specs.MessageLaws.{ReceivesTakeTheBest, TestsTellWhatWasTaken, NoMessageIsLost, CancelledRequestsTookNothing};
+ghost use Rattle.board_model.specs.MessageLaws.{
+  ReceivesTakeTheBest,
+  TestsTellWhatWasTaken,
+  DeletesTellWhatWasDropped,
+  NoMessageIsLost,
+  CancelledRequestsTookNothing,
+};
+ghost use Rattle.board_model.specs.Honesty.{KnownAddressesAreReal};
+ghost use Rattle.board_model.specs.ReadBack.{LettersAreReadBack};
 ghost use Rattle.board_model.specs.SerialLaws.{LinkedSerialIsBoardRun};
 ghost use Rattle.board_model.specs.LanguageLaws.{LawfulIsLinked, LawfulSerialIsBoardRun, LawfulSerialHeadline};
 
 /// At the end of every run of a board, each buffer of each lane is at exactly one place.
 pub fn every_buffer_in_its_place()
     ensures { PlaceLaw }
+{}
+
+/// Each letter that a domain may put is read back as what was meant.
+pub fn letters_are_read_back()
+    ensures { LettersAreReadBack }
+{}
+
+/// At each moment each address that a domain knows of a peer's name is one that the peer gave to an endpoint of its own.
+pub fn known_addresses_are_real()
+    ensures { KnownAddressesAreReal }
 {}
 
 /// Each message receive takes the oldest message of the best priority queued.
@@ -17,6 +35,11 @@ pub fn receives_take_the_best()
 /// A test tells what its request took: one message, or none.
 pub fn tests_tell_what_was_taken()
     ensures { TestsTellWhatWasTaken }
+{}
+
+/// A delete answers how many messages it dropped.
+pub fn deletes_tell_what_was_dropped()
+    ensures { DeletesTellWhatWasDropped }
 {}
 
 /// Each message that was accepted was taken or dropped, or is queued or in the ring.

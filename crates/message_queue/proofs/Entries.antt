@@ -1,6 +1,6 @@
 -- Entries as the code keeps them: the best of them, and what is removed.
 use Rattle.std.proofs.Common.{◌≡◌, ℕ, zero, suc, ◌+◌, ◌<◌, ◌≤◌, Bool, true, false, cond, List, [], ◌∷◌, length, Option, Some, None, refl, sym, ap, ◌∙◌, arith, get_or, min, lit≤}
-use Rattle.std.specs.Prelude.{slice_get, option_and_then, option_map, ◌==◌, IfSome, IsSome}
+use Rattle.std.specs.Prelude.{slice_get, option_and_then, option_map, position, ◌==◌, IfSome, IsSome}
 use Rattle.std.specs.List.{position_from, AllByRecursion, remove, fold}
 use Rattle.std.proofs.lemmas.Iterator.Adapters.{position_from-zero}
 use Rattle.board_model.specs.Lists.{without, without_at}
@@ -8,22 +8,29 @@ use Rattle.board_model.specs.Choice.{best, best_place, least, without_best}
 use Rattle.board_model.proofs.MessageBest.{best-map, without_best-map}
 use Rattle.message_queue.specs.declared.entry.Entry.{Entry}
 use Rattle.message_queue.specs.Queue.{Waiting}
+use Rattle.message_queue.specs.Lowest.{lowest}
 use Rattle.message_queue.specs.InQueue.{waiting_of, waiting_in}
 
 -- ---- the best priority
 
-fold-least : (es : List Entry) (a : ℕ) → a ≤ 3 → fold (λ b (e : Entry). min b e.priority) a es ≡ min a (least (λ (e : Entry). e.priority) es)
-fold-least [] a le = omega arith
-fold-least (e ∷ es) a le =
-    let rest = fold-least es (min a e.priority) (omega arith) in
+fold-least : (e : Entry) (es : List Entry) (a : ℕ) → fold (λ b (x : Entry). min b x.priority) a (e ∷ es) ≡ min a (least (λ (x : Entry). x.priority) (e ∷ es))
+fold-least e [] a = refl
+fold-least e (f ∷ es) a =
+    let rest = fold-least f es (min a e.priority) in
     rest ∙ omega arith
 
-least-bound : (es : List Entry) → min 3 (least (λ (e : Entry). e.priority) es) ≡ least (λ (e : Entry). e.priority) es
-least-bound [] = refl
-least-bound (e ∷ es) = let rest = least-bound es in omega arith
+pub lowest-fold : (es : List Entry) → fold (λ b (e : Entry). min b e.priority) 3 es ≡ lowest (λ (e : Entry). e.priority) es
+lowest-fold [] = refl
+lowest-fold (e ∷ es) = fold-least e es 3 ∙ below e es
+  where
+    below : (e : Entry) (es : List Entry) → min 3 (least (λ (x : Entry). x.priority) (e ∷ es)) ≡ least (λ (x : Entry). x.priority) (e ∷ es)
+    below e [] = let le : e.priority ≤ 3 = e.priority_fits in omega arith
+    below e (f ∷ es) = let le : e.priority ≤ 3 = e.priority_fits in omega arith
 
-pub least-fold : (es : List Entry) → fold (λ b (e : Entry). min b e.priority) 3 es ≡ least (λ (e : Entry). e.priority) es
-least-fold es = fold-least es 3 (lit≤ tt) ∙ least-bound es
+-- the first entry of that priority is the best
+pub lowest-place : (es : List Entry) → position (λ (e : Entry). e.priority == lowest (λ (x : Entry). x.priority) es) es ≡ best_place (λ (e : Entry). e.priority) es
+lowest-place [] = refl
+lowest-place (e ∷ es) = refl
 
 -- ---- entries without a best one are none
 
@@ -34,7 +41,7 @@ none-fails p i (x ∷ xs) e =
     [ true ↦ λ at none. absurd cc | false ↦ λ at none. (at, none-fails p (i + 1) xs none) ] refl e
 
 least-attained : (m : ℕ) (e : Entry) (es : List Entry) → AllByRecursion (λ (x : Entry). (x.priority == m) ≡ false) (e ∷ es) → m ≡ least (λ (x : Entry). x.priority) (e ∷ es) → ⊥
-least-attained m e [] fails is = let le : e.priority ≤ 3 = e.priority_fits in grind (arith, fails.0)
+least-attained m e [] fails is = grind (arith, fails.0)
 least-attained m e (f ∷ es) fails is =
     let differs : m ≡ e.priority → ⊥ = λ same. grind (arith, fails.0) in
     let rest : m ≡ least (λ (x : Entry). x.priority) (f ∷ es) = omega arith in

@@ -1,8 +1,9 @@
 //! Which of the entries is best.
 
-ghost use Rattle.std.specs.Prelude.{◌≡◌, ◌<◌, ◌+◌, ◌↔◌, IfSome, IsNone, Some, length, option_to_list};
+ghost use Rattle.std.specs.Prelude.{◌≡◌, ◌<◌, ◌+◌, ◌↔◌, IfSome, IsNone, Some, length, option_to_list, position, ◌==◌};
 ghost use Rattle.std.specs.VecDeque.{deque_len, deque_capacity};
-ghost use Rattle.board_model.specs.Choice.{best, best_place, least, without_best};
+ghost use Rattle.board_model.specs.Choice.{best, best_place, without_best};
+ghost use Rattle.message_queue.specs.Lowest.{lowest};
 ghost use Rattle.message_queue.specs.InQueue.{waiting_of, waiting_in};
 
 use crate::entry::Entry;
@@ -24,13 +25,19 @@ fn place_of_best(entries: &VecDeque<Entry>) -> Option<usize>
     ensures place { result ≡ best_place (λ e. e.priority) entries.now.items }
     ensures within { IfSome result (λ i. i < deque_len entries.now) }
 {
-    let best = best_priority(entries);
-    entries.iter().position(|e| e.priority.number() == best)
+    place_of_priority(entries, best_priority(entries))
+}
+
+fn place_of_priority(entries: &VecDeque<Entry>, priority: u8) -> Option<usize>
+    ensures place { result ≡ position (λ e. e.priority == priority) entries.now.items }
+    ensures within { IfSome result (λ i. i < deque_len entries.now) }
+{
+    entries.iter().position(|e| e.priority.number() == priority)
 }
 
 /// The best priority of all entries, or the worst where there is none.
 fn best_priority(entries: &VecDeque<Entry>) -> u8
-    ensures { result ≡ least (λ e. e.priority) entries.now.items }
+    ensures { result ≡ lowest (λ e. e.priority) entries.now.items }
 {
     entries
         .iter()

@@ -1,5 +1,4 @@
--- By induction over the entries of each domain's run.
-use Rattle.board_model.proofs.HeldRuns.{tests_tell_taken}
+use Rattle.board_model.proofs.OrderRuns.{tests_tell_taken}
 use Rattle.board_model.proofs.laws.tests_tell_what_was_taken.Goals as goal
 
 pub returns : goal.returns

@@ -1,0 +1,125 @@
+-- As many places are given back to a peer as the run gives buffers back to it.
+use Rattle.std.proofs.Common.{◌≡◌, ℕ, ◌+◌, Bool, true, false, not, cond, List, [], ◌∷◌, ◌++◌, map, length, refl, sym, ap, ap₂, ◌∙◌, arith, length-append}
+use Rattle.std.specs.Prelude.{count_by, ◌==◌}
+use Rattle.std.proofs.lemmas.List.{append-nil}
+use Rattle.std.specs.List.{flat_map}
+use Rattle.board_model.specs.declared.scenario.CallLine.{CallLine}
+use Rattle.board_model.specs.declared.scenario.Scenario.{Scenario}
+use Rattle.board_model.specs.Scenario.{script}
+use Rattle.board_model.specs.LinkedBoard.{IsLinkedBoard}
+use Rattle.board_model.specs.Journal.{PlainEntry, turned, put, again, called, refuses, Visit, Taken}
+use Rattle.board_model.specs.State.{DomainState, is_from}
+use Rattle.board_model.specs.Dealing.{keeps_buffer}
+use Rattle.board_model.specs.Answer.{answer}
+use Rattle.board_model.specs.Effect.{returns}
+use Rattle.board_model.specs.Step.{RunState, call_at, Allowed, after}
+use Rattle.board_model.specs.Run.{start, left_by, IsDomainRun}
+use Rattle.board_model.specs.Traffic.{visits_to, takes_in, taken_from, returned_by, given_in, given}
+use Rattle.board_model.specs.Board.{DomainJournal}
+use Rattle.board_model.specs.CallChanges.{returned}
+use Rattle.board_model.specs.Deeds.{Deed, looks_back, puts_owed, looks_ahead, takes, after_deed, after_deeds, along}
+use Rattle.board_model.specs.JournalDeeds.{takes_named, visit_deeds, call_deeds, entry_deeds, deeds_along, opened}
+use Rattle.board_model.specs.Given.{given_at_once, frames_from, names_given, places_given}
+use Rattle.board_model.proofs.DeedRuns.{unnamed}
+use Rattle.board_model.proofs.ListsCounts.{one_if, count-cons, count-append}
+use Rattle.board_model.proofs.BridgeReads.{answer-unnamed}
+use Rattle.board_model.proofs.BridgeSound.{Sound}
+use Rattle.board_model.proofs.BridgeDeeds.{along-join, deeds-sound}
+use Rattle.board_model.proofs.BridgeVisits.{deeds_named}
+use Rattle.board_model.proofs.BridgeRuns.{AllAllowed, allowed-all, left-leads, opened-sound}
+use Rattle.board_model.proofs.BridgeHeld.{Held, deeds-held, returned-count, none-returned}
+
+-- how many buffers of taken frames are given back at once
+abbrev at_once : List Taken → ℕ
+at_once ts = count_by (λ t. not (keeps_buffer t.fate)) ts
+
+abbrev count_if : Bool → ℕ → ℕ
+count_if b n = cond b n 0
+
+module _ (p : ℕ) where
+  -- ---- a visit
+
+  one_given : (b : Bool) (m : ℕ) (t : Taken) (n : ℕ) → length (cond b (given_at_once t.fate m) []) + count_if b n ≡ count_if b (one_if (not (keeps_buffer t.fate)) + n)
+  one_given true m t n = ap (λ k. k + n) (go (keeps_buffer t.fate))
+    where
+      go : (b : Bool) → length (cond b [] (m ∷ [])) ≡ one_if (not b)
+      go true = refl
+      go false = refl
+  one_given false m t n = omega arith
+
+  none_if : (b : Bool) → 0 ≡ count_if b 0
+  none_if true = refl
+  none_if false = refl
+
+  takes_given : (q m : ℕ) (ts : List Taken) (s : DomainState) → length (along (names_given p) s (takes_named q m ts)) ≡ count_if (q == p) (at_once ts)
+  takes_given q m [] s = none_if (q == p)
+  takes_given q m (t ∷ ts) s =
+      length-append (cond (q == p) (given_at_once t.fate m) []) (along (names_given p) (after_deed s (takes q m t.frame t.fate)) (takes_named q (m + 1) ts))
+      ∙ (ap (λ n. length (cond (q == p) (given_at_once t.fate m) []) + n) (takes_given q (m + 1) ts (after_deed s (takes q m t.frame t.fate)))
+      ∙ (one_given (q == p) m t (at_once ts) ∙ ap (count_if (q == p)) (sym (count-cons (λ u. not (keeps_buffer u.fate)) t ts))))
+
+  puts_given : (q : ℕ) (fs : List (List ℕ)) (s : DomainState) → along (names_given p) s (map (puts_owed q) fs) ≡ []
+  puts_given q [] s = refl
+  puts_given q (f ∷ fs) s = puts_given q fs (after_deed s (puts_owed q f))
+
+  visit_given : (m : ℕ) (v : Visit) (s : DomainState) → length (along (names_given p) s (deeds_named v m)) ≡ count_if (v.peer == p) (at_once v.takes)
+  visit_given m v s =
+      let t : DomainState = after_deed s (looks_back v.peer v.back) in
+      ap length (along-join (names_given p) t (map (puts_owed v.peer) v.owed) (looks_ahead v.peer v.see ∷ takes_named v.peer m v.takes))
+      ∙ (ap (λ k. length (k ++ along (names_given p) (after_deed (after_deeds t (map (puts_owed v.peer) v.owed)) (looks_ahead v.peer v.see)) (takes_named v.peer m v.takes))) (puts_given v.peer v.owed t)
+      ∙ takes_given v.peer m v.takes (after_deed (after_deeds t (map (puts_owed v.peer) v.owed)) (looks_ahead v.peer v.see)))
+
+  -- ---- a turn
+
+  more_given : (b : Bool) (v : Visit) (vs : List Visit) → count_if b (at_once v.takes) + at_once (flat_map (λ w. w.takes) vs) ≡ at_once (flat_map (λ w. w.takes) (cond b (v ∷ vs) vs))
+  more_given true v vs = sym (count-append (λ t. not (keeps_buffer t.fate)) v.takes (flat_map (λ w. w.takes) vs))
+  more_given false v vs = omega arith
+
+  turn_given : (before : List PlainEntry) (vs : List Visit) (s : DomainState) → length (along (names_given p) s (flat_map (visit_deeds before) vs)) ≡ at_once (takes_in p (turned vs))
+  turn_given before [] s = refl
+  turn_given before (v ∷ vs) s =
+      ap length (along-join (names_given p) s (visit_deeds before v) (flat_map (visit_deeds before) vs))
+      ∙ (length-append (along (names_given p) s (visit_deeds before v)) (along (names_given p) (after_deeds s (visit_deeds before v)) (flat_map (visit_deeds before) vs))
+      ∙ (ap₂ (λ a b. a + b) (visit_given (length (taken_from v.peer before)) v s) (turn_given before vs (after_deeds s (visit_deeds before v)))
+      ∙ more_given (v.peer == p) v (visits_to p vs)))
+
+  -- ---- an entry
+
+  module _ (lines : List CallLine) where
+    entry_given : (before : List PlainEntry) (r : RunState) (t : DomainState) (e : PlainEntry) → r.state ≡ unnamed t → Held t → Allowed lines r e → length (along (names_given p) t (entry_deeds lines before r e)) ≡ given_in lines r p e
+    entry_given before r t (turned vs) same held allowed = turn_given before vs t
+    entry_given before r t (put q frame) same held allowed = refl
+    entry_given before r t (again word) same held allowed =
+        let line : CallLine = allowed.0 in
+        let told : refuses word ≡ answer t line.node (call_at r line) = allowed.2 ∙ (ap (λ s. answer s line.node (call_at r line)) same ∙ answer-unnamed t line.node (call_at r line)) in
+        ap (λ o. length (along (names_given p) t (call_deeds o r (refuses word)))) allowed.1
+        ∙ ap (λ items. length (frames_from p items ++ [])) (none-returned t line.node word (call_at r line) told)
+    entry_given before r t (called k a) same held allowed =
+        let line : CallLine = allowed.0 in
+        ap (λ o. length (along (names_given p) t (call_deeds o r a))) allowed.1
+        ∙ (ap length (append-nil (frames_from p (returned t line.node (call_at r line))))
+        ∙ (returned-count p t line.node (call_at r line) held
+        ∙ (ap (λ s. count_by (is_from p) (returns s line.node (call_at r line))) (sym same)
+        ∙ ap (λ o. count_by (is_from p) (returned_by o r)) (sym allowed.1))))
+
+    -- ---- a run
+
+    pub run-given : (before : List PlainEntry) (r : RunState) (t : DomainState) (es : List PlainEntry) → r.state ≡ unnamed t → Sound (unnamed t) → Held t → AllAllowed lines r es →
+        length (along (names_given p) t (deeds_along lines before r es)) ≡ given lines r p es
+    run-given before r t [] same sound held allowed = refl
+    run-given before r t (e ∷ es) same sound held allowed =
+        let ds : List Deed = entry_deeds lines before r e in
+        let rest : List Deed = deeds_along lines (before ++ e ∷ []) (after lines r e) es in
+        ap length (along-join (names_given p) t ds rest)
+        ∙ (length-append (along (names_given p) t ds) (along (names_given p) (after_deeds t ds) rest)
+        ∙ ap₂ (λ a b. a + b) (entry_given before r t e same held allowed.0)
+        (run-given (before ++ e ∷ []) (after lines r e) (after_deeds t ds) es (left-leads lines before r t e same sound allowed.0) (deeds-sound t ds sound) (deeds-held t ds held) allowed.1))
+
+-- the state at the opening holds nothing
+pub opened-held : (s : Scenario) (j : DomainJournal) → Held (opened s j)
+opened-held s j = record { queued = tt; lent = tt }
+
+pub given_are : (s : Scenario) (j : DomainJournal) → IsLinkedBoard s → IsDomainRun s j.line j.entries → (peer : ℕ) → length (places_given s j peer) ≡ given (script s j.line.domain) (start s j.line) peer j.entries
+given_are s j board run peer =
+    run-given peer (script s j.line.domain) [] (start s j.line) (opened s j) j.entries refl (opened-sound s j board) (opened-held s j)
+    (allowed-all (script s j.line.domain) (start s j.line) (left_by s j.line j.entries) j.entries run.steps)

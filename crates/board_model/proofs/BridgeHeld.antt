@@ -1,0 +1,280 @@
+-- Each item that a domain holds was brought by one frame, and a call gives back that frame's buffer alone.
+use Rattle.std.proofs.Common.{◌≡◌, ℕ, ◌+◌, Bool, true, false, not, ◌&&◌, cond, List, [], ◌∷◌, ◌++◌, map, length, Option, Some, None, refl, sym, ap, ap₂, ◌∙◌, arith, length-append}
+use Rattle.std.specs.Prelude.{find, filter, count_by, is_none, slice_get, option_map, option_to_list, ◌==◌}
+use Rattle.std.specs.List.{AllByRecursion, flat_map}
+use Rattle.std.proofs.lemmas.Bool.{cond_both}
+use Rattle.mc_base.specs.FullName.{endpoint_named}
+use Rattle.mc_base.specs.NameMap.{Names}
+use Rattle.mc_base.specs.Letter.{PlainLetter, msg}
+use Rattle.mc_base.specs.Reading.{Reading, is_faulty, announces, says, reading}
+use Rattle.mc_base.specs.declared.name.EndName.{EndName}
+use Rattle.mc_base.specs.declared.name.Local.{Local}
+use Rattle.mc_base.specs.declared.refusal.Refusal.{Refusal}
+use Rattle.mc_base.specs.declared.refusal.Refusal.TheVariants.{EndpInvalid}
+use Rattle.board_model.specs.State.{Item, Endpoint, message_at, Outcome, has_address, is_accepted, is_rejected, has_item, has_ended, item_in, Request, DomainState, is_at, has_address_of, live_at, endpoint_of, queue_in, queue_at, request_at_place, waits_at, peer_at, is_from}
+use Rattle.board_model.specs.Choice.{least, best, best_place, without_best}
+use Rattle.board_model.specs.Dealing.{names_of}
+use Rattle.board_model.specs.DomainCall.{DomainCall, create_at, delete_at, lookup_of, send_from, receive_at, request_at, available_at, test_of, cancel_of, turn_alone}
+use Rattle.board_model.specs.Answer.{local, address_of, refusal, success, answer_by, answer, unless_refused}
+use Rattle.board_model.specs.Journal.{refuses}
+use Rattle.board_model.specs.Effect as effects
+use Rattle.board_model.specs.Change.{Change, endpoint_made, endpoint_gone, item_queued, best_gone, request_added, item_handed, waiting_ended, name_found, request_gone, end_announced, owed_put, buffers_back, frames_shown, frame_taken, names_known, buffer_used, asks_for, done_with, handed_in, ended_in, with_queue, endpoint_with, changed, changed_all}
+use Rattle.board_model.specs.TakenFrames.{Row, name_rows, letter_rows, first_row, row_of}
+use Rattle.board_model.specs.CallChanges.{at_live, best_item, success_changes, call_changes, held_by, success_returned, returned}
+use Rattle.board_model.specs.Deeds.{Deed, looks_back, puts_owed, looks_ahead, takes, calls, after_deed, after_deeds}
+use Rattle.board_model.specs.Given.{frames_from}
+use Rattle.board_model.proofs.MessageAlls.{all-at, all-append, all-filter, all-found, all-changed-first, all-without}
+use Rattle.board_model.proofs.ListsCounts.{one_if, count-cons}
+use Rattle.board_model.proofs.MessageLists.{best_is}
+use Rattle.board_model.proofs.BridgeDeeds.{first-all}
+use Rattle.board_model.proofs.DeedRuns.{unnamed_item, unnamed_request, unnamed_outcome, unnamed}
+use Rattle.board_model.proofs.BridgeRuns.{none-given}
+use Rattle.board_model.proofs.BridgeReads.{at-live, refusal-unnamed, request-unnamed, queue-unnamed, best-unnamed}
+
+-- brought by one frame
+abbrev pub IsOne : Item → Type 0
+IsOne i = length i.frames ≡ 1
+
+abbrev pub AreOne : List Item → Type 0
+AreOne items = AllByRecursion IsOne items
+
+pub record Held (s : DomainState) : Type 0 where
+  pub queued : AllByRecursion (λ e. AreOne e.queue) s.endpoints
+  pub lent : AllByRecursion (λ r. AreOne (item_in r.outcome)) s.requests
+
+-- a change by which what comes was brought by one frame
+abbrev pub BringsOne : Change → Type 0
+BringsOne (item_queued a i) = IsOne i
+BringsOne (item_handed a i) = IsOne i
+BringsOne (request_added asked o) = AreOne (item_in o)
+BringsOne other = Unit {0}
+
+handed_held : (o : Option Endpoint) (i : Item) (rs : List Request) → IsOne i → AllByRecursion (λ r. AreOne (item_in r.outcome)) rs → AllByRecursion (λ r. AreOne (item_in r.outcome)) (handed_in o i rs)
+handed_held None i rs one all = all
+handed_held (Some e) i rs one all = all-changed-first (λ r. AreOne (item_in r.outcome)) (waits_at e.local) (done_with (has_item i)) rs all (λ r found before. (one, tt))
+
+-- those that pass are complete with nothing
+passed_held : (test : Request → Bool) (o : Outcome) (rs : List Request) → AreOne (item_in (Some o)) → AllByRecursion (λ r. AreOne (item_in r.outcome)) rs → AllByRecursion (λ r. AreOne (item_in r.outcome)) (map (λ r. cond (test r) (done_with o r) r) rs)
+passed_held test o [] one all = tt
+passed_held test o (r ∷ rs) one all =
+    (cond_both (test r) (done_with o r) r (λ q. AreOne (item_in q.outcome)) (λ on. one) (λ off. all.0), passed_held test o rs one all.1)
+
+ended_held : (o : Option Endpoint) (word : Refusal) (rs : List Request) → AllByRecursion (λ r. AreOne (item_in r.outcome)) rs → AllByRecursion (λ r. AreOne (item_in r.outcome)) (ended_in o word rs)
+ended_held None word rs all = all
+ended_held (Some e) word rs all = passed_held (waits_at e.local) (has_ended word) rs tt all
+
+pub held-changed : (s : DomainState) (c : Change) → BringsOne c → Held s → Held (changed s c)
+held-changed s (endpoint_made at) one held = record { queued = all-append (λ e. AreOne e.queue) s.endpoints (endpoint_with s at ∷ []) held.queued (tt, tt); lent = held.lent }
+held-changed s (endpoint_gone a) one held = record { queued = all-filter (λ e. AreOne e.queue) (λ e. not (has_address_of a e)) s.endpoints held.queued; lent = held.lent }
+held-changed s (item_queued a i) one held = record {
+  queued = all-changed-first (λ e. AreOne e.queue) (has_address_of a) (with_queue (λ q. q ++ i ∷ [])) s.endpoints held.queued (λ e found before. all-append IsOne e.queue (i ∷ []) before (one, tt));
+  lent = held.lent;
+}
+held-changed s (best_gone a) one held = record {
+  queued = all-changed-first (λ e. AreOne e.queue) (has_address_of a) (with_queue (without_best (λ i. i.priority))) s.endpoints held.queued (λ e found before. all-without IsOne (best_place (λ i. i.priority) e.queue) e.queue before);
+  lent = held.lent;
+}
+held-changed s (request_added asked o) one held = record { queued = held.queued; lent = all-append (λ r. AreOne (item_in r.outcome)) s.requests (record { serial = s.requests_given; asked = asked; outcome = o } ∷ []) held.lent (one, tt) }
+held-changed s (item_handed a i) one held = record { queued = held.queued; lent = handed_held (endpoint_of s a) i s.requests one held.lent }
+held-changed s (waiting_ended a word) one held = record { queued = held.queued; lent = ended_held (endpoint_of s a) word s.requests held.lent }
+held-changed s (name_found n a) one held = record { queued = held.queued; lent = passed_held (λ r. is_none r.outcome && asks_for n r.asked) (has_address a) s.requests tt held.lent }
+held-changed s (request_gone place) one held = record { queued = held.queued; lent = all-without (λ r. AreOne (item_in r.outcome)) place s.requests held.lent }
+held-changed s (end_announced a) one held = record { queued = held.queued; lent = held.lent }
+held-changed s (owed_put n) one held = record { queued = held.queued; lent = held.lent }
+held-changed s (buffers_back n count) one held = record { queued = held.queued; lent = held.lent }
+held-changed s (frames_shown n count) one held = record { queued = held.queued; lent = held.lent }
+held-changed s (frame_taken n) one held = record { queued = held.queued; lent = held.lent }
+held-changed s (names_known n names) one held = record { queued = held.queued; lent = held.lent }
+held-changed s (buffer_used n) one held = record { queued = held.queued; lent = held.lent }
+
+held_all : (s : DomainState) (cs : List Change) → AllByRecursion BringsOne cs → Held s → Held (changed_all s cs)
+held_all s [] one held = held
+held_all s (c ∷ cs) one held = held_all (changed s c) cs one.1 (held-changed s c one.0 held)
+
+-- ---- frames
+
+abbrev RowBringsOne : Row → Type 0
+RowBringsOne r = AllByRecursion BringsOne r.happens
+
+names_one : (peer : ℕ) (known : Names) (o : Option EndName) (address : ℕ) (there : Bool) → RowBringsOne (first_row (name_rows peer known o address there))
+names_one peer known None address there = tt
+names_one peer known (Some n) address true = first-all RowBringsOne (name_rows peer known (Some n) address true) tt (tt, (tt, ((tt, (tt, tt)), tt)))
+names_one peer known (Some n) address false = first-all RowBringsOne (name_rows peer known (Some n) address false) tt (tt, (tt, ((tt, tt), tt)))
+
+letters_one : (s : DomainState) (peer name source destination : ℕ) (o : Option Endpoint) (l : PlainLetter) → RowBringsOne (first_row (letter_rows s peer name source destination o l))
+letters_one s peer name source destination None l = tt
+letters_one s peer name source destination (Some e) (msg priority content) =
+    first-all RowBringsOne (letter_rows s peer name source destination (Some e) (msg priority content)) tt ((refl, tt), ((refl, tt), tt))
+letters_one s peer name source destination (Some e) other = tt
+
+rows_one : (s : DomainState) (peer name : ℕ) (r : Reading) → RowBringsOne (row_of s peer name r)
+rows_one s peer name (is_faulty f) = tt
+rows_one s peer name (announces text address there) = names_one peer (names_of (peer_at s peer)) (endpoint_named text) address there
+rows_one s peer name (says source destination l) = letters_one s peer name source destination (endpoint_of s destination) l
+
+-- ---- calls
+
+best_one : (q : List Item) → AreOne q → AreOne (option_to_list (best (λ i. i.priority) q))
+best_one q all = go (best (λ i. i.priority) q) (sym (best_is (λ i. i.priority) q))
+  where
+    go : (o : Option Item) → find (λ i. i.priority == least (λ i. i.priority) q) q ≡ o → AreOne (option_to_list o)
+    go None found = tt
+    go (Some i) found = (all-found IsOne (λ i. i.priority == least (λ i. i.priority) q) q i all found, tt)
+
+item_one : (o : Option Item) → AreOne (option_to_list o) → AreOne (item_in (option_map has_item o))
+item_one None one = tt
+item_one (Some i) one = one
+
+address_one : (o : Option ℕ) → AreOne (item_in (option_map has_address o))
+address_one None = tt
+address_one (Some a) = tt
+
+module _ (s : DomainState) (held : Held s) (node : ℕ) where
+  queue_one : (at : Local) (e : Endpoint) → live_at s at ≡ Some e → AreOne e.queue
+  queue_one at e live = all-found (λ (d : Endpoint). AreOne d.queue) (is_at at) s.endpoints e held.queued live
+
+  live_one : {A : Type 0} (P : A → Type 0) (f : Endpoint → List A) (at : Local) → ((e : Endpoint) → AreOne e.queue → AllByRecursion P (f e)) → AllByRecursion P (at_live (live_at s at) f)
+  live_one {A = A} P f at each = go (live_at s at) refl
+    where
+      go : (o : Option Endpoint) → live_at s at ≡ o → AllByRecursion P (at_live o f)
+      go None live = tt
+      go (Some e) live = each e (queue_one at e live)
+
+  success_one : (call : DomainCall) → AllByRecursion BringsOne (success_changes s node call)
+  success_one (create_at port) = (tt, (tt, (tt, tt)))
+  success_one (delete_at port) =
+      live_one BringsOne (λ e. waiting_ended e.address EndpInvalid ∷ endpoint_gone e.address ∷ end_announced (record { local = e.local; address = e.address; create = false }) ∷ []) (local node port) (λ e one. (tt, (tt, (tt, tt))))
+  success_one (lookup_of name) = (address_one (address_of s name), tt)
+  success_one (send_from port to priority bytes) = (tt, tt)
+  success_one (receive_at port max) = live_one BringsOne (λ e. best_gone e.address ∷ []) (local node port) (λ e one. (tt, tt))
+  success_one (request_at port max) =
+      live_one BringsOne (λ e. best_gone e.address ∷ request_added (message_at e.local max) (option_map has_item (best_item e)) ∷ []) (local node port)
+      (λ e one. (tt, (item_one (best_item e) (best_one e.queue one), tt)))
+  success_one (available_at port) = tt
+  success_one (test_of request) = (tt, tt)
+  success_one (cancel_of request) = (tt, tt)
+  success_one turn_alone = tt
+
+  call_one : (call : DomainCall) → AllByRecursion BringsOne (call_changes s node call)
+  call_one call = go (refusal s node call)
+    where
+      go : (o : Option Refusal) → AllByRecursion BringsOne (unless_refused o [] (success_changes s node call))
+      go (Some word) = tt
+      go None = success_one call
+
+  -- what a call gives back
+  test_one : (place : Option ℕ) → AreOne (held_by (request_at_place s place))
+  test_one None = tt
+  test_one (Some i) = go (slice_get s.requests i) refl
+    where
+      go : (o : Option Request) → slice_get s.requests i ≡ o → AreOne (held_by o)
+      go None at = tt
+      go (Some r) at = all-at (λ (q : Request). AreOne (item_in q.outcome)) s.requests i r held.lent at
+
+  success_returned_one : (call : DomainCall) → AreOne (success_returned s node call)
+  success_returned_one (delete_at port) = live_one IsOne (λ e. e.queue) (local node port) (λ e one. one)
+  success_returned_one (receive_at port max) = live_one IsOne (λ e. option_to_list (best_item e)) (local node port) (λ e one. best_one e.queue one)
+  success_returned_one (test_of request) = test_one request
+  success_returned_one other = tt
+
+  pub returned-one : (call : DomainCall) → AreOne (returned s node call)
+  returned-one call = go (refusal s node call)
+    where
+      go : (o : Option Refusal) → AreOne (unless_refused o [] (success_returned s node call))
+      go (Some word) = tt
+      go None = success_returned_one call
+
+-- ---- deeds
+
+pub deed-held : (t : DomainState) (d : Deed) → Held t → Held (after_deed t d)
+deed-held t (looks_back peer count) held = record { queued = held.queued; lent = held.lent }
+deed-held t (puts_owed peer frame) held = record { queued = held.queued; lent = held.lent }
+deed-held t (looks_ahead peer count) held = record { queued = held.queued; lent = held.lent }
+deed-held t (takes peer name frame word) held = held_all (changed t (frame_taken peer)) (row_of t peer name (reading frame)).happens (rows_one t peer name (reading frame)) (record { queued = held.queued; lent = held.lent })
+deed-held t (calls node call a) held = held_all t (call_changes t node call) (call_one t held node call) held
+
+pub deeds-held : (t : DomainState) (ds : List Deed) → Held t → Held (after_deeds t ds)
+deeds-held t [] held = held
+deeds-held t (d ∷ ds) held = deeds-held (after_deed t d) ds (deed-held t d held)
+
+-- ---- the names of what a call gives back
+
+-- as many names as items from the peer
+pub names-count : (peer : ℕ) (items : List Item) → AreOne items → length (frames_from peer items) ≡ count_by (is_from peer) items
+names-count peer [] one = refl
+names-count peer (i ∷ items) one =
+    go (is_from peer i) ∙ (ap (λ n. one_if (is_from peer i) + n) (names-count peer items one.1) ∙ sym (count-cons (is_from peer) i items))
+  where
+    go : (b : Bool) → length (flat_map (λ (x : Item). x.frames) (cond b (i ∷ filter (is_from peer) items) (filter (is_from peer) items))) ≡ one_if b + length (frames_from peer items)
+    go true = omega (arith, one.0, length-append i.frames (frames_from peer items))
+    go false = omega arith
+
+-- what is given back is the same but for the names of frames
+live_queue : (o : Option Endpoint) → queue_in o ≡ at_live o (λ e. e.queue)
+live_queue None = refl
+live_queue (Some e) = refl
+
+live_best : (o : Option Endpoint) → option_to_list (best (λ (i : Item). i.priority) (queue_in o)) ≡ at_live o (λ e. option_to_list (best_item e))
+live_best None = refl
+live_best (Some e) = refl
+
+same_best : (o : Option Item) → option_to_list (option_map unnamed_item o) ≡ map unnamed_item (option_to_list o)
+same_best None = refl
+same_best (Some i) = refl
+
+same_outcome : (o : Option Outcome) → item_in (option_map unnamed_outcome o) ≡ map unnamed_item (item_in o)
+same_outcome None = refl
+same_outcome (Some (has_address a)) = refl
+same_outcome (Some is_accepted) = refl
+same_outcome (Some (is_rejected reason)) = refl
+same_outcome (Some (has_item i)) = refl
+same_outcome (Some (has_ended word)) = refl
+
+same_held : (o : Option Request) → effects.held_by (option_map unnamed_request o) ≡ map unnamed_item (held_by o)
+same_held None = refl
+same_held (Some r) = same_outcome r.outcome
+
+module _ (t : DomainState) (node : ℕ) where
+  success_same : (call : DomainCall) → effects.success_returns (unnamed t) node call ≡ map unnamed_item (success_returned t node call)
+  success_same (delete_at port) = queue-unnamed t (local node port) ∙ ap (map unnamed_item) (ap queue_in (at-live t (local node port)) ∙ live_queue (live_at t (local node port)))
+  success_same (receive_at port max) =
+      ap (λ q. option_to_list (best (λ (i : Item). i.priority) q)) (queue-unnamed t (local node port))
+      ∙ (ap option_to_list (best-unnamed (queue_at t (local node port)))
+      ∙ (same_best (best (λ i. i.priority) (queue_at t (local node port)))
+      ∙ ap (map unnamed_item) (ap (λ o. option_to_list (best (λ (i : Item). i.priority) (queue_in o))) (at-live t (local node port)) ∙ live_best (live_at t (local node port)))))
+  success_same (test_of request) = ap effects.held_by (request-unnamed t request) ∙ same_held (request_at_place t request)
+  success_same other = refl
+
+  pub returned-same : (call : DomainCall) → effects.returns (unnamed t) node call ≡ map unnamed_item (returned t node call)
+  returned-same call = ap₂ (λ o items. unless_refused o [] items) (refusal-unnamed t node call) (success_same call) ∙ go (refusal t node call)
+    where
+      go : (o : Option Refusal) → unless_refused o [] (map unnamed_item (success_returned t node call)) ≡ map unnamed_item (unless_refused o [] (success_returned t node call))
+      go None = refl
+      go (Some word) = refl
+
+  -- a call that answers with a word gives back nothing
+  none_success : (word : Refusal) (call : DomainCall) → refuses word ≡ success t node call → success_returned t node call ≡ []
+  none_success word (delete_at port) is = absurd cc
+  none_success word (test_of request) is = absurd cc
+  none_success word (receive_at port max) is =
+      let none : best (λ i. i.priority) (queue_at t (local node port)) ≡ None = none-given max word (best (λ i. i.priority) (queue_at t (local node port))) is in
+      sym (ap (λ o. option_to_list (best (λ (i : Item). i.priority) (queue_in o))) (at-live t (local node port)) ∙ live_best (live_at t (local node port))) ∙ ap option_to_list none
+  none_success word other is = refl
+
+  pub none-returned : (word : Refusal) (call : DomainCall) → refuses word ≡ answer t node call → returned t node call ≡ []
+  none-returned word call is = go (refusal t node call) is
+    where
+      go : (o : Option Refusal) → refuses word ≡ answer_by o (success t node call) → unless_refused o [] (success_returned t node call) ≡ []
+      go (Some other) told = refl
+      go None told = none_success word call told
+
+count_unnamed : (peer : ℕ) (items : List Item) → count_by (is_from peer) (map unnamed_item items) ≡ count_by (is_from peer) items
+count_unnamed peer [] = refl
+count_unnamed peer (i ∷ items) =
+    count-cons (is_from peer) (unnamed_item i) (map unnamed_item items) ∙ (ap (λ n. one_if (is_from peer i) + n) (count_unnamed peer items) ∙ sym (count-cons (is_from peer) i items))
+
+-- as many as a call gives back
+pub returned-count : (peer : ℕ) (t : DomainState) (node : ℕ) (call : DomainCall) → Held t → length (frames_from peer (returned t node call)) ≡ count_by (is_from peer) (effects.returns (unnamed t) node call)
+returned-count peer t node call held =
+    names-count peer (returned t node call) (returned-one t held node call)
+    ∙ (sym (count_unnamed peer (returned t node call)) ∙ ap (count_by (is_from peer)) (sym (returned-same t node call)))

@@ -1,0 +1,188 @@
+-- What a call answers, puts and does in a state but for the names of frames is as in the state.
+use Rattle.std.proofs.Common.{◌≡◌, ℕ, ◌+◌, false, not, cond, List, [], ◌∷◌, map, length, Option, Some, None, refl, sym, ap, ap₂, ◌∙◌}
+use Rattle.std.specs.Prelude.{nat_le, option_map, ◌==◌, is_some, unwrap_or}
+use Rattle.std.proofs.lemmas.List.{length-map}
+use Rattle.mc_base.specs.Limits.{record_limit, request_limit}
+use Rattle.mc_base.specs.Frame.{made}
+use Rattle.mc_base.specs.Letter.{spelling, msg}
+use Rattle.mc_base.specs.declared.name.Local.{Local}
+use Rattle.mc_base.specs.declared.name.EndName.{EndName}
+use Rattle.mc_base.specs.declared.refusal.Refusal.{Refusal}
+use Rattle.mc_base.specs.declared.refusal.Refusal.TheVariants.{ExistsAlready, EndpLimit, EndpInvalid, PeerInvalid, OnChannel, ChanConnected, NoBuffer, Empty, RequestLimit, RequestInvalid, Pending, TooLate}
+use Rattle.board_model.specs.State.{Item, Endpoint, Outcome, has_address, is_accepted, is_rejected, has_item, has_ended, Asked, name_of, message_at, Request, DomainState, is_at, live_at, endpoint_at, address_at, queue_in, queue_at, request_at_place, peer_of}
+use Rattle.board_model.specs.Choice.{best}
+use Rattle.board_model.specs.DomainCall.{DomainCall, create_at, delete_at, lookup_of, send_from, receive_at, request_at, available_at, test_of, cancel_of, turn_alone}
+use Rattle.board_model.specs.Journal.{tells, completes}
+use Rattle.board_model.specs.Answer.{local, here, known_address, address_of, has_channel, named, request_named, is_complete, success_puts, lacks_buffers, holds, words_of, refusal, given, result_by, result_of, success, answer_by, answer, unless_refused, puts}
+use Rattle.board_model.specs.Change.{Change, endpoint_gone, best_gone, request_added, waiting_ended, end_announced}
+use Rattle.board_model.specs.CallChanges.{at_live, best_item, success_changes, call_changes}
+use Rattle.board_model.proofs.DeedRuns.{unnamed_item, unnamed_end, unnamed_outcome, unnamed_request, unnamed}
+use Rattle.board_model.proofs.MessageLists.{get-position}
+use Rattle.board_model.proofs.BridgeLists.{is_some-map, option-map-map, get-mapped, find-alike, best-mapped}
+use Rattle.board_model.proofs.BridgeUnnamed.{live-unnamed, place-unnamed, unnamed_change}
+
+-- ---- endpoints
+
+pub at-live : (s : DomainState) (at : Local) → endpoint_at s at ≡ live_at s at
+at-live s at = get-position (is_at at) s.endpoints
+
+end_unnamed : (s : DomainState) (at : Local) → endpoint_at (unnamed s) at ≡ option_map unnamed_end (endpoint_at s at)
+end_unnamed s at = at-live (unnamed s) at ∙ (live-unnamed s at ∙ ap (option_map unnamed_end) (sym (at-live s at)))
+
+address_unnamed : (s : DomainState) (at : Local) → address_at (unnamed s) at ≡ address_at s at
+address_unnamed s at = ap (option_map (λ e. e.address)) (end_unnamed s at) ∙ option-map-map (λ e. e.address) unnamed_end (endpoint_at s at)
+
+queue_unnamed_in : (o : Option Endpoint) → queue_in (option_map unnamed_end o) ≡ map unnamed_item (queue_in o)
+queue_unnamed_in None = refl
+queue_unnamed_in (Some e) = refl
+
+pub queue-unnamed : (s : DomainState) (at : Local) → queue_at (unnamed s) at ≡ map unnamed_item (queue_at s at)
+queue-unnamed s at = ap queue_in (end_unnamed s at) ∙ queue_unnamed_in (endpoint_at s at)
+
+queue_length : (s : DomainState) (at : Local) → length (queue_at (unnamed s) at) ≡ length (queue_at s at)
+queue_length s at = ap (λ q. length q) (queue-unnamed s at) ∙ length-map (queue_at s at) unnamed_item
+
+address_of_unnamed : (s : DomainState) (n : EndName) → address_of (unnamed s) n ≡ address_of s n
+address_of_unnamed s n = ap (λ o. cond (n.domain == s.number) o (known_address n (peer_of s n.domain))) (address_unnamed s (local n.node n.port))
+
+channel_unnamed : (o : Option Endpoint) → has_channel (option_map unnamed_end o) ≡ has_channel o
+channel_unnamed None = refl
+channel_unnamed (Some e) = refl
+
+-- ---- requests
+
+pub request-unnamed : (s : DomainState) (place : Option ℕ) → request_at_place (unnamed s) place ≡ option_map unnamed_request (request_at_place s place)
+request-unnamed s None = refl
+request-unnamed s (Some i) = get-mapped unnamed_request s.requests i
+
+complete_unnamed : (o : Option Request) → is_complete (option_map unnamed_request o) ≡ is_complete o
+complete_unnamed None = refl
+complete_unnamed (Some r) = is_some-map unnamed_outcome r.outcome
+
+named_unnamed : (s : DomainState) (call : DomainCall) → request_named (unnamed s) call ≡ option_map unnamed_request (request_named s call)
+named_unnamed s (test_of request) = request-unnamed s request
+named_unnamed s (cancel_of request) = request-unnamed s request
+named_unnamed s (create_at port) = refl
+named_unnamed s (delete_at port) = refl
+named_unnamed s (lookup_of name) = refl
+named_unnamed s (send_from port to priority bytes) = refl
+named_unnamed s (receive_at port max) = refl
+named_unnamed s (request_at port max) = refl
+named_unnamed s (available_at port) = refl
+named_unnamed s turn_alone = refl
+
+addressed_unnamed : (s : DomainState) (call : DomainCall) → named (unnamed s) call ≡ named s call
+addressed_unnamed s (send_from port to priority bytes) = address_of_unnamed s to
+addressed_unnamed s other = refl
+
+-- ---- words of refusal
+
+success_puts_unnamed : (s : DomainState) (node : ℕ) (call : DomainCall) → success_puts (unnamed s) node call ≡ success_puts s node call
+success_puts_unnamed s node (send_from port to priority bytes) =
+    ap₂ (λ from at. (to.domain, made (unwrap_or from 0) (unwrap_or at 0) (spelling (msg priority bytes))) ∷ []) (address_unnamed s (local node port)) (address_of_unnamed s to)
+success_puts_unnamed s node other = refl
+
+lacks_unnamed : (s : DomainState) (ps : List (ℕ × List ℕ)) → lacks_buffers (unnamed s) ps ≡ lacks_buffers s ps
+lacks_unnamed s [] = refl
+lacks_unnamed s (p ∷ ps) = refl
+
+module _ (s : DomainState) (node : ℕ) (call : DomainCall) where
+  holds_unnamed : (word : Refusal) → holds (unnamed s) node call word ≡ holds s node call word
+  holds_unnamed ExistsAlready = ap is_some (place-unnamed s (here node call))
+  holds_unnamed EndpLimit = ap (λ n. nat_le record_limit (n + length s.ended)) (length-map s.endpoints unnamed_end)
+  holds_unnamed EndpInvalid = ap (λ o. not (is_some o)) (place-unnamed s (here node call))
+  holds_unnamed PeerInvalid = ap (λ o. not (is_some o)) (addressed_unnamed s call)
+  holds_unnamed OnChannel = ap has_channel (end_unnamed s (here node call)) ∙ channel_unnamed (endpoint_at s (here node call))
+  holds_unnamed ChanConnected = ap has_channel (end_unnamed s (here node call)) ∙ channel_unnamed (endpoint_at s (here node call))
+  holds_unnamed NoBuffer = ap (lacks_buffers (unnamed s)) (success_puts_unnamed s node call) ∙ lacks_unnamed s (success_puts s node call)
+  holds_unnamed Empty = ap (λ n. n == 0) (queue_length s (here node call))
+  holds_unnamed RequestLimit = ap (λ n. nat_le request_limit n) (length-map s.requests unnamed_request)
+  holds_unnamed RequestInvalid = ap (λ o. not (is_some o)) (named_unnamed s call) ∙ ap not (is_some-map unnamed_request (request_named s call))
+  holds_unnamed Pending = ap (λ o. not (is_complete o)) (named_unnamed s call) ∙ ap not (complete_unnamed (request_named s call))
+  holds_unnamed TooLate = ap is_complete (named_unnamed s call) ∙ complete_unnamed (request_named s call)
+  holds_unnamed other = refl
+
+  pub refusal-unnamed : refusal (unnamed s) node call ≡ refusal s node call
+  refusal-unnamed = find-alike (holds (unnamed s) node call) (holds s node call) holds_unnamed (words_of call)
+
+  pub puts-unnamed : puts (unnamed s) node call ≡ puts s node call
+  puts-unnamed = ap₂ (λ o ps. unless_refused o [] ps) refusal-unnamed (success_puts_unnamed s node call)
+
+-- ---- answers
+
+result_unnamed : (asked : Asked) (o : Option Outcome) → result_by asked (option_map unnamed_outcome o) ≡ result_by asked o
+result_unnamed asked None = refl
+result_unnamed asked (Some (has_address a)) = refl
+result_unnamed asked (Some is_accepted) = refl
+result_unnamed asked (Some (is_rejected reason)) = refl
+result_unnamed asked (Some (has_item i)) = refl
+result_unnamed asked (Some (has_ended word)) = refl
+
+result_of_unnamed : (o : Option Request) → result_of (option_map unnamed_request o) ≡ result_of o
+result_of_unnamed None = refl
+result_of_unnamed (Some r) = result_unnamed r.asked r.outcome
+
+given_unnamed : (max : ℕ) (o : Option Item) → given max (option_map unnamed_item o) ≡ given max o
+given_unnamed max None = refl
+given_unnamed max (Some i) = refl
+
+pub best-unnamed : (q : List Item) → best (λ (i : Item). i.priority) (map unnamed_item q) ≡ option_map unnamed_item (best (λ i. i.priority) q)
+best-unnamed q = best-mapped unnamed_item (λ i. i.priority) (λ i. refl) q
+
+module _ (s : DomainState) (node : ℕ) where
+  success_unnamed : (call : DomainCall) → success (unnamed s) node call ≡ success s node call
+  success_unnamed (create_at port) = refl
+  success_unnamed (delete_at port) = ap tells (queue_length s (local node port))
+  success_unnamed (lookup_of name) = refl
+  success_unnamed (send_from port to priority bytes) = refl
+  success_unnamed (receive_at port max) =
+      ap (λ q. given max (best (λ (i : Item). i.priority) q)) (queue-unnamed s (local node port))
+      ∙ (ap (given max) (best-unnamed (queue_at s (local node port))) ∙ given_unnamed max (best (λ i. i.priority) (queue_at s (local node port))))
+  success_unnamed (request_at port max) = refl
+  success_unnamed (available_at port) = ap tells (queue_length s (local node port))
+  success_unnamed (test_of request) = ap (λ o. completes (result_of o)) (request-unnamed s request) ∙ ap completes (result_of_unnamed (request_at_place s request))
+  success_unnamed (cancel_of request) = refl
+  success_unnamed turn_alone = refl
+
+  pub answer-unnamed : (call : DomainCall) → answer (unnamed s) node call ≡ answer s node call
+  answer-unnamed call = ap₂ (λ o a. answer_by o a) (refusal-unnamed s node call) (success_unnamed call)
+
+  -- ---- what happens by success
+
+  live_changes : (f : Endpoint → List Change) → ((e : Endpoint) → map unnamed_change (f e) ≡ f (unnamed_end e)) → (o : Option Endpoint) → map unnamed_change (at_live o f) ≡ at_live (option_map unnamed_end o) f
+  live_changes f same None = refl
+  live_changes f same (Some e) = same e
+
+  at_unnamed : (f : Endpoint → List Change) → ((e : Endpoint) → map unnamed_change (f e) ≡ f (unnamed_end e)) → (at : Local) → map unnamed_change (at_live (live_at s at) f) ≡ at_live (live_at (unnamed s) at) f
+  at_unnamed f same at = live_changes f same (live_at s at) ∙ ap (λ o. at_live o f) (sym (live-unnamed s at))
+
+  item_unnamed : (o : Option Item) → option_map unnamed_outcome (option_map has_item o) ≡ option_map has_item (option_map unnamed_item o)
+  item_unnamed None = refl
+  item_unnamed (Some i) = refl
+
+  found_unnamed : (o : Option ℕ) → option_map unnamed_outcome (option_map has_address o) ≡ option_map has_address o
+  found_unnamed None = refl
+  found_unnamed (Some a) = refl
+
+  changes_unnamed : (call : DomainCall) → map unnamed_change (success_changes s node call) ≡ success_changes (unnamed s) node call
+  changes_unnamed (create_at port) = refl
+  changes_unnamed (delete_at port) =
+      at_unnamed (λ e. waiting_ended e.address EndpInvalid ∷ endpoint_gone e.address ∷ end_announced (record { local = e.local; address = e.address; create = false }) ∷ []) (λ e. refl) (local node port)
+  changes_unnamed (lookup_of name) =
+      ap (λ o. request_added (name_of name) o ∷ []) (found_unnamed (address_of s name) ∙ ap (option_map has_address) (sym (address_of_unnamed s name)))
+  changes_unnamed (send_from port to priority bytes) = refl
+  changes_unnamed (receive_at port max) = at_unnamed (λ e. best_gone e.address ∷ []) (λ e. refl) (local node port)
+  changes_unnamed (request_at port max) =
+      at_unnamed (λ e. best_gone e.address ∷ request_added (message_at e.local max) (option_map has_item (best_item e)) ∷ [])
+      (λ e. ap (λ o. best_gone e.address ∷ request_added (message_at e.local max) o ∷ []) (item_unnamed (best_item e) ∙ ap (option_map has_item) (sym (best-unnamed e.queue)))) (local node port)
+  changes_unnamed (available_at port) = refl
+  changes_unnamed (test_of request) = refl
+  changes_unnamed (cancel_of request) = refl
+  changes_unnamed turn_alone = refl
+
+  pub call-unnamed : (call : DomainCall) → map unnamed_change (call_changes s node call) ≡ call_changes (unnamed s) node call
+  call-unnamed call = go (refusal s node call) ∙ ap₂ (λ o cs. unless_refused o [] cs) (sym (refusal-unnamed s node call)) (changes_unnamed call)
+    where
+      go : (o : Option Refusal) → map unnamed_change (unless_refused o [] (success_changes s node call)) ≡ unless_refused o [] (map unnamed_change (success_changes s node call))
+      go None = refl
+      go (Some word) = refl

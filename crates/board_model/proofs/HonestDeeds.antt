@@ -1,0 +1,186 @@
+-- Each deed keeps what holds of a domain, and what a deed puts is honest, whatever the domain takes.
+use Rattle.std.proofs.Common.{◌≡◌, ℕ, ◌+◌, ◌≤◌, ◌<◌, Bool, true, false, not, ◌&&◌, cond, List, [], ◌∷◌, ◌++◌, map, filter, length, Option, Some, None, refl, sym, ap, ◌∙◌, subst, arith}
+use Rattle.std.specs.Prelude.{find, ◌==◌, nat_lt, nat_le, is_some}
+use Rattle.std.specs.List.{AllByRecursion, flat_map}
+use Rattle.std.proofs.lemmas.Bool.{cond_both, leb-false, eqb-true}
+use Rattle.mc_base.specs.Limits.{creation_limit}
+use Rattle.mc_base.specs.NameMap.{Names, names_limit, rank, has_name, learned, forgotten, address_in}
+use Rattle.mc_base.specs.FullName.{endpoint_named}
+use Rattle.mc_base.specs.Reading.{Reading, is_faulty, announces, says, reading}
+use Rattle.mc_base.specs.Letter.{PlainLetter, msg, connect, accept, reject, recv_open, send_open, packet, scalar, send_close, recv_close}
+use Rattle.mc_base.specs.declared.fate.Fate.TheVariants as fate
+use Rattle.mc_base.specs.declared.name.EndName.{EndName}
+use Rattle.mc_base.specs.declared.refusal.Refusal.{Refusal}
+use Rattle.board_model.specs.Honesty.{IsMade}
+use Rattle.board_model.specs.DomainCall.{DomainCall, create_at, delete_at, lookup_of, send_from, receive_at, request_at, available_at, test_of, cancel_of, turn_alone}
+use Rattle.board_model.specs.State.{Item, Endpoint, Announcement, Peer, DomainState, is_at, live_at, endpoint_of, one_waits, peer_at, is_numbered, announcing, owed_to}
+use Rattle.board_model.specs.Change.{Change, item_queued, item_handed, names_known, name_found, changed, changed_all}
+use Rattle.board_model.specs.Dealing.{names_of}
+use Rattle.board_model.specs.TakenFrames.{Row, row, name_rows, letter_rows, message_item, first_row, row_of}
+use Rattle.board_model.specs.Messages.{said_by}
+use Rattle.board_model.specs.Answer.{local, holds, words_of, refusal, unless_refused, success_puts, puts}
+use Rattle.board_model.specs.CallChanges.{at_live, success_changes}
+use Rattle.board_model.specs.Deeds.{Deed, looks_back, puts_owed, looks_ahead, takes, calls, happens_by, after_deed, MayDo}
+use Rattle.board_model.proofs.DeedRuns.{frames_if, frames_to, puts_by}
+use Rattle.board_model.proofs.ListsApart.{all-map}
+use Rattle.board_model.proofs.MessageAlls.{none-passes, all-append, all-filter, all-found, all-weaken, found-passes}
+use Rattle.board_model.proofs.MessageLists.{some-position}
+use Rattle.board_model.proofs.MessageCanSend.{puts-of-send}
+use Rattle.board_model.proofs.HonestFrames.{Honest, IsReply, letter_honest, announcing_honest, announcing_silent, reply_honest, reply_silent}
+use Rattle.board_model.proofs.HonestSound.{Own, own, PeerSound, Sound, FitAll, given_changes, sound_changes}
+
+peer_number : (q : ℕ) (ps : List Peer) (p : Peer) → find (is_numbered q) ps ≡ Some p → q ≡ p.number
+peer_number q ps p is = sym (eqb-true p.number q (found-passes (is_numbered q) ps p is))
+
+-- what is heard of the names of a peer is as may be known
+abbrev pub Hears : (ℕ → ℕ → Type 0) → ℕ → Reading → Type 0
+Hears known q (announces text a there) = known q a
+Hears known q other = Unit {0}
+
+abbrev pub HearsDeed : (ℕ → ℕ → Type 0) → Deed → Type 0
+HearsDeed known (takes q name frame word) = Hears known q (reading frame)
+HearsDeed known other = Unit {0}
+
+-- ---- the endpoint of a name
+
+pub live_holds : {A : Type 0} (P : List A → Type 0) → P [] → (x : Option Endpoint) (f : Endpoint → List A) → ((e : Endpoint) → x ≡ Some e → P (f e)) → P (at_live x f)
+live_holds P none None f each = none
+live_holds P none (Some e) f each = each e refl
+
+not_some : {A : Type 0} (x : Option A) → is_some x ≡ false → x ≡ None
+not_some None is = refl
+not_some (Some y) is = absurd cc
+
+abbrev pub NoWord : DomainState → ℕ → DomainCall → Type 0
+NoWord s node call = AllByRecursion (λ w. holds s node call w ≡ false) (words_of call)
+
+-- what holds of no change, and of those by which a name is learned or forgotten, holds of what an announcement brings
+pub by_names : (P : List Change → Type 0) → P [] → (q : ℕ) (ks : Names) (o : Option EndName) (a : ℕ) (there : Bool) → ((n : EndName) → P (names_known q (learned n a ks) ∷ name_found n a ∷ [])) → ((n : EndName) → P (names_known q (forgotten n ks) ∷ [])) → P (first_row (name_rows q ks o a there)).happens
+by_names P none q ks None a there learn forget = none
+by_names P none q ks (Some n) a true learn forget =
+    let full : Row = row (not (is_some (address_in n ks)) && nat_le names_limit (length ks)) fate.NamesFull [] in
+    let acts : Row = row true fate.Acted (names_known q (learned n a ks) ∷ name_found n a ∷ []) in
+    cond_both (not (n.domain == q)) (row (not (n.domain == q)) fate.ForeignName []) (cond full.applies full acts) (λ w. P w.happens) (λ k. none) (λ k. cond_both full.applies full acts (λ w. P w.happens) (λ j. none) (λ j. learn n))
+by_names P none q ks (Some n) a false learn forget =
+    let unknown : Row = row (not (is_some (address_in n ks))) fate.UnknownName [] in
+    let acts : Row = row true fate.Acted (names_known q (forgotten n ks) ∷ []) in
+    cond_both (not (n.domain == q)) (row (not (n.domain == q)) fate.ForeignName []) (cond unknown.applies unknown acts) (λ w. P w.happens) (λ k. none) (λ k. cond_both unknown.applies unknown acts (λ w. P w.happens) (λ j. none) (λ j. forget n))
+
+module _ (made : ℕ) (known : ℕ → ℕ → Type 0) (ns : List ℕ) where
+  abbrev KnownOf : ℕ → Names → Type 0
+  KnownOf q ks = AllByRecursion (λ k. known q k.1) ks
+
+  learned_known : (q : ℕ) (n : EndName) (a : ℕ) (ks : Names) → known q a → KnownOf q ks → KnownOf q (learned n a ks)
+  learned_known q n a [] is all = (is, tt)
+  learned_known q n a (k ∷ ks) is all =
+      cond_both (has_name n k) ((n, a) ∷ ks) (cond (nat_lt (rank n) (rank k.0)) ((n, a) ∷ k ∷ ks) (k ∷ learned n a ks)) (KnownOf q)
+      (λ here. (is, all.1))
+      (λ other. cond_both (nat_lt (rank n) (rank k.0)) ((n, a) ∷ k ∷ ks) (k ∷ learned n a ks) (KnownOf q) (λ first. (is, all)) (λ later. (all.0, learned_known q n a ks is all.1)))
+
+  -- ---- frames
+
+  module _ (s : DomainState) (sound : Sound made known ns s) where
+    names_known_of : (q : ℕ) → KnownOf q (names_of (peer_at s q))
+    names_known_of q = go s.peers sound.peers
+      where
+        go : (ps : List Peer) → AllByRecursion (PeerSound made known) ps → KnownOf q (names_of (find (is_numbered q) ps))
+        go ps all = by (find (is_numbered q) ps) refl
+          where
+            by : (x : Option Peer) → find (is_numbered q) ps ≡ x → KnownOf q (names_of x)
+            by None is = tt
+            by (Some p) is = subst (λ n. KnownOf n p.known) (sym (peer_number q ps p is)) (all-found (PeerSound made known) (is_numbered q) ps p all is).names
+
+    abbrev RowFits : DomainState → Row → Type 0
+    RowFits t r = FitAll made known ns t r.happens
+
+    letter_fits : (t : DomainState) (q name src dst : ℕ) (x : Option Endpoint) (l : PlainLetter) → RowFits t (first_row (letter_rows s q name src dst x l))
+    letter_fits t q name src dst None l = tt
+    letter_fits t q name src dst (Some e) (msg priority content) =
+        cond_both (one_waits s e.local) (row (one_waits s e.local) fate.Handed (item_handed dst (message_item q name src priority content) ∷ [])) (row true fate.Queued (item_queued dst (message_item q name src priority content) ∷ [])) (RowFits t) (λ k. (tt, tt)) (λ k. (tt, tt))
+    letter_fits t q name src dst (Some e) (connect m kind) = tt
+    letter_fits t q name src dst (Some e) (accept m) = tt
+    letter_fits t q name src dst (Some e) (reject m why) = tt
+    letter_fits t q name src dst (Some e) (recv_open m) = tt
+    letter_fits t q name src dst (Some e) (send_open m) = tt
+    letter_fits t q name src dst (Some e) (packet m bytes) = tt
+    letter_fits t q name src dst (Some e) (scalar m bits value) = tt
+    letter_fits t q name src dst (Some e) (send_close m) = tt
+    letter_fits t q name src dst (Some e) (recv_close m) = tt
+
+    frame_fits : (t : DomainState) (q name : ℕ) (r : Reading) → Hears known q r → RowFits t (row_of s q name r)
+    frame_fits t q name (is_faulty w) hears = tt
+    frame_fits t q name (announces text a there) hears = by_names (FitAll made known ns t) tt q (names_of (peer_at s q)) (endpoint_named text) a there
+        (λ n. (learned_known q n a (names_of (peer_at s q)) hears (names_known_of q), (tt, tt)))
+        (λ n. (all-filter (λ (k : EndName × ℕ). known q k.1) (λ k. not (has_name n k)) (names_of (peer_at s q)) (names_known_of q), tt))
+    frame_fits t q name (says src dst l) hears = letter_fits t q name src dst (endpoint_of s dst) l
+
+    -- ---- calls
+
+    own_made : (p : Endpoint → Bool) (e : Endpoint) → s.endpoints_given ≤ made → find p s.endpoints ≡ Some e → IsMade made e.address
+    own_made p e within is = let k = own p 1024 (1024 + s.endpoints_given) s.endpoints e sound.rise is in let top : e.address < 1024 + s.endpoints_given = k.below in record { above = k.above; below = omega arith }
+
+    success_fits : (node : ℕ) (call : DomainCall) → NoWord s node call → (changed_all s (success_changes s node call)).endpoints_given ≤ made → FitAll made known ns s (success_changes s node call)
+    success_fits node (create_at port) no_word within =
+        let less : s.endpoints_given < 60000 = leb-false creation_limit s.endpoints_given no_word.1.1.1.0 in
+        let none : find (is_at (local node port)) s.endpoints ≡ None = not_some (find (is_at (local node port)) s.endpoints) (sym (some-position (is_at (local node port)) s.endpoints) ∙ no_word.1.0) in
+        ((none, less), (record { above = omega arith; below = omega arith }, (tt, tt)))
+    success_fits node (delete_at port) no_word within =
+        let below : s.endpoints_given ≤ made = omega (arith, given_changes s (success_changes s node (delete_at port))) in
+        live_holds (FitAll made known ns s) tt (live_at s (local node port)) _ (λ e is. (tt, (tt, (own_made (is_at (local node port)) e below is, tt))))
+    success_fits node (lookup_of name) no_word within = (tt, tt)
+    success_fits node (send_from port to priority bytes) no_word within = (tt, tt)
+    success_fits node (receive_at port max) no_word within = live_holds (FitAll made known ns s) tt (live_at s (local node port)) _ (λ e is. (tt, tt))
+    success_fits node (request_at port max) no_word within = live_holds (FitAll made known ns s) tt (live_at s (local node port)) _ (λ e is. (tt, (tt, tt)))
+    success_fits node (available_at port) no_word within = tt
+    success_fits node (test_of request) no_word within = (tt, tt)
+    success_fits node (cancel_of request) no_word within = (tt, tt)
+    success_fits node turn_alone no_word within = tt
+
+    call_fits : (node : ℕ) (call : DomainCall) (r : Option Refusal) → refusal s node call ≡ r → (changed_all s (unless_refused r [] (success_changes s node call))).endpoints_given ≤ made → FitAll made known ns s (unless_refused r [] (success_changes s node call))
+    call_fits node call (Some w) is within = tt
+    call_fits node call None is within = success_fits node call (none-passes (holds s node call) (words_of call) is) within
+
+    deed_fits : (d : Deed) → HearsDeed known d → (after_deed s d).endpoints_given ≤ made → FitAll made known ns s (happens_by s d)
+    deed_fits (looks_back q n) hears within = (tt, tt)
+    deed_fits (puts_owed q frame) hears within = (tt, tt)
+    deed_fits (looks_ahead q n) hears within = (tt, tt)
+    deed_fits (takes q name frame word) hears within = (tt, frame_fits _ q name (reading frame) hears)
+    deed_fits (calls node call a) hears within = call_fits node call (refusal s node call) refl within
+
+    pub sound_deed : (d : Deed) → HearsDeed known d → (after_deed s d).endpoints_given ≤ made → Sound made known ns (after_deed s d)
+    sound_deed d hears within = sound_changes made known ns s (happens_by s d) (deed_fits d hears within) sound
+
+    -- ---- what is put
+
+    owed_holds : (P : List ℕ → Type 0) → ((a : Announcement) → IsMade made a.address → P (announcing s.number a)) → ((f : List ℕ) → IsReply (reading f) → P f) → (q : ℕ) (p : Peer) → peer_at s q ≡ Some p → AllByRecursion P (owed_to s.number p)
+    owed_holds P announced replied q p is =
+        let well = all-found (PeerSound made known) (is_numbered q) s.peers p sound.peers is in
+        all-append P (map (announcing s.number) p.announcements) p.replies
+        (all-map P (announcing s.number) p.announcements (all-weaken (λ (a : Announcement). IsMade made a.address) (λ a. P (announcing s.number a)) announced p.announcements well.announced))
+        (all-weaken (λ f. IsReply (reading f)) P replied p.replies well.replies)
+
+    -- an owed frame that is put says no message, and announces an address of an endpoint made
+    pub record OwedWell (frame : List ℕ) : Type 0 where
+      pub honest : Honest made (reading frame)
+      pub silent : (sender receiver : ℕ) → said_by sender receiver (reading frame) ≡ []
+
+    pub owed_well : (q : ℕ) (frame : List ℕ) → made ≤ creation_limit → MayDo s (puts_owed q frame) → OwedWell frame
+    owed_well q frame few may = first (owed_to s.number may.0) may.3 (owed_holds OwedWell
+        (λ a is. record { honest = announcing_honest made s.number a few is; silent = λ sender receiver. announcing_silent sender receiver s.number a })
+        (λ f is. record { honest = reply_honest made (reading f) is; silent = λ sender receiver. reply_silent sender receiver (reading f) is }) q may.0 may.2)
+      where
+        first : (fs : List (List ℕ)) → fs ≡ frame ∷ may.1 → AllByRecursion OwedWell fs → OwedWell frame
+        first [] e all = absurd cc
+        first (f ∷ fs) e all = let same : f ≡ frame = cc in subst OwedWell same all.0
+
+    pub deed_honest : (q : ℕ) (d : Deed) → made ≤ creation_limit → MayDo s d → AllByRecursion (λ f. Honest made (reading f)) (puts_by q s d)
+    deed_honest q (looks_back p n) few may = tt
+    deed_honest q (looks_ahead p n) few may = tt
+    deed_honest q (takes p name frame word) few may = tt
+    deed_honest q (puts_owed p frame) few may = cond_both (p == q) (frame ∷ []) [] (AllByRecursion (λ f. Honest made (reading f))) (λ k. ((owed_well p frame few may).honest, tt)) (λ k. tt)
+    deed_honest q (calls node call a) few may = to_one (puts s node call) (puts-of-send (λ x. Honest made (reading x.1)) s node call (λ port to priority bytes free. (letter_honest made _ _ (msg priority bytes), tt)))
+      where
+        to_one : (xs : List (ℕ × List ℕ)) → AllByRecursion (λ (x : ℕ × List ℕ). Honest made (reading x.1)) xs → AllByRecursion (λ f. Honest made (reading f)) (frames_to q xs)
+        to_one [] all = tt
+        to_one (x ∷ xs) all = all-append (λ f. Honest made (reading f)) (frames_if (x.0 == q) (x.1 ∷ [])) (frames_to q xs)
+            (cond_both (x.0 == q) (x.1 ∷ []) [] (AllByRecursion (λ f. Honest made (reading f))) (λ k. (all.0, tt)) (λ k. tt)) (to_one xs all.1)

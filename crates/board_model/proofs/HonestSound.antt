@@ -1,0 +1,258 @@
+-- What holds of a domain at each moment of its run: its endpoints' addresses rise and their names are apart, its peers keep their
+-- numbers, what it owes is honest, and what it knows of names is as what it took says.
+use Rattle.std.proofs.Common.{◌≡◌, ℕ, ◌+◌, ◌-◌, ◌≤◌, ◌<◌, Bool, true, false, not, cond, List, [], ◌∷◌, ◌++◌, map, filter, drop, length, Option, Some, None, refl, sym, ap, ◌∙◌, subst, arith}
+use Rattle.std.specs.Prelude.{find, ◌==◌, ◌&&◌, is_none}
+use Rattle.std.specs.List.{AllByRecursion}
+use Rattle.std.proofs.lemmas.Bool.{cond_both, eqb-true, eq-eqb, ne_eqb, leb-false}
+use Rattle.mc_base.specs.Limits.{creation_limit}
+use Rattle.mc_base.specs.NameMap.{Names, rank, has_name, learned, forgotten}
+use Rattle.mc_base.specs.Reading.{Reading, is_faulty, announces, says, reading}
+use Rattle.mc_base.specs.declared.name.Local.{Local}
+use Rattle.mc_base.specs.declared.name.EndName.{EndName}
+use Rattle.mc_base.specs.Letter.{PlainLetter, msg, connect, accept, reject, recv_open, send_open, packet, scalar, send_close, recv_close}
+use Rattle.mc_base.specs.FullName.{endpoint_named}
+use Rattle.mc_base.specs.declared.refusal.Refusal.{Refusal}
+use Rattle.board_model.specs.Honesty.{IsMade}
+use Rattle.board_model.specs.Lists.{changed_first, without}
+use Rattle.board_model.specs.Choice.{without_best}
+use Rattle.board_model.specs.DomainCall.{DomainCall, create_at, delete_at, lookup_of, send_from, receive_at, request_at, available_at, test_of, cancel_of, turn_alone}
+use Rattle.board_model.specs.State.{Item, Endpoint, Asked, name_of, message_at, Outcome, has_address, has_item, has_ended, Request, Announcement, Peer, DomainState, waits_at, is_at, has_address_of, live_at, endpoint_of, peer_at, is_numbered}
+use Rattle.board_model.specs.Change.{Change, endpoint_made, endpoint_gone, item_queued, best_gone, end_announced, owed_put, buffers_back, frames_shown, frame_taken, names_known, buffer_used, request_added, item_handed, waiting_ended, name_found, request_gone, done_with, all_done, asks_for, handed_in, ended_in, endpoint_with, with_queue, at_address, at_peer, also_owed, first_put, changed, changed_all}
+use Rattle.board_model.specs.Dealing.{names_of}
+use Rattle.board_model.specs.TakenFrames.{Row, name_rows, letter_rows, first_row, row_of}
+use Rattle.board_model.specs.Answer.{local, holds, words_of, refusal, unless_refused}
+use Rattle.board_model.specs.CallChanges.{at_live, success_changes}
+use Rattle.board_model.specs.Deeds.{Deed, looks_back, puts_owed, looks_ahead, takes, calls, happens_by, after_deed}
+use Rattle.board_model.proofs.MessageAlls.{none-passes, all-append, all-changed-first, all-drop, all-filter, all-found, all-without, found-passes}
+use Rattle.board_model.proofs.MessageLists.{some-position}
+use Rattle.board_model.proofs.MessageNames.{Apart, apart-created, apart-changed}
+use Rattle.board_model.proofs.HonestFrames.{IsReply}
+
+-- ---- addresses rise
+
+abbrev pub Rise : ℕ → List Endpoint → ℕ → Type 0
+Rise lo [] hi = lo ≤ hi
+Rise lo (e ∷ es) hi = (lo ≤ e.address) × Rise (e.address + 1) es hi
+
+rise_from : (lo low hi : ℕ) (es : List Endpoint) → low ≤ lo → Rise lo es hi → Rise low es hi
+rise_from lo low hi [] le rise = omega arith
+rise_from lo low hi (e ∷ es) le rise = let here : lo ≤ e.address = rise.0 in (omega arith, rise.1)
+
+rise_changed : (p : Endpoint → Bool) (f : Endpoint → Endpoint) → ((e : Endpoint) → (f e).address ≡ e.address) → (lo hi : ℕ) (es : List Endpoint) → Rise lo es hi → Rise lo (changed_first p f es) hi
+rise_changed p f same lo hi [] rise = rise
+rise_changed p f same lo hi (e ∷ es) rise = cond_both (p e) (f e ∷ es) (e ∷ changed_first p f es) (λ xs. Rise lo xs hi) (λ k. rw (same e) rise) (λ k. (rise.0, rise_changed p f same (e.address + 1) hi es rise.1))
+
+rise_fewer : (p : Endpoint → Bool) (lo hi : ℕ) (es : List Endpoint) → Rise lo es hi → Rise lo (filter p es) hi
+rise_fewer p lo hi [] rise = rise
+rise_fewer p lo hi (e ∷ es) rise = cond_both (p e) (e ∷ filter p es) (filter p es) (λ xs. Rise lo xs hi) (λ k. (rise.0, rise_fewer p (e.address + 1) hi es rise.1))
+    (λ k. let here : lo ≤ e.address = rise.0 in rise_fewer p lo hi es (rise_from (e.address + 1) lo hi es (omega arith) rise.1))
+
+rise_more : (lo hi : ℕ) (es : List Endpoint) (e : Endpoint) → e.address ≡ hi → Rise lo es hi → Rise lo (es ++ e ∷ []) (hi + 1)
+rise_more lo hi [] e is rise = (omega arith, omega arith)
+rise_more lo hi (x ∷ xs) e is rise = (rise.0, rise_more (x.address + 1) hi xs e is rise.1)
+
+least_top : (lo hi : ℕ) (es : List Endpoint) → Rise lo es hi → lo ≤ hi
+least_top lo hi [] rise = rise
+least_top lo hi (e ∷ es) rise = let here : lo ≤ e.address = rise.0 in let more = least_top (e.address + 1) hi es rise.1 in omega arith
+
+-- an endpoint is found by its address, which lies between
+pub record Own (lo hi : ℕ) (es : List Endpoint) (e : Endpoint) : Type 0 where
+  pub above : lo ≤ e.address
+  pub below : e.address < hi
+  pub found : find (has_address_of e.address) es ≡ Some e
+
+pub own : (p : Endpoint → Bool) (lo hi : ℕ) (es : List Endpoint) (e : Endpoint) → Rise lo es hi → find p es ≡ Some e → Own lo hi es e
+own p lo hi [] e rise is = absurd cc
+own p lo hi (x ∷ xs) e rise is = go (p x) is (λ k. own p (x.address + 1) hi xs e rise.1 k)
+  where
+    go : (b : Bool) → cond b (Some x) (find p xs) ≡ Some e → (find p xs ≡ Some e → Own (x.address + 1) hi xs e) → Own lo hi (x ∷ xs) e
+    go true is later =
+        let top = least_top (x.address + 1) hi xs rise.1 in
+        let same : x ≡ e = cc in
+        subst (Own lo hi (x ∷ xs)) same (record { above = rise.0; below = omega arith; found = ap (λ b. cond b (Some x) (find (has_address_of x.address) xs)) (eq-eqb x.address x.address refl) })
+    go false is later =
+        let k = later is in
+        let here : lo ≤ x.address = rise.0 in
+        let far : x.address + 1 ≤ e.address = k.above in
+        let differs : (x.address == e.address) ≡ false = ne_eqb x.address e.address (λ same. absurd (omega arith)) in
+        record { above = omega arith; below = k.below; found = ap (λ b. cond b (Some x) (find (has_address_of e.address) xs)) differs ∙ k.found }
+
+apart_fewer : (p : Endpoint → Bool) (es : List Endpoint) → Apart es → Apart (filter p es)
+apart_fewer p [] apart = tt
+apart_fewer p (e ∷ es) apart =
+    cond_both (p e) (e ∷ filter p es) (filter p es) Apart (λ k. (all-filter (λ f. is_at e.local f ≡ false) p es apart.0, apart_fewer p es apart.1)) (λ k. apart_fewer p es apart.1)
+
+-- ---- peers keep their numbers
+
+numbers_first : (q : ℕ) (f : Peer → Peer) → ((p : Peer) → (f p).number ≡ p.number) → (ps : List Peer) → map (λ p. p.number) (at_peer q f ps) ≡ map (λ p. p.number) ps
+numbers_first q f same [] = refl
+numbers_first q f same (p ∷ ps) =
+    cond_both (is_numbered q p) (f p ∷ ps) (p ∷ at_peer q f ps) (λ xs. map (λ (x : Peer). x.number) xs ≡ p.number ∷ map (λ (x : Peer). x.number) ps)
+    (λ k. ap (λ n. n ∷ map (λ (x : Peer). x.number) ps) (same p)) (λ k. ap (λ ms. p.number ∷ ms) (numbers_first q f same ps))
+
+also_number : (d : ℕ) (a : Announcement) (p : Peer) → (also_owed d a p).number ≡ p.number
+also_number d a p = cond_both (p.number == d) p (record p { announcements = p.announcements ++ a ∷ [] }) (λ (x : Peer). x.number ≡ p.number) (λ k. refl) (λ k. refl)
+
+put_number : (p : Peer) → (first_put p).number ≡ p.number
+put_number p = cond_both (length p.announcements == 0) (record p { free = p.free - 1; replies = drop 1 p.replies }) (record p { free = p.free - 1; announcements = drop 1 p.announcements }) (λ (x : Peer). x.number ≡ p.number) (λ k. refl) (λ k. refl)
+
+all_numbers : (d : ℕ) (a : Announcement) (ps : List Peer) → map (λ p. p.number) (map (also_owed d a) ps) ≡ map (λ p. p.number) ps
+all_numbers d a [] = refl
+all_numbers d a (p ∷ ps) = ap (λ n. n ∷ map (λ (x : Peer). x.number) (map (also_owed d a) ps)) (also_number d a p) ∙ ap (λ ms. p.number ∷ ms) (all_numbers d a ps)
+
+-- ---- requests ask for names and messages alone, as no call asks for more
+
+abbrev pub IsPlain : Asked → Type 0
+IsPlain (name_of n) = Unit {0}
+IsPlain (message_at at max) = Unit {0}
+IsPlain other = ⊥
+
+abbrev pub ArePlain : List Request → Type 0
+ArePlain rs = AllByRecursion (λ r. IsPlain r.asked) rs
+
+plain_if : (b : Bool) (o : Outcome) (r : Request) → IsPlain r.asked → IsPlain (cond b (done_with o r) r).asked
+plain_if true o r is = is
+plain_if false o r is = is
+
+plain_mapped : (f : Request → Request) → ((r : Request) → IsPlain r.asked → IsPlain (f r).asked) → (rs : List Request) → ArePlain rs → ArePlain (map f rs)
+plain_mapped f keep [] all = tt
+plain_mapped f keep (r ∷ rs) all = (keep r all.0, plain_mapped f keep rs all.1)
+
+plain_handed : (x : Option Endpoint) (i : Item) (rs : List Request) → ArePlain rs → ArePlain (handed_in x i rs)
+plain_handed None i rs all = all
+plain_handed (Some e) i rs all = all-changed-first (λ (r : Request). IsPlain r.asked) (waits_at e.local) (done_with (has_item i)) rs all (λ r is plain. plain)
+
+plain_ended : (x : Option Endpoint) (w : Refusal) (rs : List Request) → ArePlain rs → ArePlain (ended_in x w rs)
+plain_ended None w rs all = all
+plain_ended (Some e) w rs all = plain_mapped (λ r. cond (waits_at e.local r) (done_with (has_ended w) r) r) (λ r is. plain_if (waits_at e.local r) (has_ended w) r is) rs all
+
+-- ---- the state
+
+-- what is owed to a peer, and what is known of it: `made` is the number of endpoints that the domain makes in all, and `known` says
+-- which addresses may be known of a peer
+pub record PeerSound (made : ℕ) (known : ℕ → ℕ → Type 0) (p : Peer) : Type 0 where
+  pub announced : AllByRecursion (λ a. IsMade made a.address) p.announcements
+  pub replies : AllByRecursion (λ f. IsReply (reading f)) p.replies
+  pub names : AllByRecursion (λ k. known p.number k.1) p.known
+
+pub record Sound (made : ℕ) (known : ℕ → ℕ → Type 0) (ns : List ℕ) (s : DomainState) : Type 0 where
+  pub rise : Rise 1024 s.endpoints (1024 + s.endpoints_given)
+  pub few : s.endpoints_given ≤ creation_limit
+  pub apart : Apart s.endpoints
+  pub peers : AllByRecursion (PeerSound made known) s.peers
+  pub numbers : map (λ p. p.number) s.peers ≡ ns
+  pub plain : ArePlain s.requests
+
+-- the number of endpoints made only rises
+given_change : (s : DomainState) (c : Change) → s.endpoints_given ≤ (changed s c).endpoints_given
+given_change s (endpoint_made at) = omega arith
+given_change s other = omega arith
+
+pub given_changes : (s : DomainState) (cs : List Change) → s.endpoints_given ≤ (changed_all s cs).endpoints_given
+given_changes s [] = omega arith
+given_changes s (c ∷ cs) = omega (arith, given_change s c, given_changes (changed s c) cs)
+
+-- ---- one change
+
+module _ (made : ℕ) (known : ℕ → ℕ → Type 0) (ns : List ℕ) where
+  abbrev OfPeer : Peer → Type 0
+  OfPeer p = PeerSound made known p
+
+  abbrev Names_of : ℕ → Names → Type 0
+  Names_of q ks = AllByRecursion (λ k. known q k.1) ks
+
+  abbrev pub Fits : DomainState → Change → Type 0
+  Fits s (endpoint_made at) = (find (is_at at) s.endpoints ≡ None) × (s.endpoints_given < creation_limit)
+  Fits s (end_announced a) = IsMade made a.address
+  Fits s (names_known q ks) = Names_of q ks
+  Fits s (request_added asked o) = IsPlain asked
+  Fits s other = Unit {0}
+
+  also_sound : (d : ℕ) (a : Announcement) (p : Peer) → IsMade made a.address → OfPeer p → OfPeer (also_owed d a p)
+  also_sound d a p is well = cond_both (p.number == d) p (record p { announcements = p.announcements ++ a ∷ [] }) OfPeer (λ k. well)
+      (λ k. record { announced = all-append (λ (x : Announcement). IsMade made x.address) p.announcements (a ∷ []) well.announced (is, tt); replies = well.replies; names = well.names })
+
+  all_also : (d : ℕ) (a : Announcement) (ps : List Peer) → IsMade made a.address → AllByRecursion OfPeer ps → AllByRecursion OfPeer (map (also_owed d a) ps)
+  all_also d a [] is all = tt
+  all_also d a (p ∷ ps) is all = (also_sound d a p is all.0, all_also d a ps is all.1)
+
+  put_sound : (p : Peer) → OfPeer p → OfPeer (first_put p)
+  put_sound p well = cond_both (length p.announcements == 0) (record p { free = p.free - 1; replies = drop 1 p.replies }) (record p { free = p.free - 1; announcements = drop 1 p.announcements }) OfPeer
+      (λ k. record { announced = well.announced; replies = all-drop (λ f. IsReply (reading f)) 1 p.replies well.replies; names = well.names })
+      (λ k. record { announced = all-drop (λ (x : Announcement). IsMade made x.address) 1 p.announcements well.announced; replies = well.replies; names = well.names })
+
+  module _ (s : DomainState) (sound : Sound made known ns s) where
+    peer_changed : (q : ℕ) (f : Peer → Peer) → ((p : Peer) → is_numbered q p ≡ true → OfPeer p → OfPeer (f p)) → AllByRecursion OfPeer (at_peer q f s.peers)
+    peer_changed q f keep = all-changed-first OfPeer (is_numbered q) f s.peers sound.peers (λ p is well. keep p (found-passes (is_numbered q) s.peers p is) well)
+
+    by_peer : (q : ℕ) (f : Peer → Peer) → ((p : Peer) → (f p).number ≡ p.number) → ((p : Peer) → is_numbered q p ≡ true → OfPeer p → OfPeer (f p)) → (c : Change) → (changed s c).endpoints ≡ s.endpoints → (changed s c).endpoints_given ≡ s.endpoints_given → (changed s c).peers ≡ at_peer q f s.peers → (changed s c).requests ≡ s.requests → Sound made known ns (changed s c)
+    by_peer q f same keep c ends given peers requests = record {
+      plain = rw requests sound.plain;
+      rise = rw (ends, given) sound.rise;
+      few = rw given sound.few;
+      apart = rw ends sound.apart;
+      peers = rw peers (peer_changed q f keep);
+      numbers = rw peers (numbers_first q f same s.peers ∙ sound.numbers);
+    }
+
+    by_end : (a : ℕ) (f : List Item → List Item) → (c : Change) → (changed s c).endpoints ≡ at_address a (with_queue f) s.endpoints → (changed s c).endpoints_given ≡ s.endpoints_given → (changed s c).peers ≡ s.peers → (changed s c).requests ≡ s.requests → Sound made known ns (changed s c)
+    by_end a f c ends given peers requests = record {
+      plain = rw requests sound.plain;
+      rise = rw (ends, given) (rise_changed (has_address_of a) (with_queue f) (λ e. refl) 1024 (1024 + s.endpoints_given) s.endpoints sound.rise);
+      few = rw given sound.few;
+      apart = rw ends (apart-changed (has_address_of a) (with_queue f) (λ e. refl) s.endpoints sound.apart);
+      peers = rw peers sound.peers;
+      numbers = rw peers sound.numbers;
+    }
+
+    by_requests : (rs : List Request) (c : Change) → (changed s c).endpoints ≡ s.endpoints → (changed s c).endpoints_given ≡ s.endpoints_given → (changed s c).peers ≡ s.peers → (changed s c).requests ≡ rs → ArePlain rs → Sound made known ns (changed s c)
+    by_requests rs c ends given peers requests plain = record {
+      rise = rw (ends, given) sound.rise;
+      few = rw given sound.few;
+      apart = rw ends sound.apart;
+      peers = rw peers sound.peers;
+      numbers = rw peers sound.numbers;
+      plain = rw requests plain;
+    }
+
+    pub sound_change : (c : Change) → Fits s c → Sound made known ns (changed s c)
+    sound_change (endpoint_made at) fits = record {
+      rise = let next : 1024 + s.endpoints_given + 1 ≡ 1024 + (s.endpoints_given + 1) = omega arith in subst (Rise 1024 (s.endpoints ++ endpoint_with s at ∷ [])) next (rise_more 1024 (1024 + s.endpoints_given) s.endpoints (endpoint_with s at) refl sound.rise);
+      few = let less : s.endpoints_given < 60000 = fits.1 in omega arith;
+      apart = apart-created s.endpoints (endpoint_with s at) sound.apart (none-passes (is_at at) s.endpoints fits.0);
+      peers = sound.peers;
+      numbers = sound.numbers;
+      plain = sound.plain;
+    }
+    sound_change (endpoint_gone a) fits = record {
+      rise = rise_fewer (λ e. not (has_address_of a e)) 1024 (1024 + s.endpoints_given) s.endpoints sound.rise;
+      few = sound.few;
+      apart = apart_fewer (λ e. not (has_address_of a e)) s.endpoints sound.apart;
+      peers = sound.peers;
+      numbers = sound.numbers;
+      plain = sound.plain;
+    }
+    sound_change (item_queued a i) fits = by_end a (λ q. q ++ i ∷ []) (item_queued a i) refl refl refl refl
+    sound_change (best_gone a) fits = by_end a (without_best (λ i. i.priority)) (best_gone a) refl refl refl refl
+    sound_change (end_announced a) fits = record { rise = sound.rise; few = sound.few; apart = sound.apart; peers = all_also s.number a s.peers fits sound.peers; numbers = all_numbers s.number a s.peers ∙ sound.numbers; plain = sound.plain }
+    sound_change (owed_put q) fits = by_peer q first_put put_number (λ p is well. put_sound p well) (owed_put q) refl refl refl refl
+    sound_change (buffers_back q n) fits = by_peer q (λ p. record p { free = p.free + n }) (λ p. refl) (λ p is well. record { announced = well.announced; replies = well.replies; names = well.names }) (buffers_back q n) refl refl refl refl
+    sound_change (frames_shown q n) fits = by_peer q (λ p. record p { shown = n }) (λ p. refl) (λ p is well. record { announced = well.announced; replies = well.replies; names = well.names }) (frames_shown q n) refl refl refl refl
+    sound_change (frame_taken q) fits = by_peer q (λ p. record p { shown = p.shown - 1 }) (λ p. refl) (λ p is well. record { announced = well.announced; replies = well.replies; names = well.names }) (frame_taken q) refl refl refl refl
+    sound_change (buffer_used q) fits = by_peer q (λ p. record p { free = p.free - 1 }) (λ p. refl) (λ p is well. record { announced = well.announced; replies = well.replies; names = well.names }) (buffer_used q) refl refl refl refl
+    sound_change (names_known q ks) fits = by_peer q (λ p. record p { known = ks }) (λ p. refl)
+        (λ p is well. record { announced = well.announced; replies = well.replies; names = subst (λ n. Names_of n ks) (sym (eqb-true p.number q is)) fits }) (names_known q ks) refl refl refl refl
+    sound_change (request_added asked o) fits = by_requests (s.requests ++ record { serial = s.requests_given; asked = asked; outcome = o } ∷ []) (request_added asked o) refl refl refl refl (all-append (λ (r : Request). IsPlain r.asked) s.requests (record { serial = s.requests_given; asked = asked; outcome = o } ∷ []) sound.plain (fits, tt))
+    sound_change (item_handed a i) fits = by_requests (handed_in (endpoint_of s a) i s.requests) (item_handed a i) refl refl refl refl (plain_handed (endpoint_of s a) i s.requests sound.plain)
+    sound_change (waiting_ended a w) fits = by_requests (ended_in (endpoint_of s a) w s.requests) (waiting_ended a w) refl refl refl refl (plain_ended (endpoint_of s a) w s.requests sound.plain)
+    sound_change (name_found n a) fits = by_requests (map (all_done (asks_for n) (has_address a)) s.requests) (name_found n a) refl refl refl refl
+        (plain_mapped (all_done (asks_for n) (has_address a)) (λ r is. plain_if (is_none r.outcome && asks_for n r.asked) (has_address a) r is) s.requests sound.plain)
+    sound_change (request_gone place) fits = by_requests (without place s.requests) (request_gone place) refl refl refl refl (all-without (λ (r : Request). IsPlain r.asked) place s.requests sound.plain)
+
+  abbrev pub FitAll : DomainState → List Change → Type 0
+  FitAll s [] = Unit {0}
+  FitAll s (c ∷ cs) = Fits s c × FitAll (changed s c) cs
+
+  pub sound_changes : (s : DomainState) (cs : List Change) → FitAll s cs → Sound made known ns s → Sound made known ns (changed_all s cs)
+  sound_changes s [] fits sound = sound
+  sound_changes s (c ∷ cs) fits sound = sound_changes (changed s c) cs fits.1 (sound_change s sound c fits.0)

@@ -1,0 +1,109 @@
+-- How many of the messages that are queued at the endpoints of a domain pass a test, change by change.
+use Rattle.std.proofs.Common.{◌≡◌, ℕ, ◌+◌, ◌≤◌, ◌<◌, Bool, true, false, not, cond, List, [], ◌∷◌, ◌++◌, map, filter, find, Option, Some, None, option_to_list, refl, sym, ap, ◌∙◌, subst, arith}
+use Rattle.std.specs.Prelude.{count_by, ◌==◌}
+use Rattle.std.specs.List.{flat_map}
+use Rattle.std.proofs.lemmas.Bool.{eqb-true, eq-eqb, ne_eqb, cases_Bool, cond_both}
+use Rattle.std.proofs.lemmas.List.{map-append}
+use Rattle.board_model.specs.Choice.{best, without_best}
+use Rattle.board_model.specs.State.{Item, Endpoint, has_address_of}
+use Rattle.board_model.specs.Change.{with_queue, at_address}
+use Rattle.board_model.specs.CallChanges.{best_item}
+use Rattle.board_model.specs.Messages.{Message, message_of, queued_at}
+use Rattle.board_model.specs.Takings.{Taking, taken_message}
+use Rattle.board_model.proofs.ListsCounts.{one_if, count-cons, count-append}
+use Rattle.board_model.proofs.MessageBest.{count-best}
+use Rattle.board_model.proofs.MessageVisitLines.{count-map}
+use Rattle.board_model.proofs.HonestSound.{Rise}
+
+module _ (r : ℕ) (test : Message → Bool) where
+  -- of the queues of endpoints, and of one
+  abbrev pub weight : List Endpoint → ℕ
+  weight es = count_by test (flat_map (queued_at r) es)
+
+  abbrev pub weight_of : Endpoint → ℕ
+  weight_of e = count_by test (queued_at r e)
+
+  -- of what is taken
+  abbrev pub took : List Taking → ℕ
+  took ts = count_by test (map (taken_message r) ts)
+
+  pub weight-cons : (e : Endpoint) (es : List Endpoint) → weight (e ∷ es) ≡ weight_of e + weight es
+  weight-cons e es = count-append test (queued_at r e) (flat_map (queued_at r) es)
+
+  -- ---- one endpoint changes
+
+  by_last : (b : Bool) (e : Endpoint) (es : List Endpoint) (x : Option Endpoint) (more : List Endpoint) (f : Endpoint → Endpoint) (a : ℕ) (m n : Option Endpoint → ℕ) → (b ≡ true → weight_of (f e) + n (Some e) ≡ weight_of e + m (Some e)) → weight more + n x ≡ weight es + m x →
+      weight (cond b (f e ∷ es) (e ∷ more)) + n (cond b (Some e) x) ≡ weight (e ∷ es) + m (cond b (Some e) x)
+  by_last true e es x more f a m n here rest = omega (arith, here refl, weight-cons (f e) es, weight-cons e es)
+  by_last false e es x more f a m n here rest = omega (arith, rest, weight-cons e more, weight-cons e es)
+
+  pub weight-changed : (a : ℕ) (f : Endpoint → Endpoint) (m n : Option Endpoint → ℕ) → m None ≡ 0 → n None ≡ 0 → ((e : Endpoint) → e.address ≡ a → weight_of (f e) + n (Some e) ≡ weight_of e + m (Some e)) → (es : List Endpoint) →
+      weight (at_address a f es) + n (find (has_address_of a) es) ≡ weight es + m (find (has_address_of a) es)
+  weight-changed a f m n none none' each [] = omega arith
+  weight-changed a f m n none none' each (e ∷ es) =
+      by_last (has_address_of a e) e es (find (has_address_of a) es) (at_address a f es) f a m n (λ is. each e (eqb-true e.address a is)) (weight-changed a f m n none none' each es)
+
+  -- an item is last in a queue
+  abbrev one_more : ℕ → Item → Option Endpoint → ℕ
+  one_more a i None = 0
+  one_more a i (Some e) = one_if (test (message_of r a i))
+
+  last_here : (i : Item) (e : Endpoint) → weight_of (with_queue (λ q. q ++ i ∷ []) e) ≡ weight_of e + one_if (test (message_of r e.address i))
+  last_here i e =
+      ap (count_by test) (map-append (message_of r e.address) e.queue (i ∷ []))
+      ∙ (count-append test (queued_at r e) (message_of r e.address i ∷ [])
+      ∙ (ap (λ n. weight_of e + n) (count-cons test (message_of r e.address i) []) ∙ omega arith))
+
+  pub weight-queued : (a : ℕ) (i : Item) (e : Endpoint) (es : List Endpoint) → find (has_address_of a) es ≡ Some e → weight (at_address a (with_queue (λ q. q ++ i ∷ [])) es) ≡ weight es + one_if (test (message_of r a i))
+  weight-queued a i e es is =
+      let more = weight-changed a (with_queue (λ q. q ++ i ∷ [])) (one_more a i) (λ o. 0) refl refl
+      (λ x at. omega (arith, last_here i x, ap (λ n. one_if (test (message_of r n i))) at)) es in
+      omega (arith, more, ap (one_more a i) is)
+
+  -- the best is gone
+  abbrev pub best_weight : Option Endpoint → ℕ
+  best_weight None = 0
+  best_weight (Some e) = count_by test (map (message_of r e.address) (option_to_list (best_item e)))
+
+  best_here : (e : Endpoint) → weight_of (with_queue (without_best (λ i. i.priority)) e) + best_weight (Some e) ≡ weight_of e + 0
+  best_here e = omega (
+    arith,
+    count-map test (message_of r e.address) (without_best (λ i. i.priority) e.queue),
+    count-map test (message_of r e.address) (option_to_list (best_item e)),
+    count-map test (message_of r e.address) e.queue,
+    count-best (λ i. test (message_of r e.address i)) (λ i. i.priority) e.queue,
+  )
+
+  pub weight-best : (a : ℕ) (e : Endpoint) (es : List Endpoint) → find (has_address_of a) es ≡ Some e → weight (at_address a (with_queue (without_best (λ i. i.priority))) es) + best_weight (Some e) ≡ weight es
+  weight-best a e es is =
+      let less = weight-changed a (with_queue (without_best (λ i. i.priority))) (λ o. 0) best_weight refl refl (λ x at. best_here x) es in
+      omega (arith, less, ap best_weight is)
+
+  -- ---- endpoints that are made, and gone
+
+  pub weight-made : (x : Endpoint) (es : List Endpoint) → x.queue ≡ [] → weight (es ++ x ∷ []) ≡ weight es
+  weight-made x [] none = weight-cons x [] ∙ ap (λ q. count_by test (map (message_of r x.address) q) + weight []) none
+  weight-made x (e ∷ es) none = omega (arith, weight-cons e (es ++ x ∷ []), weight-cons e es, weight-made x es none)
+
+  abbrev others : ℕ → List Endpoint → List Endpoint
+  others a es = filter (λ e. not (has_address_of a e)) es
+
+  none_gone : (a lo hi : ℕ) (es : List Endpoint) → a < lo → Rise lo es hi → others a es ≡ es
+  none_gone a lo hi [] low rise = refl
+  none_gone a lo hi (e ∷ es) low rise =
+      let here : lo ≤ e.address = rise.0 in
+      let differs : (e.address == a) ≡ false = ne_eqb e.address a (λ same. absurd (omega arith)) in
+      ap (λ b. cond (not b) (e ∷ others a es) (others a es)) differs ∙ ap (λ (ks : List Endpoint). e ∷ ks) (none_gone a (e.address + 1) hi es (omega arith) rise.1)
+
+  pub weight-gone : (a lo hi : ℕ) (es : List Endpoint) (e : Endpoint) → Rise lo es hi → find (has_address_of a) es ≡ Some e → weight (others a es) + weight_of e ≡ weight es
+  weight-gone a lo hi [] e rise is = absurd cc
+  weight-gone a lo hi (x ∷ xs) e rise is = go (has_address_of a x) refl is (λ k. weight-gone a (x.address + 1) hi xs e rise.1 k)
+    where
+      go : (b : Bool) → has_address_of a x ≡ b → cond b (Some x) (find (has_address_of a) xs) ≡ Some e → (find (has_address_of a) xs ≡ Some e → weight (others a xs) + weight_of e ≡ weight xs) →
+          weight (cond (not b) (x ∷ others a xs) (others a xs)) + weight_of e ≡ weight (x ∷ xs)
+      go true here k later =
+          let same : x ≡ e = cc in
+          let at : x.address ≡ a = eqb-true x.address a here in
+          let rest : others a xs ≡ xs = none_gone a (x.address + 1) hi xs (omega arith) rise.1 in
+          omega (arith, weight-cons x xs, ap weight_of same, ap weight rest)
+      go false here k later = omega (arith, weight-cons x xs, weight-cons x (others a xs), later k)

@@ -1,0 +1,114 @@
+-- Lane by lane: what the frames that a domain puts say is what its sends had accepted, and what the frames that it takes say is what
+-- they bring.
+use Rattle.std.proofs.Common.{◌≡◌, ℕ, ◌+◌, ◌≤◌, ◌<◌, ◌^◌, Bool, true, false, not, cond, List, [], ◌∷◌, ◌++◌, map, find, length, Option, Some, None, refl, sym, ap, ap₂, ◌∙◌, subst, arith}
+use Rattle.std.specs.Prelude.{count_by, is_some, option_map, unwrap_or, ◌==◌}
+use Rattle.std.specs.List.{AllByRecursion, flat_map}
+use Rattle.std.proofs.lemmas.Bool.{eqb-true, eq-eqb, ne_eqb, ltb-false}
+use Rattle.std.proofs.lemmas.List.{append-nil}
+use Rattle.mc_base.specs.Limits.{creation_limit, item_size}
+use Rattle.mc_base.specs.Frame.{made}
+use Rattle.mc_base.specs.Letter.{msg, spelling}
+use Rattle.mc_base.specs.NameMap.{Names, has_name, address_in}
+use Rattle.mc_base.specs.Reading.{Reading, says, reading}
+use Rattle.mc_base.specs.declared.name.Local.{Local}
+use Rattle.mc_base.specs.declared.name.EndName.{EndName}
+use Rattle.mc_base.specs.declared.refusal.Refusal.{Refusal}
+use Rattle.board_model.specs.LinkedBoard.{Differ}
+use Rattle.board_model.specs.DomainCall.{DomainCall, create_at, delete_at, lookup_of, send_from, receive_at, request_at, available_at, test_of, cancel_of, turn_alone}
+use Rattle.board_model.specs.Journal.{PlainAnswer, refuses, agrees}
+use Rattle.board_model.specs.State.{Endpoint, Peer, DomainState, is_at, endpoint_at, live_at, peer_of, is_numbered}
+use Rattle.board_model.specs.Answer.{local, known_address, address_of, holds, words_of, refusal, success, answer_by, success_puts, unless_refused}
+use Rattle.board_model.specs.CallChanges.{at_live}
+use Rattle.board_model.specs.Deeds.{Deed, looks_back, puts_owed, looks_ahead, takes, calls, happens_by, after_deed, after_deeds, MayDo, AllMayDo, along}
+use Rattle.board_model.specs.Messages.{Message, said_by, messages_in, accepted_by}
+use Rattle.board_model.proofs.DeedRuns.{frames_if, frames_to, puts_by, takes_by}
+use Rattle.board_model.proofs.ListsApart.{all-unmap}
+use Rattle.board_model.proofs.ListsCounts.{count-append}
+use Rattle.board_model.proofs.MessageAlls.{none-passes, all-found, all-with, found-passes}
+use Rattle.board_model.proofs.MessageLists.{get-position, some-position}
+use Rattle.board_model.proofs.MessageCanSend.{send-found}
+use Rattle.board_model.proofs.MessageOnce.{total, total-same, total-zero, total-sum, times, only, total-once}
+use Rattle.board_model.proofs.HonestReads.{letter_back}
+use Rattle.board_model.proofs.HonestSound.{Own, own, PeerSound, Sound}
+use Rattle.board_model.proofs.HonestDeeds.{NoWord, HearsDeed, OwedWell, owed_well, sound_deed}
+use Rattle.board_model.proofs.HonestRuns.{given_deeds}
+use Rattle.board_model.proofs.KeptDeeds.{brought_by}
+
+-- ---- numbers that come once
+
+abbrev pub IsOnce : List ℕ → ℕ → Type 0
+IsOnce ns n = times (λ m. m) n ns ≡ 1
+
+count_on : (b : Bool) (k : ℕ) → b ≡ true → k ≡ 0 → cond b 1 0 + k ≡ 1
+count_on true k is none = omega arith
+count_on false k is none = absurd cc
+
+count_off : (b : Bool) (k m : ℕ) → b ≡ false → k ≡ m → cond b 1 0 + k ≡ m
+count_off true k m is rest = absurd cc
+count_off false k m is rest = omega arith
+
+not_among : (n : ℕ) (ns : List ℕ) → AllByRecursion (λ m. m ≡ n → ⊥) ns → times (λ m. m) n ns ≡ 0
+not_among n [] all = refl
+not_among n (m ∷ ms) all = count_off (n == m) (times (λ k. k) n ms) 0 (ne_eqb n m (λ same. all.0 (sym same))) (not_among n ms all.1)
+
+pub each_once : (ns : List ℕ) → Differ ns → AllByRecursion (IsOnce ns) ns
+each_once [] differ = tt
+each_once (n ∷ ns) differ = (
+  count_on (n == n) (times (λ k. k) n ns) (eq-eqb n n refl) (not_among n ns differ.0),
+  all-with (λ m. m ≡ n → ⊥) (IsOnce ns) (IsOnce (n ∷ ns)) (λ m other once. count_off (m == n) (times (λ k. k) m ns) 1 (ne_eqb m n (λ same. other same)) once) ns differ.0 (each_once ns differ.1),
+)
+
+pub peer_once : (ns : List ℕ) (q : ℕ) (ps : List Peer) → Differ ns → map (λ p. p.number) ps ≡ ns → is_some (find (is_numbered q) ps) ≡ true → IsOnce ns q
+peer_once ns q ps differ are some = go (find (is_numbered q) ps) refl some
+  where
+    all : AllByRecursion (λ (p : Peer). IsOnce ns p.number) ps
+    all = all-unmap (IsOnce ns) (λ (p : Peer). p.number) ps (subst (λ ms. AllByRecursion (IsOnce ns) ms) (sym are) (each_once ns differ))
+
+    go : (x : Option Peer) → find (is_numbered q) ps ≡ x → is_some x ≡ true → IsOnce ns q
+    go None is some = absurd cc
+    go (Some p) is some = subst (IsOnce ns) (eqb-true p.number q (found-passes (is_numbered q) ps p is)) (all-found (λ (x : Peer). IsOnce ns x.number) (is_numbered q) ps p all is)
+
+-- a frame is taken from one of these
+abbrev pub IsFrom : List ℕ → Deed → Type 0
+IsFrom ns (takes q name frame word) = IsOnce ns q
+IsFrom ns other = Unit {0}
+
+-- ---- frames of a lane
+
+module _ (test : Message → Bool) where
+  -- how many messages of frames from a to b pass the test
+  abbrev pub passing : ℕ → ℕ → List (List ℕ) → ℕ
+  passing a b frames = count_by test (messages_in a b frames)
+
+  pub passing-append : (a b : ℕ) (fs gs : List (List ℕ)) → passing a b (fs ++ gs) ≡ passing a b fs + passing a b gs
+  passing-append a b [] gs = omega arith
+  passing-append a b (f ∷ fs) gs = omega (arith, count-append test (said_by a b (reading f)) (messages_in a b (fs ++ gs)), count-append test (said_by a b (reading f)) (messages_in a b fs), passing-append a b fs gs)
+
+  pub one_frame : (b : Bool) (a c : ℕ) (f : List ℕ) → passing a c (frames_if b (f ∷ [])) ≡ cond b (passing a c (f ∷ [])) 0
+  one_frame true a c f = refl
+  one_frame false a c f = refl
+
+  pub said_alone : (a c : ℕ) (f : List ℕ) → passing a c (f ∷ []) ≡ count_by test (said_by a c (reading f))
+  said_alone a c f = ap (count_by test) (append-nil (said_by a c (reading f)))
+
+  -- a frame that is put to one of these, or taken from it, is on one lane
+  pub lane_once : (ns : List ℕ) (q : ℕ) (g : ℕ → ℕ) → IsOnce ns q → total (λ n. cond (q == n) (g n) 0) ns ≡ g q
+  lane_once ns q g once = total-once (λ m. m) q g (g q) (λ n is. ap g is) ns once
+
+  -- ---- what is brought
+
+  deed_brings : (r : ℕ) (ns : List ℕ) (s : DomainState) (d : Deed) → IsFrom ns d → count_by test (brought_by r s d) ≡ total (λ n. passing n r (takes_by n d)) ns
+  deed_brings r ns s (takes q name frame word) once =
+      sym (total-same (λ n. passing n r (frames_if (q == n) (frame ∷ []))) (λ n. cond (q == n) (passing n r (frame ∷ [])) 0) (λ n. one_frame (q == n) n r frame) ns
+      ∙ (lane_once ns q (λ n. passing n r (frame ∷ [])) once ∙ said_alone q r frame))
+  deed_brings r ns s (looks_back q n) once = sym (total-zero (λ n. 0) (λ n. refl) ns)
+  deed_brings r ns s (puts_owed q frame) once = sym (total-zero (λ n. 0) (λ n. refl) ns)
+  deed_brings r ns s (looks_ahead q n) once = sym (total-zero (λ n. 0) (λ n. refl) ns)
+  deed_brings r ns s (calls node call a) once = sym (total-zero (λ n. 0) (λ n. refl) ns)
+
+  pub run_brings : (r : ℕ) (ns : List ℕ) (s : DomainState) (ds : List Deed) → AllByRecursion (IsFrom ns) ds → count_by test (along (brought_by r) s ds) ≡ total (λ n. passing n r (flat_map (takes_by n) ds)) ns
+  run_brings r ns s [] from = sym (total-zero (λ n. 0) (λ n. refl) ns)
+  run_brings r ns s (d ∷ ds) from =
+      let parts : total (λ n. passing n r (flat_map (takes_by n) (d ∷ ds))) ns ≡ total (λ n. passing n r (takes_by n d)) ns + total (λ n. passing n r (flat_map (takes_by n) ds)) ns
+      = total-sum (λ n. passing n r (flat_map (takes_by n) (d ∷ ds))) (λ n. passing n r (takes_by n d)) (λ n. passing n r (flat_map (takes_by n) ds)) (λ n. passing-append n r (takes_by n d) (flat_map (takes_by n) ds)) ns in
+      omega (arith, parts, count-append test (brought_by r s d) (along (brought_by r) (after_deed s d) ds), deed_brings r ns s d from.0, run_brings r ns (after_deed s d) ds from.1)

@@ -1,0 +1,184 @@
+-- What the frames that a domain puts say is what its sends had accepted, lane by lane: each frame of a send is read back, since the
+-- addresses that a domain has and knows are real.
+use Rattle.std.proofs.Common.{◌≡◌, ℕ, ◌+◌, ◌≤◌, ◌<◌, ◌^◌, Bool, true, false, not, cond, List, [], ◌∷◌, ◌++◌, map, find, length, Option, Some, None, refl, sym, ap, ap₂, ◌∙◌, subst, arith}
+use Rattle.std.specs.Prelude.{count_by, is_some, option_map, unwrap_or, ◌==◌}
+use Rattle.std.specs.List.{AllByRecursion, flat_map}
+use Rattle.std.proofs.lemmas.Bool.{ltb-false}
+use Rattle.std.proofs.lemmas.List.{append-nil}
+use Rattle.mc_base.specs.Limits.{creation_limit, item_size}
+use Rattle.mc_base.specs.Frame.{made}
+use Rattle.mc_base.specs.Letter.{msg, spelling}
+use Rattle.mc_base.specs.NameMap.{Names, has_name, address_in}
+use Rattle.mc_base.specs.Reading.{Reading, says, reading}
+use Rattle.mc_base.specs.declared.name.Local.{Local}
+use Rattle.mc_base.specs.declared.name.EndName.{EndName}
+use Rattle.mc_base.specs.declared.refusal.Refusal.{Refusal}
+use Rattle.board_model.specs.LinkedBoard.{Differ}
+use Rattle.board_model.specs.DomainCall.{DomainCall, create_at, delete_at, lookup_of, send_from, receive_at, request_at, available_at, test_of, cancel_of, turn_alone}
+use Rattle.board_model.specs.Journal.{PlainAnswer, refuses, agrees}
+use Rattle.board_model.specs.State.{Endpoint, Peer, DomainState, is_at, endpoint_at, address_at, live_at, peer_of, is_numbered}
+use Rattle.board_model.specs.Answer.{local, known_address, address_of, holds, words_of, refusal, success, answer_by, success_puts, unless_refused}
+use Rattle.board_model.specs.CallChanges.{at_live}
+use Rattle.board_model.specs.Deeds.{Deed, looks_back, puts_owed, looks_ahead, takes, calls, after_deed, after_deeds, MayDo, AllMayDo, along}
+use Rattle.board_model.specs.Messages.{Message, said_by, messages_in, accepted_by}
+use Rattle.board_model.proofs.DeedRuns.{frames_if, frames_to, puts_by}
+use Rattle.board_model.proofs.ListsCounts.{count-append}
+use Rattle.board_model.proofs.MessageAlls.{none-passes, all-found}
+use Rattle.board_model.proofs.MessageLists.{get-position, some-position}
+use Rattle.board_model.proofs.MessageCanSend.{send-found}
+use Rattle.board_model.proofs.MessageOnce.{total, total-same, total-zero, total-sum}
+use Rattle.board_model.proofs.HonestReads.{letter_back}
+use Rattle.board_model.proofs.HonestSound.{Own, own, PeerSound, Sound}
+use Rattle.board_model.proofs.HonestDeeds.{NoWord, HearsDeed, OwedWell, owed_well, sound_deed}
+use Rattle.board_model.proofs.HonestRuns.{given_deeds}
+use Rattle.board_model.proofs.KeptLanes.{IsOnce, peer_once, passing, passing-append, one_frame, said_alone, lane_once}
+
+-- a call as a lawful scenario has it
+abbrev pub FitsDeed : Deed → Type 0
+FitsDeed (calls node (send_from port to priority bytes) a) = priority ≤ 3
+FitsDeed other = Unit {0}
+
+-- an address that a frame can be sent to, so that it is read back
+pub record CanReach (a : ℕ) : Type 0 where
+  pub above : 1024 ≤ a
+  pub below : a < 2 ^ 32
+
+not_false : (b : Bool) → not b ≡ false → b ≡ true
+not_false true h = refl
+not_false false h = absurd cc
+
+module _ (test : Message → Bool) (made_in : ℕ) (known : ℕ → ℕ → Type 0) (ns : List ℕ) (reach : (q a : ℕ) → known q a → CanReach a) (differ : Differ ns) (few : made_in ≤ creation_limit) where
+  module _ (s : DomainState) (sound : Sound made_in known ns s) where
+    -- ---- addresses
+
+    own_reach : (p : Endpoint → Bool) (e : Endpoint) → find p s.endpoints ≡ Some e → CanReach e.address
+    own_reach p e is =
+        let k = own p 1024 (1024 + s.endpoints_given) s.endpoints e sound.rise is in
+        let top : e.address < 1024 + s.endpoints_given = k.below in
+        let most : s.endpoints_given ≤ 60000 = sound.few in
+        record { above = k.above; below = omega arith }
+
+    named_reach : (at : Local) (x : Option Endpoint) → find (is_at at) s.endpoints ≡ x → is_some (option_map (λ (e : Endpoint). e.address) x) ≡ true → CanReach (unwrap_or (option_map (λ (e : Endpoint). e.address) x) 0)
+    named_reach at None is some = absurd cc
+    named_reach at (Some e) is some = own_reach (is_at at) e is
+
+    names_reach : (q : ℕ) (n : EndName) (ks : Names) → AllByRecursion (λ k. known q k.1) ks → is_some (address_in n ks) ≡ true → CanReach (unwrap_or (address_in n ks) 0)
+    names_reach q n ks all some = go (find (has_name n) ks) refl some
+      where
+        go : (x : Option (EndName × ℕ)) → find (has_name n) ks ≡ x → is_some (option_map (λ (k : EndName × ℕ). k.1) x) ≡ true → CanReach (unwrap_or (option_map (λ (k : EndName × ℕ). k.1) x) 0)
+        go None is some = absurd cc
+        go (Some k) is some = reach q k.1 (all-found (λ (j : EndName × ℕ). known q j.1) (has_name n) ks k all is)
+
+    peers_reach : (n : EndName) (x : Option Peer) → find (is_numbered n.domain) s.peers ≡ x → is_some (known_address n x) ≡ true → CanReach (unwrap_or (known_address n x) 0)
+    peers_reach n None is some = absurd cc
+    peers_reach n (Some p) is some = names_reach p.number n p.known (all-found (PeerSound made_in known) (is_numbered n.domain) s.peers p sound.peers is).names some
+
+    address_reach : (n : EndName) → not (is_some (address_of s n)) ≡ false → CanReach (unwrap_or (address_of s n) 0)
+    address_reach n there =
+        go (n.domain == s.number) (endpoint_at s (local n.node n.port)) (peer_of s n.domain) (sym (get-position (is_at (local n.node n.port)) s.endpoints)) (sym (get-position (is_numbered n.domain) s.peers)) (not_false (is_some (address_of s n)) there)
+      where
+        go : (b : Bool) (x : Option Endpoint) (y : Option Peer) → find (is_at (local n.node n.port)) s.endpoints ≡ x → find (is_numbered n.domain) s.peers ≡ y → is_some (cond b (option_map (λ (e : Endpoint). e.address) x) (known_address n y)) ≡ true →
+            CanReach (unwrap_or (cond b (option_map (λ (e : Endpoint). e.address) x) (known_address n y)) 0)
+        go true x y ends peers some = named_reach (local n.node n.port) x ends some
+        go false x y ends peers some = peers_reach n y peers some
+
+    -- ---- sends
+
+    module _ (d node port : ℕ) (to : EndName) (priority : ℕ) (bytes : List ℕ) (low : priority ≤ 3) (free : refusal s node (send_from port to priority bytes) ≡ None) where
+      abbrev at : Local
+      at = local node port
+
+      abbrev source : ℕ
+      source = unwrap_or (address_at s at) 0
+
+      abbrev target : ℕ
+      target = unwrap_or (address_of s to) 0
+
+      abbrev sent : List ℕ
+      sent = made source target (spelling (msg priority bytes))
+
+      no_word : NoWord s node (send_from port to priority bytes)
+      no_word = none-passes (holds s node (send_from port to priority bytes)) (words_of (send_from port to priority bytes)) free
+
+      said : (x : Option Endpoint) → live_at s at ≡ x → is_some x ≡ true → count_by test (said_by d to.domain (reading sent)) ≡ count_by test (at_live x (λ e. record { sender = d; source = e.address; receiver = to.domain; destination = target; priority = priority; content = bytes } ∷ []))
+      said None is some = absurd cc
+      said (Some e) is some =
+          let own_source : source ≡ e.address = ap (λ o. unwrap_or (option_map (λ (k : Endpoint). k.address) o) 0) (get-position (is_at at) s.endpoints ∙ is) in
+          let from : CanReach e.address = own_reach (is_at at) e is in
+          let into : CanReach target = address_reach to no_word.1.1.0 in
+          let back : reading (made e.address target (spelling (msg priority bytes))) ≡ says e.address target (msg priority bytes)
+          = letter_back e.address target (msg priority bytes) (low, ltb-false item_size (length bytes) no_word.1.1.1.0) from.below into.above into.below in
+          ap (λ r. count_by test (said_by d to.domain r)) (ap (λ a. reading (made a target (spelling (msg priority bytes)))) own_source ∙ back)
+
+      there : is_some (live_at s at) ≡ true
+      there = sym (some-position (is_at at) s.endpoints) ∙ not_false _ no_word.0
+
+      pub send_said : total (λ n. passing test d n (frames_to n (success_puts s node (send_from port to priority bytes)))) ns ≡ count_by test (accepted_by d s (calls node (send_from port to priority bytes) agrees))
+      send_said =
+          total-same (λ n. passing test d n (frames_if (to.domain == n) (sent ∷ []) ++ [])) (λ n. cond (to.domain == n) (passing test d n (sent ∷ [])) 0)
+          (λ n. ap (passing test d n) (append-nil (frames_if (to.domain == n) (sent ∷ []))) ∙ one_frame test (to.domain == n) d n sent) ns
+          ∙ (lane_once test ns to.domain (λ n. passing test d n (sent ∷ [])) (peer_once ns to.domain s.peers differ sound.numbers (send-found s node port to priority bytes free))
+          ∙ (said_alone test d to.domain sent ∙ said (live_at s at) refl there))
+
+    -- ---- each deed
+
+    abbrev Sends : ℕ → Deed → Type 0
+    Sends d e = total (λ n. passing test d n (puts_by n s e)) ns ≡ count_by test (accepted_by d s e)
+
+    none_put : total (λ (n : ℕ). 0) ns ≡ 0
+    none_put = total-zero (λ (n : ℕ). 0) (λ n. refl) ns
+
+    success_sends : (d node : ℕ) (call : DomainCall) → FitsDeed (calls node call (success s node call)) → refusal s node call ≡ None →
+        total (λ n. passing test d n (frames_to n (success_puts s node call))) ns ≡ count_by test (accepted_by d s (calls node call (success s node call)))
+    success_sends d node (send_from port to priority bytes) low free = send_said d node port to priority bytes low free
+    success_sends d node (create_at port) fits free = none_put
+    success_sends d node (delete_at port) fits free = none_put
+    success_sends d node (lookup_of name) fits free = none_put
+    success_sends d node (receive_at port max) fits free = none_put
+    success_sends d node (request_at port max) fits free = none_put
+    success_sends d node (available_at port) fits free = none_put
+    success_sends d node (test_of request) fits free = none_put
+    success_sends d node (cancel_of request) fits free = none_put
+    success_sends d node turn_alone fits free = none_put
+
+    call_sends : (d node : ℕ) (call : DomainCall) (o : Option Refusal) (a : PlainAnswer) → refusal s node call ≡ o → a ≡ answer_by o (success s node call) → FitsDeed (calls node call a) →
+        total (λ n. passing test d n (frames_to n (unless_refused o [] (success_puts s node call)))) ns ≡ count_by test (accepted_by d s (calls node call a))
+    call_sends d node call (Some w) a free is fits = none_put ∙ subst (λ k. 0 ≡ count_by test (accepted_by d s (calls node call k))) (sym is) (sym (ap (count_by test) (accepts_none call)))
+      where
+        accepts_none : (c : DomainCall) → accepted_by d s (calls node c (refuses w)) ≡ []
+        accepts_none (send_from port to priority bytes) = refl
+        accepts_none other = refl
+    call_sends d node call None a free is fits =
+        subst (λ k. total (λ n. passing test d n (frames_to n (success_puts s node call))) ns ≡ count_by test (accepted_by d s (calls node call k))) (sym is)
+        (success_sends d node call (subst (λ k. FitsDeed (calls node call k)) is fits) free)
+
+    owed_none : (d q : ℕ) (f : List ℕ) (w : OwedWell made_in known ns s sound f) (n : ℕ) → passing test d n (frames_if (q == n) (f ∷ [])) ≡ 0
+    owed_none d q f w n = one_frame test (q == n) d n f ∙ go (q == n)
+      where
+        go : (b : Bool) → cond b (passing test d n (f ∷ [])) 0 ≡ 0
+        go true = said_alone test d n f ∙ ap (count_by test) (w.silent d n)
+        go false = refl
+
+    deed_sends : (d : ℕ) (e : Deed) → FitsDeed e → MayDo s e → Sends d e
+    deed_sends d (looks_back q n) fits may = none_put
+    deed_sends d (looks_ahead q n) fits may = none_put
+    deed_sends d (takes q name frame word) fits may = none_put
+    deed_sends d (puts_owed q frame) fits may = total-zero (λ n. passing test d n (frames_if (q == n) (frame ∷ []))) (owed_none d q frame (owed_well made_in known ns s sound q frame few may)) ns
+    deed_sends d (calls node call a) fits may = call_sends d node call (refusal s node call) a refl may fits
+
+  -- ---- a run
+
+  pub run_sends : (d : ℕ) (s : DomainState) (ds : List Deed) → AllMayDo s ds → AllByRecursion (HearsDeed known) ds → AllByRecursion FitsDeed ds → (after_deeds s ds).endpoints_given ≤ made_in → Sound made_in known ns s →
+      count_by test (along (accepted_by d) s ds) ≡ total (λ n. passing test d n (along (puts_by n) s ds)) ns
+  run_sends d s [] may hears fits within sound = sym (total-zero (λ (n : ℕ). 0) (λ n. refl) ns)
+  run_sends d s (e ∷ ds) may hears fits within sound =
+      let t : DomainState = after_deed s e in
+      let parts : total (λ n. passing test d n (along (puts_by n) s (e ∷ ds))) ns ≡ total (λ n. passing test d n (puts_by n s e)) ns + total (λ n. passing test d n (along (puts_by n) t ds)) ns
+      = total-sum (λ n. passing test d n (along (puts_by n) s (e ∷ ds))) (λ n. passing test d n (puts_by n s e)) (λ n. passing test d n (along (puts_by n) t ds)) (λ n. passing-append test d n (puts_by n s e) (along (puts_by n) t ds)) ns in
+      omega (
+        arith,
+        parts,
+        count-append test (accepted_by d s e) (along (accepted_by d) t ds),
+        deed_sends s sound d e fits.0 may.0,
+        run_sends d t ds may.1 hears.1 fits.1 within (sound_deed made_in known ns s sound e hears.0 (omega (arith, given_deeds t ds))),
+      )

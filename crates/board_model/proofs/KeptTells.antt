@@ -1,0 +1,231 @@
+-- What the runs of domains tell of deeds, as the laws of boards take it; and which deeds a journal tells of: calls as the scenario has
+-- them, few that give a request, and frames taken from neighbours alone.
+use Rattle.std.proofs.Common.{◌≡◌, ℕ, ◌+◌, ◌≤◌, ◌<◌, ◌^◌, Bool, true, false, cond, List, [], ◌∷◌, ◌++◌, map, filter, length, Option, Some, None, refl, sym, ap, ◌∙◌, subst, arith, append_assoc}
+use Rattle.std.specs.Prelude.{◌==◌}
+use Rattle.std.specs.List.{AllByRecursion, flat_map}
+use Rattle.std.proofs.lemmas.Bool.{cond_both}
+use Rattle.std.proofs.lemmas.Option.{slice_get_within}
+use Rattle.board_model.specs.declared.scenario.Call.{Call}
+use Rattle.board_model.specs.declared.scenario.Call.TheVariants.{Create, Delete, Lookup, MsgSend, MsgRecv, MsgRecvI, MsgAvailable, Test, Cancel, Turn}
+use Rattle.board_model.specs.declared.scenario.CallLine.{CallLine}
+use Rattle.board_model.specs.declared.scenario.DomainLine.{DomainLine}
+use Rattle.board_model.specs.declared.scenario.Scenario.{Scenario}
+use Rattle.board_model.specs.Scenario.{script, Neighbour, neighbours}
+use Rattle.board_model.specs.LinkedBoard.{Differ, HasFitArguments, IsLinkedBoard}
+use Rattle.board_model.specs.Journal.{PlainEntry, turned, put, again, called, PlainAnswer, refuses, agrees, tells, gives, completes, Visit, Taken}
+use Rattle.board_model.specs.State.{DomainState}
+use Rattle.board_model.specs.Labels.{Labelled, call_of}
+use Rattle.board_model.specs.Step.{RunState, Allowed, next_line, call_at, after}
+use Rattle.board_model.specs.Run.{start, Leads, after_all, left_by, IsDomainRun}
+use Rattle.board_model.specs.Traffic.{put_to, taken_from}
+use Rattle.board_model.specs.Board.{DomainJournal}
+use Rattle.board_model.specs.Deeds.{Deed, looks_back, puts_owed, looks_ahead, takes, calls, along}
+use Rattle.board_model.specs.JournalDeeds.{takes_named, visit_deeds, call_deeds, entry_deeds, deeds_along, deeds_of, opened, left_in}
+use Rattle.board_model.proofs.DeedRuns.{IsDeedRun, puts_by, takes_by, unnamed}
+use Rattle.board_model.proofs.BridgeRuns.{deeds_run, state_is, puts_are, takes_are}
+use Rattle.board_model.proofs.ListsApart.{all-unmap}
+use Rattle.board_model.proofs.MessageAlls.{all-at, all-append, all-filter}
+use Rattle.board_model.proofs.PlaceBoards.{neighbours_differ}
+use Rattle.board_model.proofs.HonestSound.{Sound}
+use Rattle.board_model.proofs.HonestRuns.{anything, hears_anything, sound_opening, sound_deeds}
+use Rattle.board_model.proofs.KeptRuns.{gives_by, gives_in}
+use Rattle.board_model.proofs.KeptLanes.{IsOnce, IsFrom, each_once}
+use Rattle.board_model.proofs.KeptSends.{FitsDeed}
+
+-- the run of a domain is a run of deeds, with the same frames put and taken, and the same state but for the names of frames
+pub record TellsDeeds (s : Scenario) (j : DomainJournal) : Type 0 where
+  pub run : IsDeedRun (opened s j) (deeds_of s j)
+  pub state : (left_by s j.line j.entries).state ≡ unnamed (left_in s j)
+  pub puts : (peer : ℕ) → put_to peer j.entries ≡ along (puts_by peer) (opened s j) (deeds_of s j)
+  pub takes : (peer : ℕ) → taken_from peer j.entries ≡ flat_map (takes_by peer) (deeds_of s j)
+
+pub tells_deeds : (s : Scenario) (j : DomainJournal) → IsLinkedBoard s → IsDomainRun s j.line j.entries → TellsDeeds s j
+tells_deeds s j board run = record { run = deeds_run s j board run; state = state_is s j board run; puts = puts_are s j board run; takes = takes_are s j board run }
+
+-- ---- entries that are allowed
+
+abbrev pub AllAllowed : List CallLine → RunState → List PlainEntry → Type 0
+AllAllowed lines r [] = Unit {0}
+AllAllowed lines r (e ∷ es) = Allowed lines r e × AllAllowed lines (after lines r e) es
+
+pub allowed_all : (lines : List CallLine) (r to : RunState) (es : List PlainEntry) → Leads lines r es to → AllAllowed lines r es
+allowed_all lines r to [] leads = tt
+allowed_all lines r to (e ∷ es) leads = (leads.1.allowed, allowed_all lines (after lines r e) to es (subst (λ (n : RunState). Leads lines n es to) leads.1.leads leads.2))
+
+leads_all : (lines : List CallLine) (r : RunState) (es : List PlainEntry) → AllAllowed lines r es → Leads lines r es (after_all lines r es)
+leads_all lines r [] allowed = refl
+leads_all lines r (e ∷ es) allowed = (after lines r e, record { allowed = allowed.0; leads = refl }, leads_all lines (after lines r e) es allowed.1)
+
+allowed_front : (lines : List CallLine) (r : RunState) (es fs : List PlainEntry) → AllAllowed lines r (es ++ fs) → AllAllowed lines r es
+allowed_front lines r [] fs allowed = tt
+allowed_front lines r (e ∷ es) fs allowed = (allowed.0, allowed_front lines (after lines r e) es fs allowed.1)
+
+allowed_back : (lines : List CallLine) (r : RunState) (es fs : List PlainEntry) → AllAllowed lines r (es ++ fs) → AllAllowed lines (after_all lines r es) fs
+allowed_back lines r [] fs allowed = allowed
+allowed_back lines r (e ∷ es) fs allowed = allowed_back lines (after lines r e) es fs allowed.1
+
+-- ---- the deeds of a turn
+
+module _ (P : Deed → Type 0) (Q : ℕ → Type 0) (back : (q n : ℕ) → P (looks_back q n)) (owed : (q : ℕ) (f : List ℕ) → P (puts_owed q f)) (ahead : (q n : ℕ) → P (looks_ahead q n)) (takes_it : (q name : ℕ) (t : Taken) → Q q → P (takes q name t.frame t.fate)) where
+  each_owed : (q : ℕ) (fs : List (List ℕ)) → AllByRecursion P (map (puts_owed q) fs)
+  each_owed q [] = tt
+  each_owed q (f ∷ fs) = (owed q f, each_owed q fs)
+
+  each_take : (q name : ℕ) (ts : List Taken) → Q q → AllByRecursion P (takes_named q name ts)
+  each_take q name [] is = tt
+  each_take q name (t ∷ ts) is = (takes_it q name t is, each_take q (name + 1) ts is)
+
+  each_visit : (before : List PlainEntry) (v : Visit) → Q v.peer → AllByRecursion P (visit_deeds before v)
+  each_visit before v is =
+      (back v.peer v.back, all-append P (map (puts_owed v.peer) v.owed) (looks_ahead v.peer v.see ∷ takes_named v.peer (length (taken_from v.peer before)) v.takes) (each_owed v.peer v.owed) (ahead v.peer v.see, each_take v.peer (length (taken_from v.peer before)) v.takes is))
+
+  pub each_turn : (before : List PlainEntry) (vs : List Visit) → AllByRecursion (λ v. Q v.peer) vs → AllByRecursion P (flat_map (visit_deeds before) vs)
+  each_turn before [] all = tt
+  each_turn before (v ∷ vs) all = all-append P (visit_deeds before v) (flat_map (visit_deeds before) vs) (each_visit before v all.0) (each_turn before vs all.1)
+
+any_visit : (vs : List Visit) → AllByRecursion (λ (v : Visit). Unit {0}) vs
+any_visit [] = tt
+any_visit (v ∷ vs) = (tt, any_visit vs)
+
+-- ---- calls are as the scenario has them
+
+fits_call : (labels : List Labelled) (s : DomainState) (node : ℕ) (call : Call) (a : PlainAnswer) → HasFitArguments call → FitsDeed (calls node (call_of labels s call) a)
+fits_call labels s node (MsgSend port to priority bytes) a fits = fits.2
+fits_call labels s node (Create port) a fits = tt
+fits_call labels s node (Delete port) a fits = tt
+fits_call labels s node (Lookup name) a fits = tt
+fits_call labels s node (MsgRecv port max) a fits = tt
+fits_call labels s node (MsgRecvI port max) a fits = tt
+fits_call labels s node (MsgAvailable port) a fits = tt
+fits_call labels s node (Test label) a fits = tt
+fits_call labels s node (Cancel label) a fits = tt
+fits_call labels s node Turn a fits = tt
+
+fits_line : (lines : List CallLine) (r : RunState) (a : PlainAnswer) (o : Option CallLine) → AllByRecursion (λ c. HasFitArguments c.call) lines → next_line lines r ≡ o → AllByRecursion FitsDeed (call_deeds o r a)
+fits_line lines r a None fit is = tt
+fits_line lines r a (Some line) fit is = (fits_call r.labels r.state line.node line.call a (all-at (λ c. HasFitArguments c.call) lines r.lines_called line fit is), tt)
+
+fits_entry : (lines : List CallLine) (before : List PlainEntry) (r : RunState) (e : PlainEntry) → AllByRecursion (λ c. HasFitArguments c.call) lines → AllByRecursion FitsDeed (entry_deeds lines before r e)
+fits_entry lines before r (turned vs) fit = each_turn FitsDeed (λ q. Unit {0}) (λ q n. tt) (λ q f. tt) (λ q n. tt) (λ q name t is. tt) before vs (any_visit vs)
+fits_entry lines before r (put peer frame) fit = tt
+fits_entry lines before r (again word) fit = fits_line lines r (refuses word) (next_line lines r) fit refl
+fits_entry lines before r (called k a) fit = fits_line lines r a (next_line lines r) fit refl
+
+pub fits_along : (lines : List CallLine) (before : List PlainEntry) (r : RunState) (es : List PlainEntry) → AllByRecursion (λ c. HasFitArguments c.call) lines → AllByRecursion FitsDeed (deeds_along lines before r es)
+fits_along lines before r [] fit = tt
+fits_along lines before r (e ∷ es) fit = all-append FitsDeed (entry_deeds lines before r e) (deeds_along lines (before ++ e ∷ []) (after lines r e) es) (fits_entry lines before r e fit) (fits_along lines (before ++ e ∷ []) (after lines r e) es fit)
+
+-- ---- few calls give a request
+
+gives_append : (ds es : List Deed) → gives_in (ds ++ es) ≡ gives_in ds + gives_in es
+gives_append [] es = omega arith
+gives_append (d ∷ ds) es = omega (arith, gives_append ds es)
+
+gives_none : (ds : List Deed) → AllByRecursion (λ d. gives_by d ≡ 0) ds → gives_in ds ≡ 0
+gives_none [] all = refl
+gives_none (d ∷ ds) all = omega (arith, all.0, gives_none ds all.1)
+
+at_most_one : (d : Deed) → gives_by d ≤ 1
+at_most_one (calls node call (refuses w)) = omega arith
+at_most_one (calls node call agrees) = omega arith
+at_most_one (calls node call (tells n)) = omega arith
+at_most_one (calls node call (gives size bytes)) = omega arith
+at_most_one (calls node call (completes x)) = omega arith
+at_most_one (looks_back q n) = omega arith
+at_most_one (puts_owed q f) = omega arith
+at_most_one (looks_ahead q n) = omega arith
+at_most_one (takes q name f w) = omega arith
+
+gives_call : (r : RunState) (a : PlainAnswer) (o : Option CallLine) → gives_in (call_deeds o r a) ≤ 1
+gives_call r a None = omega arith
+gives_call r a (Some line) = omega (arith, at_most_one (calls line.node (call_at r line) a))
+
+gives_again : (r : RunState) (word : _) (o : Option CallLine) → gives_in (call_deeds o r (refuses word)) ≡ 0
+gives_again r word None = refl
+gives_again r word (Some line) = refl
+
+gives_entry : (lines : List CallLine) (before : List PlainEntry) (r : RunState) (e : PlainEntry) → Allowed lines r e → r.lines_called ≤ length lines →
+    (gives_in (entry_deeds lines before r e) + r.lines_called ≤ (after lines r e).lines_called) × ((after lines r e).lines_called ≤ length lines)
+gives_entry lines before r (turned vs) allowed below =
+    (omega (arith, gives_none (flat_map (visit_deeds before) vs) (each_turn (λ d. gives_by d ≡ 0) (λ q. Unit {0}) (λ q n. refl) (λ q f. refl) (λ q n. refl) (λ q name t is. refl) before vs (any_visit vs))), below)
+gives_entry lines before r (put peer frame) allowed below = (omega arith, below)
+gives_entry lines before r (again word) allowed below = (omega (arith, gives_again r word (next_line lines r)), below)
+gives_entry lines before r (called k a) allowed below = (omega (arith, gives_call r a (next_line lines r)), omega (arith, slice_get_within lines r.lines_called allowed.0 allowed.1))
+
+pub gives_along : (lines : List CallLine) (before : List PlainEntry) (r : RunState) (es : List PlainEntry) → AllAllowed lines r es → r.lines_called ≤ length lines → gives_in (deeds_along lines before r es) + r.lines_called ≤ length lines
+gives_along lines before r [] allowed below = omega arith
+gives_along lines before r (e ∷ es) allowed below =
+    let here = gives_entry lines before r e allowed.0 below in
+    omega (arith, here.0, gives_append (entry_deeds lines before r e) (deeds_along lines (before ++ e ∷ []) (after lines r e) es), gives_along lines (before ++ e ∷ []) (after lines r e) es allowed.1 here.1)
+
+-- ---- frames are taken from neighbours
+
+abbrev pub numbers_of : Scenario → DomainLine → List ℕ
+numbers_of s d = map (λ n. n.number) (neighbours s d)
+
+module _ (s : Scenario) (board : IsLinkedBoard s) where
+  -- after a run the domain has its neighbours for peers
+  pub after_run : (j : DomainJournal) → IsDomainRun s j.line j.entries → Sound (left_in s j).endpoints_given anything (numbers_of s j.line) (left_in s j)
+  after_run j run = sound_deeds (left_in s j).endpoints_given anything (numbers_of s j.line) (opened s j) (deeds_of s j) (hears_anything (deeds_of s j)) (omega arith)
+      (sound_opening (left_in s j).endpoints_given anything j.line.domain j.line.nodes (neighbours s j.line))
+
+  module _ (d : DomainLine) where
+    abbrev lines : List CallLine
+    lines = script s d.domain
+
+    abbrev FromPeers : Deed → Type 0
+    FromPeers e = IsFrom (numbers_of s d) e
+
+    from_entry : (before : List PlainEntry) (e : PlainEntry) → AllAllowed lines (start s d) before → Allowed lines (after_all lines (start s d) before) e → AllByRecursion FromPeers (entry_deeds lines before (after_all lines (start s d) before) e)
+    from_entry before (turned vs) so_far allowed =
+        let j : DomainJournal = record { line = d; entries = before } in
+        let run : IsDomainRun s d before = record { steps = leads_all lines (start s d) before so_far; settled = allowed.0 } in
+        let peers : map (λ v. v.peer) vs ≡ numbers_of s d = allowed.1.each_peer ∙ (ap (λ (t : DomainState). map (λ p. p.number) t.peers) (tells_deeds s j board run).state ∙ (after_run j run).numbers) in
+        each_turn FromPeers (IsOnce (numbers_of s d)) (λ q n. tt) (λ q f. tt) (λ q n. tt) (λ q name t is. is) before vs
+        (all-unmap (IsOnce (numbers_of s d)) (λ (v : Visit). v.peer) vs (subst (AllByRecursion (IsOnce (numbers_of s d))) (sym peers) (each_once (numbers_of s d) (neighbours_differ s board d))))
+    from_entry before (put peer frame) so_far allowed = tt
+    from_entry before (again word) so_far allowed = from_call (next_line lines (after_all lines (start s d) before)) (refuses word)
+      where
+        from_call : (o : Option CallLine) (a : PlainAnswer) → AllByRecursion FromPeers (call_deeds o (after_all lines (start s d) before) a)
+        from_call None a = tt
+        from_call (Some line) a = (tt, tt)
+    from_entry before (called k a) so_far allowed = from_call (next_line lines (after_all lines (start s d) before))
+      where
+        from_call : (o : Option CallLine) → AllByRecursion FromPeers (call_deeds o (after_all lines (start s d) before) a)
+        from_call None = tt
+        from_call (Some line) = (tt, tt)
+
+    after_more : (r : RunState) (before : List PlainEntry) (e : PlainEntry) → after_all lines r (before ++ e ∷ []) ≡ after lines (after_all lines r before) e
+    after_more r [] e = refl
+    after_more r (b ∷ bs) e = after_more (after lines r b) bs e
+
+    from_along : (before es : List PlainEntry) → AllAllowed lines (start s d) (before ++ es) → AllByRecursion FromPeers (deeds_along lines before (after_all lines (start s d) before) es)
+    from_along before [] allowed = tt
+    from_along before (e ∷ es) allowed =
+        let r : RunState = after_all lines (start s d) before in
+        let next : AllAllowed lines (start s d) ((before ++ e ∷ []) ++ es) = subst (AllAllowed lines (start s d)) (sym (append_assoc before (e ∷ []) es)) allowed in
+        all-append FromPeers (entry_deeds lines before r e) (deeds_along lines (before ++ e ∷ []) (after lines r e) es)
+        (from_entry before e (allowed_front lines (start s d) before (e ∷ es) allowed) (allowed_back lines (start s d) before (e ∷ es) allowed).0)
+        (subst (λ t. AllByRecursion FromPeers (deeds_along lines (before ++ e ∷ []) t es)) (after_more (start s d) before e) (from_along (before ++ e ∷ []) es next))
+
+  -- ---- what is known of the deeds of a journal
+
+  pub record OfJournal (j : DomainJournal) : Type 0 where
+    pub fit : AllByRecursion FitsDeed (deeds_of s j)
+    pub from : AllByRecursion (IsFrom (numbers_of s j.line)) (deeds_of s j)
+    pub few : gives_in (deeds_of s j) < 2 ^ 32
+
+  fewer : (p : CallLine → Bool) (ls : List CallLine) → length (filter p ls) ≤ length ls
+  fewer p [] = omega arith
+  fewer p (l ∷ ls) = cond_both (p l) (l ∷ filter p ls) (filter p ls) (λ ks. length ks ≤ length (l ∷ ls)) (λ k. omega (arith, fewer p ls)) (λ k. omega (arith, fewer p ls))
+
+  pub of_journal : (j : DomainJournal) → IsDomainRun s j.line j.entries → OfJournal j
+  of_journal j run =
+      let allowed : AllAllowed (script s j.line.domain) (start s j.line) j.entries = allowed_all (script s j.line.domain) (start s j.line) (left_by s j.line j.entries) j.entries run.steps in
+      let most = gives_along (script s j.line.domain) [] (start s j.line) j.entries allowed (omega arith) in
+      let lines_fit = all-filter (λ c. HasFitArguments c.call) (λ c. c.domain == j.line.domain) s.calls board.arguments_fit in
+      record {
+        fit = fits_along (script s j.line.domain) [] (start s j.line) j.entries lines_fit;
+        from = from_along j.line [] j.entries allowed;
+        few = omega (arith, most, fewer (λ c. c.domain == j.line.domain) s.calls, board.lines_few);
+      }

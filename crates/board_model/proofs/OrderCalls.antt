@@ -1,0 +1,482 @@
+-- What taken frames and calls do to what is queued.
+use Rattle.std.proofs.Common.{◌≡◌, ◌⊎◌, inl, inr, ℕ, zero, suc, ◌+◌, ◌-◌, ◌<◌, ◌≤◌, Bool, true, false, not, cond, List, [], ◌∷◌, ◌++◌, map, filter, find, flat_map, length, Option, Some, None, option_map, option_to_list, refl, sym, ap, ap₂, ◌∙◌, subst, arith}
+use Rattle.std.specs.Prelude.{◌==◌, ◌&&◌, ◌||◌, is_none, is_some, nat_le, position, option_and_then}
+use Rattle.std.specs.List.{AllByRecursion, list_any}
+use Rattle.std.proofs.lemmas.Bool.{eqb-true, eq-eqb, ne_eqb, cases_Bool, and_parts}
+use Rattle.std.proofs.lemmas.List.{append-nil}
+use Rattle.mc_base.specs.Reading.{Reading, reading}
+use Rattle.mc_base.specs.Limits.{first_address}
+use Rattle.mc_base.specs.FullName.{end_name}
+use Rattle.mc_base.specs.declared.name.Local.{Local}
+use Rattle.mc_base.specs.declared.name.EndName.{EndName}
+use Rattle.mc_base.specs.declared.fate.Fate.{Fate}
+use Rattle.mc_base.specs.declared.refusal.Refusal.{Refusal}
+use Rattle.mc_base.specs.declared.refusal.Refusal.TheVariants.{EndpInvalid, Empty}
+use Rattle.board_model.specs.DomainCall.{DomainCall, create_at, delete_at, lookup_of, send_from, receive_at, request_at, available_at, test_of, cancel_of, turn_alone}
+use Rattle.board_model.specs.Journal.{PlainAnswer, refuses, agrees, tells, gives, completes}
+use Rattle.board_model.specs.Choice.{least, best, without_best}
+use Rattle.board_model.specs.State.{Item, Endpoint, Asked, name_of, message_at, Outcome, has_address, has_item, has_ended, Request, DomainState, is_at, has_address_of, live_at, place_at, endpoint_at, queue_at, endpoint_of, queue_in, receives_at, waits_at}
+use Rattle.board_model.specs.Answer.{local, holds, words_of, refusal, success, answer, answer_by, unless_refused, given as given_first, address_of}
+use Rattle.board_model.specs.Change.{Change, end_announced, asks_for, all_done, best_gone, request_added, endpoint_gone, endpoint_made, waiting_ended, ended_in, done_with, with_queue, changed, changed_all}
+use Rattle.board_model.specs.CallChanges.{at_live, best_item, success_changes, call_changes}
+use Rattle.board_model.specs.TakenFrames.{row_of}
+use Rattle.board_model.specs.Deeds.{Deed, takes, calls, happens_by, after_deed, MayDo}
+use Rattle.board_model.specs.Takings.{Taking, taking, answered_by, completed_by, takings_by, asked_address}
+use Rattle.board_model.specs.MessageOrder.{is_handed, item_said, is_queued, came_to, items_at, dropped_at, dropped_from, gone_from}
+use Rattle.board_model.proofs.DeedRuns.{count_taken}
+use Rattle.board_model.proofs.MessageLists.{get-position, some-position, best_is, without_best_is}
+use Rattle.board_model.proofs.MessageBest.{best-none, without_best-none}
+use Rattle.board_model.proofs.OrderDeeds.{Takes, RowHands, Does, Comes, still, gone_none, RowDoes, row_does, queues, after_row}
+use Rattle.board_model.proofs.OrderItems.{IsPast, IsNext, all_past_more, next_past_after, Apart, NoneSame, left_of, left_none, left_all, left_self, left_first, all_none_next, found_all}
+use Rattle.board_model.proofs.OrderQueues.{queued_for, queued_made, queued_gone, queued_best}
+use Rattle.board_model.proofs.OrderRequests.{RequestsBy, kept, turned, gone, given, found_turns, ended_by, items_one, no_items}
+use Rattle.board_model.proofs.OrderSerials.{Differ, Below, Serials, given_by_all, serials_changes}
+use Rattle.board_model.proofs.OrderSound.{Apart as NamesApart, all_changed, Sound, Waits, FitsSound, FitAllSound, sound_changes, sound_own}
+use Rattle.board_model.proofs.OrderTakings.{taken_of, IsOld, all_old, none_taken, old_mapped, old_done, old_without, added_takes, given_takes}
+
+-- a call that is not refused
+abbrev pub succeeds : Deed → ℕ
+succeeds (calls node call (refuses w)) = 0
+succeeds (calls node call a) = 1
+succeeds other = 0
+
+-- what is known at a moment, where so many requests may still be given
+pub record Moment (room : ℕ) (before : List Deed) (s : DomainState) : Type 0 where
+  pub sound : Sound s
+  pub serials : Serials room s
+  pub items : (b : ℕ) → AllByRecursion (IsPast before) (queued_for s b)
+  pub apart : (b : ℕ) → Apart (queued_for s b)
+
+-- ---- frames
+
+items_all : (P : Item → Type 0) (b : ℕ) (ts : List Taking) → AllByRecursion (λ t. P t.item) ts → AllByRecursion P (flat_map (items_at b) ts)
+items_all P b [] all = tt
+items_all P b (t ∷ ts) all = go (t.address == b) (items_all P b ts all.1)
+  where
+    go : (c : Bool) → AllByRecursion P (flat_map (items_at b) ts) → AllByRecursion P (cond c (t.item ∷ []) [] ++ flat_map (items_at b) ts)
+    go true more = (all.0, more)
+    go false more = more
+
+all_of : {A : Type 0} (P Q : A → Type 0) → ((x : A) → P x → Q x) → (xs : List A) → AllByRecursion P xs → AllByRecursion Q xs
+all_of P Q more [] all = tt
+all_of P Q more (x ∷ xs) all = (more x all.0, all_of P Q more xs all.1)
+
+pub takes_does : (room : ℕ) (before : List Deed) (s : DomainState) (peer name : ℕ) (frame : List ℕ) (word : Fate) → Moment room before s → (row_of s peer name (reading frame)).word ≡ word → name ≡ count_taken peer before → Does room before s (takes peer name frame word)
+takes_does room before s peer name frame word moment is named =
+    let d : Deed = takes peer name frame word in
+    let does = row_does before s moment.sound moment.serials.differ peer name named (reading frame) in
+    let gone : (b : ℕ) → gone_from b s d ≡ flat_map (items_at b) does.taken = λ b. ap (λ ts. flat_map (items_at b) ts ++ []) does.takings ∙ append-nil (flat_map (items_at b) does.taken) in
+    let both : (b : ℕ) → AllByRecursion (λ i. IsNext before i × (i.peer ≡ peer)) (gone_from b s d) = λ b. subst (AllByRecursion (λ i. IsNext before i × (i.peer ≡ peer))) (sym (gone b)) (items_all (λ i. IsNext before i × (i.peer ≡ peer)) b does.taken does.next) in
+    let next : (b : ℕ) → AllByRecursion (IsNext before) (gone_from b s d) = λ b. all_of (λ i. IsNext before i × (i.peer ≡ peer)) (IsNext before) (λ i k. k.0) (gone_from b s d) (both b) in
+    let after : (i : Item) → IsNext before i → i.peer ≡ peer → IsPast (before ++ d ∷ []) i = λ i n same. next_past_after before d i n (ap (λ (c : Bool). cond c 1 0) (eq-eqb peer i.peer (sym same))) in
+    let came : (b : ℕ) → came_to b s d ≡ queues b peer name (reading frame) (row_of s peer name (reading frame)).word = λ b. ap (queues b peer name (reading frame)) (sym is) in
+    let none_given : given_by_all (happens_by s d) ≡ 0 = ap (λ n. 0 + n) does.gives_none in
+    record {
+      sound = sound_changes s (happens_by s d) (tt, does.fits) moment.sound;
+      serials = serials_changes room s (happens_by s d) (omega (arith, none_given)) moment.serials;
+      queue = λ b. does.queue b ∙ (ap (λ q. q ++ queues b peer name (reading frame) (row_of s peer name (reading frame)).word) (sym (left_all (gone_from b s d) (queued_for s b) (all_none_next before (gone_from b s d) (queued_for s b) (moment.items b) (next b)))) ∙ ap (λ c. left_of (gone_from b s d) (queued_for s b) ++ c) (sym (came b)));
+      comes = λ b. elim (does.comes b) [
+        | inl none ↦ inl (came b ∙ none)
+        | inr one ↦ inr (one.0, came b ∙ one.1, one.2, gone b ∙ ap (flat_map (items_at b)) one.3, after one.0 one.2 one.4)
+      ];
+      gone = λ b. all_of (λ i. IsNext before i × (i.peer ≡ peer)) (IsPast (before ++ d ∷ [])) (λ i k. after i k.0 k.1) (gone_from b s d) (both b);
+      takes_best = subst (AllByRecursion (Takes s d)) (sym does.takings) (all_of (RowHands s peer name (reading frame) (row_of s peer name (reading frame)).word) (Takes s d)
+          (λ t h. inr (record { nothing_queued = h.nothing_queued; comes = ap (λ w. cond (is_handed w) (item_said t.address peer name (reading frame)) []) (sym is) ∙ h.comes; waits = h.waits })) does.taken does.hands);
+      requests = subst (λ ts. RequestsBy s (after_deed s d).requests ts (after_deed s d).requests_given) (sym does.takings) does.requests;
+    }
+
+-- ---- calls: what the old lookups find
+
+pub live_found : (s : DomainState) (at : Local) → endpoint_at s at ≡ live_at s at
+live_found s at = get-position (is_at at) s.endpoints
+
+pub live_some : (s : DomainState) (at : Local) → is_some (place_at s at) ≡ is_some (live_at s at)
+live_some s at = some-position (is_at at) s.endpoints
+
+-- no word holds
+pub none_holds : (h : Refusal → Bool) (ws : List Refusal) → find h ws ≡ None → AllByRecursion (λ w. h w ≡ false) ws
+none_holds h [] none = tt
+none_holds h (w ∷ ws) none = go (h w) refl none (λ k. none_holds h ws k)
+  where
+    go : (b : Bool) → h w ≡ b → cond b (Some w) (find h ws) ≡ None → (find h ws ≡ None → AllByRecursion (λ v. h v ≡ false) ws) → (h w ≡ false) × AllByRecursion (λ v. h v ≡ false) ws
+    go true is k later = absurd cc
+    go false is k later = (is, later k)
+
+not_not : (b : Bool) → not b ≡ false → b ≡ true
+not_not true e = refl
+not_not false e = absurd cc
+
+some_of : {A : Type 0} (o : Option A) → is_some o ≡ true → (x : A) × (o ≡ Some x)
+some_of None e = absurd cc
+some_of (Some x) e = (x, refl)
+
+-- a call at an endpoint finds it
+pub live_here : (s : DomainState) (at : Local) → not (is_some (place_at s at)) ≡ false → (e : Endpoint) × (live_at s at ≡ Some e)
+live_here s at h = some_of (live_at s at) (sym (live_some s at) ∙ not_not (is_some (place_at s at)) h)
+
+-- ---- a refused call
+
+refused_none : (s : DomainState) (node : ℕ) (call : DomainCall) (w : Refusal) → answered_by s (calls node call (refuses w)) ≡ []
+refused_none s node (receive_at port max) w = refl
+refused_none s node other w = refl
+
+refused_dropped : (b : ℕ) (s : DomainState) (node : ℕ) (call : DomainCall) (w : Refusal) → dropped_from b s (calls node call (refuses w)) ≡ []
+refused_dropped b s node (delete_at port) w = refl
+refused_dropped b s node other w = refl
+
+-- ---- what changes do, where these takings are answered at once and these items are dropped
+
+abbrev pub gone_of : List Taking → (ℕ → List Item) → ℕ → List Item
+gone_of ts dropped b = flat_map (items_at b) ts ++ dropped b
+
+pub record Effect (before : List Deed) (s : DomainState) (cs : List Change) (answered : List Taking) (dropped : ℕ → List Item) : Type 0 where
+  pub fits : FitAllSound s cs
+  pub completed : List Taking
+  pub takings : taken_of s (changed_all s cs).requests ≡ completed
+  pub queue : (b : ℕ) → queued_for (changed_all s cs) b ≡ left_of (gone_of (answered ++ completed) dropped b) (queued_for s b)
+  pub past : (b : ℕ) → AllByRecursion (IsPast before) (gone_of (answered ++ completed) dropped b)
+  pub best_first : AllByRecursion (λ t. best (λ i. i.priority) (queued_for s t.address) ≡ Some t.item) (answered ++ completed)
+  pub requests : RequestsBy s (changed_all s cs).requests (answered ++ completed) (changed_all s cs).requests_given
+
+pub effect_does : (room : ℕ) (before : List Deed) (s : DomainState) (moment : Moment room before s) (node : ℕ) (call : DomainCall) (a : PlainAnswer) (cs : List Change) (answered : List Taking) (dropped : ℕ → List Item) →
+    call_changes s node call ≡ cs → answered_by s (calls node call a) ≡ answered → ((b : ℕ) → dropped_from b s (calls node call a) ≡ dropped b) → given_by_all cs ≤ room → Effect before s cs answered dropped → Does room before s (calls node call a)
+effect_does room before s moment node call a cs answered dropped happens answers drops fits effect =
+    let d : Deed = calls node call a in
+    let after : after_deed s d ≡ changed_all s cs = ap (changed_all s) happens in
+    let gone : (b : ℕ) → gone_from b s d ≡ gone_of (answered ++ effect.completed) dropped b = λ b.
+    ap (λ ts. flat_map (items_at b) (ts ++ taken_of s (after_deed s d).requests) ++ dropped_from b s d) answers
+    ∙ (ap (λ ts. flat_map (items_at b) (answered ++ ts) ++ dropped_from b s d) (ap (λ t. taken_of s t.requests) after ∙ effect.takings)
+    ∙ ap (λ is. flat_map (items_at b) (answered ++ effect.completed) ++ is) (drops b)) in
+    record {
+      sound = subst Sound (sym after) (sound_changes s cs effect.fits moment.sound);
+      serials = subst (λ xs. Serials (room - given_by_all xs) (changed_all s xs)) (sym happens) (serials_changes room s cs fits moment.serials);
+      queue = λ b. ap (λ t. queued_for t b) after ∙ (effect.queue b ∙ (ap (λ g. left_of g (queued_for s b)) (sym (gone b)) ∙ sym (append-nil (left_of (gone_from b s d) (queued_for s b)))));
+      comes = λ b. inl refl;
+      gone = λ b. subst (AllByRecursion (IsPast (before ++ d ∷ []))) (sym (gone b)) (all_past_more before d (gone_of (answered ++ effect.completed) dropped b) (effect.past b));
+      takes_best = subst (AllByRecursion (Takes s d)) (sym (ap₂ (λ xs ys. xs ++ ys) answers (ap (λ t. taken_of s t.requests) after ∙ effect.takings)))
+          (all_of (λ t. best (λ i. i.priority) (queued_for s t.address) ≡ Some t.item) (Takes s d) (λ t is. inl is) (answered ++ effect.completed) effect.best_first);
+      requests = subst (λ ts. RequestsBy s (after_deed s d).requests ts (after_deed s d).requests_given) (sym (ap₂ (λ xs ys. xs ++ ys) answers (ap (λ t. taken_of s t.requests) after ∙ effect.takings)))
+          (subst (λ t. RequestsBy s t.requests (answered ++ effect.completed) t.requests_given) (sym after) effect.requests);
+    }
+
+-- changes by which nothing goes
+quiet : (before : List Deed) (s : DomainState) (cs : List Change) → FitAllSound s cs → AllByRecursion (IsOld s) (changed_all s cs).requests → ((b : ℕ) → queued_for (changed_all s cs) b ≡ queued_for s b) → RequestsBy s (changed_all s cs).requests [] (changed_all s cs).requests_given → Effect before s cs [] (λ b. [])
+quiet before s cs fits old same requests = record {
+  fits = fits;
+  completed = [];
+  takings = none_taken s (changed_all s cs).requests old;
+  queue = λ b. same b ∙ sym (left_none (queued_for s b));
+  past = λ b. tt;
+  best_first = tt;
+  requests = requests;
+}
+
+module _ (room : ℕ) (before : List Deed) (s : DomainState) (moment : Moment room before s) (node : ℕ) where
+  -- ---- refused
+
+  refused_does : (call : DomainCall) (w : Refusal) → refusal s node call ≡ Some w → Does room before s (calls node call (refuses w))
+  refused_does call w is =
+      effect_does room before s moment node call (refuses w) [] [] (λ b. []) (ap (λ o. unless_refused o [] (success_changes s node call)) is) (refused_none s node call w) (λ b. refused_dropped b s node call w) (omega arith)
+      (quiet before s [] tt (all_old s) (λ b. refl) (kept [] (λ k. refl)))
+
+  -- ---- a success that takes and drops nothing
+
+  quiet_does : (call : DomainCall) (a : PlainAnswer) → refusal s node call ≡ None → answered_by s (calls node call a) ≡ [] → ((b : ℕ) → dropped_from b s (calls node call a) ≡ []) → given_by_all (success_changes s node call) ≤ room → Effect before s (success_changes s node call) [] (λ b. []) → Does room before s (calls node call a)
+  quiet_does call a is answers drops fits effect = effect_does room before s moment node call a (success_changes s node call) [] (λ b. []) (ap (λ o. unless_refused o [] (success_changes s node call)) is) answers drops fits effect
+
+  found_old : (n : EndName) (a : ℕ) → AllByRecursion (IsOld s) (map (all_done (asks_for n) (has_address a)) s.requests)
+  found_old n a = old_mapped s (all_done (asks_for n) (has_address a)) (λ r old. old_done s (is_none r.outcome && asks_for n r.asked) (has_address a) r refl old) s.requests (all_old s)
+
+  ended_old : (o : Option Endpoint) (w : Refusal) → AllByRecursion (IsOld s) (ended_in o w s.requests)
+  ended_old None w = all_old s
+  ended_old (Some e) w = old_mapped s (λ r. cond (waits_at e.local r) (done_with (has_ended w) r) r) (λ r old. old_done s (waits_at e.local r) (has_ended w) r refl old) s.requests (all_old s)
+
+  -- ---- create, send, available, test, cancel, turn, lookup
+
+  create_does : (port : ℕ) → refusal s node (create_at port) ≡ None → Does room before s (calls node (create_at port) (success s node (create_at port)))
+  create_does port is =
+      let words = none_holds (holds s node (create_at port)) (words_of (create_at port)) is in
+      quiet_does (create_at port) (success s node (create_at port)) is refl (λ b. refl) (omega arith)
+      (quiet before s (success_changes s node (create_at port)) (sym (live_some s (local node port)) ∙ words.1.0, (tt, (tt, tt))) (found_old _ _) (λ b. queued_made s (local node port) b) (turned (all_done (asks_for (end_name s.number (local node port))) (has_address (first_address + s.endpoints_given))) (found_turns (end_name s.number (local node port)) (first_address + s.endpoints_given))))
+
+  send_does : (port : ℕ) (to : EndName) (priority : ℕ) (bytes : List ℕ) → refusal s node (send_from port to priority bytes) ≡ None → Does room before s (calls node (send_from port to priority bytes) agrees)
+  send_does port to priority bytes is = quiet_does (send_from port to priority bytes) agrees is refl (λ b. refl) (omega arith) (quiet before s (success_changes s node (send_from port to priority bytes)) (tt, tt) (all_old s) (λ b. refl) (kept [] (λ k. refl)))
+
+  available_does : (port : ℕ) → refusal s node (available_at port) ≡ None → Does room before s (calls node (available_at port) (success s node (available_at port)))
+  available_does port is = quiet_does (available_at port) (success s node (available_at port)) is refl (λ b. refl) (omega arith) (quiet before s [] tt (all_old s) (λ b. refl) (kept [] (λ k. refl)))
+
+  turn_does : Does room before s (calls node turn_alone agrees)
+  turn_does = quiet_does turn_alone agrees refl refl (λ b. refl) (omega arith) (quiet before s [] tt (all_old s) (λ b. refl) (kept [] (λ k. refl)))
+
+  test_does : (place : Option ℕ) → refusal s node (test_of place) ≡ None → Does room before s (calls node (test_of place) (success s node (test_of place)))
+  test_does place is = quiet_does (test_of place) (success s node (test_of place)) is refl (λ b. refl) (omega arith) (quiet before s (success_changes s node (test_of place)) (tt, tt) (old_without s place s.requests (all_old s)) (λ b. refl) (gone place))
+
+  cancel_does : (place : Option ℕ) → refusal s node (cancel_of place) ≡ None → Does room before s (calls node (cancel_of place) agrees)
+  cancel_does place is = quiet_does (cancel_of place) agrees is refl (λ b. refl) (omega arith) (quiet before s (success_changes s node (cancel_of place)) (tt, tt) (old_without s place s.requests (all_old s)) (λ b. refl) (gone place))
+
+  -- ---- lookup
+
+  not_received : (b : Bool) → (b && false) ≡ true → ⊥
+  not_received true h = absurd cc
+  not_received false h = absurd cc
+
+  all_free : (b : Bool) (name : EndName) (es : List Endpoint) → AllByRecursion (λ e. b && receives_at e.local (name_of name) ≡ true → e.queue ≡ []) es
+  all_free b name [] = tt
+  all_free b name (e ∷ es) = ((λ h. absurd (not_received b h)), all_free b name es)
+
+  old_last : (r : Request) → IsOld s r → (rs : List Request) → AllByRecursion (IsOld s) rs → AllByRecursion (IsOld s) (rs ++ r ∷ [])
+  old_last r old [] all = (old, tt)
+  old_last r old (x ∷ xs) all = (all.0, old_last r old xs all.1)
+
+  lookup_effect : (name : EndName) (x : Option ℕ) → Effect before s (request_added (name_of name) (option_map has_address x) ∷ []) [] (λ b. [])
+  lookup_effect name None = quiet before s (request_added (name_of name) None ∷ []) (all_free true name s.endpoints, tt) (old_last _ (inl refl) s.requests (all_old s)) (λ b. refl) (given (name_of name) None [] tt (λ k. sym (no_items (s.requests_given == k))))
+  lookup_effect name (Some a) = quiet before s (request_added (name_of name) (Some (has_address a)) ∷ []) (all_free false name s.endpoints, tt) (old_last _ (inl refl) s.requests (all_old s)) (λ b. refl) (given (name_of name) (Some (has_address a)) [] tt (λ k. sym (no_items (s.requests_given == k))))
+
+  lookup_does : (name : EndName) → refusal s node (lookup_of name) ≡ None → 1 ≤ room → Does room before s (calls node (lookup_of name) (success s node (lookup_of name)))
+  lookup_does name is fits = quiet_does (lookup_of name) (success s node (lookup_of name)) is refl (λ b. refl) (omega arith) (lookup_effect name (address_of s name))
+
+  -- ---- what is queued at an endpoint that is live
+
+  queue_here : (e : Endpoint) (at : Local) → live_at s at ≡ Some e → (b : ℕ) → (e.address == b) ≡ true → queued_for s b ≡ e.queue
+  queue_here e at found b same = ap queue_in (ap (λ x. endpoint_of s x) (sym (eqb-true e.address b same)) ∙ sound_own s moment.sound at e found)
+
+  -- ---- delete
+
+  delete_effect : (e : Endpoint) (at : Local) → live_at s at ≡ Some e → Effect before s (waiting_ended e.address EndpInvalid ∷ endpoint_gone e.address ∷ end_announced (record { local = e.local; address = e.address; create = false }) ∷ []) [] (λ b. dropped_at b (Some e))
+  delete_effect e at found = record {
+    fits = (tt, (tt, (tt, tt)));
+    completed = [];
+    takings = none_taken s (ended_in (endpoint_of s e.address) EndpInvalid s.requests) (ended_old (endpoint_of s e.address) EndpInvalid);
+    queue = λ b. queued_gone (changed s (waiting_ended e.address EndpInvalid)) e.address b ∙ left b (e.address == b) refl;
+    past = λ b. all_past b (e.address == b) refl;
+    best_first = tt;
+    requests = ended_by s (endpoint_of s e.address) EndpInvalid;
+  }
+    where
+      left : (b : ℕ) (c : Bool) → (e.address == b) ≡ c → cond c [] (queued_for s b) ≡ left_of (cond c e.queue []) (queued_for s b)
+      left b true same = sym (ap (left_of e.queue) (queue_here e at found b same) ∙ left_self e.queue)
+      left b false other = sym (left_none (queued_for s b))
+
+      all_past : (b : ℕ) (c : Bool) → (e.address == b) ≡ c → AllByRecursion (IsPast before) (cond c e.queue [])
+      all_past b true same = subst (AllByRecursion (IsPast before)) (queue_here e at found b same) (moment.items b)
+      all_past b false other = tt
+
+  delete_does : (port : ℕ) → refusal s node (delete_at port) ≡ None → Does room before s (calls node (delete_at port) (success s node (delete_at port)))
+  delete_does port is =
+      let words = none_holds (holds s node (delete_at port)) (words_of (delete_at port)) is in
+      let e = live_here s (local node port) words.0 in
+      effect_does room before s moment node (delete_at port) (success s node (delete_at port)) (delete_changes (Some e.0)) [] (λ b. dropped_at b (Some e.0))
+      (ap (λ o. unless_refused o [] (success_changes s node (delete_at port))) is ∙ ap delete_changes e.1) refl (λ b. ap (dropped_at b) e.1) (omega arith) (delete_effect e.0 (local node port) e.1)
+    where
+      delete_changes : Option Endpoint → List Change
+      delete_changes o = at_live o (λ e. waiting_ended e.address EndpInvalid ∷ endpoint_gone e.address ∷ end_announced (record { local = e.local; address = e.address; create = false }) ∷ [])
+
+  -- ---- the best is gone
+
+  best_at : (e : Endpoint) (i : Item) → best_item e ≡ Some i → find (λ x. x.priority == least (λ y. y.priority) e.queue) e.queue ≡ Some i
+  best_at e i is = sym (best_is (λ x. x.priority) e.queue) ∙ is
+
+  best_left : (e : Endpoint) (at : Local) (i : Item) → live_at s at ≡ Some e → best_item e ≡ Some i → (b : ℕ) → queued_for (changed s (best_gone e.address)) b ≡ left_of (cond (e.address == b) (i ∷ []) []) (queued_for s b)
+  best_left e at i found is b = queued_best s e.address b ∙ go (e.address == b) refl
+    where
+      go : (c : Bool) → (e.address == b) ≡ c → cond c (without_best (λ x. x.priority) (queued_for s b)) (queued_for s b) ≡ left_of (cond c (i ∷ []) []) (queued_for s b)
+      go true same =
+          let here : queued_for s b ≡ e.queue = queue_here e at found b same in
+          ap (without_best (λ x. x.priority)) here
+          ∙ (without_best_is (λ x. x.priority) e.queue
+          ∙ (sym (left_first (λ x. x.priority == least (λ y. y.priority) e.queue) e.queue i (best_at e i is) (subst Apart here (moment.apart b)))
+          ∙ sym (ap (left_of (i ∷ [])) here)))
+      go false other = sym (left_none (queued_for s b))
+
+  best_past : (e : Endpoint) (at : Local) (i : Item) → live_at s at ≡ Some e → best_item e ≡ Some i → (b : ℕ) → AllByRecursion (IsPast before) (cond (e.address == b) (i ∷ []) [])
+  best_past e at i found is b = go (e.address == b) refl
+    where
+      go : (c : Bool) → (e.address == b) ≡ c → AllByRecursion (IsPast before) (cond c (i ∷ []) [])
+      go true same = (found_all (IsPast before) (λ x. x.priority == least (λ y. y.priority) e.queue) e.queue i (best_at e i is) (subst (AllByRecursion (IsPast before)) (queue_here e at found b same) (moment.items b)), tt)
+      go false other = tt
+
+  best_queued : (e : Endpoint) (at : Local) (i : Item) → live_at s at ≡ Some e → best_item e ≡ Some i → best (λ x. x.priority) (queued_for s e.address) ≡ Some i
+  best_queued e at i found is = ap (best (λ x. x.priority)) (queue_here e at found e.address (eq-eqb e.address e.address refl)) ∙ is
+
+  -- one taking
+  one_gone : (t : Taking) (b : ℕ) → gone_of (t ∷ []) (λ x. []) b ≡ cond (t.address == b) (t.item ∷ []) []
+  one_gone t b = append-nil (flat_map (items_at b) (t ∷ [])) ∙ append-nil (cond (t.address == b) (t.item ∷ []) [])
+
+  -- ---- receive
+
+  receive_effect : (e : Endpoint) (at : Local) (i : Item) → live_at s at ≡ Some e → best_item e ≡ Some i → Effect before s (best_gone e.address ∷ []) (taking None e.address i ∷ []) (λ b. [])
+  receive_effect e at i found is = record {
+    fits = (tt, tt);
+    completed = [];
+    takings = none_taken s s.requests (all_old s);
+    queue = λ b. best_left e at i found is b ∙ ap (λ g. left_of g (queued_for s b)) (sym (one_gone (taking None e.address i) b));
+    past = λ b. subst (AllByRecursion (IsPast before)) (sym (one_gone (taking None e.address i) b)) (best_past e at i found is b);
+    best_first = (best_queued e at i found is, tt);
+    requests = kept (taking None e.address i ∷ []) (λ k. refl);
+  }
+
+  -- the best of the old lookups
+  best_found : (at : Local) (e : Endpoint) → live_at s at ≡ Some e → best (λ x. x.priority) (queue_at s at) ≡ best_item e
+  best_found at e found = ap (λ o. best (λ x. x.priority) (queue_in o)) (live_found s at ∙ found)
+
+  zero_full : (0 == 0) ≡ false → ⊥
+  zero_full h = absurd cc
+
+  some_best : (e : Endpoint) (at : Local) → live_at s at ≡ Some e → (length (queue_at s at) == 0) ≡ false → (i : Item) × (best_item e ≡ Some i)
+  some_best e at found full = go (best_item e) refl
+    where
+      go : (o : Option Item) → best_item e ≡ o → (i : Item) × (best_item e ≡ Some i)
+      go None none =
+          let empty : e.queue ≡ [] = best-none (λ x. x.priority) e.queue none in
+          let here : queue_at s at ≡ [] = ap queue_in (live_found s at ∙ found) ∙ empty in
+          absurd (zero_full (subst (λ q. (length q == 0) ≡ false) here full))
+      go (Some i) is = (i, is)
+
+  receive_does : (port max : ℕ) → refusal s node (receive_at port max) ≡ None → Does room before s (calls node (receive_at port max) (success s node (receive_at port max)))
+  receive_does port max is =
+      let words = none_holds (holds s node (receive_at port max)) (words_of (receive_at port max)) is in
+      let e = live_here s (local node port) words.0 in
+      let i = some_best e.0 (local node port) e.1 words.1.1.0 in
+      effect_does room before s moment node (receive_at port max) (success s node (receive_at port max)) (receive_changes (Some e.0)) (taking None e.0.address i.0 ∷ []) (λ b. [])
+      (ap (λ o. unless_refused o [] (success_changes s node (receive_at port max))) is ∙ ap receive_changes e.1)
+      (ap (λ x. answered_by s (calls node (receive_at port max) (given_first max x))) (best_found (local node port) e.0 e.1 ∙ i.1) ∙ (ap (λ o. at_live o (λ f. map (taking None f.address) (option_to_list (best_item f)))) e.1 ∙ ap (λ x. map (taking None e.0.address) (option_to_list x)) i.1))
+      (λ b. refl) (omega arith) (receive_effect e.0 (local node port) i.0 e.1 i.1)
+    where
+      receive_changes : Option Endpoint → List Change
+      receive_changes o = at_live o (λ e. best_gone e.address ∷ [])
+
+  -- ---- request
+
+  -- where a name is that of an endpoint, whatever holds of that one holds of all with the name
+  only_at : (P : Endpoint → Type 0) (at : Local) (es : List Endpoint) (e : Endpoint) → NamesApart es → find (is_at at) es ≡ Some e → P e → AllByRecursion (λ f. is_at at f ≡ true → P f) es
+  only_at P at [] e apart found holds = tt
+  only_at P at (x ∷ xs) e apart found holds = go (is_at at x) refl found (λ k. only_at P at xs e apart.1 k holds)
+    where
+      away : (f : Endpoint) → is_at at x ≡ true → is_at x.local f ≡ false → is_at at f ≡ true → ⊥
+      away f here other there = grind (arith, eqb-true, eq-eqb, here, other, there)
+
+      others : is_at at x ≡ true → (fs : List Endpoint) → AllByRecursion (λ f. is_at x.local f ≡ false) fs → AllByRecursion (λ f. is_at at f ≡ true → P f) fs
+      others here [] all = tt
+      others here (f ∷ fs) all = ((λ there. absurd (away f here all.0 there)), others here fs all.1)
+
+      go : (b : Bool) → is_at at x ≡ b → cond b (Some x) (find (is_at at) xs) ≡ Some e → (find (is_at at) xs ≡ Some e → AllByRecursion (λ f. is_at at f ≡ true → P f) xs) → (is_at at x ≡ true → P x) × AllByRecursion (λ f. is_at at f ≡ true → P f) xs
+      go true here k later = let same : x ≡ e = cc in ((λ there. subst P (sym same) holds), others here xs apart.0)
+      go false here k later = ((λ there. absurd cc), later k)
+
+  -- an endpoint is found by its own name
+  own_name : (at : Local) (es : List Endpoint) (e : Endpoint) → find (is_at at) es ≡ Some e → (e.local.node ≡ at.node) × (e.local.port ≡ at.port)
+  own_name at [] e found = absurd cc
+  own_name at (x ∷ xs) e found = go (is_at at x) refl found (λ k. own_name at xs e k)
+    where
+      go : (b : Bool) → is_at at x ≡ b → cond b (Some x) (find (is_at at) xs) ≡ Some e → (find (is_at at) xs ≡ Some e → (e.local.node ≡ at.node) × (e.local.port ≡ at.port)) → (e.local.node ≡ at.node) × (e.local.port ≡ at.port)
+      go true here k later =
+          let same : x ≡ e = cc in
+          let parts = and_parts (x.local.node == at.node) (x.local.port == at.port) here in
+          subst (λ y. (y.local.node ≡ at.node) × (y.local.port ≡ at.port)) same (eqb-true x.local.node at.node parts.0, eqb-true x.local.port at.port parts.1)
+      go false here k later = later k
+
+  found_own : (at : Local) (e : Endpoint) → live_at s at ≡ Some e → live_at s e.local ≡ Some e
+  found_own at e found =
+      let names = own_name at s.endpoints e found in
+      ap₂ (λ n p. find (λ x. x.local.node == n && x.local.port == p) s.endpoints) names.0 names.1 ∙ found
+
+  -- none waits that is complete at once; and where nothing is queued one may wait
+  not_waiting : (at : Local) (max : ℕ) (es : List Endpoint) → AllByRecursion (λ e. false && receives_at e.local (message_at at max) ≡ true → e.queue ≡ []) es
+  not_waiting at max [] = tt
+  not_waiting at max (e ∷ es) = ((λ h. absurd cc), not_waiting at max es)
+
+  is_turned : (f : Endpoint) (at : Local) (max : ℕ) → receives_at f.local (message_at at max) ≡ is_at at f
+  is_turned f at max = grind (arith, eqb-true, eq-eqb)
+
+  may_wait : (e : Endpoint) (at : Local) (max : ℕ) → live_at s at ≡ Some e → e.queue ≡ [] → AllByRecursion (λ f. true && receives_at f.local (message_at e.local max) ≡ true → f.queue ≡ []) (changed s (best_gone e.address)).endpoints
+  may_wait e at max found empty =
+      all_changed (λ f. is_at e.local f ≡ true → f.queue ≡ []) (λ f. true && receives_at f.local (message_at e.local max) ≡ true → f.queue ≡ []) (has_address_of e.address) (with_queue (without_best (λ i. i.priority)))
+      (λ f none h. none (sym (is_turned f e.local max) ∙ h)) s.endpoints
+      (λ f at_f none h. ap (without_best (λ i. i.priority)) (none (sym (is_turned f e.local max) ∙ h)))
+      (only_at (λ f. f.queue ≡ []) e.local s.endpoints e moment.sound.apart (found_own at e found) empty)
+
+  request_effect : (e : Endpoint) (at : Local) (max : ℕ) → live_at s at ≡ Some e → (x : Option Item) → best_item e ≡ x → Effect before s (best_gone e.address ∷ request_added (message_at e.local max) (option_map has_item x) ∷ []) [] (λ b. [])
+  request_effect e at max found None none =
+      let empty : e.queue ≡ [] = best-none (λ i. i.priority) e.queue none in
+      quiet before s (best_gone e.address ∷ request_added (message_at e.local max) None ∷ []) (tt, (may_wait e at max found empty, tt)) (old_last _ (inl refl) s.requests (all_old s))
+      (λ b. queued_best s e.address b ∙ same b (e.address == b) refl) (given (message_at e.local max) None [] tt (λ k. sym (no_items (s.requests_given == k))))
+    where
+      same : (b : ℕ) (c : Bool) → (e.address == b) ≡ c → cond c (without_best (λ i. i.priority) (queued_for s b)) (queued_for s b) ≡ queued_for s b
+      same b true is =
+          let here : queued_for s b ≡ [] = queue_here e at found b is ∙ best-none (λ i. i.priority) e.queue none in
+          ap (without_best (λ i. i.priority)) here ∙ sym here
+      same b false is = refl
+  request_effect e at max found (Some i) is = record {
+    fits = (tt, (not_waiting e.local max (changed s (best_gone e.address)).endpoints, tt));
+    completed = taking (Some s.requests_given) e.address i ∷ [];
+    takings = added_takes s (message_at e.local max) (Some (has_item i)) moment.serials.below ∙ ap (λ o. map (λ a. taking (Some s.requests_given) a i) (at_live o (λ f. f.address ∷ []))) (found_own at e found);
+    queue = λ b. best_left e at i found is b ∙ ap (λ g. left_of g (queued_for s b)) (sym (one_gone (taking (Some s.requests_given) e.address i) b));
+    past = λ b. subst (AllByRecursion (IsPast before)) (sym (one_gone (taking (Some s.requests_given) e.address i) b)) (best_past e at i found is b);
+    best_first = (best_queued e at i found is, tt);
+    requests = given (message_at e.local max) (Some (has_item i)) (taking (Some s.requests_given) e.address i ∷ []) tt (λ k. items_one k s.requests_given e.address i);
+  }
+
+  request_does : (port max : ℕ) → refusal s node (request_at port max) ≡ None → 1 ≤ room → Does room before s (calls node (request_at port max) (success s node (request_at port max)))
+  request_does port max is fits =
+      let words = none_holds (holds s node (request_at port max)) (words_of (request_at port max)) is in
+      let e = live_here s (local node port) words.0 in
+      effect_does room before s moment node (request_at port max) (success s node (request_at port max)) (request_changes (Some e.0)) [] (λ b. [])
+      (ap (λ o. unless_refused o [] (success_changes s node (request_at port max))) is ∙ ap request_changes e.1) refl (λ b. refl) (omega arith) (request_effect e.0 (local node port) max e.1 (best_item e.0) refl)
+    where
+      request_changes : Option Endpoint → List Change
+      request_changes o = at_live o (λ e. best_gone e.address ∷ request_added (message_at e.local max) (option_map has_item (best_item e)) ∷ [])
+
+  -- ---- all calls
+
+  pub success_does : (call : DomainCall) → refusal s node call ≡ None → succeeds (calls node call (success s node call)) ≤ room → Does room before s (calls node call (success s node call))
+  success_does (create_at port) is fits = create_does port is
+  success_does (delete_at port) is fits = delete_does port is
+  success_does (lookup_of name) is fits = lookup_does name is fits
+  success_does (send_from port to priority bytes) is fits = send_does port to priority bytes is
+  success_does (receive_at port max) is fits = receive_does port max is
+  success_does (request_at port max) is fits = request_does port max is fits
+  success_does (available_at port) is fits = available_does port is
+  success_does (test_of place) is fits = test_does place is
+  success_does (cancel_of place) is fits = cancel_does place is
+  success_does turn_alone is fits = turn_does
+
+  pub calls_does : (call : DomainCall) (a : PlainAnswer) → a ≡ answer s node call → succeeds (calls node call a) ≤ room → Does room before s (calls node call a)
+  calls_does call a is fits = subst (λ x. Does room before s (calls node call x)) (sym is) (go (refusal s node call) refl (subst (λ x. succeeds (calls node call x) ≤ room) is fits))
+    where
+      go : (o : Option Refusal) → refusal s node call ≡ o → succeeds (calls node call (answer_by o (success s node call))) ≤ room → Does room before s (calls node call (answer_by o (success s node call)))
+      go None none few = success_does call none few
+      go (Some w) some few = refused_does call w some
+
+-- ---- how many requests a deed gives
+
+pub takes_given : (room : ℕ) (before : List Deed) (s : DomainState) (peer name : ℕ) (frame : List ℕ) (word : Fate) → Moment room before s → (row_of s peer name (reading frame)).word ≡ word → name ≡ count_taken peer before →
+    Does room before s (takes peer name frame word) × (given_by_all (happens_by s (takes peer name frame word)) ≤ 0)
+takes_given room before s peer name frame word moment is named =
+    let none : given_by_all (row_of s peer name (reading frame)).happens ≡ 0 = (row_does before s moment.sound moment.serials.differ peer name named (reading frame)).gives_none in
+    (takes_does room before s peer name frame word moment is named, omega (arith, none))
+
+live_given : (o : Option Endpoint) (f : Endpoint → List Change) (n : ℕ) → ((e : Endpoint) → given_by_all (f e) ≤ n) → given_by_all (at_live o f) ≤ n
+live_given None f n each = omega arith
+live_given (Some e) f n each = each e
+
+success_given : (s : DomainState) (node : ℕ) (call : DomainCall) → given_by_all (success_changes s node call) ≤ succeeds (calls node call (success s node call))
+success_given s node (create_at port) = omega arith
+success_given s node (delete_at port) = live_given (live_at s (local node port)) (λ e. waiting_ended e.address EndpInvalid ∷ endpoint_gone e.address ∷ end_announced (record { local = e.local; address = e.address; create = false }) ∷ []) 1 (λ e. omega arith)
+success_given s node (lookup_of name) = omega arith
+success_given s node (send_from port to priority bytes) = omega arith
+success_given s node (receive_at port max) = zero_less (live_given (live_at s (local node port)) (λ e. best_gone e.address ∷ []) 0 (λ e. omega arith))
+  where
+    zero_less : {n m : ℕ} → n ≤ 0 → n ≤ m
+    zero_less le = omega arith
+success_given s node (request_at port max) = live_given (live_at s (local node port)) (λ e. best_gone e.address ∷ request_added (message_at e.local max) (option_map has_item (best_item e)) ∷ []) 1 (λ e. omega arith)
+success_given s node (available_at port) = omega arith
+success_given s node (test_of place) = omega arith
+success_given s node (cancel_of place) = omega arith
+success_given s node turn_alone = omega arith
+
+pub call_given : (s : DomainState) (node : ℕ) (call : DomainCall) (a : PlainAnswer) → a ≡ answer s node call → given_by_all (call_changes s node call) ≤ succeeds (calls node call a)
+call_given s node call a is = subst (λ x. given_by_all (call_changes s node call) ≤ succeeds (calls node call x)) (sym is) (go (refusal s node call))
+  where
+    go : (o : Option Refusal) → given_by_all (unless_refused o [] (success_changes s node call)) ≤ succeeds (calls node call (answer_by o (success s node call)))
+    go None = success_given s node call
+    go (Some w) = omega arith

@@ -1,0 +1,329 @@
+-- What each deed does to what is queued at each address, and which items are gone from it: one record for all deeds.
+use Rattle.std.proofs.Common.{◌≡◌, ◌⊎◌, inl, inr, ℕ, zero, suc, ◌+◌, ◌-◌, ◌<◌, ◌≤◌, Bool, true, false, not, cond, List, [], ◌∷◌, ◌++◌, map, filter, find, flat_map, length, Option, Some, None, option_map, option_to_list, refl, sym, ap, ◌∙◌, subst, arith}
+use Rattle.std.specs.Prelude.{◌==◌, ◌&&◌, ◌||◌, is_none, is_some, nat_le, position, option_and_then}
+use Rattle.std.specs.List.{AllByRecursion, list_any}
+use Rattle.std.proofs.lemmas.Bool.{eqb-true, eq-eqb, ne_eqb, cases_Bool, and_parts}
+use Rattle.std.proofs.lemmas.List.{append-nil}
+use Rattle.mc_base.specs.Letter.{PlainLetter, msg, connect, accept, reject, recv_open, send_open, packet, scalar, send_close, recv_close}
+use Rattle.mc_base.specs.NameMap.{Names, learned, forgotten}
+use Rattle.mc_base.specs.FullName.{endpoint_named}
+use Rattle.mc_base.specs.Reading.{Reading, is_faulty, announces, says, reading}
+use Rattle.mc_base.specs.declared.name.EndName.{EndName}
+use Rattle.mc_base.specs.declared.fate.Fate.{Fate}
+use Rattle.mc_base.specs.declared.fate.Fate.TheVariants.{Queued, Handed, NoEndpoint, State, Acted}
+use Rattle.board_model.specs.State.{Item, Endpoint, Asked, name_of, channel_of, message_at, packet_at, Outcome, has_address, has_item, has_ended, Request, DomainState, is_at, has_address_of, receives_at, live_at, endpoint_of, one_waits, oldest_waiting, peer_at, queue_in, waits_at}
+use Rattle.board_model.specs.Change.{Change, item_queued, item_handed, name_found, names_known, frame_taken, handed_in, all_done, asks_for, changed, changed_all}
+use Rattle.board_model.specs.Dealing.{names_of}
+use Rattle.board_model.specs.TakenFrames.{Row, row, first_row, rows, row_of, name_rows, letter_rows, message_item}
+use Rattle.board_model.specs.Deeds.{Deed, looks_back, puts_owed, looks_ahead, takes, calls, happens_by, after_deed, MayDo}
+use Rattle.board_model.specs.Takings.{Taking, taking, answered_by, completed_by, takings_by, asked_address}
+use Rattle.mc_base.specs.declared.name.Local.{Local}
+use Rattle.board_model.specs.Choice.{best}
+use Rattle.board_model.specs.CallChanges.{at_live}
+use Rattle.board_model.specs.MessageOrder.{is_handed, comes_now, waiting_first, item_said, is_queued, came_to, items_at, dropped_from, gone_from, is_same}
+use Rattle.board_model.proofs.DeedRuns.{count_taken, IsNamed}
+use Rattle.board_model.proofs.OrderItems.{IsPast, IsNext, left_of, left_none, left_all, all_none_next}
+use Rattle.board_model.proofs.OrderQueues.{queued_for, queued_item}
+use Rattle.board_model.proofs.OrderRequests.{RequestsBy, kept, turned, handed, FitsAsked, NoneBy, items_by, items_one, found_turns}
+use Rattle.board_model.proofs.OrderSerials.{Differ, Below, Serials, given_by, given_by_all, serials_changes}
+use Rattle.board_model.proofs.OrderSound.{Apart as NamesApart, sound_quiet, Sound, Waits, FitsSound, FitAllSound, sound_changes}
+use Rattle.board_model.proofs.OrderTakings.{found_pends, taken_of, IsOld, all_old, none_taken, old_mapped, old_done, handed_takes, waiter_takes}
+
+-- at most one item comes, and then none is gone
+abbrev pub Comes : List Deed → Deed → List Item → List Item → Type 0
+Comes before d came gone = (came ≡ []) ⊎ ((i : Item) × (came ≡ i ∷ []) × IsNext before i × (gone ≡ []) × IsPast (before ++ d ∷ []) i)
+
+-- a taking of the best that is queued; or, where nothing is, of the item that comes, by the oldest that waits
+pub record Hands (s : DomainState) (d : Deed) (t : Taking) : Type 0 where
+  pub nothing_queued : queued_for s t.address ≡ []
+  pub comes : comes_now t.address d ≡ t.item ∷ []
+  pub waits : waiting_first s t.address ≡ t.request
+
+abbrev pub Takes : DomainState → Deed → Taking → Type 0
+Takes s d t = (best (λ i. i.priority) (queued_for s t.address) ≡ Some t.item) ⊎ Hands s d t
+
+pub record Does (room : ℕ) (before : List Deed) (s : DomainState) (d : Deed) : Type 0 where
+  pub sound : Sound (after_deed s d)
+  pub serials : Serials (room - given_by_all (happens_by s d)) (after_deed s d)
+  pub queue : (b : ℕ) → queued_for (after_deed s d) b ≡ left_of (gone_from b s d) (queued_for s b) ++ came_to b s d
+  pub comes : (b : ℕ) → Comes before d (came_to b s d) (gone_from b s d)
+  pub gone : (b : ℕ) → AllByRecursion (IsPast (before ++ d ∷ [])) (gone_from b s d)
+  pub takes_best : AllByRecursion (Takes s d) (takings_by s d)
+  pub requests : RequestsBy s (after_deed s d).requests (takings_by s d) (after_deed s d).requests_given
+
+-- ---- a deed by which nothing is taken or dropped
+
+pub gone_none : (b : ℕ) (s : DomainState) (d : Deed) → takings_by s d ≡ [] → dropped_from b s d ≡ [] → gone_from b s d ≡ []
+gone_none b s d taken dropped = ap (λ ts. flat_map (items_at b) ts ++ dropped_from b s d) taken ∙ dropped
+
+-- and nothing comes
+pub still : (room : ℕ) (before : List Deed) (s : DomainState) (d : Deed) → Sound (after_deed s d) → Serials (room - given_by_all (happens_by s d)) (after_deed s d) → takings_by s d ≡ [] → ((b : ℕ) → dropped_from b s d ≡ []) → ((b : ℕ) → came_to b s d ≡ []) →
+    ((b : ℕ) → queued_for (after_deed s d) b ≡ queued_for s b) → RequestsBy s (after_deed s d).requests [] (after_deed s d).requests_given → Does room before s d
+still room before s d sound serials taken dropped came same requests = record {
+  sound = sound;
+  serials = serials;
+  queue = λ b. same b ∙ (sym (left_none (queued_for s b)) ∙ (ap (λ g. left_of g (queued_for s b)) (sym (gone_none b s d taken (dropped b))) ∙ (sym (append-nil (left_of (gone_from b s d) (queued_for s b))) ∙ ap (λ c. left_of (gone_from b s d) (queued_for s b) ++ c) (sym (came b)))));
+  comes = λ b. inl (came b);
+  gone = λ b. subst (AllByRecursion (IsPast (before ++ d ∷ []))) (sym (gone_none b s d taken (dropped b))) tt;
+  takes_best = subst (AllByRecursion (Takes s d)) (sym taken) tt;
+  requests = subst (λ ts. RequestsBy s (after_deed s d).requests ts (after_deed s d).requests_given) (sym taken) requests;
+}
+
+none_of : (s : DomainState) → taken_of s s.requests ≡ []
+none_of s = none_taken s s.requests (all_old s)
+
+no_room : (room : ℕ) (s : DomainState) → Serials room s → (t : DomainState) → t.requests ≡ s.requests → t.requests_given ≡ s.requests_given → Serials (room - 0) t
+no_room room s serials t same given = record {
+  differ = subst Differ (sym same) serials.differ;
+  below = subst (λ n. Below n t.requests) (sym given) (subst (Below s.requests_given) (sym same) serials.below);
+  small = omega (arith, serials.small, given);
+}
+
+module _ (room : ℕ) (before : List Deed) (s : DomainState) (sound : Sound s) (serials : Serials room s) where
+  pub looks_back_does : (peer count : ℕ) → Does room before s (looks_back peer count)
+  looks_back_does peer count = still room before s (looks_back peer count) (sound_changes s (happens_by s (looks_back peer count)) (tt, tt) sound) (serials_changes room s (happens_by s (looks_back peer count)) (omega arith) serials) (none_of s) (λ b. refl) (λ b. refl) (λ b. refl) (kept [] (λ k. refl))
+
+  pub puts_owed_does : (peer : ℕ) (frame : List ℕ) → Does room before s (puts_owed peer frame)
+  puts_owed_does peer frame = still room before s (puts_owed peer frame) (sound_changes s (happens_by s (puts_owed peer frame)) (tt, tt) sound) (serials_changes room s (happens_by s (puts_owed peer frame)) (omega arith) serials) (none_of s) (λ b. refl) (λ b. refl) (λ b. refl) (kept [] (λ k. refl))
+
+  pub looks_ahead_does : (peer count : ℕ) → Does room before s (looks_ahead peer count)
+  looks_ahead_does peer count = still room before s (looks_ahead peer count) (sound_changes s (happens_by s (looks_ahead peer count)) (tt, tt) sound) (serials_changes room s (happens_by s (looks_ahead peer count)) (omega arith) serials) (none_of s) (λ b. refl) (λ b. refl) (λ b. refl) (kept [] (λ k. refl))
+
+-- ---- rows
+
+-- whatever holds of the last row, and of each other one where it applies
+abbrev pub ByRows : (Row → Type 0) → List Row → Type 0
+ByRows P [] = P (first_row [])
+ByRows P (r ∷ []) = P r
+ByRows P (r ∷ q ∷ rs) = (r.applies ≡ true → P r) × (r.applies ≡ false → ByRows P (q ∷ rs))
+
+pub by_rows : (P : Row → Type 0) (rs : List Row) → ByRows P rs → P (first_row rs)
+by_rows P [] h = h
+by_rows P (r ∷ []) h = h
+by_rows P (r ∷ q ∷ rs) h = go r.applies refl (λ k. by_rows P (q ∷ rs) k)
+  where
+    go : (b : Bool) → r.applies ≡ b → (ByRows P (q ∷ rs) → P (first_row (q ∷ rs))) → P (cond b r (first_row (q ∷ rs)))
+    go true is later = h.0 is
+    go false is later = later (h.1 is)
+
+-- ---- frames
+
+both_none : (b : Bool) → cond {A = List Item} b [] [] ≡ []
+both_none true = refl
+both_none false = refl
+
+found_in_all : (P : Endpoint → Type 0) (p : Endpoint → Bool) (es : List Endpoint) (e : Endpoint) → find p es ≡ Some e → AllByRecursion P es → P e
+found_in_all P p [] e found all = absurd cc
+found_in_all P p (x ∷ xs) e found all = go (p x) found (λ k. found_in_all P p xs e k all.1)
+  where
+    go : (b : Bool) → cond b (Some x) (find p xs) ≡ Some e → (find p xs ≡ Some e → P e) → P e
+    go true k later = let is : x ≡ e = cc in subst P is all.0
+    go false k later = later k
+
+found_any : (p : Request → Bool) (rs : List Request) (r : Request) → find p rs ≡ Some r → list_any p rs ≡ true
+found_any p [] r found = absurd cc
+found_any p (x ∷ xs) r found = go (p x) found (λ k. found_any p xs r k)
+  where
+    go : (b : Bool) → cond b (Some x) (find p xs) ≡ Some r → (find p xs ≡ Some r → list_any p xs ≡ true) → (b || list_any p xs) ≡ true
+    go true k later = refl
+    go false k later = later k
+
+own_address : (a : ℕ) (es : List Endpoint) (e : Endpoint) → find (has_address_of a) es ≡ Some e → e.address ≡ a
+own_address a [] e found = absurd cc
+own_address a (x ∷ xs) e found = go (has_address_of a x) refl found (λ k. own_address a xs e k)
+  where
+    go : (b : Bool) → (x.address == a) ≡ b → cond b (Some x) (find (has_address_of a) xs) ≡ Some e → (find (has_address_of a) xs ≡ Some e → e.address ≡ a) → e.address ≡ a
+    go true is k later = let same : x ≡ e = cc in subst (λ y. y.address ≡ a) same (eqb-true x.address a is)
+    go false is k later = later k
+
+-- the endpoint at which the oldest that waits asks is the one that waits
+found_named : (at : Local) (es : List Endpoint) (e : Endpoint) → NamesApart es → (p : Endpoint → Bool) → find p es ≡ Some e → (e.local.node == at.node && e.local.port == at.port) ≡ true → find (is_at at) es ≡ Some e
+found_named at [] e apart p found same = absurd cc
+found_named at (x ∷ xs) e apart p found same = go (p x) found (λ k. found_named at xs e apart.1 p k same) (λ k. found_in_all (λ f. is_at x.local f ≡ false) p xs e k apart.0)
+  where
+    away : is_at x.local e ≡ false → is_at at x ≡ false
+    away other = grind (arith, eqb-true, eq-eqb, same, other)
+
+    go : (b : Bool) → cond b (Some x) (find p xs) ≡ Some e → (find p xs ≡ Some e → find (is_at at) xs ≡ Some e) → (find p xs ≡ Some e → is_at x.local e ≡ false) → cond (is_at at x) (Some x) (find (is_at at) xs) ≡ Some e
+    go true k later other = let is : x ≡ e = cc in ap (λ (b : Bool). cond b (Some x) (find (is_at at) xs)) (subst (λ y. (y.local.node == at.node && y.local.port == at.port) ≡ true) (sym is) same) ∙ ap (λ y. Some y) is
+    go false k later other = ap (λ (b : Bool). cond b (Some x) (find (is_at at) xs)) (away (other k)) ∙ later k
+
+asked_waits : (s : DomainState) (l : Local) (asked : Asked) (e : Endpoint) → receives_at l asked ≡ true → ((at : Local) → (l.node == at.node && l.port == at.port) ≡ true → live_at s at ≡ Some e) → (asked_address s asked ≡ e.address ∷ []) ⊎ ((at : Local) × (asked ≡ packet_at at))
+asked_waits s l (message_at at max) e waits find_it = inl (ap (λ o. at_live o (λ f. f.address ∷ [])) (find_it at (turned waits)))
+  where
+    turned : (at.node == l.node && at.port == l.port) ≡ true → (l.node == at.node && l.port == at.port) ≡ true
+    turned h = grind (arith, eqb-true, eq-eqb, h)
+asked_waits s l (packet_at at) e waits find_it = inr (at, refl)
+asked_waits s l (name_of n) e waits find_it = absurd cc
+asked_waits s l (channel_of n) e waits find_it = absurd cc
+
+-- what the item is that a frame queues
+abbrev pub queues : ℕ → ℕ → ℕ → Reading → Fate → List Item
+queues b peer name rd word = cond (is_queued word) (item_said b peer name rd) []
+
+-- the state after the frame is taken, and then after its row
+abbrev pub after_row : DomainState → ℕ → Row → DomainState
+after_row s peer r = changed_all (changed s (frame_taken peer)) r.happens
+
+-- by a frame that says so, with this word
+pub record RowHands (s : DomainState) (peer name : ℕ) (rd : Reading) (word : Fate) (t : Taking) : Type 0 where
+  pub nothing_queued : queued_for s t.address ≡ []
+  pub comes : cond (is_handed word) (item_said t.address peer name rd) [] ≡ t.item ∷ []
+  pub waits : waiting_first s t.address ≡ t.request
+
+pub record RowDoes (before : List Deed) (s : DomainState) (peer name : ℕ) (rd : Reading) (r : Row) : Type 0 where
+  pub fits : FitAllSound (changed s (frame_taken peer)) r.happens
+  pub gives_none : given_by_all r.happens ≡ 0
+  pub taken : List Taking
+  pub takings : taken_of s (after_row s peer r).requests ≡ taken
+  pub next : AllByRecursion (λ t. IsNext before t.item × (t.item.peer ≡ peer)) taken
+  pub queue : (b : ℕ) → queued_for (after_row s peer r) b ≡ queued_for s b ++ queues b peer name rd r.word
+  pub comes : (b : ℕ) → (queues b peer name rd r.word ≡ []) ⊎ ((i : Item) × (queues b peer name rd r.word ≡ i ∷ []) × IsNext before i × (taken ≡ []) × (i.peer ≡ peer))
+  pub hands : AllByRecursion (RowHands s peer name rd r.word) taken
+  pub requests : RequestsBy s (after_row s peer r).requests taken (after_row s peer r).requests_given
+
+module _ (before : List Deed) (s : DomainState) (sound : Sound s) (differ : Differ s.requests) (peer name : ℕ) where
+  quiet_row : (rd : Reading) (r : Row) → FitAllSound (changed s (frame_taken peer)) r.happens → given_by_all r.happens ≡ 0 → AllByRecursion (IsOld s) (after_row s peer r).requests → ((b : ℕ) → queued_for (after_row s peer r) b ≡ queued_for s b) → ((b : ℕ) → queues b peer name rd r.word ≡ []) →
+      RequestsBy s (after_row s peer r).requests [] (after_row s peer r).requests_given → RowDoes before s peer name rd r
+  quiet_row rd r fits gives old same none requests = record {
+    fits = fits;
+    gives_none = gives;
+    taken = [];
+    takings = none_taken s (after_row s peer r).requests old;
+    next = tt;
+    queue = λ b. same b ∙ (sym (append-nil (queued_for s b)) ∙ ap (λ c. queued_for s b ++ c) (sym (none b)));
+    comes = λ b. inl (none b);
+    hands = tt;
+    requests = requests;
+  }
+
+  -- a row by which nothing happens
+  idle_row : (rd : Reading) (applies : Bool) (word : Fate) → ((b : ℕ) → queues b peer name rd word ≡ []) → RowDoes before s peer name rd (row applies word [])
+  idle_row rd applies word none = quiet_row rd (row applies word []) tt refl (all_old s) (λ b. refl) none (kept [] (λ k. refl))
+
+  -- ---- announcements
+
+  name_row : (text : List ℕ) (address : ℕ) (there : Bool) (r : Row) → FitAllSound (changed s (frame_taken peer)) r.happens → given_by_all r.happens ≡ 0 → AllByRecursion (IsOld s) (after_row s peer r).requests → ((b : ℕ) → queued_for (after_row s peer r) b ≡ queued_for s b) →
+      RequestsBy s (after_row s peer r).requests [] (after_row s peer r).requests_given → RowDoes before s peer name (announces text address there) r
+  name_row text address there r fits gives old same requests = quiet_row (announces text address there) r fits gives old same (λ b. both_none (is_queued r.word)) requests
+
+  found_old : (n : EndName) (a : ℕ) → AllByRecursion (IsOld s) (map (all_done (asks_for n) (has_address a)) s.requests)
+  found_old n a = old_mapped s (all_done (asks_for n) (has_address a)) (λ r old. old_done s (is_none r.outcome && asks_for n r.asked) (has_address a) r refl old) s.requests (all_old s)
+
+  abbrev learned_row : EndName → ℕ → Names → Row
+  learned_row n address known = row true Acted (names_known peer (learned n address known) ∷ name_found n address ∷ [])
+
+  abbrev forgotten_row : EndName → Names → Row
+  forgotten_row n known = row true Acted (names_known peer (forgotten n known) ∷ [])
+
+  named_rows : (text : List ℕ) (known : Names) (o : Option EndName) (address : ℕ) (there : Bool) → RowDoes before s peer name (announces text address there) (first_row (name_rows peer known o address there))
+  named_rows text known None address there = name_row text address there (first_row (name_rows peer known None address there)) tt refl (all_old s) (λ b. refl) (kept [] (λ k. refl))
+  named_rows text known (Some n) address true = by_rows (RowDoes before s peer name (announces text address true)) (name_rows peer known (Some n) address true) (
+    (λ on. name_row text address true _ tt refl (all_old s) (λ b. refl) (kept [] (λ k. refl))),
+    (λ off. ((λ on. name_row text address true _ tt refl (all_old s) (λ b. refl) (kept [] (λ k. refl))), (λ off2. name_row text address true (learned_row n address known) (tt, (tt, tt)) refl (found_old n address) (λ b. refl) (turned (all_done (asks_for n) (has_address address)) (found_turns n address))))),
+  )
+  named_rows text known (Some n) address false = by_rows (RowDoes before s peer name (announces text address false)) (name_rows peer known (Some n) address false) (
+    (λ on. name_row text address false _ tt refl (all_old s) (λ b. refl) (kept [] (λ k. refl))),
+    (λ off. ((λ on. name_row text address false _ tt refl (all_old s) (λ b. refl) (kept [] (λ k. refl))), (λ off2. name_row text address false (forgotten_row n known) (tt, tt) refl (all_old s) (λ b. refl) (kept [] (λ k. refl))))),
+  )
+
+  -- ---- messages
+
+  module _ (source destination priority : ℕ) (content : List ℕ) (named : name ≡ count_taken peer before) where
+    abbrev item : Item
+    item = message_item peer name source priority content
+
+    item_next : IsNext before item
+    item_next = ap (λ n. n ∷ []) named
+
+    abbrev says_it : Reading
+    says_it = says source destination (msg priority content)
+
+    waiter_next : (o : Option Request) → AllByRecursion (λ t. IsNext before t.item × (t.item.peer ≡ peer)) (waiter_takes s item o)
+    waiter_next None = tt
+    waiter_next (Some r) = go (asked_address s r.asked)
+      where
+        go : (addresses : List ℕ) → AllByRecursion (λ t. IsNext before t.item × (t.item.peer ≡ peer)) (map (λ a. taking (Some r.serial) a item) addresses)
+        go [] = tt
+        go (a ∷ rest) = ((item_next, refl), go rest)
+
+    waiter_hands : (e : Endpoint) → endpoint_of s destination ≡ Some e → (o : Option Request) → oldest_waiting s e.local ≡ o → AllByRecursion (RowHands s peer name says_it Handed) (waiter_takes s item o)
+    waiter_hands e found None is = tt
+    waiter_hands e found (Some r) is =
+        let pends = and_parts (is_none r.outcome) (receives_at e.local r.asked) (found_pends e.local s.requests r is) in
+        let address : e.address ≡ destination = own_address destination s.endpoints e found in
+        elim (asked_waits s e.local r.asked e pends.1 (λ at same. found_named at s.endpoints e sound.apart (has_address_of destination) found same)) [
+          | inl there ↦ subst (λ xs. AllByRecursion (RowHands s peer name says_it Handed) (map (λ a. taking (Some r.serial) a item) xs)) (sym (there ∙ ap (λ a. a ∷ []) address)) (
+            record {
+              nothing_queued = ap queue_in found ∙ sound_quiet s sound destination e found (found_any (waits_at e.local) s.requests r is);
+              comes = ap (λ (b : Bool). cond b (item ∷ []) []) (eq-eqb destination destination refl);
+              waits = ap (λ o. option_map (λ x. x.serial) (option_and_then (λ x. oldest_waiting s x.local) o)) found ∙ ap (λ o. option_map (λ x. x.serial) o) is;
+            },
+            tt,
+          )
+          | inr other ↦ subst (λ xs. AllByRecursion (RowHands s peer name says_it Handed) (map (λ a. taking (Some r.serial) a item) xs)) (sym (ap (asked_address s) other.1)) tt
+        ]
+
+    handed_row : (e : Endpoint) → endpoint_of s destination ≡ Some e → (applies : Bool) → RowDoes before s peer name says_it (row applies Handed (item_handed destination item ∷ []))
+    handed_row e found applies = record {
+      fits = (tt, tt);
+      gives_none = refl;
+      taken = waiter_takes s item (oldest_waiting s e.local);
+      takings = ap (λ o. taken_of s (handed_in o item s.requests)) found ∙ handed_takes s e item differ;
+      next = waiter_next (oldest_waiting s e.local);
+      queue = λ b. sym (append-nil (queued_for s b));
+      comes = λ b. inl refl;
+      hands = waiter_hands e found (oldest_waiting s e.local) refl;
+      requests = subst (λ o. RequestsBy s (handed_in o item s.requests) (waiter_takes s item (oldest_waiting s e.local)) s.requests_given) (sym found) (handed e.local item (waiter_takes s item (oldest_waiting s e.local)) none_waits one_waits_here);
+    }
+      where
+        none_waits : find (waits_at e.local) s.requests ≡ None → NoneBy (waiter_takes s item (oldest_waiting s e.local))
+        none_waits is k = ap (λ o. items_by k (waiter_takes s item o)) is
+
+        one_waits_here : (r : Request) → find (waits_at e.local) s.requests ≡ Some r → FitsAsked r.asked r.outcome → (k : ℕ) → items_by k (waiter_takes s item (oldest_waiting s e.local)) ≡ cond (r.serial == k) (item ∷ []) []
+        one_waits_here r is fits k =
+            let pends = and_parts (is_none r.outcome) (receives_at e.local r.asked) (found_pends e.local s.requests r is) in
+            ap (λ o. items_by k (waiter_takes s item o)) is
+            ∙ elim (asked_waits s e.local r.asked e pends.1 (λ at same. found_named at s.endpoints e sound.apart (has_address_of destination) found same)) [
+              | inl there ↦ ap (λ xs. items_by k (map (λ a. taking (Some r.serial) a item) xs)) there ∙ items_one k r.serial e.address item
+              | inr other ↦ absurd (subst (λ a. FitsAsked a r.outcome) other.1 fits)
+            ]
+
+    abbrev taken_none : List Taking
+    taken_none = []
+
+    queued_row : (e : Endpoint) → endpoint_of s destination ≡ Some e → one_waits s e.local ≡ false → RowDoes before s peer name says_it (row true Queued (item_queued destination item ∷ []))
+    queued_row e found none = record {
+      fits = ((λ f is waits. let same : e ≡ f = cc in let w : one_waits s f.local ≡ false = subst (λ x. one_waits s x.local ≡ false) same none in absurd cc), tt);
+      gives_none = refl;
+      taken = [];
+      takings = none_of s;
+      next = tt;
+      queue = λ b. queued_item (changed s (frame_taken peer)) destination b item e found ∙ shape b (destination == b);
+      comes = λ b. one b (destination == b);
+      hands = tt;
+      requests = kept [] (λ k. refl);
+    }
+      where
+        shape : (b : ℕ) (c : Bool) → cond c (queued_for s b ++ item ∷ []) (queued_for s b) ≡ queued_for s b ++ cond c (item ∷ []) []
+        shape b true = refl
+        shape b false = sym (append-nil (queued_for s b))
+
+        one : (b : ℕ) (c : Bool) → (cond c (item ∷ []) [] ≡ []) ⊎ ((i : Item) × (cond c (item ∷ []) [] ≡ i ∷ []) × IsNext before i × (taken_none ≡ []) × (i.peer ≡ peer))
+        one b true = inr (item, refl, item_next, refl, refl)
+        one b false = inl refl
+
+    message_rows : (o : Option Endpoint) → endpoint_of s destination ≡ o → RowDoes before s peer name says_it (first_row (letter_rows s peer name source destination o (msg priority content)))
+    message_rows None found = idle_row says_it true NoEndpoint (λ b. refl)
+    message_rows (Some e) found = by_rows (RowDoes before s peer name says_it) (letter_rows s peer name source destination (Some e) (msg priority content)) ((λ on. handed_row e found (one_waits s e.local)), (λ off. queued_row e found off))
+
+  letter_does : (named : name ≡ count_taken peer before) (source destination : ℕ) (l : PlainLetter) (o : Option Endpoint) → endpoint_of s destination ≡ o → RowDoes before s peer name (says source destination l) (first_row (letter_rows s peer name source destination o l))
+  letter_does named source destination (msg priority content) o found = message_rows source destination priority content named o found
+  letter_does named source destination l None found = idle_row (says source destination l) true NoEndpoint (λ b. refl)
+  letter_does named source destination l (Some e) found = idle_row (says source destination l) true State (λ b. refl)
+
+  -- whatever the frame says
+  pub row_does : (named : name ≡ count_taken peer before) (rd : Reading) → RowDoes before s peer name rd (row_of s peer name rd)
+  row_does named (is_faulty f) = quiet_row (is_faulty f) (row_of s peer name (is_faulty f)) tt refl (all_old s) (λ b. refl) (λ b. both_none (is_queued (row_of s peer name (is_faulty f)).word)) (kept [] (λ k. refl))
+  row_does named (announces text address there) = named_rows text (names_of (peer_at s peer)) (endpoint_named text) address there
+  row_does named (says source destination l) = letter_does named source destination l (endpoint_of s destination) refl

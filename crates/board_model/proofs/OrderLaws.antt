@@ -1,0 +1,168 @@
+-- Each receive takes the best of what stands, and each delete answers how many messages it drops: along every run of deeds.
+use Rattle.std.proofs.Common.{◌≡◌, ◌⊎◌, inl, inr, ℕ, zero, suc, ◌+◌, ◌-◌, ◌<◌, ◌≤◌, ◌^◌, Bool, true, false, cond, List, [], ◌∷◌, ◌++◌, map, filter, flat_map, option_to_list, length, Option, Some, None, refl, sym, ap, ◌∙◌, subst, arith}
+use Rattle.std.specs.List.{AllByRecursion}
+use Rattle.std.specs.Prelude.{Contains}
+use Rattle.std.proofs.lemmas.Bool.{eq-eqb}
+use Rattle.std.proofs.lemmas.List.{append-nil, append_assoc}
+use Rattle.std.proofs.lemmas.List.Elements.{Contains-append_cases, Contains-push_cases}
+use Rattle.mc_base.specs.Limits.{first_address}
+use Rattle.mc_base.specs.declared.refusal.Refusal.{Refusal}
+use Rattle.board_model.specs.Choice.{best}
+use Rattle.board_model.specs.DomainCall.{DomainCall, create_at, delete_at, lookup_of, send_from, receive_at, request_at, available_at, test_of, cancel_of, turn_alone}
+use Rattle.board_model.specs.Journal.{PlainAnswer, refuses, agrees, tells, gives, completes}
+use Rattle.board_model.specs.Scenario.{Neighbour}
+use Rattle.board_model.specs.State.{Item, Endpoint, DomainState, opening, live_at, queue_at, queue_in}
+use Rattle.board_model.specs.Answer.{local, refusal, success, answer, answer_by}
+use Rattle.board_model.specs.CallChanges.{at_live}
+use Rattle.board_model.specs.Deeds.{Deed, looks_back, puts_owed, looks_ahead, takes, calls, happens_by, after_deed, after_deeds, MayDo, AllMayDo, along, EachDeed}
+use Rattle.board_model.specs.Takings.{Taking, takings_by, cancelled_by}
+use Rattle.board_model.specs.MessageOrder.{is_by, taken_for, standing, TakesWhatComes, TakesBest, TestTells, DeleteTells}
+use Rattle.board_model.proofs.DeedRuns.{IsNamed, AreNamed, IsDeedRun}
+use Rattle.board_model.proofs.OrderCalls.{Moment, succeeds, live_found}
+use Rattle.board_model.proofs.OrderDeeds.{Does, Hands, Takes}
+use Rattle.board_model.proofs.OrderQueues.{queued_for}
+use Rattle.board_model.proofs.OrderSound.{sound_own}
+use Rattle.board_model.proofs.OrderStands.{Stands, stands_more, given_few, after_append, all_done, done_same, taken_after}
+use Rattle.board_model.proofs.OrderCancels.{cancels_done, test_tells}
+use Rattle.board_model.proofs.OrderRequests.{IsDone, items_by, taken_more}
+
+-- how many calls of a run are not refused
+abbrev pub all_succeed : List Deed → ℕ
+all_succeed [] = 0
+all_succeed (d ∷ ds) = succeeds d + all_succeed ds
+
+-- ---- what holds of each deed where this is known
+
+cancels_after : (start : DomainState) (before : List Deed) (d : Deed) → AllByRecursion (IsDone (λ k. taken_for start before k ++ items_by k (takings_by (after_deeds start before) d)) (after_deed (after_deeds start before) d).requests (after_deed (after_deeds start before) d).requests_given) (cancelled_by (after_deeds start before) d) →
+    AllByRecursion (IsDone (taken_for start (before ++ d ∷ [])) (after_deed (after_deeds start before) d).requests (after_deed (after_deeds start before) d).requests_given) (cancelled_by (after_deeds start before) d)
+cancels_after start before d all = all_done _ _ (λ k isdone. done_same (taken_more (taken_for start before) (takings_by (after_deeds start before) d)) (taken_for start (before ++ d ∷ [])) _ _ k (taken_after start before d) isdone) (cancelled_by (after_deeds start before) d) all
+
+pub each_deed : (start : DomainState) (P : List Deed → Deed → Type 0) →
+    ((room : ℕ) (before : List Deed) (d : Deed) → Stands room start before → MayDo (after_deeds start before) d → IsNamed before d → succeeds d ≤ room → P before d) →
+    (room : ℕ) (before ds : List Deed) → Stands room start before → AllMayDo (after_deeds start before) ds → AreNamed before ds → all_succeed ds < room → EachDeed P before ds
+each_deed start P holds room before [] stands may named few = tt
+each_deed start P holds room before (d ∷ ds) stands may named few =
+    let does = given_few room before (after_deeds start before) d may.0 named.0 (omega arith) stands.moment in
+    let cancelled = cancels_done start before (after_deeds start before) stands.moment.serials.differ stands.moment.serials.below stands.held d may.0 in (
+      holds room before d stands may.0 named.0 (omega arith),
+      each_deed start P holds (room - succeeds d) (before ++ d ∷ []) ds (stands_more room start before d (succeeds d) does.1 (omega arith) (omega (arith, stands.moment.serials.small)) (cancels_after start before d cancelled) stands does.0)
+          (subst (λ t. AllMayDo t ds) (sym (after_append start before (d ∷ []))) may.1) named.1 (omega arith),
+    )
+
+-- the opening
+pub stands_open : (room number nodes : ℕ) (neighbours : List Neighbour) → room < 2 ^ 64 → Stands room (opening number nodes neighbours) []
+stands_open room number nodes neighbours small = record {
+  moment = record {
+    sound = record { rise = omega arith; apart = tt; quiet = tt };
+    serials = record { differ = tt; below = tt; small = omega arith };
+    items = λ b. tt;
+    apart = λ b. tt;
+  };
+  gone = λ b. tt;
+  queues = λ b. refl;
+  held = record { each = tt; fresh = λ k le. refl };
+  done = tt;
+}
+
+-- ---- the best
+
+takes_best : (start : DomainState) (room : ℕ) (before : List Deed) (d : Deed) → Stands room start before → MayDo (after_deeds start before) d → IsNamed before d → succeeds d ≤ room → TakesBest start before d
+takes_best start room before d stands may named few =
+    let does = given_few room before (after_deeds start before) d may named few stands.moment in
+    each (takings_by (after_deeds start before) d) does.0.takes_best
+  where
+    one : (t : Taking) → Takes (after_deeds start before) d t → (best (λ i. i.priority) (standing start before t.address) ≡ Some t.item) ⊎ TakesWhatComes start before d t
+    one t (inl is) = inl (ap (best (λ i. i.priority)) (sym (stands.queues t.address)) ∙ is)
+    one t (inr hands) = inr (record { nothing_stands = sym (stands.queues t.address) ∙ hands.nothing_queued; comes = hands.comes; waits = hands.waits })
+
+    each : (ts : List Taking) → AllByRecursion (Takes (after_deeds start before) d) ts → AllByRecursion (λ t. (best (λ i. i.priority) (standing start before t.address) ≡ Some t.item) ⊎ TakesWhatComes start before d t) ts
+    each [] all = tt
+    each (t ∷ ts) all = (one t all.0, each ts all.1)
+
+-- ---- a delete
+
+delete_tells : (start : DomainState) (room : ℕ) (before : List Deed) (d : Deed) → Stands room start before → MayDo (after_deeds start before) d → IsNamed before d → succeeds d ≤ room → DeleteTells start before d
+delete_tells start room before (calls node (delete_at port) (tells count)) stands may named few = go (refusal (after_deeds start before) node (delete_at port)) may
+  where
+    dropped : Option Endpoint → ℕ
+    dropped o = length (at_live o (λ e. standing start before e.address))
+
+    count_is : (n m : ℕ) → tells n ≡ tells m → n ≡ m
+    count_is n m e = cc
+
+    queue_is : (o : Option Endpoint) → live_at (after_deeds start before) (local node port) ≡ o → length (queue_in o) ≡ length (at_live o (λ e. standing start before e.address))
+    queue_is None is = refl
+    queue_is (Some e) is = ap length (sym (ap queue_in (sound_own (after_deeds start before) stands.moment.sound (local node port) e is)) ∙ stands.queues e.address)
+
+    go : (o : Option Refusal) → tells count ≡ answer_by o (success (after_deeds start before) node (delete_at port)) → count ≡ length (at_live (live_at (after_deeds start before) (local node port)) (λ e. standing start before e.address))
+    go (Some w) is = absurd cc
+    go None is = count_is count (length (queue_at (after_deeds start before) (local node port))) is ∙ (ap (λ o. length (queue_in o)) (live_found (after_deeds start before) (local node port)) ∙ queue_is (live_at (after_deeds start before) (local node port)) refl)
+delete_tells start room before other stands may named few = tt
+
+-- ---- a test
+
+test_tells_taken : (start : DomainState) (room : ℕ) (before : List Deed) (d : Deed) → Stands room start before → MayDo (after_deeds start before) d → IsNamed before d → succeeds d ≤ room → TestTells start before d
+test_tells_taken start room before (calls node (test_of place) a) stands may named few = test_tells start before (after_deeds start before) stands.moment.serials.differ stands.moment.serials.below stands.held node place a may
+test_tells_taken start room before other stands may named few = tt
+
+-- ---- along a run from an opening
+
+module _ (number nodes : ℕ) (neighbours : List Neighbour) (ds : List Deed) (run : IsDeedRun (opening number nodes neighbours) ds) (few : all_succeed ds + 1 < 2 ^ 64) where
+  pub run_takes_best : EachDeed (TakesBest (opening number nodes neighbours)) [] ds
+  run_takes_best = each_deed (opening number nodes neighbours) (TakesBest (opening number nodes neighbours)) (takes_best (opening number nodes neighbours)) (all_succeed ds + 1) [] ds (stands_open (all_succeed ds + 1) number nodes neighbours few) run.may run.named (omega arith)
+
+  pub run_deletes_tell : EachDeed (DeleteTells (opening number nodes neighbours)) [] ds
+  run_deletes_tell = each_deed (opening number nodes neighbours) (DeleteTells (opening number nodes neighbours)) (delete_tells (opening number nodes neighbours)) (all_succeed ds + 1) [] ds (stands_open (all_succeed ds + 1) number nodes neighbours few) run.may run.named (omega arith)
+
+  pub run_tests_tell : EachDeed (TestTells (opening number nodes neighbours)) [] ds
+  run_tests_tell = each_deed (opening number nodes neighbours) (TestTells (opening number nodes neighbours)) (test_tells_taken (opening number nodes neighbours)) (all_succeed ds + 1) [] ds (stands_open (all_succeed ds + 1) number nodes neighbours few) run.may run.named (omega arith)
+
+-- ---- a cancel
+
+pub stands_end : (start : DomainState) (room : ℕ) (before ds : List Deed) → Stands room start before → AllMayDo (after_deeds start before) ds → AreNamed before ds → all_succeed ds < room → (left : ℕ) × Stands left start (before ++ ds)
+stands_end start room before [] stands may named few = (room, subst (Stands room start) (sym (append-nil before)) stands)
+stands_end start room before (d ∷ ds) stands may named few =
+    let does = given_few room before (after_deeds start before) d may.0 named.0 (omega arith) stands.moment in
+    let cancelled = cancels_done start before (after_deeds start before) stands.moment.serials.differ stands.moment.serials.below stands.held d may.0 in
+    let next = stands_more room start before d (succeeds d) does.1 (omega arith) (omega (arith, stands.moment.serials.small)) (cancels_after start before d cancelled) stands does.0 in
+    let rest = stands_end start (room - succeeds d) (before ++ d ∷ []) ds next (subst (λ t. AllMayDo t ds) (sym (after_append start before (d ∷ []))) may.1) named.1 (omega arith) in
+    (rest.0, subst (Stands rest.0 start) (append_assoc before (d ∷ []) ds) rest.1)
+
+none_in : (xs : List ℕ) → xs ≡ [] → (k : ℕ) → Contains xs k → ⊥
+none_in xs is k has = let lt = has.1 in omega (arith, ap length is)
+
+contains_one : (x k : ℕ) (xs : List ℕ) → Contains (x ∷ xs) k → (x ≡ k) ⊎ Contains xs k
+contains_one x k xs has = elim (Contains-append_cases (x ∷ []) xs k has) [
+  | inl here ↦ elim (Contains-push_cases [] x k here) [ inl none ↦ absurd (none_in [] refl k none) | inr same ↦ inl same ]
+  | inr there ↦ inr there
+]
+
+all_contained : (P : ℕ → Type 0) (xs : List ℕ) (k : ℕ) → AllByRecursion P xs → Contains xs k → P k
+all_contained P [] k all has = let lt = has.1 in absurd (omega arith)
+all_contained P (x ∷ xs) k all has = elim (contains_one x k xs has) [ inl same ↦ subst P same all.0 | inr there ↦ all_contained P xs k all.1 there ]
+
+-- a serial among those that took something took an item
+took_some : (ts : List Taking) (k : ℕ) → Contains (flat_map (λ t. option_to_list t.request) ts) k → items_by k ts ≡ [] → ⊥
+took_some [] k has none = let lt = has.1 in absurd (omega arith)
+took_some (t ∷ ts) k has none = go t.request refl has (λ h e. took_some ts k h e)
+  where
+    rest : (b : Bool) → map (λ (x : Taking). x.item) (cond b (t ∷ filter (λ x. is_by k x.request) ts) (filter (λ x. is_by k x.request) ts)) ≡ [] → items_by k ts ≡ []
+    rest true e = absurd cc
+    rest false e = e
+
+    go : (o : Option ℕ) → t.request ≡ o → Contains (option_to_list o ++ flat_map (λ x. option_to_list x.request) ts) k → (Contains (flat_map (λ x. option_to_list x.request) ts) k → items_by k ts ≡ [] → ⊥) → ⊥
+    go None is has later = later has (rest (is_by k t.request) none)
+    go (Some n) is has later = elim (contains_one n k (flat_map (λ x. option_to_list x.request) ts) has) [
+      | inl same ↦ at_once (ap (λ o. is_by k o) is ∙ eq-eqb n k same) none
+      | inr there ↦ later there (rest (is_by k t.request) none)
+    ]
+      where
+        at_once : is_by k t.request ≡ true → items_by k (t ∷ ts) ≡ [] → ⊥
+        at_once by e = let f : t.item ∷ items_by k ts ≡ [] = sym (ap (λ (b : Bool). map (λ (x : Taking). x.item) (cond b (t ∷ filter (λ x. is_by k x.request) ts) (filter (λ x. is_by k x.request) ts))) by) ∙ e in absurd cc
+
+module _ (number nodes : ℕ) (neighbours : List Neighbour) (ds : List Deed) (run : IsDeedRun (opening number nodes neighbours) ds) (few : all_succeed ds + 1 < 2 ^ 64) where
+  pub run_cancelled : (k : ℕ) → Contains (along cancelled_by (opening number nodes neighbours) ds) k → Contains (flat_map (λ t. option_to_list t.request) (along takings_by (opening number nodes neighbours) ds)) k → ⊥
+  run_cancelled k cancelled took =
+      let last = stands_end (opening number nodes neighbours) (all_succeed ds + 1) [] ds (stands_open (all_succeed ds + 1) number nodes neighbours few) run.may run.named (omega arith) in
+      let isdone = all_contained (IsDone (taken_for (opening number nodes neighbours) ds) (after_deeds (opening number nodes neighbours) ds).requests (after_deeds (opening number nodes neighbours) ds).requests_given) (along cancelled_by (opening number nodes neighbours) ds) k last.1.done cancelled in
+      took_some (along takings_by (opening number nodes neighbours) ds) k took isdone.nothing

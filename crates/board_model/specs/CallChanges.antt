@@ -1,0 +1,62 @@
+-- What happens by a call. A refused call changes nothing.
+-- Source: docs/PROFILE.md, "Calls". E is the endpoint of the line's domain, node and port.
+use Rattle.std.specs.Prelude.{ℕ, ◌+◌, true, false, List, [], ◌∷◌, Option, None, Some, option_map, option_to_list}
+use Rattle.mc_base.specs.Limits.{first_address}
+use Rattle.mc_base.specs.FullName.{end_name}
+use Rattle.mc_base.specs.declared.refusal.Refusal.TheVariants.{EndpInvalid}
+use Rattle.board_model.specs.Choice.{best}
+use Rattle.board_model.specs.DomainCall.{DomainCall, create_at, delete_at, lookup_of, send_from, receive_at, request_at, available_at, test_of, cancel_of, turn_alone}
+use Rattle.board_model.specs.State.{Item, Endpoint, Request, name_of, message_at, has_address, has_item, item_in, DomainState, live_at, request_at_place}
+use Rattle.board_model.specs.Change.{Change, endpoint_made, endpoint_gone, best_gone, request_added, waiting_ended, name_found, request_gone, end_announced, buffer_used}
+use Rattle.board_model.specs.Answer.{local, address_of, refusal, unless_refused}
+
+-- by a call at a live endpoint
+abbrev pub at_live : {A : Type 0} → Option Endpoint → (Endpoint → List A) → List A
+at_live None f = []
+at_live (Some e) f = f e
+
+-- the oldest item of the best priority
+abbrev pub best_item : Endpoint → Option Item
+best_item e = best (λ i. i.priority) e.queue
+
+-- what happens by success
+abbrev pub success_changes : DomainState → ℕ → DomainCall → List Change
+success_changes s node (create_at port) =
+    endpoint_made (local node port)
+    ∷ end_announced (record { local = local node port; address = first_address + s.endpoints_given; create = true })
+    ∷ name_found (end_name s.number (local node port)) (first_address + s.endpoints_given)
+    ∷ []
+success_changes s node (delete_at port) = at_live (live_at s (local node port)) (λ e.
+    waiting_ended e.address EndpInvalid
+    ∷ endpoint_gone e.address
+    ∷ end_announced (record { local = e.local; address = e.address; create = false })
+    ∷ [])
+success_changes s node (lookup_of name) = request_added (name_of name) (option_map has_address (address_of s name)) ∷ []
+success_changes s node (send_from port to priority bytes) = buffer_used to.domain ∷ []
+success_changes s node (receive_at port max) = at_live (live_at s (local node port)) (λ e. best_gone e.address ∷ [])
+success_changes s node (request_at port max) = at_live (live_at s (local node port)) (λ e.
+    best_gone e.address
+    ∷ request_added (message_at e.local max) (option_map has_item (best_item e))
+    ∷ [])
+success_changes s node (available_at port) = []
+success_changes s node (test_of request) = request_gone request ∷ []
+success_changes s node (cancel_of request) = request_gone request ∷ []
+success_changes s node turn_alone = []
+
+abbrev pub call_changes : DomainState → ℕ → DomainCall → List Change
+call_changes s node call = unless_refused (refusal s node call) [] (success_changes s node call)
+
+-- the item that a request holds
+abbrev pub held_by : Option Request → List Item
+held_by None = []
+held_by (Some r) = item_in r.outcome
+
+-- the items whose buffers success gives back, in that order
+abbrev pub success_returned : DomainState → ℕ → DomainCall → List Item
+success_returned s node (delete_at port) = at_live (live_at s (local node port)) (λ e. e.queue)
+success_returned s node (receive_at port max) = at_live (live_at s (local node port)) (λ e. option_to_list (best_item e))
+success_returned s node (test_of request) = held_by (request_at_place s request)
+success_returned s node other = []
+
+abbrev pub returned : DomainState → ℕ → DomainCall → List Item
+returned s node call = unless_refused (refusal s node call) [] (success_returned s node call)

@@ -1,0 +1,60 @@
+-- Deeds: what a domain does, one thing after the other: looks, owed frames put, frames taken, and calls.
+-- Source: docs/PROFILE.md, "A turn" and "Calls".
+use Rattle.std.specs.Prelude.{◌≡◌, ℕ, ◌+◌, List, [], ◌∷◌, ◌++◌, Some}
+use Rattle.mc_base.specs.Reading.{reading}
+use Rattle.mc_base.specs.declared.fate.Fate.{Fate}
+use Rattle.board_model.specs.DomainCall.{DomainCall}
+use Rattle.board_model.specs.Journal.{PlainAnswer}
+use Rattle.board_model.specs.State.{Peer, DomainState, peer_at, owed_to}
+use Rattle.board_model.specs.Change.{Change, owed_put, buffers_back, frames_shown, frame_taken, changed_all}
+use Rattle.board_model.specs.TakenFrames.{row_of}
+use Rattle.board_model.specs.CallChanges.{call_changes}
+use Rattle.board_model.specs.Answer.{answer}
+
+-- at a peer a look shows so many buffers that came back; the first owed frame is put; a look shows so many frames; the oldest of them
+-- is taken, under a name and with its word. A call is made at a node, with its answer
+pub data Deed : Type 0 where
+  looks_back : ℕ → ℕ → Deed
+  puts_owed : ℕ → List ℕ → Deed
+  looks_ahead : ℕ → ℕ → Deed
+  takes : ℕ → ℕ → List ℕ → Fate → Deed
+  calls : ℕ → DomainCall → PlainAnswer → Deed
+
+-- what happens by it
+abbrev pub happens_by : DomainState → Deed → List Change
+happens_by s (looks_back peer count) = buffers_back peer count ∷ []
+happens_by s (puts_owed peer frame) = owed_put peer ∷ []
+happens_by s (looks_ahead peer count) = frames_shown peer count ∷ []
+happens_by s (takes peer name frame word) = frame_taken peer ∷ (row_of s peer name (reading frame)).happens
+happens_by s (calls node call a) = call_changes s node call
+
+-- a deed that the state allows: what is put is owed, a word is that of its row, and an answer that of the call
+abbrev pub MayDo : DomainState → Deed → Type 0
+MayDo s (looks_back peer count) = Unit {0}
+MayDo s (puts_owed peer frame) = (p : Peer) × (rest : List (List ℕ)) × (peer_at s peer ≡ Some p) × (owed_to s.number p ≡ frame ∷ rest)
+MayDo s (looks_ahead peer count) = Unit {0}
+MayDo s (takes peer name frame word) = (row_of s peer name (reading frame)).word ≡ word
+MayDo s (calls node call a) = a ≡ answer s node call
+
+-- ---- deeds one after the other
+
+abbrev pub after_deed : DomainState → Deed → DomainState
+after_deed s d = changed_all s (happens_by s d)
+
+abbrev pub after_deeds : DomainState → List Deed → DomainState
+after_deeds s [] = s
+after_deeds s (d ∷ ds) = after_deeds (after_deed s d) ds
+
+abbrev pub AllMayDo : DomainState → List Deed → Type 0
+AllMayDo s [] = Unit {0}
+AllMayDo s (d ∷ ds) = MayDo s d × AllMayDo (after_deed s d) ds
+
+-- what is said of each deed and the state in which it is done, along the deeds
+abbrev pub along : {A : Type 0} → (DomainState → Deed → List A) → DomainState → List Deed → List A
+along f s [] = []
+along f s (d ∷ ds) = f s d ++ along f (after_deed s d) ds
+
+-- what holds of each deed and the deeds before it
+abbrev pub EachDeed : (List Deed → Deed → Type 0) → List Deed → List Deed → Type 0
+EachDeed P before [] = Unit {0}
+EachDeed P before (d ∷ ds) = P before d × EachDeed P (before ++ d ∷ []) ds

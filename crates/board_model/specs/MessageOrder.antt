@@ -1,0 +1,147 @@
+-- Which message a receive takes, what a test answers, how many messages a delete drops, and that a cancelled request takes nothing.
+-- Source: docs/PROFILE.md, "Messages" and "Requests".
+use Rattle.std.specs.Prelude.{◌≡◌, ◌⊎◌, ℕ, Bool, true, false, not, ◌&&◌, ◌==◌, List, [], ◌∷◌, ◌++◌, length, take, map, filter, option_map, option_and_then, if◌then◌else◌, Option, None, Some, Contains}
+use Rattle.std.specs.List.{AllByRecursion, flat_map, list_any}
+use Rattle.std.specs.Str.{bytes_eq}
+use Rattle.mc_base.specs.Letter.{msg}
+use Rattle.mc_base.specs.Reading.{Reading, says, reading}
+use Rattle.mc_base.specs.declared.fate.Fate.{Fate}
+use Rattle.mc_base.specs.declared.fate.Fate.TheVariants.{Queued, Handed}
+use Rattle.board_model.specs.declared.scenario.Scenario.{Scenario}
+use Rattle.board_model.specs.DomainCall.{delete_at, test_of}
+use Rattle.board_model.specs.Journal.{PlainResult, found_at, brought, ended_by, PlainAnswer, refuses, tells, completes}
+use Rattle.board_model.specs.State.{DomainState, Item, Endpoint, Asked, name_of, message_at, Request, live_at, endpoint_of, oldest_waiting, request_at_place}
+use Rattle.board_model.specs.Choice.{best}
+use Rattle.board_model.specs.Answer.{local}
+use Rattle.board_model.specs.Board.{DomainJournal}
+use Rattle.board_model.specs.TakenFrames.{message_item}
+use Rattle.board_model.specs.CallChanges.{at_live}
+use Rattle.board_model.specs.Deeds.{Deed, takes, calls, after_deeds, along, EachDeed}
+use Rattle.board_model.specs.JournalDeeds.{deeds_of, opened}
+use Rattle.board_model.specs.Takings.{Taking, takings_by, took_something, cancelled_in}
+
+-- ---- what stands at an endpoint: the messages that came to its address with the word queued, and were neither taken nor dropped
+
+abbrev pub item_said : ℕ → ℕ → ℕ → Reading → List Item
+item_said address peer name (says source destination (msg priority content)) = if destination == address then message_item peer name source priority content ∷ [] else []
+item_said address peer name other = []
+
+abbrev pub is_queued : Fate → Bool
+is_queued Queued = true
+is_queued other = false
+
+abbrev pub came_to : ℕ → DomainState → Deed → List Item
+came_to address s (takes peer name frame word) = if is_queued word then item_said address peer name (reading frame) else []
+came_to address s other = []
+
+abbrev pub items_at : ℕ → Taking → List Item
+items_at address t = if t.address == address then t.item ∷ [] else []
+
+abbrev pub dropped_at : ℕ → Option Endpoint → List Item
+dropped_at address None = []
+dropped_at address (Some e) = if e.address == address then e.queue else []
+
+abbrev pub dropped_from : ℕ → DomainState → Deed → List Item
+dropped_from address s (calls node (delete_at port) (tells count)) = dropped_at address (live_at s (local node port))
+dropped_from address s other = []
+
+abbrev pub gone_from : ℕ → DomainState → Deed → List Item
+gone_from address s d = flat_map (items_at address) (takings_by s d) ++ dropped_from address s d
+
+-- items are the same where the same frames brought them
+abbrev pub is_same : Item → Item → Bool
+is_same i j = i.peer == j.peer && bytes_eq i.frames j.frames
+
+-- after these deeds, in the order in which they came
+abbrev pub standing : DomainState → List Deed → ℕ → List Item
+standing start before address = filter (λ i. not (list_any (is_same i) (along (gone_from address) start before))) (along (came_to address) start before)
+
+-- ---- a receive takes the best of what stands. Where nothing stands, the message that comes in that moment is taken, by the oldest
+-- receive that waits
+
+abbrev pub is_handed : Fate → Bool
+is_handed Handed = true
+is_handed other = false
+
+abbrev pub comes_now : ℕ → Deed → List Item
+comes_now address (takes peer name frame word) = if is_handed word then item_said address peer name (reading frame) else []
+comes_now address other = []
+
+abbrev pub waiting_first : DomainState → ℕ → Option ℕ
+waiting_first s address = option_map (λ r. r.serial) (option_and_then (λ e. oldest_waiting s e.local) (endpoint_of s address))
+
+pub record TakesWhatComes (start : DomainState) (before : List Deed) (d : Deed) (t : Taking) : Type 0 where
+  pub nothing_stands : standing start before t.address ≡ []
+  pub comes : comes_now t.address d ≡ t.item ∷ []
+  pub waits : waiting_first (after_deeds start before) t.address ≡ t.request
+
+abbrev pub TakesBest : DomainState → List Deed → Deed → Type 0
+TakesBest start before d = AllByRecursion (λ t. (best (λ i. i.priority) (standing start before t.address) ≡ Some t.item) ⊎ TakesWhatComes start before d t) (takings_by (after_deeds start before) d)
+
+-- ---- what a test answers, by what was asked
+
+-- the items that the request of this serial took
+abbrev pub is_by : ℕ → Option ℕ → Bool
+is_by serial None = false
+is_by serial (Some request) = request == serial
+
+abbrev pub taken_for : DomainState → List Deed → ℕ → List Item
+taken_for start before serial = map (λ t. t.item) (filter (λ t. is_by serial t.request) (along takings_by start before))
+
+-- the size of the item, and its first bytes, as many as the receive asks for
+pub record Gives (max : ℕ) (i : Item) (size : ℕ) (bytes : List ℕ) : Type 0 where
+  pub whole : size ≡ length i.content
+  pub first : bytes ≡ take max i.content
+
+pub record TellsTaken (max : ℕ) (took : List Item) (size : ℕ) (bytes : List ℕ) : Type 0 where
+  pub item : Item
+  pub taken : took ≡ item ∷ []
+  pub gives : Gives max item size bytes
+
+-- of a request for a message: the message that it took, and no other; or, by a word, that it took none
+abbrev pub TellsMessage : ℕ → List Item → PlainAnswer → Type 0
+TellsMessage max took (completes (brought size bytes)) = TellsTaken max took size bytes
+TellsMessage max took (completes (ended_by word)) = took ≡ []
+TellsMessage max took (refuses word) = took ≡ []
+TellsMessage max took other = ⊥
+
+-- of a lookup: an address, or a word; it took nothing
+abbrev pub TellsAddress : List Item → PlainAnswer → Type 0
+TellsAddress took (completes (found_at address)) = took ≡ []
+TellsAddress took (refuses word) = took ≡ []
+TellsAddress took other = ⊥
+
+abbrev pub TellsAsked : Asked → List Item → PlainAnswer → Type 0
+TellsAsked (message_at at max) took a = TellsMessage max took a
+TellsAsked (name_of name) took a = TellsAddress took a
+TellsAsked other took a = took ≡ []
+
+-- no test of a request that does not exist is a success
+abbrev pub TellsOf : DomainState → List Deed → Option Request → PlainAnswer → Type 0
+TellsOf start before None (refuses word) = Unit {0}
+TellsOf start before None other = ⊥
+TellsOf start before (Some r) a = TellsAsked r.asked (taken_for start before r.serial) a
+
+abbrev pub TestTells : DomainState → List Deed → Deed → Type 0
+TestTells start before (calls node (test_of place) a) = TellsOf start before (request_at_place (after_deeds start before) place) a
+TestTells start before other = Unit {0}
+
+-- ---- the number that a delete answers is that of the messages which it drops
+
+abbrev pub DeleteTells : DomainState → List Deed → Deed → Type 0
+DeleteTells start before (calls node (delete_at port) (tells count)) = count ≡ length (at_live (live_at (after_deeds start before) (local node port)) (λ e. standing start before e.address))
+DeleteTells start before other = Unit {0}
+
+-- ---- of a journal
+
+abbrev pub ReceivesBest : Scenario → DomainJournal → Type 0
+ReceivesBest s j = EachDeed (TakesBest (opened s j)) [] (deeds_of s j)
+
+abbrev pub TestsTellTaken : Scenario → DomainJournal → Type 0
+TestsTellTaken s j = EachDeed (TestTells (opened s j)) [] (deeds_of s j)
+
+abbrev pub DeletesTellDropped : Scenario → DomainJournal → Type 0
+DeletesTellDropped s j = EachDeed (DeleteTells (opened s j)) [] (deeds_of s j)
+
+abbrev pub CancelledTookNothing : Scenario → DomainJournal → Type 0
+CancelledTookNothing s j = (request : ℕ) → Contains (cancelled_in s j) request → Contains (took_something s j) request → ⊥
