@@ -127,7 +127,7 @@ joins_note key id other_id u w role v n uis wis s holds at ne at' =
     let here : get_elem? s.views id ≡ some (Live role v) = at ∙ ap some uis in
     let high = prefix_length n.written f.yours.written (f.notes other_id n there).written in
     let most = f.sides.your_way.entries.written_first in
-    let kept = show_keeps role key s.words s.homes v f.yours f.sides (max v.shown (length n.written)) v.looks (omega arith) (omega (arith, most, high)) in
+    let kept = show_keeps role key s.words s.homes v f.yours f.sides v'.shown v.looks (shown_grows v n) (omega (arith, most, high)) in
     let one : RingRule key record { words = s.words; homes = s.homes; views = set s.views id (Live role v') } = f.keeps s.words s.homes v' (prefix-refl v.written, prefix-refl v.taken, prefix-refl v.looks, shown_grows v n) kept in
     let s1 : RingState = record { words = s.words; homes = s.homes; views = set s.views id (Live role v') } in
     let at1 : get_elem? s1.views id ≡ some (Live role v') = set_here s.views id (Live role v') (at_short s.views id (Live role v) here) in
