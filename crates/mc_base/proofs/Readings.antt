@@ -1,12 +1,13 @@
 -- What a frame says, by its fault, its announcement or its letter.
-use Rattle.std.proofs.Common.{◌≡◌, ◌<◌, ◌^◌, ◌∙◌, ℕ, Bool, true, false, cond, List, [], Option, Some, None, refl, sym, ap, arith}
-use Rattle.std.specs.Prelude.{◌==◌, option_map}
+use Rattle.std.proofs.Common.{◌≡◌, ◌<◌, ◌≤◌, ◌-◌, ◌^◌, ◌∙◌, ℕ, Bool, true, false, cond, List, [], length, take, take_all, Option, Some, None, refl, sym, ap, arith}
+use Rattle.std.specs.Prelude.{◌==◌, nat_lt, option_map}
+use Rattle.std.proofs.lemmas.Bool.{le-ltb}
 use Rattle.byteorder.specs.Numbers.{little_number-reads_back}
-use Rattle.mc_base.specs.Limits.{name_service_address}
+use Rattle.mc_base.specs.Limits.{frame_header_size, longest_frame, name_service_address}
 use Rattle.mc_base.specs.Bytes.{number_at}
 use Rattle.mc_base.specs.FaultRow.{first_fault}
 use Rattle.mc_base.specs.Fault.{fault, payload_faults}
-use Rattle.mc_base.specs.Frame.{IsFrame, frame_faults, source_of, destination_of, payload_of}
+use Rattle.mc_base.specs.Frame.{IsFrame, frame_faults, made, source_of, destination_of, payload_of, payload_length_of}
 use Rattle.mc_base.specs.Letter.{Fields, HasSpelling, IsLetter, PlainLetter, msg, connect, accept, reject, recv_open, send_open, packet, scalar, send_close, recv_close, fields, fields_of, spelled}
 use Rattle.mc_base.specs.LetterFaults.{fields_in, letter_faults}
 use Rattle.mc_base.specs.Announcement.{IsNs, announcement_faults, flags_of}
@@ -132,6 +133,27 @@ reads_letter frame payload src dst l f sound to_endpoint none said =
     ∙ ap (λ (a : ℕ). says src a (letter_of (fields_in (payload_of frame)))) (sym f.destination)
     ∙ ap (λ (p : List ℕ). says src dst (letter_of (fields_in p))) (sym f.content)
     ∙ ap (says src dst) (letter_in payload l said)
+
+-- a frame has no fault of its own
+pub frame_is_sound : (frame payload : List ℕ) (src dst : ℕ) → IsFrame frame src dst payload → first_fault (frame_faults frame) ≡ None
+frame_is_sound frame payload src dst f =
+    let whole : nat_lt (length frame) frame_header_size ≡ false = le-ltb (length frame) frame_header_size f.has_header in
+    let fits : nat_lt longest_frame (length frame) ≡ false = le-ltb longest_frame (length frame) f.fits_buffer in
+    let inside : nat_lt (length frame - frame_header_size) (payload_length_of frame) ≡ false = le-ltb (length frame - frame_header_size) (payload_length_of frame) f.length_fits in
+    rw (whole, fits, inside) refl
+
+-- what is made of two addresses and a payload is a frame of these
+pub made_is_frame : (src dst : ℕ) (payload : List ℕ) → src < 2 ^ 32 → dst < 2 ^ 32 → length payload ≤ 496 → IsFrame (made src dst payload) src dst payload
+made_is_frame src dst payload from to short =
+    let count : payload_length_of (made src dst payload) ≡ length payload = little_number-reads_back 2 (length payload) [] (omega arith) in
+    record {
+      has_header = omega arith;
+      fits_buffer = omega arith;
+      source = sym (little_number-reads_back 4 src [] from);
+      destination = sym (little_number-reads_back 4 dst [] to);
+      length_fits = omega (arith, count);
+      content = sym (ap (λ (n : ℕ). take n payload) count ∙ take_all (length payload) payload (omega arith));
+    }
 
 -- a frame that is read as faulty has this fault first, and one that says something has none
 abbrev pub fault_in : Reading → Option Fault

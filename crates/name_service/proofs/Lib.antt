@@ -2,3 +2,4 @@ pub mod Announcements
 pub mod FullNames
 pub mod NameLists
 pub mod NamePlaces
+pub mod FramesRead

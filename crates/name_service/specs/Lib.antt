@@ -3,3 +3,4 @@ pub mod Laws
 pub mod NameLaws
 pub mod FullNameLaws
 pub mod InKnownNames
+pub mod ReadingLaws

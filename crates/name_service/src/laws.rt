@@ -1,4 +1,5 @@
 ghost use Rattle.name_service.specs.Laws.{AnnouncementsReadBack, NoPayloadHasTwoAnnouncements};
+ghost use Rattle.name_service.specs.ReadingLaws.{LettersAreRead, AnnouncementsAreRead, MadeLettersAreRead, MadeAnnouncementsAreRead};
 ghost use Rattle.name_service.specs.NameLaws.{RankTellsNames, AddressOfTheVeryName, LearnedHasItsAddress, LearnedLeavesOthers, ForgottenHasNone, ForgottenLeavesOthers, LearnedCounts, ForgottenCounts, OrderStays, OneListForEachMap};
 ghost use Rattle.name_service.specs.FullNameLaws.{FullNamesReadBack, OnlyFullNamesAreRead, NoNameNamesTwo};
 
@@ -10,6 +11,14 @@ pub fn announcements_read_back()
 /// A payload never has two announcements.
 pub fn no_payload_has_two_announcements()
     ensures { NoPayloadHasTwoAnnouncements }
+{}
+
+/// A frame says the letter or the announcement that it carries, and what is made of either is read as it was meant.
+pub fn frames_say_what_they_carry()
+    ensures letters { LettersAreRead }
+    ensures announcements { AnnouncementsAreRead }
+    ensures made_letters { MadeLettersAreRead }
+    ensures made_announcements { MadeAnnouncementsAreRead }
 {}
 
 /// The names that are known are a finite map: what is learned or forgotten of a name changes that name alone.

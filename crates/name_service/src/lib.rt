@@ -17,8 +17,8 @@ mod writing;
 pub use full_names::endpoint_named;
 pub use known::KnownNames;
 pub use laws::{
-    announcements_read_back, full_names_read_back, known_names_are_a_map,
-    no_payload_has_two_announcements,
+    announcements_read_back, frames_say_what_they_carry, full_names_read_back,
+    known_names_are_a_map, no_payload_has_two_announcements,
 };
 pub use mc_base::{Fault, Ns, NsFault};
 pub use name::is_legal;
