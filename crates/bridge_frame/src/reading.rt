@@ -9,12 +9,13 @@ use crate::{MAGIC, VERSION};
 use byteorder::{ByteOrder, LittleEndian};
 use mc_base::{LETTER_HEADER_SIZE, Letter, LetterFault};
 
-/// The letter in the payload of a frame to an endpoint, or the first fault that the payload has. Bytes of a message
-/// or a packet are not copied.
+/// Reads the letter in the payload of a frame to an endpoint. Bytes of a message or a packet are not copied.
 ///
-/// The faults are asked in the order of `LetterFault`: fewer than 8 bytes, another first byte than 0x4d, another
-/// version than 1, a kind that is none of 1 to 10, and then an argument, a channel or a length of the content that the
-/// kind does not allow.
+/// # Errors
+///
+/// The first fault, in the order of `LetterFault`: fewer than 8 bytes, another first byte than 0x4d, another version than
+/// 1, a kind that is none of 1 to 10, and then an argument, a channel or a length of the content that the kind does not
+/// allow.
 pub fn read_letter(payload: &[u8]) -> Result<Letter<'_>, LetterFault>
     // What is read is a letter that the payload says.
     ensures sound { IfOk result (λ l. IsLetter payload.now (plain_letter l)) }

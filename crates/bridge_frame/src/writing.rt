@@ -5,7 +5,7 @@ use crate::{MAGIC, VERSION};
 use byteorder::{ByteOrder, LittleEndian};
 use mc_base::{Bits, Kind, LETTER_HEADER_SIZE, Letter, Reason};
 
-/// Writes the one spelling of a letter, and answers its length. The rest of `out` stays.
+/// Writes the one spelling of a letter, and returns its length. The rest of `out` stays.
 pub fn write_letter(letter: &Letter<'_>, out: &mut [u8]) -> usize
     requires lawful { HasSpelling (plain_letter letter.now) }
     requires room { 496 ≤ length out.old }

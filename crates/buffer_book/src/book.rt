@@ -30,7 +30,11 @@ impl Model for BufferBook {
 }
 
 impl BufferBook {
-    /// A book of peers, each with the number of its buffers. Nothing is held.
+    /// Makes a book of peers, each with the number of its buffers. Nothing is held.
+    ///
+    /// # Errors
+    ///
+    /// `NoMemory` where an allocation fails.
     pub fn new(alloc: Global, sizes: &[(u8, u32)]) -> Result<BufferBook, NoMemory>
         requires { AllDiffer (map (λ s. s.0) sizes.now) }
         ensures { IfOk result (λ b. b ≡ opening_book sizes.now) }
@@ -55,7 +59,7 @@ impl BufferBook {
         slot
     }
 
-    /// Lends a buffer that stands in a queue. The serial of its id is the number of lends before, modulo 2^64.
+    /// Lends a buffer that is in a queue. The serial of its id is the number of lends before, modulo 2^64.
     pub fn lend(&mut self, slot: Slot) -> PacketId
         requires { IsQueued self.old slot }
         ensures id { result ≡ record { peer = slot.peer; buffer = slot.buffer; serial = self.old.lends } }
@@ -73,7 +77,9 @@ impl BufferBook {
 
     /// Gives up a lent buffer, which is held no more.
     ///
-    /// Refused: `BufInvalid` exactly where no lent buffer has the id. The book is unchanged then.
+    /// # Errors
+    ///
+    /// `BufInvalid` exactly where no lent buffer has the id. The book is unchanged then.
     pub fn release(&mut self, id: PacketId) -> Result<Buffer, BufInvalid>
         ensures refused { IsErr result ↔ IsNone (lent_as self.old id) }
         ensures buffer { IfOk result (λ b. Some b ≡ option_map (λ k. k.buffer) (lent_as self.old id)) }
@@ -99,7 +105,7 @@ impl BufferBook {
         held.into_buffer()
     }
 
-    /// The content of a buffer that stands in a queue.
+    /// Returns the content of a buffer that is in a queue.
     pub fn bytes(&self, slot: Slot) -> &[u8]
         requires { IsQueued self.now slot }
         ensures { Some result.now ≡ option_map content (queued_at self.now slot) }
@@ -107,9 +113,11 @@ impl BufferBook {
         shelves::held_at(&self.shelves, slot).unwrap().content()
     }
 
-    /// The content of a lent buffer.
+    /// Returns the content of a lent buffer.
     ///
-    /// Refused: `BufInvalid` exactly where no lent buffer has the id.
+    /// # Errors
+    ///
+    /// `BufInvalid` exactly where no lent buffer has the id.
     pub fn lent_bytes(&self, id: PacketId) -> Result<&[u8], BufInvalid>
         ensures refused { IsErr result ↔ IsNone (lent_as self.now id) }
         ensures content { IfOk result (λ bytes. Some bytes.now ≡ option_map content (lent_as self.now id)) }
@@ -118,8 +126,8 @@ impl BufferBook {
         Ok(held.content())
     }
 
-    /// How many buffers of a peer stand in queues, and how many are lent. None are of a peer that the book does not
-    /// know.
+    /// Counts the buffers of a peer that are in queues, and those that are lent. There are none of a peer that the book does
+    /// not know.
     pub fn places(&self, peer: u8) -> Places
         ensures queue { result.queue ≡ queued_from self.now peer }
         ensures lent { result.lent ≡ lent_from self.now peer }

@@ -1,4 +1,4 @@
-//! The buffers that a domain took from its peers and keeps: whether each stands in a queue or is lent, and where its
+//! The buffers that a domain took from its peers and keeps: whether each is in a queue or lent, and where its
 //! content lies.
 //!
 //! A book takes memory where it is made. No other call takes any.

@@ -1,6 +1,6 @@
 use mc_base::Local;
 
-/// What a linked domain is told: that the endpoint is there from now on, or gone.
+/// What is announced to a linked domain: that the endpoint is there from now on, or gone.
 #[derive(Clone, Copy, Debug)]
 pub struct Announced {
     pub local: Local,

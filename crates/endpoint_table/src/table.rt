@@ -31,7 +31,7 @@ pub struct EndpointTable {
     records: Vec<Record>,
     // The addresses of the live endpoints, to be found by name.
     live: KnownNames,
-    // What one of the linked domains at least is still to be told, the oldest first.
+    // What is still owed to at least one linked domain, the oldest first.
     events: VecDeque<Announced>,
     debts: Vec<Debt>,
     given: u32,
@@ -50,8 +50,11 @@ impl Model for EndpointTable {
 }
 
 impl EndpointTable {
-    /// The table of a domain with so many nodes, which is linked to these. No endpoint is there yet. The only refusal is
-    /// want of memory.
+    /// Makes the table of a domain with so many nodes, which is linked to these. No endpoint is there yet.
+    ///
+    /// # Errors
+    ///
+    /// `NoMemory` where an allocation fails.
     pub fn new(
         alloc: Global,
         domain: u8,
@@ -79,12 +82,14 @@ impl EndpointTable {
         })
     }
 
-    /// Creates an endpoint, and answers its address: 1024, and one more for each that was created before. It is owed to
-    /// each linked domain that it is there.
+    /// Creates an endpoint, and returns its address: 1024, and one more for each that was created before. Its creation is
+    /// owed to each linked domain.
     ///
-    /// Refused, in this order: `NodeInvalid` where the node is not below the domain's number of nodes, `ExistsAlready`
-    /// where the endpoint is live, `EndpLimit` where 64 records are in use, `AddressSpent` where 60,000 endpoints were
-    /// created. Nothing changes then.
+    /// # Errors
+    ///
+    /// The first of these: `NodeInvalid` where the node is not below the domain's number of nodes, `ExistsAlready` where the
+    /// endpoint is live, `EndpLimit` where 64 records are in use, `AddressSpent` where 60,000 endpoints were created. Nothing
+    /// changes then.
     pub fn create(&mut self, local: Local) -> Result<u32, Refusal>
         ensures answer { result ≡ create_answer self.old local }
         ensures created { OnOk result (self.new ≡ created self.old local) }
@@ -122,10 +127,11 @@ impl EndpointTable {
         Ok(address)
     }
 
-    /// Deletes an endpoint. It is owed to each linked domain that it is gone, and its record is in use until all of them
-    /// were told.
+    /// Deletes an endpoint. Its end is owed to each linked domain, and its record is in use until it was paid to all of them.
     ///
-    /// Refused: `EndpInvalid` exactly where the endpoint is not live. Nothing changes then.
+    /// # Errors
+    ///
+    /// `EndpInvalid` exactly where the endpoint is not live. Nothing changes then.
     pub fn delete(&mut self, local: Local) -> Result<(), Refusal>
         ensures answer { result ≡ delete_answer self.old local }
         ensures deleted { OnOk result (self.new ≡ deleted self.old local) }
@@ -143,14 +149,14 @@ impl EndpointTable {
         Ok(())
     }
 
-    /// The address of a live endpoint, or `None` where it is not live.
+    /// Returns the address of a live endpoint, or `None` where it is not live.
     pub fn find(&self, local: Local) -> Option<u32>
         ensures { result ≡ option_map (λ r. r.address) (live_at self.now local) }
     {
         self.live.find(name_in(self.domain, local))
     }
 
-    /// The live endpoint of an address, or `None` where no live endpoint has it.
+    /// Returns the live endpoint of an address, or `None` where no live endpoint has it.
     pub fn by_address(&self, addr: u32) -> Option<Local>
         ensures { result ≡ option_map (λ r. r.local) (live_with_address self.now addr) }
     {
@@ -158,7 +164,7 @@ impl EndpointTable {
         Some(record.local)
     }
 
-    /// The oldest announcement that is owed to a linked domain, or `None` where none is, or where the domain is not
+    /// Returns the oldest announcement that is owed to a linked domain, or `None` where none is, or where the domain is not
     /// linked.
     pub fn owed(&self, peer: u8) -> Option<Ns>
         ensures oldest { option_map (λ ns. (ns.name.items, ns.addr, ns.create)) result ≡ option_map (announcement_of self.now.domain) (owed_to self.now peer) }
@@ -168,8 +174,8 @@ impl EndpointTable {
         Some(announcement_of(self.domain, event))
     }
 
-    /// Notes that a linked domain was told the oldest announcement that was owed to it. A record that was in use for this
-    /// alone is free from now on.
+    /// Pays a linked domain the oldest announcement that is owed to it. A record that was in use for this alone is free from
+    /// now on.
     pub fn paid(&mut self, peer: u8)
         ensures { self.new ≡ paid_to self.old peer }
     {
@@ -222,7 +228,7 @@ fn announce(
     settle(records, events, debts);
 }
 
-/// Drops the oldest event where all linked domains were told of it, and with an end the record that was in use for it.
+/// Drops the oldest event where it was paid to all linked domains, and with an end the record that was in use for it.
 fn settle(records: &mut Vec<Record>, events: &mut VecDeque<Announced>, debts: &[Debt])
     ensures records { records.new.items ≡ settled_records records.old.items events.old.items debts.now }
     ensures events { events.new.items ≡ settled_events events.old.items debts.now }

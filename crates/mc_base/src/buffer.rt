@@ -6,7 +6,7 @@ use crate::{BUFFER_SIZE, NoMemory};
 use std::alloc::Global;
 use std::marker::Model;
 
-/// A numbered buffer of 512 bytes. It has 16 bytes of its own, since it moves by value.
+/// A numbered buffer of 512 bytes, which moves by value: the handle has 16 bytes.
 #[derive(Debug, Drop)]
 pub struct Buffer {
     number: u16,
@@ -28,7 +28,11 @@ impl Model for Buffer {
 impl Buffer {
     ghost use Rattle.mc_base.specs.Lending.{LendsBytes};
 
-    /// 512 zero bytes under this number.
+    /// Makes a buffer of 512 zero bytes with this number.
+    ///
+    /// # Errors
+    ///
+    /// `NoMemory` where an allocation fails.
     pub fn new(alloc: Global, number: u16) -> Result<Buffer, NoMemory>
         ensures number { IfOk result (λ b. b.number ≡ number) }
         ensures zeros { IfOk result (λ b. b.bytes ≡ replicate buffer_size 0) }
@@ -42,13 +46,14 @@ impl Buffer {
         Ok(Buffer { number, bytes })
     }
 
+    /// Returns the number.
     pub fn number(&self) -> u16
         ensures { result ≡ self.now.number }
     {
         self.number
     }
 
-    /// Its 512 bytes.
+    /// Lends the 512 bytes.
     pub fn bytes(&self) -> &[u8]
         ensures value { result.now ≡ self.now.bytes }
         ensures len { length result.now ≡ buffer_size }
@@ -56,7 +61,7 @@ impl Buffer {
         self.bytes.as_slice()
     }
 
-    /// Its 512 bytes, to write.
+    /// Lends the 512 bytes for writing.
     pub fn bytes_mut(&mut self) -> &mut [u8]
         ensures* writes_back { sem 𝓛 (LendsBytes self.entry result) }
         ensures value { result.now ≡ self.old.bytes }

@@ -1,6 +1,6 @@
 //! The plain words of the board: names, limits, buffers, refusals, requests, letters, announcements and faults.
 //!
-//! Everything else stands on this crate. `specs/` defines what a frame, a letter and a name announcement are.
+//! Every other crate uses this one. `specs/` defines what a frame, a letter and a name announcement are.
 #![tactic(auto)]
 
 mod announcement;

@@ -40,7 +40,7 @@ pub const MAX_ENDPOINTS: usize = 64;
 /// How many endpoints a domain ever creates at most.
 pub const MAX_ENDPOINTS_EVER: u32 = 60_000;
 
-/// How many requests stand in a domain at most.
+/// How many requests a domain holds at most.
 pub const MAX_REQUESTS: usize = 64;
 
 /// How many channels a domain ever numbers at most.

@@ -19,7 +19,7 @@ impl Model for Priority {
 }
 
 impl Priority {
-    /// The priority of this number, or `None` where there is none.
+    /// Returns the priority with this number, or `None` for a number above 3.
     pub fn new(n: u8) -> Option<Priority>
         ensures none { IsNone result ↔ (3 < n) }
         ensures value { IfSome result (λ p. p ≡ n) }
@@ -30,6 +30,7 @@ impl Priority {
         Some(Priority { number: n })
     }
 
+    /// Returns the number, 0 to 3.
     pub fn number(self) -> u8
         ensures value { result ≡ self }
         ensures range { result ≤ 3 }

@@ -1,4 +1,4 @@
-/// Want of memory. It may come from any call that allocates, at any time.
+/// Memory is out. Any call that allocates may return it, at any time.
 #[derive(Clone, Copy, Debug, PartialEq, Eq)]
 pub struct NoMemory;
 
@@ -14,7 +14,7 @@ pub struct SclSize;
 #[derive(Clone, Copy, Debug, PartialEq, Eq)]
 pub struct Full;
 
-/// No more requests can stand.
+/// 64 requests exist, and no more can.
 #[derive(Clone, Copy, Debug, PartialEq, Eq)]
 pub struct RequestLimit;
 
@@ -39,9 +39,9 @@ pub enum Refusal {
     ChanConnected,
     /// E's queue is not empty, or E has a waiting receive.
     EndpBusy,
-    /// 65,535 channel numbers were given.
+    /// All 65,535 channel numbers are used.
     ChanLimit,
-    /// 64 requests stand.
+    /// 64 requests exist.
     RequestLimit,
     /// E has no channel, or its stage is connecting.
     NotConnected,
@@ -67,7 +67,7 @@ pub enum Refusal {
     SclSize,
     /// No lent packet has this id.
     BufInvalid,
-    /// No request that stands has this id.
+    /// No request has this id.
     RequestInvalid,
     /// The request is not complete.
     Pending,

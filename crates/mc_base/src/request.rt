@@ -1,13 +1,13 @@
 use crate::{Reason, Refusal};
 
-/// The size of a received message in bytes, and how many of its bytes were given.
+/// The size of a received message in bytes, and how many of its bytes the caller got.
 #[derive(Clone, Copy, Debug, PartialEq, Eq)]
 pub struct Got {
     pub size: u32,
     pub given: u32,
 }
 
-/// A request that was given. Where a key is given again, the serials differ.
+/// The id of a request. Where a key is used again, the serials differ.
 #[derive(Clone, Copy, Debug, PartialEq, Eq)]
 pub struct RequestId {
     pub key: u32,
@@ -38,7 +38,7 @@ pub enum Done {
     Accepted,
     /// The connection was rejected.
     Rejected(Reason),
-    /// A message, whose first bytes were given.
+    /// A message, of which the caller gets the first bytes.
     Message(Got),
     /// A packet, which is lent from now on.
     Packet(PacketId),

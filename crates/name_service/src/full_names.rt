@@ -7,7 +7,7 @@ ghost use Rattle.mc_base.specs.FullName.{endpoint_named, colon, is_colon};
 
 use mc_base::{EndName, MAX_NODES};
 
-/// The endpoint whose full name this is, or `None` where it is the full name of none: `mcapi:D:N:P` with a domain from 0
+/// Returns the endpoint whose full name this is, or `None` where it is the full name of none: `mcapi:D:N:P` with a domain from 0
 /// to 255, a node from 0 to 15 and a port from 0 to 65535, each in decimal without leading zeros.
 pub fn endpoint_named(name: &[u8]) -> Option<EndName>
     ensures { result ≡ endpoint_named name.now }

@@ -37,7 +37,11 @@ impl Model for KnownNames {
 }
 
 impl KnownNames {
-    /// No names yet, with room for 64. Refuses only for want of memory.
+    /// Makes an empty map with room for 64 names.
+    ///
+    /// # Errors
+    ///
+    /// `NoMemory` where the room cannot be reserved.
     pub fn new(alloc: Global) -> Result<KnownNames, NoMemory>
         ensures { IfOk result (λ k. k ≡ []) }
     {
@@ -47,8 +51,11 @@ impl KnownNames {
         Ok(KnownNames { list })
     }
 
-    /// Learns the address of a name. A known name gets the new address. Refuses where the name is new and 64 are known;
-    /// nothing changes then.
+    /// Learns the address of a name. A known name gets the new address.
+    ///
+    /// # Errors
+    ///
+    /// `Full` where the name is new and 64 are known; nothing changes then.
     pub fn learn(&mut self, name: EndName, addr: u32) -> Result<(), Full>
         ensures full { IsErr result
             ↔ ((address_in name self.old ≡ None) × (names_limit ≤ length self.old)) }
@@ -69,7 +76,7 @@ impl KnownNames {
         Ok(())
     }
 
-    /// Forgets a name, and answers whether it was known.
+    /// Forgets a name, and returns whether it was known.
     pub fn forget(&mut self, name: EndName) -> bool
         ensures known { result ≡ is_some (address_in name self.old) }
         ensures forgotten { self.new ≡ forgotten name self.old }
@@ -84,7 +91,7 @@ impl KnownNames {
         }
     }
 
-    /// The address of a name, or `None` where it is not known.
+    /// Returns the address of a name, or `None` where it is not known.
     pub fn find(&self, name: EndName) -> Option<u32>
         ensures address { result ≡ address_in name self.now }
         ensures map { IsNameMap self.now }

@@ -6,11 +6,13 @@ use crate::name::{before_nul, is_legal, owned};
 use byteorder::{ByteOrder, LittleEndian};
 use mc_base::{NAME_SIZE, NS_SIZE, Ns, NsFault};
 
-/// The announcement in the payload of a frame to the name service, or the first fault that the payload has.
+/// Reads the announcement in the payload of a frame to the name service. The name is the bytes before the first NUL among
+/// the first 31, or all 31; any bytes may follow it in its field.
 ///
-/// Refused with `NsSize` is a payload that has not 40 bytes, with `NsFlags` one whose flags are neither 0 nor 1, and
-/// with `NsName` one whose name is empty or has a byte outside 0x20 to 0x7e. The name is the bytes before the first
-/// NUL among the first 31, or all 31; what stands after it may be any bytes.
+/// # Errors
+///
+/// The first of these: `NsSize` for a payload that has not 40 bytes, `NsFlags` for flags that are neither 0 nor 1, `NsName`
+/// for a name that is empty or has a byte outside 0x20 to 0x7e.
 pub fn read_ns(payload: &[u8]) -> Result<Ns, NsFault>
     // What is read is an announcement of these values.
     ensures sound { IfOk result (λ ns. IsNs payload.now ns.name.items ns.addr ns.create) }

@@ -25,8 +25,8 @@ pub enum Said<'a> {
     },
 }
 
-/// Reads a frame: its first fault, or where it has none its announcement, if the destination is 53, and else its
-/// letter.
+/// Reads a frame as its first fault or, where it has none, its announcement, if the destination is 53, and else its letter.
+/// The faults and their order are in docs/FORMATS.md.
 pub fn read_frame(frame: &[u8]) -> Said<'_>
     ensures { reading_of result ≡ reading frame.now }
 {
@@ -51,8 +51,8 @@ pub fn read_frame(frame: &[u8]) -> Said<'_>
     }
 }
 
-/// The first fault of a frame, or `None` where it is sound: those of the frame itself, and then those of its payload,
-/// which is a name announcement where the destination is 53, and else a letter.
+/// Returns the first fault of a frame, or `None` where it is sound: those of the frame itself, and then those of its
+/// payload, which is a name announcement where the destination is 53, and else a letter.
 pub fn fault_of(frame: &[u8]) -> Option<Fault>
     ensures { result ≡ fault frame.now }
 {

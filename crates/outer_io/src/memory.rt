@@ -33,7 +33,7 @@ impl Model for MemSource {
 }
 
 impl MemSource {
-    /// A source of these bytes. Its reads fail at the listed calls, and else move at most `step` bytes, which is 1 at least.
+    /// Makes a source of these bytes. Its reads fail at the listed calls, and else move at most `step` bytes, 1 or more.
     pub fn new(bytes: Vec<u8>, failing: Vec<u64>, step: usize) -> MemSource
         requires { 0 < step }
         ensures { result ≡ record { left = bytes.items; failing = failing.items; step = step; calls = 0; faults = 0; ends = 0 } }
@@ -125,8 +125,12 @@ impl Model for MemSink {
 }
 
 impl MemSink {
-    /// A sink with room for `room` bytes, which is reserved here. Its writes fail at the listed calls and where it is full, and
-    /// else move at most `step` bytes, which is 1 at least. Want of memory is the only refusal.
+    /// Makes a sink with room for `room` bytes, which is reserved here. Its writes fail at the listed calls and where it is
+    /// full, and else move at most `step` bytes, 1 or more.
+    ///
+    /// # Errors
+    ///
+    /// `NoMemory` where the room cannot be reserved.
     pub fn new(
         alloc: Global,
         failing: Vec<u64>,
@@ -149,7 +153,7 @@ impl MemSink {
         })
     }
 
-    /// What was written.
+    /// Returns the bytes that were written.
     pub fn written(&self) -> &[u8]
         ensures { result.now ≡ self.now.written }
     {

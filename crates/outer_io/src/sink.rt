@@ -8,20 +8,23 @@ use crate::Failed;
 
 /// Where bytes go.
 pub trait Sink {
-    /// The bytes that were written, where the sink tells them.
+    /// The bytes that were written, where the sink says.
     ghost written: { Self → Option (List ℕ) };
 
     /// How often a write has failed.
     ghost faults: { Self → ℕ };
 
-    /// How many writes were made, where the sink tells it.
+    /// How many writes were made, where the sink says.
     ghost calls: { Self → Option ℕ } = { λ _. None };
 
     /// So many bytes more are taken without a fault.
     ghost takes: { Self → ℕ → Type 0 } = { λ _ _. ⊥ };
 
-    /// Appends the first bytes of `piece`, which is not empty, one at least, and says how many. `Failed` comes where the write
-    /// failed; nothing was appended then.
+    /// Appends the first bytes of `piece`, which is not empty, and returns how many: one or more.
+    ///
+    /// # Errors
+    ///
+    /// `Failed` where the write failed; nothing was appended then.
     fn write(&mut self, piece: &[u8]) -> Result<usize, Failed>
         requires { 0 < length piece.now }
         ensures bound { IfOk result (λ n. (0 < n) × (n ≤ length piece.now)) }

@@ -9,23 +9,26 @@ use thiserror::Error;
 
 /// Bytes that come from outside.
 pub trait Source {
-    /// The bytes still to come, where the source tells them.
+    /// The bytes still to come, where the source says.
     ghost rest: { Self → Option (List ℕ) };
 
     /// How often a read has failed.
     ghost faults: { Self → ℕ };
 
-    /// How many reads were made, where the source tells it.
+    /// How many reads were made, where the source says.
     ghost calls: { Self → Option ℕ } = { λ _. None };
 
-    /// How many reads came to the end, where the source tells it.
+    /// How many reads came to the end, where the source says.
     ghost ends: { Self → Option ℕ } = { λ _. None };
 
     /// No read fails from now on.
     ghost never_fails: { Self → Type 0 } = { λ _. ⊥ };
 
-    /// Moves the next bytes into the front of `buf`, which is not empty, and says how many. Zero is the end. `Failed` comes
-    /// where the read failed; no byte is gone then.
+    /// Moves the next bytes into the front of `buf`, which is not empty, and returns how many. Zero is the end.
+    ///
+    /// # Errors
+    ///
+    /// `Failed` where the read failed; no byte is gone then.
     fn read(&mut self, buf: &mut [u8]) -> Result<usize, Failed>
         requires { 0 < length buf.old }
         ensures bound { IfOk result (λ n. n ≤ length buf.new) }
@@ -45,7 +48,7 @@ pub enum ReadFault {
     /// More bytes came than the limit. No read failed.
     #[error("more bytes came than the limit")]
     TooLong,
-    /// Want of memory. It may come at any time; no read failed.
+    /// Memory is out, which may happen at any time; no read failed.
     #[error("out of memory")]
     NoMemory,
 }
@@ -53,9 +56,13 @@ pub enum ReadFault {
 /// How many bytes are asked for at once.
 const CHUNK: usize = 65_536;
 
-/// All bytes to the end, which are at most `limit`. `Failed` comes exactly where a read failed, which is then the last,
-/// `TooLong` where more bytes came than `limit`, and `NoMemory` at want of memory. At most `limit` + 1 reads are made, and
-/// none after the end. After an error the bytes that were read are lost.
+/// Reads all bytes to the end, at most `limit`. At most `limit` + 1 reads are made, and none after the end or after one
+/// that failed.
+///
+/// # Errors
+///
+/// `Failed` where a read failed, `TooLong` where more than `limit` bytes came, `NoMemory` where memory is out. The bytes
+/// that were read are lost.
 #[tactic(auto, using(crate::proofs::Counted::one_call_more))]
 pub fn read_all<S: Source>(
     alloc: Global,

@@ -7,7 +7,7 @@ use crate::{Failed, Sink, Source};
 use std::io::{Read, Write};
 use std::marker::Model;
 
-/// A reader of std, as standard input. It tells no bytes, and counts the reads that failed.
+/// A reader of std, as standard input. Its bytes are unknown to contracts; it counts the reads that failed.
 #[derive(Drop)]
 pub struct StdSource<R: Read + Drop> {
     inner: R,
@@ -21,7 +21,7 @@ impl<R: Read + Drop> Model for StdSource<R> {
 }
 
 impl<R: Read + Drop> StdSource<R> {
-    /// A source of what the reader gives. No read has failed yet.
+    /// Makes a source of what the reader yields. No read has failed yet.
     pub fn new(inner: R) -> StdSource<R>
         ensures { result ≡ 0 }
     {
@@ -54,7 +54,8 @@ impl<R: Read + Drop> Source for StdSource<R> {
     }
 }
 
-/// A writer of std, as standard output. It tells no bytes, and counts the writes that failed or took nothing.
+/// A writer of std, as standard output. Its bytes are unknown to contracts; it counts the writes
+/// that failed or took nothing.
 #[derive(Drop)]
 pub struct StdSink<W: Write + Drop> {
     inner: W,
@@ -68,7 +69,7 @@ impl<W: Write + Drop> Model for StdSink<W> {
 }
 
 impl<W: Write + Drop> StdSink<W> {
-    /// A sink that writes to the writer. No write has failed yet.
+    /// Makes a sink that writes to the writer. No write has failed yet.
     pub fn new(inner: W) -> StdSink<W>
         ensures { result ≡ 0 }
     {

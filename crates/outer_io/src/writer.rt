@@ -12,7 +12,7 @@ const GATHERED: usize = 32_768;
 const HEX_BYTES: usize = 64;
 
 /// A sink that a text is put to piece by piece. Pieces are gathered and written together. After a failure nothing more
-/// is written, so that only the end is tested.
+/// is written, and `finish` reports it.
 #[derive(Drop)]
 pub struct Writer<'a, K: Sink> {
     sink: &'a mut K,
@@ -21,7 +21,7 @@ pub struct Writer<'a, K: Sink> {
 }
 
 impl<'a, K: Sink> Writer<'a, K> {
-    /// A writer to this sink, with nothing gathered and no failure.
+    /// Makes a writer to this sink, with nothing gathered and no failure.
     pub fn new(sink: &'a mut K) -> Writer<'a, K>
         ensures reference { result.sink.ghost_name ≡ sink.entry.ghost_name }
         ensures sink { result.sink.now ≡ sink.old }
@@ -140,7 +140,11 @@ impl<'a, K: Sink> Writer<'a, K> {
         }
     }
 
-    /// Writes what is still gathered. `Failed` comes where this failed, or an earlier write.
+    /// Writes what is still gathered.
+    ///
+    /// # Errors
+    ///
+    /// `Failed` where this write failed, or an earlier one.
     pub fn finish(self) -> Result<(), Failed>
         ensures { IsFinished K.Sink self.entry self.exit.0.now result }
     {

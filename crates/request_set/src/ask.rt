@@ -12,7 +12,7 @@ pub enum Ask {
     Lookup(EndName),
     /// The answer to the connect of this channel number.
     Connect(u32),
-    /// A message to this endpoint, of which so many bytes are given at most.
+    /// A message to this endpoint, of which the caller gets at most so many bytes.
     Message(Local, u32),
     /// A packet to this endpoint.
     Packet(Local),
@@ -27,7 +27,7 @@ pub enum Complete {
     Accepted,
     /// The connection was rejected.
     Rejected(Reason),
-    /// A message came in this buffer, of which so many bytes are given at most.
+    /// A message came in this buffer, of which the caller gets at most so many bytes.
     Message(Slot, u32),
     /// A packet came in this buffer.
     Packet(Slot),

@@ -1,4 +1,4 @@
-//! The requests that stand.
+//! The requests of a domain.
 
 ghost use Rattle.std.specs.Prelude.{◌≡◌, ◌≢◌, ◌≤◌, ◌+◌, ◌↔◌, ◌&&◌, ◌==◌, IsErr, IsSome, IfOk, IfSome, OnOk, OnErr, Some, is_none, length, find, position, option_map};
 ghost use Rattle.std.specs.List.{AllByRecursion};
@@ -34,11 +34,11 @@ impl Request {
     }
 }
 
-/// The requests of a domain that stand: at most 64, each pending, or complete and not yet tested off.
+/// The requests of a domain: at most 64, each pending, or complete and not yet tested off.
 #[derive(Debug, Drop)]
 pub struct RequestSet {
     slab: Slab<Request>,
-    // The keys of the requests, in the order in which they were given.
+    // The keys of the requests, in the order in which they were added.
     order: ArrayVec<u32, MAX_REQUESTS>,
     // The serial of the next request.
     given: u64,
@@ -57,7 +57,11 @@ impl Model for RequestSet {
 }
 
 impl RequestSet {
-    /// No requests yet, with room for 64. Refuses only for want of memory.
+    /// Makes an empty set with room for 64 requests.
+    ///
+    /// # Errors
+    ///
+    /// `NoMemory` where the room cannot be reserved.
     pub fn new(alloc: Global) -> Result<RequestSet, NoMemory>
         ensures { IfOk result (λ s. s ≡ no_requests) }
     {
@@ -75,8 +79,11 @@ impl RequestSet {
         })
     }
 
-    /// Adds a request, pending, and answers its id. Its serial is the number of requests added before, modulo
-    /// 2^64. Refuses where 64 stand.
+    /// Adds a request, pending, and returns its id. Its serial is the number of requests added before, modulo 2^64.
+    ///
+    /// # Errors
+    ///
+    /// `RequestLimit` where 64 requests exist; nothing changes then.
     pub fn add(&mut self, ask: Ask) -> Result<RequestId, RequestLimit>
         ensures limit { IsErr result ↔ (request_limit ≤ length self.old.standing) }
         ensures refused { OnErr result (self.new ≡ self.old) }
@@ -101,8 +108,11 @@ impl RequestSet {
         Ok(RequestId { key, serial })
     }
 
-    /// Ends a request that is complete, and answers how. Refuses with `RequestInvalid` where no request that
-    /// stands has the id, and with `Pending` where it is not complete.
+    /// Ends a request that is complete, and returns how.
+    ///
+    /// # Errors
+    ///
+    /// `RequestInvalid` where no request has the id, `Pending` where it is not complete; nothing changes then.
     pub fn test(&mut self, id: RequestId) -> Result<Complete, Refusal>
         ensures answer { result ≡ tested (progress_of self.old id) }
         ensures ended { OnOk result (self.new ≡ without_request self.old id) }
@@ -115,8 +125,11 @@ impl RequestSet {
         Ok(complete)
     }
 
-    /// Ends a request that is pending. Refuses with `RequestInvalid` where no request that stands has the id, and
-    /// with `TooLate` where it is complete.
+    /// Ends a request that is pending.
+    ///
+    /// # Errors
+    ///
+    /// `RequestInvalid` where no request has the id, `TooLate` where it is complete; nothing changes then.
     pub fn cancel(&mut self, id: RequestId) -> Result<(), Refusal>
         ensures answer { result ≡ cancelled (progress_of self.old id) }
         ensures ended { OnOk result (self.new ≡ without_request self.old id) }
@@ -131,7 +144,7 @@ impl RequestSet {
         Ok(())
     }
 
-    /// Makes a pending request complete. It stands until it is tested.
+    /// Makes a pending request complete. It is kept until it is tested.
     pub fn complete(&mut self, id: RequestId, with: Complete)
         requires { IsPending self.old id }
         ensures { self.new ≡ with_complete self.old id with }
@@ -141,7 +154,7 @@ impl RequestSet {
         }
     }
 
-    /// The oldest pending receive of an endpoint, or `None` where none waits there.
+    /// Returns the oldest pending receive of an endpoint, or `None` where none waits there.
     pub fn waiting(&self, local: Local) -> Option<RequestId>
         ensures oldest { result ≡ oldest_waiting self.now local }
         ensures pending { IfSome result (λ id. IsPending self.now id) }
@@ -149,14 +162,14 @@ impl RequestSet {
         oldest_of(&self.slab, &self.order, local)
     }
 
-    /// What a request asks for, or `None` where no request that stands has the id.
+    /// Returns what a request asks for, or `None` where no request has the id.
     pub fn asked(&self, id: RequestId) -> Option<Ask>
         ensures { result ≡ option_map (λ r. r.ask) (request_of self.now id) }
     {
         Some(self.kept(id)?.ask)
     }
 
-    /// The request at a place, counted from 0 in the order in which they were given, and how it is complete, or
+    /// Returns the request at a place, counted from 0 in the order in which they were added, and how it is complete, or
     /// `None` past the end.
     pub fn listed(&self, at: u32) -> Option<(RequestId, Ask, Option<Complete>)>
         ensures place { result ≡ listed self.now at }

@@ -13,10 +13,13 @@ pub struct Frame<'a> {
     pub payload: &'a [u8],
 }
 
-/// The frame in the bytes that a buffer carries, or the first fault that they have. The payload is not copied.
+/// Reads the frame in the bytes that a buffer carries. The payload is not copied. Bytes after the payload, and those of
+/// reserved and flags, may be any.
 ///
-/// Refused with `FrameShort` are fewer than 16 bytes, with `FrameLong` more than 512, and with `HeaderLen` a header
-/// whose length is more than what follows it. Bytes after the payload, and those of reserved and flags, may be any.
+/// # Errors
+///
+/// The first of these: `FrameShort` for fewer than 16 bytes, `FrameLong` for more than 512, `HeaderLen` for a header
+/// whose length is more than what follows it.
 pub fn decode(frame: &[u8]) -> Result<Frame<'_>, FrameFault>
     // What is read is a frame of these values.
     ensures sound { IfOk result (λ f. IsFrame frame.now f.src f.dst f.payload.now) }

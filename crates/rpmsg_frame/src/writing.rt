@@ -17,7 +17,7 @@ pub fn write_header(src: u32, dst: u32, len: u16, out: &mut [u8])
     LittleEndian::write_u16(&mut out[14..], 0);
 }
 
-/// Writes the frame with this payload, of at most 496 bytes, and answers its length. Reserved and flags are 0, and
+/// Writes the frame with this payload, of at most 496 bytes, and returns its length. Reserved and flags are 0, and
 /// the rest of `out` stays.
 pub fn encode_into(src: u32, dst: u32, payload: &[u8], out: &mut [u8]) -> usize
     requires payload_fits { length payload.now ≤ 496 }
