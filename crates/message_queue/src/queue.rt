@@ -33,7 +33,11 @@ impl Model for MessageQueue {
 }
 
 impl MessageQueue {
-    /// An empty queue with room for so many messages. The only refusal is want of memory.
+    /// Makes an empty queue with room for so many messages.
+    ///
+    /// # Errors
+    ///
+    /// `NoMemory` where the room cannot be reserved.
     pub fn new(alloc: Global, slots: u32) -> Result<MessageQueue, NoMemory>
         ensures { IfOk result (λ q. q ≡ empty_queue slots) }
     {
@@ -46,7 +50,7 @@ impl MessageQueue {
         })
     }
 
-    /// Queues a message last. Fewer have to wait than the queue has room for.
+    /// Queues a message last. The queue must not be full.
     pub fn push(&mut self, slot: Slot, priority: Priority)
         requires room { length self.old.waiting < self.old.room }
         ensures last { self.new ≡ pushed self.old (waiting slot priority) }
@@ -79,7 +83,7 @@ impl MessageQueue {
         Some(entry.slot)
     }
 
-    /// The oldest message of any priority, which stays. `None` exactly where none waits.
+    /// Returns the oldest message of any priority, which stays, or `None` exactly where none waits.
     pub fn front(&self) -> Option<Slot>
         ensures none { IsNone result ↔ (self.now.waiting ≡ []) }
         ensures oldest { result ≡ option_map (λ w. w.slot) (oldest self.now.waiting) }
@@ -88,7 +92,7 @@ impl MessageQueue {
         Some(entry.slot)
     }
 
-    /// How many messages wait. They are never more than the queue has room for.
+    /// Counts the messages that wait, never more than the queue has room for.
     pub fn len(&self) -> u32
         ensures count { result ≡ length self.now.waiting }
         ensures within { result ≤ self.now.room }
@@ -96,7 +100,7 @@ impl MessageQueue {
         self.entries.len() as u32
     }
 
-    /// Whether no message waits.
+    /// Returns whether no message waits.
     pub fn is_empty(&self) -> bool
         ensures { result ≡ (length self.now.waiting == 0) }
     {
