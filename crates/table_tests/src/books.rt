@@ -295,3 +295,33 @@ fn a_queued_buffer_is_withdrawn(rt: HostRuntime) {
         assert!(rt; matches!(withdraws_last(rt.alloc(), first), Ok(true)));
     }
 }
+
+/// Lends all 256 buffers of the last of eight peers, and tells whether each is whole when it is released.
+fn are_all_lent(alloc: Global) -> Result<bool, NoMemory> {
+    let mut book = BufferBook::new(alloc, &LARGEST)?;
+    let ids = lend_first(alloc, &mut book, 7, 256)?;
+    let lent = holds(&book, 7, 0, 256) && holds(&book, 0, 0, 0);
+    for (number, id) in ids.iter().enumerate() {
+        if !gives_back(&mut book, *id, number) {
+            return Ok(false);
+        }
+    }
+    Ok(lent && ids.len() == 256 && holds(&book, 7, 0, 0))
+}
+
+/// Eight peers, each with as many buffers as a ring or a pool has at most.
+const LARGEST: [(u8, u32); 8] = [
+    (0, 256),
+    (1, 256),
+    (2, 256),
+    (3, 256),
+    (4, 256),
+    (5, 256),
+    (6, 256),
+    (7, 256),
+];
+
+#[test]
+fn the_largest_book_lends_all_of_a_peer(rt: HostRuntime) {
+    assert!(rt; matches!(are_all_lent(rt.alloc()), Ok(true)));
+}
