@@ -34,4 +34,4 @@ pub use link::Link;
 pub use mc_journal::{Answer, Entry, Journal, Told};
 pub use peer::Peer;
 pub use peer_lane::PeerLane;
-pub use threads::{domain_may_cross_threads, may_cross_threads};
+pub use threads::{domain_may_cross_threads, domain_may_move, may_cross_threads};

@@ -94,7 +94,7 @@ impl Feed {
     }
 
     /// The link to domain 1.
-    fn into_link(self, alloc: Global) -> Result<Link<AnySend, AnyRecv>, Fail>
+    fn into_link(self, alloc: Global) -> Result<Link<AnySend<'static>, AnyRecv<'static>>, Fail>
         ensures peer { IfOk result (λ l. l.peer ≡ 1) }
         ensures open { IfOk result (IsOpenLink any_sender.size_of_any any_sender.free_of_any any_receiver.size_of_any any_receiver.shown_of_any any_receiver.out_of_any) }
     {
@@ -111,7 +111,7 @@ impl Feed {
 }
 
 /// Domain 0, linked to domain 1, from which these frames have come.
-fn fed(alloc: Global, rows: &[Row]) -> Result<Domain<AnySend, AnyRecv>, Fail> {
+fn fed(alloc: Global, rows: &[Row]) -> Result<Domain<AnySend<'static>, AnyRecv<'static>>, Fail> {
     let Ok(mut feed) = Feed::new(alloc) else {
         return Err("no lane".into());
     };
@@ -126,7 +126,7 @@ fn fed(alloc: Global, rows: &[Row]) -> Result<Domain<AnySend, AnyRecv>, Fail> {
 #[derive(Drop)]
 struct Noted {
     journal: Journal,
-    domain: Domain<AnySend, AnyRecv>,
+    domain: Domain<AnySend<'static>, AnyRecv<'static>>,
 }
 
 impl Noted {
