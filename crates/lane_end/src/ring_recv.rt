@@ -58,8 +58,9 @@ impl<'a, H: RingHalf> RecvEnd for RingRecv<'a, H> {
     ghost same_size = { RingReceives-size };
 
     fn look(&mut self) -> u32 {
-        self.shown = self.half.look_once(self.on);
-        self.shown
+        let shown = self.half.look_once(self.on);
+        self.shown = shown;
+        shown
     }
 
     fn take(&mut self) -> (Buffer, u32) {

@@ -1,7 +1,8 @@
-ghost use Rattle.std.specs.Prelude.{List};
-ghost use Rattle.lane_end.specs.SendMoves.{SendMove};
-ghost use Rattle.lane_end.specs.ReceiveMoves.{ReceiveMove};
+//! Plain lanes, and lanes to oneself.
 
+use crate::deeds::{
+    AT_ONCE, Deed, Lane, Row, assert_rows, long_frame, looks, looks_back, puts, takes, takes_two,
+};
 use lane_end::{
     AnyRecv, AnySend, LaneFault, LoopLane, PlainRecv, PlainSend, RecvEnd, SendEnd,
     may_cross_threads, plain_lane,
@@ -12,75 +13,8 @@ use std::test::Fail;
 
 mod pair;
 
+use Deed::{Look, LookBack, Put, PutLong, Shuttle, Take, TakeLong, TakeTwo};
 use pair::Pair;
-
-/// What is done with a lane.
-#[derive(Clone, Copy)]
-pub enum Deed {
-    /// Puts a frame, where a buffer is free: 1 where one was.
-    Put(&'static [u8]),
-    /// The same with the long frame.
-    PutLong,
-    /// Looks, takes the oldest frame, and gives its buffer back: 1 where the frame is this one.
-    Take(&'static [u8]),
-    /// The same with the long frame.
-    TakeLong,
-    /// Takes two frames, and gives the later one's buffer back first: ten times the number of the first buffer, and that of the
-    /// second.
-    TakeTwo,
-    /// Looks at what came back: how many buffers.
-    LookBack,
-    /// Shuttles what was put and given back.
-    Shuttle,
-}
-
-use Deed::{LookBack, Put, PutLong, Shuttle, Take, TakeLong, TakeTwo};
-
-/// A deed, and what comes of it.
-type Row = (Deed, u32);
-
-fn puts<S: SendEnd>(end: &mut S, frame: &[u8]) -> u32
-    ensures { (moves : List SendMove) × S.Moved end.old moves end.new }
-{
-    if end.free_len() == 0 || frame.is_empty() || frame.len() > 512 {
-        return 0;
-    }
-    end.put(frame);
-    1
-}
-
-fn looks_back<S: SendEnd>(end: &mut S) -> u32
-    ensures { (moves : List SendMove) × S.Moved end.old moves end.new }
-{
-    end.look()
-}
-
-fn takes<R: RecvEnd>(end: &mut R, frame: &[u8]) -> u32
-    ensures { (moves : List ReceiveMove) × R.Moved end.old moves end.new }
-{
-    if end.look() == 0 {
-        return 0;
-    }
-    let (buffer, len) = end.take();
-    let (taken, _) = buffer.bytes().split_at(len as usize);
-    let same = taken == frame;
-    end.give_back(buffer);
-    u32::from(same)
-}
-
-fn takes_two<R: RecvEnd>(end: &mut R) -> u32
-    ensures { (moves : List ReceiveMove) × R.Moved end.old moves end.new }
-{
-    if end.look() < 2 {
-        return 0;
-    }
-    let (first, _) = end.take();
-    let (second, _) = end.take();
-    let numbers = u32::from(first.number()) * 10 + u32::from(second.number());
-    end.give_back(second);
-    end.give_back(first);
-    numbers
-}
 
 // Takes the oldest frame, and sends it on, where a buffer is free: how many bytes it has.
 fn sends_on<S: SendEnd, R: RecvEnd>(from: &mut R, to: &mut S) -> u32 {
@@ -97,15 +31,6 @@ fn sends_on<S: SendEnd, R: RecvEnd>(from: &mut R, to: &mut S) -> u32 {
 /// Whether the one frame, of three bytes, is sent on once.
 fn sends_on_once<S: SendEnd, R: RecvEnd>(from: &mut R, to: &mut S) -> bool {
     sends_on(from, to) == 3 && sends_on(from, to) == 0
-}
-
-// 512 bytes, few of which are the same.
-fn long_frame() -> [u8; 512] {
-    let mut frame = [0; 512];
-    for i in 0..512 {
-        frame[i] = (i % 251) as u8;
-    }
-    frame
 }
 
 /// How many buffers are free at the sender of a new plain lane, and how many frames a look shows at its receiver.
@@ -140,12 +65,6 @@ fn sizes_from_1_to_256_are_made(rt: HostRuntime) {
     }
     for size in [1, 2, 256] {
         assert!(rt; is_size(rt.alloc(), size), "{size}");
-    }
-}
-
-fn assert_rows(rt: &impl Abort, lane: &mut Pair, rows: &[Row]) {
-    for (i, (deed, due)) in rows.iter().enumerate() {
-        assert!(rt; lane.does(*deed) == *due, "row {i}");
     }
 }
 
@@ -218,53 +137,26 @@ fn buffers_come_back_as_they_were_given(rt: HostRuntime) -> Result<(), Fail> {
     assert_deeds(&rt, rt.alloc(), IN_REVERSE)
 }
 
-/// A deed on a lane to oneself, which needs no shuttle.
-fn does_alone(lane: &mut LoopLane, deed: Deed) -> u32 {
-    match deed {
-        Put(frame) => puts(lane, frame),
-        PutLong => puts(lane, &long_frame()),
-        Take(frame) => takes(lane, frame),
-        TakeLong => takes(lane, &long_frame()),
-        TakeTwo => takes_two(lane),
-        LookBack => looks_back(lane),
-        Shuttle => 0,
-    }
-}
-
-const TO_ONESELF: &[Row] = &[
-    (Take(b"a"), 0),
-    (Put(b"a"), 1),
-    (PutLong, 1),
-    (Put(b"c"), 0),
-    (LookBack, 0),
-    (Take(b"a"), 1),
-    (Put(b"c"), 0),
-    (LookBack, 1),
-    (Put(b"c"), 1),
-    (TakeLong, 1),
-    (Take(b"c"), 1),
-    (LookBack, 2),
-    (Put(b"a"), 1),
-    (Put(b"b"), 1),
-    (TakeTwo, 10),
-    (LookBack, 2),
-    (Put(b"a"), 1),
-    (Put(b"b"), 1),
-    (TakeTwo, 1),
-    (LookBack, 2),
-    (TakeTwo, 0),
-];
-
-fn assert_alone(rt: &impl Abort, lane: &mut LoopLane, rows: &[Row]) {
-    for (i, (deed, due)) in rows.iter().enumerate() {
-        assert!(rt; does_alone(lane, *deed) == *due, "row {i}");
+/// A lane to oneself needs no shuttle.
+impl Lane for LoopLane {
+    fn does(&mut self, deed: Deed) -> u32 {
+        match deed {
+            Put(frame) => puts(self, frame),
+            PutLong => puts(self, &long_frame()),
+            Take(frame) => takes(self, frame),
+            TakeLong => takes(self, &long_frame()),
+            TakeTwo => takes_two(self),
+            Look => looks(self),
+            LookBack => looks_back(self),
+            Shuttle => 0,
+        }
     }
 }
 
 #[test]
 fn a_lane_to_oneself_does_the_same(rt: HostRuntime) -> Result<(), Fail> {
     let mut lane = LoopLane::new(rt.alloc(), 2)?;
-    assert_alone(&rt, &mut lane, TO_ONESELF);
+    assert_rows(&rt, &mut lane, AT_ONCE);
     Ok(())
 }
 
@@ -299,8 +191,8 @@ fn frames_are_sent_on_over_ends_of_any_kind(rt: HostRuntime) -> Result<(), Fail>
 
 // Whether one frame is sent on from one lane to another.
 fn sends_on_alone(from: &mut LoopLane, to: &mut LoopLane) -> bool {
-    does_alone(from, Put(b"abc"));
-    sends_on_once(from, to) && does_alone(to, Take(b"abc")) == 1
+    from.does(Put(b"abc"));
+    sends_on_once(from, to) && to.does(Take(b"abc")) == 1
 }
 
 #[test]

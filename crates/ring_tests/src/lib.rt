@@ -1,8 +1,6 @@
-//! Tests of rings and lanes by their public calls, in a crate of their own so that each crate is proved once.
+//! Tests of the words of a ring and of rings by their public calls, in a crate of their own so that each crate is proved once.
 #![tactic(auto)]
 
-#[cfg(test)]
-mod lanes;
 #[cfg(test)]
 mod meetings;
 #[cfg(test)]

@@ -1,6 +1,6 @@
 ghost use Rattle.lane_end.specs.PlainLane.{AreOneLane};
 
-use super::{Deed, long_frame, looks_back, puts, takes, takes_two};
+use crate::deeds::{Deed, Lane, long_frame, looks, looks_back, puts, takes, takes_two};
 use lane_end::{LaneFault, PlainRecv, PlainSend, ends_stay_one_lane, plain_lane, shuttle};
 use std::alloc::Global;
 
@@ -20,22 +20,6 @@ impl Pair {
         }
     }
 
-    /// Does a deed, and answers what comes of it.
-    pub fn does(&mut self, deed: Deed) -> u32 {
-        match deed {
-            Deed::Put(frame) => self.puts(frame),
-            Deed::PutLong => self.puts(&long_frame()),
-            Deed::Take(frame) => self.takes(frame),
-            Deed::TakeLong => self.takes(&long_frame()),
-            Deed::TakeTwo => self.takes_two(),
-            Deed::LookBack => self.looks_back(),
-            Deed::Shuttle => {
-                shuttle(&mut self.send, &mut self.recv);
-                0
-            }
-        }
-    }
-
     fn puts(&mut self, frame: &[u8]) -> u32 {
         ends_stay_one_lane();
         puts(&mut self.send, frame)
@@ -46,6 +30,11 @@ impl Pair {
         looks_back(&mut self.send)
     }
 
+    fn looks(&mut self) -> u32 {
+        ends_stay_one_lane();
+        looks(&mut self.recv)
+    }
+
     fn takes(&mut self, frame: &[u8]) -> u32 {
         ends_stay_one_lane();
         takes(&mut self.recv, frame)
@@ -54,5 +43,23 @@ impl Pair {
     fn takes_two(&mut self) -> u32 {
         ends_stay_one_lane();
         takes_two(&mut self.recv)
+    }
+}
+
+impl Lane for Pair {
+    fn does(&mut self, deed: Deed) -> u32 {
+        match deed {
+            Deed::Put(frame) => self.puts(frame),
+            Deed::PutLong => self.puts(&long_frame()),
+            Deed::Take(frame) => self.takes(frame),
+            Deed::TakeLong => self.takes(&long_frame()),
+            Deed::TakeTwo => self.takes_two(),
+            Deed::Look => self.looks(),
+            Deed::LookBack => self.looks_back(),
+            Deed::Shuttle => {
+                shuttle(&mut self.send, &mut self.recv);
+                0
+            }
+        }
     }
 }

@@ -1,6 +1,6 @@
 use Rattle.std.proofs.Common.{[], ◌∷◌, ◌++◌, take}
 use Rattle.lane_end.specs.ReceiveMoves.{Looked, Took, Gave}
-use Rattle.ring_tests.proofs.lanes.takes.Goals as goal
+use Rattle.lane_tests.proofs.deeds.takes.Goals as goal
 
 pub returns : goal.returns
 returns g c =

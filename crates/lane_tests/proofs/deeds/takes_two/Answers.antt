@@ -4,7 +4,7 @@ use Rattle.lane_end.specs.Numbers.{often}
 use Rattle.lane_end.specs.ReceiveMoves.{Looked, Took, Gave}
 use Rattle.lane_end.specs.ReceiverContract.{without}
 use Rattle.lane_end.proofs.CountLemmas.{tick-same, often-append, often-without, contained-often}
-use Rattle.ring_tests.proofs.lanes.takes_two.Goals as goal
+use Rattle.lane_tests.proofs.deeds.takes_two.Goals as goal
 
 -- the number taken first is out after the one taken second is given back
 still-out : (before one two left : List ℕ) (a b : ℕ) → one ≡ before ++ a ∷ [] → two ≡ one ++ b ∷ [] → left ≡ without b two → Contains left a

@@ -1,5 +1,5 @@
 use Rattle.std.proofs.Common.{refl, []}
-use Rattle.ring_tests.proofs.lanes.pair.Pair.puts.Goals as goal
+use Rattle.lane_tests.proofs.plain.pair.Pair.puts.Goals as goal
 
 pub invariant_of-self : goal.invariant_of-self
 invariant_of-self c = let lane = c.args.self.now in record {

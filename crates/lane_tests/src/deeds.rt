@@ -1,0 +1,135 @@
+//! What is done with lanes of every kind, and what comes of it.
+ghost use Rattle.std.specs.Prelude.{List};
+ghost use Rattle.lane_end.specs.SendMoves.{SendMove};
+ghost use Rattle.lane_end.specs.ReceiveMoves.{ReceiveMove};
+
+use lane_end::{RecvEnd, SendEnd};
+use std::process::Abort;
+
+/// What is done with a lane.
+#[derive(Clone, Copy)]
+pub enum Deed {
+    /// Puts a frame, where a buffer is free: 1 where one was.
+    Put(&'static [u8]),
+    /// The same with the long frame.
+    PutLong,
+    /// Looks, takes the oldest frame, and gives its buffer back: 1 where the frame is this one.
+    Take(&'static [u8]),
+    /// The same with the long frame.
+    TakeLong,
+    /// Takes two frames, and gives the later one's buffer back first: ten times the number of the first buffer, and that of the
+    /// second.
+    TakeTwo,
+    /// Looks at what came: how many frames are shown and not taken.
+    Look,
+    /// Looks at what came back: how many buffers.
+    LookBack,
+    /// Shuttles what was put and given back, or lets the ends meet.
+    Shuttle,
+}
+
+use Deed::{LookBack, Put, PutLong, Take, TakeLong, TakeTwo};
+
+/// A deed, and what comes of it.
+pub type Row = (Deed, u32);
+
+/// Both ends of a lane.
+pub trait Lane {
+    /// Does a deed, and answers what comes of it.
+    fn does(&mut self, deed: Deed) -> u32;
+}
+
+/// Asserts what comes of each deed.
+pub fn assert_rows<L: Lane>(rt: &impl Abort, lane: &mut L, rows: &[Row]) {
+    for (i, (deed, due)) in rows.iter().enumerate() {
+        assert!(rt; lane.does(*deed) == *due, "row {i}");
+    }
+}
+
+/// Puts a frame, where a buffer is free: 1 where one was.
+pub fn puts<S: SendEnd>(end: &mut S, frame: &[u8]) -> u32
+    ensures { (moves : List SendMove) × S.Moved end.old moves end.new }
+{
+    if end.free_len() == 0 || frame.is_empty() || frame.len() > 512 {
+        return 0;
+    }
+    end.put(frame);
+    1
+}
+
+/// Looks at what came back.
+pub fn looks_back<S: SendEnd>(end: &mut S) -> u32
+    ensures { (moves : List SendMove) × S.Moved end.old moves end.new }
+{
+    end.look()
+}
+
+/// Looks at what came.
+pub fn looks<R: RecvEnd>(end: &mut R) -> u32
+    ensures { (moves : List ReceiveMove) × R.Moved end.old moves end.new }
+{
+    end.look()
+}
+
+/// Looks, takes the oldest frame, and gives its buffer back: 1 where the frame is this one.
+pub fn takes<R: RecvEnd>(end: &mut R, frame: &[u8]) -> u32
+    ensures { (moves : List ReceiveMove) × R.Moved end.old moves end.new }
+{
+    if end.look() == 0 {
+        return 0;
+    }
+    let (buffer, len) = end.take();
+    let (taken, _) = buffer.bytes().split_at(len as usize);
+    let same = taken == frame;
+    end.give_back(buffer);
+    u32::from(same)
+}
+
+/// Takes two frames, and gives the later one's buffer back first.
+pub fn takes_two<R: RecvEnd>(end: &mut R) -> u32
+    ensures { (moves : List ReceiveMove) × R.Moved end.old moves end.new }
+{
+    if end.look() < 2 {
+        return 0;
+    }
+    let (first, _) = end.take();
+    let (second, _) = end.take();
+    let numbers = u32::from(first.number()) * 10 + u32::from(second.number());
+    end.give_back(second);
+    end.give_back(first);
+    numbers
+}
+
+/// 512 bytes, few of which are the same.
+pub fn long_frame() -> [u8; 512] {
+    let mut frame = [0; 512];
+    for i in 0..512 {
+        frame[i] = (i % 251) as u8;
+    }
+    frame
+}
+
+/// On a lane of two buffers whose looks show all that stands.
+pub const AT_ONCE: &[Row] = &[
+    (Take(b"a"), 0),
+    (Put(b"a"), 1),
+    (PutLong, 1),
+    (Put(b"c"), 0),
+    (LookBack, 0),
+    (Take(b"a"), 1),
+    (Put(b"c"), 0),
+    (LookBack, 1),
+    (Put(b"c"), 1),
+    (TakeLong, 1),
+    (Take(b"c"), 1),
+    (LookBack, 2),
+    (Put(b"a"), 1),
+    (Put(b"b"), 1),
+    (TakeTwo, 10),
+    (LookBack, 2),
+    (Put(b"a"), 1),
+    (Put(b"b"), 1),
+    (TakeTwo, 1),
+    (LookBack, 2),
+    (TakeTwo, 0),
+];
