@@ -1,39 +1,28 @@
 -- A request more, which holds no message.
-use Rattle.std.proofs.Common.{◌≡◌, ◌≢◌, ℕ, zero, suc, ◌+◌, ◌<◌, List, [], ◌∷◌, ◌++◌, length, map, Option, Some, None, refl, sym, ap, ◌∙◌, subst, arith}
+use Rattle.std.proofs.Common.{◌≡◌, ◌≢◌, ℕ, zero, suc, ◌+◌, ◌<◌, List, [], ◌∷◌, ◌++◌, length, Option, sym, ap, ◌∙◌, subst, arith}
 use Rattle.std.specs.Prelude.{Contains, option_map, ◌%◌, ◌^◌}
 use Rattle.std.specs.List.{AllByRecursion}
 use Rattle.std.proofs.lemmas.List.{append-nil, map_push}
-use Rattle.mc_base.specs.declared.name.EndName.{EndName}
-use Rattle.mc_base.specs.declared.refusal.Refusal.{Refusal}
 use Rattle.mc_base.specs.declared.request.RequestId.{RequestId}
 use Rattle.mc_base.specs.declared.request.Slot.{Slot}
-use Rattle.board_model.specs.DomainCall.{DomainCall, lookup_of}
-use Rattle.board_model.specs.Journal.{tells}
-use Rattle.board_model.specs.Lists.{without}
 use Rattle.board_model.specs.State as state
 use Rattle.board_model.specs.State.{DomainState, Item, Outcome, has_address, name_of}
-use Rattle.board_model.specs.Answer.{address_of, refusal, unless_refused}
-use Rattle.board_model.specs.Effect.{success_effect, with_request}
+use Rattle.board_model.specs.Effect.{with_request}
 use Rattle.buffer_book.specs.Book.{Book}
 use Rattle.endpoint_table.specs.Table as endpoint_table
 use Rattle.request_set.specs.declared.ask.Ask.{Ask}
-use Rattle.request_set.specs.declared.ask.Ask.TheVariants as ask
 use Rattle.request_set.specs.declared.ask.Complete.{Complete}
 use Rattle.request_set.specs.Requests.{Requests, Standing, keys}
 use Rattle.domain_core.specs.declared.peer.Peer.{Peer}
-use Rattle.domain_core.specs.Calls.{Does}
-use Rattle.domain_core.specs.DomainView.{DomainView, domain_in}
 use Rattle.domain_core.specs.InBook.{asked_in, outcome_in, request_in, requests_in}
 use Rattle.domain_core.specs.InPlaces.{AreInPlaces, EachInPlace, slots_of}
 use Rattle.domain_core.specs.InRequests.{IsReceive, handed_slots, slots_in}
-use Rattle.domain_core.specs.LaneMoves.{LaneMove}
 use Rattle.domain_core.specs.Out.{Out}
 use Rattle.domain_core.specs.Peers.{EndsView, state_in}
 use Rattle.domain_core.specs.Records.{Records, all_waiting}
 use Rattle.domain_core.specs.Sound.{AreSound, out_at}
-use Rattle.domain_core.proofs.Beginning.{keys-of_ids, last-ids, last-receives, new_standing, with_last}
-use Rattle.domain_core.proofs.CallLemmas.{quiet-moved}
-use Rattle.domain_core.proofs.Calling.{answer-done, puts-nothing}
+use Rattle.domain_core.specs.Steps.{with_last}
+use Rattle.domain_core.proofs.Beginning.{last-receives, new_standing}
 use Rattle.domain_core.proofs.PeerPlaces.{All-from}
 use Rattle.domain_core.proofs.Slots.{slots}
 
@@ -82,36 +71,8 @@ module _ {L : Type 0} (v : EndsView L) (b : Book) (r : Records) (q : Requests) (
         given = sound.given;
       }
 
-  asked-state : id.serial ≡ q.given → state_in v b r q' t ps ≡ with_request s (asked_in a) (option_map (outcome_in b) o)
+  pub asked-state : id.serial ≡ q.given → state_in v b r q' t ps ≡ with_request s (asked_in a) (option_map (outcome_in b) o)
   asked-state serial =
       let given = (q.given + 1) % 2 ^ 64 in
       ap (λ (rs : List state.Request). record s { requests = rs; requests_given = given }) (map_push (request_in b) q.standing (new_standing id a o))
       ∙ ap (λ (n : ℕ). record s { requests = requests_in b q.standing ++ record { serial = n; asked = asked_in a; outcome = option_map (outcome_in b) o } ∷ []; requests_given = given }) serial
-
--- a lookup was begun, which is complete with the address where one is known
-pub does-lookup : {L : Type 0} (Moved : L → List LaneMove → L → Type 0) (m-none : (l : L) → Moved l [] l) (v : EndsView L) (b : Book) (r : Records) (q : Requests) (t : endpoint_table.Table) (ps : List (Peer L)) (id : RequestId) (name : EndName) (o : Option Complete) (x : DomainView L)
-    → domain_in v b r q t ps ≡ x
-    → refusal (state_in v b r q t ps) 0 (lookup_of name) ≡ None → option_map (outcome_in b) o ≡ option_map has_address (address_of (state_in v b r q t ps) name)
-    → id.serial ≡ q.given → AllByRecursion (λ key. key ≢ id.key) (keys q) → id.key ≢ 4294967295
-    → Does Moved 0 (lookup_of name) x (domain_in v b r (with_last q id (ask.Lookup name) o) t ps) (tells id.serial) (Some id)
-does-lookup {L} Moved m-none v b r q t ps id name o x is unrefused outcome serial fresh real =
-    let call : DomainCall = lookup_of name in
-    let s = state_in v b r q t ps in
-    let q' = with_last q id (ask.Lookup name) o in
-    let ids = (domain_in v b r q t ps).ids in
-    let asked = asked-state v b r q t ps id (ask.Lookup name) o serial in
-    subst (λ (y : DomainView L). Does Moved 0 call y (domain_in v b r q' t ps) (tells id.serial) (Some id)) is
-    (record {
-      answer = ap tells serial ∙ sym (answer-done s 0 call unrefused);
-      state = asked ∙ ap (λ (w : Option Outcome). with_request s (name_of name) w) outcome ∙ sym (ap (λ (w : Option Refusal). unless_refused w s (success_effect s 0 call)) unrefused);
-      slots = [];
-      returned = sym (ap (λ (w : Option Refusal). unless_refused {A = List Item} w [] []) unrefused);
-      moved = quiet-moved Moved m-none v b r q t ps _ (puts-nothing s 0 call refl);
-      stays = λ slot queued other. refl;
-      ids = last-ids q id (ask.Lookup name) o ∙ ap (λ (w : Option Refusal). without (unless_refused {A = Option ℕ} w None None) ids ++ id ∷ []) (sym unrefused);
-      fresh = record {
-        differs = not-among (map (λ (i : RequestId). i.key) ids) id.key (subst (AllByRecursion (λ (key : ℕ). key ≢ id.key)) (sym (keys-of_ids q.standing)) fresh);
-        is_key = real;
-        serial = serial;
-      };
-    })

@@ -1,5 +1,5 @@
 -- A receive that is begun.
-use Rattle.std.proofs.Common.{◌≡◌, ◌≢◌, ℕ, ◌+◌, ◌<◌, ◌≤◌, Bool, true, false, cond, List, [], ◌∷◌, ◌++◌, length, map, Option, Some, None, refl, ap, ◌∙◌, arith, eq-eqb}
+use Rattle.std.proofs.Common.{◌≡◌, ◌≢◌, ℕ, ◌+◌, ◌<◌, ◌≤◌, Bool, true, false, cond, List, [], ◌∷◌, ◌++◌, length, map, Option, Some, None, refl, sym, ap, subst, ◌∙◌, arith, eq-eqb}
 use Rattle.std.specs.Prelude.{nat_lt, ◌%◌, ◌^◌}
 use Rattle.std.specs.List.{AllByRecursion}
 use Rattle.std.proofs.lemmas.Bool.{and_from, ltb-true, ltb-false}
@@ -11,17 +11,16 @@ use Rattle.request_set.specs.declared.ask.Ask.{Ask}
 use Rattle.request_set.specs.declared.ask.Complete.{Complete}
 use Rattle.request_set.specs.declared.ask.Complete.TheVariants as complete
 use Rattle.request_set.specs.Requests.{Requests, Standing, completed, is_id, keys, with_complete, with_request}
+use Rattle.board_model.specs.State.{DomainState}
+use Rattle.domain_core.specs.Calls.{IsFresh}
 use Rattle.domain_core.specs.InRequests.{AreReceives, IsReceive, handed_slots}
+use Rattle.domain_core.specs.Steps.{with_last}
 use Rattle.domain_core.proofs.Placed.{HasMore, HaveSame}
-use Rattle.domain_core.proofs.Receives.{differ-more, handed-new, keys_in, others-fresh, others-stay}
+use Rattle.domain_core.proofs.Receives.{differ-more, handed-new, keys_in, not-among, others-fresh, others-stay}
 use Rattle.domain_core.proofs.Tables.{All-push}
 
 abbrev pub new_standing : RequestId → Ask → Option Complete → Standing
 new_standing id a o = record { id = id; ask = a; complete = o }
-
--- one request more, last
-abbrev pub with_last : Requests → RequestId → Ask → Option Complete → Requests
-with_last q id a o = record { standing = q.standing ++ new_standing id a o ∷ []; given = (q.given + 1) % 2 ^ 64 }
 
 -- the new request is complete at once
 pub last-complete : (q : Requests) (id : RequestId) (a : Ask) (how : Complete) → AllByRecursion (λ key. key ≢ id.key) (keys q) → with_complete (with_request q id a) id how ≡ with_last q id a (Some how)
@@ -65,3 +64,13 @@ last-more q id a slot max test =
     let all = handed-new test (new_standing id a (Some (complete.Message slot max))) q.standing in
     let one = count-cons test slot [] in
     omega (arith, all, one)
+
+-- a key that no request has
+pub id-fresh : (q : Requests) (s : DomainState) (id : RequestId) → AllByRecursion (λ key. key ≢ id.key) (keys q) → id.key ≢ 4294967295 → id.serial ≡ s.requests_given → IsFresh (map (λ (r : Standing). r.id) q.standing) s id
+id-fresh q s id fresh real serial =
+    let ids = map (λ (r : Standing). r.id) q.standing in
+    record {
+      differs = not-among id.key (map (λ (i : RequestId). i.key) ids) (subst (AllByRecursion (λ (key : ℕ). key ≢ id.key)) (sym (keys-of_ids q.standing)) fresh);
+      is_key = real;
+      serial = serial;
+    }

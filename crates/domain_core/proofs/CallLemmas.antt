@@ -1,105 +1,120 @@
 -- A call is its turn, and then what it does itself.
-use Rattle.std.proofs.Common.{◌≡◌, ℕ, Bool, List, [], ◌∷◌, map, Option, Some, None, refl, sym, ap, ◌∙◌, subst}
+use Rattle.std.proofs.Common.{◌≡◌, ℕ, Bool, List, [], ◌∷◌, ◌++◌, map, Option, Some, None, refl, sym, ap, ◌∙◌, subst}
+use Rattle.std.specs.Prelude.{option_to_list}
 use Rattle.std.proofs.lemmas.List.{append-nil}
 use Rattle.mc_base.specs.declared.refusal.Refusal.{Refusal}
 use Rattle.mc_base.specs.declared.request.RequestId.{RequestId}
-use Rattle.board_model.specs.DomainCall.{DomainCall}
-use Rattle.board_model.specs.Journal.{Line, PlainAnswer, refuses, noted_all}
+use Rattle.board_model.specs.DomainCall.{DomainCall, turn_alone}
+use Rattle.board_model.specs.Journal.{Line, PlainAnswer, agrees, noted_all}
 use Rattle.board_model.specs.Lists.{without}
 use Rattle.board_model.specs.State as state
-use Rattle.board_model.specs.State.{DomainState, Item}
 use Rattle.board_model.specs.Answer.{answer, puts, refusal, success_puts, unless_refused}
-use Rattle.board_model.specs.Effect.{effect, returns, success_effect, success_returns}
+use Rattle.board_model.specs.Effect.{success_effect, success_returns}
 use Rattle.board_model.specs.Serial.{put_entry}
-use Rattle.buffer_book.specs.Book.{Book}
-use Rattle.endpoint_table.specs.Table as endpoint_table
-use Rattle.request_set.specs.Requests.{Requests}
-use Rattle.domain_core.specs.declared.peer.Peer.{Peer}
-use Rattle.domain_core.specs.AllMoved.{AllMoved, call_moves, ends_of}
-use Rattle.domain_core.specs.Calls.{Calls, Does, place_ended, success_ends}
-use Rattle.domain_core.specs.DomainView.{DomainView, domain_in}
+use Rattle.domain_core.specs.AllMoved.{AllMoved, call_moves, moves_at, numbers_of}
+use Rattle.domain_core.specs.Calls.{Calls, Does}
+use Rattle.domain_core.specs.CallSteps.{Acted, Acts, Rests, Succeeds, call_steps}
+use Rattle.domain_core.specs.DomainView.{DomainView}
 use Rattle.domain_core.specs.LaneMoves.{LaneMove}
-use Rattle.domain_core.specs.Peers.{EndsView, peers_in, state_in}
-use Rattle.domain_core.specs.Records.{Records}
+use Rattle.domain_core.specs.Parts.{Holding, Parts, plain, shown, state_of}
+use Rattle.domain_core.specs.Steps.{all_moves}
+use Rattle.domain_core.specs.Stores.{KeepsBut}
 use Rattle.domain_core.specs.Turned.{MakesTurn}
-use Rattle.domain_core.proofs.Calling.{answer-refused, puts-nothing, puts-refused}
+use Rattle.domain_core.proofs.Calling.{puts-done, puts-nothing}
+use Rattle.domain_core.proofs.Ending.{ended-done, ended-refused, ids_in}
+use Rattle.domain_core.proofs.GivingLemmas.{numbers-in}
 
--- a call that is refused or whose success is the same either way
-either-way : {A : Type 0} (o : Option Refusal) (x : A) → unless_refused o x x ≡ x
-either-way None x = refl
-either-way (Some word) x = refl
+map-same : {A B : Type 0} (f g : A → B) → ((x : A) → f x ≡ g x) → (xs : List A) → map f xs ≡ map g xs
+map-same f g is [] = refl
+map-same f g is (x ∷ xs) = let one = is x in let rest = map-same f g is xs in cc
 
--- ---- a turn and a call's part are a call
+module _ {L : Type 0} (M : L → List LaneMove → L → Type 0) (node : ℕ) (call : DomainCall) (old new : Holding L) (answered : PlainAnswer) (given : Option RequestId) where
+  abbrev p : Parts
+  p = old.parts
 
-module _ {L : Type 0} (Moved : L → List LaneMove → L → Type 0) (node : ℕ) (call : DomainCall) (old mid new : DomainView L) (lines lines' : List Line) (idle : Bool) (answered : PlainAnswer) (given : Option RequestId) where
-  -- with the frames that it puts
-  pub calls-put : (lines'' : List Line) → MakesTurn Moved old mid lines lines' idle → Does Moved node call mid new answered given → lines'' ≡ noted_all lines' (map put_entry (puts mid.state node call)) → Calls Moved node call old new lines lines'' answered given
-  calls-put lines'' turn does told =
-      record {
-        visits = turn.visits;
-        numbers = turn.numbers;
-        turned_to = mid;
-        turns = turn.turns;
-        does = does;
-        told = told ∙ ap (λ (ls : List Line). noted_all ls (map put_entry (puts mid.state node call))) turn.told;
-      }
+  abbrev s : state.DomainState
+  s = state_of p
 
-  -- where it never puts any
-  pub calls-of : success_puts mid.state node call ≡ [] → MakesTurn Moved old mid lines lines' idle → Does Moved node call mid new answered given → Calls Moved node call old new lines lines' answered given
-  calls-of none turn does =
-      calls-put lines' turn does (ap (λ (ps : List (ℕ × List ℕ)). noted_all lines' (map put_entry ps)) (sym (puts-nothing mid.state node call none)))
+  -- moves at all peers, in the words of the state
+  moved-in : (frames : List (ℕ × List ℕ)) → frames ≡ puts s node call → (slots : List _) (f : ℕ → List LaneMove) → ((n : ℕ) → f n ≡ moves_at frames slots n) → (ends : List L) → AllMoved M old.ends (map f (numbers_of p.peers)) ends
+      → AllMoved M old.ends (call_moves (puts s node call) slots (map (λ (x : state.Peer). x.number) s.peers)) ends
+  moved-in frames is slots f same ends moved =
+      subst (λ (fs : List (ℕ × List ℕ)). AllMoved M old.ends (call_moves fs slots (map (λ (x : state.Peer). x.number) s.peers)) ends) is
+      (subst (λ (ns : List ℕ). AllMoved M old.ends (call_moves frames slots ns) ends) (sym (numbers-in plain p.table p.peers))
+      (subst (λ ms. AllMoved M old.ends ms ends) (map-same f (moves_at frames slots) same (numbers_of p.peers)) moved))
 
--- ---- parts of calls that change nothing
+  refused : (word : Refusal) → refusal s node call ≡ Some word → answered ≡ answer s node call → Rests M old → new ≡ old → given ≡ None → Does M node call (shown old) (shown new) answered given
+  refused word e answer-is rests same none =
+      subst (λ (h : Holding L). Does M node call (shown old) (shown h) answered given) (sym same)
+      (subst (λ (o : Option RequestId). Does M node call (shown old) (shown old) answered o) (sym none)
+      (record {
+        answer = answer-is;
+        state = sym (ap (λ (o : Option Refusal). unless_refused o s (success_effect s node call)) e);
+        slots = [];
+        returned = sym (ap (λ (o : Option Refusal). unless_refused o [] (success_returns s node call)) e);
+        moved = moved-in [] (sym (ap (λ (o : Option Refusal). unless_refused o [] (success_puts s node call)) e)) [] (λ n. []) (λ n. refl) old.ends rests;
+        stays = λ slot queued other. refl;
+        ids = sym (append-nil (without _ (ids_in p.requests)) ∙ ap (λ (o : Option ℕ). without o (ids_in p.requests)) (ended-refused s node call word e));
+        fresh = tt;
+      }))
 
-module _ {L : Type 0} (Moved : L → List LaneMove → L → Type 0) (m-none : (l : L) → Moved l [] l) (v : EndsView L) (b : Book) (r : Records) (q : Requests) (t : endpoint_table.Table) (ps : List (Peer L)) where
-  abbrev s : DomainState
-  s = state_in v b r q t ps
-
-  abbrev here : DomainView L
-  here = domain_in v b r q t ps
-
-  -- nothing is put and nothing given back
-  none-moved : (xs : List (Peer L)) → AllMoved Moved (ends_of xs) (call_moves [] [] (map (λ (p : state.Peer). p.number) (peers_in v t xs))) (ends_of xs)
-  none-moved [] = tt
-  none-moved (x ∷ xs) = (m-none x.ends, none-moved xs)
-
-  pub quiet-moved : (puts : List (ℕ × List ℕ)) → puts ≡ [] → AllMoved Moved (ends_of ps) (call_moves puts [] (map (λ (p : state.Peer). p.number) s.peers)) (ends_of ps)
-  quiet-moved puts none = subst (λ (xs : List (ℕ × List ℕ)). AllMoved Moved (ends_of ps) (call_moves xs [] (map (λ (p : state.Peer). p.number) s.peers)) (ends_of ps)) (sym none) (none-moved ps)
-
-  does-nothing : (node : ℕ) (call : DomainCall) (answered : PlainAnswer) → answered ≡ answer s node call → effect s node call ≡ s → puts s node call ≡ [] → returns s node call ≡ [] → place_ended s node call ≡ None → Does Moved node call here here answered None
-  does-nothing node call answered answer-is effect-is puts-is returns-is ends-is =
+  succeeded : refusal s node call ≡ None → answered ≡ answer s node call → Succeeds M node call old new given → Does M node call (shown old) (shown new) answered given
+  succeeded e answer-is done =
+      let m = done.means in
       record {
         answer = answer-is;
-        state = sym effect-is;
-        slots = [];
-        returned = sym returns-is;
-        moved = quiet-moved (puts s node call) puts-is;
-        stays = λ slot queued other. refl;
-        ids = sym (append-nil (without (place_ended s node call) here.ids) ∙ ap (λ (o : Option ℕ). without o here.ids) ends-is);
-        fresh = tt;
+        state = ap state_of done.did.parts ∙ m.state ∙ sym (ap (λ (o : Option Refusal). unless_refused o s (success_effect s node call)) e);
+        slots = m.slots;
+        returned = m.returned ∙ sym (ap (λ (o : Option Refusal). unless_refused o [] (success_returns s node call)) e);
+        moved = moved-in (success_puts s node call) (sym (puts-done s node call e)) m.slots (all_moves (call_steps p node call given)) m.moves new.ends done.did.moved;
+        stays = subst (λ (x : Parts). KeepsBut m.slots p.book x.book) (sym done.did.parts) m.stays;
+        ids = ap (λ (x : Parts). ids_in x.requests) done.did.parts ∙ m.ids ∙ ap (λ (o : Option ℕ). without o (ids_in p.requests) ++ option_to_list given) (sym (ended-done s node call e));
+        fresh = m.fresh;
       }
 
-  -- a refused call
-  pub does-refused : (node : ℕ) (call : DomainCall) (word : Refusal) (x : DomainView L) → here ≡ x → refusal s node call ≡ Some word → Does Moved node call x x (refuses word) None
-  does-refused node call word x is e =
-      subst (λ (y : DomainView L). Does Moved node call y y (refuses word) None) is
-      (does-nothing node call (refuses word) (answer-refused s node call word e)
-      (ap (λ (o : Option Refusal). unless_refused o s (success_effect s node call)) e)
-      (puts-refused s node call word e)
-      (ap (λ (o : Option Refusal). unless_refused o [] (success_returns s node call)) e)
-      (ap (λ (o : Option Refusal). unless_refused o None (success_ends call)) e))
+  -- what a call does inside is what it does
+  pub does-of : Rests M old → Acts M node call old new answered given → Does M node call (shown old) (shown new) answered given
+  does-of rests acts = by (refusal s node call) refl
+    where
+      by : (o : Option Refusal) → refusal s node call ≡ o → Does M node call (shown old) (shown new) answered given
+      by None e = succeeded e acts.answer (subst (λ (o : Option Refusal). Acted M o node call old new given) e acts.did)
+      by (Some word) e =
+          let same : (new ≡ old) × (given ≡ None) = subst (λ (o : Option Refusal). Acted M o node call old new given) e acts.did in
+          refused word e acts.answer rests same.0 same.1
 
-  pub refused-told : (node : ℕ) (call : DomainCall) (word : Refusal) (x : DomainView L) (lines : List Line) → here ≡ x → refusal s node call ≡ Some word → lines ≡ noted_all lines (map put_entry (puts x.state node call))
-  refused-told node call word x lines is e =
-      ap (λ (ps : List (ℕ × List ℕ)). noted_all lines (map put_entry ps)) (sym (puts-refused s node call word e) ∙ ap (λ (y : DomainView L). puts y.state node call) is)
+  -- ---- a turn and a call's part are a call
+  module _ (first : DomainView L) (lines lines' : List Line) (idle : Bool) where
+    -- with the frames that it puts
+    pub calls-put : (lines'' : List Line) → MakesTurn M first (shown old) lines lines' idle → Rests M old → Acts M node call old new answered given → lines'' ≡ noted_all lines' (map put_entry (puts s node call)) → Calls M node call first (shown new) lines lines'' answered given
+    calls-put lines'' turn rests acts told =
+        record {
+          visits = turn.visits;
+          numbers = turn.numbers;
+          turned_to = shown old;
+          turns = turn.turns;
+          does = does-of rests acts;
+          told = told ∙ ap (λ (ls : List Line). noted_all ls (map put_entry (puts s node call))) turn.told;
+        }
 
-  -- a call that only answers
-  pub does-answer : (node : ℕ) (call : DomainCall) (answered : PlainAnswer) (x : DomainView L) → here ≡ x → answered ≡ answer s node call → success_effect s node call ≡ s → success_puts s node call ≡ [] → success_returns s node call ≡ [] → success_ends call ≡ None → Does Moved node call x x answered None
-  does-answer node call answered x is answer-is effect-is puts-is returns-is ends-is =
-      let o = refusal s node call in
-      subst (λ (y : DomainView L). Does Moved node call y y answered None) is
-      (does-nothing node call answered answer-is
-      (ap (λ (y : DomainState). unless_refused o s y) effect-is ∙ either-way o s)
-      (puts-nothing s node call puts-is)
-      (ap (λ (is : List Item). unless_refused o [] is) returns-is ∙ either-way o [])
-      (ap (λ (p : Option ℕ). unless_refused o None p) ends-is ∙ either-way o None))
+    -- where it never puts any
+    pub calls-of : success_puts s node call ≡ [] → MakesTurn M first (shown old) lines lines' idle → Rests M old → Acts M node call old new answered given → Calls M node call first (shown new) lines lines' answered given
+    calls-of none turn rests acts =
+        calls-put lines' turn rests acts (ap (λ (ps : List (ℕ × List ℕ)). noted_all lines' (map put_entry ps)) (sym (puts-nothing s node call none)))
+
+-- a turn alone does nothing after it
+pub turn-acts : {L : Type 0} (M : L → List LaneMove → L → Type 0) (h : Holding L) → Rests M h → Acts M 0 turn_alone h h agrees None
+turn-acts M h rests = record {
+  answer = refl;
+  did = record {
+    did = record { parts = refl; moved = rests };
+    means = record {
+      state = refl;
+      slots = [];
+      returned = refl;
+      moves = λ n. refl;
+      stays = λ slot queued other. refl;
+      ids = sym (append-nil (ids_in h.parts.requests));
+      fresh = tt;
+    };
+  };
+}

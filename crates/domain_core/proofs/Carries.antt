@@ -1,14 +1,10 @@
 -- Links between two domains, as they are carried.
-use Rattle.std.proofs.Common.{◌≡◌, ◌≤◌, ◌<◌, ◌+◌, ℕ, zero, suc, Bool, true, false, cond, List, [], ◌∷◌, length, get_or, Option, Some, None, Vec, refl, sym, ap, ◌∙◌, subst, arith}
-use Rattle.std.specs.Prelude.{Contains, IfSome, find, option_and_then, position, slice_get, slice_set, ◌==◌}
-use Rattle.std.specs.List.{AllByRecursion}
+use Rattle.std.proofs.Common.{◌≡◌, ◌<◌, ℕ, zero, suc, Bool, true, false, cond, List, [], ◌∷◌, length, get_or, Option, Some, None, Vec, refl, sym, ap, ◌∙◌, subst, arith}
+use Rattle.std.specs.Prelude.{IfSome, find, option_and_then, position, slice_get, slice_set, ◌==◌}
 use Rattle.std.proofs.lemmas.Option.{slice_get-get_or}
 use Rattle.std.proofs.lemmas.List.{with_items_is}
 use Rattle.std.specs.Vec.{with_items}
 use Rattle.board_model.specs.Lists.{changed, changed_at}
-use Rattle.board_model.specs.State as state
-use Rattle.board_model.specs.State.{DomainState}
-use Rattle.board_model.proofs.MessageAlls.{all-changed}
 use Rattle.board_model.proofs.MessageLists.{changed_first, changed-position, get-position, map-changed}
 use Rattle.buffer_book.specs.Book.{Book}
 use Rattle.endpoint_table.specs.Table as endpoint_table
@@ -22,14 +18,10 @@ use Rattle.domain_core.specs.declared.peer.Peer.{Peer}
 use Rattle.domain_core.specs.AllMoved.{ends_of}
 use Rattle.domain_core.specs.Carried.{AreJoinedEnds, ends_carried, peer_carried, peers_carried}
 use Rattle.domain_core.specs.Carrying.{AreJoined, AreLinked, PlainLink, carried, carried_with, leads_to, link_to, with_carried}
-use Rattle.domain_core.specs.DomainParts.{ends_seen}
-use Rattle.domain_core.specs.DomainView.{DomainView, domain_in}
-use Rattle.domain_core.specs.InPlaces.{AreInPlaces}
-use Rattle.domain_core.specs.Out.{out_of}
-use Rattle.domain_core.specs.Peers.{EndsView, peer_in, state_in}
+use Rattle.domain_core.specs.Ends.{ends_free, ends_out, ends_shown, ends_size_from, ends_size_to}
+use Rattle.domain_core.specs.Parts.{Holding, LaneSeen, holding_in, lane_seen, parts_in, peer_seen}
+use Rattle.domain_core.specs.Peers.{EndsView, seen_by}
 use Rattle.domain_core.specs.Records.{Records}
-use Rattle.domain_core.specs.Sound.{AreRising, AreSound, IsSized, buffers_count, out_at, outs_count}
-use Rattle.domain_core.specs.Tied.{AreTied}
 
 abbrev PlainEnds : Type 0
 PlainEnds = Ends Sender Receiver
@@ -127,96 +119,29 @@ linked-carried one two ones twos l = record {
   joined = record { there = shuttled-one-lane l.there.send l.back.recv l.joined.there; back = shuttled-one-lane l.back.send l.there.recv l.joined.back };
 }
 
--- ---- the domain
+-- ---- the domain: what is seen of the ends stays
 
 abbrev plain_view : EndsView PlainEnds
-plain_view = ends_seen (λ (s : Sender). s.size) (λ (s : Sender). s.free) (λ (r : Receiver). r.size) (λ (r : Receiver). r.shown) (λ (r : Receiver). r.out)
+plain_view = seen_by (ends_size_to (λ (s : Sender). s.size)) (ends_size_from (λ (r : Receiver). r.size)) (ends_free (λ (s : Sender). s.free)) (ends_shown (λ (r : Receiver). r.shown)) (ends_out (λ (r : Receiver). r.out))
 
-same-size_to : (b : PlainLink) (e : PlainEnds) → plain_view.size_to (carried_with b e) ≡ plain_view.size_to e
-same-size_to b (Own l) = refl
-same-size_to b (Linked a) = refl
-
-same-size_from : (b : PlainLink) (e : PlainEnds) → plain_view.size_from (carried_with b e) ≡ plain_view.size_from e
-same-size_from b (Own l) = refl
-same-size_from b (Linked a) = refl
-
-same-free : (b : PlainLink) (e : PlainEnds) → plain_view.free (carried_with b e) ≡ plain_view.free e
-same-free b (Own l) = refl
-same-free b (Linked a) = refl
-
-same-shown : (b : PlainLink) (e : PlainEnds) → plain_view.shown (carried_with b e) ≡ plain_view.shown e
-same-shown b (Own l) = refl
-same-shown b (Linked a) = refl
-
-same-out : (b : PlainLink) (e : PlainEnds) → plain_view.out (carried_with b e) ≡ plain_view.out e
-same-out b (Own l) = refl
-same-out b (Linked a) = refl
+same-ends : (b : PlainLink) (e : PlainEnds) → lane_seen plain_view (carried_with b e) ≡ lane_seen plain_view e
+same-ends b (Own l) = refl
+same-ends b (Linked a) = refl
 
 module _ (link : PlainLink) (b : Book) (r : Records) (q : Requests) (t : endpoint_table.Table) where
-  abbrev f : Peer PlainEnds → Peer PlainEnds
-  f p = peer_carried link p
+  same-seen : (p : Peer PlainEnds) → peer_seen plain_view (peer_carried link p) ≡ peer_seen plain_view p
+  same-seen p = ap (λ (l : LaneSeen). record (peer_seen plain_view p) { ends = l }) (same-ends link p.ends)
 
-  keeps-sized : (p : Peer PlainEnds) → IsSized plain_view p → IsSized plain_view (f p)
-  keeps-sized p sized = record { same = same-size_to link p.ends ∙ sized.same ∙ sym (same-size_from link p.ends); fits = omega (arith, same-size_from link p.ends, sized.fits) }
+  pub parts-carried : (n : ℕ) (ps qs : List (Peer PlainEnds)) → qs ≡ peers_carried n link ps → parts_in plain_view b r q t qs ≡ parts_in plain_view b r q t ps
+  parts-carried n ps qs is =
+      ap (parts_in plain_view b r q t) is
+      ∙ ap (λ (xs : List (Peer LaneSeen)). record (parts_in plain_view b r q t ps) { peers = xs }) (map-changed (peer_seen plain_view) (peer_carried link) same-seen (position (leads n) ps) ps)
 
-  abbrev IsInPlaces : Peer PlainEnds → Type 0
-  IsInPlaces p = AreInPlaces p.number r q b (out_at plain_view p)
-
-  keeps-places : (p : Peer PlainEnds) → IsInPlaces p → IsInPlaces (f p)
-  keeps-places p placed =
-      subst (λ (n : ℕ). AreInPlaces p.number r q b (out_of n (plain_view.out (carried_with link p.ends)))) (sym (same-size_from link p.ends))
-      (subst (λ (ns : List ℕ). AreInPlaces p.number r q b (out_of (plain_view.size_from p.ends) ns)) (sym (same-out link p.ends)) placed)
-
-  same-outs : (i : ℕ) (ps : List (Peer PlainEnds)) → outs_count plain_view (changed_at f i ps) ≡ outs_count plain_view ps
-  same-outs i [] = refl
-  same-outs zero (p ∷ ps) = ap (λ (ns : List ℕ). length ns + outs_count plain_view ps) (same-out link p.ends)
-  same-outs (suc i) (p ∷ ps) = ap (λ (n : ℕ). length (plain_view.out p.ends) + n) (same-outs i ps)
-
-  same-buffers : (i : ℕ) (ps : List (Peer PlainEnds)) → buffers_count plain_view (changed_at f i ps) ≡ buffers_count plain_view ps
-  same-buffers i [] = refl
-  same-buffers zero (p ∷ ps) = ap (λ (n : ℕ). n + buffers_count plain_view ps) (same-size_from link p.ends)
-  same-buffers (suc i) (p ∷ ps) = ap (λ (n : ℕ). plain_view.size_from p.ends + n) (same-buffers i ps)
-
-  sound-changed : (o : Option ℕ) (ps : List (Peer PlainEnds)) → AreSound plain_view b r q t ps → AreSound plain_view b r q t (changed f o ps)
-  sound-changed None ps sound = sound
-  sound-changed (Some i) ps sound =
-      let numbers = map-changed (λ (p : Peer PlainEnds). p.number) f (λ p. refl) (Some i) ps in
-      record {
-        peers = record {
-          rising = subst AreRising (sym numbers) sound.peers.rising;
-          few = subst (λ (ns : List ℕ). AllByRecursion (λ n. n ≤ 7) ns) (sym numbers) sound.peers.few;
-          own = subst (λ (ns : List ℕ). Contains ns r.number) (sym numbers) sound.peers.own;
-          sizes = all-changed (IsSized plain_view) f keeps-sized (Some i) ps sound.peers.sizes;
-        };
-        places = all-changed IsInPlaces f keeps-places (Some i) ps sound.places;
-        total = sound.total ∙ sym (same-outs i ps);
-        room = omega (arith, sound.room, same-buffers i ps);
-        receives = sound.receives;
-        tied = subst (λ (ns : List ℕ). AreTied r t ns) (sym numbers) sound.tied;
-        given = sound.given;
-      }
-
-  pub sound-carried : (n : ℕ) (ps qs : List (Peer PlainEnds)) → qs ≡ peers_carried n link ps → AreSound plain_view b r q t ps → AreSound plain_view b r q t qs
-  sound-carried n ps qs is sound = subst (λ (xs : List (Peer PlainEnds)). AreSound plain_view b r q t xs) (sym is) (sound-changed (position (leads n) ps) ps sound)
-
-  abbrev peer_with : Peer PlainEnds → ℕ → List ℕ → ℕ → state.Peer
-  peer_with p size free shown = record (peer_in plain_view t p) { size = size; free = length free; shown = shown }
-
-  same-peer : (p : Peer PlainEnds) → peer_in plain_view t (f p) ≡ peer_in plain_view t p
-  same-peer p =
-      ap (λ (n : ℕ). peer_with p n (plain_view.free (carried_with link p.ends)) (plain_view.shown (carried_with link p.ends))) (same-size_from link p.ends)
-      ∙ ap (λ (ns : List ℕ). peer_with p (plain_view.size_from p.ends) ns (plain_view.shown (carried_with link p.ends))) (same-free link p.ends)
-      ∙ ap (λ (n : ℕ). peer_with p (plain_view.size_from p.ends) (plain_view.free p.ends) n) (same-shown link p.ends)
-
-  pub domain-carried : (n : ℕ) (ps qs : List (Peer PlainEnds)) → qs ≡ peers_carried n link ps → domain_in plain_view b r q t qs ≡ record (domain_in plain_view b r q t ps) { ends = with_carried n link (ends_of ps) }
-  domain-carried n ps qs is =
-      let d = domain_in plain_view b r q t ps in
-      ap (domain_in plain_view b r q t) is
-      ∙ ap (λ (xs : List state.Peer). record d { state = record (state_in plain_view b r q t ps) { peers = xs }; ends = ends_of (peers_carried n link ps) }) (map-changed (peer_in plain_view t) f same-peer (position (leads n) ps) ps)
-      ∙ ap (λ (es : List PlainEnds). record d { ends = es }) (ends-carried n link ps)
-
-  pub view-carried : (n : ℕ) (ps qs : List (Peer PlainEnds)) → qs ≡ peers_carried n link ps → (d : DomainView PlainEnds) → domain_in plain_view b r q t ps ≡ d → domain_in plain_view b r q t qs ≡ record d { ends = with_carried n link d.ends }
-  view-carried n ps qs is d seen = subst (λ (x : DomainView PlainEnds). domain_in plain_view b r q t qs ≡ record x { ends = with_carried n link x.ends }) seen (domain-carried n ps qs is)
+  pub holding-carried : (n : ℕ) (ps qs : List (Peer PlainEnds)) → qs ≡ peers_carried n link ps → (h : Holding PlainEnds) → holding_in plain_view b r q t ps ≡ h → holding_in plain_view b r q t qs ≡ record h { ends = with_carried n link h.ends }
+  holding-carried n ps qs is h seen =
+      let parts = parts-carried n ps qs is in
+      let ends = ap ends_of is ∙ ends-carried n link ps in
+      subst (λ (x : Holding PlainEnds). holding_in plain_view b r q t qs ≡ record x { ends = with_carried n link x.ends }) seen cc
 
 -- ---- what is written over all peers
 

@@ -1,5 +1,5 @@
 -- An endpoint that is made: the words of the call, what it leaves, and what is kept.
-use Rattle.std.proofs.Common.{◌≡◌, ℕ, ◌+◌, ◌<◌, Bool, true, false, cond, List, [], ◌++◌, length, map, Option, Some, None, refl, sym, ap, ◌∙◌, subst, arith}
+use Rattle.std.proofs.Common.{◌≡◌, ℕ, ◌+◌, ◌<◌, Bool, true, false, cond, List, ◌++◌, length, Option, Some, None, refl, sym, ap, ◌∙◌, subst, arith}
 use Rattle.std.specs.Prelude.{is_some, not, nat_le, nat_lt, Result, Ok, Err}
 use Rattle.std.proofs.lemmas.List.{length-map}
 use Rattle.mc_base.specs.FullName.{end_name}
@@ -10,35 +10,27 @@ use Rattle.mc_base.specs.declared.request.Slot.{Slot}
 use Rattle.endpoint_table.specs.Table.{Table, create_answer, created, live_at}
 use Rattle.endpoint_table.proofs.RecordLemmas.{all-weaken}
 use Rattle.board_model.specs.DomainCall.{DomainCall, create_at}
-use Rattle.board_model.specs.Journal.{tells}
-use Rattle.board_model.specs.State.{DomainState, Item, place_at}
-use Rattle.board_model.specs.Answer.{refusal, unless_refused}
-use Rattle.board_model.specs.Effect.{success_effect}
+use Rattle.board_model.specs.State.{DomainState, place_at}
+use Rattle.board_model.specs.Answer.{refusal}
 use Rattle.buffer_book.specs.Book.{Book}
 use Rattle.message_queue.specs.Queue.{Waiting}
 use Rattle.request_set.specs.declared.ask.Complete.{Complete}
 use Rattle.request_set.specs.declared.ask.Complete.TheVariants as complete
-use Rattle.request_set.specs.Requests.{Requests, Standing}
+use Rattle.request_set.specs.Requests.{Requests}
 use Rattle.domain_core.specs.declared.peer.Peer.{Peer}
 use Rattle.domain_core.specs.declared.requests.Waiters.{Waiters}
 use Rattle.domain_core.specs.declared.requests.Waiters.TheVariants as waiters
 use Rattle.domain_core.specs.AllMoved.{numbers_of}
-use Rattle.domain_core.specs.Calls.{Does}
-use Rattle.domain_core.specs.DomainView.{domain_in}
 use Rattle.domain_core.specs.InBook.{endpoint_in}
 use Rattle.domain_core.specs.InPlaces.{AreInPlaces, slots_of}
 use Rattle.domain_core.specs.InRequests.{handed_slots, with_all_complete}
-use Rattle.domain_core.specs.LaneMoves.{LaneMove}
 use Rattle.domain_core.specs.Peers.{EndsView, state_in}
 use Rattle.domain_core.specs.Records.{Records, all_waiting, new_record, with_record}
-use Rattle.domain_core.specs.Sound.{AreRising, AreSound, out_at}
+use Rattle.domain_core.specs.Sound.{AreSound, out_at}
 use Rattle.domain_core.specs.Tied.{AreTied}
-use Rattle.domain_core.proofs.CallLemmas.{quiet-moved}
-use Rattle.domain_core.proofs.Calling.{answer-done, puts-nothing, same-ids}
-use Rattle.domain_core.proofs.Completing.{handed-all, ids-all, receives-all}
+use Rattle.domain_core.proofs.Completing.{handed-all, receives-all}
 use Rattle.domain_core.proofs.Queuing.{same-held}
 use Rattle.domain_core.proofs.Slots.{slots}
-use Rattle.domain_core.proofs.TiedStates.{made-state}
 use Rattle.domain_core.proofs.Tying.{length-records, live-some, tied-created}
 use Rattle.domain_core.proofs.Waits.{waiting-new}
 
@@ -115,7 +107,7 @@ module _ {L : Type 0} (v : EndsView L) (b : Book) (r : Records) (q : Requests) (
     parts : (nat_le 64 (length t.records) ≡ false) × (nat_le 60000 t.given ≡ false) × (a ≡ 1024 + t.given)
     parts = ok-parts (not (nat_lt at.node t.nodes)) (is_some (live_at t at)) (nat_le 64 (length t.records)) (nat_le 60000 t.given) (1024 + t.given) a is
 
-    create-address : a ≡ 1024 + t.given
+    pub create-address : a ≡ 1024 + t.given
     create-address = parts.2
 
     pub create-few : AreTied r t (numbers_of ps) → length r.endpoints < 64
@@ -131,8 +123,8 @@ module _ {L : Type 0} (v : EndsView L) (b : Book) (r : Records) (q : Requests) (
         ∙ ap (λ (x : ℕ). with_all_complete q (waiters.Lookups (end_name x at)) (complete.Address a)) number
         ∙ ap (λ (x : ℕ). with_all_complete q who (complete.Address x)) create-address
 
-    unrefused : AreTied r t (numbers_of ps) → refusal s at.node call ≡ None
-    unrefused tie = word-is tie ∙ ap word_of is
+    pub create-done : AreTied r t (numbers_of ps) → refusal s at.node call ≡ None
+    create-done tie = word-is tie ∙ ap word_of is
 
     -- ---- what is kept
 
@@ -154,19 +146,4 @@ module _ {L : Type 0} (v : EndsView L) (b : Book) (r : Records) (q : Requests) (
       receives = receives-all q who how tt sound.receives;
       tied = tied-created r t (numbers_of ps) at sound.tied;
       given = let lt = create-given sound.tied in omega (arith, lt);
-    })
-
-    -- ---- what the call does
-
-    pub made-does : (M : L → List LaneMove → L → Type 0) → ((l : L) → M l [] l) → (r' : Records) (q' : Requests) (t' : Table) → r' ≡ with_record r at → q' ≡ made_requests → t' ≡ created t at → AreRising (numbers_of ps) → AreTied r t (numbers_of ps)
-        → Does M at.node call (domain_in v b r q t ps) (domain_in v b r' q' t' ps) (tells a) None
-    made-does M m-none r' q' t' er eq et rising tie = moved-to (λ (x : Records) (y : Requests) (z : Table). Does M at.node call (domain_in v b r q t ps) (domain_in v b x y z ps) (tells a) None) (with_record r at) r' made_requests q' (created t at) t' er eq et (record {
-      answer = ap tells create-address ∙ sym (answer-done s at.node call (unrefused tie));
-      state = made-state v b b r q q t ps ps rising tie at ∙ sym (ap (λ (o : Option Refusal). unless_refused o s (success_effect s at.node call)) (unrefused tie));
-      slots = [];
-      returned = sym (ap (λ (o : Option Refusal). unless_refused {A = List Item} o [] []) (unrefused tie));
-      moved = quiet-moved M m-none v b r q t ps _ (puts-nothing s at.node call refl);
-      stays = λ slot queued other. refl;
-      ids = same-ids s at.node call (map (λ (x : Standing). x.id) q.standing) (map (λ (x : Standing). x.id) made_requests.standing) refl (ids-all who how q.standing);
-      fresh = tt;
     })

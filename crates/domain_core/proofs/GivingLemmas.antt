@@ -1,5 +1,5 @@
 -- Buffers that a domain gives back to its peers: the moves at the ends, and what is kept of the peers, the slots and the places.
-use Rattle.std.proofs.Common.{◌≡◌, ℕ, zero, suc, ◌+◌, ◌<◌, ◌≤◌, Bool, true, false, cond, List, [], ◌∷◌, ◌++◌, length, map, Some, refl, sym, ap, ◌∙◌, subst, arith, eq-eqb}
+use Rattle.std.proofs.Common.{◌≡◌, ℕ, zero, suc, ◌+◌, ◌<◌, ◌≤◌, Bool, true, false, cond, List, [], ◌∷◌, ◌++◌, length, map, Some, refl, sym, ap, ◌∙◌, subst, arith}
 use Rattle.std.specs.Prelude.{Contains, count_by, filter, find, is_some, position, slice_get, slice_set, ◌==◌}
 use Rattle.std.specs.List.{AllByRecursion}
 use Rattle.std.proofs.lemmas.Bool.{eqb-true}
@@ -62,13 +62,7 @@ number-there P (z ∷ ps) (suc i) p all there = number-there P ps i p all.1 ther
 apart-below : (m n : ℕ) → m < n → (m == n) ≡ false
 apart-below m n lt = grind arith
 
-apart-above : (m n : ℕ) → m < n → (n == m) ≡ false
-apart-above m n lt = grind arith
-
 -- ---- the moves of one slot
-
-one-move : (s : Slot) (n : ℕ) → (s.peer == n) ≡ true → moves_at [] (s ∷ []) n ≡ receiver (Gave s.buffer) ∷ []
-one-move s n is = ap (λ (b : Bool). giving (map (λ (x : Slot). x.buffer) (cond b (s ∷ []) []))) is
 
 pub no-move : (s : Slot) (n : ℕ) → (s.peer == n) ≡ false → moves_at [] (s ∷ []) n ≡ []
 no-move s n is = ap (λ (b : Bool). giving (map (λ (x : Slot). x.buffer) (cond b (s ∷ []) []))) is
@@ -96,25 +90,6 @@ module _ {L : Type 0} (M : L → List LaneMove → L → Type 0) where
   pub none-given : ((l : L) → M l [] l) → (ps : List (Peer L)) → AllMoved M (ends_of ps) (call_moves [] [] (numbers_of ps)) (ends_of ps)
   none-given m-none [] = tt
   none-given m-none (p ∷ ps) = (m-none p.ends, none-given m-none ps)
-
-  -- one is
-  pub one-given : ((l : L) → M l [] l) → (v : EndsView L) (s : Slot) (ps ps' : List (Peer L)) → AreRising (numbers_of ps) → GivesBack M v s ps ps' → AllMoved M (ends_of ps) (call_moves [] (s ∷ []) (numbers_of ps)) (ends_of ps')
-  one-given m-none v s ps ps' rising gives = subst (λ (xs : List (Peer L)). AllMoved M (ends_of ps) (call_moves [] (s ∷ []) (numbers_of ps)) (ends_of xs)) (sym gives.after) (go ps gives.place rising gives.there)
-    where
-      new : Peer L
-      new = record gives.peer { ends = gives.ends }
-
-      go : (xs : List (Peer L)) (i : ℕ) → AreRising (numbers_of xs) → slice_get xs i ≡ Some gives.peer → AllMoved M (ends_of xs) (call_moves [] (s ∷ []) (numbers_of xs)) (ends_of (slice_set xs i new))
-      go [] i rising there = absurd cc
-      go (p ∷ xs) zero rising there =
-          let is : gives.peer ≡ p = cc in
-          let number : p.number ≡ s.peer = ap (λ (x : Peer L). x.number) (sym is) ∙ gives.is in
-          let one : moves_at [] (s ∷ []) p.number ≡ receiver (Gave s.buffer) ∷ [] = one-move s p.number (eq-eqb s.peer p.number (sym number)) in
-          let after : AllByRecursion (λ m. s.peer < m) (numbers_of xs) = subst (λ (n : ℕ). AllByRecursion (λ m. n < m) (numbers_of xs)) number rising.0 in
-          (subst (λ (ms : List LaneMove). M p.ends ms gives.ends) (sym one) (subst (λ (x : Peer L). M x.ends (receiver (Gave s.buffer) ∷ []) gives.ends) is gives.moved), all-stay m-none (s ∷ []) xs (none-after s (numbers_of xs) after))
-      go (p ∷ xs) (suc i) rising there =
-          let below : p.number < s.peer = subst (λ (n : ℕ). p.number < n) gives.is (number-there (λ m. p.number < m) xs i gives.peer rising.0 there) in
-          (subst (λ (ms : List LaneMove). M p.ends ms p.ends) (sym (no-move s p.number (apart-above p.number s.peer below))) (m-none p.ends), go xs i rising.1 there)
 
   -- and others after it
   pub given-then : ((a b c : L) (xs ys : List LaneMove) → M a xs b → M b ys c → M a (xs ++ ys) c) → (xs ys : List Slot) (ns : List ℕ) (olds bs cs : List L) → AllMoved M olds (call_moves [] xs ns) bs → AllMoved M bs (call_moves [] ys ns) cs → AllMoved M olds (call_moves [] (xs ++ ys) ns) cs

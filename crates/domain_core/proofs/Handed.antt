@@ -2,7 +2,7 @@
 use Rattle.std.proofs.Common.{◌≡◌, ℕ, zero, suc, ◌≤◌, false, List, [], ◌∷◌, ◌++◌, length, map, take, Option, Some, None, refl, sym, ap, ◌∙◌, arith}
 use Rattle.std.specs.Prelude.{count_by, option_map, slice_get}
 use Rattle.std.specs.List.{flat_map}
-use Rattle.std.proofs.lemmas.List.{length-map, map-append}
+use Rattle.std.proofs.lemmas.List.{map-append}
 use Rattle.mc_base.specs.declared.request.RequestId.{RequestId}
 use Rattle.mc_base.specs.declared.request.Slot.{Slot}
 use Rattle.board_model.specs.State as state
@@ -63,9 +63,6 @@ items-handed b (r ∷ rs) =
     ap (λ (xs : List Item). xs ++ flat_map (λ (x : Request). state.item_in x.outcome) (requests_in b rs)) (item-in b r.complete)
     ∙ ap (λ (xs : List Item). map (item_at b) (slots_in r.complete) ++ xs) (items-handed b rs)
     ∙ sym (map-append (item_at b) (slots_in r.complete) (handed_slots rs))
-
-pub length-handed : (b : Book) (rs : List Standing) → length (flat_map (λ (r : Request). state.item_in r.outcome) (requests_in b rs)) ≡ length (handed_slots rs)
-length-handed b rs = ap length (items-handed b rs) ∙ length-map (handed_slots rs) (item_at b)
 
 -- those from a peer are as many as its slots that were handed
 pub handed-from : (b : Book) (number : ℕ) (rs : List Standing) → count_by (is_from number) (flat_map (λ (r : Request). state.item_in r.outcome) (requests_in b rs)) ≡ count_by (is_of number) (handed_slots rs)

@@ -1,21 +1,20 @@
 -- A slot that leaves the queues or the requests, and whose buffer is withdrawn from the book: the lane of its peer has it back, and
 -- every other lane stays in order.
 use Rattle.std.proofs.Common.{◌≡◌, ℕ, ◌+◌, ◌≤◌, List, [], length, None, sym, ap, ◌∙◌, arith}
-use Rattle.std.specs.Prelude.{Contains, count_by}
+use Rattle.std.specs.Prelude.{count_by}
 use Rattle.mc_base.specs.declared.request.Slot.{Slot}
 use Rattle.board_model.specs.State as state
-use Rattle.buffer_book.specs.Book.{Book, IsQueued, with_away}
+use Rattle.buffer_book.specs.Book.{Book, with_away}
 use Rattle.message_queue.specs.Queue.{Waiting}
 use Rattle.request_set.specs.Requests.{Requests}
 use Rattle.domain_core.specs.Table.{with_held}
 use Rattle.domain_core.specs.Records.{Records, all_waiting}
-use Rattle.domain_core.specs.Out.{Out, with_one_back}
+use Rattle.domain_core.specs.Out.{Out}
 use Rattle.domain_core.specs.InBook.{endpoints_in, requests_in, table_in}
 use Rattle.domain_core.specs.InRequests.{handed_slots}
 use Rattle.domain_core.specs.InPlaces.{AreInPlaces, AreInPlacesBut, KeepOthers, is_misplaced, slots_of, times_in, times_waiting}
 use Rattle.domain_core.proofs.Handed.{requests-stay}
-use Rattle.domain_core.proofs.Placed.{HasMore, more-queued, none-left, stands-of, withdrawn, withdrawn-other}
-use Rattle.domain_core.proofs.Outs.{placed-given, queued-is_out}
+use Rattle.domain_core.proofs.Placed.{HasMore, none-left, stands-of, withdrawn, withdrawn-other}
 use Rattle.domain_core.proofs.Slots.{length-more, misplaced-stay, times-all}
 use Rattle.domain_core.proofs.Waits.{endpoints-stay}
 
@@ -31,14 +30,6 @@ module _ (r r' : Records) (q q' : Requests) (b : Book) (s : Slot) (more : HasMor
   left-length = sym (length-more s (slots_of r' q') (slots_of r q) more)
 
   module _ (number : ℕ) (o : Out) (places : AreInPlaces number r q b o) where
-    -- it was in a queue of the book
-    pub left-queued : IsQueued b s
-    left-queued = more-queued s (slots_of r' q') (slots_of r q) b (stands-of number o (slots_of r q) b [] places.each) more
-
-    -- and out at the lane of its peer
-    pub left-out : s.peer ≡ number → Contains o.numbers s.buffer
-    left-out own = queued-is_out number r q b o s own places left-queued
-
     -- it is nowhere now
     none : times_in s (slots_of r' q') ≡ 0
     none = none-left s (slots_of r' q') (slots_of r q) b (stands-of number o (slots_of r q) b [] places.each) more
@@ -72,10 +63,6 @@ module _ (r r' : Records) (q q' : Requests) (b : Book) (s : Slot) (more : HasMor
       each = withdrawn number o (slots_of r' q') (slots_of r q) b [] s own places.each more;
       priorities = left-priorities number o places fewer;
     }
-
-    -- given back
-    pub left-places : (number : ℕ) (o : Out) → s.peer ≡ number → AreInPlaces number r q b o → AreInPlaces number r' q' (with_away b s) (with_one_back o s.buffer)
-    left-places number o own places = placed-given number r' q' (with_away b s) o s.buffer (left-beside number o own places)
 
     pub left-others : KeepOthers s.peer r q b r' q' (with_away b s)
     left-others number o differ places = record {

@@ -46,3 +46,7 @@ pub mod PeerPlaces
 pub mod CountsFrom
 pub mod Sending
 pub mod Asking
+pub mod Stepping
+pub mod Steps
+pub mod Meaning
+pub mod Dropping

@@ -24,19 +24,23 @@ use Rattle.domain_core.specs.declared.ends.Ends.{Ends}
 use Rattle.domain_core.specs.declared.ends.Ends.TheVariants.{Own, Linked}
 use Rattle.domain_core.specs.declared.peer.Peer.{Peer}
 use Rattle.domain_core.specs.AllMoved.{ends_of, numbers_of}
-use Rattle.domain_core.specs.DomainParts.{ends_seen}
+use Rattle.domain_core.specs.Ends.{ends_free, ends_out, ends_shown, ends_size_from, ends_size_to}
 use Rattle.domain_core.specs.InPlaces.{AreInPlaces, EachInPlace, IsShort, one_if}
 use Rattle.domain_core.specs.Opened.{linked_peer, own_peer, peers_opened, placed, size_of, sizes_opened}
 use Rattle.domain_core.specs.Opening.{AreLinksOf, IsOpenLink, ends_opened, neighbour_of, neighbours_opened}
 use Rattle.domain_core.specs.Out.{out_of}
 use Rattle.domain_core.specs.Owed.{owed_by}
-use Rattle.domain_core.specs.Peers.{EndsView, announcement_in, peer_in, state_in}
+use Rattle.domain_core.specs.Peers.{EndsView, announcement_in, peer_in, seen_by, state_in}
 use Rattle.domain_core.specs.Records.{Records, opening_records}
 use Rattle.domain_core.specs.Sound.{AreRising, ArePeers, AreSound, IsSized, buffers_count, out_at, outs_count}
 use Rattle.domain_core.specs.Tied.{linked_among}
 use Rattle.domain_core.proofs.LinkPlaces.{all-placed, length-rising, map-map, map-placed, placed-contains, placed-linked, placed-rising, placed-same, rising-differ}
 
 -- ---- the book of buffers
+
+-- how the ends of a domain are seen, by how its links' senders and receivers are
+abbrev pub ends_seen : {S R : Type 0} → (S → ℕ) → (S → List ℕ) → (R → ℕ) → (R → ℕ) → (R → List ℕ) → EndsView (Ends S R)
+ends_seen size_to free size_from shown out = seen_by (ends_size_to size_to) (ends_size_from size_from) (ends_free free) (ends_shown shown) (ends_out out)
 
 replicated : {X : Type 0} (size i : ℕ) (x : X) → slice_get (replicate size x) i ≡ cond (nat_lt i size) (Some x) None
 replicated {X} size i x = go (nat_lt i size) refl

@@ -107,14 +107,3 @@ module _ {L : Type 0} where
     -- the name of another domain's endpoint is looked up among those known of that peer
     pub other-address : (n : EndName) → n.domain ≢ t.domain → address_of s n ≡ known_address n (peer_of s n.domain)
     other-address n other = ap (λ (x : Bool). cond x (address_at s (local n.node n.port)) (known_address n (peer_of s n.domain))) (ne_eqb n.domain t.domain other)
-
-    -- no address is told of a peer that is not there
-    pub unknown-address : (n : EndName) → Contains (numbers_of ps) t.domain → None ≡ position (λ (p : Peer L). p.number == n.domain) ps → address_of s n ≡ None
-    unknown-address n own at = other-address n differs ∙ ap (known_address n) (no-peer-in n.domain at)
-      where
-        differs : n.domain ≢ t.domain
-        differs same =
-            let found = contained-found (numbers_of ps) t.domain own in
-            let none : position (λ m. m == t.domain) (numbers_of ps) ≡ None = ap (λ (d : ℕ). position (λ m. m == d) (numbers_of ps)) (sym same) ∙ sym (number-place ps n.domain) ∙ sym at in
-            let not-found : false ≡ true = ap (λ (o : Option ℕ). is_some o) (sym none) ∙ found in
-            cc

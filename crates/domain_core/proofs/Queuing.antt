@@ -1,6 +1,6 @@
 -- A buffer that is queued or received: the table of endpoints after it, and the places.
 use Rattle.std.proofs.Common.{◌≡◌, ℕ, ◌+◌, ◌-◌, ◌<◌, ◌≤◌, Bool, true, false, List, [], ◌∷◌, ◌++◌, length, map, Option, None, Some, refl, sym, ap, ◌∙◌, subst, arith, take, drop, eq-eqb}
-use Rattle.std.specs.Prelude.{Contains, count_by, is_some, not, option_map, position, slice_get, slice_index, ◌==◌}
+use Rattle.std.specs.Prelude.{count_by, is_some, not, option_map, position, slice_get, slice_index, ◌==◌}
 use Rattle.std.proofs.lemmas.Bool.{eqb-true}
 use Rattle.std.proofs.lemmas.List.{drop-take, get_or-take, length-take, take-take}
 use Rattle.byteorder.specs.Numbers.{little_from-take}
@@ -16,28 +16,27 @@ use Rattle.board_model.specs.State.{Item}
 use Rattle.board_model.specs.Choice.{best}
 use Rattle.board_model.specs.Dealing.{complete_with, item_of, queued_last}
 use Rattle.board_model.specs.Journal.{taken}
-use Rattle.buffer_book.specs.Book.{AllDiffer, Book, IsAway, IsQueued, Kept, content, queued_at, queued_in, with_away, with_queued}
+use Rattle.buffer_book.specs.Book.{AllDiffer, Book, IsAway, Kept, content, queued_at, queued_in, with_queued}
 use Rattle.message_queue.specs.Queue.{Waiting, waiting}
 use Rattle.request_set.specs.declared.ask.Ask.TheVariants as ask
 use Rattle.request_set.specs.declared.ask.Complete.{Complete}
 use Rattle.request_set.specs.declared.ask.Complete.TheVariants as complete
 use Rattle.request_set.specs.Requests.{IsPending, Requests, Standing, is_id, request_of, with_complete}
 use Rattle.domain_core.specs.declared.endpoints.Endpoint.{Endpoint}
-use Rattle.domain_core.specs.Table.{Held, with_held, with_received_at}
-use Rattle.domain_core.specs.Records.{Records, all_waiting, waiting_in, with_best_taken, with_best_taken_at, with_waiting, with_waiting_at}
-use Rattle.domain_core.specs.Out.{Out, with_one_back}
+use Rattle.domain_core.specs.Table.{Held, with_held}
+use Rattle.domain_core.specs.Records.{Records, all_waiting, waiting_in, with_best_taken, with_waiting, with_waiting_at}
+use Rattle.domain_core.specs.Out.{Out}
 use Rattle.domain_core.specs.InBook.{content_in, endpoints_in, held_by, item_at, item_in, priority_in, request_in, requests_in, source_in, table_in}
 use Rattle.domain_core.specs.InRequests.{AreReceives, handed_slots}
 use Rattle.domain_core.specs.InPlaces.{AreInPlaces, AreInPlacesBut, EachInPlace, KeepOthers, is_misplaced, one_if, slot_at, slots_of, times_in, times_waiting}
 use Rattle.domain_core.specs.Stores.{Stores}
 use Rattle.domain_core.specs.Dealt.{message, message_in}
 use Rattle.domain_core.proofs.Handed.{requests-stay}
-use Rattle.domain_core.proofs.Placed.{HasMore, HaveSame, enqueued, enqueued-other, is-away, none-waits, other-slots, queued-here}
-use Rattle.domain_core.proofs.Leaving.{left-beside, left-length, left-others, left-out, left-places, left-queued, left-table}
+use Rattle.domain_core.proofs.Placed.{HasMore, enqueued, enqueued-other, is-away, none-waits, queued-here}
 use Rattle.domain_core.proofs.Receives.{complete-at, complete_now, each-complete, handed-more, ids-stay, keys-stay, length-stays, map-changed}
-use Rattle.domain_core.proofs.Slots.{handed-has, handed-same, length-more, length-same, misplaced-stay, slots, times-all, waiting-has}
+use Rattle.domain_core.proofs.Slots.{handed-has, length-more, misplaced-stay, slots, times-all, waiting-has}
 use Rattle.domain_core.proofs.Storing.{keeps-queued}
-use Rattle.domain_core.proofs.Waits.{endpoints-less, endpoints-more, endpoints-stay, waiting-less, waiting-more}
+use Rattle.domain_core.proofs.Waits.{endpoints-more, endpoints-stay, waiting-less, waiting-more}
 
 -- ---- what a frame says lies in its buffer
 
@@ -251,21 +250,7 @@ module _ (r : Records) (q : Requests) (b : Book) (i : ℕ) (w : Waiting) (is : b
   pub received-fewer : count_by (is_misplaced b) vs2 ≤ count_by (is_misplaced b) ws2
   received-fewer = let l = waiting-less (is_misplaced b) w r.endpoints i is in omega (arith, l)
 
-  pub received-length : length (slots_of (with_best_taken_at r i) q) + 1 ≡ length (slots_of r q)
-  received-length = left-length r (with_best_taken_at r i) q q b w.slot received-more
-
-  -- every other lane stays in order
-  pub received-others : KeepOthers w.slot.peer r q b (with_best_taken_at r i) q (with_away b w.slot)
-  received-others = left-others r (with_best_taken_at r i) q q b w.slot received-more received-fewer
-
   module _ (number : ℕ) (p : Out) (places : AreInPlaces number r q b p) where
-    -- it was in a queue of the book, with the priority of its frame, and out at the lane of its peer
-    pub received-queued : IsQueued b w.slot
-    received-queued = left-queued r (with_best_taken_at r i) q q b w.slot received-more number p places
-
-    pub received-out : w.slot.peer ≡ number → Contains p.numbers w.slot.buffer
-    received-out own = left-out r (with_best_taken_at r i) q q b w.slot received-more number p places own
-
     pub received-priority : w.priority ≡ priority_in (queued_at b w.slot)
     received-priority =
         let none : one_if (is_misplaced b w) ≡ 0 = let l = waiting-less (is_misplaced b) w r.endpoints i is in let all = places.priorities in omega (arith, l, all) in
@@ -274,27 +259,6 @@ module _ (r : Records) (q : Requests) (b : Book) (i : ℕ) (w : Waiting) (is : b
         matches : (x : Bool) → one_if (not x) ≡ 0 → x ≡ true
         matches true e = refl
         matches false e = absurd (omega (arith, e))
-
-    pub received-beside : w.slot.peer ≡ number → AreInPlacesBut w.slot.buffer number (with_best_taken_at r i) q (with_away b w.slot) p
-    received-beside own = left-beside r (with_best_taken_at r i) q q b w.slot received-more received-fewer number p own places
-
-    pub received-places : w.slot.peer ≡ number → AreInPlaces number (with_best_taken_at r i) q (with_away b w.slot) (with_one_back p w.slot.buffer)
-    received-places own = left-places r (with_best_taken_at r i) q q b w.slot received-more received-fewer number p own places
-
-    pub received-table : table_in (with_away b w.slot) (with_best_taken_at r i) q ≡ with_received_at (table_in b r q) i
-    received-table =
-        left-table r (with_best_taken_at r i) q q b w.slot received-more number p places
-        ∙ ap (λ (xs : List state.Endpoint). with_held (table_in b r q) (record { endpoints = xs; requests = requests_in b q.standing })) (endpoints-less b r.endpoints i)
-
-    -- it goes from its queue to a request that is new
-    pub moved-places : (q' : Requests) → HasMore w.slot hs2 (handed_slots q'.standing) → AreInPlaces number (with_best_taken_at r i) q' b p
-    moved-places q' more =
-        let gs = handed_slots q'.standing in
-        record {
-          each = other-slots number p (slots ws2 ++ hs2) (slots vs2 ++ gs) b []
-              (λ test. let l = received-more test in let m = handed-has w.slot vs2 hs2 gs more test in omega (arith, l, m)) places.each;
-          priorities = let was = places.priorities in let few = received-fewer in omega (arith, was, few);
-        }
 
 -- ---- a message is taken out of its queue, wherever it stands
 
@@ -309,66 +273,13 @@ module _ (r : Records) (q : Requests) (b : Book) (es : List Endpoint) (w : Waiti
   pub out-fewer : count_by (is_misplaced b) (all_waiting es) ≤ count_by (is_misplaced b) (all_waiting r.endpoints)
   out-fewer = let l = one-less (is_misplaced b) in omega (arith, l)
 
-  pub out-length : length (slots_of r4 q) + 1 ≡ length (slots_of r q)
-  out-length = left-length r r4 q q b w.slot out-more
-
-  pub out-others : KeepOthers w.slot.peer r q b r4 q (with_away b w.slot)
-  out-others = left-others r r4 q q b w.slot out-more out-fewer
-
-  module _ (number : ℕ) (p : Out) (places : AreInPlaces number r q b p) where
-    pub out-queued : IsQueued b w.slot
-    out-queued = left-queued r r4 q q b w.slot out-more number p places
-
-    pub out-out : w.slot.peer ≡ number → Contains p.numbers w.slot.buffer
-    out-out own = left-out r r4 q q b w.slot out-more number p places own
-
-    pub out-places_but : w.slot.peer ≡ number → AreInPlacesBut w.slot.buffer number r4 q (with_away b w.slot) p
-    out-places_but own = left-beside r r4 q q b w.slot out-more out-fewer number p own places
-
-    pub out-places : w.slot.peer ≡ number → AreInPlaces number r4 q (with_away b w.slot) (with_one_back p w.slot.buffer)
-    out-places own = left-places r r4 q q b w.slot out-more out-fewer number p own places
-
-    pub out-table : table_in (with_away b w.slot) r4 q ≡ table_in b r4 q
-    out-table = left-table r r4 q q b w.slot out-more number p places
-
 -- ---- what a request held is given back
 
 module _ (r : Records) (q q' : Requests) (b : Book) (s : Slot) (fewer : HasMore s (handed_slots q'.standing) (handed_slots q.standing)) where
   pub ended-more : HasMore s (slots_of r q') (slots_of r q)
   ended-more = handed-has s (all_waiting r.endpoints) (handed_slots q'.standing) (handed_slots q.standing) fewer
 
-  pub ended-length : length (slots_of r q') + 1 ≡ length (slots_of r q)
-  ended-length = left-length r r q q' b s ended-more
-
-  pub ended-others : KeepOthers s.peer r q b r q' (with_away b s)
-  ended-others = left-others r r q q' b s ended-more (omega arith)
-
-  module _ (number : ℕ) (p : Out) (places : AreInPlaces number r q b p) where
-    pub ended-queued : IsQueued b s
-    ended-queued = left-queued r r q q' b s ended-more number p places
-
-    pub ended-out : s.peer ≡ number → Contains p.numbers s.buffer
-    ended-out own = left-out r r q q' b s ended-more number p places own
-
-    pub ended-beside : s.peer ≡ number → AreInPlacesBut s.buffer number r q' (with_away b s) p
-    ended-beside own = left-beside r r q q' b s ended-more (omega arith) number p own places
-
-    pub ended-places : s.peer ≡ number → AreInPlaces number r q' (with_away b s) (with_one_back p s.buffer)
-    ended-places own = left-places r r q q' b s ended-more (omega arith) number p own places
-
-    pub ended-table : table_in (with_away b s) r q' ≡ table_in b r q'
-    ended-table = left-table r r q q' b s ended-more number p places
-
 -- ---- a request that holds nothing is gone, or is new
-
-pub cancelled-places : (r : Records) (q q' : Requests) (b : Book) (number : ℕ) (p : Out) → HaveSame (handed_slots q.standing) (handed_slots q'.standing) → AreInPlaces number r q b p → AreInPlaces number r q' b p
-cancelled-places r q q' b number p same places = record {
-  each = other-slots number p (slots_of r q) (slots_of r q') b [] (handed-same (all_waiting r.endpoints) (handed_slots q.standing) (handed_slots q'.standing) same) places.each;
-  priorities = places.priorities;
-}
-
-pub cancelled-length : (r : Records) (q q' : Requests) → HaveSame (handed_slots q.standing) (handed_slots q'.standing) → length (slots_of r q') ≡ length (slots_of r q)
-cancelled-length r q q' same = length-same (slots_of r q) (slots_of r q') (handed-same (all_waiting r.endpoints) (handed_slots q.standing) (handed_slots q'.standing) same)
 
 -- what waits and what was handed are the same
 pub same-held : (r r' : Records) (q q' : Requests) (b : Book) (number : ℕ) (p : Out) → all_waiting r'.endpoints ≡ all_waiting r.endpoints → handed_slots q'.standing ≡ handed_slots q.standing → AreInPlaces number r q b p → AreInPlaces number r' q' b p

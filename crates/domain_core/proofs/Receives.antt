@@ -92,9 +92,6 @@ pub others-fresh : (id : RequestId) (rs : List Standing) → AllByRecursion (λ 
 others-fresh id [] all = tt
 others-fresh id (r ∷ rs) all = (false_from_ne_true (r.id.key == id.key) (λ same. all.0 (eqb-true r.id.key id.key same)), others-fresh id rs all.1)
 
-completed-by : Bool → Complete → Standing → Standing
-completed-by b how r = cond b (record r { complete = Some how }) r
-
 abbrev pub complete_now : Complete → Standing → Standing
 complete_now how r = record r { complete = Some how }
 

@@ -1,47 +1,32 @@
 -- An endpoint that is ended: the words of the call, what it leaves, and what is kept.
-use Rattle.std.proofs.Common.{◌≡◌, ℕ, ◌≤◌, Bool, true, false, cond, List, [], ◌∷◌, length, map, Option, Some, None, zero, suc, refl, sym, ap, ◌∙◌, subst, arith}
+use Rattle.std.proofs.Common.{◌≡◌, ℕ, ◌≤◌, Bool, true, false, cond, List, [], ◌∷◌, map, Option, Some, zero, suc, refl, sym, ap, ◌∙◌, subst, arith}
 use Rattle.std.specs.Prelude.{Contains, count_by, is_some, not, option_and_then, option_map, position, slice_get, unwrap_or, Ok, Err, ◌==◌}
 use Rattle.std.specs.List.{AllByRecursion}
 use Rattle.std.proofs.lemmas.Bool.{eqb-true}
-use Rattle.std.proofs.lemmas.List.{length-map}
 use Rattle.std.proofs.lemmas.Option.{slice_get-map}
 use Rattle.mc_base.specs.declared.name.Local.{Local}
-use Rattle.mc_base.specs.declared.refusal.Refusal.{Refusal}
 use Rattle.mc_base.specs.declared.refusal.Refusal.TheVariants.{EndpInvalid}
 use Rattle.endpoint_table.specs.Table as table
 use Rattle.endpoint_table.specs.Table.{Table, delete_answer, deleted}
 use Rattle.board_model.specs.DomainCall.{DomainCall, delete_at}
-use Rattle.board_model.specs.Journal.{tells}
-use Rattle.board_model.specs.Lists.{without}
 use Rattle.board_model.specs.State as state
 use Rattle.board_model.specs.State.{DomainState, Item, address_at, endpoint_at, is_at, queue_at, queue_in}
-use Rattle.board_model.specs.Answer.{puts, refusal, unless_refused}
-use Rattle.board_model.specs.Effect.{success_effect, success_returns, without_endpoint}
 use Rattle.board_model.proofs.ListsCounts.{count-append, count-cons}
 use Rattle.buffer_book.specs.Book.{Book, queued_at}
 use Rattle.message_queue.specs.Queue.{Waiting}
-use Rattle.request_set.specs.Requests.{Requests, Standing}
+use Rattle.request_set.specs.Requests.{Requests}
 use Rattle.domain_core.specs.declared.endpoints.Endpoint.{Endpoint}
 use Rattle.domain_core.specs.declared.peer.Peer.{Peer}
-use Rattle.domain_core.specs.AllMoved.{AllMoved, call_moves, ends_of, numbers_of}
-use Rattle.domain_core.specs.Calls.{Does}
-use Rattle.domain_core.specs.DomainView.{domain_in}
-use Rattle.domain_core.specs.InBook.{content_in, endpoint_in, endpoints_in, item_at, item_in, priority_in, source_in, table_in}
+use Rattle.domain_core.specs.AllMoved.{numbers_of}
+use Rattle.domain_core.specs.InBook.{content_in, endpoint_in, endpoints_in, item_at, item_in, priority_in, source_in}
 use Rattle.domain_core.specs.InPlaces.{is_misplaced, one_if}
-use Rattle.domain_core.specs.LaneMoves.{LaneMove}
-use Rattle.domain_core.specs.Peers.{EndsView, peers_in, state_in}
+use Rattle.domain_core.specs.Peers.{EndsView, state_in}
 use Rattle.domain_core.specs.Records.{Records, all_waiting, slots_at, waiting_in, without_record_at}
 use Rattle.domain_core.specs.Sound.{AreSound}
-use Rattle.domain_core.specs.Stores.{KeepsBut}
-use Rattle.domain_core.specs.Table as held
-use Rattle.domain_core.specs.Table.{with_deleted_at}
 use Rattle.domain_core.specs.Tied.{AreTied}
-use Rattle.domain_core.proofs.Calling.{answer-done, delete-is, puts-nothing, same-ids}
-use Rattle.domain_core.proofs.GivingLemmas.{InPlacesAt, numbers-in}
+use Rattle.domain_core.proofs.GivingLemmas.{InPlacesAt}
 use Rattle.domain_core.proofs.Placed.{no-one}
 use Rattle.domain_core.proofs.Slots.{slots}
-use Rattle.domain_core.proofs.Tables.{channels-none}
-use Rattle.domain_core.proofs.TiedStates.{ended-state}
 use Rattle.domain_core.proofs.Tying.{ended_table, is_named, live-there, named-there, place-is, tied-ended}
 use Rattle.domain_core.proofs.Waits.{queue-there}
 
@@ -88,7 +73,7 @@ module _ {L : Type 0} (v : EndsView L) (b : Book) (r : Records) (q : Requests) (
   named-place : position (is_named at) r.endpoints ≡ Some i
   named-place = sym (place-is b r.endpoints at) ∙ place
 
-  the : (e : Endpoint) × (slice_get r.endpoints i ≡ Some e) × (e.local ≡ at)
+  pub the : (e : Endpoint) × (slice_get r.endpoints i ≡ Some e) × (e.local ≡ at)
   the = named-there at r.endpoints i named-place
 
   live : table.live_at t at ≡ Some (record { local = the.0.local; address = the.0.address; live = true })
@@ -98,49 +83,21 @@ module _ {L : Type 0} (v : EndsView L) (b : Book) (r : Records) (q : Requests) (
   pub delete-allowed : delete_answer t at ≡ Ok tt
   delete-allowed = ap (λ o. cond (is_some o) (Ok tt) (Err EndpInvalid)) live
 
-  deleted-is : deleted t at ≡ ended_table t the.0
+  pub deleted-is : deleted t at ≡ ended_table t the.0
   deleted-is = ap (table.ended_in t) live
 
   pub delete-tied : (r' : Records) (t' : Table) → r' ≡ without_record_at r i → t' ≡ deleted t at → AreTied r' t' (numbers_of ps)
   delete-tied r' t' er et =
       subst (λ (x : Records). AreTied x t' (numbers_of ps)) (sym er) (subst (λ (x : Table). AreTied (without_record_at r i) x (numbers_of ps)) (sym (et ∙ deleted-is)) (tied-ended r t (numbers_of ps) i the.0 sound.tied the.1))
 
-  unrefused : refusal s at.node call ≡ None
-  unrefused = delete-is s at.node at.port true (ap (λ (o : Option ℕ). is_some o) place) (channels-none b r.endpoints (position (is_at at) (endpoints_in b r.endpoints)))
-
   there : endpoint_at s at ≡ Some (endpoint_in b the.0)
   there = ap (λ (o : Option ℕ). option_and_then (λ k. slice_get s.endpoints k) o) place ∙ slice_get-map (endpoint_in b) r.endpoints i ∙ ap (option_map (endpoint_in b)) the.1
 
-  address : unwrap_or (address_at s at) 0 ≡ the.0.address
-  address = ap (λ (o : Option state.Endpoint). unwrap_or (option_map (λ (e : state.Endpoint). e.address) o) 0) there
+  pub gone-address : unwrap_or (address_at s at) 0 ≡ the.0.address
+  gone-address = ap (λ (o : Option state.Endpoint). unwrap_or (option_map (λ (e : state.Endpoint). e.address) o) 0) there
 
   queue : queue_at s at ≡ map (item_in b) waits
   queue = ap (λ (o : Option ℕ). queue_in (option_and_then (λ k. slice_get s.endpoints k) o)) place ∙ queue-there b r.endpoints i
 
-  items : map (item_at b) (slots_at r i) ≡ map (item_in b) waits
-  items = items-at b waits (let none = none-misplaced v b r q r.number ps sound.peers.own sound.places in omega (arith, none, count-within (is_misplaced b) r.endpoints i))
-
-  pub delete-does : (M : L → List LaneMove → L → Type 0) (b' : Book) (r' : Records) (q' : Requests) (t' : Table) (ps' : List (Peer L)) (dropped : ℕ) → t' ≡ deleted t at
-      → dropped ≡ length (slots_at r i) → table_in b' r' q' ≡ with_deleted_at (table_in b r q) i at → map (λ (x : Standing). x.id) q'.standing ≡ map (λ (x : Standing). x.id) q.standing
-      → AllMoved M (ends_of ps) (call_moves [] (slots_at r i) (numbers_of ps)) (ends_of ps') → KeepsBut (slots_at r i) b b' → ((x : Table) → peers_in v x ps' ≡ peers_in v x ps)
-      → Does M at.node call (domain_in v b r q t ps) (domain_in v b' r' q' t' ps') (tells dropped) None
-  delete-does M b' r' q' t' ps' dropped et count left ids moved stays peers =
-      let endpoints = ap (λ (x : held.Table). x.held.endpoints) left ∙ ap (λ (o : Option ℕ). without o s.endpoints) (sym place) in
-      let requests = ap (λ (x : held.Table). x.held.requests) left in
-      let given = ap (λ (x : held.Table). x.requests_given) left in
-      let long : dropped ≡ length (queue_at s at) = count ∙ length-map waits (λ (w : Waiting). w.slot) ∙ sym (length-map waits (item_in b)) ∙ ap length (sym queue) in
-      let none : puts s at.node call ≡ [] = puts-nothing s at.node call refl in
-      record {
-        answer = ap tells long ∙ sym (answer-done s at.node call unrefused);
-        state = ap (λ (x : Table). state_in v b' r' q' x ps') (et ∙ deleted-is)
-            ∙ ended-state v b b' r q q' t ps ps' sound.peers.rising sound.tied r' at i the.0 the.1 the.2 endpoints requests given (peers (ended_table t the.0))
-            ∙ ap (λ (n : ℕ). without_endpoint s at n) (sym address)
-            ∙ sym (ap (λ (o : Option Refusal). unless_refused o s (success_effect s at.node call)) unrefused);
-        slots = slots_at r i;
-        returned = items ∙ sym queue ∙ sym (ap (λ (o : Option Refusal). unless_refused o [] (success_returns s at.node call)) unrefused);
-        moved = subst (λ (fs : List (ℕ × List ℕ)). AllMoved M (ends_of ps) (call_moves fs (slots_at r i) (map (λ (p : state.Peer). p.number) s.peers)) (ends_of ps')) (sym none)
-            (subst (λ (ns : List ℕ). AllMoved M (ends_of ps) (call_moves [] (slots_at r i) ns) (ends_of ps')) (sym (numbers-in v t ps)) moved);
-        stays = stays;
-        ids = same-ids s at.node call (map (λ (x : Standing). x.id) q.standing) (map (λ (x : Standing). x.id) q'.standing) refl ids;
-        fresh = tt;
-      }
+  pub gone-items : map (item_at b) (slots_at r i) ≡ queue_at s at
+  gone-items = items-at b waits (let none = none-misplaced v b r q r.number ps sound.peers.own sound.places in omega (arith, none, count-within (is_misplaced b) r.endpoints i)) ∙ sym queue

@@ -1,7 +1,6 @@
 -- What stands in the book of buffers under the numbers with which it was taken, as frames are taken and buffers are given back.
 use Rattle.std.proofs.Common.{◌≡◌, ℕ, Bool, true, false, List, [], ◌∷◌, ◌++◌, length, Option, None, refl, ap, ◌∙◌, arith}
 use Rattle.std.specs.Prelude.{Contains, is_some, option_and_then}
-use Rattle.std.proofs.lemmas.List.Elements.{Contains-append_left, Contains-append_right}
 use Rattle.mc_base.specs.declared.fate.Fate.{Fate}
 use Rattle.mc_base.specs.declared.request.Slot.{Slot}
 use Rattle.board_model.specs.Journal.{Taken, taken}
@@ -81,9 +80,3 @@ keeps-away b s =
     each-slot s (λ t. IsQueued b t → (Contains (s ∷ []) t → ⊥) → queued_at (with_away b s) t ≡ queued_at b t)
     (λ is other. absurd (other (0, omega arith, refl)))
     (λ t differ is other. queued-there b s None t differ)
-
--- and one more
-pub keeps-away_more : (ss : List Slot) (b b' : Book) (s : Slot) → KeepsBut ss b b' → KeepsBut (ss ++ s ∷ []) b (with_away b' s)
-keeps-away_more ss b b' s keeps t is other =
-    let same = keeps t is (λ among. other (Contains-append_left ss (s ∷ []) t among)) in
-    keeps-away b' s t (ap (λ (o : Option Kept). is_some o) same ∙ is) (λ among. other (Contains-append_right ss (s ∷ []) t among)) ∙ same

@@ -49,9 +49,6 @@ waiting-less test w (e ∷ es) (suc i) is =
 pub length-more : (w : Waiting) (es : List Endpoint) (i : ℕ) → i < length es → length (all_waiting (changed_at (with_waiting w) i es)) ≡ length (all_waiting es) + 1
 length-more w es i lt = sym (count-every (all_waiting (changed_at (with_waiting w) i es))) ∙ waiting-more (λ (x : Waiting). true) w es i lt ∙ ap (λ (n : ℕ). n + 1) (count-every (all_waiting es))
 
-pub length-less : (w : Waiting) (es : List Endpoint) (i : ℕ) → best (λ (x : Waiting). x.priority) (waiting_in (slice_get es i)) ≡ Some w → length (all_waiting (changed_at with_best_taken i es)) + 1 ≡ length (all_waiting es)
-length-less w es i is = ap (λ (n : ℕ). n + 1) (sym (count-every (all_waiting (changed_at with_best_taken i es)))) ∙ waiting-less (λ (x : Waiting). true) w es i is ∙ count-every (all_waiting es)
-
 -- a new endpoint has nothing
 pub waiting-new : (es : List Endpoint) (e : Endpoint) → e.queue.waiting ≡ [] → all_waiting (es ++ e ∷ []) ≡ all_waiting es
 waiting-new [] e none = ap (λ (ws : List Waiting). ws ++ []) none
@@ -111,9 +108,6 @@ best-there b es i w is =
     ap (best (λ (x : Item). x.priority)) (queue-there b es i)
     ∙ best-map (item_in b) (λ (x : Waiting). x.priority) (λ (x : Item). x.priority) (λ x. refl) (waiting_in (slice_get es i))
     ∙ ap (λ (o : Option Waiting). option_map (item_in b) o) is
-
-pub none-there : (b : Book) (es : List Endpoint) (i : ℕ) → waiting_in (slice_get es i) ≡ [] → length (queue_in (slice_get (endpoints_in b es) i)) ≡ 0
-none-there b es i none = ap length (queue-there b es i ∙ ap (map (item_in b)) none)
 
 -- ---- all items
 

@@ -24,10 +24,13 @@ pub mod Sound
 pub mod DomainView
 pub mod Turned
 pub mod Calls
+pub mod Parts
+pub mod Steps
+pub mod CallSteps
+pub mod HoldingParts
 pub mod GivingBack
 pub mod Opening
 pub mod Opened
 pub mod Carrying
 pub mod Carried
 pub mod Going
-pub mod DomainParts

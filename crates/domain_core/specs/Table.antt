@@ -1,12 +1,8 @@
 -- The endpoints and requests of a domain, as its parts see them.
 -- Source: docs/PROFILE.md, "A domain".
-use Rattle.std.specs.Prelude.{ℕ, List, [], map}
+use Rattle.std.specs.Prelude.{ℕ, List, []}
 use Rattle.std.specs.List.{flat_map}
-use Rattle.mc_base.specs.declared.name.Local.{Local}
-use Rattle.mc_base.specs.declared.refusal.Refusal.TheVariants.{EndpInvalid}
-use Rattle.board_model.specs.Lists.{changed_at, without_at}
 use Rattle.board_model.specs.State.{DomainState, Endpoint, Item, Request}
-use Rattle.board_model.specs.Effect.{received, ended_by_word}
 
 -- what a frame that is taken may change
 pub record Held : Type 0 where
@@ -39,14 +35,6 @@ items_in es = flat_map (λ e. e.queue) es
 
 abbrev pub with_held : Table → Held → Table
 with_held t h = record t { held = h }
-
--- the item that is received at a place is gone
-abbrev pub with_received_at : Table → ℕ → Table
-with_received_at t i = with_held t (record t.held { endpoints = changed_at received i t.held.endpoints })
-
--- the endpoint at a place is gone, and receives that wait there have ended
-abbrev pub with_deleted_at : Table → ℕ → Local → Table
-with_deleted_at t i at = with_held t (record { endpoints = without_at i t.held.endpoints; requests = map (ended_by_word EndpInvalid at) t.held.requests })
 
 abbrev pub with_requests : Table → List Request → Table
 with_requests t rs = with_held t (record t.held { requests = rs })

@@ -8,28 +8,18 @@ ghost use Rattle.domain_core.specs.Ends.{EndsMoved};
 ghost use Rattle.domain_core.specs.Room.{call_entries, call_bytes};
 ghost use Rattle.domain_core.specs.DomainView.{place_of_id};
 ghost use Rattle.domain_core.specs.Turned.{MakesTurn};
-ghost use Rattle.domain_core.specs.Calls.{Calls, Does, GivesTo, created, deleted, sent, received, requested, given, available, tested, cancelled};
+ghost use Rattle.domain_core.specs.Calls.{Calls, GivesTo, created, deleted, sent, received, requested, given, available, tested, cancelled};
 
-mod endpoint_calls;
-mod message_calls;
 mod opening;
-mod request_calls;
 
-use crate::endpoints::Endpoints;
 use crate::ends::Ends;
+use crate::holdings::Holdings;
 use crate::link_room::LinkRoom;
-use crate::peer::Peer;
-use crate::peers::place_of;
-use crate::requests::messages_handed_from;
-use crate::turn::make_turn;
-use buffer_book::BufferBook;
 pub use buffer_book::Places;
-use endpoint_table::EndpointTable;
 use lane_end::{RecvEnd, SendEnd};
 use mc_base::{Done, EndName, Got, Local, Priority, Refusal, RequestId};
 use mc_journal::Journal;
 pub use opening::carry;
-use request_set::RequestSet;
 use std::marker::Model;
 
 /// The room that a call needs in the journal: for so many entries.
@@ -45,24 +35,18 @@ pub const CALL_BYTES: u32 = 67_584;
 /// told. A refused call changes nothing after its turn. No call uses more than that room.
 #[derive(Debug, Drop)]
 pub struct Domain<S: SendEnd, R: RecvEnd> {
-    endpoints: Endpoints,
-    table: EndpointTable,
-    book: BufferBook,
-    peers: Vec<Peer<Ends<S, R>>>,
-    requests: RequestSet,
+    inside: Holdings<Ends<S, R>>,
     room: LinkRoom<S, R>,
 }
 
 impl<S: SendEnd, R: RecvEnd> Model for Domain<S, R> {
     ghost use Rattle.domain_core.specs.declared.ends.Ends.{Ends};
     ghost use Rattle.domain_core.specs.DomainView.{DomainView};
-    ghost use Rattle.domain_core.specs.DomainParts.{ends_seen, view_of, IsSound};
+    ghost use Rattle.domain_core.specs.Parts.{shown};
 
     ghost Value = { DomainView (Ends S R) };
 
-    ghost view = { view_of (ends_seen S.size S.free R.size R.shown R.out) };
-
-    ghost invariant = { IsSound (ends_seen S.size S.free R.size R.shown R.out) };
+    ghost view = { λ d. shown d.inside };
 }
 
 impl<S: SendEnd, R: RecvEnd> Domain<S, R> {
@@ -79,8 +63,8 @@ impl<S: SendEnd, R: RecvEnd> Domain<S, R> {
         ensures entry_room { journal.old.entry_room ≤ journal.new.entry_room + call_entries }
         ensures byte_room { journal.old.byte_room ≤ journal.new.byte_room + call_bytes }
     {
-        self.take_turn(journal);
-        self.add_endpoint(at)
+        self.inside.take_turn(journal);
+        self.inside.add_endpoint(at)
     }
 
     /// Ends an endpoint, and answers how many messages were dropped that waited there. Their buffers are given back, the oldest
@@ -95,8 +79,8 @@ impl<S: SendEnd, R: RecvEnd> Domain<S, R> {
         ensures entry_room { journal.old.entry_room ≤ journal.new.entry_room + call_entries }
         ensures byte_room { journal.old.byte_room ≤ journal.new.byte_room + call_bytes }
     {
-        self.take_turn(journal);
-        self.remove_endpoint(at)
+        self.inside.take_turn(journal);
+        self.inside.remove_endpoint(at)
     }
 
     /// Begins a lookup of an endpoint's address. It is complete at once where the endpoint is live in this domain, or known from
@@ -110,8 +94,8 @@ impl<S: SendEnd, R: RecvEnd> Domain<S, R> {
         ensures entry_room { journal.old.entry_room ≤ journal.new.entry_room + call_entries }
         ensures byte_room { journal.old.byte_room ≤ journal.new.byte_room + call_bytes }
     {
-        self.take_turn(journal);
-        self.begin_lookup(name)
+        self.inside.take_turn(journal);
+        self.inside.begin_lookup(name)
     }
 
     /// Makes a turn alone, and answers whether it was idle: nothing was shown, put or taken.
@@ -123,7 +107,7 @@ impl<S: SendEnd, R: RecvEnd> Domain<S, R> {
         ensures entry_room { journal.old.entry_room ≤ journal.new.entry_room + call_entries }
         ensures byte_room { journal.old.byte_room ≤ journal.new.byte_room + call_bytes }
     {
-        self.take_turn(journal)
+        self.inside.take_turn(journal)
     }
 
     /// Sends a message of at most 488 bytes, on the lane to the named endpoint's domain.
@@ -145,8 +129,8 @@ impl<S: SendEnd, R: RecvEnd> Domain<S, R> {
         ensures entry_room { journal.old.entry_room ≤ journal.new.entry_room + call_entries }
         ensures byte_room { journal.old.byte_room ≤ journal.new.byte_room + call_bytes }
     {
-        self.take_turn(journal); // Buffers that came back are free from here on.
-        self.put_message(journal, from, to, priority, bytes)
+        self.inside.take_turn(journal); // Buffers that came back are free from here on.
+        self.inside.put_message(journal, from, to, priority, bytes)
     }
 
     /// Receives the oldest message of the best priority. Its first bytes, as many as fit, go to `out`; what lies behind
@@ -168,8 +152,8 @@ impl<S: SendEnd, R: RecvEnd> Domain<S, R> {
         ensures entry_room { journal.old.entry_room ≤ journal.new.entry_room + call_entries }
         ensures byte_room { journal.old.byte_room ≤ journal.new.byte_room + call_bytes }
     {
-        self.take_turn(journal);
-        self.take_message(at, out)
+        self.inside.take_turn(journal);
+        self.inside.take_message(at, out)
     }
 
     /// Begins a receive of a message, of which so many bytes are given at most. Where a message waits, the oldest of the best
@@ -188,8 +172,8 @@ impl<S: SendEnd, R: RecvEnd> Domain<S, R> {
         ensures entry_room { journal.old.entry_room ≤ journal.new.entry_room + call_entries }
         ensures byte_room { journal.old.byte_room ≤ journal.new.byte_room + call_bytes }
     {
-        self.take_turn(journal);
-        self.begin_receive(at, max)
+        self.inside.take_turn(journal);
+        self.inside.begin_receive(at, max)
     }
 
     /// How many messages wait at an endpoint.
@@ -202,8 +186,8 @@ impl<S: SendEnd, R: RecvEnd> Domain<S, R> {
         ensures entry_room { journal.old.entry_room ≤ journal.new.entry_room + call_entries }
         ensures byte_room { journal.old.byte_room ≤ journal.new.byte_room + call_bytes }
     {
-        self.take_turn(journal);
-        self.count_messages(at)
+        self.inside.take_turn(journal);
+        self.inside.count_messages(at)
     }
 
     /// Ends a request that is complete, and answers how: with a message, the address that was looked up, or the word with which
@@ -227,8 +211,8 @@ impl<S: SendEnd, R: RecvEnd> Domain<S, R> {
         ensures entry_room { journal.old.entry_room ≤ journal.new.entry_room + call_entries }
         ensures byte_room { journal.old.byte_room ≤ journal.new.byte_room + call_bytes }
     {
-        self.take_turn(journal);
-        self.end_request(id, out)
+        self.inside.take_turn(journal);
+        self.inside.end_request(id, out)
     }
 
     /// Ends a request that is pending.
@@ -241,15 +225,15 @@ impl<S: SendEnd, R: RecvEnd> Domain<S, R> {
         ensures entry_room { journal.old.entry_room ≤ journal.new.entry_room + call_entries }
         ensures byte_room { journal.old.byte_room ≤ journal.new.byte_room + call_bytes }
     {
-        self.take_turn(journal);
-        self.end_pending(id)
+        self.inside.take_turn(journal);
+        self.inside.end_pending(id)
     }
 
     /// Whether there is a lane to a domain: it is this one, or linked to it.
     pub fn has_peer(&self, number: u8) -> bool
         ensures { result ≡ is_some (place_of_peer self.now.state number) }
     {
-        place_of(&self.peers, number).is_some()
+        self.inside.has_peer(number)
     }
 
     /// How many buffers of the lane from a peer stand in queues, and how many are lent, or `None` where there is no such lane.
@@ -259,37 +243,13 @@ impl<S: SendEnd, R: RecvEnd> Domain<S, R> {
         ensures queue { IfSome result (λ p. p.queue ≡ queued_from peer self.now.state) }
         ensures lent { IfSome result (λ p. p.lent ≡ lent_from peer self.now.state) }
     {
-        place_of(&self.peers, peer)?;
-        let lent = messages_handed_from(&self.requests, peer);
-        Some(Places {
-            queue: self.book.places(peer).queue - lent, // In the book all are in queues.
-            lent,
-        })
+        self.inside.places(peer)
     }
 
     /// How many messages are queued on all endpoints.
     pub fn messages_queued(&self) -> u32
         ensures { result ≡ length (queued_items self.now.state) }
     {
-        self.endpoints.queued() as u32
-    }
-
-    /// Makes a turn, notes it, and answers whether it was idle. A call of a turn alone does no more.
-    fn take_turn(&mut self, journal: &mut Journal) -> bool
-        requires entry_room { 145 ≤ journal.old.entry_room }
-        requires byte_room { 65536 ≤ journal.old.byte_room }
-        ensures turn { MakesTurn (EndsMoved S.Moved R.Moved) self.old self.new journal.old.lines journal.new.lines result }
-        ensures alone { Does (EndsMoved S.Moved R.Moved) 0 turn_alone self.new self.new agrees None }
-        ensures entry_room { journal.old.entry_room ≤ journal.new.entry_room + 145 }
-        ensures byte_room { journal.old.byte_room ≤ journal.new.byte_room + 65536 }
-    {
-        make_turn(
-            &mut self.endpoints,
-            &mut self.book,
-            &mut self.requests,
-            &mut self.table,
-            &mut self.peers,
-            journal,
-        )
+        self.inside.messages_queued()
     }
 }

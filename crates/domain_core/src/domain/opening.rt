@@ -9,17 +9,12 @@ ghost use Rattle.domain_core.specs.Carrying.{AreLinked, link_to, with_carried};
 ghost use Rattle.domain_core.specs.Opening.{IsOpenLink, AreLinksOf, neighbours_opened, ends_opened, links_in};
 ghost use Rattle.lane_end.specs.Loop.{new_loop};
 
-use crate::carrying::carry_between;
 use crate::domain::Domain;
-use crate::endpoints::Endpoints;
+use crate::holdings::{self, Holdings};
 use crate::link::Link;
 use crate::link_room::LinkRoom;
-use crate::linking::{buffers_in, links_of, numbers_of, peers_of, sizes_of};
-use buffer_book::BufferBook;
-use endpoint_table::EndpointTable;
 use lane_end::{PlainRecv, PlainSend, RecvEnd, SendEnd};
 use mc_base::NoMemory;
-use request_set::RequestSet;
 use std::alloc::Global;
 
 impl<S: SendEnd + Drop, R: RecvEnd + Drop> Domain<S, R> {
@@ -46,14 +41,8 @@ impl<S: SendEnd + Drop, R: RecvEnd + Drop> Domain<S, R> {
         ensures ids { IfOk result (λ d. d.ids ≡ []) }
         ensures book { IfOk result (λ d. (s : Slot) → kept_at d.book s ≡ None) }
     {
-        let linked = numbers_of(alloc, &links)?;
-        let sizes = sizes_of(alloc, number, pool, &links)?;
         Ok(Domain {
-            endpoints: Endpoints::open(alloc, number, buffers_in(&sizes))?,
-            table: EndpointTable::new(alloc, number, nodes, &linked)?,
-            book: BufferBook::new(alloc, &sizes)?,
-            peers: peers_of(alloc, number, pool, links)?,
-            requests: RequestSet::new(alloc)?,
+            inside: Holdings::open(alloc, number, nodes, pool, links)?,
             room: LinkRoom::new(alloc)?,
         })
     }
@@ -62,7 +51,7 @@ impl<S: SendEnd + Drop, R: RecvEnd + Drop> Domain<S, R> {
     pub fn into_links(self) -> Vec<Link<S, R>>
         ensures { result.items ≡ links_in self.ends }
     {
-        links_of(self.room, self.peers)
+        self.inside.into_links(self.room)
     }
 }
 
@@ -74,7 +63,5 @@ pub fn carry(one: &mut Domain<PlainSend, PlainRecv>, two: &mut Domain<PlainSend,
     ensures two { IfSome (link_to two.old.state.number one.old.ends) (λ a. two.new ≡ record two.old { ends = with_carried one.old.state.number a two.old.ends }) }
     ensures linked { AreLinked one.new.state.number two.new.state.number one.new.ends two.new.ends }
 {
-    let first = one.endpoints.number();
-    let second = two.endpoints.number();
-    carry_between(&mut one.peers, first, &mut two.peers, second);
+    holdings::carry(&mut one.inside, &mut two.inside);
 }

@@ -2,9 +2,12 @@ use Rattle.std.proofs.Common.{refl, None}
 use Rattle.board_model.specs.DomainCall.{create_at}
 use Rattle.domain_core.specs.Calls.{created}
 use Rattle.domain_core.specs.Ends.{EndsMoved}
+use Rattle.domain_core.specs.Parts.{shown}
 use Rattle.domain_core.proofs.CallLemmas.{calls-of}
 use Rattle.domain_core.proofs.domain.Domain.create.Goals as goal
 
 pub returns-clause-call : goal.returns-clause-call
 returns-clause-call g c =
-    calls-of (EndsMoved g.S.SendEnd.Moved g.R.RecvEnd.Moved) c.args.at.node (create_at c.args.at.port) c.args.self.now c.take_turn.new.self c.add_endpoint.new.self c.args.journal.now.lines c.take_turn.new.journal.lines c.take_turn.result (created c.add_endpoint.result) None refl c.take_turn.ensures.turn c.add_endpoint.ensures
+    rw c.self.view_is at
+    (calls-of (EndsMoved g.S.SendEnd.Moved g.R.RecvEnd.Moved) c.args.at.node (create_at c.args.at.port) c.take_turn.new.self c.add_endpoint.new.self (created c.add_endpoint.result) None (shown c.self.inside.inside) c.args.journal.now.lines c.take_turn.new.journal.lines c.take_turn.result
+    refl c.take_turn.ensures.turn c.take_turn.ensures.rests c.add_endpoint.ensures)

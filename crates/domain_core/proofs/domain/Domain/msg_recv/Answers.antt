@@ -1,10 +1,13 @@
-use Rattle.std.proofs.Common.{refl, length, None}
+use Rattle.std.proofs.Common.{refl, None, length}
 use Rattle.board_model.specs.DomainCall.{receive_at}
 use Rattle.domain_core.specs.Calls.{received}
 use Rattle.domain_core.specs.Ends.{EndsMoved}
+use Rattle.domain_core.specs.Parts.{shown}
 use Rattle.domain_core.proofs.CallLemmas.{calls-of}
 use Rattle.domain_core.proofs.domain.Domain.msg_recv.Goals as goal
 
 pub returns-clause-call : goal.returns-clause-call
 returns-clause-call g c =
-    calls-of (EndsMoved g.S.SendEnd.Moved g.R.RecvEnd.Moved) c.args.at.node (receive_at c.args.at.port (length c.args.out.now)) c.args.self.now c.take_turn.new.self c.take_message.new.self c.args.journal.now.lines c.take_turn.new.journal.lines c.take_turn.result (received c.take_message.result c.take_message.new.out) None refl c.take_turn.ensures.turn c.take_message.ensures.does
+    rw c.self.view_is at
+    (calls-of (EndsMoved g.S.SendEnd.Moved g.R.RecvEnd.Moved) c.args.at.node (receive_at c.args.at.port (length c.args.out.now)) c.take_turn.new.self c.take_message.new.self (received c.take_message.result c.take_message.new.out) None (shown c.self.inside.inside) c.args.journal.now.lines c.take_turn.new.journal.lines c.take_turn.result
+    refl c.take_turn.ensures.turn c.take_turn.ensures.rests c.take_message.ensures.acts)

@@ -1,11 +1,17 @@
-use Rattle.std.proofs.Common.{refl, None, subst}
+use Rattle.std.proofs.Common.{None, refl, subst}
 use Rattle.board_model.specs.DomainCall.{test_of}
-use Rattle.domain_core.specs.Calls.{Does, tested}
-use Rattle.domain_core.specs.DomainView.{place_of_id}
+use Rattle.domain_core.specs.Calls.{Calls, tested}
 use Rattle.domain_core.specs.Ends.{EndsMoved}
+use Rattle.domain_core.specs.DomainView.{place_of_id}
+use Rattle.domain_core.specs.Parts.{shown}
 use Rattle.domain_core.proofs.CallLemmas.{calls-of}
 use Rattle.domain_core.proofs.domain.Domain.test.Goals as goal
 
 pub returns-clause-call : goal.returns-clause-call
 returns-clause-call g c =
-    calls-of (EndsMoved g.S.SendEnd.Moved g.R.RecvEnd.Moved) 0 (test_of (place_of_id c.args.self.now.ids c.args.id)) c.args.self.now c.take_turn.new.self c.end_request.new.self c.args.journal.now.lines c.take_turn.new.journal.lines c.take_turn.result (tested c.end_request.result c.end_request.new.out) None refl c.take_turn.ensures.turn (subst (λ ids. Does (EndsMoved g.S.SendEnd.Moved g.R.RecvEnd.Moved) 0 (test_of (place_of_id ids c.args.id)) c.take_turn.new.self c.end_request.new.self (tested c.end_request.result c.end_request.new.out) None) c.take_turn.ensures.turn.turns.ids c.end_request.ensures.does)
+    let M = EndsMoved g.S.SendEnd.Moved g.R.RecvEnd.Moved in
+    let old = shown c.self.inside.inside in
+    let call = test_of (place_of_id (shown c.take_turn.new.self).ids c.args.id) in
+    let calls = calls-of M 0 call c.take_turn.new.self c.end_request.new.self (tested c.end_request.result c.end_request.new.out) None old c.args.journal.now.lines c.take_turn.new.journal.lines c.take_turn.result refl c.take_turn.ensures.turn c.take_turn.ensures.rests c.end_request.ensures.acts in
+    subst (λ x. Calls M 0 (test_of (place_of_id x.ids c.args.id)) x (shown c.end_request.new.self) c.args.journal.now.lines c.take_turn.new.journal.lines (tested c.end_request.result c.end_request.new.out) None) c.self.view_is
+    (subst (λ ids. Calls M 0 (test_of (place_of_id ids c.args.id)) old (shown c.end_request.new.self) c.args.journal.now.lines c.take_turn.new.journal.lines (tested c.end_request.result c.end_request.new.out) None) c.take_turn.ensures.turn.turns.ids calls)

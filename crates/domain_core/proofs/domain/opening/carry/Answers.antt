@@ -1,66 +1,31 @@
-use Rattle.std.proofs.Common.{◌≡◌, ◌∙◌, ap, sym}
-use Rattle.std.specs.Vec.{with_items}
-use Rattle.domain_core.specs.AllMoved.{ends_of}
-use Rattle.domain_core.specs.Carried.{peers_carried}
-use Rattle.domain_core.specs.Carrying.{with_carried}
-use Rattle.domain_core.proofs.Carries.{ends-carried, from-some, if-some, linked-carried, same-link, same-linked, sound-carried, view-carried, written-carried}
-use Rattle.domain_core.proofs.domain.opening.carry.Goals.{After-two-1}
+use Rattle.std.proofs.Common.{◌≡◌, ℕ, Option, None, Some, ap, subst}
+use Rattle.std.specs.Prelude.{IfSome}
+use Rattle.lane_end.specs.PlainReceiver.{Receiver}
+use Rattle.lane_end.specs.PlainSender.{Sender}
+use Rattle.domain_core.specs.declared.ends.Ends.{Ends}
+use Rattle.domain_core.specs.Carrying.{PlainLink, link_to, with_carried}
+use Rattle.domain_core.specs.Parts.{Holding, shown}
 use Rattle.domain_core.proofs.domain.opening.carry.Goals as goal
 
-module _ (c : After-two-1) where
-  first : c.number-first.result ≡ c.args.one.now.state.number
-  first = c.number-first.ensures ∙ sym c.one.invariant.tied.domain ∙ ap (λ d. d.state.number) c.one.view_is
-
-  second : c.number-second.result ≡ c.args.two.now.state.number
-  second = c.number-second.ensures ∙ sym c.two.invariant.tied.domain ∙ ap (λ d. d.state.number) c.two.view_is
-
-  ones : ends_of c.deref_mut.result.now ≡ c.args.one.now.ends
-  ones = ap ends_of c.deref_mut.ensures.value ∙ ap (λ d. d.ends) c.one.view_is
-
-  twos : ends_of c.deref_mut-2.result.now ≡ c.args.two.now.ends
-  twos = ap ends_of c.deref_mut-2.ensures.value ∙ ap (λ d. d.ends) c.two.view_is
-
-  -- what was written over the peers of each
-  ones-are : (with_items c.one.inside.peers c.carry_between.new.ones).items ≡ peers_carried c.args.two.now.state.number c.requires.linked.back c.one.inside.peers.items
-  ones-are =
-      written-carried c.one.inside.peers c.carry_between.new.ones c.deref_mut.result.now c.number-second.result c.args.two.now.state.number c.requires.linked.back
-      (from-some _ _ c.requires.linked.back (same-link c.number-first.result c.args.one.now.state.number (ends_of c.deref_mut-2.result.now) c.args.two.now.ends c.requires.linked.back first twos c.requires.linked.two_has) c.carry_between.ensures.ones)
-      second c.deref_mut.ensures.value
-
-  twos-are : (with_items c.two.inside.peers c.carry_between.new.twos).items ≡ peers_carried c.args.one.now.state.number c.requires.linked.there c.two.inside.peers.items
-  twos-are =
-      written-carried c.two.inside.peers c.carry_between.new.twos c.deref_mut-2.result.now c.number-first.result c.args.one.now.state.number c.requires.linked.there
-      (from-some _ _ c.requires.linked.there (same-link c.number-second.result c.args.two.now.state.number (ends_of c.deref_mut.result.now) c.args.one.now.ends c.requires.linked.there second ones c.requires.linked.one_has) c.carry_between.ensures.twos)
-      first c.deref_mut-2.ensures.value
-
-pub invariant_of-one : goal.invariant_of-one
-invariant_of-one c =
-    let d = c.one.inside in
-    sound-carried c.requires.linked.back d.book d.endpoints d.requests d.table c.args.two.now.state.number d.peers.items _ (ones-are c) c.one.invariant
-
-pub invariant_of-two : goal.invariant_of-two
-invariant_of-two c =
-    let d = c.two.inside in
-    sound-carried c.requires.linked.there d.book d.endpoints d.requests d.table c.args.one.now.state.number d.peers.items _ (twos-are c) c.two.invariant
+-- what is carried inside is carried
+carried : (o : Option PlainLink) (n : ℕ) (old new : Holding (Ends Sender Receiver)) → IfSome o (λ l. new ≡ record old { ends = with_carried n l old.ends }) → IfSome o (λ l. shown new ≡ record (shown old) { ends = with_carried n l old.ends })
+carried None n old new is = tt
+carried (Some l) n old new is = ap shown is
 
 pub returns-clause-one : goal.returns-clause-one
 returns-clause-one c =
-    let d = c.one.inside in
-    if-some _ _ c.requires.linked.back c.requires.linked.two_has (view-carried c.requires.linked.back d.book d.endpoints d.requests d.table c.args.two.now.state.number d.peers.items _ (ones-are c) c.args.one.now c.one.view_is)
+    let one = c.one.inside.inside in
+    let two = c.two.inside.inside in
+    let new = c.carry.new.one in
+    subst (λ x. IfSome (link_to x.state.number c.args.two.now.ends) (λ l. shown new ≡ record x { ends = with_carried c.args.two.now.state.number l x.ends })) c.one.view_is
+    (subst (λ y. IfSome (link_to (shown one).state.number y.ends) (λ l. shown new ≡ record (shown one) { ends = with_carried y.state.number l one.ends })) c.two.view_is
+    (carried (link_to (shown one).state.number two.ends) (shown two).state.number one new c.carry.ensures.one))
 
 pub returns-clause-two : goal.returns-clause-two
 returns-clause-two c =
-    let d = c.two.inside in
-    if-some _ _ c.requires.linked.there c.requires.linked.one_has (view-carried c.requires.linked.there d.book d.endpoints d.requests d.table c.args.one.now.state.number d.peers.items _ (twos-are c) c.args.two.now c.two.view_is)
-
-pub returns-clause-linked : goal.returns-clause-linked
-returns-clause-linked c =
-    let one = c.args.one.now in
-    let two = c.args.two.now in
-    let l = c.requires.linked in
-    same-linked one.state.number two.state.number _ _ (with_carried two.state.number l.back one.ends) (with_carried one.state.number l.there two.ends) _ _
-    (linked-carried one.state.number two.state.number one.ends two.ends l)
-    (ap (λ d. d.state.number) c.one.view_is)
-    (ap (λ d. d.state.number) c.two.view_is)
-    (ap ends_of (ones-are c) ∙ ends-carried two.state.number l.back c.one.inside.peers.items ∙ ap (λ d. with_carried two.state.number l.back d.ends) c.one.view_is)
-    (ap ends_of (twos-are c) ∙ ends-carried one.state.number l.there c.two.inside.peers.items ∙ ap (λ d. with_carried one.state.number l.there d.ends) c.two.view_is)
+    let one = c.one.inside.inside in
+    let two = c.two.inside.inside in
+    let new = c.carry.new.two in
+    subst (λ x. IfSome (link_to x.state.number c.args.one.now.ends) (λ l. shown new ≡ record x { ends = with_carried c.args.one.now.state.number l x.ends })) c.two.view_is
+    (subst (λ y. IfSome (link_to (shown two).state.number y.ends) (λ l. shown new ≡ record (shown two) { ends = with_carried y.state.number l two.ends })) c.one.view_is
+    (carried (link_to (shown two).state.number one.ends) (shown one).state.number two new c.carry.ensures.two))

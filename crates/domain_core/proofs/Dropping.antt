@@ -1,0 +1,169 @@
+-- All messages at an endpoint are dropped, the oldest first, and then it is gone: what these steps mean.
+use Rattle.std.proofs.Common.{◌≡◌, ℕ, zero, suc, Bool, true, false, cond, List, [], ◌∷◌, ◌++◌, map, Option, Some, None, refl, sym, ap, ◌∙◌, subst}
+use Rattle.std.specs.Prelude.{filter, is_some, option_map, slice_get, unwrap_or, ◌==◌}
+use Rattle.std.proofs.lemmas.List.{append-nil}
+use Rattle.std.proofs.lemmas.List.Elements.{Contains-append_left, Contains-append_right}
+use Rattle.mc_base.specs.declared.name.Local.{Local}
+use Rattle.mc_base.specs.declared.refusal.Refusal.TheVariants.{EndpInvalid}
+use Rattle.mc_base.specs.declared.request.Slot.{Slot}
+use Rattle.board_model.specs.DomainCall.{delete_at}
+use Rattle.board_model.specs.Effect.{ended_by_word, with_announced, without_endpoint}
+use Rattle.board_model.specs.Lists.{changed_at, with_rising, without, without_at}
+use Rattle.board_model.specs.State as state
+use Rattle.board_model.specs.State.{DomainState, address_at, place_at}
+use Rattle.buffer_book.specs.Book.{Book, Kept}
+use Rattle.endpoint_table.specs.Table.{Table, deleted}
+use Rattle.lane_end.specs.ReceiveMoves.{Gave}
+use Rattle.request_set.specs.declared.ask.Complete.TheVariants as complete
+use Rattle.domain_core.specs.declared.endpoints.Endpoint.{Endpoint}
+use Rattle.domain_core.specs.declared.peer.Peer.{Peer}
+use Rattle.domain_core.specs.declared.requests.Waiters.TheVariants as waiters
+use Rattle.domain_core.specs.AllMoved.{buffers_of, giving}
+use Rattle.domain_core.specs.CallSteps.{Means, call_steps, drops, if_some}
+use Rattle.domain_core.specs.InBook.{endpoints_in}
+use Rattle.domain_core.specs.LaneMoves.{LaneMove, receiver}
+use Rattle.domain_core.specs.Parts.{LaneSeen, Parts, Sound, plain, state_of}
+use Rattle.domain_core.specs.Peers.{state_in}
+use Rattle.domain_core.specs.Records.{slots_at, with_oldest_taken}
+use Rattle.domain_core.specs.Steps.{Step, all_moves, done, done_all, endpoint_gone, oldest_dropped, step_moves}
+use Rattle.domain_core.specs.Stores.{KeepsBut}
+use Rattle.domain_core.proofs.Completing.{ids-all, requests-ended}
+use Rattle.domain_core.proofs.Deleting.{endpoints-oldest, endpoints-without, oldest-more, without_first}
+use Rattle.domain_core.proofs.Ending.{ids_in}
+use Rattle.domain_core.proofs.Receiving.{given-state}
+use Rattle.domain_core.proofs.Removing.{deleted-is, gone-address, gone-items, the}
+use Rattle.domain_core.proofs.Steps.{drops-place, first-there, oldest_dropped-keeps, oldest_dropped-left, oldest_dropped-out}
+use Rattle.domain_core.proofs.Stepping.{Any, done-append, gives-seen, quiet-peers}
+use Rattle.domain_core.proofs.Storing.{keeps-away, keeps-but_none}
+use Rattle.domain_core.proofs.TiedStates.{ended-state}
+
+-- ---- one is dropped
+
+gone-removed : (i : ℕ) (es : List state.Endpoint) → without_at i (changed_at without_first i es) ≡ without_at i es
+gone-removed i [] = refl
+gone-removed zero (e ∷ es) = refl
+gone-removed (suc i) (e ∷ es) = ap (λ (xs : List state.Endpoint). e ∷ xs) (gone-removed i es)
+
+same-address : (i : ℕ) (es : List Endpoint) → option_map (λ (e : Endpoint). e.address) (slice_get (changed_at with_oldest_taken i es) i) ≡ option_map (λ (e : Endpoint). e.address) (slice_get es i)
+same-address i [] = refl
+same-address zero (e ∷ es) = refl
+same-address (suc i) (e ∷ es) = same-address i es
+
+-- buffers that are given back one after the other
+keeps-then : (s : Slot) (ss : List Slot) (a b c : Book) → KeepsBut (s ∷ []) a b → KeepsBut ss b c → KeepsBut (s ∷ ss) a c
+keeps-then s ss a b c first then t is other =
+    let same = first t is (λ among. other (Contains-append_left (s ∷ []) ss t among)) in
+    then t (ap (λ (o : Option Kept). is_some o) same ∙ is) (λ among. other (Contains-append_right (s ∷ []) ss t among)) ∙ same
+
+-- ---- all are dropped
+
+-- what is left: only what waited at the place is gone
+record IsLeft (p p' : Parts) (i : ℕ) (ss : List Slot) : Type 0 where
+  sound : Sound p'
+  others : state_of p' ≡ record (state_of p) { endpoints = (state_of p').endpoints }
+  left : without_at i (state_of p').endpoints ≡ without_at i (state_of p).endpoints
+  address : option_map (λ (e : Endpoint). e.address) (slice_get p'.records.endpoints i) ≡ option_map (λ (e : Endpoint). e.address) (slice_get p.records.endpoints i)
+  stays : KeepsBut ss p.book p'.book
+  requests : p'.requests ≡ p.requests
+
+all-left : (p : Parts) → Sound p → (i : ℕ) (ss : List Slot) → slots_at p.records i ≡ ss → IsLeft p (done_all (drops i ss) p) i ss
+all-left p sound i [] is = record { sound = sound; others = refl; left = refl; address = refl; stays = keeps-but_none p.book; requests = refl }
+all-left p sound i (s ∷ ss) is =
+    let first = first-there p i s ss is in
+    let p1 = done (oldest_dropped i s) p in
+    let gives = gives-seen s p.peers sound.peers.rising (oldest_dropped-out p sound i s first) in
+    let others : state_of p1 ≡ record (state_of p) { endpoints = endpoints_in p.book p1.records.endpoints }
+    = given-state Any (λ l. tt) plain p.book p.records p1.records p.requests p.requests p.table s p.peers p1.peers gives (oldest-more plain p.book p.records p.requests p.table p.peers i s sound first) sound.places refl in
+    let one : (state_of p1).endpoints ≡ changed_at without_first i (state_of p).endpoints = ap (λ (x : DomainState). x.endpoints) others ∙ endpoints-oldest p.book p.records.endpoints i in
+    let rest = all-left p1 (oldest_dropped-keeps p sound i s first) i ss (tail-of s ss p i p1 is (oldest_dropped-left p sound i s first)) in
+    record {
+      sound = rest.sound;
+      others = rest.others ∙ ap (λ (x : DomainState). record x { endpoints = (state_of (done_all (drops i ss) p1)).endpoints }) others;
+      left = rest.left ∙ ap (without_at i) one ∙ gone-removed i (state_of p).endpoints;
+      address = rest.address ∙ same-address i p.records.endpoints;
+      stays = keeps-then s ss p.book p1.book (done_all (drops i ss) p1).book (keeps-away p.book s) rest.stays;
+      requests = rest.requests;
+    }
+  where
+    tail-of : (s : Slot) (ss : List Slot) (p : Parts) (i : ℕ) (p1 : Parts) → slots_at p.records i ≡ s ∷ ss → slots_at p.records i ≡ s ∷ slots_at p1.records i → slots_at p1.records i ≡ ss
+    tail-of s ss p i p1 is left = cc
+
+-- ---- and then the endpoint is gone
+
+-- the moves of the droppings, at a peer
+moves-cons : (c : Step) (cs : List Step) (last : Step) (n : ℕ) → all_moves (c ∷ (cs ++ last ∷ [])) n ≡ step_moves c n ++ all_moves (cs ++ last ∷ []) n
+moves-cons c [] last n = refl
+moves-cons c (d ∷ cs) last n = refl
+
+drops-moves : (i : ℕ) (ss : List Slot) (last : Step) (n : ℕ) → step_moves last n ≡ [] → all_moves (drops i ss ++ last ∷ []) n ≡ giving (buffers_of n ss)
+drops-moves i [] last n none = none
+drops-moves i (s ∷ ss) last n none = moves-cons (oldest_dropped i s) (drops i ss) last n ∙ ap (λ (ms : List LaneMove). step_moves (oldest_dropped i s) n ++ ms) (drops-moves i ss last n none) ∙ by (s.peer == n)
+  where
+    by : (b : Bool) → cond b (receiver (Gave s.buffer) ∷ []) [] ++ giving (buffers_of n ss) ≡ giving (map (λ (x : Slot). x.buffer) (cond b (s ∷ filter (λ (x : Slot). x.peer == n) ss) (filter (λ (x : Slot). x.peer == n) ss)))
+    by true = refl
+    by false = refl
+
+module _ (p : Parts) (sound : Sound p) (at : Local) (i : ℕ) (there : place_at (state_of p) at ≡ Some i) where
+  abbrev ss : List Slot
+  ss = slots_at p.records i
+
+  abbrev p' : Parts
+  p' = done_all (drops i ss) p
+
+  abbrev steps : List Step
+  steps = drops i ss ++ endpoint_gone i at ∷ []
+
+  all : IsLeft p p' i ss
+  all = all-left p sound i ss refl
+
+  there' : place_at (state_of p') at ≡ Some i
+  there' = drops-place at i ss p ∙ there
+
+  -- the address is that which it had
+  old-address : unwrap_or (address_at (state_of p) at) 0 ≡ (the plain p.book p.records p.requests p.table p.peers at i sound there).0.address
+  old-address = gone-address plain p.book p.records p.requests p.table p.peers at i sound there
+
+  new-address : (the plain p'.book p'.records p'.requests p'.table p'.peers at i all.sound there').0.address ≡ (the plain p.book p.records p.requests p.table p.peers at i sound there).0.address
+  new-address =
+      let new = the plain p'.book p'.records p'.requests p'.table p'.peers at i all.sound there' in
+      let old = the plain p.book p.records p.requests p.table p.peers at i sound there in
+      let same : option_map (λ (e : Endpoint). e.address) (Some new.0) ≡ option_map (λ (e : Endpoint). e.address) (Some old.0) = ap (option_map (λ (e : Endpoint). e.address)) (sym new.1) ∙ all.address ∙ ap (option_map (λ (e : Endpoint). e.address)) old.1 in
+      cc
+
+  -- the endpoint is gone from a state that has these left
+  abbrev left_with : List state.Endpoint → DomainState
+  left_with es =
+      let address = unwrap_or (address_at (state_of p) at) 0 in
+      with_announced (record (state_of p) { endpoints = es; ended = with_rising address (state_of p).ended; requests = map (ended_by_word EndpInvalid at) (state_of p).requests }) (record { local = at; address = address; create = false })
+
+  gone-state : state_of (done (endpoint_gone i at) p') ≡ without_endpoint (state_of p) at (unwrap_or (address_at (state_of p) at) 0)
+  gone-state =
+      let new = the plain p'.book p'.records p'.requests p'.table p'.peers at i all.sound there' in
+      let r = (done (endpoint_gone i at) p').records in
+      let q = (done (endpoint_gone i at) p').requests in
+      let s' = state_of p' in
+      ap (λ (ps : List (Peer LaneSeen)). state_in plain p'.book r q (deleted p'.table at) ps) (quiet-peers p'.peers)
+      ∙ ap (λ (t : Table). state_in plain p'.book r q t p'.peers) (deleted-is plain p'.book p'.records p'.requests p'.table p'.peers at i all.sound there')
+      ∙ ended-state plain p'.book p'.book p'.records p'.requests q p'.table p'.peers p'.peers all.sound.peers.rising all.sound.tied r at i new.0 new.1 new.2
+      (endpoints-without p'.book i p'.records.endpoints ∙ ap (λ (o : Option ℕ). without o s'.endpoints) (sym there'))
+      (requests-ended p'.book EndpInvalid at p'.requests.standing) refl refl
+      ∙ ap (without_endpoint s' at) (new-address ∙ sym old-address)
+      ∙ ap (λ (x : DomainState). without_endpoint x at (unwrap_or (address_at (state_of p) at) 0)) all.others
+      ∙ ap left_with (ap (λ (o : Option ℕ). without o s'.endpoints) there' ∙ all.left ∙ ap (λ (o : Option ℕ). without o (state_of p).endpoints) (sym there))
+
+  steps-are : steps ≡ call_steps p at.node (delete_at at.port) None
+  steps-are = ap (λ (o : Option ℕ). if_some o (λ j. drops j (slots_at p.records j) ++ endpoint_gone j at ∷ [])) (sym there)
+
+  all-done : done (endpoint_gone i at) p' ≡ done_all (call_steps p at.node (delete_at at.port) None) p
+  all-done = sym (done-append (drops i ss) (endpoint_gone i at ∷ []) p) ∙ ap (λ (cs : List Step). done_all cs p) steps-are
+
+  pub delete-means : Means p at.node (delete_at at.port) None
+  delete-means = record {
+    state = ap state_of (sym all-done) ∙ gone-state;
+    slots = ss;
+    returned = gone-items plain p.book p.records p.requests p.table p.peers at i sound there;
+    moves = λ n. ap (λ (cs : List Step). all_moves cs n) (sym steps-are) ∙ drops-moves i ss (endpoint_gone i at) n refl;
+    stays = subst (λ (x : Parts). KeepsBut ss p.book x.book) all-done all.stays;
+    ids = ap (λ (x : Parts). ids_in x.requests) (sym all-done) ∙ ids-all (waiters.Receives at) (complete.Ended EndpInvalid) p'.requests.standing ∙ ap ids_in all.requests ∙ sym (append-nil (ids_in p.requests));
+    fresh = tt;
+  }

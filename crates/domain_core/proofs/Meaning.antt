@@ -1,0 +1,262 @@
+-- What the steps of each call's success mean.
+use Rattle.std.proofs.Common.{◌≡◌, ℕ, ◌+◌, Bool, true, false, cond, List, [], ◌∷◌, ◌++◌, map, Option, Some, None, refl, sym, ap, ◌∙◌, subst}
+use Rattle.std.specs.Prelude.{option_and_then, option_map, option_to_list, position, slice_get, ◌==◌}
+use Rattle.std.proofs.lemmas.List.{append-nil}
+use Rattle.mc_base.specs.FullName.{end_name}
+use Rattle.mc_base.specs.declared.name.EndName.{EndName}
+use Rattle.mc_base.specs.declared.name.Local.{Local}
+use Rattle.mc_base.specs.declared.request.RequestId.{RequestId}
+use Rattle.mc_base.specs.declared.request.Slot.{Slot}
+use Rattle.board_model.specs.Answer.{address_of}
+use Rattle.board_model.specs.Choice.{best}
+use Rattle.board_model.specs.DomainCall.{available_at, cancel_of, create_at, lookup_of, receive_at, request_at, send_from, test_of}
+use Rattle.board_model.specs.Effect.{best_queued, held_by, with_request}
+use Rattle.board_model.specs.Lists.{without}
+use Rattle.board_model.specs.State as state
+use Rattle.board_model.specs.State.{Item, Outcome, has_address, has_item, name_of, place_at, queue_in, request_at_place}
+use Rattle.endpoint_table.specs.Table.{created}
+use Rattle.lane_end.specs.ReceiveMoves.{Gave}
+use Rattle.lane_end.specs.SendMoves.{Sent}
+use Rattle.message_queue.specs.Queue.{Waiting}
+use Rattle.request_set.specs.declared.ask.Ask.TheVariants as ask
+use Rattle.request_set.specs.declared.ask.Complete.{Complete}
+use Rattle.request_set.specs.declared.ask.Complete.TheVariants as complete
+use Rattle.request_set.specs.Requests.{Requests, Standing, is_id, progress_of, request_of, without_request}
+use Rattle.domain_core.specs.declared.endpoints.Endpoint.{Endpoint}
+use Rattle.domain_core.specs.declared.peer.Peer.{Peer}
+use Rattle.domain_core.specs.declared.requests.Waiters.TheVariants as waiters
+use Rattle.domain_core.specs.AllMoved.{giving}
+use Rattle.domain_core.specs.Calls.{IsFresh}
+use Rattle.domain_core.specs.CallSteps.{Means, best_slot, call_steps, ending, if_some, receiving, slots_held}
+use Rattle.domain_core.specs.DomainView.{place_of_id}
+use Rattle.domain_core.specs.GivingBack.{IsOutAt}
+use Rattle.domain_core.specs.InBook.{endpoints_in, item_at, item_in, outcome_in, request_in}
+use Rattle.domain_core.specs.InRequests.{AreReceives, handed_slots, slots_in, with_all_complete}
+use Rattle.domain_core.specs.LaneMoves.{receiver, sender}
+use Rattle.domain_core.specs.Parts.{LaneSeen, Parts, Sound, plain, state_of}
+use Rattle.domain_core.specs.Peers.{state_in}
+use Rattle.domain_core.specs.Records.{Records, waiting_in, with_best_taken_at, with_record}
+use Rattle.domain_core.specs.Steps.{Step, all_moves, done, done_all, message_ended, request_ended, step_moves, with_last, without_at}
+use Rattle.domain_core.specs.Stores.{KeepsBut}
+use Rattle.domain_core.specs.VisitMoves.{putting}
+use Rattle.domain_core.proofs.Asking.{asked-state}
+use Rattle.board_model.proofs.MessageLists.{get-position}
+use Rattle.domain_core.proofs.Beginning.{last-ids}
+use Rattle.domain_core.proofs.Completing.{ids-all}
+use Rattle.domain_core.proofs.Ending.{ids_in}
+use Rattle.domain_core.proofs.Placed.{HasMore}
+use Rattle.domain_core.proofs.Queuing.{ended-more}
+use Rattle.domain_core.proofs.Receives.{gone-at, map-without, place-of_id}
+use Rattle.domain_core.proofs.Receiving.{begun-state, best-is, best-item, given-state}
+use Rattle.domain_core.proofs.Steps.{best_dropped-is, best_dropped-steps, frame_put-is}
+use Rattle.domain_core.proofs.Stepping.{Any, gives-seen, quiet-peers}
+use Rattle.domain_core.proofs.Storing.{keeps-away, keeps-but_none}
+use Rattle.domain_core.proofs.Tables.{taken-none}
+use Rattle.domain_core.proofs.TiedStates.{made-state}
+use Rattle.domain_core.proofs.Waits.{queue-there}
+
+-- a buffer given back, and a frame put, at a peer whose number is the one or not
+pub one-gave : (s : Slot) (b : Bool) → cond b (receiver (Gave s.buffer) ∷ []) [] ≡ giving (map (λ (x : Slot). x.buffer) (cond b (s ∷ []) []))
+one-gave s true = refl
+one-gave s false = refl
+
+one-put : (d : ℕ) (f : List ℕ) (b : Bool) → cond b (sender (Sent f) ∷ []) [] ≡ putting (map (λ (x : ℕ × List ℕ). x.1) (cond b ((d, f) ∷ []) [])) ++ []
+one-put d f true = refl
+one-put d f false = refl
+
+-- ---- a message is sent
+
+pub send-means : (p : Parts) → Sound p → (node port : ℕ) (to : EndName) (priority : ℕ) (bytes : List ℕ) (i : ℕ) → Some i ≡ position (λ (x : Peer LaneSeen). x.number == to.domain) p.peers → Means p node (send_from port to priority bytes) None
+send-means p sound node port to priority bytes i there = record {
+  state = frame_put-is p to.domain _ sound i there;
+  slots = [];
+  returned = refl;
+  moves = λ n. one-put to.domain _ (to.domain == n);
+  stays = λ slot queued other. refl;
+  ids = sym (append-nil (ids_in p.requests));
+  fresh = tt;
+}
+
+-- ---- one is received
+
+module _ (p : Parts) (sound : Sound p) (i : ℕ) (w : Waiting) (is : best (λ (x : Waiting). x.priority) (waiting_in (slice_get p.records.endpoints i)) ≡ Some w) (at : Local) (there : place_at (state_of p) at ≡ Some i) (max : ℕ) where
+  pub receive-means : Means p at.node (receive_at at.port max) None
+  receive-means =
+      let steps = sym (best_dropped-steps p sound i w is at there max) in
+      record {
+        state = ap (λ (cs : List Step). state_of (done_all cs p)) (sym steps) ∙ best_dropped-is p sound i w is at (sym there);
+        slots = w.slot ∷ [];
+        returned = ap (λ (y : Item). y ∷ []) (best-item plain p.book p.records p.requests p.table p.peers sound i w is) ∙ ap (λ (o : Option Item). option_to_list o) (sym (best-is plain p.book p.records p.requests p.table p.peers sound i w is at (sym there)));
+        moves = λ n. ap (λ (cs : List Step). all_moves cs n) (sym steps) ∙ one-gave w.slot (w.slot.peer == n);
+        stays = subst (λ (cs : List Step). KeepsBut (w.slot ∷ []) p.book (done_all cs p).book) steps (keeps-away p.book w.slot);
+        ids = ap (λ (cs : List Step). ids_in (done_all cs p).requests) (sym steps) ∙ sym (append-nil (ids_in p.requests));
+        fresh = tt;
+      }
+
+-- ---- messages are counted
+
+pub available-means : (p : Parts) (node port : ℕ) → Means p node (available_at port) None
+available-means p node port = record {
+  state = refl;
+  slots = [];
+  returned = refl;
+  moves = λ n. refl;
+  stays = λ slot queued other. refl;
+  ids = sym (append-nil (ids_in p.requests));
+  fresh = tt;
+}
+
+-- ---- an endpoint is made
+
+pub create-means : (p : Parts) → Sound p → (at : Local) → Means p at.node (create_at at.port) None
+create-means p sound at =
+    let who = waiters.Lookups (end_name p.table.domain at) in
+    let how = complete.Address (1024 + p.table.given) in
+    record {
+      state = ap (λ (ps : List (Peer LaneSeen)). state_in plain p.book (with_record p.records at) (with_all_complete p.requests who how) (created p.table at) ps) (quiet-peers p.peers) ∙ made-state plain p.book p.book p.records p.requests p.requests p.table p.peers p.peers sound.peers.rising sound.tied at;
+      slots = [];
+      returned = refl;
+      moves = λ n. refl;
+      stays = λ slot queued other. refl;
+      ids = ids-all who how p.requests.standing ∙ sym (append-nil (ids_in p.requests));
+      fresh = tt;
+    }
+
+-- ---- a request is begun
+
+-- a lookup, which is complete where the address is known
+outcome-known : (b : _) (o : Option ℕ) → option_map (outcome_in b) (option_map (λ a. complete.Address a) o) ≡ option_map has_address o
+outcome-known b None = refl
+outcome-known b (Some a) = refl
+
+pub lookup-means : (p : Parts) (name : EndName) (id : RequestId) → IsFresh (ids_in p.requests) (state_of p) id → Means p 0 (lookup_of name) (Some id)
+lookup-means p name id fresh =
+    let how = option_map (λ a. complete.Address a) (address_of (state_of p) name) in
+    record {
+      state = ap (λ (ps : List (Peer LaneSeen)). state_in plain p.book p.records (with_last p.requests id (ask.Lookup name) how) p.table ps) (quiet-peers p.peers)
+          ∙ asked-state plain p.book p.records p.requests p.table p.peers id (ask.Lookup name) how fresh.serial
+          ∙ ap (λ (o : Option Outcome). with_request (state_of p) (name_of name) o) (outcome-known p.book (address_of (state_of p) name));
+      slots = [];
+      returned = refl;
+      moves = λ n. refl;
+      stays = λ slot queued other. refl;
+      ids = last-ids p.requests id (ask.Lookup name) how;
+      fresh = fresh;
+    }
+
+-- a receive, which is complete where a message waits
+module _ (p : Parts) (sound : Sound p) (i : ℕ) (id : RequestId) (at : Local) (max : ℕ) (there : place_at (state_of p) at ≡ Some i) (fresh : IsFresh (ids_in p.requests) (state_of p) id) where
+  -- its step, by what waits
+  pub receive-steps : (o : Option Waiting) → best (λ (x : Waiting). x.priority) (waiting_in (slice_get p.records.endpoints i)) ≡ o → call_steps p at.node (request_at at.port max) (Some id) ≡ receiving i (option_map (λ (x : Waiting). x.slot) o) id at max ∷ []
+  receive-steps o is =
+      ap (λ (o : Option ℕ). if_some o (λ j. receiving j (best_slot p j) id at max ∷ [])) there
+      ∙ ap (λ (o : Option Waiting). receiving i (option_map (λ (x : Waiting). x.slot) o) id at max ∷ []) is
+
+  pub request-means : (w : Waiting) → best (λ (x : Waiting). x.priority) (waiting_in (slice_get p.records.endpoints i)) ≡ Some w → Means p at.node (request_at at.port max) (Some id)
+  request-means w is =
+      let steps = sym (receive-steps (Some w) is) in
+      let how : Option Complete = Some (complete.Message w.slot max) in
+      let outcome : option_map (outcome_in p.book) how ≡ option_map has_item (best_queued (state_of p) at)
+      = ap (λ (x : Item). Some (has_item x)) (best-item plain p.book p.records p.requests p.table p.peers sound i w is)
+      ∙ ap (λ (o : Option Item). option_map has_item o) (sym (best-is plain p.book p.records p.requests p.table p.peers sound i w is at (sym there))) in
+      record {
+        state = ap (λ (cs : List Step). state_of (done_all cs p)) (sym steps)
+            ∙ ap (λ (ps : List (Peer LaneSeen)). state_in plain p.book (with_best_taken_at p.records i) (with_last p.requests id (ask.Message at max) how) p.table ps) (quiet-peers p.peers)
+            ∙ begun-state plain p.book p.records p.requests p.table p.peers i id at.node at.port max how (sym there) fresh.serial outcome;
+        slots = [];
+        returned = refl;
+        moves = λ n. ap (λ (cs : List Step). all_moves cs n) (sym steps);
+        stays = subst (λ (cs : List Step). KeepsBut [] p.book (done_all cs p).book) steps (keeps-but_none p.book);
+        ids = ap (λ (cs : List Step). ids_in (done_all cs p).requests) (sym steps) ∙ last-ids p.requests id (ask.Message at max) how;
+        fresh = fresh;
+      }
+
+  pub pending-means : waiting_in (slice_get p.records.endpoints i) ≡ [] → Means p at.node (request_at at.port max) (Some id)
+  pending-means none =
+      let steps = sym (receive-steps None (ap (best (λ (x : Waiting). x.priority)) none)) in
+      let nothing : best_queued (state_of p) at ≡ None
+      = ap (λ (o : Option ℕ). best (λ (x : Item). x.priority) (queue_in (option_and_then (λ j. slice_get (endpoints_in p.book p.records.endpoints) j) o))) there
+      ∙ ap (best (λ (x : Item). x.priority)) (queue-there p.book p.records.endpoints i ∙ ap (map (item_in p.book)) none) in
+      let same : p.records ≡ with_best_taken_at p.records i = ap (λ (es : List Endpoint). record p.records { endpoints = es }) (sym (taken-none p.records.endpoints i none)) in
+      record {
+        state = ap (λ (cs : List Step). state_of (done_all cs p)) (sym steps)
+            ∙ ap (λ (ps : List (Peer LaneSeen)). state_in plain p.book p.records (with_last p.requests id (ask.Message at max) None) p.table ps) (quiet-peers p.peers)
+            ∙ ap (λ (r : Records). state_in plain p.book r (with_last p.requests id (ask.Message at max) None) p.table p.peers) same
+            ∙ begun-state plain p.book p.records p.requests p.table p.peers i id at.node at.port max None (sym there) fresh.serial (ap (λ (o : Option Item). option_map has_item o) (sym nothing));
+        slots = [];
+        returned = refl;
+        moves = λ n. ap (λ (cs : List Step). all_moves cs n) (sym steps);
+        stays = subst (λ (cs : List Step). KeepsBut [] p.book (done_all cs p).book) steps (keeps-but_none p.book);
+        ids = ap (λ (cs : List Step). ids_in (done_all cs p).requests) (sym steps) ∙ last-ids p.requests id (ask.Message at max) None;
+        fresh = fresh;
+      }
+
+-- ---- a request ends
+
+-- it is gone at its place
+pub gone-there : (q : Requests) (id : RequestId) → AreReceives q → without_request q id ≡ without_at q (place_of_id (ids_in q) id)
+gone-there q id receives =
+    ap (λ (rs : List Standing). record q { standing = rs }) (gone-at id q.standing receives.differ ∙ ap (λ (o : Option ℕ). without o q.standing) (place-of_id id q.standing))
+
+-- what it held
+pub held-there : (q : Requests) (id : RequestId) (how : Option Complete) → progress_of q id ≡ Some how → slots_held q (place_of_id (ids_in q) id) ≡ slots_in how
+held-there q id how is =
+    ap (λ (o : Option ℕ). slots_held q o) (sym (place-of_id id q.standing))
+    ∙ ap (λ (o : Option Standing). slots_in (option_and_then (λ (r : Standing). r.complete) o)) (get-position (is_id id) q.standing)
+    ∙ by (request_of q id) is
+  where
+    by : (o : Option Standing) → option_map (λ (r : Standing). r.complete) o ≡ Some how → slots_in (option_and_then (λ (r : Standing). r.complete) o) ≡ slots_in how
+    by None e = absurd cc
+    by (Some r) e = let same : r.complete ≡ how = cc in ap slots_in same
+
+module _ (p : Parts) (place : Option ℕ) where
+  -- the state without it
+  left-state : state_of (done (request_ended place) p) ≡ record (state_of p) { requests = without place (state_of p).requests }
+  left-state =
+      ap (λ (ps : List (Peer LaneSeen)). state_in plain p.book p.records (without_at p.requests place) p.table ps) (quiet-peers p.peers)
+      ∙ ap (λ (rs : List state.Request). record (state_of p) { requests = rs }) (map-without (request_in p.book) place p.requests.standing)
+
+  left-ids : ids_in (without_at p.requests place) ≡ without place (ids_in p.requests) ++ []
+  left-ids = map-without (λ (r : Standing). r.id) place p.requests.standing ∙ sym (append-nil (without place (ids_in p.requests)))
+
+  pub cancel-means : Means p 0 (cancel_of place) None
+  cancel-means = record {
+    state = left-state;
+    slots = [];
+    returned = refl;
+    moves = λ n. refl;
+    stays = keeps-but_none p.book;
+    ids = left-ids;
+    fresh = tt;
+  }
+
+  -- one that held no message
+  pub quiet-means : slots_held p.requests place ≡ [] → held_by (request_at_place (state_of p) place) ≡ [] → Means p 0 (test_of place) None
+  quiet-means none items =
+      let step : request_ended place ≡ ending place (slots_held p.requests place) = ap (ending place) (sym none) in
+      record {
+        state = ap (λ (c : Step). state_of (done c p)) (sym step) ∙ left-state;
+        slots = [];
+        returned = sym items;
+        moves = λ n. ap (λ (c : Step). step_moves c n) (sym step);
+        stays = subst (λ (c : Step). KeepsBut [] p.book (done c p).book) step (keeps-but_none p.book);
+        ids = ap (λ (c : Step). ids_in (done c p).requests) (sym step) ∙ left-ids;
+        fresh = tt;
+      }
+
+  -- one that held a message
+  module _ (sound : Sound p) (s : Slot) (held : slots_held p.requests place ≡ s ∷ []) (out : IsOutAt plain s p.peers) (more : HasMore s (handed_slots (without_at p.requests place).standing) (handed_slots p.requests.standing)) where
+    pub tested-means : held_by (request_at_place (state_of p) place) ≡ item_at p.book s ∷ [] → Means p 0 (test_of place) None
+    tested-means items =
+        let step : message_ended place s ≡ ending place (slots_held p.requests place) = ap (ending place) (sym held) in
+        record {
+          state = ap (λ (c : Step). state_of (done c p)) (sym step)
+              ∙ given-state Any (λ l. tt) plain p.book p.records p.records p.requests (without_at p.requests place) p.table s p.peers _ (gives-seen s p.peers sound.peers.rising out) (ended-more p.records p.requests (without_at p.requests place) p.book s more) sound.places refl
+              ∙ ap (λ (rs : List state.Request). record (state_of p) { requests = rs }) (map-without (request_in p.book) place p.requests.standing);
+          slots = s ∷ [];
+          returned = sym items;
+          moves = λ n. ap (λ (c : Step). step_moves c n) (sym step) ∙ one-gave s (s.peer == n);
+          stays = subst (λ (c : Step). KeepsBut (s ∷ []) p.book (done c p).book) step (keeps-away p.book s);
+          ids = ap (λ (c : Step). ids_in (done c p).requests) (sym step) ∙ left-ids;
+          fresh = tt;
+        }

@@ -1,0 +1,105 @@
+-- The steps of each call, and what they mean for the domain's state.
+-- Source: docs/PROFILE.md, "Calls". The id of a new request, which no state tells, stands beside the call.
+use Rattle.std.specs.Prelude.{◌≡◌, ℕ, ◌+◌, List, [], ◌∷◌, ◌++◌, length, map, slice_get, Option, None, Some, option_and_then, option_map, option_to_list, IfSome}
+use Rattle.mc_base.specs.Limits.{first_address}
+use Rattle.mc_base.specs.declared.name.Local.{Local}
+use Rattle.mc_base.specs.declared.refusal.Refusal.{Refusal}
+use Rattle.mc_base.specs.declared.request.RequestId.{RequestId}
+use Rattle.mc_base.specs.declared.request.Slot.{Slot}
+use Rattle.board_model.specs.Answer.{address_of, answer, local, refusal, success_puts}
+use Rattle.board_model.specs.Choice.{best}
+use Rattle.board_model.specs.DomainCall.{DomainCall, create_at, delete_at, lookup_of, send_from, receive_at, request_at, test_of, cancel_of}
+use Rattle.board_model.specs.Effect.{success_effect, success_returns}
+use Rattle.board_model.specs.Journal.{PlainAnswer}
+use Rattle.board_model.specs.Lists.{without}
+use Rattle.board_model.specs.State.{place_at}
+use Rattle.request_set.specs.declared.ask.Ask.TheVariants as ask
+use Rattle.request_set.specs.declared.ask.Complete.TheVariants as complete
+use Rattle.request_set.specs.Requests.{Requests}
+use Rattle.domain_core.specs.AllMoved.{AllMoved, moves_at, numbers_of}
+use Rattle.domain_core.specs.Calls.{IsFresh, success_ends}
+use Rattle.domain_core.specs.InBook.{item_at}
+use Rattle.domain_core.specs.InRequests.{slots_in}
+use Rattle.domain_core.specs.LaneMoves.{LaneMove}
+use Rattle.domain_core.specs.Parts.{Holding, Parts, state_of}
+use Rattle.domain_core.specs.Records.{slots_at, waiting_in}
+use Rattle.domain_core.specs.Steps.{Did, Step, all_moves, best_dropped, done_all, endpoint_gone, endpoint_made, frame_put, message_ended, oldest_dropped, receive_begun, request_begun, request_ended}
+use Rattle.domain_core.specs.Stores.{KeepsBut}
+
+-- steps that hang on what is there
+abbrev pub if_some : {A : Type 0} → Option A → (A → List Step) → List Step
+if_some None f = []
+if_some (Some x) f = f x
+
+-- the slot of the best message that waits at a place
+abbrev pub best_slot : Parts → ℕ → Option Slot
+best_slot p i = option_map (λ w. w.slot) (best (λ w. w.priority) (waiting_in (slice_get p.records.endpoints i)))
+
+abbrev pub putting_all : List (ℕ × List ℕ) → List Step
+putting_all puts = map (λ f. frame_put f.0 f.1) puts
+
+-- all that waits at a place is dropped, the oldest first
+abbrev pub drops : ℕ → List Slot → List Step
+drops i slots = map (oldest_dropped i) slots
+
+-- a receive is begun at a place: with the best message, where one waits
+abbrev pub receiving : ℕ → Option Slot → RequestId → Local → ℕ → Step
+receiving i None id at max = request_begun id (ask.Message at max) None
+receiving i (Some s) id at max = receive_begun i s id at max
+
+-- the slot of the message that the request at a place holds
+abbrev pub slots_held : Requests → Option ℕ → List Slot
+slots_held q place = slots_in (option_and_then (λ r. r.complete) (option_and_then (λ i. slice_get q.standing i) place))
+
+-- a request ends, with the message that it holds
+abbrev pub ending : Option ℕ → List Slot → Step
+ending place [] = request_ended place
+ending place (s ∷ ss) = message_ended place s
+
+-- the steps of a call's success
+abbrev pub call_steps : Parts → ℕ → DomainCall → Option RequestId → List Step
+call_steps p node (create_at port) given = endpoint_made p.table.domain (local node port) (first_address + p.table.given) ∷ []
+call_steps p node (delete_at port) given = if_some (place_at (state_of p) (local node port)) (λ i. drops i (slots_at p.records i) ++ endpoint_gone i (local node port) ∷ [])
+call_steps p node (lookup_of name) given = if_some given (λ id. request_begun id (ask.Lookup name) (option_map (λ a. complete.Address a) (address_of (state_of p) name)) ∷ [])
+call_steps p node (send_from port to priority bytes) given = putting_all (success_puts (state_of p) node (send_from port to priority bytes))
+call_steps p node (receive_at port max) given = if_some (place_at (state_of p) (local node port)) (λ i. if_some (best_slot p i) (λ s. best_dropped i s ∷ []))
+call_steps p node (request_at port max) given = if_some given (λ id. if_some (place_at (state_of p) (local node port)) (λ i. receiving i (best_slot p i) id (local node port) max ∷ []))
+call_steps p node (test_of place) given = ending place (slots_held p.requests place) ∷ []
+call_steps p node (cancel_of place) given = request_ended place ∷ []
+call_steps p node other given = []
+
+-- What the steps of a call's success mean: the state after them is that of its effect, the buffers that they give back held the items
+-- that it returns, and each other buffer stays
+pub record Means (p : Parts) (node : ℕ) (call : DomainCall) (given : Option RequestId) : Type 0 where
+  pub state : state_of (done_all (call_steps p node call given) p) ≡ success_effect (state_of p) node call
+  pub slots : List Slot
+  pub returned : map (item_at p.book) slots ≡ success_returns (state_of p) node call
+  pub moves : (n : ℕ) → all_moves (call_steps p node call given) n ≡ moves_at (success_puts (state_of p) node call) slots n
+  pub stays : KeepsBut slots p.book (done_all (call_steps p node call given) p).book
+  pub ids : map (λ r. r.id) (done_all (call_steps p node call given) p).requests.standing ≡ without (success_ends call) (map (λ r. r.id) p.requests.standing) ++ option_to_list given
+  pub fresh : IfSome given (IsFresh (map (λ r. r.id) p.requests.standing) (state_of p))
+
+-- a call's success: its steps were made
+pub record Succeeds {L : Type 0} (Moved : L → List LaneMove → L → Type 0) (node : ℕ) (call : DomainCall) (old new : Holding L) (given : Option RequestId) : Type 0 where
+  pub did : Did Moved (call_steps old.parts node call given) old new
+  pub means : Means old.parts node call given
+
+-- a call after its turn: a refused one changes nothing
+abbrev pub Acted : {L : Type 0} → (L → List LaneMove → L → Type 0) → Option Refusal → ℕ → DomainCall → Holding L → Holding L → Option RequestId → Type 0
+Acted Moved (Some word) node call old new given = (new ≡ old) × (given ≡ None)
+Acted Moved None node call old new given = Succeeds Moved node call old new given
+
+pub record Acts {L : Type 0} (Moved : L → List LaneMove → L → Type 0) (node : ℕ) (call : DomainCall) (old new : Holding L) (answered : PlainAnswer) (given : Option RequestId) : Type 0 where
+  pub answer : answered ≡ answer (state_of old.parts) node call
+  pub did : Acted Moved (refusal (state_of old.parts) node call) node call old new given
+
+-- no move leads from the ends towards each peer to themselves
+abbrev pub Rests : {L : Type 0} → (L → List LaneMove → L → Type 0) → Holding L → Type 0
+Rests Moved h = AllMoved Moved h.ends (map (λ n. []) (numbers_of h.parts.peers)) h.ends
+
+-- so many of the messages at a place were dropped, the oldest first
+pub record Dropping {L : Type 0} (Moved : L → List LaneMove → L → Type 0) (i k : ℕ) (start now : Holding L) : Type 0 where
+  pub gone : List Slot
+  pub count : k ≡ length gone
+  pub all : slots_at start.parts.records i ≡ gone ++ slots_at now.parts.records i
+  pub did : Did Moved (drops i gone) start now

@@ -1,0 +1,130 @@
+-- The steps that a domain makes inside, and what each does to its parts and at the ends towards its peers.
+-- Source: docs/PROFILE.md, "Calls". A step names the place, the slot and the request that it is about, so that it tells the number of
+-- each buffer that is given back.
+use Rattle.std.specs.Prelude.{◌≡◌, ℕ, ◌-◌, ◌+◌, ◌%◌, ◌^◌, ◌==◌, cond, drop, List, [], ◌∷◌, ◌++◌, map, Option, Some}
+use Rattle.mc_base.specs.FullName.{end_name}
+use Rattle.mc_base.specs.declared.name.Local.{Local}
+use Rattle.mc_base.specs.declared.refusal.Refusal.TheVariants.{EndpInvalid}
+use Rattle.mc_base.specs.declared.request.RequestId.{RequestId}
+use Rattle.mc_base.specs.declared.request.Slot.{Slot}
+use Rattle.lane_end.specs.SendMoves.{Sent}
+use Rattle.lane_end.specs.ReceiveMoves.{Gave, Took}
+use Rattle.lane_end.specs.ReceiverContract.{without}
+use Rattle.board_model.specs.Lists as lists
+use Rattle.buffer_book.specs.Book.{Book, with_away}
+use Rattle.endpoint_table.specs.Table as endpoint_table
+use Rattle.request_set.specs.declared.ask.Ask.{Ask}
+use Rattle.request_set.specs.declared.ask.Ask.TheVariants as ask
+use Rattle.request_set.specs.declared.ask.Complete.{Complete}
+use Rattle.request_set.specs.declared.ask.Complete.TheVariants as complete
+use Rattle.request_set.specs.Requests.{Requests}
+use Rattle.domain_core.specs.declared.peer.Peer.{Peer}
+use Rattle.domain_core.specs.declared.requests.Waiters.TheVariants as waiters
+use Rattle.domain_core.specs.AllMoved.{AllMoved, numbers_of}
+use Rattle.domain_core.specs.InRequests.{with_all_complete}
+use Rattle.domain_core.specs.LaneMoves.{LaneMove, sender, receiver}
+use Rattle.domain_core.specs.Parts.{Holding, LaneSeen, Parts}
+use Rattle.domain_core.specs.Records.{Records, with_best_taken_at, with_oldest_taken_at, with_record, without_record_at}
+
+-- ---- moves: what each leaves of what is seen
+
+-- a put takes the first free buffer, a frame that is taken is shown no more and out, and one given back is out no more
+abbrev pub after_move : LaneMove → LaneSeen → LaneSeen
+after_move (sender (Sent frame)) l = record l { free = drop 1 l.free }
+after_move (receiver (Gave n)) l = record l { out = without n l.out }
+after_move (receiver (Took n frame)) l = record l { shown = l.shown - 1; out = l.out ++ n ∷ [] }
+after_move other l = l
+
+abbrev pub after_moves : List LaneMove → LaneSeen → LaneSeen
+after_moves [] l = l
+after_moves (m ∷ ms) l = after_moves ms (after_move m l)
+
+-- each peer, after the moves at the peer of its number
+abbrev pub moved_peer : (ℕ → List LaneMove) → Peer LaneSeen → Peer LaneSeen
+moved_peer moves p = record p { ends = after_moves (moves p.number) p.ends }
+
+-- ---- steps
+
+pub data Step : Type 0 where
+  -- an endpoint is made in this domain, with this name and address
+  endpoint_made : ℕ → Local → ℕ → Step
+  -- the endpoint at a place, which has this name and at which nothing waits, is gone
+  endpoint_gone : ℕ → Local → Step
+  -- the best message at a place, which is in this slot, is dropped, and so is the oldest
+  best_dropped : ℕ → Slot → Step
+  oldest_dropped : ℕ → Slot → Step
+  -- a frame is put to a peer
+  frame_put : ℕ → List ℕ → Step
+  -- a request with this id is begun, and may be complete at once
+  request_begun : RequestId → Ask → Option Complete → Step
+  -- a receive is begun with the best message at a place, which is in this slot: by an endpoint, of so many bytes at most
+  receive_begun : ℕ → Slot → RequestId → Local → ℕ → Step
+  -- the request at a place is gone, and with it the message that it held, which is in this slot
+  request_ended : Option ℕ → Step
+  message_ended : Option ℕ → Slot → Step
+
+abbrev pub book_after : Step → Book → Book
+book_after (best_dropped i s) b = with_away b s
+book_after (oldest_dropped i s) b = with_away b s
+book_after (message_ended place s) b = with_away b s
+book_after other b = b
+
+abbrev pub records_after : Step → Records → Records
+records_after (endpoint_made domain at address) r = with_record r at
+records_after (endpoint_gone i at) r = without_record_at r i
+records_after (best_dropped i s) r = with_best_taken_at r i
+records_after (oldest_dropped i s) r = with_oldest_taken_at r i
+records_after (receive_begun i s id at max) r = with_best_taken_at r i
+records_after other r = r
+
+-- one request more, last, and one less
+abbrev pub with_last : Requests → RequestId → Ask → Option Complete → Requests
+with_last q id a o = record { standing = q.standing ++ record { id = id; ask = a; complete = o } ∷ []; given = (q.given + 1) % 2 ^ 64 }
+
+abbrev pub without_at : Requests → Option ℕ → Requests
+without_at q place = record q { standing = lists.without place q.standing }
+
+abbrev pub requests_after : Step → Requests → Requests
+requests_after (endpoint_made domain at address) q = with_all_complete q (waiters.Lookups (end_name domain at)) (complete.Address address)
+requests_after (endpoint_gone i at) q = with_all_complete q (waiters.Receives at) (complete.Ended EndpInvalid)
+requests_after (request_begun id a o) q = with_last q id a o
+requests_after (receive_begun i s id at max) q = with_last q id (ask.Message at max) (Some (complete.Message s max))
+requests_after (request_ended place) q = without_at q place
+requests_after (message_ended place s) q = without_at q place
+requests_after other q = q
+
+abbrev pub table_after : Step → endpoint_table.Table → endpoint_table.Table
+table_after (endpoint_made domain at address) t = endpoint_table.created t at
+table_after (endpoint_gone i at) t = endpoint_table.deleted t at
+table_after other t = t
+
+-- moves at one peer, by its number
+abbrev pub at_peer : ℕ → List LaneMove → ℕ → List LaneMove
+at_peer peer ms n = cond (peer == n) ms []
+
+-- the moves at the peer of a number
+abbrev pub step_moves : Step → ℕ → List LaneMove
+step_moves (best_dropped i s) n = at_peer s.peer (receiver (Gave s.buffer) ∷ []) n
+step_moves (oldest_dropped i s) n = at_peer s.peer (receiver (Gave s.buffer) ∷ []) n
+step_moves (message_ended place s) n = at_peer s.peer (receiver (Gave s.buffer) ∷ []) n
+step_moves (frame_put peer frame) n = at_peer peer (sender (Sent frame) ∷ []) n
+step_moves other n = []
+
+-- what a step leaves of the parts, and what steps leave, one after the other
+abbrev pub done : Step → Parts → Parts
+done c p = record p { book = book_after c p.book; records = records_after c p.records; requests = requests_after c p.requests; table = table_after c p.table; peers = map (moved_peer (step_moves c)) p.peers }
+
+abbrev pub done_all : List Step → Parts → Parts
+done_all [] p = p
+done_all (c ∷ cs) p = done_all cs (done c p)
+
+-- their moves at the peer of a number
+abbrev pub all_moves : List Step → ℕ → List LaneMove
+all_moves [] n = []
+all_moves (c ∷ []) n = step_moves c n
+all_moves (c ∷ (d ∷ cs)) n = step_moves c n ++ all_moves (d ∷ cs) n
+
+-- these steps were made, one after the other: the parts are what they leave, and at the ends towards each peer just their moves were made
+pub record Did {L : Type 0} (Moved : L → List LaneMove → L → Type 0) (steps : List Step) (old new : Holding L) : Type 0 where
+  pub parts : new.parts ≡ done_all steps old.parts
+  pub moved : AllMoved Moved old.ends (map (all_moves steps) (numbers_of old.parts.peers)) new.ends

@@ -1,0 +1,157 @@
+//! The inside of a domain as one value, whose methods make its steps.
+
+ghost use Rattle.std.specs.Prelude.{◌≡◌, ◌↔◌, ◌+◌, ◌<◌, ◌≤◌, [], ◌∷◌, false, Contains, IfSome, IsNone, is_some, length, map};
+ghost use Rattle.board_model.specs.State.{address_at, endpoint_at, free_to, lent_from, place_at, place_of_peer, queued_from, queued_items};
+ghost use Rattle.board_model.specs.Answer.{address_of, has_channel};
+ghost use Rattle.domain_core.specs.CallSteps.{Rests};
+ghost use Rattle.domain_core.specs.Parts.{Sound, shown, state_of};
+ghost use Rattle.domain_core.specs.Steps.{Did, frame_put};
+ghost use Rattle.domain_core.specs.Turned.{MakesTurn};
+
+mod endpoint_calls;
+mod message_calls;
+mod opening;
+mod request_calls;
+
+use crate::endpoints::Endpoints;
+use crate::peer::Peer;
+use crate::peer_lane::PeerLane;
+use crate::peers::place_of;
+use crate::requests::messages_handed_from;
+use crate::turn::make_turn;
+use buffer_book::{BufferBook, Places};
+use endpoint_table::EndpointTable;
+use mc_base::{EndName, Local};
+use mc_journal::Journal;
+pub use opening::carry;
+use request_set::RequestSet;
+use std::marker::Model;
+
+/// What a domain has inside: its endpoints and requests, the buffers that it holds, and its peers with the ends towards each.
+#[derive(Debug, Drop)]
+pub struct Holdings<P: PeerLane> {
+    endpoints: Endpoints,
+    table: EndpointTable,
+    book: BufferBook,
+    peers: Vec<Peer<P>>,
+    requests: RequestSet,
+}
+
+impl<P: PeerLane> Model for Holdings<P> {
+    ghost use Rattle.domain_core.specs.Peers.{seen_by};
+    ghost use Rattle.domain_core.specs.Parts.{Holding};
+    ghost use Rattle.domain_core.specs.HoldingParts.{IsSound, holding_of};
+
+    ghost Value = { Holding P };
+
+    ghost view = { holding_of (seen_by P.size_to P.size_from P.free P.shown P.out) };
+
+    ghost invariant = { IsSound (seen_by P.size_to P.size_from P.free P.shown P.out) };
+}
+
+impl<P: PeerLane> Holdings<P> {
+    /// Makes a turn, notes it, and answers whether it was idle.
+    pub fn take_turn(&mut self, journal: &mut Journal) -> bool
+        requires entry_room { 145 ≤ journal.old.entry_room }
+        requires byte_room { 65536 ≤ journal.old.byte_room }
+        ensures turn { MakesTurn P.Moved (shown self.old) (shown self.new) journal.old.lines journal.new.lines result }
+        ensures rests { Rests P.Moved self.new }
+        ensures entry_room { journal.old.entry_room ≤ journal.new.entry_room + 145 }
+        ensures byte_room { journal.old.byte_room ≤ journal.new.byte_room + 65536 }
+    {
+        make_turn(
+            &mut self.endpoints,
+            &mut self.book,
+            &mut self.requests,
+            &mut self.table,
+            &mut self.peers,
+            journal,
+        )
+    }
+
+    /// Whether there is a lane to a domain.
+    pub fn has_peer(&self, number: u8) -> bool
+        ensures { result ≡ is_some (place_of_peer (state_of self.now.parts) number) }
+    {
+        place_of(&self.peers, number).is_some()
+    }
+
+    /// How many buffers of the lane from a peer stand in queues, and how many complete requests hold, or `None` where there is
+    /// no such lane.
+    pub fn places(&self, peer: u8) -> Option<Places>
+        ensures none { IsNone result ↔ (Contains (map (λ p. p.number) (state_of self.now.parts).peers) peer → ⊥) }
+        ensures queue { IfSome result (λ p. p.queue ≡ queued_from peer (state_of self.now.parts)) }
+        ensures lent { IfSome result (λ p. p.lent ≡ lent_from peer (state_of self.now.parts)) }
+    {
+        place_of(&self.peers, peer)?;
+        let lent = messages_handed_from(&self.requests, peer);
+        Some(Places {
+            queue: self.book.places(peer).queue - lent, // In the book all are in queues.
+            lent,
+        })
+    }
+
+    /// How many messages are queued on all endpoints.
+    pub fn messages_queued(&self) -> u32
+        ensures { result ≡ length (queued_items (state_of self.now.parts)) }
+    {
+        self.endpoints.queued() as u32
+    }
+
+    /// The place of the endpoint of this name.
+    fn place_at(&self, at: Local) -> Option<usize>
+        ensures place { result ≡ place_at (state_of self.now.parts) at }
+        ensures channel { has_channel (endpoint_at (state_of self.now.parts) at) ≡ false }
+        ensures within { IfSome result (λ i. i < length self.now.parts.records.endpoints) }
+        ensures sound { Sound self.now.parts }
+    {
+        self.endpoints.place_at(&self.table, at)
+    }
+
+    /// The address of the endpoint of this name.
+    fn address_at(&self, at: Local) -> Option<u32>
+        ensures address { result ≡ address_at (state_of self.now.parts) at }
+        ensures live { is_some (place_at (state_of self.now.parts) at) ≡ is_some result }
+        ensures channel { has_channel (endpoint_at (state_of self.now.parts) at) ≡ false }
+        ensures sound { Sound self.now.parts }
+    {
+        self.endpoints.address_at(&self.table, at)
+    }
+
+    /// The address of an endpoint: of this domain where it is live, of another where it is known.
+    fn address_of(&self, name: EndName) -> Option<u32>
+        ensures { result ≡ address_of (state_of self.now.parts) name }
+    {
+        if name.domain == self.endpoints.number() {
+            let at = Local {
+                node: name.node,
+                port: name.port,
+            };
+            return self.endpoints.address_at(&self.table, at);
+        }
+        let place = place_of(&self.peers, name.domain)?;
+        self.peers[place].known.find(name)
+    }
+
+    /// How many buffers of the lane to a domain are free.
+    pub fn free_to(&self, number: u8) -> u32
+        ensures { result ≡ free_to (state_of self.now.parts) number }
+    {
+        let Some(place) = place_of(&self.peers, number) else {
+            return 0;
+        };
+        self.peers[place].ends.free_len()
+    }
+
+    /// Puts a frame to a peer.
+    fn put(&mut self, number: u8, frame: &[u8])
+        requires free { 0 < free_to (state_of self.old.parts) number }
+        requires some { 0 < length frame.now }
+        requires fits { length frame.now ≤ 512 }
+        ensures { Did P.Moved (frame_put number frame.now ∷ []) self.old self.new }
+    {
+        if let Some(place) = place_of(&self.peers, number) {
+            self.peers[place].ends.put(frame);
+        }
+    }
+}

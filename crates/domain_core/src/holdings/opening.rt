@@ -1,0 +1,81 @@
+//! How the inside of a domain begins and ends, and how two are carried.
+
+ghost use Rattle.std.specs.Prelude.{◌≡◌, ◌≤◌, [], IfOk, IfSome, None};
+ghost use Rattle.std.specs.List.{AllByRecursion};
+ghost use Rattle.mc_base.specs.declared.request.Slot.{Slot};
+ghost use Rattle.board_model.specs.State.{opening};
+ghost use Rattle.buffer_book.specs.Book.{kept_at};
+ghost use Rattle.lane_end.specs.Loop.{new_loop};
+ghost use Rattle.domain_core.specs.Carrying.{AreLinked, link_to, with_carried};
+ghost use Rattle.domain_core.specs.Opening.{AreLinksOf, IsOpenLink, ends_opened, links_in, neighbours_opened};
+ghost use Rattle.domain_core.specs.Parts.{shown, state_of};
+
+use crate::carrying::carry_between;
+use crate::endpoints::Endpoints;
+use crate::ends::Ends;
+use crate::holdings::Holdings;
+use crate::link::Link;
+use crate::link_room::LinkRoom;
+use crate::linking::{buffers_in, links_of, numbers_of, peers_of, sizes_of};
+use buffer_book::BufferBook;
+use endpoint_table::EndpointTable;
+use lane_end::{PlainRecv, PlainSend, RecvEnd, SendEnd};
+use mc_base::NoMemory;
+use request_set::RequestSet;
+use std::alloc::Global;
+
+impl<S: SendEnd + Drop, R: RecvEnd + Drop> Holdings<Ends<S, R>> {
+    /// The inside of a domain with its number, its nodes, the buffers of its own lane, and its links. Want of memory is the only
+    /// refusal; the links are given up then.
+    pub fn open(
+        alloc: Global,
+        number: u8,
+        nodes: u8,
+        pool: u32,
+        links: Vec<Link<S, R>>,
+    ) -> Result<Holdings<Ends<S, R>>, NoMemory>
+        requires number { number ≤ 7 }
+        requires some_nodes { 1 ≤ nodes }
+        requires nodes { nodes ≤ 16 }
+        requires some_pool { 1 ≤ pool }
+        requires pool { pool ≤ 256 }
+        requires peers { AreLinksOf number links.items }
+        requires open { AllByRecursion (IsOpenLink S.size S.free R.size R.shown R.out) links.items }
+        ensures state { IfOk result (λ h. state_of h.parts ≡ opening number nodes (neighbours_opened number pool links.items)) }
+        ensures ends { IfOk result (λ h. h.ends ≡ ends_opened number (new_loop pool) links.items) }
+        ensures ids { IfOk result (λ h. (shown h).ids ≡ []) }
+        ensures book { IfOk result (λ h. (s : Slot) → kept_at h.parts.book s ≡ None) }
+    {
+        let linked = numbers_of(alloc, &links)?;
+        let sizes = sizes_of(alloc, number, pool, &links)?;
+        Ok(Holdings {
+            endpoints: Endpoints::open(alloc, number, buffers_in(&sizes))?,
+            table: EndpointTable::new(alloc, number, nodes, &linked)?,
+            book: BufferBook::new(alloc, &sizes)?,
+            peers: peers_of(alloc, number, pool, links)?,
+            requests: RequestSet::new(alloc)?,
+        })
+    }
+
+    /// Its links, in the rising order of their peers, as they are.
+    pub fn into_links(self, room: LinkRoom<S, R>) -> Vec<Link<S, R>>
+        ensures { result.items ≡ links_in self.ends }
+    {
+        links_of(room, self.peers)
+    }
+}
+
+/// Shuttles both lanes of the link between two domains.
+pub fn carry(
+    one: &mut Holdings<Ends<PlainSend, PlainRecv>>,
+    two: &mut Holdings<Ends<PlainSend, PlainRecv>>,
+)
+    requires linked { AreLinked (state_of one.old.parts).number (state_of two.old.parts).number one.old.ends two.old.ends }
+    ensures one { IfSome (link_to (state_of one.old.parts).number two.old.ends) (λ b. one.new ≡ record one.old { ends = with_carried (state_of two.old.parts).number b one.old.ends }) }
+    ensures two { IfSome (link_to (state_of two.old.parts).number one.old.ends) (λ a. two.new ≡ record two.old { ends = with_carried (state_of one.old.parts).number a two.old.ends }) }
+    ensures linked { AreLinked (state_of one.new.parts).number (state_of two.new.parts).number one.new.ends two.new.ends }
+{
+    let first = one.endpoints.number();
+    let second = two.endpoints.number();
+    carry_between(&mut one.peers, first, &mut two.peers, second);
+}
