@@ -13,12 +13,13 @@ use Rattle.endpoint_table.specs.Table as endpoint_table
 use Rattle.request_set.specs.declared.ask.Ask.{Ask}
 use Rattle.request_set.specs.declared.ask.Complete.{Complete}
 use Rattle.request_set.specs.Requests.{Requests, Standing, keys}
+use Rattle.domain_core.specs.LaneSeen.{LaneSeen}
 use Rattle.domain_core.specs.declared.peer.Peer.{Peer}
 use Rattle.domain_core.specs.InBook.{asked_in, outcome_in, request_in, requests_in}
 use Rattle.domain_core.specs.InPlaces.{AreInPlaces, EachInPlace, slots_of}
 use Rattle.domain_core.specs.InRequests.{IsReceive, handed_slots, slots_in}
 use Rattle.domain_core.specs.Out.{Out}
-use Rattle.domain_core.specs.Peers.{EndsView, state_in}
+use Rattle.domain_core.specs.Peers.{state_in}
 use Rattle.domain_core.specs.Records.{Records, all_waiting}
 use Rattle.domain_core.specs.Sound.{AreSound, out_at}
 use Rattle.domain_core.specs.Steps.{with_last}
@@ -52,7 +53,7 @@ asked-places number r q b out id a o none places =
       priorities = places.priorities;
     }
 
-module _ {L : Type 0} (v : EndsView L) (b : Book) (r : Records) (q : Requests) (t : endpoint_table.Table) (ps : List (Peer L)) (id : RequestId) (a : Ask) (o : Option Complete) where
+module _ {L : Type 0} (v : L → LaneSeen) (b : Book) (r : Records) (q : Requests) (t : endpoint_table.Table) (ps : List (Peer L)) (id : RequestId) (a : Ask) (o : Option Complete) where
   abbrev q' : Requests
   q' = with_last q id a o
 

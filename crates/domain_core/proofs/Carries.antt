@@ -12,15 +12,15 @@ use Rattle.lane_end.specs.PlainSender.{Sender}
 use Rattle.lane_end.specs.PlainReceiver.{Receiver}
 use Rattle.lane_end.proofs.LaneLemmas.{shuttled-one-lane}
 use Rattle.request_set.specs.Requests.{Requests}
+use Rattle.domain_core.specs.LaneSeen.{LaneSeen}
 use Rattle.domain_core.specs.declared.ends.Ends.{Ends}
 use Rattle.domain_core.specs.declared.ends.Ends.TheVariants.{Own, Linked}
 use Rattle.domain_core.specs.declared.peer.Peer.{Peer}
 use Rattle.domain_core.specs.AllMoved.{ends_of}
 use Rattle.domain_core.specs.Carried.{AreJoinedEnds, ends_carried, peer_carried, peers_carried}
 use Rattle.domain_core.specs.Carrying.{AreJoined, AreLinked, PlainLink, carried, carried_with, leads_to, link_to, with_carried}
-use Rattle.domain_core.specs.Ends.{ends_free, ends_out, ends_shown, ends_size_from, ends_size_to}
-use Rattle.domain_core.specs.Parts.{Holding, LaneSeen, holding_in, lane_seen, parts_in, peer_seen}
-use Rattle.domain_core.specs.Peers.{EndsView, seen_by}
+use Rattle.domain_core.specs.Ends.{ends_seen}
+use Rattle.domain_core.specs.Parts.{Holding, holding_in, parts_in, peer_seen}
 use Rattle.domain_core.specs.Records.{Records}
 
 abbrev PlainEnds : Type 0
@@ -121,10 +121,10 @@ linked-carried one two ones twos l = record {
 
 -- ---- the domain: what is seen of the ends stays
 
-abbrev plain_view : EndsView PlainEnds
-plain_view = seen_by (ends_size_to (λ (s : Sender). s.size)) (ends_size_from (λ (r : Receiver). r.size)) (ends_free (λ (s : Sender). s.free)) (ends_shown (λ (r : Receiver). r.shown)) (ends_out (λ (r : Receiver). r.out))
+abbrev plain_view : PlainEnds → LaneSeen
+plain_view = ends_seen (λ (s : Sender). s.size) (λ (s : Sender). s.free) (λ (r : Receiver). r.size) (λ (r : Receiver). r.shown) (λ (r : Receiver). r.out)
 
-same-ends : (b : PlainLink) (e : PlainEnds) → lane_seen plain_view (carried_with b e) ≡ lane_seen plain_view e
+same-ends : (b : PlainLink) (e : PlainEnds) → plain_view (carried_with b e) ≡ plain_view e
 same-ends b (Own l) = refl
 same-ends b (Linked a) = refl
 

@@ -16,13 +16,14 @@ use Rattle.lane_end.specs.ReceiverContract.{without}
 use Rattle.lane_end.proofs.CountLemmas.{tick, tick-same, length-apart, length-without, often-without}
 use Rattle.message_queue.specs.Queue.{Waiting}
 use Rattle.request_set.specs.Requests.{Requests, Standing}
+use Rattle.domain_core.specs.LaneSeen.{LaneSeen}
 use Rattle.domain_core.specs.declared.peer.Peer.{Peer}
 use Rattle.domain_core.specs.AllMoved.{numbers_of}
 use Rattle.domain_core.specs.InBook.{item_at, item_in}
 use Rattle.domain_core.specs.InPlaces.{AreInPlaces, EachInPlace, is_of, one_if, slot_at, slots_of}
 use Rattle.domain_core.specs.InRequests.{handed_slots, slots_in}
 use Rattle.domain_core.specs.Out.{Out}
-use Rattle.domain_core.specs.Peers.{EndsView, state_in}
+use Rattle.domain_core.specs.Peers.{state_in}
 use Rattle.domain_core.specs.Records.{Records, all_waiting}
 use Rattle.domain_core.specs.Sound.{AreRising, AreSound, IsSized, out_at, outs_count}
 use Rattle.domain_core.proofs.Handed.{Listing, items-handed, listing, none-listed, none-past, nothing-there}
@@ -47,7 +48,7 @@ handed-from b peer (s ∷ ss) =
     ∙ sym (count-cons (is_of peer) s ss)
 
 -- as the state tells them
-module _ {L : Type 0} (v : EndsView L) (b : Book) (r : Records) (q : Requests) (t : endpoint_table.Table) (ps : List (Peer L)) (peer : ℕ) where
+module _ {L : Type 0} (v : L → LaneSeen) (b : Book) (r : Records) (q : Requests) (t : endpoint_table.Table) (ps : List (Peer L)) (peer : ℕ) where
   pub queued-is : queued_from peer (state_in v b r q t ps) ≡ count_by (is_of peer) (slots (all_waiting r.endpoints))
   queued-is = ap (count_by (is_from peer)) (items-are b r.endpoints) ∙ waiting-from b peer (all_waiting r.endpoints)
 
@@ -134,7 +135,7 @@ kept-are peer o ss b e =
     omega (arith, all, are)
 
 -- of each peer of a domain
-pub kept-from : {L : Type 0} (v : EndsView L) (b : Book) (r : Records) (q : Requests) (t : endpoint_table.Table) (ps : List (Peer L)) (peer i : ℕ) → Some i ≡ position (λ (p : Peer L). p.number == peer) ps → AreSound v b r q t ps → book.queued_from b peer ≡ count_by (is_of peer) (slots_of r q)
+pub kept-from : {L : Type 0} (v : L → LaneSeen) (b : Book) (r : Records) (q : Requests) (t : endpoint_table.Table) (ps : List (Peer L)) (peer i : ℕ) → Some i ≡ position (λ (p : Peer L). p.number == peer) ps → AreSound v b r q t ps → book.queued_from b peer ≡ count_by (is_of peer) (slots_of r q)
 kept-from v b r q t ps peer i at sound =
     let found = peer-at ps peer i at in
     let places = All-at (λ p. AreInPlaces p.number r q b (out_at v p)) ps i found.0 sound.places found.1 in
@@ -182,13 +183,13 @@ few-peers : (ns : List ℕ) → AllByRecursion (λ m. m ≤ 7) ns → AreRising 
 few-peers [] fits rising = omega arith
 few-peers (n ∷ ns) fits rising = omega (arith, few-rising n ns fits.0 rising.0 fits.1 rising.1)
 
-outs-fit : {L : Type 0} (v : EndsView L) (r : Records) (q : Requests) (b : Book) (ps : List (Peer L)) → AllByRecursion (λ p. AreInPlaces p.number r q b (out_at v p)) ps → AllByRecursion (IsSized v) ps → outs_count v ps ≤ 256 * length ps
+outs-fit : {L : Type 0} (v : L → LaneSeen) (r : Records) (q : Requests) (b : Book) (ps : List (Peer L)) → AllByRecursion (λ p. AreInPlaces p.number r q b (out_at v p)) ps → AllByRecursion (IsSized v) ps → outs_count v ps ≤ 256 * length ps
 outs-fit v r q b [] places sizes = omega arith
 outs-fit v r q b (p ∷ ps) places sizes =
-    let here = length-apart (v.size_from p.ends) (v.out p.ends) places.0.each.apart in
+    let here = length-apart (v p.ends).size_from (v p.ends).out places.0.each.apart in
     omega (arith, here, sizes.0.fits, outs-fit v r q b ps places.1 sizes.1)
 
-pub waiting-fits : {L : Type 0} (v : EndsView L) (b : Book) (r : Records) (q : Requests) (t : endpoint_table.Table) (ps : List (Peer L)) → AreSound v b r q t ps → length (all_waiting r.endpoints) ≤ 2048
+pub waiting-fits : {L : Type 0} (v : L → LaneSeen) (b : Book) (r : Records) (q : Requests) (t : endpoint_table.Table) (ps : List (Peer L)) → AreSound v b r q t ps → length (all_waiting r.endpoints) ≤ 2048
 waiting-fits v b r q t ps sound =
     let few = few-peers (numbers_of ps) sound.peers.few sound.peers.rising in
     let fit = outs-fit v r q b ps sound.places sound.peers.sizes in

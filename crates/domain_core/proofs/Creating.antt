@@ -17,6 +17,7 @@ use Rattle.message_queue.specs.Queue.{Waiting}
 use Rattle.request_set.specs.declared.ask.Complete.{Complete}
 use Rattle.request_set.specs.declared.ask.Complete.TheVariants as complete
 use Rattle.request_set.specs.Requests.{Requests}
+use Rattle.domain_core.specs.LaneSeen.{LaneSeen}
 use Rattle.domain_core.specs.declared.peer.Peer.{Peer}
 use Rattle.domain_core.specs.declared.requests.Waiters.{Waiters}
 use Rattle.domain_core.specs.declared.requests.Waiters.TheVariants as waiters
@@ -24,7 +25,7 @@ use Rattle.domain_core.specs.AllMoved.{numbers_of}
 use Rattle.domain_core.specs.InBook.{endpoint_in}
 use Rattle.domain_core.specs.InPlaces.{AreInPlaces, slots_of}
 use Rattle.domain_core.specs.InRequests.{handed_slots, with_all_complete}
-use Rattle.domain_core.specs.Peers.{EndsView, state_in}
+use Rattle.domain_core.specs.Peers.{state_in}
 use Rattle.domain_core.specs.Records.{Records, all_waiting, new_record, with_record}
 use Rattle.domain_core.specs.Sound.{AreSound, out_at}
 use Rattle.domain_core.specs.Tied.{AreTied}
@@ -75,7 +76,7 @@ fewer-than limit n is = grind (arith, is)
 moved-to : (P : Records → Requests → Table → Type 0) (r r' : Records) (q q' : Requests) (t t' : Table) → r' ≡ r → q' ≡ q → t' ≡ t → P r q t → P r' q' t'
 moved-to P r r' q q' t t' er eq et p = subst (λ (x : Records). P x q' t') (sym er) (subst (λ (x : Requests). P r x t') (sym eq) (subst (λ (x : Table). P r q x) (sym et) p))
 
-module _ {L : Type 0} (v : EndsView L) (b : Book) (r : Records) (q : Requests) (t : Table) (ps : List (Peer L)) (at : Local) where
+module _ {L : Type 0} (v : L → LaneSeen) (b : Book) (r : Records) (q : Requests) (t : Table) (ps : List (Peer L)) (at : Local) where
   abbrev s : DomainState
   s = state_in v b r q t ps
 

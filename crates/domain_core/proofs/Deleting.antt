@@ -16,12 +16,12 @@ use Rattle.message_queue.specs.Queue.{Waiting}
 use Rattle.request_set.specs.declared.ask.Complete.{Complete}
 use Rattle.request_set.specs.declared.ask.Complete.TheVariants as complete
 use Rattle.request_set.specs.Requests.{Requests}
+use Rattle.domain_core.specs.LaneSeen.{LaneSeen}
 use Rattle.domain_core.specs.declared.endpoints.Endpoint.{Endpoint}
 use Rattle.domain_core.specs.declared.peer.Peer.{Peer}
 use Rattle.domain_core.specs.AllMoved.{numbers_of}
 use Rattle.domain_core.specs.GivingBack.{GivesBack, IsOutAt}
 use Rattle.domain_core.specs.LaneMoves.{LaneMove}
-use Rattle.domain_core.specs.Peers.{EndsView}
 use Rattle.domain_core.specs.Records.{Records, all_waiting, waiting_in, with_oldest_taken, with_oldest_taken_at, without_record_at}
 use Rattle.domain_core.specs.Sound.{AreSound, out_at}
 use Rattle.domain_core.specs.Tied.{AreTied}
@@ -81,7 +81,7 @@ endpoints-oldest b (e ∷ es) (suc i) = ap (λ (xs : List state.Endpoint). endpo
 
 -- ---- the oldest message at a place leaves its queue, and is given back
 
-module _ {L : Type 0} (v : EndsView L) (b : Book) (r : Records) (q : Requests) (t : endpoint_table.Table) (ps : List (Peer L)) (i : ℕ) (s : Slot) (sound : AreSound v b r q t ps)
+module _ {L : Type 0} (v : L → LaneSeen) (b : Book) (r : Records) (q : Requests) (t : endpoint_table.Table) (ps : List (Peer L)) (i : ℕ) (s : Slot) (sound : AreSound v b r q t ps)
     (first : Some s ≡ option_map (λ (w : Waiting). w.slot) (oldest (waiting_in (slice_get r.endpoints i)))) where
   abbrev left : Records
   left = with_oldest_taken_at r i
@@ -119,7 +119,7 @@ who at = waiters.Receives at
 abbrev pub how : Complete
 how = complete.Ended EndpInvalid
 
-pub gone-sound : {L : Type 0} (v : EndsView L) (b : Book) (r : Records) (q : Requests) (t t' : endpoint_table.Table) (ps : List (Peer L)) (i : ℕ) (at : Local) → waiting_in (slice_get r.endpoints i) ≡ [] → AreSound v b r q t ps → AreTied (without_record_at r i) t' (numbers_of ps) → AreSound v b (without_record_at r i) (with_all_complete q (who at) how) t' ps
+pub gone-sound : {L : Type 0} (v : L → LaneSeen) (b : Book) (r : Records) (q : Requests) (t t' : endpoint_table.Table) (ps : List (Peer L)) (i : ℕ) (at : Local) → waiting_in (slice_get r.endpoints i) ≡ [] → AreSound v b r q t ps → AreTied (without_record_at r i) t' (numbers_of ps) → AreSound v b (without_record_at r i) (with_all_complete q (who at) how) t' ps
 gone-sound {L} v b r q t t' ps i at none sound tied =
     let r' = without_record_at r i in
     let q' = with_all_complete q (who at) how in

@@ -15,6 +15,7 @@ use Rattle.buffer_book.specs.Book.{Book, Kept}
 use Rattle.endpoint_table.specs.Table.{Table, deleted}
 use Rattle.lane_end.specs.ReceiveMoves.{Gave}
 use Rattle.request_set.specs.declared.ask.Complete.TheVariants as complete
+use Rattle.domain_core.specs.LaneSeen.{LaneSeen}
 use Rattle.domain_core.specs.declared.endpoints.Endpoint.{Endpoint}
 use Rattle.domain_core.specs.declared.peer.Peer.{Peer}
 use Rattle.domain_core.specs.declared.requests.Waiters.TheVariants as waiters
@@ -22,7 +23,7 @@ use Rattle.domain_core.specs.AllMoved.{buffers_of, giving}
 use Rattle.domain_core.specs.CallSteps.{Means, call_steps, drops, if_some}
 use Rattle.domain_core.specs.InBook.{endpoints_in}
 use Rattle.domain_core.specs.LaneMoves.{LaneMove, receiver}
-use Rattle.domain_core.specs.Parts.{LaneSeen, Parts, Sound, plain, state_of}
+use Rattle.domain_core.specs.Parts.{Parts, Sound, plain, state_of}
 use Rattle.domain_core.specs.Peers.{state_in}
 use Rattle.domain_core.specs.Records.{slots_at, with_oldest_taken}
 use Rattle.domain_core.specs.Steps.{Step, all_moves, done, done_all, endpoint_gone, oldest_dropped, step_moves}

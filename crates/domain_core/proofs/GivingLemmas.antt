@@ -13,11 +13,12 @@ use Rattle.board_model.proofs.MessageLists.{some-position}
 use Rattle.lane_end.specs.ReceiveMoves.{Gave}
 use Rattle.buffer_book.specs.Book.{Book, IsQueued, with_away}
 use Rattle.endpoint_table.specs.Table as endpoint_table
+use Rattle.domain_core.specs.LaneSeen.{LaneSeen}
 use Rattle.domain_core.specs.declared.peer.Peer.{Peer}
 use Rattle.domain_core.specs.LaneMoves.{LaneMove, receiver}
 use Rattle.domain_core.specs.AllMoved.{AllMoved, buffers_of, call_moves, ends_of, giving, moves_at, numbers_of}
 use Rattle.domain_core.specs.GivingBack.{GivesBack, IsOutAt}
-use Rattle.domain_core.specs.Peers.{EndsView, peer_in, peers_in}
+use Rattle.domain_core.specs.Peers.{peer_in, peers_in}
 use Rattle.domain_core.specs.declared.endpoints.Endpoint.{Endpoint}
 use Rattle.domain_core.specs.Records.{Records, all_waiting, with_best_taken, with_best_taken_at, with_oldest_taken, with_oldest_taken_at}
 use Rattle.request_set.specs.Requests.{Requests}
@@ -105,15 +106,15 @@ module _ {L : Type 0} (M : L → List LaneMove → L → Type 0) where
 
   -- ---- the peers after a slot was given back
 
-  module _ (v : EndsView L) (s : Slot) (ps ps' : List (Peer L)) (gives : GivesBack M v s ps ps') where
+  module _ (v : L → LaneSeen) (s : Slot) (ps ps' : List (Peer L)) (gives : GivesBack M v s ps ps') where
     abbrev given : Peer L
     given = record gives.peer { ends = gives.ends }
 
     shows-same : (t : endpoint_table.Table) → peer_in v t given ≡ peer_in v t gives.peer
     shows-same t =
-        ap (λ (n : ℕ). record (peer_in v t gives.peer) { size = n; free = length (v.free gives.ends); shown = v.shown gives.ends }) gives.size_from
-        ∙ ap (λ (ns : List ℕ). record (peer_in v t gives.peer) { free = length ns; shown = v.shown gives.ends }) gives.free
-        ∙ ap (λ (n : ℕ). record (peer_in v t gives.peer) { shown = n }) gives.shown
+        ap (λ (n : ℕ). record (peer_in v t gives.peer) { size = n; free = (v gives.ends).free; shown = (v gives.ends).shown }) (ap (λ (l : LaneSeen). l.size_from) gives.seen)
+        ∙ ap (λ (n : ℕ). record (peer_in v t gives.peer) { free = n; shown = (v gives.ends).shown }) (ap (λ (l : LaneSeen). l.free) gives.seen)
+        ∙ ap (λ (n : ℕ). record (peer_in v t gives.peer) { shown = n }) (ap (λ (l : LaneSeen). l.shown) gives.seen)
 
     pub given-peers : (t : endpoint_table.Table) → peers_in v t ps' ≡ peers_in v t ps
     given-peers t = ap (peers_in v t) gives.after ∙ map-exchanged (peer_in v t) ps gives.place gives.peer given gives.there (shows-same t)
@@ -125,7 +126,7 @@ module _ {L : Type 0} (M : L → List LaneMove → L → Type 0) where
     given-numbers = ap numbers_of gives.after ∙ map-exchanged (λ (p : Peer L). p.number) ps gives.place gives.peer given gives.there refl
 
 -- the state names the peers in the same order
-pub numbers-in : {L : Type 0} (v : EndsView L) (t : endpoint_table.Table) (ps : List (Peer L)) → map (λ (p : state.Peer). p.number) (peers_in v t ps) ≡ numbers_of ps
+pub numbers-in : {L : Type 0} (v : L → LaneSeen) (t : endpoint_table.Table) (ps : List (Peer L)) → map (λ (p : state.Peer). p.number) (peers_in v t ps) ≡ numbers_of ps
 numbers-in v t [] = refl
 numbers-in v t (p ∷ ps) = ap (λ (ns : List ℕ). p.number ∷ ns) (numbers-in v t ps)
 
@@ -203,7 +204,7 @@ found-named {L} (p ∷ ps) s some = go (p.number == s.peer) refl (λ left. found
 
 -- ---- what waits or was handed is out at its peer
 
-module _ {L : Type 0} (v : EndsView L) (b : Book) (r : Records) (q : Requests) where
+module _ {L : Type 0} (v : L → LaneSeen) (b : Book) (r : Records) (q : Requests) where
   -- a peer's lane has its places
   abbrev pub InPlacesAt : Peer L → Type 0
   InPlacesAt p = AreInPlaces p.number r q b (out_at v p)
@@ -212,7 +213,7 @@ module _ {L : Type 0} (v : EndsView L) (b : Book) (r : Records) (q : Requests) w
   counted [] places = refl
   counted (p ∷ ps) places =
       let rest = counted ps places.1 in
-      let all : count_by (is_of p.number) (slots_of r q) + 0 ≡ length (v.out p.ends) = places.0.each.all in
+      let all : count_by (is_of p.number) (slots_of r q) + 0 ≡ length (v p.ends).out = places.0.each.all in
       omega (arith, rest, all)
 
   module _ (ps : List (Peer L)) (rising : AreRising (numbers_of ps)) (places : AllByRecursion InPlacesAt ps) (total : length (slots_of r q) ≡ outs_count v ps) (s : Slot) (stands : 0 < times_in s (slots_of r q)) where
@@ -286,7 +287,7 @@ All-each P Q then [] all = tt
 All-each P Q then (x ∷ xs) all = (then x all.0, All-each P Q then xs all.1)
 
 -- the same slots wait or were handed, in any order
-pub sound-moved : {L : Type 0} (v : EndsView L) (b : Book) (r r' : Records) (q q' : Requests) (t : endpoint_table.Table) (ps : List (Peer L))
+pub sound-moved : {L : Type 0} (v : L → LaneSeen) (b : Book) (r r' : Records) (q q' : Requests) (t : endpoint_table.Table) (ps : List (Peer L))
     → SameEndpoints r r' → HaveSame (slots_of r q) (slots_of r' q') → count_by (is_misplaced b) (all_waiting r'.endpoints) ≤ count_by (is_misplaced b) (all_waiting r.endpoints) → AreReceives q' → AreSound v b r q t ps → AreSound v b r' q' t ps
 sound-moved {L} v b r r' q q' t ps same slots fewer receives sound = record {
   peers = subst (λ (n : ℕ). ArePeers v n ps) (sym same.number) sound.peers;
@@ -300,7 +301,7 @@ sound-moved {L} v b r r' q q' t ps same slots fewer receives sound = record {
 
 -- ---- and where one is
 
-module _ {L : Type 0} (M : L → List LaneMove → L → Type 0) (v : EndsView L) (b : Book) (r r' : Records) (q q' : Requests) (s : Slot) (ps ps' : List (Peer L)) (rising : AreRising (numbers_of ps)) (gives : GivesBack M v s ps ps')
+module _ {L : Type 0} (M : L → List LaneMove → L → Type 0) (v : L → LaneSeen) (b : Book) (r r' : Records) (q q' : Requests) (s : Slot) (ps ps' : List (Peer L)) (rising : AreRising (numbers_of ps)) (gives : GivesBack M v s ps ps')
     (more : HasMore s (slots_of r' q') (slots_of r q)) (fewer : count_by (is_misplaced b) (all_waiting r'.endpoints) ≤ count_by (is_misplaced b) (all_waiting r.endpoints)) (places : AllByRecursion (InPlacesAt v b r q) ps) where
   abbrev back : Peer L
   back = record gives.peer { ends = gives.ends }
@@ -311,7 +312,7 @@ module _ {L : Type 0} (M : L → List LaneMove → L → Type 0) (v : EndsView L
   own-back : InPlacesAt v (with_away b s) r' q' back
   own-back =
       let p = gives.peer in
-      given-places p.number r' q' (with_away b s) s.buffer (v.size_from p.ends) (v.size_from gives.ends) (v.out p.ends) (v.out gives.ends) gives.size_from gives.out (left-beside r r' q q' b s more fewer p.number (out_at v p) (sym gives.is) own_places)
+      given-places p.number r' q' (with_away b s) s.buffer (v p.ends).size_from (v gives.ends).size_from (v p.ends).out (v gives.ends).out (ap (λ (l : LaneSeen). l.size_from) gives.seen) (ap (λ (l : LaneSeen). l.out) gives.seen) (left-beside r r' q q' b s more fewer p.number (out_at v p) (sym gives.is) own_places)
 
   others : (xs : List (Peer L)) → AllByRecursion (λ m. s.peer < m) (numbers_of xs) → AllByRecursion (InPlacesAt v b r q) xs → AllByRecursion (InPlacesAt v (with_away b s) r' q') xs
   others [] above all = tt
@@ -330,15 +331,15 @@ module _ {L : Type 0} (M : L → List LaneMove → L → Type 0) (v : EndsView L
   pub given-in_place : AllByRecursion (InPlacesAt v (with_away b s) r' q') ps'
   given-in_place = subst (AllByRecursion (InPlacesAt v (with_away b s) r' q')) (sym gives.after) (each-back ps gives.place rising gives.there places)
 
-  one-less : length (v.out gives.ends) + 1 ≡ length (v.out gives.peer.ends)
+  one-less : length (v gives.ends).out + 1 ≡ length (v gives.peer.ends).out
   one-less =
       let p = gives.peer in
-      ap (λ (ns : List ℕ). length ns + 1) gives.out
+      ap (λ (ns : List ℕ). length ns + 1) (ap (λ (l : LaneSeen). l.out) gives.seen)
       ∙ length-given p.number r' q' (with_away b s) (out_at v p) s.buffer (left-beside r r' q q' b s more fewer p.number (out_at v p) (sym gives.is) own_places)
 
   outs-back : (xs : List (Peer L)) (i : ℕ) → slice_get xs i ≡ Some gives.peer → outs_count v (slice_set xs i back) + 1 ≡ outs_count v xs
   outs-back [] i there = absurd cc
-  outs-back (p ∷ xs) zero there = let is : gives.peer ≡ p = cc in let same : length (v.out gives.peer.ends) ≡ length (v.out p.ends) = ap (λ (x : Peer L). length (v.out x.ends)) is in let less = one-less in omega (arith, less, same)
+  outs-back (p ∷ xs) zero there = let is : gives.peer ≡ p = cc in let same : length (v gives.peer.ends).out ≡ length (v p.ends).out = ap (λ (x : Peer L). length (v x.ends).out) is in let less = one-less in omega (arith, less, same)
   outs-back (p ∷ xs) (suc i) there = let rest = outs-back xs i there in omega (arith, rest)
 
   pub given-total : length (slots_of r q) ≡ outs_count v ps → length (slots_of r' q') ≡ outs_count v ps'
@@ -350,8 +351,8 @@ module _ {L : Type 0} (M : L → List LaneMove → L → Type 0) (v : EndsView L
 
   buffers-back : (xs : List (Peer L)) (i : ℕ) → slice_get xs i ≡ Some gives.peer → buffers_count v (slice_set xs i back) ≡ buffers_count v xs
   buffers-back [] i there = absurd cc
-  buffers-back (p ∷ xs) zero there = let is : gives.peer ≡ p = cc in ap (λ (n : ℕ). n + buffers_count v xs) (gives.size_from ∙ ap (λ (x : Peer L). v.size_from x.ends) is)
-  buffers-back (p ∷ xs) (suc i) there = ap (λ (n : ℕ). v.size_from p.ends + n) (buffers-back xs i there)
+  buffers-back (p ∷ xs) zero there = let is : gives.peer ≡ p = cc in ap (λ (n : ℕ). n + buffers_count v xs) ((ap (λ (l : LaneSeen). l.size_from) gives.seen) ∙ ap (λ (x : Peer L). (v x.ends).size_from) is)
+  buffers-back (p ∷ xs) (suc i) there = ap (λ (n : ℕ). (v p.ends).size_from + n) (buffers-back xs i there)
 
   pub given-buffers : buffers_count v ps' ≡ buffers_count v ps
   given-buffers = ap (buffers_count v) gives.after ∙ buffers-back ps gives.place gives.there
@@ -359,11 +360,11 @@ module _ {L : Type 0} (M : L → List LaneMove → L → Type 0) (v : EndsView L
   pub given-sizes : AllByRecursion (IsSized v) ps → AllByRecursion (IsSized v) ps'
   given-sizes sizes =
       let was = All-at (IsSized v) ps gives.place gives.peer sizes gives.there in
-      let now : IsSized v back = record { same = gives.size_to ∙ was.same ∙ sym gives.size_from; fits = let fits = was.fits in let same = gives.size_from in omega (arith, fits, same) } in
+      let now : IsSized v back = record { same = (ap (λ (l : LaneSeen). l.size_to) gives.seen) ∙ was.same ∙ sym (ap (λ (l : LaneSeen). l.size_from) gives.seen); fits = let fits = was.fits in let same = (ap (λ (l : LaneSeen). l.size_from) gives.seen) in omega (arith, fits, same) } in
       subst (AllByRecursion (IsSized v)) (sym gives.after) (All-exchanged (IsSized v) ps gives.place back sizes now)
 
 -- a slot left the queues or the requests, was withdrawn from the book and was given back
-pub sound-given : {L : Type 0} (M : L → List LaneMove → L → Type 0) (v : EndsView L) (b : Book) (r r' : Records) (q q' : Requests) (t : endpoint_table.Table) (s : Slot) (ps ps' : List (Peer L)) → GivesBack M v s ps ps' → SameEndpoints r r'
+pub sound-given : {L : Type 0} (M : L → List LaneMove → L → Type 0) (v : L → LaneSeen) (b : Book) (r r' : Records) (q q' : Requests) (t : endpoint_table.Table) (s : Slot) (ps ps' : List (Peer L)) → GivesBack M v s ps ps' → SameEndpoints r r'
     → HasMore s (slots_of r' q') (slots_of r q) → count_by (is_misplaced b) (all_waiting r'.endpoints) ≤ count_by (is_misplaced b) (all_waiting r.endpoints) → AreReceives q' → AreSound v b r q t ps → AreSound v (with_away b s) r' q' t ps'
 sound-given {L} M v b r r' q q' t s ps ps' gives same more fewer receives sound =
     let numbers = given-numbers M v s ps ps' gives in

@@ -22,6 +22,7 @@ use Rattle.request_set.specs.declared.ask.Ask.TheVariants as ask
 use Rattle.request_set.specs.declared.ask.Complete.{Complete}
 use Rattle.request_set.specs.declared.ask.Complete.TheVariants as complete
 use Rattle.request_set.specs.Requests.{Requests, Standing, is_id, progress_of, request_of, without_request}
+use Rattle.domain_core.specs.LaneSeen.{LaneSeen}
 use Rattle.domain_core.specs.declared.endpoints.Endpoint.{Endpoint}
 use Rattle.domain_core.specs.declared.peer.Peer.{Peer}
 use Rattle.domain_core.specs.declared.requests.Waiters.TheVariants as waiters
@@ -33,7 +34,7 @@ use Rattle.domain_core.specs.GivingBack.{IsOutAt}
 use Rattle.domain_core.specs.InBook.{endpoints_in, item_at, item_in, outcome_in, request_in}
 use Rattle.domain_core.specs.InRequests.{AreReceives, handed_slots, slots_in, with_all_complete}
 use Rattle.domain_core.specs.LaneMoves.{receiver, sender}
-use Rattle.domain_core.specs.Parts.{LaneSeen, Parts, Sound, plain, state_of}
+use Rattle.domain_core.specs.Parts.{Parts, Sound, plain, state_of}
 use Rattle.domain_core.specs.Peers.{state_in}
 use Rattle.domain_core.specs.Records.{Records, waiting_in, with_best_taken_at, with_record}
 use Rattle.domain_core.specs.Steps.{Step, all_moves, done, done_all, message_ended, request_ended, step_moves, with_last, without_at}

@@ -19,28 +19,25 @@ use Rattle.endpoint_table.specs.Table as endpoint_table
 use Rattle.endpoint_table.specs.Table.{Owing, nothing_owed, opening_table, owing_to}
 use Rattle.lane_end.specs.Loop.{Loop, new_loop}
 use Rattle.request_set.specs.Requests.{Requests, no_requests}
+use Rattle.domain_core.specs.LaneSeen.{LaneSeen}
 use Rattle.domain_core.specs.declared.link.Link.{Link}
 use Rattle.domain_core.specs.declared.ends.Ends.{Ends}
 use Rattle.domain_core.specs.declared.ends.Ends.TheVariants.{Own, Linked}
 use Rattle.domain_core.specs.declared.peer.Peer.{Peer}
 use Rattle.domain_core.specs.AllMoved.{ends_of, numbers_of}
-use Rattle.domain_core.specs.Ends.{ends_free, ends_out, ends_shown, ends_size_from, ends_size_to}
+use Rattle.domain_core.specs.Ends.{ends_seen}
 use Rattle.domain_core.specs.InPlaces.{AreInPlaces, EachInPlace, IsShort, one_if}
 use Rattle.domain_core.specs.Opened.{linked_peer, own_peer, peers_opened, placed, size_of, sizes_opened}
 use Rattle.domain_core.specs.Opening.{AreLinksOf, IsOpenLink, ends_opened, neighbour_of, neighbours_opened}
 use Rattle.domain_core.specs.Out.{out_of}
 use Rattle.domain_core.specs.Owed.{owed_by}
-use Rattle.domain_core.specs.Peers.{EndsView, announcement_in, peer_in, seen_by, state_in}
+use Rattle.domain_core.specs.Peers.{announcement_in, peer_in, state_in}
 use Rattle.domain_core.specs.Records.{Records, opening_records}
 use Rattle.domain_core.specs.Sound.{AreRising, ArePeers, AreSound, IsSized, buffers_count, out_at, outs_count}
 use Rattle.domain_core.specs.Tied.{linked_among}
 use Rattle.domain_core.proofs.LinkPlaces.{all-placed, length-rising, map-map, map-placed, placed-contains, placed-linked, placed-rising, placed-same, rising-differ}
 
 -- ---- the book of buffers
-
--- how the ends of a domain are seen, by how its links' senders and receivers are
-abbrev pub ends_seen : {S R : Type 0} → (S → ℕ) → (S → List ℕ) → (R → ℕ) → (R → ℕ) → (R → List ℕ) → EndsView (Ends S R)
-ends_seen size_to free size_from shown out = seen_by (ends_size_to size_to) (ends_size_from size_from) (ends_free free) (ends_shown shown) (ends_out out)
 
 replicated : {X : Type 0} (size i : ℕ) (x : X) → slice_get (replicate size x) i ≡ cond (nat_lt i size) (Some x) None
 replicated {X} size i x = go (nat_lt i size) refl
@@ -143,7 +140,7 @@ module _ {S R : Type 0} (size_to : S → ℕ) (free : S → List ℕ) (size_from
   abbrev IsOpen : Link S R → Type 0
   IsOpen l = IsOpenLink size_to free size_from shown out l
 
-  abbrev view : EndsView (Ends S R)
+  abbrev view : Ends S R → LaneSeen
   view = ends_seen size_to free size_from shown out
 
   module _ (number nodes pool : ℕ) (ls : List (Link S R)) (fits : number ≤ 7) (most : pool ≤ 256) (links : AreLinksOf number ls) (each : AllByRecursion IsOpen ls) where

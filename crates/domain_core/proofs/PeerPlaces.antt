@@ -1,5 +1,5 @@
 -- Where a peer stands among a domain's, and what the state says of it.
-use Rattle.std.proofs.Common.{◌≡◌, ◌≢◌, ℕ, zero, suc, Bool, true, false, cond, List, [], ◌∷◌, length, map, Option, Some, None, refl, sym, ap, ◌∙◌, subst, arith, eq-eqb, ne_eqb, is_some}
+use Rattle.std.proofs.Common.{◌≡◌, ◌≢◌, ℕ, zero, suc, Bool, true, false, cond, List, [], ◌∷◌, map, Option, Some, None, refl, sym, ap, ◌∙◌, subst, arith, eq-eqb, ne_eqb, is_some}
 use Rattle.std.specs.Prelude.{◌==◌, Contains, find, position, slice_get, slice_set, option_map, option_and_then, unwrap_or}
 use Rattle.std.specs.List.{AllByRecursion}
 use Rattle.std.proofs.lemmas.Bool.{eqb-true}
@@ -14,9 +14,10 @@ use Rattle.board_model.proofs.MessageLists.{some-position}
 use Rattle.buffer_book.specs.Book.{Book}
 use Rattle.endpoint_table.specs.Table as endpoint_table
 use Rattle.request_set.specs.Requests.{Requests}
+use Rattle.domain_core.specs.LaneSeen.{LaneSeen}
 use Rattle.domain_core.specs.declared.peer.Peer.{Peer}
 use Rattle.domain_core.specs.AllMoved.{numbers_of}
-use Rattle.domain_core.specs.Peers.{EndsView, peer_in, peers_in, state_in}
+use Rattle.domain_core.specs.Peers.{peer_in, peers_in, state_in}
 use Rattle.domain_core.specs.Records.{Records}
 use Rattle.domain_core.proofs.Tables.{position-map}
 
@@ -81,11 +82,11 @@ module _ {L : Type 0} where
   pub number-place : (ps : List (Peer L)) (n : ℕ) → position (λ (p : Peer L). p.number == n) ps ≡ position (λ m. m == n) (numbers_of ps)
   number-place ps n = position-map (λ (p : Peer L). p.number) (λ m. m == n) ps
 
-  pub numbers-in : (v : EndsView L) (t : endpoint_table.Table) (ps : List (Peer L)) → map (λ (p : state.Peer). p.number) (peers_in v t ps) ≡ numbers_of ps
+  pub numbers-in : (v : L → LaneSeen) (t : endpoint_table.Table) (ps : List (Peer L)) → map (λ (p : state.Peer). p.number) (peers_in v t ps) ≡ numbers_of ps
   numbers-in v t [] = refl
   numbers-in v t (p ∷ ps) = ap (λ (ns : List ℕ). p.number ∷ ns) (numbers-in v t ps)
 
-  module _ (v : EndsView L) (b : Book) (r : Records) (q : Requests) (t : endpoint_table.Table) (ps : List (Peer L)) where
+  module _ (v : L → LaneSeen) (b : Book) (r : Records) (q : Requests) (t : endpoint_table.Table) (ps : List (Peer L)) where
     abbrev s : DomainState
     s = state_in v b r q t ps
 
@@ -101,7 +102,7 @@ module _ {L : Type 0} where
     pub no-peer-in : (n : ℕ) → None ≡ position (λ (p : Peer L). p.number == n) ps → peer_of s n ≡ None
     no-peer-in n at = ap (option_and_then (λ (k : ℕ). slice_get s.peers k)) (sym (place-in n) ∙ sym at)
 
-    pub free-there : (n i : ℕ) (p : Peer L) → Some i ≡ position (λ (p : Peer L). p.number == n) ps → slice_get ps i ≡ Some p → free_to s n ≡ length (v.free p.ends)
+    pub free-there : (n i : ℕ) (p : Peer L) → Some i ≡ position (λ (p : Peer L). p.number == n) ps → slice_get ps i ≡ Some p → free_to s n ≡ (v p.ends).free
     free-there n i p at there = ap (λ (o : Option state.Peer). unwrap_or (option_map (λ (x : state.Peer). x.free) o) 0) (peer-in n i p at there)
 
     -- the name of another domain's endpoint is looked up among those known of that peer

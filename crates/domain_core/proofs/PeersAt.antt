@@ -10,9 +10,10 @@ use Rattle.board_model.proofs.MessageAlls.{all-at, all-filter}
 use Rattle.board_model.proofs.MessageLists.{changed_first}
 use Rattle.endpoint_table.specs.declared.announced.Announced.{Announced}
 use Rattle.endpoint_table.specs.Table.{Owing, Table, owing_to, tells_gone, owes_gone}
+use Rattle.domain_core.specs.LaneSeen.{LaneSeen}
 use Rattle.domain_core.specs.declared.peer.Peer.{Peer}
 use Rattle.domain_core.specs.Owed.{owed_by}
-use Rattle.domain_core.specs.Peers.{EndsView, peer_in, peers_in, announcement_in}
+use Rattle.domain_core.specs.Peers.{peer_in, peers_in, announcement_in}
 use Rattle.domain_core.specs.AllMoved.{numbers_of}
 use Rattle.domain_core.specs.Sound.{AreRising, outs_count, buffers_count}
 use Rattle.domain_core.specs.Tied.{linked_among}
@@ -50,40 +51,40 @@ numbers-set (suc i) (x ∷ xs) p p' at is = ap (λ (ns : List ℕ). x.number ∷
 
 -- ---- how many buffers are out
 
-module _ {L : Type 0} (v : EndsView L) where
-  pub outs-set : (i : ℕ) (ps : List (Peer L)) (p p' : Peer L) → slice_get ps i ≡ Some p → outs_count v (slice_set ps i p') + length (v.out p.ends) ≡ outs_count v ps + length (v.out p'.ends)
+module _ {L : Type 0} (v : L → LaneSeen) where
+  pub outs-set : (i : ℕ) (ps : List (Peer L)) (p p' : Peer L) → slice_get ps i ≡ Some p → outs_count v (slice_set ps i p') + length (v p.ends).out ≡ outs_count v ps + length (v p'.ends).out
   outs-set i [] p p' at = absurd cc
   outs-set zero (x ∷ xs) p p' at =
       let same : x ≡ p = cc in
-      let out = ap (λ (y : Peer L). length (v.out y.ends)) same in
+      let out = ap (λ (y : Peer L). length (v y.ends).out) same in
       omega (arith, out)
   outs-set (suc i) (x ∷ xs) p p' at = omega (arith, outs-set i xs p p' at)
 
-  pub buffers-set : (i : ℕ) (ps : List (Peer L)) (p p' : Peer L) → slice_get ps i ≡ Some p → v.size_from p'.ends ≡ v.size_from p.ends → buffers_count v (slice_set ps i p') ≡ buffers_count v ps
+  pub buffers-set : (i : ℕ) (ps : List (Peer L)) (p p' : Peer L) → slice_get ps i ≡ Some p → (v p'.ends).size_from ≡ (v p.ends).size_from → buffers_count v (slice_set ps i p') ≡ buffers_count v ps
   buffers-set i [] p p' at is = refl
   buffers-set zero (x ∷ xs) p p' at is =
       let same : x ≡ p = cc in
-      let size = ap (λ (y : Peer L). v.size_from y.ends) same in
+      let size = ap (λ (y : Peer L). (v y.ends).size_from) same in
       omega (arith, size, is)
   buffers-set (suc i) (x ∷ xs) p p' at is = omega (arith, buffers-set i xs p p' at is)
 
   -- of each lane no more are out than it has
   abbrev pub Fit : Peer L → Type 0
-  Fit p = length (v.out p.ends) ≤ v.size_from p.ends
+  Fit p = length (v p.ends).out ≤ (v p.ends).size_from
 
   outs-fit : (ps : List (Peer L)) → AllByRecursion Fit ps → outs_count v ps ≤ buffers_count v ps
   outs-fit [] all = omega arith
-  outs-fit (x ∷ xs) all = let here : length (v.out x.ends) ≤ v.size_from x.ends = all.0 in omega (arith, here, outs-fit xs all.1)
+  outs-fit (x ∷ xs) all = let here : length (v x.ends).out ≤ (v x.ends).size_from = all.0 in omega (arith, here, outs-fit xs all.1)
 
   -- there is room for all that may come from a peer
-  pub outs-room : (i : ℕ) (ps : List (Peer L)) (p : Peer L) → AllByRecursion Fit ps → slice_get ps i ≡ Some p → outs_count v ps + v.size_from p.ends ≤ buffers_count v ps + length (v.out p.ends)
+  pub outs-room : (i : ℕ) (ps : List (Peer L)) (p : Peer L) → AllByRecursion Fit ps → slice_get ps i ≡ Some p → outs_count v ps + (v p.ends).size_from ≤ buffers_count v ps + length (v p.ends).out
   outs-room i [] p all at = absurd cc
   outs-room zero (x ∷ xs) p all at =
       let same : x ≡ p = cc in
-      let out = ap (λ (y : Peer L). length (v.out y.ends)) same in
-      let size = ap (λ (y : Peer L). v.size_from y.ends) same in
+      let out = ap (λ (y : Peer L). length (v y.ends).out) same in
+      let size = ap (λ (y : Peer L). (v y.ends).size_from) same in
       omega (arith, out, size, outs-fit xs all.1)
-  outs-room (suc i) (x ∷ xs) p all at = let here : length (v.out x.ends) ≤ v.size_from x.ends = all.0 in omega (arith, here, outs-room i xs p all.1 at)
+  outs-room (suc i) (x ∷ xs) p all at = let here : length (v x.ends).out ≤ (v x.ends).size_from = all.0 in omega (arith, here, outs-room i xs p all.1 at)
 
 -- ---- the peers as the board's definitions see them
 
@@ -113,7 +114,7 @@ pub any-changed : {X : Type 0} (test : X → Bool) (f : X → X) → ((x : X) �
 any-changed test f same None xs = refl
 any-changed test f same (Some i) xs = any_at test f same i xs
 
-module _ {L : Type 0} (v : EndsView L) (t : Table) where
+module _ {L : Type 0} (v : L → LaneSeen) (t : Table) where
   -- the first of the number is the one at the place
   pub find-place : (i : ℕ) (ps : List (Peer L)) (p : Peer L) → AreRising (numbers_of ps) → slice_get ps i ≡ Some p → find (is_numbered p.number) (peers_in v t ps) ≡ Some (peer_in v t p)
   find-place i [] p rising at = absurd cc
@@ -125,7 +126,7 @@ module _ {L : Type 0} (v : EndsView L) (t : Table) where
       ap (λ (b : Bool). cond b (Some (peer_in v t x)) (find (is_numbered p.number) (peers_in v t xs))) (ne_eqb x.number p.number (first-differs x p xs i rising.0 at))
       ∙ find-place i xs p rising.1 at
 
-module _ {L : Type 0} (v : EndsView L) (t t' : Table) where
+module _ {L : Type 0} (v : L → LaneSeen) (t t' : Table) where
   same-above : (n : ℕ) (ps : List (Peer L)) → AllByRecursion (λ m. n < m) (numbers_of ps) → ((z : Peer L) → (z.number ≡ n → ⊥) → peer_in v t z ≡ peer_in v t' z) → peers_in v t ps ≡ peers_in v t' ps
   same-above n [] above same = refl
   same-above n (x ∷ xs) above same =
@@ -158,7 +159,7 @@ any-in : (a : ℕ) (xs : List Announced) → list_any (state.tells_gone a) (map 
 any-in a [] = refl
 any-in a (x ∷ xs) = ap (λ (b : Bool). tells_gone a x || b) (any-in a xs)
 
-pub owed-ends : {L : Type 0} (v : EndsView L) (t : Table) (a : ℕ) (ps : List (Peer L)) → is_owed_end (peers_in v t ps) a ≡ list_any (ends_at a t.owing) (numbers_of ps)
+pub owed-ends : {L : Type 0} (v : L → LaneSeen) (t : Table) (a : ℕ) (ps : List (Peer L)) → is_owed_end (peers_in v t ps) a ≡ list_any (ends_at a t.owing) (numbers_of ps)
 owed-ends v t a [] = refl
 owed-ends v t a (p ∷ ps) =
     ap (λ (b : Bool). b || is_owed_end (peers_in v t ps) a) (any-in a (owed_by (owing_to t p.number)))

@@ -20,13 +20,14 @@ use Rattle.request_set.specs.declared.ask.Ask.TheVariants as ask
 use Rattle.request_set.specs.declared.ask.Complete.{Complete}
 use Rattle.request_set.specs.declared.ask.Complete.TheVariants as complete
 use Rattle.request_set.specs.Requests.{Requests, without_request}
+use Rattle.domain_core.specs.LaneSeen.{LaneSeen}
 use Rattle.domain_core.specs.declared.peer.Peer.{Peer}
 use Rattle.domain_core.specs.GivingBack.{GivesBack, IsOutAt}
 use Rattle.domain_core.specs.InBook.{endpoints_in, item_at, item_in, outcome_in, request_in, requests_in}
 use Rattle.domain_core.specs.InPlaces.{IsShort, slots_of, times_in}
 use Rattle.domain_core.specs.InRequests.{AreReceives, handed_slots}
 use Rattle.domain_core.specs.LaneMoves.{LaneMove}
-use Rattle.domain_core.specs.Peers.{EndsView, peers_in, state_in}
+use Rattle.domain_core.specs.Peers.{peers_in, state_in}
 use Rattle.domain_core.specs.Records.{Records, all_waiting, waiting_in, with_best_taken_at}
 use Rattle.domain_core.specs.Sound.{AreSound, out_at}
 use Rattle.domain_core.specs.Steps.{with_last}
@@ -41,7 +42,7 @@ use Rattle.domain_core.proofs.Waits.{best-there, endpoints-less}
 
 -- ---- a buffer is given back
 
-module _ {L : Type 0} (M : L → List LaneMove → L → Type 0) (m-none : (l : L) → M l [] l) (v : EndsView L) (b : Book) (r r' : Records) (q q' : Requests) (t : endpoint_table.Table) (s : Slot) (ps ps' : List (Peer L)) (gives : GivesBack M v s ps ps') where
+module _ {L : Type 0} (M : L → List LaneMove → L → Type 0) (m-none : (l : L) → M l [] l) (v : L → LaneSeen) (b : Book) (r r' : Records) (q q' : Requests) (t : endpoint_table.Table) (s : Slot) (ps ps' : List (Peer L)) (gives : GivesBack M v s ps ps') where
   abbrev before : DomainState
   before = state_in v b r q t ps
 
@@ -71,14 +72,14 @@ short-content (Some (Some k)) xs short is = go (is_none k.lent) is
         let most = length-take k.size (drop k.start k.buffer.bytes) in
         omega (arith, long, most, short)
 
-pub content-fits : {L : Type 0} (v : EndsView L) (b : Book) (r : Records) (q : Requests) (ps : List (Peer L)) (s : Slot) (xs : List ℕ) → AllByRecursion (InPlacesAt v b r q) ps → IsOutAt v s ps → Some xs ≡ option_map content (queued_at b s) → length xs ≤ 488
+pub content-fits : {L : Type 0} (v : L → LaneSeen) (b : Book) (r : Records) (q : Requests) (ps : List (Peer L)) (s : Slot) (xs : List ℕ) → AllByRecursion (InPlacesAt v b r q) ps → IsOutAt v s ps → Some xs ≡ option_map content (queued_at b s) → length xs ≤ 488
 content-fits v b r q ps s xs places out is =
     let here = All-at (InPlacesAt v b r q) ps out.place out.peer places out.there in
     short-content (book.place_at b s) xs (here.each.short s) is
 
 -- ---- the best message at an endpoint
 
-module _ {L : Type 0} (v : EndsView L) (b : Book) (r : Records) (q : Requests) (t : endpoint_table.Table) (ps : List (Peer L)) (sound : AreSound v b r q t ps) (i : ℕ) (w : Waiting) (is : best (λ (x : Waiting). x.priority) (waiting_in (slice_get r.endpoints i)) ≡ Some w) where
+module _ {L : Type 0} (v : L → LaneSeen) (b : Book) (r : Records) (q : Requests) (t : endpoint_table.Table) (ps : List (Peer L)) (sound : AreSound v b r q t ps) (i : ℕ) (w : Waiting) (is : best (λ (x : Waiting). x.priority) (waiting_in (slice_get r.endpoints i)) ≡ Some w) where
   stands : 0 < times_in w.slot (slots_of r q)
   stands = let one = times-here w.slot (slots_of (with_best_taken_at r i) q) (slots_of r q) (received-more r q b i w is) in omega (arith, one)
 
@@ -128,7 +129,7 @@ module _ {L : Type 0} (v : EndsView L) (b : Book) (r : Records) (q : Requests) (
 
 -- ---- a receive is begun
 
-module _ {L : Type 0} (v : EndsView L) (b : Book) (r : Records) (q : Requests) (t : endpoint_table.Table) (ps : List (Peer L)) (i : ℕ) (id : RequestId) (node port max : ℕ) (o : Option Complete)
+module _ {L : Type 0} (v : L → LaneSeen) (b : Book) (r : Records) (q : Requests) (t : endpoint_table.Table) (ps : List (Peer L)) (i : ℕ) (id : RequestId) (node port max : ℕ) (o : Option Complete)
     (there : Some i ≡ place_at (state_in v b r q t ps) (local node port)) (serial : id.serial ≡ q.given) where
   abbrev at : Local
   at = local node port
@@ -151,14 +152,14 @@ module _ {L : Type 0} (v : EndsView L) (b : Book) (r : Records) (q : Requests) (
       ∙ ap (λ (how : Option Outcome). made (new q.given how)) outcome
 
 -- no message was there
-pub pending-sound : {L : Type 0} (v : EndsView L) (b : Book) (r : Records) (q : Requests) (t : endpoint_table.Table) (ps : List (Peer L)) (id : RequestId) (at : Local) (max : ℕ) → AreReceives (with_last q id (ask.Message at max) None) → AreSound v b r q t ps → AreSound v b r (with_last q id (ask.Message at max) None) t ps
+pub pending-sound : {L : Type 0} (v : L → LaneSeen) (b : Book) (r : Records) (q : Requests) (t : endpoint_table.Table) (ps : List (Peer L)) (id : RequestId) (at : Local) (max : ℕ) → AreReceives (with_last q id (ask.Message at max) None) → AreSound v b r q t ps → AreSound v b r (with_last q id (ask.Message at max) None) t ps
 pending-sound v b r q t ps id at max receives sound =
     let q' = with_last q id (ask.Message at max) None in
     sound-moved v b r r q q' t ps (same-endpoints r) (handed-same (all_waiting r.endpoints) (handed_slots q.standing) (handed_slots q'.standing) (pending-same q id (ask.Message at max))) (omega arith) receives sound
 
 -- ---- a request ends
 
-module _ {L : Type 0} (v : EndsView L) (b : Book) (r : Records) (q : Requests) (t : endpoint_table.Table) (ps : List (Peer L)) (id : RequestId) (sound : AreSound v b r q t ps) where
+module _ {L : Type 0} (v : L → LaneSeen) (b : Book) (r : Records) (q : Requests) (t : endpoint_table.Table) (ps : List (Peer L)) (id : RequestId) (sound : AreSound v b r q t ps) where
   abbrev left : Requests
   left = without_request q id
 

@@ -15,12 +15,13 @@ use Rattle.board_model.proofs.ListsCounts.{count-append, count-cons}
 use Rattle.buffer_book.specs.Book.{Book, queued_at}
 use Rattle.message_queue.specs.Queue.{Waiting}
 use Rattle.request_set.specs.Requests.{Requests}
+use Rattle.domain_core.specs.LaneSeen.{LaneSeen}
 use Rattle.domain_core.specs.declared.endpoints.Endpoint.{Endpoint}
 use Rattle.domain_core.specs.declared.peer.Peer.{Peer}
 use Rattle.domain_core.specs.AllMoved.{numbers_of}
 use Rattle.domain_core.specs.InBook.{content_in, endpoint_in, endpoints_in, item_at, item_in, priority_in, source_in}
 use Rattle.domain_core.specs.InPlaces.{is_misplaced, one_if}
-use Rattle.domain_core.specs.Peers.{EndsView, state_in}
+use Rattle.domain_core.specs.Peers.{state_in}
 use Rattle.domain_core.specs.Records.{Records, all_waiting, slots_at, waiting_in, without_record_at}
 use Rattle.domain_core.specs.Sound.{AreSound}
 use Rattle.domain_core.specs.Tied.{AreTied}
@@ -54,13 +55,13 @@ count-within test (e ∷ es) zero = omega (arith, count-append test e.queue.wait
 count-within test (e ∷ es) (suc i) = omega (arith, count-within test es i, count-append test e.queue.waiting (all_waiting es))
 
 -- there is a peer, and its lane tells the priorities
-none-misplaced : {L : Type 0} (v : EndsView L) (b : Book) (r : Records) (q : Requests) (n : ℕ) (ps : List (Peer L)) → Contains (numbers_of ps) n → AllByRecursion (InPlacesAt v b r q) ps → count_by (is_misplaced b) (all_waiting r.endpoints) ≡ 0
+none-misplaced : {L : Type 0} (v : L → LaneSeen) (b : Book) (r : Records) (q : Requests) (n : ℕ) (ps : List (Peer L)) → Contains (numbers_of ps) n → AllByRecursion (InPlacesAt v b r q) ps → count_by (is_misplaced b) (all_waiting r.endpoints) ≡ 0
 none-misplaced v b r q n [] (k, lt, e) places = absurd (omega (arith, lt))
 none-misplaced v b r q n (p ∷ ps) own places = places.0.priorities
 
 -- ---- the endpoint at a place
 
-module _ {L : Type 0} (v : EndsView L) (b : Book) (r : Records) (q : Requests) (t : Table) (ps : List (Peer L)) (at : Local) (i : ℕ) (sound : AreSound v b r q t ps) (place : position (is_at at) (endpoints_in b r.endpoints) ≡ Some i) where
+module _ {L : Type 0} (v : L → LaneSeen) (b : Book) (r : Records) (q : Requests) (t : Table) (ps : List (Peer L)) (at : Local) (i : ℕ) (sound : AreSound v b r q t ps) (place : position (is_at at) (endpoints_in b r.endpoints) ≡ Some i) where
   abbrev s : DomainState
   s = state_in v b r q t ps
 

@@ -9,11 +9,12 @@ use Rattle.board_model.specs.Effect.{used_one, with_used}
 use Rattle.buffer_book.specs.Book.{Book}
 use Rattle.endpoint_table.specs.Table as endpoint_table
 use Rattle.request_set.specs.Requests.{Requests}
+use Rattle.domain_core.specs.LaneSeen.{LaneSeen}
 use Rattle.domain_core.specs.declared.peer.Peer.{Peer}
 use Rattle.domain_core.specs.AllMoved.{numbers_of}
 use Rattle.domain_core.specs.InPlaces.{AreInPlaces}
 use Rattle.domain_core.specs.Out.{out_of}
-use Rattle.domain_core.specs.Peers.{EndsView, peer_in, state_in}
+use Rattle.domain_core.specs.Peers.{peer_in, state_in}
 use Rattle.domain_core.specs.Records.{Records}
 use Rattle.domain_core.specs.Sound.{AreRising, AreSound, IsSized, buffers_count, outs_count}
 use Rattle.domain_core.specs.Tied.{AreTied}
@@ -27,8 +28,8 @@ pub record Outline : Type 0 where
   pub size_from : ℕ
   pub out : List ℕ
 
-abbrev pub outline : {L : Type 0} → EndsView L → Peer L → Outline
-outline v p = record { number = p.number; size_to = v.size_to p.ends; size_from = v.size_from p.ends; out = v.out p.ends }
+abbrev pub outline : {L : Type 0} → (L → LaneSeen) → Peer L → Outline
+outline v p = record { number = p.number; size_to = (v p.ends).size_to; size_from = (v p.ends).size_from; out = (v p.ends).out }
 
 abbrev outs : List Outline → ℕ
 outs [] = 0
@@ -41,20 +42,20 @@ buffers (o ∷ os) = o.size_from + buffers os
 abbrev Fits : Outline → Type 0
 Fits o = (o.size_to ≡ o.size_from) × (o.size_from ≤ 256)
 
-module _ {L : Type 0} (v : EndsView L) where
+module _ {L : Type 0} (v : L → LaneSeen) where
   numbers-are : (ps : List (Peer L)) → numbers_of ps ≡ map (λ (o : Outline). o.number) (map (outline v) ps)
   numbers-are [] = refl
   numbers-are (p ∷ ps) = ap (λ (ns : List ℕ). p.number ∷ ns) (numbers-are ps)
 
   outs-are : (ps : List (Peer L)) → outs_count v ps ≡ outs (map (outline v) ps)
   outs-are [] = refl
-  outs-are (p ∷ ps) = ap (λ (n : ℕ). length (v.out p.ends) + n) (outs-are ps)
+  outs-are (p ∷ ps) = ap (λ (n : ℕ). length (v p.ends).out + n) (outs-are ps)
 
   buffers-are : (ps : List (Peer L)) → buffers_count v ps ≡ buffers (map (outline v) ps)
   buffers-are [] = refl
-  buffers-are (p ∷ ps) = ap (λ (n : ℕ). v.size_from p.ends + n) (buffers-are ps)
+  buffers-are (p ∷ ps) = ap (λ (n : ℕ). (v p.ends).size_from + n) (buffers-are ps)
 
-module _ {L K : Type 0} (v : EndsView L) (w : EndsView K) where
+module _ {L K : Type 0} (v : L → LaneSeen) (w : K → LaneSeen) where
   All-same : (P : Outline → Type 0) (ps : List (Peer L)) (qs : List (Peer K)) → map (outline w) qs ≡ map (outline v) ps → AllByRecursion (λ p. P (outline v p)) ps → AllByRecursion (λ p. P (outline w p)) qs
   All-same P ps qs same all = All-unmap P (outline w) qs (subst (AllByRecursion P) (sym same) (All-map P (outline v) ps all))
 
@@ -82,19 +83,19 @@ module _ {L K : Type 0} (v : EndsView L) (w : EndsView K) where
 
 -- ---- the state after it
 
-module _ {L : Type 0} (v : EndsView L) (b : Book) (r : Records) (q : Requests) (t : endpoint_table.Table) (ps : List (Peer L)) (i : ℕ) (p : Peer L) (e : L) where
+module _ {L : Type 0} (v : L → LaneSeen) (b : Book) (r : Records) (q : Requests) (t : endpoint_table.Table) (ps : List (Peer L)) (i : ℕ) (p : Peer L) (e : L) where
   abbrev old : DomainState
   old = state_in v b r q t ps
 
   abbrev after : List (Peer L)
   after = slice_set ps i (record p { ends = e })
 
-  pub state-sent : (d : ℕ) → Some i ≡ position (λ (x : Peer L). x.number == d) ps → slice_get ps i ≡ Some p → length (v.free e) ≡ length (v.free p.ends) - 1 → v.shown e ≡ v.shown p.ends → v.size_from e ≡ v.size_from p.ends → state_in v b r q t after ≡ with_used old d
+  pub state-sent : (d : ℕ) → Some i ≡ position (λ (x : Peer L). x.number == d) ps → slice_get ps i ≡ Some p → (v e).free ≡ (v p.ends).free - 1 → (v e).shown ≡ (v p.ends).shown → (v e).size_from ≡ (v p.ends).size_from → state_in v b r q t after ≡ with_used old d
   state-sent d at there free shown size =
       let was = peer_in v t p in
       let is : peer_in v t (record p { ends = e }) ≡ used_one was
-      = ap (λ (n : ℕ). record was { size = n; free = length (v.free e); shown = v.shown e }) size
-      ∙ ap (λ (n : ℕ). record was { free = n; shown = v.shown e }) free
+      = ap (λ (n : ℕ). record was { size = n; free = (v e).free; shown = (v e).shown }) size
+      ∙ ap (λ (n : ℕ). record was { free = n; shown = (v e).shown }) free
       ∙ ap (λ (n : ℕ). record (used_one was) { shown = n }) shown in
       ap (λ (xs : List state.Peer). record old { peers = xs }) (changed-map (peer_in v t) used_one ps i p (record p { ends = e }) there is)
       ∙ ap (λ (o : Option ℕ). record old { peers = changed used_one o old.peers }) (at ∙ place-in v b r q t ps d)

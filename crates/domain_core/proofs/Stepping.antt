@@ -10,6 +10,7 @@ use Rattle.board_model.specs.DomainCall.{DomainCall}
 use Rattle.board_model.specs.Journal.{PlainAnswer, refuses}
 use Rattle.board_model.specs.Answer.{refusal, success}
 use Rattle.lane_end.specs.ReceiveMoves.{Gave}
+use Rattle.domain_core.specs.LaneSeen.{LaneSeen, after_moves}
 use Rattle.domain_core.specs.declared.peer.Peer.{Peer}
 use Rattle.domain_core.specs.AllMoved.{AllMoved, ends_of, numbers_of}
 use Rattle.domain_core.specs.GivingBack.{GivesBack, IsOutAt}
@@ -19,11 +20,11 @@ use Rattle.buffer_book.specs.Book.{Book}
 use Rattle.endpoint_table.specs.Table as endpoint_table
 use Rattle.request_set.specs.Requests.{Requests}
 use Rattle.domain_core.specs.Records.{Records}
-use Rattle.domain_core.specs.Peers.{EndsView, peer_in, peers_in, state_in}
+use Rattle.domain_core.specs.Peers.{peer_in, peers_in, state_in}
 use Rattle.domain_core.specs.Sound.{AreRising, AreSound}
 use Rattle.domain_core.specs.CallSteps.{Acted, Acts, Succeeds}
-use Rattle.domain_core.specs.Parts.{Holding, LaneSeen, Parts, Sound, holding_in, lane_seen, parts_in, peer_seen, peers_seen, plain, shown, state_of}
-use Rattle.domain_core.specs.Steps.{Did, Step, after_moves, all_moves, at_peer, book_after, done, done_all, moved_peer, records_after, requests_after, step_moves, table_after}
+use Rattle.domain_core.specs.Parts.{Holding, Parts, Sound, holding_in, parts_in, peer_seen, peers_seen, plain, shown, state_of}
+use Rattle.domain_core.specs.Steps.{Did, Step, all_moves, at_peer, book_after, done, done_all, moved_peer, records_after, requests_after, step_moves, table_after}
 use Rattle.std.proofs.lemmas.List.{append-nil, append_assoc}
 use Rattle.domain_core.proofs.Calling.{answer-done, answer-refused}
 use Rattle.domain_core.specs.DomainView.{domain_in}
@@ -78,7 +79,7 @@ set-is-map d ms (x ∷ ps) (suc i) p rising there is =
     let rest = set-is-map d ms ps i p rising.1 there is in
     cc
 
-module _ {L : Type 0} (v : EndsView L) where
+module _ {L : Type 0} (v : L → LaneSeen) where
   seen-set : (ps : List (Peer L)) (i : ℕ) (q : Peer L) → peers_seen v (slice_set ps i q) ≡ slice_set (peers_seen v ps) i (peer_seen v q)
   seen-set [] i q = refl
   seen-set (p ∷ ps) zero q = refl
@@ -121,7 +122,7 @@ module _ {L : Type 0} (v : EndsView L) where
 
   -- one peer's ends were moved
   module _ (M : L → List LaneMove → L → Type 0) (m-none : (l : L) → M l [] l) (d : ℕ) (ms : List LaneMove) where
-    pub one-seen : (ps : List (Peer L)) (i : ℕ) (p : Peer L) (e : L) → AreRising (numbers_of (peers_seen v ps)) → slice_get ps i ≡ Some p → p.number ≡ d → lane_seen v e ≡ after_moves ms (lane_seen v p.ends)
+    pub one-seen : (ps : List (Peer L)) (i : ℕ) (p : Peer L) (e : L) → AreRising (numbers_of (peers_seen v ps)) → slice_get ps i ≡ Some p → p.number ≡ d → v e ≡ after_moves ms (v p.ends)
         → peers_seen v (slice_set ps i (record p { ends = e })) ≡ map (moved_peer (at_peer d ms)) (peers_seen v ps)
     one-seen ps i p e rising there is seen =
         seen-set ps i (record p { ends = e })
@@ -149,11 +150,8 @@ module _ {L : Type 0} (v : EndsView L) where
     abbrev back : List LaneMove
     back = receiver (Gave s.buffer) ∷ []
 
-    ends-seen : lane_seen v gives.ends ≡ after_moves back (lane_seen v gives.peer.ends)
-    ends-seen = let f = gives.free in let h = gives.shown in let o = gives.out in let t = gives.size_to in let r = gives.size_from in cc
-
     pub given-seen : peers_seen v ps' ≡ map (moved_peer (at_peer s.peer back)) (peers_seen v ps)
-    given-seen = ap (peers_seen v) gives.after ∙ one-seen M m-none s.peer back ps gives.place gives.peer gives.ends rising gives.there gives.is ends-seen
+    given-seen = ap (peers_seen v) gives.after ∙ one-seen M m-none s.peer back ps gives.place gives.peer gives.ends rising gives.there gives.is gives.seen
 
     pub given-moved : AllMoved M (ends_of ps) (map (at_peer s.peer back) (numbers_of (peers_seen v ps))) (ends_of ps')
     given-moved = subst (λ (xs : List (Peer L)). AllMoved M (ends_of ps) (map (at_peer s.peer back) (numbers_of (peers_seen v ps))) (ends_of xs)) (sym gives.after) (one-moved M m-none s.peer back ps gives.place gives.peer gives.ends rising gives.there gives.is gives.moved)
@@ -206,11 +204,11 @@ module _ {L : Type 0} (M : L → List LaneMove → L → Type 0) where
         moved = moved-then M both (all_moves xs) (all_moves ys) (all_moves (xs ++ ys)) (moves-append xs ys) (numbers_of a.parts.peers) a.ends b.ends c.ends first.moved (subst (λ (ns : List ℕ). AllMoved M b.ends (map (all_moves ys) ns) c.ends) numbers then.moved);
       }
 
-  none-moved : ((l : L) → M l [] l) → (v : EndsView L) (ps : List (Peer L)) → AllMoved M (ends_of ps) (map (all_moves []) (numbers_of (peers_seen v ps))) (ends_of ps)
+  none-moved : ((l : L) → M l [] l) → (v : L → LaneSeen) (ps : List (Peer L)) → AllMoved M (ends_of ps) (map (all_moves []) (numbers_of (peers_seen v ps))) (ends_of ps)
   none-moved none v [] = tt
   none-moved none v (p ∷ ps) = (none p.ends, none-moved none v ps)
 
-  pub did-none : ((l : L) → M l [] l) → (v : EndsView L) (b : Book) (r : Records) (q : Requests) (t : endpoint_table.Table) (ps : List (Peer L)) → Did M [] (holding_in v b r q t ps) (holding_in v b r q t ps)
+  pub did-none : ((l : L) → M l [] l) → (v : L → LaneSeen) (b : Book) (r : Records) (q : Requests) (t : endpoint_table.Table) (ps : List (Peer L)) → Did M [] (holding_in v b r q t ps) (holding_in v b r q t ps)
   did-none none v b r q t ps = record { parts = refl; moved = none-moved none v ps }
 
 -- ---- a step with no move
@@ -219,7 +217,7 @@ pub quiet-peers : (ps : List (Peer LaneSeen)) → map (moved_peer (λ n. [])) ps
 quiet-peers [] = refl
 quiet-peers (p ∷ ps) = ap (λ xs. p ∷ xs) (quiet-peers ps)
 
-pub quiet-moved : {L : Type 0} (M : L → List LaneMove → L → Type 0) → ((l : L) → M l [] l) → (v : EndsView L) (ps : List (Peer L)) → AllMoved M (ends_of ps) (map (λ n. []) (numbers_of (peers_seen v ps))) (ends_of ps)
+pub quiet-moved : {L : Type 0} (M : L → List LaneMove → L → Type 0) → ((l : L) → M l [] l) → (v : L → LaneSeen) (ps : List (Peer L)) → AllMoved M (ends_of ps) (map (λ n. []) (numbers_of (peers_seen v ps))) (ends_of ps)
 quiet-moved M none v [] = tt
 quiet-moved M none v (p ∷ ps) = (none p.ends, quiet-moved M none v ps)
 
@@ -239,9 +237,5 @@ gives-seen s ps rising out =
       is = out.is;
       after = sym (set-is-map s.peer ms ps out.place out.peer rising out.there out.is);
       moved = tt;
-      free = refl;
-      shown = refl;
-      out = refl;
-      size_to = refl;
-      size_from = refl;
+      seen = refl;
     }

@@ -1,8 +1,8 @@
 -- The two lemmas of each step: it keeps what the parts keep, and it is this change of the state.
 use Rattle.std.proofs.Common.{◌≡◌, ℕ, zero, suc, ◌<◌, drop, Bool, true, false, cond, List, [], ◌∷◌, map, length, take, Option, Some, None, refl, sym, ap, ◌∙◌, subst, arith}
 use Rattle.std.specs.Prelude.{slice_get, option_map, position, unwrap_or, ◌==◌, ◌&&◌}
-use Rattle.std.proofs.lemmas.List.{length-drop}
 use Rattle.lane_end.specs.SendMoves.{Sent}
+use Rattle.domain_core.specs.LaneSeen.{LaneSeen, after_moves}
 use Rattle.domain_core.specs.declared.peer.Peer.{Peer}
 use Rattle.domain_core.specs.LaneMoves.{LaneMove, sender}
 use Rattle.domain_core.specs.Peers.{state_in}
@@ -39,8 +39,8 @@ use Rattle.std.proofs.lemmas.List.{length-map}
 use Rattle.endpoint_table.specs.Table.{deleted}
 use Rattle.domain_core.proofs.Removing.{delete-tied}
 use Rattle.domain_core.specs.CallSteps.{best_slot, call_steps, drops, if_some}
-use Rattle.domain_core.specs.Parts.{LaneSeen, Parts, Sound, plain, state_of}
-use Rattle.domain_core.specs.Steps.{after_moves, at_peer, best_dropped, done, done_all, endpoint_gone, frame_put, moved_peer, oldest_dropped, requests_after}
+use Rattle.domain_core.specs.Parts.{Parts, Sound, plain, state_of}
+use Rattle.domain_core.specs.Steps.{at_peer, best_dropped, done, done_all, endpoint_gone, frame_put, moved_peer, oldest_dropped, requests_after}
 use Rattle.domain_core.proofs.Queuing.{content-of, received-more}
 use Rattle.domain_core.proofs.Receiving.{best-is, best-out, best-taken, given-state, taken-sound}
 use Rattle.domain_core.proofs.Stepping.{Any, gives-seen, quiet-peers, set-is-map}
@@ -97,7 +97,7 @@ module _ (p : Parts) (n : ℕ) (frame : List ℕ) where
   frame_put-is sound i there =
       let at = peer-at p.peers n i there in
       ap (λ (ps : List (Peer LaneSeen)). state_in plain p.book p.records p.requests p.table ps) (sym (set-is-map n put p.peers i at.0 sound.peers.rising at.1 at.2))
-      ∙ state-sent plain p.book p.records p.requests p.table p.peers i at.0 (after_moves put at.0.ends) n there at.1 (length-drop 1 at.0.ends.free) refl refl
+      ∙ state-sent plain p.book p.records p.requests p.table p.peers i at.0 (after_moves put at.0.ends) n there at.1 refl refl refl
 
 -- a lane of which a buffer is free is there
 pub free-place : (p : Parts) (n : ℕ) → 0 < free_to (state_of p) n → (i : ℕ) × (Some i ≡ position (λ (x : Peer LaneSeen). x.number == n) p.peers)

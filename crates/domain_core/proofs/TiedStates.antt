@@ -1,5 +1,5 @@
 -- The state of a domain in which an endpoint is made or ended.
-use Rattle.std.proofs.Common.{◌≡◌, ℕ, ◌+◌, Bool, true, false, cond, List, [], ◌∷◌, ◌++◌, length, map, Option, Some, None, refl, sym, ap, ◌∙◌, subst, eq-eqb}
+use Rattle.std.proofs.Common.{◌≡◌, ℕ, ◌+◌, Bool, true, false, cond, List, [], ◌∷◌, ◌++◌, map, Option, Some, None, refl, sym, ap, ◌∙◌, subst, eq-eqb}
 use Rattle.std.specs.Prelude.{find, filter, slice_get, not, is_some, option_map, ◌||◌, ◌==◌}
 use Rattle.std.specs.List.{AllByRecursion, list_any}
 use Rattle.std.proofs.lemmas.Bool.{both_ways, eqb-true, or_left, or_right}
@@ -18,6 +18,7 @@ use Rattle.board_model.proofs.WholeFinds.{find-kept, find-mapped}
 use Rattle.buffer_book.specs.Book.{Book}
 use Rattle.request_set.specs.Requests.{Requests}
 use Rattle.request_set.specs.declared.ask.Complete.TheVariants as complete
+use Rattle.domain_core.specs.LaneSeen.{LaneSeen}
 use Rattle.domain_core.specs.declared.endpoints.Endpoint.{Endpoint}
 use Rattle.domain_core.specs.declared.peer.Peer.{Peer}
 use Rattle.domain_core.specs.declared.requests.Waiters.TheVariants as waiters
@@ -25,7 +26,7 @@ use Rattle.domain_core.specs.AllMoved.{numbers_of}
 use Rattle.domain_core.specs.InBook.{endpoint_in, endpoints_in, requests_in}
 use Rattle.domain_core.specs.InRequests.{with_all_complete}
 use Rattle.domain_core.specs.Owed.{owed_by}
-use Rattle.domain_core.specs.Peers.{EndsView, announcement_in, ended_in, peer_in, peers_in, state_in}
+use Rattle.domain_core.specs.Peers.{announcement_in, ended_in, peer_in, peers_in, state_in}
 use Rattle.domain_core.specs.Records.{Records, new_record, with_record}
 use Rattle.domain_core.specs.Sound.{AreRising}
 use Rattle.domain_core.specs.Tied.{AreTied, linked_among}
@@ -77,9 +78,9 @@ each-there (n ∷ ns) = (
 
 -- ---- all linked domains are owed one announcement more
 
-module _ {L : Type 0} (v : EndsView L) (t t' : Table) (a : Announced) (number : ℕ) (ns : List ℕ) (owing : t'.owing ≡ map (also_owing a) t.owing) (linked : map (λ (o : Owing). o.peer) t.owing ≡ linked_among number ns) where
+module _ {L : Type 0} (v : L → LaneSeen) (t t' : Table) (a : Announced) (number : ℕ) (ns : List ℕ) (owing : t'.owing ≡ map (also_owing a) t.owing) (linked : map (λ (o : Owing). o.peer) t.owing ≡ linked_among number ns) where
   abbrev with_owed : Peer L → Option Owing → state.Peer
-  with_owed p o = record { number = p.number; size = v.size_from p.ends; free = length (v.free p.ends); shown = v.shown p.ends; announcements = map announcement_in (owed_by o); replies = []; known = p.known }
+  with_owed p o = record { number = p.number; size = (v p.ends).size_from; free = (v p.ends).free; shown = (v p.ends).shown; announcements = map announcement_in (owed_by o); replies = []; known = p.known }
 
   one-more : (p : Peer L) (o : Option Owing) (b : Bool) → is_some o ≡ not b → with_owed p (option_map (also_owing a) o) ≡ cond b (with_owed p o) (record (with_owed p o) { announcements = map announcement_in (owed_by o) ++ announcement_in a ∷ [] })
   one-more p None true is = refl
@@ -105,7 +106,7 @@ module _ {L : Type 0} (v : EndsView L) (t t' : Table) (a : Announced) (number : 
       ap (λ (x : state.Peer). x ∷ peers_in v t' ps) (one-also p there.0)
       ∙ ap (λ (xs : List state.Peer). also_owed number (announcement_in a) (peer_in v t p) ∷ xs) (all-also ps there.1)
 
-module _ {L : Type 0} (v : EndsView L) (b b' : Book) (r : Records) (q q' : Requests) (t : Table) (ps ps' : List (Peer L)) (rising : AreRising (numbers_of ps)) (tie : AreTied r t (numbers_of ps)) where
+module _ {L : Type 0} (v : L → LaneSeen) (b b' : Book) (r : Records) (q q' : Requests) (t : Table) (ps ps' : List (Peer L)) (rising : AreRising (numbers_of ps)) (tie : AreTied r t (numbers_of ps)) where
   abbrev s : DomainState
   s = state_in v b r q t ps
 

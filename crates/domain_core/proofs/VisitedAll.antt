@@ -12,6 +12,7 @@ use Rattle.board_model.proofs.MessageAlls.{all-weaken}
 use Rattle.buffer_book.specs.Book.{Book, Kept, queued_at}
 use Rattle.endpoint_table.specs.Table.{Table}
 use Rattle.request_set.specs.Requests.{Requests}
+use Rattle.domain_core.specs.LaneSeen.{LaneSeen}
 use Rattle.domain_core.specs.declared.peer.Peer.{Peer}
 use Rattle.domain_core.specs.Beginning.{told_of, told_of_all, has_begun, has_begun_after}
 use Rattle.domain_core.specs.LaneMoves.{LaneMove}
@@ -23,7 +24,7 @@ use Rattle.domain_core.specs.InRequests.{AreReceives}
 use Rattle.domain_core.specs.InPlaces.{AreInPlaces, KeepOthers, slot_at, slots_of}
 use Rattle.domain_core.specs.Stores.{IsStored, AreStored, KeepsQueued}
 use Rattle.domain_core.specs.Dealt.{scene}
-use Rattle.domain_core.specs.Peers.{EndsView, peers_in}
+use Rattle.domain_core.specs.Peers.{peers_in}
 use Rattle.domain_core.specs.AllMoved.{AllMoved, ends_of, numbers_of, turn_moves}
 use Rattle.domain_core.specs.Sound.{AreRising, ArePeers}
 use Rattle.domain_core.specs.DomainView.{DomainView, domain_in}
@@ -138,14 +139,14 @@ all-least : (ns : List ℕ) → AllByRecursion (λ n. 0 ≤ n) ns
 all-least [] = tt
 all-least (n ∷ ns) = (omega arith, all-least ns)
 
-pub peers-few : {L : Type 0} (v : EndsView L) (number : ℕ) (ps : List (Peer L)) → ArePeers v number ps → length ps ≤ 8
+pub peers-few : {L : Type 0} (v : L → LaneSeen) (number : ℕ) (ps : List (Peer L)) → ArePeers v number ps → length ps ≤ 8
 peers-few {L} v number ps are =
     let few = few-rising 0 (numbers_of ps) (omega arith) are.few (all-least (numbers_of ps)) are.rising in
     omega (arith, few, length-map ps (λ (p : Peer L). p.number))
 
 -- ---- the first peers were visited
 
-pub record SoFar {L : Type 0} (M : L → List LaneMove → L → Type 0) (v : EndsView L) (old now : Parts L) (lines lines' : List Line) (i : ℕ) (begun : Bool) : Type 0 where
+pub record SoFar {L : Type 0} (M : L → List LaneMove → L → Type 0) (v : L → LaneSeen) (old now : Parts L) (lines lines' : List Line) (i : ℕ) (begun : Bool) : Type 0 where
   pub visits : List Visit
   pub numbers : List (List ℕ)
   pub each_peer : map (λ (w : Visit). w.peer) visits ≡ numbers_of (take i old.peers)
@@ -162,7 +163,7 @@ pub record SoFar {L : Type 0} (M : L → List LaneMove → L → Type 0) (v : En
   pub begins : begun ≡ has_begun_after false visits
   pub sound : IsSound v now
 
-pub so-far-none : {L : Type 0} (M : L → List LaneMove → L → Type 0) (v : EndsView L) (old : Parts L) (lines : List Line) → IsSound v old → SoFar M v old old lines lines 0 false
+pub so-far-none : {L : Type 0} (M : L → List LaneMove → L → Type 0) (v : L → LaneSeen) (old : Parts L) (lines : List Line) → IsSound v old → SoFar M v old old lines lines 0 false
 so-far-none M v old lines sound = record {
   visits = [];
   numbers = [];
@@ -181,15 +182,15 @@ so-far-none M v old lines sound = record {
   sound = sound;
 }
 
-pub so-far-more : {L : Type 0} (M : L → List LaneMove → L → Type 0) (v : EndsView L) (old now : Parts L) (lines lines' lines'' : List Line) (i : ℕ) (p : Peer L) (b' : Book) (r' : Records) (q' : Requests) (t' : Table) (ends : L) (known : Names) (begun begun' : Bool)
+pub so-far-more : {L : Type 0} (M : L → List LaneMove → L → Type 0) (v : L → LaneSeen) (old now : Parts L) (lines lines' lines'' : List Line) (i : ℕ) (p : Peer L) (b' : Book) (r' : Records) (q' : Requests) (t' : Table) (ends : L) (known : Names) (begun begun' : Bool)
     → SoFar M v old now lines lines' i begun
     → slice_get now.peers i ≡ Some p
     → Visits M p.number begun begun' (standing v p.ends) (standing v ends) (scene (table_in now.book now.records now.requests) lines') (scene (table_in b' r' q') lines'') now.table t' p.known known now.book b' p.ends ends
     → AreReceives q'
     → map (λ r. r.id) q'.standing ≡ map (λ r. r.id) now.requests.standing
-    → AreInPlaces p.number r' q' b' (out_of (v.size_from ends) (v.out ends))
+    → AreInPlaces p.number r' q' b' (out_of (v ends).size_from (v ends).out)
     → KeepOthers p.number now.records now.requests now.book r' q' b'
-    → length (slots_of r' q') + length (v.out p.ends) ≡ length (slots_of now.records now.requests) + length (v.out ends)
+    → length (slots_of r' q') + length (v p.ends).out ≡ length (slots_of now.records now.requests) + length (v ends).out
     → SoFar M v old (parts b' r' q' t' (slice_set now.peers i (visited p ends known))) lines lines'' (i + 1) begun'
 so-far-more {L} M v old now lines lines' lines'' i p b' r' q' t' ends known begun begun' so_far at made receives ids here others total =
     let p' = visited p ends known in
@@ -234,15 +235,15 @@ so-far-more {L} M v old now lines lines' lines'' i p b' r' q' t' ends known begu
       sound = sound-after M v now i p b' r' q' t' ends known begun begun' lines' lines'' so_far.sound at made receives here others total;
     }
 
-numbers-seen : {L : Type 0} (v : EndsView L) (t : Table) (ps : List (Peer L)) → map (λ (x : state.Peer). x.number) (peers_in v t ps) ≡ numbers_of ps
+numbers-seen : {L : Type 0} (v : L → LaneSeen) (t : Table) (ps : List (Peer L)) → map (λ (x : state.Peer). x.number) (peers_in v t ps) ≡ numbers_of ps
 numbers-seen v t [] = refl
 numbers-seen v t (p ∷ ps) = ap (λ (ns : List ℕ). p.number ∷ ns) (numbers-seen v t ps)
 
-abbrev pub view_of : {L : Type 0} → EndsView L → Parts L → DomainView L
+abbrev pub view_of : {L : Type 0} → (L → LaneSeen) → Parts L → DomainView L
 view_of v x = domain_in v x.book x.records x.requests x.table x.peers
 
 -- all were visited
-pub so-far-all : {L : Type 0} (M : L → List LaneMove → L → Type 0) (v : EndsView L) (old now : Parts L) (lines lines' : List Line) (i : ℕ) (begun : Bool) → SoFar M v old now lines lines' i begun → length old.peers ≤ i → VisitsAll M (view_of v old) (view_of v now) lines lines' begun
+pub so-far-all : {L : Type 0} (M : L → List LaneMove → L → Type 0) (v : L → LaneSeen) (old now : Parts L) (lines lines' : List Line) (i : ℕ) (begun : Bool) → SoFar M v old now lines lines' i begun → length old.peers ≤ i → VisitsAll M (view_of v old) (view_of v now) lines lines' begun
 so-far-all {L} M v old now lines lines' i begun so_far le =
     let as_many : length now.peers ≡ length old.peers = sym (length-map now.peers (λ (p : Peer L). p.number)) ∙ ap (λ (ns : List ℕ). length ns) so_far.same ∙ length-map old.peers (λ (p : Peer L). p.number) in
     let le' : length now.peers ≤ i = omega (arith, as_many, le) in

@@ -29,6 +29,7 @@ use Rattle.endpoint_table.specs.Table.{Owing, Table, owing_to, owes_gone}
 use Rattle.request_set.specs.Requests.{Requests, Standing}
 use Rattle.request_set.specs.declared.ask.Complete.{Complete}
 use Rattle.request_set.specs.declared.ask.Complete.TheVariants as complete
+use Rattle.domain_core.specs.LaneSeen.{LaneSeen}
 use Rattle.domain_core.specs.declared.endpoints.Endpoint.{Endpoint}
 use Rattle.domain_core.specs.declared.peer.Peer.{Peer}
 use Rattle.domain_core.specs.LaneMoves.{LaneMove}
@@ -38,7 +39,7 @@ use Rattle.domain_core.specs.InBook.{item_in, endpoints_in, requests_in, outcome
 use Rattle.domain_core.specs.InRequests.{AreReceives, slots_in, handed_slots}
 use Rattle.domain_core.specs.InPlaces.{AreInPlaces, KeepOthers, is_of, slots_of}
 use Rattle.domain_core.specs.Owed.{frame_of, owed_by}
-use Rattle.domain_core.specs.Peers.{EndsView, peer_in, peers_in, announcement_in, ended_in, state_in}
+use Rattle.domain_core.specs.Peers.{peer_in, peers_in, announcement_in, ended_in, state_in}
 use Rattle.domain_core.specs.AllMoved.{numbers_of}
 use Rattle.domain_core.specs.Seen.{Holds}
 use Rattle.domain_core.specs.Dealt.{scene}
@@ -60,10 +61,10 @@ pub record Parts (L : Type 0) : Type 0 where
 abbrev pub parts : {L : Type 0} → Book → Records → Requests → Table → List (Peer L) → Parts L
 parts b r q t ps = record { book = b; records = r; requests = q; table = t; peers = ps }
 
-abbrev pub state_of : {L : Type 0} → EndsView L → Parts L → DomainState
+abbrev pub state_of : {L : Type 0} → (L → LaneSeen) → Parts L → DomainState
 state_of v x = state_in v x.book x.records x.requests x.table x.peers
 
-abbrev pub IsSound : {L : Type 0} → EndsView L → Parts L → Type 0
+abbrev pub IsSound : {L : Type 0} → (L → LaneSeen) → Parts L → Type 0
 IsSound v x = AreSound v x.book x.records x.requests x.table x.peers
 
 -- ---- the items that are held from a peer are the slots of its buffers
@@ -103,7 +104,7 @@ lent-from n b (r ∷ rs) =
     ∙ sym (count-append (is_of n) (slots_in r.complete) (handed_slots rs))
 
 -- they are the buffers that are out
-pub held-out : {L : Type 0} (v : EndsView L) (b : Book) (r : Records) (q : Requests) (t : Table) (ps : List (Peer L)) (n size : ℕ) (out : List ℕ) → AreInPlaces n r q b (out_of size out) → held_from n (state_in v b r q t ps) ≡ length out
+pub held-out : {L : Type 0} (v : L → LaneSeen) (b : Book) (r : Records) (q : Requests) (t : Table) (ps : List (Peer L)) (n size : ℕ) (out : List ℕ) → AreInPlaces n r q b (out_of size out) → held_from n (state_in v b r q t ps) ≡ length out
 held-out v b r q t ps n size out places =
     let all : count_by (is_of n) (slots_of r q) + 0 ≡ length out = places.each.all in
     let sum = count-append (is_of n) (map (λ (w : Waiting). w.slot) (all_waiting r.endpoints)) (handed_slots q.standing) in
@@ -157,15 +158,15 @@ peer_as number size free shown announcements replies known = record { number = n
 
 -- ---- the room that a visit needs
 
-fits : {L : Type 0} (v : EndsView L) (b : Book) (r : Records) (q : Requests) (p : Peer L) → AreInPlaces p.number r q b (out_at v p) → Fit v p
-fits v b r q p places = length-apart (v.size_from p.ends) (v.out p.ends) places.each.apart
+fits : {L : Type 0} (v : L → LaneSeen) (b : Book) (r : Records) (q : Requests) (p : Peer L) → AreInPlaces p.number r q b (out_at v p) → Fit v p
+fits v b r q p places = length-apart (v p.ends).size_from (v p.ends).out places.each.apart
 
-pub room-at : {L : Type 0} (v : EndsView L) (x : Parts L) (i : ℕ) (p : Peer L) → IsSound v x → slice_get x.peers i ≡ Some p → length (slots_of x.records x.requests) + v.size_from p.ends ≤ x.records.room + length (v.out p.ends)
+pub room-at : {L : Type 0} (v : L → LaneSeen) (x : Parts L) (i : ℕ) (p : Peer L) → IsSound v x → slice_get x.peers i ≡ Some p → length (slots_of x.records x.requests) + (v p.ends).size_from ≤ x.records.room + length (v p.ends).out
 room-at {L} v x i p sound at =
     let all = all-weaken (λ (z : Peer L). AreInPlaces z.number x.records x.requests x.book (out_at v z)) (Fit v) (fits v x.book x.records x.requests) x.peers sound.places in
     omega (arith, outs-room v i x.peers p all at, sound.total, sound.room)
 
-pub places-at : {L : Type 0} (v : EndsView L) (x : Parts L) (i : ℕ) (p : Peer L) → IsSound v x → slice_get x.peers i ≡ Some p → AreInPlaces p.number x.records x.requests x.book (out_of (v.size_from p.ends) (v.out p.ends))
+pub places-at : {L : Type 0} (v : L → LaneSeen) (x : Parts L) (i : ℕ) (p : Peer L) → IsSound v x → slice_get x.peers i ≡ Some p → AreInPlaces p.number x.records x.requests x.book (out_of (v p.ends).size_from (v p.ends).out)
 places-at {L} v x i p sound at = all-at (λ (z : Peer L). AreInPlaces z.number x.records x.requests x.book (out_at v z)) x.peers i p sound.places at
 
 -- ---- the visit
@@ -173,7 +174,7 @@ places-at {L} v x i p sound at = all-at (λ (z : Peer L). AreInPlaces z.number x
 abbrev pub visited : {L : Type 0} → Peer L → L → Names → Peer L
 visited p ends known = record p { ends = ends; known = known }
 
-module _ {L : Type 0} (M : L → List LaneMove → L → Type 0) (v : EndsView L) (x : Parts L) (i : ℕ) (p : Peer L) (b' : Book) (r' : Records) (q' : Requests) (t' : Table) (ends : L) (known : Names) (begun begun' : Bool) (lines lines' : List Line)
+module _ {L : Type 0} (M : L → List LaneMove → L → Type 0) (v : L → LaneSeen) (x : Parts L) (i : ℕ) (p : Peer L) (b' : Book) (r' : Records) (q' : Requests) (t' : Table) (ends : L) (known : Names) (begun begun' : Bool) (lines lines' : List Line)
     (sound : IsSound v x) (at : slice_get x.peers i ≡ Some p)
     (made : Visits M p.number begun begun' (standing v p.ends) (standing v ends) (scene (table_in x.book x.records x.requests) lines) (scene (table_in b' r' q') lines') x.table t' p.known known x.book b' p.ends ends) where
   abbrev after : List (Peer L)
@@ -202,17 +203,17 @@ module _ {L : Type 0} (M : L → List LaneMove → L → Type 0) (v : EndsView L
   peer-is : knowing known (looked_at made.visit (peer_in v x.table p)) ≡ peer_in v table (visited p ends known)
   peer-is =
       let n = p.number in
-      let free = length (v.free p.ends) + made.visit.back - paid in
+      let free = (v p.ends).free + made.visit.back - paid in
       let shown = made.visit.see - length made.visit.takes in
       let told = map announcement_in (owed_by (owing_to x.table n)) in
-      ap (λ (z : List (List ℕ)). peer_as n (v.size_from p.ends) free shown (drop paid told) z known) (drop-nil (paid - length told))
+      ap (λ (z : List (List ℕ)). peer_as n (v p.ends).size_from free shown (drop paid told) z known) (drop-nil (paid - length told))
       ∙ ap (λ (z : ℕ). peer_as n z free shown (drop paid told) [] known) (sym made.size_from)
-      ∙ ap (λ (z : ℕ). peer_as n (v.size_from ends) z shown (drop paid told) [] known) (sym made.left_free)
-      ∙ ap (λ (z : ℕ). peer_as n (v.size_from ends) (length (v.free ends)) z (drop paid told) [] known) (sym made.left_shown)
-      ∙ ap (λ (z : List Announcement). peer_as n (v.size_from ends) (length (v.free ends)) (v.shown ends) z [] known) (sym announcements-are)
+      ∙ ap (λ (z : ℕ). peer_as n (v ends).size_from z shown (drop paid told) [] known) (sym made.left_free)
+      ∙ ap (λ (z : ℕ). peer_as n (v ends).size_from (v ends).free z (drop paid told) [] known) (sym made.left_shown)
+      ∙ ap (λ (z : List Announcement). peer_as n (v ends).size_from (v ends).free (v ends).shown z [] known) (sym announcements-are)
 
   others-are : (z : Peer L) → (z.number ≡ p.number → ⊥) → peer_in v x.table z ≡ peer_in v table z
-  others-are z differs = ap (λ (xs : List Announced). peer_as z.number (v.size_from z.ends) (length (v.free z.ends)) (v.shown z.ends) (map announcement_in xs) [] z.known) (sym (owed-other paid p.number z.number x.table.owing differs))
+  others-are z differs = ap (λ (xs : List Announced). peer_as z.number (v z.ends).size_from (v z.ends).free (v z.ends).shown (map announcement_in xs) [] z.known) (sym (owed-other paid p.number z.number x.table.owing differs))
 
   abbrev looked : List state.Peer
   looked = changed (looked_at made.visit) (place_of_peer before p.number) before.peers
@@ -271,13 +272,13 @@ module _ {L : Type 0} (M : L → List LaneMove → L → Type 0) (v : EndsView L
   pub is-visit : IsVisit before made.visit
   is-visit =
       let sized = all-at (IsSized v) x.peers i p sound.peers.sizes at in
-      let held = held-out v x.book x.records x.requests x.table x.peers p.number (v.size_from p.ends) (v.out p.ends) (places-at v x i p sound at) in
+      let held = held-out v x.book x.records x.requests x.table x.peers p.number (v p.ends).size_from (v p.ends).out (places-at v x i p sound at) in
       let held_now = ap (λ (m : ℕ). held_from m before) made.peer_is in
       record {
         at = peer_in v x.table p;
         known = ap (peer_of before) made.peer_is ∙ peer_found before p.number ∙ find-place v x.table i x.peers p sound.peers.rising at;
         back_fits = let back = made.back_fits in let same = sized.same in omega (arith, back, same);
-        puts_due = made.puts_due ∙ ap (take (min turn_limit (length (v.free p.ends) + made.visit.back))) (sym (owed-same x.table.domain (owed_by (owing_to x.table p.number))));
+        puts_due = made.puts_due ∙ ap (take (min turn_limit ((v p.ends).free + made.visit.back))) (sym (owed-same x.table.domain (owed_by (owing_to x.table p.number))));
         sees_shown = made.sees_shown;
         see_fits = let see = made.see_fits in omega (arith, see, held, held_now);
         takes_first = made.many;
@@ -313,7 +314,7 @@ module _ {L : Type 0} (M : L → List LaneMove → L → Type 0) (v : EndsView L
       } in
       subst (λ (z : Table). AreTied r' z (numbers_of after)) (sym table-is) (subst (λ (ns : List ℕ). AreTied r' table ns) (sym numbers-are) is)
 
-  pub sound-after : AreReceives q' → AreInPlaces p.number r' q' b' (out_of (v.size_from ends) (v.out ends)) → KeepOthers p.number x.records x.requests x.book r' q' b' → length (slots_of r' q') + length (v.out p.ends) ≡ length (slots_of x.records x.requests) + length (v.out ends) → AreSound v b' r' q' t' after
+  pub sound-after : AreReceives q' → AreInPlaces p.number r' q' b' (out_of (v ends).size_from (v ends).out) → KeepOthers p.number x.records x.requests x.book r' q' b' → length (slots_of r' q') + length (v p.ends).out ≡ length (slots_of x.records x.requests) + length (v ends).out → AreSound v b' r' q' t' after
   sound-after receives here others total =
       let p' = visited p ends known in
       let sized = all-at (IsSized v) x.peers i p sound.peers.sizes at in

@@ -6,9 +6,10 @@ use Rattle.buffer_book.specs.Book.{Book}
 use Rattle.board_model.specs.State.{DomainState}
 use Rattle.request_set.specs.Requests.{Requests}
 use Rattle.endpoint_table.specs.Table as endpoint_table
+use Rattle.domain_core.specs.LaneSeen.{LaneSeen}
 use Rattle.domain_core.specs.declared.peer.Peer.{Peer}
 use Rattle.domain_core.specs.Records.{Records}
-use Rattle.domain_core.specs.Peers.{EndsView, state_in}
+use Rattle.domain_core.specs.Peers.{state_in}
 use Rattle.domain_core.specs.AllMoved.{ends_of}
 
 -- the state; the ends towards each peer, in the order of the state's peers; the ids of the requests that stand, in their order;
@@ -20,7 +21,7 @@ pub record DomainView (L : Type 0) : Type 0 where
   pub book : Book
 
 -- what its parts show
-abbrev pub domain_in : {L : Type 0} → EndsView L → Book → Records → Requests → endpoint_table.Table → List (Peer L) → DomainView L
+abbrev pub domain_in : {L : Type 0} → (L → LaneSeen) → Book → Records → Requests → endpoint_table.Table → List (Peer L) → DomainView L
 domain_in v b r q t ps = record { state = state_in v b r q t ps; ends = ends_of ps; ids = map (λ r. r.id) q.standing; book = b }
 
 abbrev pub has_id : RequestId → RequestId → Bool

@@ -1,36 +1,28 @@
 -- The ends towards a peer: what they hold, and their moves.
 -- Source: docs/PROFILE.md, "Lanes". Those of a lane to oneself make the moves of both sides in their order; each end of a link
 -- makes its own.
-use Rattle.std.specs.Prelude.{◌≡◌, ℕ, List, [], ◌++◌, refl}
+use Rattle.std.specs.Prelude.{◌≡◌, ℕ, List, [], ◌++◌, length, refl}
+use Rattle.lane_end.specs.Loop.{Loop}
 use Rattle.lane_end.specs.SendMoves.{SendMove}
 use Rattle.lane_end.specs.ReceiveMoves.{ReceiveMove}
 use Rattle.domain_core.specs.declared.ends.Ends.{Ends}
+use Rattle.domain_core.specs.declared.link.Link.{Link}
+use Rattle.domain_core.specs.LaneSeen.{LaneSeen}
 use Rattle.domain_core.specs.declared.ends.Ends.TheVariants.{Own, Linked}
 use Rattle.domain_core.specs.LaneMoves.{LaneMove, sends, receives}
 use Rattle.domain_core.specs.LinkMoved.{LinkMoved, link-none, link-both}
 use Rattle.domain_core.specs.LoopMoved.{LoopMoved, LoopMoved-both, LoopMoved-size}
 
--- how many buffers the lane to the peer has, and the lane from it
-abbrev pub ends_size_to : {S R : Type 0} → (S → ℕ) → Ends S R → ℕ
-ends_size_to size (Own l) = l.size
-ends_size_to size (Linked l) = size l.send
+-- what is seen of each
+abbrev pub loop_seen : Loop → LaneSeen
+loop_seen l = record { size_to = l.size; size_from = l.size; free = length l.free; shown = l.shown; out = l.out }
 
-abbrev pub ends_size_from : {S R : Type 0} → (R → ℕ) → Ends S R → ℕ
-ends_size_from size (Own l) = l.size
-ends_size_from size (Linked l) = size l.recv
+abbrev pub link_seen : {S R : Type 0} → (S → ℕ) → (S → List ℕ) → (R → ℕ) → (R → ℕ) → (R → List ℕ) → Link S R → LaneSeen
+link_seen size_to free size_from shown out l = record { size_to = size_to l.send; size_from = size_from l.recv; free = length (free l.send); shown = shown l.recv; out = out l.recv }
 
--- the free buffers, how many frames are shown and not taken, and the buffers taken and not given back
-abbrev pub ends_free : {S R : Type 0} → (S → List ℕ) → Ends S R → List ℕ
-ends_free free (Own l) = l.free
-ends_free free (Linked l) = free l.send
-
-abbrev pub ends_shown : {S R : Type 0} → (R → ℕ) → Ends S R → ℕ
-ends_shown shown (Own l) = l.shown
-ends_shown shown (Linked l) = shown l.recv
-
-abbrev pub ends_out : {S R : Type 0} → (R → List ℕ) → Ends S R → List ℕ
-ends_out out (Own l) = l.out
-ends_out out (Linked l) = out l.recv
+abbrev pub ends_seen : {S R : Type 0} → (S → ℕ) → (S → List ℕ) → (R → ℕ) → (R → ℕ) → (R → List ℕ) → Ends S R → LaneSeen
+ends_seen size_to free size_from shown out (Own l) = loop_seen l
+ends_seen size_to free size_from shown out (Linked l) = link_seen size_to free size_from shown out l
 
 -- moves lead from ends to ends of the same kind
 abbrev pub EndsMoved : {S R : Type 0} → (S → List SendMove → S → Type 0) → (R → List ReceiveMove → R → Type 0) → Ends S R → List LaneMove → Ends S R → Type 0
@@ -52,15 +44,17 @@ module _ {S R : Type 0} (Sent : S → List SendMove → S → Type 0) (Received 
   EndsMoved-both sent received (Linked a) (Linked b) (Own c) xs ys first then = absurd then
   EndsMoved-both sent received (Linked a) (Own b) c xs ys first then = absurd first
 
-module _ {S R : Type 0} (size : S → ℕ) (Sent : S → List SendMove → S → Type 0) (Received : R → List ReceiveMove → R → Type 0) where
-  pub EndsMoved-size_to : ((a b : S) (xs : List SendMove) → Sent a xs b → size b ≡ size a) → (a b : Ends S R) (xs : List LaneMove) → EndsMoved Sent Received a xs b → ends_size_to size b ≡ ends_size_to size a
+module _ {S R : Type 0} (size_to : S → ℕ) (free : S → List ℕ) (size_from : R → ℕ) (shown : R → ℕ) (out : R → List ℕ) (Sent : S → List SendMove → S → Type 0) (Received : R → List ReceiveMove → R → Type 0) where
+  abbrev seen : Ends S R → LaneSeen
+  seen = ends_seen size_to free size_from shown out
+
+  pub EndsMoved-size_to : ((a b : S) (xs : List SendMove) → Sent a xs b → size_to b ≡ size_to a) → (a b : Ends S R) (xs : List LaneMove) → EndsMoved Sent Received a xs b → (seen b).size_to ≡ (seen a).size_to
   EndsMoved-size_to same (Own a) (Own b) xs moved = LoopMoved-size a b xs moved
   EndsMoved-size_to same (Linked a) (Linked b) xs moved = same a.send b.send (sends xs) moved.sent
   EndsMoved-size_to same (Own a) (Linked b) xs moved = absurd moved
   EndsMoved-size_to same (Linked a) (Own b) xs moved = absurd moved
 
-module _ {S R : Type 0} (size : R → ℕ) (Sent : S → List SendMove → S → Type 0) (Received : R → List ReceiveMove → R → Type 0) where
-  pub EndsMoved-size_from : ((a b : R) (xs : List ReceiveMove) → Received a xs b → size b ≡ size a) → (a b : Ends S R) (xs : List LaneMove) → EndsMoved Sent Received a xs b → ends_size_from size b ≡ ends_size_from size a
+  pub EndsMoved-size_from : ((a b : R) (xs : List ReceiveMove) → Received a xs b → size_from b ≡ size_from a) → (a b : Ends S R) (xs : List LaneMove) → EndsMoved Sent Received a xs b → (seen b).size_from ≡ (seen a).size_from
   EndsMoved-size_from same (Own a) (Own b) xs moved = LoopMoved-size a b xs moved
   EndsMoved-size_from same (Linked a) (Linked b) xs moved = same a.recv b.recv (receives xs) moved.received
   EndsMoved-size_from same (Own a) (Linked b) xs moved = absurd moved

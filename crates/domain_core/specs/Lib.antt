@@ -1,4 +1,5 @@
 pub mod LaneMoves
+pub mod LaneSeen
 pub mod LinkMoved
 pub mod LoopMoved
 pub mod Ends

@@ -1,6 +1,6 @@
 -- The state of a domain, as its parts are seen.
 -- Source: docs/PROFILE.md, "A domain". What the state tells of a lane is what the ends towards the peer tell of it.
-use Rattle.std.specs.Prelude.{ℕ, not, List, [], length, map, filter}
+use Rattle.std.specs.Prelude.{ℕ, not, List, [], map, filter}
 use Rattle.board_model.specs.State as state
 use Rattle.board_model.specs.State.{DomainState, Announcement}
 use Rattle.buffer_book.specs.Book.{Book}
@@ -9,32 +9,21 @@ use Rattle.endpoint_table.specs.declared.announced.Announced.{Announced}
 use Rattle.endpoint_table.specs.declared.record.Record.{Record}
 use Rattle.endpoint_table.specs.Table as endpoint_table
 use Rattle.endpoint_table.specs.Table.{owing_to}
+use Rattle.domain_core.specs.LaneSeen.{LaneSeen}
 use Rattle.domain_core.specs.declared.peer.Peer.{Peer}
 use Rattle.domain_core.specs.Records.{Records}
 use Rattle.domain_core.specs.InBook.{endpoints_in, requests_in}
 use Rattle.domain_core.specs.Owed.{owed_by}
-
--- how ends towards a peer are seen: the sizes of the lane to it and of the lane from it, the free buffers, how many frames are
--- shown and not taken, and the buffers taken and not given back
-pub record EndsView (L : Type 0) : Type 0 where
-  pub size_to : L → ℕ
-  pub size_from : L → ℕ
-  pub free : L → List ℕ
-  pub shown : L → ℕ
-  pub out : L → List ℕ
-
-abbrev pub seen_by : {L : Type 0} → (L → ℕ) → (L → ℕ) → (L → List ℕ) → (L → ℕ) → (L → List ℕ) → EndsView L
-seen_by size_to size_from free shown out = record { size_to = size_to; size_from = size_from; free = free; shown = shown; out = out }
 
 -- what is owed to a linked domain, as the table of endpoints has it
 abbrev pub announcement_in : Announced → Announcement
 announcement_in a = record { local = a.local; address = a.address; create = a.create }
 
 -- a peer: no reply is ever owed to it
-abbrev pub peer_in : {L : Type 0} → EndsView L → endpoint_table.Table → Peer L → state.Peer
-peer_in v t p = record { number = p.number; size = v.size_from p.ends; free = length (v.free p.ends); shown = v.shown p.ends; announcements = map announcement_in (owed_by (owing_to t p.number)); replies = []; known = p.known }
+abbrev pub peer_in : {L : Type 0} → (L → LaneSeen) → endpoint_table.Table → Peer L → state.Peer
+peer_in v t p = record { number = p.number; size = (v p.ends).size_from; free = (v p.ends).free; shown = (v p.ends).shown; announcements = map announcement_in (owed_by (owing_to t p.number)); replies = []; known = p.known }
 
-abbrev pub peers_in : {L : Type 0} → EndsView L → endpoint_table.Table → List (Peer L) → List state.Peer
+abbrev pub peers_in : {L : Type 0} → (L → LaneSeen) → endpoint_table.Table → List (Peer L) → List state.Peer
 peers_in v t ps = map (peer_in v t) ps
 
 -- the addresses of the records whose endpoints are gone
@@ -42,5 +31,5 @@ abbrev pub ended_in : List Record → List ℕ
 ended_in records = map (λ r. r.address) (filter (λ r. not r.live) records)
 
 -- what waits or was handed is read in the book of buffers. No channel is there, and no packet is lent
-abbrev pub state_in : {L : Type 0} → EndsView L → Book → Records → Requests → endpoint_table.Table → List (Peer L) → DomainState
+abbrev pub state_in : {L : Type 0} → (L → LaneSeen) → Book → Records → Requests → endpoint_table.Table → List (Peer L) → DomainState
 state_in v b r q t ps = record { number = t.domain; nodes = t.nodes; endpoints = endpoints_in b r.endpoints; ended = ended_in t.records; peers = peers_in v t ps; requests = requests_in b q.standing; lent = []; endpoints_given = t.given; channels_given = 0; requests_given = q.given; packets_lent = 0 }

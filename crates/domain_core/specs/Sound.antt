@@ -6,12 +6,12 @@ use Rattle.mc_base.specs.Limits.{creation_limit}
 use Rattle.buffer_book.specs.Book.{Book}
 use Rattle.request_set.specs.Requests.{Requests}
 use Rattle.endpoint_table.specs.Table as endpoint_table
+use Rattle.domain_core.specs.LaneSeen.{LaneSeen}
 use Rattle.domain_core.specs.declared.peer.Peer.{Peer}
 use Rattle.domain_core.specs.Out.{Out, out_of}
 use Rattle.domain_core.specs.Records.{Records}
 use Rattle.domain_core.specs.InRequests.{AreReceives}
 use Rattle.domain_core.specs.InPlaces.{AreInPlaces, slots_of}
-use Rattle.domain_core.specs.Peers.{EndsView}
 use Rattle.domain_core.specs.AllMoved.{numbers_of}
 use Rattle.domain_core.specs.Tied.{AreTied}
 
@@ -21,32 +21,32 @@ AreRising [] = Unit {0}
 AreRising (n ∷ ns) = AllByRecursion (λ m. n < m) ns × AreRising ns
 
 -- the buffers that are out of the lane from a peer
-abbrev pub out_at : {L : Type 0} → EndsView L → Peer L → Out
-out_at v p = out_of (v.size_from p.ends) (v.out p.ends)
+abbrev pub out_at : {L : Type 0} → (L → LaneSeen) → Peer L → Out
+out_at v p = out_of (v p.ends).size_from (v p.ends).out
 
 -- how many buffers are out of all lanes, and how many the lanes from all peers have
-abbrev pub outs_count : {L : Type 0} → EndsView L → List (Peer L) → ℕ
+abbrev pub outs_count : {L : Type 0} → (L → LaneSeen) → List (Peer L) → ℕ
 outs_count v [] = 0
-outs_count v (p ∷ ps) = length (v.out p.ends) + outs_count v ps
+outs_count v (p ∷ ps) = length (v p.ends).out + outs_count v ps
 
-abbrev pub buffers_count : {L : Type 0} → EndsView L → List (Peer L) → ℕ
+abbrev pub buffers_count : {L : Type 0} → (L → LaneSeen) → List (Peer L) → ℕ
 buffers_count v [] = 0
-buffers_count v (p ∷ ps) = v.size_from p.ends + buffers_count v ps
+buffers_count v (p ∷ ps) = (v p.ends).size_from + buffers_count v ps
 
 -- both lanes of a peer have one size
-pub record IsSized {L : Type 0} (v : EndsView L) (p : Peer L) : Type 0 where
-  pub same : v.size_to p.ends ≡ v.size_from p.ends
-  pub fits : v.size_from p.ends ≤ 256
+pub record IsSized {L : Type 0} (v : L → LaneSeen) (p : Peer L) : Type 0 where
+  pub same : (v p.ends).size_to ≡ (v p.ends).size_from
+  pub fits : (v p.ends).size_from ≤ 256
 
 -- the peers stand in rising number, the domain itself among them
-pub record ArePeers {L : Type 0} (v : EndsView L) (number : ℕ) (ps : List (Peer L)) : Type 0 where
+pub record ArePeers {L : Type 0} (v : L → LaneSeen) (number : ℕ) (ps : List (Peer L)) : Type 0 where
   pub rising : AreRising (numbers_of ps)
   pub few : AllByRecursion (λ n. n ≤ 7) (numbers_of ps)
   pub own : Contains (numbers_of ps) number
   pub sizes : AllByRecursion (IsSized v) ps
 
 -- the book, the endpoints, the requests, the records in use and the peers
-pub record AreSound {L : Type 0} (v : EndsView L) (b : Book) (r : Records) (q : Requests) (t : endpoint_table.Table) (ps : List (Peer L)) : Type 0 where
+pub record AreSound {L : Type 0} (v : L → LaneSeen) (b : Book) (r : Records) (q : Requests) (t : endpoint_table.Table) (ps : List (Peer L)) : Type 0 where
   pub peers : ArePeers v r.number ps
   -- each buffer that is out is in one place, and none else is held
   pub places : AllByRecursion (λ p. AreInPlaces p.number r q b (out_at v p)) ps

@@ -1,15 +1,14 @@
 -- The steps that a domain makes inside, and what each does to its parts and at the ends towards its peers.
 -- Source: docs/PROFILE.md, "Calls". A step names the place, the slot and the request that it is about, so that it tells the number of
 -- each buffer that is given back.
-use Rattle.std.specs.Prelude.{◌≡◌, ℕ, ◌-◌, ◌+◌, ◌%◌, ◌^◌, ◌==◌, cond, drop, List, [], ◌∷◌, ◌++◌, map, Option, Some}
+use Rattle.std.specs.Prelude.{◌≡◌, ℕ, ◌+◌, ◌%◌, ◌^◌, ◌==◌, cond, List, [], ◌∷◌, ◌++◌, map, Option, Some}
 use Rattle.mc_base.specs.FullName.{end_name}
 use Rattle.mc_base.specs.declared.name.Local.{Local}
 use Rattle.mc_base.specs.declared.refusal.Refusal.TheVariants.{EndpInvalid}
 use Rattle.mc_base.specs.declared.request.RequestId.{RequestId}
 use Rattle.mc_base.specs.declared.request.Slot.{Slot}
 use Rattle.lane_end.specs.SendMoves.{Sent}
-use Rattle.lane_end.specs.ReceiveMoves.{Gave, Took}
-use Rattle.lane_end.specs.ReceiverContract.{without}
+use Rattle.lane_end.specs.ReceiveMoves.{Gave}
 use Rattle.board_model.specs.Lists as lists
 use Rattle.buffer_book.specs.Book.{Book, with_away}
 use Rattle.endpoint_table.specs.Table as endpoint_table
@@ -18,26 +17,14 @@ use Rattle.request_set.specs.declared.ask.Ask.TheVariants as ask
 use Rattle.request_set.specs.declared.ask.Complete.{Complete}
 use Rattle.request_set.specs.declared.ask.Complete.TheVariants as complete
 use Rattle.request_set.specs.Requests.{Requests}
+use Rattle.domain_core.specs.LaneSeen.{LaneSeen, after_moves}
 use Rattle.domain_core.specs.declared.peer.Peer.{Peer}
 use Rattle.domain_core.specs.declared.requests.Waiters.TheVariants as waiters
 use Rattle.domain_core.specs.AllMoved.{AllMoved, numbers_of}
 use Rattle.domain_core.specs.InRequests.{with_all_complete}
 use Rattle.domain_core.specs.LaneMoves.{LaneMove, sender, receiver}
-use Rattle.domain_core.specs.Parts.{Holding, LaneSeen, Parts}
+use Rattle.domain_core.specs.Parts.{Holding, Parts}
 use Rattle.domain_core.specs.Records.{Records, with_best_taken_at, with_oldest_taken_at, with_record, without_record_at}
-
--- ---- moves: what each leaves of what is seen
-
--- a put takes the first free buffer, a frame that is taken is shown no more and out, and one given back is out no more
-abbrev pub after_move : LaneMove → LaneSeen → LaneSeen
-after_move (sender (Sent frame)) l = record l { free = drop 1 l.free }
-after_move (receiver (Gave n)) l = record l { out = without n l.out }
-after_move (receiver (Took n frame)) l = record l { shown = l.shown - 1; out = l.out ++ n ∷ [] }
-after_move other l = l
-
-abbrev pub after_moves : List LaneMove → LaneSeen → LaneSeen
-after_moves [] l = l
-after_moves (m ∷ ms) l = after_moves ms (after_move m l)
 
 -- each peer, after the moves at the peer of its number
 abbrev pub moved_peer : (ℕ → List LaneMove) → Peer LaneSeen → Peer LaneSeen

@@ -8,6 +8,7 @@ use Rattle.endpoint_table.specs.Table as endpoint_table
 use Rattle.board_model.specs.Journal.{Line, Visit, is_idle, noted, turned}
 use Rattle.board_model.specs.Turn.{turn_limit, IsTurn, after_turn}
 use Rattle.mc_base.specs.NameMap.{Names}
+use Rattle.domain_core.specs.LaneSeen.{LaneSeen}
 use Rattle.domain_core.specs.Dealt.{Scene}
 use Rattle.domain_core.specs.Seen.{DealsIn}
 use Rattle.domain_core.specs.Stores.{Stores, KeepsQueued, AreStored}
@@ -15,7 +16,6 @@ use Rattle.domain_core.specs.LaneMoves.{LaneMove}
 use Rattle.domain_core.specs.VisitMoves.{visit_moves}
 use Rattle.domain_core.specs.Owed.{owed_frames, paid_times}
 use Rattle.domain_core.specs.Beginning.{told_of, has_begun, told_of_all, has_begun_after}
-use Rattle.domain_core.specs.Peers.{EndsView}
 use Rattle.domain_core.specs.AllMoved.{AllMoved, turn_moves}
 use Rattle.domain_core.specs.DomainView.{DomainView}
 
@@ -27,8 +27,8 @@ pub record Standing : Type 0 where
   pub shown : ℕ
   pub out : ℕ
 
-abbrev pub standing : {L : Type 0} → EndsView L → L → Standing
-standing v e = record { size_to = v.size_to e; free = length (v.free e); size_from = v.size_from e; shown = v.shown e; out = length (v.out e) }
+abbrev pub standing : {L : Type 0} → (L → LaneSeen) → L → Standing
+standing v e = record { size_to = (v e).size_to; free = (v e).free; size_from = (v e).size_from; shown = (v e).shown; out = length (v e).out }
 
 -- a visit to a peer: its moves, what is owed after it, what is held and known, and its lines
 pub record Visits {L : Type 0} (Moved : L → List LaneMove → L → Type 0) (peer : ℕ) (begun begun' : Bool) (at at' : Standing) (old new : Scene) (owing owing' : endpoint_table.Table) (names names' : Names) (b b' : Book) (before after : L) : Type 0 where

@@ -13,17 +13,9 @@ pub enum Ends<S, R> {
 }
 
 impl<S: SendEnd, R: RecvEnd> PeerLane for Ends<S, R> {
-    ghost use Rattle.domain_core.specs.Ends.{ends_size_to, ends_size_from, ends_free, ends_shown, ends_out, EndsMoved, EndsMoved-none, EndsMoved-both, EndsMoved-size_to, EndsMoved-size_from};
+    ghost use Rattle.domain_core.specs.Ends.{ends_seen, EndsMoved, EndsMoved-none, EndsMoved-both, EndsMoved-size_to, EndsMoved-size_from};
 
-    ghost size_to = { ends_size_to S.size };
-
-    ghost size_from = { ends_size_from R.size };
-
-    ghost free = { ends_free S.free };
-
-    ghost shown = { ends_shown R.shown };
-
-    ghost out = { ends_out R.out };
+    ghost seen = { ends_seen S.size S.free R.size R.shown R.out };
 
     ghost Moved = { EndsMoved S.Moved R.Moved };
 
@@ -31,9 +23,9 @@ impl<S: SendEnd, R: RecvEnd> PeerLane for Ends<S, R> {
 
     ghost both = { EndsMoved-both S.Moved R.Moved S.both R.both };
 
-    ghost same_size_to = { EndsMoved-size_to S.size S.Moved R.Moved S.same_size };
+    ghost same_size_to = { EndsMoved-size_to S.size S.free R.size R.shown R.out S.Moved R.Moved S.same_size };
 
-    ghost same_size_from = { EndsMoved-size_from R.size S.Moved R.Moved R.same_size };
+    ghost same_size_from = { EndsMoved-size_from S.size S.free R.size R.shown R.out S.Moved R.Moved R.same_size };
 
     fn free_len(&self) -> u32 {
         match self {

@@ -38,15 +38,14 @@ pub struct Holdings<P: PeerLane> {
 }
 
 impl<P: PeerLane> Model for Holdings<P> {
-    ghost use Rattle.domain_core.specs.Peers.{seen_by};
     ghost use Rattle.domain_core.specs.Parts.{Holding};
     ghost use Rattle.domain_core.specs.HoldingParts.{IsSound, holding_of};
 
     ghost Value = { Holding P };
 
-    ghost view = { holding_of (seen_by P.size_to P.size_from P.free P.shown P.out) };
+    ghost view = { holding_of P.seen };
 
-    ghost invariant = { IsSound (seen_by P.size_to P.size_from P.free P.shown P.out) };
+    ghost invariant = { IsSound P.seen };
 }
 
 impl<P: PeerLane> Holdings<P> {

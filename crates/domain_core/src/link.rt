@@ -16,16 +16,9 @@ pub struct Link<S, R> {
 
 impl<S: SendEnd, R: RecvEnd> PeerLane for Link<S, R> {
     ghost use Rattle.domain_core.specs.LinkMoved.{LinkMoved, link-none, link-both};
+    ghost use Rattle.domain_core.specs.Ends.{link_seen};
 
-    ghost size_to = { λ l. S.size l.send };
-
-    ghost size_from = { λ l. R.size l.recv };
-
-    ghost free = { λ l. S.free l.send };
-
-    ghost shown = { λ l. R.shown l.recv };
-
-    ghost out = { λ l. R.out l.recv };
+    ghost seen = { link_seen S.size S.free R.size R.shown R.out };
 
     ghost Moved = { LinkMoved S.Moved R.Moved };
 

@@ -25,8 +25,8 @@ pub fn put_owed<P: PeerLane>(
 ) -> bool
     requires entry_room { 9 ≤ journal.old.entry_room }
     requires byte_room { 4096 ≤ journal.old.byte_room }
-    ensures puts { PutsDue P.Moved peer begun result (length (P.free lane.old)) (length (P.free lane.new)) table.old table.new journal.old.lines journal.new.lines lane.old lane.new }
-    ensures kept { (P.shown lane.new ≡ P.shown lane.old) × (P.out lane.new ≡ P.out lane.old) × (P.size_to lane.new ≡ P.size_to lane.old) × (P.size_from lane.new ≡ P.size_from lane.old) }
+    ensures puts { PutsDue P.Moved peer begun result (P.seen lane.old).free (P.seen lane.new).free table.old table.new journal.old.lines journal.new.lines lane.old lane.new }
+    ensures kept { P.seen lane.new ≡ record (P.seen lane.old) { free = (P.seen lane.new).free } }
     ensures entry_room { journal.old.entry_room + room_for result ≤ journal.new.entry_room + 8 + room_for begun }
     ensures byte_room { journal.old.byte_room ≤ journal.new.byte_room + 4096 }
 {
@@ -52,12 +52,12 @@ fn put_oldest<P: PeerLane>(
     requires entry_room { room_for begun ≤ journal.old.entry_room }
     requires byte_room { 512 ≤ journal.old.byte_room }
     ensures puts { result ≡ true → (frame : List ℕ) × PutsOwed P.Moved peer begun (frame ∷ []) table.old table.new journal.old.lines journal.new.lines lane.old lane.new }
-    ensures free { result ≡ true → length (P.free lane.old) ≡ length (P.free lane.new) + 1 }
-    ensures none { result ≡ false → min (length (owed_frames table.old peer)) (length (P.free lane.old)) ≡ 0 }
+    ensures free { result ≡ true → (P.seen lane.old).free ≡ (P.seen lane.new).free + 1 }
+    ensures none { result ≡ false → min (length (owed_frames table.old peer)) (P.seen lane.old).free ≡ 0 }
     ensures table { result ≡ false → table.new ≡ table.old }
     ensures lane { result ≡ false → lane.new ≡ lane.old }
     ensures journal { result ≡ false → journal.new ≡ journal.old }
-    ensures kept { (P.shown lane.new ≡ P.shown lane.old) × (P.out lane.new ≡ P.out lane.old) × (P.size_to lane.new ≡ P.size_to lane.old) × (P.size_from lane.new ≡ P.size_from lane.old) }
+    ensures kept { P.seen lane.new ≡ record (P.seen lane.old) { free = (P.seen lane.new).free } }
     ensures entry_room { journal.old.entry_room ≤ journal.new.entry_room + room_for begun }
     ensures byte_room { journal.old.byte_room ≤ journal.new.byte_room + 512 }
 {

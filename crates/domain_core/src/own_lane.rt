@@ -23,16 +23,9 @@ pub fn own_lane(alloc: Global, pool: u32) -> Result<LoopLane, NoMemory>
 impl PeerLane for LoopLane {
     ghost use Rattle.std.specs.Prelude.{refl};
     ghost use Rattle.domain_core.specs.LoopMoved.{LoopMoved, LoopMoved-both, LoopMoved-size};
+    ghost use Rattle.domain_core.specs.Ends.{loop_seen};
 
-    ghost size_to = { λ l. l.size };
-
-    ghost size_from = { λ l. l.size };
-
-    ghost free = { λ l. l.free };
-
-    ghost shown = { λ l. l.shown };
-
-    ghost out = { λ l. l.out };
+    ghost seen = { loop_seen };
 
     ghost Moved = { LoopMoved };
 

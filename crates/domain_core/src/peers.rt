@@ -2,7 +2,6 @@
 
 ghost use Rattle.std.specs.Prelude.{◌≡◌, ◌<◌, ◌==◌, IfSome, length, position};
 ghost use Rattle.buffer_book.specs.Book.{IsQueued, with_away};
-ghost use Rattle.domain_core.specs.Peers.{seen_by};
 ghost use Rattle.domain_core.specs.GivingBack.{GivesBack, IsOutAt};
 
 use crate::peer::Peer;
@@ -21,9 +20,9 @@ pub fn place_of<P>(peers: &[Peer<P>], number: u8) -> Option<usize>
 /// Takes a buffer that is held out of the book, and gives it back to the peer from which it came.
 pub fn give_back<P: PeerLane>(book: &mut BufferBook, peers: &mut [Peer<P>], slot: Slot)
     requires queued { IsQueued book.old slot }
-    requires out { IsOutAt (seen_by P.size_to P.size_from P.free P.shown P.out) slot peers.old }
+    requires out { IsOutAt P.seen slot peers.old }
     ensures book { book.new ≡ with_away book.old slot }
-    ensures gives { GivesBack P.Moved (seen_by P.size_to P.size_from P.free P.shown P.out) slot peers.old peers.new }
+    ensures gives { GivesBack P.Moved P.seen slot peers.old peers.new }
 {
     let buffer = book.withdraw(slot);
     if let Some(place) = place_of(peers, slot.peer) {

@@ -32,22 +32,20 @@ pub fn take_frames<P: PeerLane>(
     peer: u8,
     count: usize,
 )
-    requires count { count ≤ P.shown lane.old }
-    requires places { AreInPlaces peer endpoints.old requests.old book.old (out_of (P.size_from lane.old) (P.out lane.old)) }
+    requires count { count ≤ (P.seen lane.old).shown }
+    requires places { AreInPlaces peer endpoints.old requests.old book.old (out_of (P.seen lane.old).size_from (P.seen lane.old).out) }
     requires receives { AreReceives requests.old }
-    requires room { length (slots_of endpoints.old requests.old) + P.size_from lane.old ≤ endpoints.old.room + length (P.out lane.old) }
+    requires room { length (slots_of endpoints.old requests.old) + (P.seen lane.old).size_from ≤ endpoints.old.room + length (P.seen lane.old).out }
     requires entry_room { count ≤ journal.old.entry_room }
     requires byte_room { 512 * count ≤ journal.old.byte_room }
     ensures takes { Takes P.Moved peer count (scene (table_in book.old endpoints.old requests.old) journal.old.lines) (scene (table_in book.new endpoints.new requests.new) journal.new.lines) known.old known.new book.old book.new lane.old lane.new }
-    ensures shown { P.shown lane.old ≡ P.shown lane.new + count }
-    ensures free { P.free lane.new ≡ P.free lane.old }
-    ensures size_to { P.size_to lane.new ≡ P.size_to lane.old }
-    ensures size_from { P.size_from lane.new ≡ P.size_from lane.old }
+    ensures shown { (P.seen lane.old).shown ≡ (P.seen lane.new).shown + count }
+    ensures seen { P.seen lane.new ≡ record (P.seen lane.old) { shown = (P.seen lane.new).shown; out = (P.seen lane.new).out } }
     ensures receives { AreReceives requests.new }
     ensures ids { map (λ r. r.id) requests.new.standing ≡ map (λ r. r.id) requests.old.standing }
-    ensures places { AreInPlaces peer endpoints.new requests.new book.new (out_of (P.size_from lane.new) (P.out lane.new)) }
+    ensures places { AreInPlaces peer endpoints.new requests.new book.new (out_of (P.seen lane.new).size_from (P.seen lane.new).out) }
     ensures others { KeepOthers peer endpoints.old requests.old book.old endpoints.new requests.new book.new }
-    ensures total { length (slots_of endpoints.new requests.new) + length (P.out lane.old) ≡ length (slots_of endpoints.old requests.old) + length (P.out lane.new) }
+    ensures total { length (slots_of endpoints.new requests.new) + length (P.seen lane.old).out ≡ length (slots_of endpoints.old requests.old) + length (P.seen lane.new).out }
     ensures entry_room { journal.old.entry_room ≤ journal.new.entry_room + count }
     ensures byte_room { journal.old.byte_room ≤ journal.new.byte_room + 512 * count }
 {
@@ -66,22 +64,20 @@ fn take_frame<P: PeerLane>(
     journal: &mut Journal,
     peer: u8,
 )
-    requires shown { 0 < P.shown lane.old }
-    requires places { AreInPlaces peer endpoints.old requests.old book.old (out_of (P.size_from lane.old) (P.out lane.old)) }
+    requires shown { 0 < (P.seen lane.old).shown }
+    requires places { AreInPlaces peer endpoints.old requests.old book.old (out_of (P.seen lane.old).size_from (P.seen lane.old).out) }
     requires receives { AreReceives requests.old }
-    requires room { length (slots_of endpoints.old requests.old) + P.size_from lane.old ≤ endpoints.old.room + length (P.out lane.old) }
+    requires room { length (slots_of endpoints.old requests.old) + (P.seen lane.old).size_from ≤ endpoints.old.room + length (P.seen lane.old).out }
     requires entry_room { 1 ≤ journal.old.entry_room }
     requires byte_room { 512 ≤ journal.old.byte_room }
     ensures takes { Takes P.Moved peer 1 (scene (table_in book.old endpoints.old requests.old) journal.old.lines) (scene (table_in book.new endpoints.new requests.new) journal.new.lines) known.old known.new book.old book.new lane.old lane.new }
-    ensures shown { P.shown lane.old ≡ P.shown lane.new + 1 }
-    ensures free { P.free lane.new ≡ P.free lane.old }
-    ensures size_to { P.size_to lane.new ≡ P.size_to lane.old }
-    ensures size_from { P.size_from lane.new ≡ P.size_from lane.old }
+    ensures shown { (P.seen lane.old).shown ≡ (P.seen lane.new).shown + 1 }
+    ensures seen { P.seen lane.new ≡ record (P.seen lane.old) { shown = (P.seen lane.new).shown; out = (P.seen lane.new).out } }
     ensures receives { AreReceives requests.new }
     ensures ids { map (λ r. r.id) requests.new.standing ≡ map (λ r. r.id) requests.old.standing }
-    ensures places { AreInPlaces peer endpoints.new requests.new book.new (out_of (P.size_from lane.new) (P.out lane.new)) }
+    ensures places { AreInPlaces peer endpoints.new requests.new book.new (out_of (P.seen lane.new).size_from (P.seen lane.new).out) }
     ensures others { KeepOthers peer endpoints.old requests.old book.old endpoints.new requests.new book.new }
-    ensures total { length (slots_of endpoints.new requests.new) + length (P.out lane.old) ≡ length (slots_of endpoints.old requests.old) + length (P.out lane.new) }
+    ensures total { length (slots_of endpoints.new requests.new) + length (P.seen lane.old).out ≡ length (slots_of endpoints.old requests.old) + length (P.seen lane.new).out }
     ensures entry_room { journal.old.entry_room ≤ journal.new.entry_room + 1 }
     ensures byte_room { journal.old.byte_room ≤ journal.new.byte_room + 512 }
 {
@@ -109,22 +105,19 @@ fn settle<P: PeerLane>(
     verdict: Verdict,
 )
     requires verdict { IsVerdict peer book.old endpoints.old requests.old (take len buffer.bytes) verdict }
-    requires places { AreInPlacesBut buffer.number peer endpoints.old requests.old book.old (out_of (P.size_from lane.old) (P.out lane.old)) }
+    requires places { AreInPlacesBut buffer.number peer endpoints.old requests.old book.old (out_of (P.seen lane.old).size_from (P.seen lane.old).out) }
     requires receives { AreReceives requests.old }
-    requires room { length (slots_of endpoints.old requests.old) + P.size_from lane.old + 1 ≤ endpoints.old.room + length (P.out lane.old) }
+    requires room { length (slots_of endpoints.old requests.old) + (P.seen lane.old).size_from + 1 ≤ endpoints.old.room + length (P.seen lane.old).out }
     ensures dealt { Deals peer (take len buffer.bytes) (fate_of verdict) (table_in book.old endpoints.old requests.old) (table_in book.new endpoints.new requests.new) }
     ensures stored { Stores peer (buffer.number ∷ []) (taken (take len buffer.bytes) (fate_of verdict) ∷ []) book.old book.new }
     ensures stays { keeps_buffer (fate_of verdict) ≡ false → table_in book.new endpoints.new requests.new ≡ table_in book.old endpoints.old requests.old }
     ensures moved { P.Moved lane.old (giving_back buffer.number (fate_of verdict)) lane.new }
-    ensures shown { P.shown lane.new ≡ P.shown lane.old }
-    ensures free { P.free lane.new ≡ P.free lane.old }
-    ensures size_to { P.size_to lane.new ≡ P.size_to lane.old }
-    ensures size_from { P.size_from lane.new ≡ P.size_from lane.old }
+    ensures seen { P.seen lane.new ≡ record (P.seen lane.old) { out = (P.seen lane.new).out } }
     ensures receives { AreReceives requests.new }
     ensures ids { map (λ r. r.id) requests.new.standing ≡ map (λ r. r.id) requests.old.standing }
-    ensures places { AreInPlaces peer endpoints.new requests.new book.new (out_of (P.size_from lane.new) (P.out lane.new)) }
+    ensures places { AreInPlaces peer endpoints.new requests.new book.new (out_of (P.seen lane.new).size_from (P.seen lane.new).out) }
     ensures others { KeepOthers peer endpoints.old requests.old book.old endpoints.new requests.new book.new }
-    ensures total { length (slots_of endpoints.new requests.new) + length (P.out lane.old) ≡ length (slots_of endpoints.old requests.old) + length (P.out lane.new) + 1 }
+    ensures total { length (slots_of endpoints.new requests.new) + length (P.seen lane.old).out ≡ length (slots_of endpoints.old requests.old) + length (P.seen lane.new).out + 1 }
 {
     match verdict {
         Verdict::Queued {

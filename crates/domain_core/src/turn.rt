@@ -1,7 +1,6 @@
 //! Turns: a visit to each peer, in rising number.
 
 ghost use Rattle.std.specs.Prelude.{◌≤◌, ◌+◌};
-ghost use Rattle.domain_core.specs.Peers.{seen_by};
 ghost use Rattle.domain_core.specs.Sound.{AreSound};
 ghost use Rattle.domain_core.specs.DomainView.{domain_in};
 ghost use Rattle.domain_core.specs.Owed.{room_for};
@@ -25,11 +24,11 @@ pub fn make_turn<P: PeerLane>(
     peers: &mut [Peer<P>],
     journal: &mut Journal,
 ) -> bool
-    requires sound { AreSound (seen_by P.size_to P.size_from P.free P.shown P.out) book.old endpoints.old requests.old table.old peers.old }
+    requires sound { AreSound P.seen book.old endpoints.old requests.old table.old peers.old }
     requires entry_room { 145 ≤ journal.old.entry_room }
     requires byte_room { 65536 ≤ journal.old.byte_room }
-    ensures turn { let v = seen_by P.size_to P.size_from P.free P.shown P.out in MakesTurn P.Moved (domain_in v book.old endpoints.old requests.old table.old peers.old) (domain_in v book.new endpoints.new requests.new table.new peers.new) journal.old.lines journal.new.lines result }
-    ensures sound { AreSound (seen_by P.size_to P.size_from P.free P.shown P.out) book.new endpoints.new requests.new table.new peers.new }
+    ensures turn { let v = P.seen in MakesTurn P.Moved (domain_in v book.old endpoints.old requests.old table.old peers.old) (domain_in v book.new endpoints.new requests.new table.new peers.new) journal.old.lines journal.new.lines result }
+    ensures sound { AreSound P.seen book.new endpoints.new requests.new table.new peers.new }
     ensures entry_room { journal.old.entry_room ≤ journal.new.entry_room + 145 }
     ensures byte_room { journal.old.byte_room ≤ journal.new.byte_room + 65536 }
 {
@@ -49,11 +48,11 @@ fn visit_peers<P: PeerLane>(
     peers: &mut [Peer<P>],
     journal: &mut Journal,
 ) -> bool
-    requires sound { AreSound (seen_by P.size_to P.size_from P.free P.shown P.out) book.old endpoints.old requests.old table.old peers.old }
+    requires sound { AreSound P.seen book.old endpoints.old requests.old table.old peers.old }
     requires entry_room { 145 ≤ journal.old.entry_room }
     requires byte_room { 65536 ≤ journal.old.byte_room }
-    ensures visits { let v = seen_by P.size_to P.size_from P.free P.shown P.out in VisitsAll P.Moved (domain_in v book.old endpoints.old requests.old table.old peers.old) (domain_in v book.new endpoints.new requests.new table.new peers.new) journal.old.lines journal.new.lines result }
-    ensures sound { AreSound (seen_by P.size_to P.size_from P.free P.shown P.out) book.new endpoints.new requests.new table.new peers.new }
+    ensures visits { let v = P.seen in VisitsAll P.Moved (domain_in v book.old endpoints.old requests.old table.old peers.old) (domain_in v book.new endpoints.new requests.new table.new peers.new) journal.old.lines journal.new.lines result }
+    ensures sound { AreSound P.seen book.new endpoints.new requests.new table.new peers.new }
     ensures entry_room { journal.old.entry_room + room_for result ≤ journal.new.entry_room + 146 }
     ensures byte_room { journal.old.byte_room ≤ journal.new.byte_room + 65536 }
 {

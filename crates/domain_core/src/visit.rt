@@ -9,7 +9,6 @@ ghost use Rattle.domain_core.specs.InRequests.{AreReceives};
 ghost use Rattle.domain_core.specs.InPlaces.{AreInPlaces, KeepOthers, slots_of};
 ghost use Rattle.domain_core.specs.Dealt.{scene};
 ghost use Rattle.domain_core.specs.Owed.{room_for};
-ghost use Rattle.domain_core.specs.Peers.{seen_by};
 ghost use Rattle.domain_core.specs.Turned.{Visits, standing};
 
 use crate::endpoints::Endpoints;
@@ -37,17 +36,17 @@ pub fn visit_peer<P: PeerLane>(
     peer: u8,
     begun: bool,
 ) -> bool
-    requires places { AreInPlaces peer endpoints.old requests.old book.old (out_of (P.size_from lane.old) (P.out lane.old)) }
+    requires places { AreInPlaces peer endpoints.old requests.old book.old (out_of (P.seen lane.old).size_from (P.seen lane.old).out) }
     requires receives { AreReceives requests.old }
-    requires room { length (slots_of endpoints.old requests.old) + P.size_from lane.old ≤ endpoints.old.room + length (P.out lane.old) }
+    requires room { length (slots_of endpoints.old requests.old) + (P.seen lane.old).size_from ≤ endpoints.old.room + length (P.seen lane.old).out }
     requires entry_room { 17 + room_for begun ≤ journal.old.entry_room }
     requires byte_room { 8192 ≤ journal.old.byte_room }
-    ensures visits { let v = seen_by P.size_to P.size_from P.free P.shown P.out in Visits P.Moved peer begun result (standing v lane.old) (standing v lane.new) (scene (table_in book.old endpoints.old requests.old) journal.old.lines) (scene (table_in book.new endpoints.new requests.new) journal.new.lines) table.old table.new known.old known.new book.old book.new lane.old lane.new }
+    ensures visits { let v = P.seen in Visits P.Moved peer begun result (standing v lane.old) (standing v lane.new) (scene (table_in book.old endpoints.old requests.old) journal.old.lines) (scene (table_in book.new endpoints.new requests.new) journal.new.lines) table.old table.new known.old known.new book.old book.new lane.old lane.new }
     ensures receives { AreReceives requests.new }
     ensures ids { map (λ r. r.id) requests.new.standing ≡ map (λ r. r.id) requests.old.standing }
-    ensures places { AreInPlaces peer endpoints.new requests.new book.new (out_of (P.size_from lane.new) (P.out lane.new)) }
+    ensures places { AreInPlaces peer endpoints.new requests.new book.new (out_of (P.seen lane.new).size_from (P.seen lane.new).out) }
     ensures others { KeepOthers peer endpoints.old requests.old book.old endpoints.new requests.new book.new }
-    ensures total { length (slots_of endpoints.new requests.new) + length (P.out lane.old) ≡ length (slots_of endpoints.old requests.old) + length (P.out lane.new) }
+    ensures total { length (slots_of endpoints.new requests.new) + length (P.seen lane.old).out ≡ length (slots_of endpoints.old requests.old) + length (P.seen lane.new).out }
     ensures entry_room { journal.old.entry_room + room_for result ≤ journal.new.entry_room + 18 + room_for begun }
     ensures byte_room { journal.old.byte_room ≤ journal.new.byte_room + 8192 }
 {

@@ -2,8 +2,8 @@ use Rattle.std.proofs.Common.{◌≡◌, ◌∙◌, sym, ap, subst, slice_index_
 use Rattle.std.specs.Prelude.{Contains, slice_get}
 use Rattle.std.proofs.lemmas.Option.{get_or_from_slice_get}
 use Rattle.lane_end.specs.ReceiveMoves.{Gave}
-use Rattle.lane_end.specs.ReceiverContract.{without}
 use Rattle.domain_core.specs.LaneMoves.{receiver}
+use Rattle.domain_core.specs.LaneSeen.{after_move}
 use Rattle.domain_core.proofs.peers.give_back.Goals as goal
 
 -- the place that is found is that of the peer at which the buffer is out
@@ -15,8 +15,8 @@ give_back-requires g c =
     let ps = c.args.peers.now in
     let there = found ps c.requires.out.peer c.in-Some.place c.requires.out.place _ _ c.in-Some.is c.place_of.ensures.place c.requires.out.first c.requires.out.there in
     let read = get_or_from_slice_get ps c.in-Some.place c.requires.out.peer c.index-peers-place.result there in
-    subst (λ p. Contains (g.P.PeerLane.out p.ends) c.withdraw-buffer.result.number) (sym read)
-    (subst (λ (n : ℕ). Contains (g.P.PeerLane.out c.requires.out.peer.ends) n) (sym c.withdraw-buffer.ensures.number) c.requires.out.out)
+    subst (λ p. Contains (g.P.PeerLane.seen p.ends).out c.withdraw-buffer.result.number) (sym read)
+    (subst (λ (n : ℕ). Contains (g.P.PeerLane.seen c.requires.out.peer.ends).out n) (sym c.withdraw-buffer.ensures.number) c.requires.out.out)
 
 pub returns-in-Some-clause-gives : goal.returns-in-Some-clause-gives
 returns-in-Some-clause-gives g c =
@@ -33,11 +33,7 @@ returns-in-Some-clause-gives g c =
       is = ap (λ p. p.number) read ∙ c.requires.out.is;
       after = refl;
       moved = subst (λ (n : ℕ). g.P.PeerLane.Moved peer.ends (receiver (Gave n) ∷ []) c.give_back.new.self) number c.give_back.ensures.moved;
-      free = c.give_back.ensures.free;
-      shown = c.give_back.ensures.shown;
-      out = c.give_back.ensures.out ∙ ap (λ (n : ℕ). without n (g.P.PeerLane.out peer.ends)) number;
-      size_to = c.give_back.ensures.size_to;
-      size_from = c.give_back.ensures.size_from;
+      seen = c.give_back.ensures.seen ∙ ap (λ (n : ℕ). after_move (receiver (Gave n)) (g.P.PeerLane.seen peer.ends)) number;
     }
 
 pub returns-in_default-clause-gives : goal.returns-in_default-clause-gives

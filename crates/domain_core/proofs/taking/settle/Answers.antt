@@ -1,6 +1,7 @@
 use Rattle.std.proofs.Common.{refl, ◌<◌, ap, sym, arith, ◌∙◌, length, [], take}
 use Rattle.std.proofs.lemmas.List.{length-map}
 use Rattle.mc_base.specs.declared.fate.Fate.TheVariants.{Queued, Handed}
+use Rattle.domain_core.specs.LaneSeen.{LaneSeen}
 use Rattle.domain_core.specs.Table.{Held, with_held}
 use Rattle.domain_core.specs.Records.{all_waiting}
 use Rattle.domain_core.specs.InBook.{endpoint_in, table_in}
@@ -141,7 +142,7 @@ pub returns-in-Returned-clause-stays : goal.returns-in-Returned-clause-stays
 returns-in-Returned-clause-stays g c = λ lost. refl
 
 pub returns-in-Returned-clause-places : goal.returns-in-Returned-clause-places
-returns-in-Returned-clause-places g c = given-places c.args.peer c.args.endpoints.now c.args.requests.now c.args.book.now c.args.buffer.number _ _ _ _ c.give_back.ensures.size_from c.give_back.ensures.out c.requires.places
+returns-in-Returned-clause-places g c = given-places c.args.peer c.args.endpoints.now c.args.requests.now c.args.book.now c.args.buffer.number _ _ _ _ (ap (λ (l : LaneSeen). l.size_from) c.give_back.ensures.seen) (ap (λ (l : LaneSeen). l.out) c.give_back.ensures.seen) c.requires.places
 
 pub returns-in-Returned-clause-others : goal.returns-in-Returned-clause-others
 returns-in-Returned-clause-others g c = λ p o differ placed. placed
@@ -149,5 +150,5 @@ returns-in-Returned-clause-others g c = λ p o differ placed. placed
 pub returns-in-Returned-clause-total : goal.returns-in-Returned-clause-total
 returns-in-Returned-clause-total g c =
     let fewer = length-given c.args.peer c.args.endpoints.now c.args.requests.now c.args.book.now _ c.args.buffer.number c.requires.places in
-    let out = ap length c.give_back.ensures.out in
+    let out = ap (λ (l : LaneSeen). length l.out) c.give_back.ensures.seen in
     omega (arith, fewer, out)

@@ -1,6 +1,7 @@
 use Rattle.std.proofs.Common.{◌≡◌, ◌∙◌, ◌++◌, ◌∷◌, [], refl, ap, subst, List, ℕ, take}
 use Rattle.mc_base.specs.declared.fate.Fate.{Fate}
 use Rattle.board_model.specs.Journal.{take_line}
+use Rattle.domain_core.specs.LaneSeen.{LaneSeen}
 use Rattle.domain_core.specs.InBook.{table_in}
 use Rattle.domain_core.specs.Dealt.{IsDealt, fate_of, scene}
 use Rattle.domain_core.proofs.Outs.{taken-places}
@@ -20,7 +21,7 @@ settle-requires-clause-places g c =
     let r = c.args.endpoints.now in
     let b = c.args.book.now in
     let placed = same-held r r c.args.requests.now c.deal-verdict.new.requests b c.args.peer _ refl c.deal-verdict.ensures.handed c.requires.places in
-    taken-places c.args.peer r c.deal-verdict.new.requests b c.take-buffer.result.0.number _ _ _ _ e.size_from e.out e.apart placed
+    taken-places c.args.peer r c.deal-verdict.new.requests b c.take-buffer.result.0.number _ _ _ _ (ap (λ (l : LaneSeen). l.size_from) e.seen) (ap (λ (l : LaneSeen). l.out) e.seen) e.apart placed
 
 pub returns-clause-takes : goal.returns-clause-takes
 returns-clause-takes g c =

@@ -1,4 +1,5 @@
 use Rattle.std.proofs.Common.{◌∙◌, refl, ap, arith}
+use Rattle.domain_core.specs.LaneSeen.{LaneSeen}
 use Rattle.domain_core.specs.Table.{Table}
 use Rattle.domain_core.proofs.TakenFrames.{Takes-more, Takes-none}
 use Rattle.domain_core.proofs.taking.take_frames.Goals as goal
@@ -12,9 +13,7 @@ loop-init g c = record {
   receives = c.requires.receives;
   ids = refl;
   room = refl;
-  free = refl;
-  size_to = refl;
-  size_from = refl;
+  seen = refl;
   shown = omega arith;
   entry_room = omega arith;
   byte_room = omega arith;
@@ -32,9 +31,7 @@ loop-preserved g c =
       receives = e.receives;
       ids = e.ids ∙ i.ids;
       room = ap (λ (t : Table). t.room) e.takes.rest ∙ i.room;
-      free = e.free ∙ i.free;
-      size_to = e.size_to ∙ i.size_to;
-      size_from = e.size_from ∙ i.size_from;
+      seen = e.seen ∙ ap (λ (l : LaneSeen). let new = g.P.PeerLane.seen c.take_frame.new.lane in record l { shown = new.shown; out = new.out }) i.seen;
       shown = omega (arith, e.shown, i.shown);
       entry_room = omega arith;
       byte_room = omega arith;

@@ -1,5 +1,4 @@
 use Rattle.std.proofs.Common.{Bool, subst}
-use Rattle.domain_core.specs.Peers.{seen_by}
 use Rattle.domain_core.specs.DomainView.{domain_in}
 use Rattle.domain_core.specs.Turned.{VisitsAll}
 use Rattle.domain_core.proofs.VisitedAll.{turn-begun-made, turn-idle-made}
@@ -7,7 +6,7 @@ use Rattle.domain_core.proofs.turn.make_turn.Goals as goal
 
 pub returns-then-visit_peers-clause-turn : goal.returns-then-visit_peers-clause-turn
 returns-then-visit_peers-clause-turn g c =
-    let v = seen_by g.P.PeerLane.size_to g.P.PeerLane.size_from g.P.PeerLane.free g.P.PeerLane.shown g.P.PeerLane.out in
+    let v = g.P.PeerLane.seen in
     let n = c.visit_peers.new in
     let old = domain_in v c.args.book.now c.args.endpoints.now c.args.requests.now c.args.table.now c.args.peers.now in
     let new = domain_in v n.book n.endpoints n.requests n.table n.peers in
@@ -15,7 +14,7 @@ returns-then-visit_peers-clause-turn g c =
 
 pub returns-clause-turn : goal.returns-clause-turn
 returns-clause-turn g c =
-    let v = seen_by g.P.PeerLane.size_to g.P.PeerLane.size_from g.P.PeerLane.free g.P.PeerLane.shown g.P.PeerLane.out in
+    let v = g.P.PeerLane.seen in
     let n = c.visit_peers.new in
     let old = domain_in v c.args.book.now c.args.endpoints.now c.args.requests.now c.args.table.now c.args.peers.now in
     let new = domain_in v n.book n.endpoints n.requests n.table n.peers in

@@ -1,7 +1,6 @@
 use Rattle.std.proofs.Common.{◌≡◌, ◌≢◌, ◌<◌, ◌∙◌, ap, sym, subst, length, None, Some}
 use Rattle.std.specs.Prelude.{position, ◌==◌}
 use Rattle.board_model.specs.Answer.{address_of, known_address}
-use Rattle.domain_core.specs.Peers.{seen_by}
 use Rattle.domain_core.specs.Parts.{state_of}
 use Rattle.domain_core.proofs.PeerPlaces.{no-peer-in, other-address, peer-in}
 use Rattle.domain_core.proofs.Stepping.{state-seen}
@@ -11,7 +10,7 @@ use Rattle.domain_core.proofs.holdings.Holdings.address_of.Goals as goal
 pub returns-in_err-place : goal.returns-in_err-place
 returns-in_err-place g c =
     let d = c.self.inside in
-    let v = seen_by g.P.PeerLane.size_to g.P.PeerLane.size_from g.P.PeerLane.free g.P.PeerLane.shown g.P.PeerLane.out in
+    let v = g.P.PeerLane.seen in
     let other : c.args.name.domain ≢ d.table.domain = λ e. c.if-name-number.false (e ∙ c.self.invariant.tied.domain ∙ sym c.number.ensures) in
     let at = subst (λ ps. None ≡ position (λ p. p.number == c.args.name.domain) ps) c.deref.ensures.value c.in_err-place.ensures.place in
     c.from_residual.ensures
@@ -22,7 +21,7 @@ returns-in_err-place g c =
 pub returns : goal.returns
 returns g c =
     let d = c.self.inside in
-    let v = seen_by g.P.PeerLane.size_to g.P.PeerLane.size_from g.P.PeerLane.free g.P.PeerLane.shown g.P.PeerLane.out in
+    let v = g.P.PeerLane.seen in
     let other : c.args.name.domain ≢ d.table.domain = λ e. c.if-name-number.false (e ∙ c.self.invariant.tied.domain ∙ sym c.number.ensures) in
     let at = subst (λ ps. Some c.in_ok-place.place ≡ position (λ p. p.number == c.args.name.domain) ps) c.deref.ensures.value c.in_ok-place.ensures.place in
     let within = subst (λ ps. c.in_ok-place.place < length ps) c.deref.ensures.value c.in_ok-place.ensures.within in

@@ -7,11 +7,11 @@ use Rattle.message_queue.specs.Queue.{Waiting, waiting}
 use Rattle.request_set.specs.declared.ask.Ask.TheVariants as ask
 use Rattle.request_set.specs.declared.ask.Complete.TheVariants as complete
 use Rattle.request_set.specs.Requests.{Requests, with_complete}
+use Rattle.domain_core.specs.LaneSeen.{LaneSeen}
 use Rattle.domain_core.specs.declared.endpoints.Endpoint.{Endpoint}
 use Rattle.domain_core.specs.declared.holdings.Holdings.TheInside.{Inside}
 use Rattle.domain_core.specs.CallSteps.{Succeeds}
 use Rattle.domain_core.specs.Parts.{Holding, Parts, Sound, holding_in, parts_in, peers_seen, plain, state_of}
-use Rattle.domain_core.specs.Peers.{EndsView, seen_by}
 use Rattle.domain_core.specs.Records.{Records, waiting_in, with_best_taken_at}
 use Rattle.domain_core.specs.Steps.{Did, receive_begun, request_begun, with_last}
 use Rattle.domain_core.proofs.Beginning.{few-left, id-fresh, last-complete, last-receives}
@@ -23,8 +23,8 @@ use Rattle.domain_core.proofs.Tables.{taken-none}
 use Rattle.domain_core.proofs.holdings.Holdings.begin_receive_at.Given.{Over}
 use Rattle.domain_core.proofs.holdings.Holdings.begin_receive_at.Goals as goal
 
-abbrev v : (g : Over) → EndsView g.row.P.Denot
-v g = seen_by g.P.PeerLane.size_to g.P.PeerLane.size_from g.P.PeerLane.free g.P.PeerLane.shown g.P.PeerLane.out
+abbrev v : (g : Over) → (g.row.P.Denot → LaneSeen)
+v g = g.P.PeerLane.seen
 
 abbrev p : (g : Over) → Inside g.row.P.Denot → Parts
 p g d = parts_in (v g) d.book d.endpoints d.requests d.table d.peers.items

@@ -5,7 +5,6 @@ use Rattle.board_model.specs.DomainCall.{available_at}
 use Rattle.board_model.specs.State.{place_at, queue_at}
 use Rattle.domain_core.specs.CallSteps.{Succeeds}
 use Rattle.domain_core.specs.Parts.{Holding, holding_in, parts_in, state_of}
-use Rattle.domain_core.specs.Peers.{seen_by}
 use Rattle.domain_core.specs.Records.{waiting_in}
 use Rattle.domain_core.proofs.Meaning.{available-means}
 use Rattle.domain_core.proofs.Steps.{queue-long}
@@ -15,7 +14,7 @@ use Rattle.domain_core.proofs.holdings.Holdings.count_at.Goals as goal
 pub returns-clause-count : goal.returns-clause-count
 returns-clause-count g c =
     let d = c.self.inside in
-    let v = seen_by g.P.PeerLane.size_to g.P.PeerLane.size_from g.P.PeerLane.free g.P.PeerLane.shown g.P.PeerLane.out in
+    let v = g.P.PeerLane.seen in
     let p = parts_in v d.book d.endpoints d.requests d.table d.peers.items in
     let there = subst (λ (x : Holding g.row.P.Denot). place_at (state_of x.parts) c.args.at ≡ Some c.args.place) (sym c.self.view_is) c.requires.there in
     c.queued_at.ensures
@@ -26,7 +25,7 @@ returns-clause-count g c =
 pub returns-clause-succeeds : goal.returns-clause-succeeds
 returns-clause-succeeds g c =
     let d = c.self.inside in
-    let v = seen_by g.P.PeerLane.size_to g.P.PeerLane.size_from g.P.PeerLane.free g.P.PeerLane.shown g.P.PeerLane.out in
+    let v = g.P.PeerLane.seen in
     let h = holding_in v d.book d.endpoints d.requests d.table d.peers.items in
     subst (λ (x : Holding g.row.P.Denot). Succeeds g.P.PeerLane.Moved c.args.at.node (available_at c.args.at.port) x x None) c.self.view_is
     (record {

@@ -1,7 +1,6 @@
 use Rattle.std.proofs.Common.{◌≡◌, ◌≤◌, ◌∙◌, List, ◌∷◌, ◌++◌, [], length, ap, sym, refl, subst, arith}
 use Rattle.std.proofs.lemmas.List.{append-nil, append_assoc, length-append, length-map, map_push}
 use Rattle.mc_base.specs.declared.request.Slot.{Slot}
-use Rattle.domain_core.specs.Peers.{seen_by}
 use Rattle.domain_core.specs.Records.{slots_at, waiting_in}
 use Rattle.std.specs.Prelude.{slice_get}
 use Rattle.message_queue.specs.Queue.{Waiting}
@@ -15,7 +14,7 @@ use Rattle.domain_core.proofs.holdings.Holdings.drop_all.Goals as goal
 pub loop-init : goal.loop-init
 loop-init g c =
     let d = c.self.inside in
-    let v = seen_by g.P.PeerLane.size_to g.P.PeerLane.size_from g.P.PeerLane.free g.P.PeerLane.shown g.P.PeerLane.out in
+    let v = g.P.PeerLane.seen in
     subst (λ (x : Holding g.row.P.Denot). Dropping g.P.PeerLane.Moved c.args.place 0 x x) c.self.view_is
     (record { gone = []; count = refl; all = refl; did = did-none g.P.PeerLane.Moved g.met.P.PeerLane.none v d.book d.endpoints d.requests d.table d.peers.items })
 

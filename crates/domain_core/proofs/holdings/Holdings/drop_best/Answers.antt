@@ -2,11 +2,11 @@ use Rattle.std.proofs.Common.{◌≡◌, ◌∙◌, List, ◌∷◌, [], length,
 use Rattle.std.specs.Vec.{with_items}
 use Rattle.std.proofs.lemmas.List.{with_items_is}
 use Rattle.message_queue.specs.Queue.{waiting}
+use Rattle.domain_core.specs.LaneSeen.{LaneSeen}
 use Rattle.domain_core.specs.declared.endpoints.Endpoint.{Endpoint}
 use Rattle.domain_core.specs.declared.holdings.Holdings.TheInside.{Inside}
 use Rattle.domain_core.specs.AllMoved.{AllMoved, ends_of, numbers_of}
 use Rattle.domain_core.specs.GivingBack.{GivesBack, IsOutAt}
-use Rattle.domain_core.specs.Peers.{EndsView, seen_by}
 use Rattle.domain_core.specs.Records.{Records}
 use Rattle.domain_core.specs.Parts.{Holding, Parts, Sound, holding_in, parts_in, peers_seen, plain, state_of}
 use Rattle.domain_core.specs.Steps.{Did, Step, all_moves, best_dropped, done}
@@ -24,8 +24,8 @@ use Rattle.domain_core.proofs.Tables.{taken-none}
 use Rattle.domain_core.proofs.holdings.Holdings.drop_best.Given.{Over}
 use Rattle.domain_core.proofs.holdings.Holdings.drop_best.Goals as goal
 
-abbrev v : (g : Over) → EndsView g.row.P.Denot
-v g = seen_by g.P.PeerLane.size_to g.P.PeerLane.size_from g.P.PeerLane.free g.P.PeerLane.shown g.P.PeerLane.out
+abbrev v : (g : Over) → (g.row.P.Denot → LaneSeen)
+v g = g.P.PeerLane.seen
 
 -- ---- none waits
 

@@ -2,10 +2,10 @@ use Rattle.std.proofs.Common.{◌≡◌, ◌∙◌, ◌∷◌, [], ap, sym, refl
 use Rattle.std.specs.Vec.{with_items}
 use Rattle.std.proofs.lemmas.List.{with_items_is}
 use Rattle.mc_base.specs.declared.request.Slot.{Slot}
+use Rattle.domain_core.specs.LaneSeen.{LaneSeen}
 use Rattle.domain_core.specs.Records.{Records, slots_at}
 use Rattle.domain_core.specs.declared.holdings.Holdings.TheInside.{Inside}
 use Rattle.domain_core.specs.GivingBack.{GivesBack, IsOutAt}
-use Rattle.domain_core.specs.Peers.{EndsView, seen_by}
 use Rattle.domain_core.specs.Parts.{Holding, Parts, Sound, holding_in, parts_in}
 use Rattle.domain_core.specs.Steps.{Did, oldest_dropped}
 use Rattle.domain_core.proofs.GivingLemmas.{given-length}
@@ -14,8 +14,8 @@ use Rattle.domain_core.proofs.Stepping.{dropped-did, dropped-parts, out-unseen}
 use Rattle.domain_core.proofs.holdings.Holdings.drop_oldest.Given.{Over}
 use Rattle.domain_core.proofs.holdings.Holdings.drop_oldest.Goals as goal
 
-abbrev v : (g : Over) → EndsView g.row.P.Denot
-v g = seen_by g.P.PeerLane.size_to g.P.PeerLane.size_from g.P.PeerLane.free g.P.PeerLane.shown g.P.PeerLane.out
+abbrev v : (g : Over) → (g.row.P.Denot → LaneSeen)
+v g = g.P.PeerLane.seen
 
 abbrev p : (g : Over) → Inside g.row.P.Denot → Parts
 p g d = parts_in (v g) d.book d.endpoints d.requests d.table d.peers.items

@@ -3,12 +3,12 @@ use Rattle.std.specs.Prelude.{Err}
 use Rattle.board_model.specs.DomainCall.{cancel_of}
 use Rattle.board_model.specs.Journal.{agrees}
 use Rattle.request_set.specs.Requests.{Requests, progress_of, without_request}
+use Rattle.domain_core.specs.LaneSeen.{LaneSeen}
 use Rattle.domain_core.specs.declared.holdings.Holdings.TheInside.{Inside}
 use Rattle.domain_core.specs.Calls.{cancelled}
 use Rattle.domain_core.specs.CallSteps.{Acts}
 use Rattle.domain_core.specs.DomainView.{place_of_id}
 use Rattle.domain_core.specs.Parts.{Holding, Parts, Sound, holding_in, parts_in, peers_seen, plain, shown, state_of}
-use Rattle.domain_core.specs.Peers.{EndsView, seen_by}
 use Rattle.domain_core.specs.Steps.{done, request_ended}
 use Rattle.domain_core.proofs.Ending.{cancel-done, cancel-pending, cancel-refused, cancelled-same, ids_in}
 use Rattle.domain_core.proofs.Meaning.{cancel-means, gone-there}
@@ -17,8 +17,8 @@ use Rattle.domain_core.proofs.Stepping.{acts-done, acts-refused, quiet-moved, qu
 use Rattle.domain_core.proofs.holdings.Holdings.end_pending.Given.{Over}
 use Rattle.domain_core.proofs.holdings.Holdings.end_pending.Goals as goal
 
-abbrev v : (g : Over) → EndsView g.row.P.Denot
-v g = seen_by g.P.PeerLane.size_to g.P.PeerLane.size_from g.P.PeerLane.free g.P.PeerLane.shown g.P.PeerLane.out
+abbrev v : (g : Over) → (g.row.P.Denot → LaneSeen)
+v g = g.P.PeerLane.seen
 
 abbrev p : (g : Over) → Inside g.row.P.Denot → Parts
 p g d = parts_in (v g) d.book d.endpoints d.requests d.table d.peers.items

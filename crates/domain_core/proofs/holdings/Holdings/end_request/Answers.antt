@@ -10,6 +10,7 @@ use Rattle.board_model.specs.State.{request_at_place}
 use Rattle.buffer_book.specs.Book.{queued_at}
 use Rattle.request_set.specs.declared.ask.Complete.TheVariants as complete
 use Rattle.request_set.specs.Requests.{Requests, progress_of, without_request}
+use Rattle.domain_core.specs.LaneSeen.{LaneSeen}
 use Rattle.domain_core.specs.declared.holdings.Holdings.TheInside.{Inside}
 use Rattle.domain_core.specs.Calls.{result_of_done, tested}
 use Rattle.domain_core.specs.CallSteps.{Acts, ending, slots_held}
@@ -18,7 +19,6 @@ use Rattle.domain_core.specs.GivingBack.{GivesBack, IsOutAt}
 use Rattle.domain_core.specs.InBook.{content_in}
 use Rattle.domain_core.specs.InRequests.{handed_slots}
 use Rattle.domain_core.specs.Parts.{Holding, Parts, Sound, holding_in, parts_in, peers_seen, plain, shown, state_of}
-use Rattle.domain_core.specs.Peers.{EndsView, seen_by}
 use Rattle.domain_core.specs.Steps.{Did, done, message_ended, request_ended}
 use Rattle.domain_core.proofs.Ending.{held-message, ids_in, quiet-items, quiet-result, quiet-same, quiet-slots, test-complete, test-done, test-refused, tested-fewer, tested-items, tested-result}
 use Rattle.domain_core.proofs.GivingLemmas.{given-length}
@@ -30,8 +30,8 @@ use Rattle.domain_core.proofs.Stepping.{Any, acts-done, acts-refused, given-move
 use Rattle.domain_core.proofs.holdings.Holdings.end_request.Given.{Over}
 use Rattle.domain_core.proofs.holdings.Holdings.end_request.Goals as goal
 
-abbrev v : (g : Over) → EndsView g.row.P.Denot
-v g = seen_by g.P.PeerLane.size_to g.P.PeerLane.size_from g.P.PeerLane.free g.P.PeerLane.shown g.P.PeerLane.out
+abbrev v : (g : Over) → (g.row.P.Denot → LaneSeen)
+v g = g.P.PeerLane.seen
 
 abbrev p : (g : Over) → Inside g.row.P.Denot → Parts
 p g d = parts_in (v g) d.book d.endpoints d.requests d.table d.peers.items

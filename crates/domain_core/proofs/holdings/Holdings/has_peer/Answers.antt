@@ -2,7 +2,7 @@ use Rattle.std.proofs.Common.{◌∙◌, ap, subst, ◌≡◌, is_some}
 use Rattle.std.specs.Prelude.{position, ◌==◌}
 use Rattle.board_model.specs.State.{is_numbered, place_of_peer}
 use Rattle.domain_core.specs.Parts.{state_of}
-use Rattle.domain_core.specs.Peers.{peer_in, seen_by}
+use Rattle.domain_core.specs.Peers.{peer_in}
 use Rattle.domain_core.proofs.Stepping.{state-seen}
 use Rattle.domain_core.proofs.Tables.{position-map}
 use Rattle.domain_core.proofs.holdings.Holdings.has_peer.Goals as goal
@@ -10,7 +10,7 @@ use Rattle.domain_core.proofs.holdings.Holdings.has_peer.Goals as goal
 pub returns : goal.returns
 returns g c =
     let d = c.self.inside in
-    let v = seen_by g.P.PeerLane.size_to g.P.PeerLane.size_from g.P.PeerLane.free g.P.PeerLane.shown g.P.PeerLane.out in
+    let v = g.P.PeerLane.seen in
     let at = subst (λ ps. c.place_of.result ≡ position (λ p. p.number == c.args.number) ps) c.deref.ensures.value c.place_of.ensures.place in
     c.is_some.ensures
     ∙ ap (λ o. is_some o) (at ∙ position-map (peer_in v d.table) (is_numbered c.args.number) d.peers.items)

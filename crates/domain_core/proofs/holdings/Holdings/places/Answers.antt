@@ -2,7 +2,6 @@ use Rattle.std.proofs.Common.{◌≡◌, ◌∙◌, ◌+◌, ap, sym, refl, subs
 use Rattle.std.specs.Prelude.{Contains, IsNone, count_by, position, ◌==◌}
 use Rattle.board_model.specs.State.{lent_from, queued_from}
 use Rattle.domain_core.specs.Parts.{state_of}
-use Rattle.domain_core.specs.Peers.{seen_by}
 use Rattle.domain_core.proofs.Stepping.{sound-unseen, state-seen}
 use Rattle.domain_core.specs.InPlaces.{is_of}
 use Rattle.domain_core.specs.InRequests.{handed_slots}
@@ -25,7 +24,7 @@ none-some (Some i) e there = absurd cc
 pub returns-in_err-place_of-clause-none : goal.returns-in_err-place_of-clause-none
 returns-in_err-place_of-clause-none g c =
     let d = c.self.inside in
-    let v = seen_by g.P.PeerLane.size_to g.P.PeerLane.size_from g.P.PeerLane.free g.P.PeerLane.shown g.P.PeerLane.out in
+    let v = g.P.PeerLane.seen in
     let at = subst (λ ps. None ≡ position (λ p. p.number == c.args.peer) ps) c.deref.ensures.value c.in_err-place_of.ensures.place ∙ number-place d.peers.items c.args.peer in
     let same = sym (ap (λ s. map (λ p. p.number) s.peers) (state-seen v d.book d.endpoints d.requests d.table d.peers.items) ∙ ap (λ x. map (λ p. p.number) (state_of x.parts).peers) c.self.view_is) ∙ numbers-in v d.table d.peers.items in
     (λ none has. none-some _ at (contained-found _ c.args.peer (subst (λ (ns : List ℕ). Contains ns c.args.peer) same has)), λ none. subst IsNone (sym c.from_residual.ensures) refl)
@@ -36,7 +35,7 @@ returns-in_err-place_of-clause-none g c =
 all-are : (g : Over) (c : goal.After-struct_known-1 g) → c.places.result.queue ≡ count_by (is_of c.args.peer) (slots (all_waiting c.self.inside.endpoints.endpoints)) + count_by (is_of c.args.peer) (handed_slots c.self.inside.requests.standing)
 all-are g c =
     let d = c.self.inside in
-    let v = seen_by g.P.PeerLane.size_to g.P.PeerLane.size_from g.P.PeerLane.free g.P.PeerLane.shown g.P.PeerLane.out in
+    let v = g.P.PeerLane.seen in
     let at = subst (λ ps. Some c.in_ok-place_of.field-0 ≡ position (λ p. p.number == c.args.peer) ps) c.deref.ensures.value c.in_ok-place_of.ensures.place in
     c.places.ensures.queue ∙ kept-from v d.book d.endpoints d.requests d.table d.peers.items c.args.peer c.in_ok-place_of.field-0 at (sound-unseen v d.book d.endpoints d.requests d.table d.peers.items c.self.invariant) ∙ both-are c.args.peer d.endpoints d.requests
 
@@ -46,7 +45,7 @@ overflow_sub-result g c = omega (arith, all-are g c, c.messages_handed_from-lent
 pub returns-clause-none : goal.returns-clause-none
 returns-clause-none g c =
     let d = c.self.inside in
-    let v = seen_by g.P.PeerLane.size_to g.P.PeerLane.size_from g.P.PeerLane.free g.P.PeerLane.shown g.P.PeerLane.out in
+    let v = g.P.PeerLane.seen in
     let at = subst (λ ps. Some c.in_ok-place_of.field-0 ≡ position (λ p. p.number == c.args.peer) ps) c.deref.ensures.value c.in_ok-place_of.ensures.place ∙ number-place d.peers.items c.args.peer in
     let same = sym (numbers-in v d.table d.peers.items) ∙ ap (λ s. map (λ p. p.number) s.peers) (state-seen v d.book d.endpoints d.requests d.table d.peers.items) ∙ ap (λ x. map (λ p. p.number) (state_of x.parts).peers) c.self.view_is in
     (λ e. absurd (absurd-no e), λ none. absurd (none (subst (λ (ns : List ℕ). Contains ns c.args.peer) same (found-contained _ c.args.peer c.in_ok-place_of.field-0 (sym at)))))
@@ -54,12 +53,12 @@ returns-clause-none g c =
 pub returns-clause-queue : goal.returns-clause-queue
 returns-clause-queue g c =
     let d = c.self.inside in
-    let v = seen_by g.P.PeerLane.size_to g.P.PeerLane.size_from g.P.PeerLane.free g.P.PeerLane.shown g.P.PeerLane.out in
+    let v = g.P.PeerLane.seen in
     let queued = sym (ap (λ s. queued_from c.args.peer s) (state-seen v d.book d.endpoints d.requests d.table d.peers.items) ∙ ap (λ x. queued_from c.args.peer (state_of x.parts)) c.self.view_is) ∙ queued-is v d.book d.endpoints d.requests d.table d.peers.items c.args.peer in
     omega (arith, all-are g c, c.messages_handed_from-lent.ensures, queued)
 
 pub returns-clause-lent : goal.returns-clause-lent
 returns-clause-lent g c =
     let d = c.self.inside in
-    let v = seen_by g.P.PeerLane.size_to g.P.PeerLane.size_from g.P.PeerLane.free g.P.PeerLane.shown g.P.PeerLane.out in
+    let v = g.P.PeerLane.seen in
     c.messages_handed_from-lent.ensures ∙ sym (lent-is v d.book d.endpoints d.requests d.table d.peers.items c.args.peer) ∙ ap (λ s. lent_from c.args.peer s) (state-seen v d.book d.endpoints d.requests d.table d.peers.items) ∙ ap (λ x. lent_from c.args.peer (state_of x.parts)) c.self.view_is

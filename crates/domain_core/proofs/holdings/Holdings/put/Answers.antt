@@ -1,14 +1,13 @@
-use Rattle.std.proofs.Common.{◌≡◌, ◌<◌, ◌∙◌, ℕ, List, ◌∷◌, [], ap, sym, subst, length, map, drop, None, Some, Option, arith}
+use Rattle.std.proofs.Common.{◌≡◌, ◌<◌, ◌∙◌, ◌∷◌, [], ap, sym, subst, length, map, None, Some, Option, arith}
 use Rattle.std.specs.Prelude.{option_map, position, slice_set, unwrap_or, ◌==◌}
 use Rattle.board_model.specs.State as state
 use Rattle.board_model.specs.State.{free_to}
 use Rattle.lane_end.specs.SendMoves.{Sent}
-use Rattle.lane_end.specs.SenderContract.{TakesFirst}
+use Rattle.domain_core.specs.LaneSeen.{LaneSeen}
 use Rattle.domain_core.specs.declared.holdings.Holdings.TheInside.{Inside}
 use Rattle.domain_core.specs.LaneMoves.{sender}
-use Rattle.domain_core.specs.Peers.{EndsView, seen_by}
-use Rattle.domain_core.specs.Parts.{Holding, Parts, Sound, holding_in, lane_seen, parts_in, peers_seen, state_of}
-use Rattle.domain_core.specs.Steps.{Did, after_moves, all_moves, done, frame_put}
+use Rattle.domain_core.specs.Parts.{Holding, Parts, Sound, holding_in, parts_in, peers_seen, state_of}
+use Rattle.domain_core.specs.Steps.{Did, all_moves, done, frame_put}
 use Rattle.domain_core.specs.AllMoved.{AllMoved, ends_of, numbers_of}
 use Rattle.domain_core.proofs.PeerPlaces.{free-there, no-peer-in, peer-at}
 use Rattle.domain_core.proofs.Steps.{frame_put-keeps}
@@ -17,17 +16,14 @@ use Rattle.domain_core.proofs.Tables.{slice_get-read}
 use Rattle.domain_core.proofs.holdings.Holdings.put.Given.{Over}
 use Rattle.domain_core.proofs.holdings.Holdings.put.Goals as goal
 
-abbrev v : (g : Over) → EndsView g.row.P.Denot
-v g = seen_by g.P.PeerLane.size_to g.P.PeerLane.size_from g.P.PeerLane.free g.P.PeerLane.shown g.P.PeerLane.out
+abbrev v : (g : Over) → (g.row.P.Denot → LaneSeen)
+v g = g.P.PeerLane.seen
 
 abbrev p : (g : Over) → Inside g.row.P.Denot → Parts
 p g d = parts_in (v g) d.book d.endpoints d.requests d.table d.peers.items
 
 some-is : {X : Type 0} {x y : X} → Some x ≡ Some y → x ≡ y
 some-is e = cc
-
-first-gone : (old new : List ℕ) → TakesFirst old new → new ≡ drop 1 old
-first-gone old new (first, is) = ap (λ (xs : List ℕ). drop 1 xs) (sym is)
 
 pub put-requires-clause-free : goal.put-requires-clause-free
 put-requires-clause-free g c =
@@ -54,8 +50,7 @@ after g c =
     let there = slice_get-read d.peers.items i x within c.index_mut.ensures.value in
     let found = peer-at d.peers.items c.args.number i at in
     let is : x.number ≡ c.args.number = (let same : found.0 ≡ x = some-is (sym found.1 ∙ there) in ap (λ y. y.number) (sym same) ∙ found.2) in
-    let free = first-gone ((v g).free x.ends) ((v g).free e) c.put.ensures.free in
-    let seen : lane_seen (v g) e ≡ after_moves put (lane_seen (v g) x.ends) = (let h = c.put.ensures.shown in let o = c.put.ensures.out in let t = c.put.ensures.size_to in let f = c.put.ensures.size_from in cc) in
+    let seen = c.put.ensures.seen in
     (one-seen (v g) M none c.args.number put d.peers.items i x e c.self.invariant.peers.rising there is seen, one-moved (v g) M none c.args.number put d.peers.items i x e c.self.invariant.peers.rising there is c.put.ensures.moved)
 
 pub invariant_of-self : goal.invariant_of-self

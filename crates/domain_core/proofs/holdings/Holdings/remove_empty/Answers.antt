@@ -1,9 +1,9 @@
 use Rattle.std.proofs.Common.{◌≡◌, ◌∙◌, ◌∷◌, [], Some, sym, refl, subst}
 use Rattle.std.specs.Prelude.{IsOk}
 use Rattle.board_model.specs.State.{place_at}
+use Rattle.domain_core.specs.LaneSeen.{LaneSeen}
 use Rattle.domain_core.specs.Records.{slots_at}
 use Rattle.domain_core.specs.declared.holdings.Holdings.TheInside.{Inside}
-use Rattle.domain_core.specs.Peers.{EndsView, seen_by}
 use Rattle.domain_core.specs.Parts.{Holding, Parts, Sound, holding_in, parts_in, peers_seen, plain, state_of}
 use Rattle.domain_core.specs.Steps.{Did, done, endpoint_gone}
 use Rattle.domain_core.proofs.Removing.{delete-allowed}
@@ -12,8 +12,8 @@ use Rattle.domain_core.proofs.Stepping.{quiet-moved, quiet-peers}
 use Rattle.domain_core.proofs.holdings.Holdings.remove_empty.Given.{Over}
 use Rattle.domain_core.proofs.holdings.Holdings.remove_empty.Goals as goal
 
-abbrev v : (g : Over) → EndsView g.row.P.Denot
-v g = seen_by g.P.PeerLane.size_to g.P.PeerLane.size_from g.P.PeerLane.free g.P.PeerLane.shown g.P.PeerLane.out
+abbrev v : (g : Over) → (g.row.P.Denot → LaneSeen)
+v g = g.P.PeerLane.seen
 
 abbrev p : (g : Over) → Inside g.row.P.Denot → Parts
 p g d = parts_in (v g) d.book d.endpoints d.requests d.table d.peers.items

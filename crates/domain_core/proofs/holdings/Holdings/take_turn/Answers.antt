@@ -1,17 +1,17 @@
 use Rattle.std.proofs.Common.{◌≡◌, ◌∙◌, sym, subst}
 use Rattle.std.proofs.lemmas.List.{with_items_is}
 use Rattle.std.specs.Vec.{with_items}
+use Rattle.domain_core.specs.LaneSeen.{LaneSeen}
 use Rattle.domain_core.specs.DomainView.{DomainView, domain_in}
 use Rattle.domain_core.specs.Parts.{Holding, holding_in, shown}
-use Rattle.domain_core.specs.Peers.{EndsView, seen_by}
 use Rattle.domain_core.specs.Sound.{AreSound}
 use Rattle.domain_core.specs.Turned.{MakesTurn}
 use Rattle.domain_core.proofs.Stepping.{quiet-moved, sound-seen, sound-unseen, view-seen}
 use Rattle.domain_core.proofs.holdings.Holdings.take_turn.Given.{Over}
 use Rattle.domain_core.proofs.holdings.Holdings.take_turn.Goals as goal
 
-abbrev v : (g : Over) → EndsView g.row.P.Denot
-v g = seen_by g.P.PeerLane.size_to g.P.PeerLane.size_from g.P.PeerLane.free g.P.PeerLane.shown g.P.PeerLane.out
+abbrev v : (g : Over) → (g.row.P.Denot → LaneSeen)
+v g = g.P.PeerLane.seen
 
 pub make_turn-requires-clause-sound : goal.make_turn-requires-clause-sound
 make_turn-requires-clause-sound g c =
