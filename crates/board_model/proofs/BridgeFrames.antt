@@ -19,7 +19,7 @@ use Rattle.board_model.specs.Dealing.{item_of, with_item, with_handed, queued_la
 use Rattle.board_model.specs.Dealing as dealing
 use Rattle.board_model.specs.Lists as lists
 use Rattle.board_model.specs.Change.{Change, item_queued, item_handed, name_found, names_known, handed_in, changed, changed_all}
-use Rattle.board_model.specs.TakenFrames.{Row, row, last_row, first_row, name_rows, message_item, letter_rows, rows, row_of}
+use Rattle.board_model.specs.TakenFrames.{Row, row, last_row, first_row, name_rows, message_item, letter_rows, row_of}
 use Rattle.board_model.proofs.MessageLists.{get-position, changed-position, some-position}
 use Rattle.board_model.proofs.BridgeLists.{any-found}
 use Rattle.board_model.proofs.BridgeUnnamed.{unnamed_change}

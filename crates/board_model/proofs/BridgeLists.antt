@@ -1,11 +1,11 @@
 -- Lists whose items are mapped, and lists of which the first item that passes is changed.
 use Rattle.std.proofs.Common.{◌≡◌, ℕ, zero, suc, Bool, true, false, ◌||◌, cond, List, [], ◌∷◌, map, Option, Some, None, refl, sym, ap, ◌∙◌}
-use Rattle.std.specs.Prelude.{position, find, filter, slice_get, option_map, ◌==◌, is_some, is_none, min}
+use Rattle.std.specs.Prelude.{position, find, filter, slice_get, option_map, is_some, is_none}
 use Rattle.std.specs.List.{list_any}
 use Rattle.board_model.specs.Lists.{changed_first, without_first, without_at, without}
-use Rattle.board_model.specs.Choice.{least, best, without_best}
+use Rattle.board_model.specs.Choice.{best, without_best}
 use Rattle.board_model.proofs.MessageBest.{best-map, without_best-map}
-use Rattle.board_model.proofs.MessageLists.{position-cons, best_is, without_best_is}
+use Rattle.board_model.proofs.MessageLists.{position-cons}
 
 -- ---- a choice between two lists
 

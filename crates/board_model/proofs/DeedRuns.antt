@@ -2,13 +2,10 @@
 use Rattle.std.proofs.Common.{◌≡◌, ℕ, ◌+◌, Bool, cond, List, [], ◌∷◌, ◌++◌}
 use Rattle.std.specs.Prelude.{◌==◌, map}
 use Rattle.std.specs.List.{flat_map}
-use Rattle.board_model.specs.declared.scenario.Scenario.{Scenario}
 use Rattle.board_model.specs.Answer.{puts}
-use Rattle.board_model.specs.Board.{DomainJournal}
 use Rattle.board_model.specs.State.{Item, Endpoint, Outcome, has_item, Request, LentPacket, DomainState}
-use Rattle.board_model.specs.Deeds.{Deed, looks_back, puts_owed, looks_ahead, takes, calls, AllMayDo, along}
-use Rattle.board_model.specs.JournalDeeds.{deeds_of, opened}
-use Rattle.std.specs.Prelude.{Option, None, Some, option_map}
+use Rattle.board_model.specs.Deeds.{Deed, puts_owed, takes, calls, AllMayDo}
+use Rattle.std.specs.Prelude.{option_map}
 
 -- how many frames deeds take from a peer
 abbrev pub taken_by : ℕ → Deed → ℕ

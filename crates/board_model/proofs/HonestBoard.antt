@@ -3,24 +3,23 @@
 use Rattle.std.proofs.Common.{◌≡◌, ℕ, ◌+◌, ◌≤◌, ◌<◌, Bool, true, false, cond, List, [], ◌∷◌, ◌++◌, map, find, Option, Some, None, option_map, refl, sym, ap, ◌∙◌, subst, arith}
 use Rattle.std.specs.Prelude.{◌==◌, ◌&&◌}
 use Rattle.std.specs.List.{AllByRecursion, flat_map}
-use Rattle.std.proofs.lemmas.Bool.{eqb-true, eq-eqb, cond_both}
-use Rattle.mc_base.specs.Limits.{creation_limit}
+use Rattle.std.proofs.lemmas.Bool.{eqb-true, eq-eqb}
 use Rattle.mc_base.specs.NameMap.{Names, has_name, address_in}
 use Rattle.mc_base.specs.Reading.{Reading, is_faulty, announces, says, reading}
 use Rattle.mc_base.specs.declared.name.EndName.{EndName}
 use Rattle.board_model.specs.declared.scenario.DomainLine.{DomainLine}
 use Rattle.board_model.specs.declared.scenario.Scenario.{Scenario}
-use Rattle.board_model.specs.Lists.{IsPrefix}
-use Rattle.board_model.specs.Scenario.{Neighbour, neighbours, Lane, lanes, rising}
+use Rattle.board_model.specs.Scenario.{Neighbour, neighbours, Lane, lanes}
 use Rattle.board_model.specs.LinkedBoard.{Differ, IsLinkedBoard}
-use Rattle.board_model.specs.State.{Peer, DomainState, is_numbered, peer_at}
+use Rattle.board_model.specs.State.{DomainState, is_numbered}
 use Rattle.board_model.specs.Traffic.{put_to, taken_from}
 use Rattle.board_model.specs.Run.{IsDomainRun}
 use Rattle.board_model.specs.Board.{DomainJournal, journal_in, journal_of, LaneFits, IsBoardRun}
-use Rattle.board_model.specs.Deeds.{Deed, looks_back, puts_owed, looks_ahead, takes, calls, after_deeds, along}
+use Rattle.board_model.specs.Deeds.{Deed, looks_back, puts_owed, looks_ahead, takes, calls, after_deeds}
 use Rattle.board_model.specs.JournalDeeds.{deeds_of, opened, left_in}
 use Rattle.board_model.specs.Honesty.{IsMade, IsReal, KnowsReal}
-use Rattle.board_model.proofs.DeedRuns.{frames_if, puts_by, takes_by}
+use Rattle.board_model.proofs.BridgeDeeds.{after-join}
+use Rattle.board_model.proofs.DeedRuns.{frames_if, takes_by}
 use Rattle.board_model.proofs.ListsApart.{all-map, all-unmap, differ-found}
 use Rattle.board_model.proofs.MessageAlls.{all-parts, all-found, all-weaken, all-with, found-passes}
 use Rattle.board_model.proofs.MessageOnce.{times}
@@ -31,7 +30,7 @@ use Rattle.board_model.proofs.WholeJoined.{joined_back, neighbours_join, rising_
 use Rattle.board_model.proofs.HonestFrames.{Honest}
 use Rattle.board_model.proofs.HonestSound.{PeerSound, Sound}
 use Rattle.board_model.proofs.HonestDeeds.{Hears, HearsDeed}
-use Rattle.board_model.proofs.HonestRuns.{anything, hears_anything, sound_opening, sound_deeds, given_deeds, after-append, AllHonest, run_honest}
+use Rattle.board_model.proofs.HonestRuns.{anything, hears_anything, sound_opening, sound_deeds, given_deeds, AllHonest, run_honest}
 use Rattle.board_model.proofs.KeptLanes.{IsOnce, IsFrom}
 use Rattle.board_model.proofs.KeptTells.{TellsDeeds, tells_deeds, numbers_of, after_run, OfJournal, of_journal}
 
@@ -161,7 +160,7 @@ module _ (s : Scenario) (js : List DomainJournal) (board : IsLinkedBoard s) (run
       let made : ℕ = (left_in s j).endpoints_given in
       let rest = given_deeds (after_deeds (opened s j) before) after in
       let within : (after_deeds (opened s j) before).endpoints_given ≤ made
-      = omega (arith, rest, ap (λ ds. (after_deeds (opened s j) ds).endpoints_given) is, ap (λ (t : DomainState). t.endpoints_given) (after-append (opened s j) before after)) in
+      = omega (arith, rest, ap (λ ds. (after_deeds (opened s j) ds).endpoints_given) is, ap (λ (t : DomainState). t.endpoints_given) (after-join (opened s j) before after)) in
       sound_deeds made may_know (numbers_of s j.line) (opened s j) before
       (all-parts (HearsDeed may_know) before after (subst (AllByRecursion (HearsDeed may_know)) is on.hears)).0 within
       (sound_opening made may_know j.line.domain j.line.nodes (neighbours s j.line))

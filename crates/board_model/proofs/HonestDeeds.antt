@@ -1,7 +1,7 @@
 -- Each deed keeps what holds of a domain, and what a deed puts is honest, whatever the domain takes.
-use Rattle.std.proofs.Common.{◌≡◌, ℕ, ◌+◌, ◌≤◌, ◌<◌, Bool, true, false, not, ◌&&◌, cond, List, [], ◌∷◌, ◌++◌, map, filter, length, Option, Some, None, refl, sym, ap, ◌∙◌, subst, arith}
+use Rattle.std.proofs.Common.{◌≡◌, ℕ, ◌+◌, ◌≤◌, ◌<◌, Bool, true, false, not, ◌&&◌, cond, List, [], ◌∷◌, map, length, Option, Some, None, refl, sym, ◌∙◌, subst, arith}
 use Rattle.std.specs.Prelude.{find, ◌==◌, nat_lt, nat_le, is_some}
-use Rattle.std.specs.List.{AllByRecursion, flat_map}
+use Rattle.std.specs.List.{AllByRecursion}
 use Rattle.std.proofs.lemmas.Bool.{cond_both, leb-false, eqb-true}
 use Rattle.mc_base.specs.Limits.{creation_limit}
 use Rattle.mc_base.specs.NameMap.{Names, names_limit, rank, has_name, learned, forgotten, address_in}
@@ -14,11 +14,11 @@ use Rattle.mc_base.specs.declared.refusal.Refusal.{Refusal}
 use Rattle.board_model.specs.Honesty.{IsMade}
 use Rattle.board_model.specs.DomainCall.{DomainCall, create_at, delete_at, lookup_of, send_from, receive_at, request_at, available_at, test_of, cancel_of, turn_alone}
 use Rattle.board_model.specs.State.{Item, Endpoint, Announcement, Peer, DomainState, is_at, live_at, endpoint_of, one_waits, peer_at, is_numbered, announcing, owed_to}
-use Rattle.board_model.specs.Change.{Change, item_queued, item_handed, names_known, name_found, changed, changed_all}
+use Rattle.board_model.specs.Change.{Change, item_queued, item_handed, names_known, name_found, changed_all}
 use Rattle.board_model.specs.Dealing.{names_of}
 use Rattle.board_model.specs.TakenFrames.{Row, row, name_rows, letter_rows, message_item, first_row, row_of}
 use Rattle.board_model.specs.Messages.{said_by}
-use Rattle.board_model.specs.Answer.{local, holds, words_of, refusal, unless_refused, success_puts, puts}
+use Rattle.board_model.specs.Answer.{local, holds, words_of, refusal, unless_refused, puts}
 use Rattle.board_model.specs.CallChanges.{at_live, success_changes}
 use Rattle.board_model.specs.Deeds.{Deed, looks_back, puts_owed, looks_ahead, takes, calls, happens_by, after_deed, MayDo}
 use Rattle.board_model.proofs.DeedRuns.{frames_if, frames_to, puts_by}
@@ -27,7 +27,7 @@ use Rattle.board_model.proofs.MessageAlls.{none-passes, all-append, all-filter, 
 use Rattle.board_model.proofs.MessageLists.{some-position}
 use Rattle.board_model.proofs.MessageCanSend.{puts-of-send}
 use Rattle.board_model.proofs.HonestFrames.{Honest, IsReply, letter_honest, announcing_honest, announcing_silent, reply_honest, reply_silent}
-use Rattle.board_model.proofs.HonestSound.{Own, own, PeerSound, Sound, FitAll, given_changes, sound_changes}
+use Rattle.board_model.proofs.HonestSound.{own, PeerSound, Sound, FitAll, given_changes, sound_changes}
 
 peer_number : (q : ℕ) (ps : List Peer) (p : Peer) → find (is_numbered q) ps ≡ Some p → q ≡ p.number
 peer_number q ps p is = sym (eqb-true p.number q (found-passes (is_numbered q) ps p is))
@@ -66,6 +66,22 @@ by_names P none q ks (Some n) a false learn forget =
     let acts : Row = row true fate.Acted (names_known q (forgotten n ks) ∷ []) in
     cond_both (not (n.domain == q)) (row (not (n.domain == q)) fate.ForeignName []) (cond unknown.applies unknown acts) (λ w. P w.happens) (λ k. none) (λ k. cond_both unknown.applies unknown acts (λ w. P w.happens) (λ j. none) (λ j. forget n))
 
+-- what holds of no change, and of those by which an item is handed or queued, holds of what a letter brings
+pub by_letters : (P : List Change → Type 0) → P [] → (s : DomainState) (q name src dst : ℕ) (x : Option Endpoint) (l : PlainLetter) → ((i : Item) → P (item_handed dst i ∷ [])) → ((i : Item) → P (item_queued dst i ∷ [])) → P (first_row (letter_rows s q name src dst x l)).happens
+by_letters P none s q name src dst None l hand queue = none
+by_letters P none s q name src dst (Some e) (msg priority content) hand queue =
+    let i : Item = message_item q name src priority content in
+    cond_both (one_waits s e.local) (row (one_waits s e.local) fate.Handed (item_handed dst i ∷ [])) (row true fate.Queued (item_queued dst i ∷ [])) (λ w. P w.happens) (λ k. hand i) (λ k. queue i)
+by_letters P none s q name src dst (Some e) (connect m kind) hand queue = none
+by_letters P none s q name src dst (Some e) (accept m) hand queue = none
+by_letters P none s q name src dst (Some e) (reject m why) hand queue = none
+by_letters P none s q name src dst (Some e) (recv_open m) hand queue = none
+by_letters P none s q name src dst (Some e) (send_open m) hand queue = none
+by_letters P none s q name src dst (Some e) (packet m bytes) hand queue = none
+by_letters P none s q name src dst (Some e) (scalar m bits value) hand queue = none
+by_letters P none s q name src dst (Some e) (send_close m) hand queue = none
+by_letters P none s q name src dst (Some e) (recv_close m) hand queue = none
+
 module _ (made : ℕ) (known : ℕ → ℕ → Type 0) (ns : List ℕ) where
   abbrev KnownOf : ℕ → Names → Type 0
   KnownOf q ks = AllByRecursion (λ k. known q k.1) ks
@@ -93,26 +109,12 @@ module _ (made : ℕ) (known : ℕ → ℕ → Type 0) (ns : List ℕ) where
     abbrev RowFits : DomainState → Row → Type 0
     RowFits t r = FitAll made known ns t r.happens
 
-    letter_fits : (t : DomainState) (q name src dst : ℕ) (x : Option Endpoint) (l : PlainLetter) → RowFits t (first_row (letter_rows s q name src dst x l))
-    letter_fits t q name src dst None l = tt
-    letter_fits t q name src dst (Some e) (msg priority content) =
-        cond_both (one_waits s e.local) (row (one_waits s e.local) fate.Handed (item_handed dst (message_item q name src priority content) ∷ [])) (row true fate.Queued (item_queued dst (message_item q name src priority content) ∷ [])) (RowFits t) (λ k. (tt, tt)) (λ k. (tt, tt))
-    letter_fits t q name src dst (Some e) (connect m kind) = tt
-    letter_fits t q name src dst (Some e) (accept m) = tt
-    letter_fits t q name src dst (Some e) (reject m why) = tt
-    letter_fits t q name src dst (Some e) (recv_open m) = tt
-    letter_fits t q name src dst (Some e) (send_open m) = tt
-    letter_fits t q name src dst (Some e) (packet m bytes) = tt
-    letter_fits t q name src dst (Some e) (scalar m bits value) = tt
-    letter_fits t q name src dst (Some e) (send_close m) = tt
-    letter_fits t q name src dst (Some e) (recv_close m) = tt
-
     frame_fits : (t : DomainState) (q name : ℕ) (r : Reading) → Hears known q r → RowFits t (row_of s q name r)
     frame_fits t q name (is_faulty w) hears = tt
     frame_fits t q name (announces text a there) hears = by_names (FitAll made known ns t) tt q (names_of (peer_at s q)) (endpoint_named text) a there
         (λ n. (learned_known q n a (names_of (peer_at s q)) hears (names_known_of q), (tt, tt)))
         (λ n. (all-filter (λ (k : EndName × ℕ). known q k.1) (λ k. not (has_name n k)) (names_of (peer_at s q)) (names_known_of q), tt))
-    frame_fits t q name (says src dst l) hears = letter_fits t q name src dst (endpoint_of s dst) l
+    frame_fits t q name (says src dst l) hears = by_letters (FitAll made known ns t) tt s q name src dst (endpoint_of s dst) l (λ i. (tt, tt)) (λ i. (tt, tt))
 
     -- ---- calls
 

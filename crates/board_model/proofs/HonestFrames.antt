@@ -6,7 +6,7 @@ use Rattle.std.specs.List.{AllByRecursion}
 use Rattle.std.proofs.Math.Seq.{drop-append_seam}
 use Rattle.std.proofs.lemmas.List.{length-replicate}
 use Rattle.std.proofs.lemmas.List.Sums.{take_while-cons}
-use Rattle.std.proofs.lemmas.Bool.{le-ltb, lt-ltb, leb-true, leb-false, eq-eqb, ne_eqb, eqb-true, cases_Bool}
+use Rattle.std.proofs.lemmas.Bool.{le-ltb, lt-ltb, leb-true, leb-false, eqb-true, cases_Bool}
 use Rattle.byteorder.specs.Endian.{little_bytes}
 use Rattle.byteorder.specs.Numbers.{little_number-reads_back}
 use Rattle.mc_base.specs.Bytes.{number_at}
@@ -14,14 +14,13 @@ use Rattle.mc_base.specs.Limits.{buffer_size, frame_header_size, name_service_ad
 use Rattle.mc_base.specs.FaultRow.{FaultRow, first, first_fault, widened}
 use Rattle.mc_base.specs.Frame.{made, source_of, destination_of, payload_of}
 use Rattle.mc_base.specs.FullName.{end_name, full_name}
-use Rattle.mc_base.specs.Letter.{PlainLetter, msg, connect, accept, reject, recv_open, send_open, packet, scalar, send_close, recv_close, spelling, Fields, fields, fields_of, spelled, IsChannel}
+use Rattle.mc_base.specs.Letter.{PlainLetter, msg, connect, accept, reject, recv_open, send_open, packet, scalar, send_close, recv_close, spelling, Fields, fields, fields_of, spelled}
 use Rattle.mc_base.specs.LetterFaults.{letter_faults, fields_in}
 use Rattle.mc_base.specs.Announcement.{announcement, announcement_faults, flags_of, is_name, name_in}
 use Rattle.mc_base.specs.Fault.{faults, fault}
 use Rattle.mc_base.specs.declared.fault.Fault.{Fault}
 use Rattle.mc_base.specs.declared.fault.Fault.TheVariants as of
 use Rattle.mc_base.specs.declared.fault.FrameFault.TheVariants.{FrameLong}
-use Rattle.mc_base.specs.declared.channel.Reason.{Reason}
 use Rattle.mc_base.specs.Reading.{Reading, is_faulty, announces, says, reading, reading_by, announced_in, letter_of}
 use Rattle.board_model.specs.State.{Announcement, announcing}
 use Rattle.board_model.specs.Honesty.{IsMade}

@@ -1,11 +1,9 @@
 -- A letter that is made is read back.
-use Rattle.std.proofs.Common.{◌≡◌, ℕ, ◌+◌, ◌-◌, ◌≤◌, ◌<◌, ◌^◌, Bool, true, false, not, cond, List, [], ◌∷◌, ◌++◌, take, drop, length, None, refl, sym, ap, ap₂, ◌∙◌, subst, arith}
-use Rattle.std.specs.Prelude.{◌==◌, nat_lt, nat_le, slice_index}
+use Rattle.std.proofs.Common.{◌≡◌, ℕ, ◌+◌, ◌-◌, ◌≤◌, ◌<◌, ◌^◌, Bool, true, false, not, cond, List, [], ◌∷◌, take, length, None, refl, sym, ap, ap₂, ◌∙◌, subst, arith}
+use Rattle.std.specs.Prelude.{◌==◌, nat_lt, nat_le}
 use Rattle.std.proofs.lemmas.List.{take_all}
 use Rattle.std.proofs.lemmas.Bool.{le-ltb, le-leb, ne_eqb, eq-eqb}
-use Rattle.byteorder.specs.Endian.{little_bytes}
 use Rattle.byteorder.specs.Numbers.{little_number-reads_back}
-use Rattle.mc_base.specs.Bytes.{number_at}
 use Rattle.mc_base.specs.Limits.{item_size, buffer_size, frame_header_size, letter_header_size, name_service_address}
 use Rattle.mc_base.specs.FaultRow.{FaultRow, row, first_fault, widened}
 use Rattle.mc_base.specs.Frame.{made, source_of, destination_of, payload_length_of, payload_of}

@@ -1,10 +1,10 @@
 -- What holds of a domain at each moment of a run of deeds, and that all that the run puts is honest.
-use Rattle.std.proofs.Common.{◌≡◌, ℕ, ◌+◌, ◌≤◌, List, [], ◌∷◌, ◌++◌, map, refl, sym, ap, ◌∙◌, subst, arith}
+use Rattle.std.proofs.Common.{◌≡◌, ℕ, ◌≤◌, List, [], ◌∷◌, map, refl, ap, arith}
 use Rattle.std.specs.List.{AllByRecursion}
 use Rattle.mc_base.specs.Limits.{creation_limit}
 use Rattle.mc_base.specs.Reading.{reading, is_faulty, announces, says, Reading}
 use Rattle.board_model.specs.Scenario.{Neighbour}
-use Rattle.board_model.specs.State.{DomainState, Peer, new_peer, opening}
+use Rattle.board_model.specs.State.{DomainState, new_peer, opening}
 use Rattle.board_model.specs.Deeds.{Deed, looks_back, puts_owed, looks_ahead, takes, calls, happens_by, after_deed, after_deeds, AllMayDo, along}
 use Rattle.board_model.proofs.DeedRuns.{puts_by}
 use Rattle.board_model.proofs.MessageAlls.{all-append}
@@ -30,10 +30,6 @@ sound_opening made known number nodes ks = record { rise = omega arith; few = om
 pub given_deeds : (s : DomainState) (ds : List Deed) → s.endpoints_given ≤ (after_deeds s ds).endpoints_given
 given_deeds s [] = omega arith
 given_deeds s (d ∷ ds) = omega (arith, given_changes s (happens_by s d), given_deeds (after_deed s d) ds)
-
-pub after-append : (s : DomainState) (ds es : List Deed) → after_deeds s (ds ++ es) ≡ after_deeds (after_deeds s ds) es
-after-append s [] es = refl
-after-append s (d ∷ ds) es = after-append (after_deed s d) ds es
 
 module _ (made : ℕ) (known : ℕ → ℕ → Type 0) (ns : List ℕ) where
   next_within : (s : DomainState) (d : Deed) (ds : List Deed) → (after_deeds s (d ∷ ds)).endpoints_given ≤ made → (after_deed s d).endpoints_given ≤ made

@@ -1,55 +1,24 @@
 -- What holds of a domain at each moment of its run: its endpoints' addresses rise and their names are apart, its peers keep their
 -- numbers, what it owes is honest, and what it knows of names is as what it took says.
-use Rattle.std.proofs.Common.{◌≡◌, ℕ, ◌+◌, ◌-◌, ◌≤◌, ◌<◌, Bool, true, false, not, cond, List, [], ◌∷◌, ◌++◌, map, filter, drop, length, Option, Some, None, refl, sym, ap, ◌∙◌, subst, arith}
+use Rattle.std.proofs.Common.{◌≡◌, ℕ, ◌+◌, ◌-◌, ◌≤◌, ◌<◌, Bool, true, false, not, cond, List, [], ◌∷◌, ◌++◌, map, drop, length, Option, Some, None, refl, sym, ap, ◌∙◌, subst, arith}
 use Rattle.std.specs.Prelude.{find, ◌==◌, ◌&&◌, is_none}
 use Rattle.std.specs.List.{AllByRecursion}
-use Rattle.std.proofs.lemmas.Bool.{cond_both, eqb-true, eq-eqb, ne_eqb, leb-false}
+use Rattle.std.proofs.lemmas.Bool.{cond_both, eqb-true, eq-eqb, ne_eqb}
 use Rattle.mc_base.specs.Limits.{creation_limit}
-use Rattle.mc_base.specs.NameMap.{Names, rank, has_name, learned, forgotten}
-use Rattle.mc_base.specs.Reading.{Reading, is_faulty, announces, says, reading}
-use Rattle.mc_base.specs.declared.name.Local.{Local}
-use Rattle.mc_base.specs.declared.name.EndName.{EndName}
-use Rattle.mc_base.specs.Letter.{PlainLetter, msg, connect, accept, reject, recv_open, send_open, packet, scalar, send_close, recv_close}
-use Rattle.mc_base.specs.FullName.{endpoint_named}
+use Rattle.mc_base.specs.NameMap.{Names}
+use Rattle.mc_base.specs.Reading.{reading}
 use Rattle.mc_base.specs.declared.refusal.Refusal.{Refusal}
 use Rattle.board_model.specs.Honesty.{IsMade}
-use Rattle.board_model.specs.Lists.{changed_first, without}
+use Rattle.board_model.specs.Lists.{without}
 use Rattle.board_model.specs.Choice.{without_best}
-use Rattle.board_model.specs.DomainCall.{DomainCall, create_at, delete_at, lookup_of, send_from, receive_at, request_at, available_at, test_of, cancel_of, turn_alone}
-use Rattle.board_model.specs.State.{Item, Endpoint, Asked, name_of, message_at, Outcome, has_address, has_item, has_ended, Request, Announcement, Peer, DomainState, waits_at, is_at, has_address_of, live_at, endpoint_of, peer_at, is_numbered}
+use Rattle.board_model.specs.State.{Item, Endpoint, Asked, name_of, message_at, Outcome, has_address, has_item, has_ended, Request, Announcement, Peer, DomainState, waits_at, is_at, has_address_of, endpoint_of, is_numbered}
 use Rattle.board_model.specs.Change.{Change, endpoint_made, endpoint_gone, item_queued, best_gone, end_announced, owed_put, buffers_back, frames_shown, frame_taken, names_known, buffer_used, request_added, item_handed, waiting_ended, name_found, request_gone, done_with, all_done, asks_for, handed_in, ended_in, endpoint_with, with_queue, at_address, at_peer, also_owed, first_put, changed, changed_all}
-use Rattle.board_model.specs.Dealing.{names_of}
-use Rattle.board_model.specs.TakenFrames.{Row, name_rows, letter_rows, first_row, row_of}
-use Rattle.board_model.specs.Answer.{local, holds, words_of, refusal, unless_refused}
-use Rattle.board_model.specs.CallChanges.{at_live, success_changes}
-use Rattle.board_model.specs.Deeds.{Deed, looks_back, puts_owed, looks_ahead, takes, calls, happens_by, after_deed}
-use Rattle.board_model.proofs.MessageAlls.{none-passes, all-append, all-changed-first, all-drop, all-filter, all-found, all-without, found-passes}
-use Rattle.board_model.proofs.MessageLists.{some-position}
-use Rattle.board_model.proofs.MessageNames.{Apart, apart-created, apart-changed}
+use Rattle.board_model.proofs.MessageAlls.{none-passes, all-append, all-changed-first, all-drop, all-without, found-passes}
+use Rattle.board_model.proofs.BridgeSound.{numbers-kept}
+use Rattle.board_model.proofs.OrderSound.{Rise, rise_changed, rise_fewer, rise_more, Apart, apart_changed, apart_fewer, apart_more}
 use Rattle.board_model.proofs.HonestFrames.{IsReply}
 
 -- ---- addresses rise
-
-abbrev pub Rise : ℕ → List Endpoint → ℕ → Type 0
-Rise lo [] hi = lo ≤ hi
-Rise lo (e ∷ es) hi = (lo ≤ e.address) × Rise (e.address + 1) es hi
-
-rise_from : (lo low hi : ℕ) (es : List Endpoint) → low ≤ lo → Rise lo es hi → Rise low es hi
-rise_from lo low hi [] le rise = omega arith
-rise_from lo low hi (e ∷ es) le rise = let here : lo ≤ e.address = rise.0 in (omega arith, rise.1)
-
-rise_changed : (p : Endpoint → Bool) (f : Endpoint → Endpoint) → ((e : Endpoint) → (f e).address ≡ e.address) → (lo hi : ℕ) (es : List Endpoint) → Rise lo es hi → Rise lo (changed_first p f es) hi
-rise_changed p f same lo hi [] rise = rise
-rise_changed p f same lo hi (e ∷ es) rise = cond_both (p e) (f e ∷ es) (e ∷ changed_first p f es) (λ xs. Rise lo xs hi) (λ k. rw (same e) rise) (λ k. (rise.0, rise_changed p f same (e.address + 1) hi es rise.1))
-
-rise_fewer : (p : Endpoint → Bool) (lo hi : ℕ) (es : List Endpoint) → Rise lo es hi → Rise lo (filter p es) hi
-rise_fewer p lo hi [] rise = rise
-rise_fewer p lo hi (e ∷ es) rise = cond_both (p e) (e ∷ filter p es) (filter p es) (λ xs. Rise lo xs hi) (λ k. (rise.0, rise_fewer p (e.address + 1) hi es rise.1))
-    (λ k. let here : lo ≤ e.address = rise.0 in rise_fewer p lo hi es (rise_from (e.address + 1) lo hi es (omega arith) rise.1))
-
-rise_more : (lo hi : ℕ) (es : List Endpoint) (e : Endpoint) → e.address ≡ hi → Rise lo es hi → Rise lo (es ++ e ∷ []) (hi + 1)
-rise_more lo hi [] e is rise = (omega arith, omega arith)
-rise_more lo hi (x ∷ xs) e is rise = (rise.0, rise_more (x.address + 1) hi xs e is rise.1)
 
 least_top : (lo hi : ℕ) (es : List Endpoint) → Rise lo es hi → lo ≤ hi
 least_top lo hi [] rise = rise
@@ -76,29 +45,6 @@ own p lo hi (x ∷ xs) e rise is = go (p x) is (λ k. own p (x.address + 1) hi x
         let far : x.address + 1 ≤ e.address = k.above in
         let differs : (x.address == e.address) ≡ false = ne_eqb x.address e.address (λ same. absurd (omega arith)) in
         record { above = omega arith; below = k.below; found = ap (λ b. cond b (Some x) (find (has_address_of e.address) xs)) differs ∙ k.found }
-
-apart_fewer : (p : Endpoint → Bool) (es : List Endpoint) → Apart es → Apart (filter p es)
-apart_fewer p [] apart = tt
-apart_fewer p (e ∷ es) apart =
-    cond_both (p e) (e ∷ filter p es) (filter p es) Apart (λ k. (all-filter (λ f. is_at e.local f ≡ false) p es apart.0, apart_fewer p es apart.1)) (λ k. apart_fewer p es apart.1)
-
--- ---- peers keep their numbers
-
-numbers_first : (q : ℕ) (f : Peer → Peer) → ((p : Peer) → (f p).number ≡ p.number) → (ps : List Peer) → map (λ p. p.number) (at_peer q f ps) ≡ map (λ p. p.number) ps
-numbers_first q f same [] = refl
-numbers_first q f same (p ∷ ps) =
-    cond_both (is_numbered q p) (f p ∷ ps) (p ∷ at_peer q f ps) (λ xs. map (λ (x : Peer). x.number) xs ≡ p.number ∷ map (λ (x : Peer). x.number) ps)
-    (λ k. ap (λ n. n ∷ map (λ (x : Peer). x.number) ps) (same p)) (λ k. ap (λ ms. p.number ∷ ms) (numbers_first q f same ps))
-
-also_number : (d : ℕ) (a : Announcement) (p : Peer) → (also_owed d a p).number ≡ p.number
-also_number d a p = cond_both (p.number == d) p (record p { announcements = p.announcements ++ a ∷ [] }) (λ (x : Peer). x.number ≡ p.number) (λ k. refl) (λ k. refl)
-
-put_number : (p : Peer) → (first_put p).number ≡ p.number
-put_number p = cond_both (length p.announcements == 0) (record p { free = p.free - 1; replies = drop 1 p.replies }) (record p { free = p.free - 1; announcements = drop 1 p.announcements }) (λ (x : Peer). x.number ≡ p.number) (λ k. refl) (λ k. refl)
-
-all_numbers : (d : ℕ) (a : Announcement) (ps : List Peer) → map (λ p. p.number) (map (also_owed d a) ps) ≡ map (λ p. p.number) ps
-all_numbers d a [] = refl
-all_numbers d a (p ∷ ps) = ap (λ n. n ∷ map (λ (x : Peer). x.number) (map (also_owed d a) ps)) (also_number d a p) ∙ ap (λ ms. p.number ∷ ms) (all_numbers d a ps)
 
 -- ---- requests ask for names and messages alone, as no call asks for more
 
@@ -185,14 +131,14 @@ module _ (made : ℕ) (known : ℕ → ℕ → Type 0) (ns : List ℕ) where
     peer_changed : (q : ℕ) (f : Peer → Peer) → ((p : Peer) → is_numbered q p ≡ true → OfPeer p → OfPeer (f p)) → AllByRecursion OfPeer (at_peer q f s.peers)
     peer_changed q f keep = all-changed-first OfPeer (is_numbered q) f s.peers sound.peers (λ p is well. keep p (found-passes (is_numbered q) s.peers p is) well)
 
-    by_peer : (q : ℕ) (f : Peer → Peer) → ((p : Peer) → (f p).number ≡ p.number) → ((p : Peer) → is_numbered q p ≡ true → OfPeer p → OfPeer (f p)) → (c : Change) → (changed s c).endpoints ≡ s.endpoints → (changed s c).endpoints_given ≡ s.endpoints_given → (changed s c).peers ≡ at_peer q f s.peers → (changed s c).requests ≡ s.requests → Sound made known ns (changed s c)
-    by_peer q f same keep c ends given peers requests = record {
+    by_peer : (q : ℕ) (f : Peer → Peer) → ((p : Peer) → is_numbered q p ≡ true → OfPeer p → OfPeer (f p)) → (c : Change) → (changed s c).endpoints ≡ s.endpoints → (changed s c).endpoints_given ≡ s.endpoints_given → (changed s c).peers ≡ at_peer q f s.peers → (changed s c).requests ≡ s.requests → Sound made known ns (changed s c)
+    by_peer q f keep c ends given peers requests = record {
       plain = rw requests sound.plain;
       rise = rw (ends, given) sound.rise;
       few = rw given sound.few;
       apart = rw ends sound.apart;
       peers = rw peers (peer_changed q f keep);
-      numbers = rw peers (numbers_first q f same s.peers ∙ sound.numbers);
+      numbers = numbers-kept s c ∙ sound.numbers;
     }
 
     by_end : (a : ℕ) (f : List Item → List Item) → (c : Change) → (changed s c).endpoints ≡ at_address a (with_queue f) s.endpoints → (changed s c).endpoints_given ≡ s.endpoints_given → (changed s c).peers ≡ s.peers → (changed s c).requests ≡ s.requests → Sound made known ns (changed s c)
@@ -200,9 +146,9 @@ module _ (made : ℕ) (known : ℕ → ℕ → Type 0) (ns : List ℕ) where
       plain = rw requests sound.plain;
       rise = rw (ends, given) (rise_changed (has_address_of a) (with_queue f) (λ e. refl) 1024 (1024 + s.endpoints_given) s.endpoints sound.rise);
       few = rw given sound.few;
-      apart = rw ends (apart-changed (has_address_of a) (with_queue f) (λ e. refl) s.endpoints sound.apart);
+      apart = rw ends (apart_changed (has_address_of a) (with_queue f) (λ e. refl) s.endpoints sound.apart);
       peers = rw peers sound.peers;
-      numbers = rw peers sound.numbers;
+      numbers = numbers-kept s c ∙ sound.numbers;
     }
 
     by_requests : (rs : List Request) (c : Change) → (changed s c).endpoints ≡ s.endpoints → (changed s c).endpoints_given ≡ s.endpoints_given → (changed s c).peers ≡ s.peers → (changed s c).requests ≡ rs → ArePlain rs → Sound made known ns (changed s c)
@@ -211,7 +157,7 @@ module _ (made : ℕ) (known : ℕ → ℕ → Type 0) (ns : List ℕ) where
       few = rw given sound.few;
       apart = rw ends sound.apart;
       peers = rw peers sound.peers;
-      numbers = rw peers sound.numbers;
+      numbers = numbers-kept s c ∙ sound.numbers;
       plain = rw requests plain;
     }
 
@@ -219,7 +165,7 @@ module _ (made : ℕ) (known : ℕ → ℕ → Type 0) (ns : List ℕ) where
     sound_change (endpoint_made at) fits = record {
       rise = let next : 1024 + s.endpoints_given + 1 ≡ 1024 + (s.endpoints_given + 1) = omega arith in subst (Rise 1024 (s.endpoints ++ endpoint_with s at ∷ [])) next (rise_more 1024 (1024 + s.endpoints_given) s.endpoints (endpoint_with s at) refl sound.rise);
       few = let less : s.endpoints_given < 60000 = fits.1 in omega arith;
-      apart = apart-created s.endpoints (endpoint_with s at) sound.apart (none-passes (is_at at) s.endpoints fits.0);
+      apart = apart_more s.endpoints (endpoint_with s at) sound.apart (none-passes (is_at at) s.endpoints fits.0);
       peers = sound.peers;
       numbers = sound.numbers;
       plain = sound.plain;
@@ -234,13 +180,13 @@ module _ (made : ℕ) (known : ℕ → ℕ → Type 0) (ns : List ℕ) where
     }
     sound_change (item_queued a i) fits = by_end a (λ q. q ++ i ∷ []) (item_queued a i) refl refl refl refl
     sound_change (best_gone a) fits = by_end a (without_best (λ i. i.priority)) (best_gone a) refl refl refl refl
-    sound_change (end_announced a) fits = record { rise = sound.rise; few = sound.few; apart = sound.apart; peers = all_also s.number a s.peers fits sound.peers; numbers = all_numbers s.number a s.peers ∙ sound.numbers; plain = sound.plain }
-    sound_change (owed_put q) fits = by_peer q first_put put_number (λ p is well. put_sound p well) (owed_put q) refl refl refl refl
-    sound_change (buffers_back q n) fits = by_peer q (λ p. record p { free = p.free + n }) (λ p. refl) (λ p is well. record { announced = well.announced; replies = well.replies; names = well.names }) (buffers_back q n) refl refl refl refl
-    sound_change (frames_shown q n) fits = by_peer q (λ p. record p { shown = n }) (λ p. refl) (λ p is well. record { announced = well.announced; replies = well.replies; names = well.names }) (frames_shown q n) refl refl refl refl
-    sound_change (frame_taken q) fits = by_peer q (λ p. record p { shown = p.shown - 1 }) (λ p. refl) (λ p is well. record { announced = well.announced; replies = well.replies; names = well.names }) (frame_taken q) refl refl refl refl
-    sound_change (buffer_used q) fits = by_peer q (λ p. record p { free = p.free - 1 }) (λ p. refl) (λ p is well. record { announced = well.announced; replies = well.replies; names = well.names }) (buffer_used q) refl refl refl refl
-    sound_change (names_known q ks) fits = by_peer q (λ p. record p { known = ks }) (λ p. refl)
+    sound_change (end_announced a) fits = record { rise = sound.rise; few = sound.few; apart = sound.apart; peers = all_also s.number a s.peers fits sound.peers; numbers = numbers-kept s (end_announced a) ∙ sound.numbers; plain = sound.plain }
+    sound_change (owed_put q) fits = by_peer q first_put (λ p is well. put_sound p well) (owed_put q) refl refl refl refl
+    sound_change (buffers_back q n) fits = by_peer q (λ p. record p { free = p.free + n }) (λ p is well. record { announced = well.announced; replies = well.replies; names = well.names }) (buffers_back q n) refl refl refl refl
+    sound_change (frames_shown q n) fits = by_peer q (λ p. record p { shown = n }) (λ p is well. record { announced = well.announced; replies = well.replies; names = well.names }) (frames_shown q n) refl refl refl refl
+    sound_change (frame_taken q) fits = by_peer q (λ p. record p { shown = p.shown - 1 }) (λ p is well. record { announced = well.announced; replies = well.replies; names = well.names }) (frame_taken q) refl refl refl refl
+    sound_change (buffer_used q) fits = by_peer q (λ p. record p { free = p.free - 1 }) (λ p is well. record { announced = well.announced; replies = well.replies; names = well.names }) (buffer_used q) refl refl refl refl
+    sound_change (names_known q ks) fits = by_peer q (λ p. record p { known = ks })
         (λ p is well. record { announced = well.announced; replies = well.replies; names = subst (λ n. Names_of n ks) (sym (eqb-true p.number q is)) fits }) (names_known q ks) refl refl refl refl
     sound_change (request_added asked o) fits = by_requests (s.requests ++ record { serial = s.requests_given; asked = asked; outcome = o } ∷ []) (request_added asked o) refl refl refl refl (all-append (λ (r : Request). IsPlain r.asked) s.requests (record { serial = s.requests_given; asked = asked; outcome = o } ∷ []) sound.plain (fits, tt))
     sound_change (item_handed a i) fits = by_requests (handed_in (endpoint_of s a) i s.requests) (item_handed a i) refl refl refl refl (plain_handed (endpoint_of s a) i s.requests sound.plain)

@@ -9,7 +9,6 @@ use Rattle.board_model.specs.declared.scenario.DomainLine.{DomainLine}
 use Rattle.board_model.specs.declared.scenario.Scenario.{Scenario}
 use Rattle.board_model.specs.Scenario.{Neighbour, Lane, lane_to, lanes, neighbours, rising}
 use Rattle.board_model.specs.LinkedBoard.{IsLinkedBoard}
-use Rattle.board_model.specs.Honesty.{IsMade}
 use Rattle.board_model.specs.Traffic.{put_to, taken_from}
 use Rattle.board_model.specs.Run.{IsDomainRun}
 use Rattle.board_model.specs.Board.{DomainJournal, journal_in, journal_of, LaneFits, IsBoardRun}
@@ -24,11 +23,12 @@ use Rattle.board_model.proofs.MessageAlls.{all-found, all-weaken}
 use Rattle.board_model.proofs.MessageOnce.{total, total-each, total-same, total-sum, total-map, total-joined, count-joined}
 use Rattle.board_model.proofs.MessageNeighbours.{over_lanes, lanes-turned}
 use Rattle.board_model.proofs.PlaceBoards.{neighbours_differ}
+use Rattle.board_model.proofs.OrderLaws.{all_succeed}
 use Rattle.board_model.proofs.OrderSerials.{Serials}
 use Rattle.board_model.proofs.HonestRuns.{anything, sound_opening}
 use Rattle.board_model.proofs.HonestBoard.{made_at, may_know, OnBoard, each_on_board}
 use Rattle.board_model.proofs.KeptDeeds.{brought_by}
-use Rattle.board_model.proofs.KeptRuns.{gives_in, run_balanced}
+use Rattle.board_model.proofs.KeptRuns.{run_balanced}
 use Rattle.board_model.proofs.KeptLanes.{passing, passing-append, run_brings}
 use Rattle.board_model.proofs.KeptSends.{CanReach, run_sends}
 use Rattle.board_model.proofs.KeptTells.{numbers_of, after_run}
@@ -109,8 +109,8 @@ module _ (s : Scenario) (js : List DomainJournal) (board : IsLinkedBoard s) (run
     journal_kept : (j : DomainJournal) → Placed j → kept_by j ≡ brought j
     journal_kept j on =
         let made : ℕ = (left_in s j).endpoints_given in
-        let few : gives_in (deeds_of s j) < 2 ^ 32 = on.deeds.few in
-        let serials : Serials (gives_in (deeds_of s j)) (opened s j) = record { differ = tt; below = tt; small = omega arith } in
+        let few : all_succeed (deeds_of s j) + 1 < 2 ^ 64 = on.deeds.few in
+        let serials : Serials (all_succeed (deeds_of s j)) (opened s j) = record { differ = tt; below = tt; small = omega arith } in
         let balance = run_balanced j.line.domain test made (numbers_of s j.line) (opened s j) (deeds_of s j) on.told.run.may (omega arith) (sound_opening made anything j.line.domain j.line.nodes (neighbours s j.line)) serials in
         omega (arith, balance)
 

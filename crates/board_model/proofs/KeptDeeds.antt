@@ -1,42 +1,41 @@
 -- The items of one domain are kept: what its frames bring is taken or dropped, or is queued, deed by deed.
 use Rattle.std.proofs.Common.{◌≡◌, ℕ, ◌+◌, Bool, true, false, cond, List, [], ◌∷◌, ◌++◌, map, find, Option, Some, None, option_to_list, refl, sym, ap, ◌∙◌, subst, arith}
-use Rattle.std.specs.Prelude.{count_by, is_none, is_some, option_map, ◌==◌, ◌&&◌, ◌||◌, nat_le, length}
-use Rattle.std.specs.List.{AllByRecursion, list_any, flat_map}
-use Rattle.std.proofs.lemmas.Bool.{eqb-true, eq-eqb, and_parts, cond_both}
+use Rattle.std.specs.Prelude.{count_by, is_none, is_some, option_map, ◌==◌, ◌&&◌, ◌||◌}
+use Rattle.std.specs.List.{list_any}
+use Rattle.std.proofs.lemmas.Bool.{eqb-true, eq-eqb, and_parts}
 use Rattle.std.proofs.lemmas.List.{append-nil}
 use Rattle.mc_base.specs.Letter.{PlainLetter, msg, connect, accept, reject, recv_open, send_open, packet, scalar, send_close, recv_close}
-use Rattle.mc_base.specs.NameMap.{Names, names_limit, learned, forgotten, address_in}
 use Rattle.mc_base.specs.FullName.{endpoint_named}
 use Rattle.mc_base.specs.Reading.{Reading, is_faulty, announces, says, reading}
 use Rattle.mc_base.specs.declared.name.Local.{Local}
 use Rattle.mc_base.specs.declared.name.EndName.{EndName}
 use Rattle.mc_base.specs.declared.refusal.Refusal.{Refusal}
-use Rattle.mc_base.specs.declared.refusal.Refusal.TheVariants.{EndpInvalid, Empty}
+use Rattle.mc_base.specs.declared.refusal.Refusal.TheVariants.{EndpInvalid}
 use Rattle.mc_base.specs.declared.fate.Fate.{Fate}
 use Rattle.mc_base.specs.declared.fate.Fate.TheVariants as fate
 use Rattle.board_model.specs.Lists.{without}
 use Rattle.board_model.specs.Choice.{best}
 use Rattle.board_model.specs.DomainCall.{DomainCall, create_at, delete_at, lookup_of, send_from, receive_at, request_at, available_at, test_of, cancel_of, turn_alone}
 use Rattle.board_model.specs.Journal.{PlainAnswer, refuses, agrees, tells, gives, completes}
-use Rattle.board_model.specs.State.{Item, Endpoint, Asked, name_of, channel_of, message_at, packet_at, Outcome, has_address, has_item, has_ended, Request, DomainState, is_at, has_address_of, live_at, endpoint_at, endpoint_of, queue_at, queue_in, one_waits, oldest_waiting, receives_at, waits_at, peer_at}
-use Rattle.board_model.specs.Change.{Change, names_known, name_found, item_handed, item_queued, frame_taken, endpoint_gone, best_gone, request_added, waiting_ended, end_announced, endpoint_with, all_done, done_with, asks_for, handed_in, ended_in, with_queue, at_address, changed, changed_all}
+use Rattle.board_model.specs.State.{Item, Endpoint, Asked, name_of, channel_of, message_at, packet_at, has_address, has_item, has_ended, Request, DomainState, is_at, has_address_of, live_at, endpoint_at, endpoint_of, queue_at, queue_in, one_waits, oldest_waiting, receives_at, waits_at, peer_at}
+use Rattle.board_model.specs.Change.{item_handed, item_queued, frame_taken, endpoint_gone, best_gone, request_added, waiting_ended, end_announced, endpoint_with, all_done, done_with, asks_for, handed_in, ended_in, with_queue, at_address, changed_all}
 use Rattle.board_model.specs.Dealing.{names_of}
-use Rattle.board_model.specs.TakenFrames.{Row, row, name_rows, letter_rows, message_item, first_row, row_of}
+use Rattle.board_model.specs.TakenFrames.{row, letter_rows, message_item, first_row, row_of}
 use Rattle.board_model.specs.Answer.{local, address_of, given, refusal, success, answer_by, unless_refused}
 use Rattle.board_model.specs.CallChanges.{at_live, best_item, success_changes}
 use Rattle.board_model.specs.Deeds.{Deed, looks_back, puts_owed, looks_ahead, takes, calls, after_deed, MayDo}
 use Rattle.board_model.specs.Messages.{Message, message_of, said_by, queued_at}
 use Rattle.board_model.specs.Drops.{drops, dropped_by}
-use Rattle.board_model.specs.Takings.{Taking, taking, answered_by, asked_address, takings_by, taken_message}
+use Rattle.board_model.specs.Takings.{Taking, taking, answered_by, asked_address, takings_by}
 use Rattle.board_model.proofs.ListsCounts.{count-cons}
 use Rattle.board_model.proofs.MessageAlls.{all-found, found-passes}
 use Rattle.board_model.proofs.MessageLists.{get-position}
-use Rattle.board_model.proofs.MessageNames.{Apart, found_by, each-found}
+use Rattle.board_model.proofs.MessageNames.{found_by, each-found}
 use Rattle.board_model.proofs.OrderSerials.{Serials}
 use Rattle.board_model.proofs.OrderTakings.{taken_of, all_old, none_taken, old_mapped, old_done, old_without, handed_takes, waiter_takes, added_takes, given_takes}
-use Rattle.board_model.proofs.HonestSound.{Own, own, IsPlain, Sound}
+use Rattle.board_model.proofs.HonestSound.{own, IsPlain, Sound}
 use Rattle.board_model.proofs.HonestDeeds.{by_names}
-use Rattle.board_model.proofs.KeptItems.{weight, weight_of, took, best_weight, weight-queued, weight-best, weight-made, weight-gone}
+use Rattle.board_model.proofs.KeptItems.{weight, took, best_weight, weight-queued, weight-best, weight-made, weight-gone}
 
 -- the messages of the frames that a deed takes
 abbrev pub brought_by : ℕ → DomainState → Deed → List Message

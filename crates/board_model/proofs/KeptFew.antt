@@ -1,5 +1,5 @@
 -- No more messages are accepted than there are lines of calls.
-use Rattle.std.proofs.Common.{◌≡◌, ℕ, ◌+◌, ◌≤◌, Bool, true, false, cond, List, [], ◌∷◌, ◌++◌, length, map, filter, Option, Some, None, refl, sym, ap, ◌∙◌, arith}
+use Rattle.std.proofs.Common.{◌≡◌, ℕ, ◌+◌, ◌≤◌, Bool, true, false, cond, List, [], ◌∷◌, length, map, filter, Option, Some, None, refl, sym, ap, ◌∙◌, arith}
 use Rattle.std.specs.Prelude.{◌==◌}
 use Rattle.std.specs.List.{AllByRecursion}
 use Rattle.std.proofs.lemmas.List.{length-append}
@@ -10,10 +10,10 @@ use Rattle.board_model.specs.declared.scenario.DomainLine.{DomainLine}
 use Rattle.board_model.specs.declared.scenario.Scenario.{Scenario}
 use Rattle.board_model.specs.Scenario.{script, rising}
 use Rattle.board_model.specs.LinkedBoard.{Differ, IsLinkedBoard}
-use Rattle.board_model.specs.DomainCall.{DomainCall, create_at, delete_at, lookup_of, send_from, receive_at, request_at, available_at, test_of, cancel_of, turn_alone}
+use Rattle.board_model.specs.DomainCall.{create_at, delete_at, lookup_of, send_from, receive_at, request_at, available_at, test_of, cancel_of, turn_alone}
 use Rattle.board_model.specs.Journal.{PlainAnswer, refuses, agrees, tells, gives, completes}
 use Rattle.board_model.specs.State.{Endpoint, DomainState, live_at}
-use Rattle.board_model.specs.Answer.{local, address_of}
+use Rattle.board_model.specs.Answer.{local}
 use Rattle.board_model.specs.CallChanges.{at_live}
 use Rattle.board_model.specs.Run.{start, left_by, IsDomainRun}
 use Rattle.board_model.specs.Board.{DomainJournal, IsBoardRun}
@@ -23,8 +23,10 @@ use Rattle.board_model.specs.Messages.{Message, accepted_by, accepted_in, accept
 use Rattle.board_model.proofs.MessageAlls.{all-weaken}
 use Rattle.board_model.proofs.MessageOnce.{total, total-map, total-zero, times, differ-few, length-joined}
 use Rattle.board_model.proofs.PlaceBoards.{rising_differ}
-use Rattle.board_model.proofs.KeptRuns.{gives_by, gives_in}
-use Rattle.board_model.proofs.KeptTells.{allowed_all, gives_along}
+use Rattle.board_model.proofs.BridgeRuns.{allowed-all}
+use Rattle.board_model.proofs.OrderCalls.{succeeds}
+use Rattle.board_model.proofs.OrderLaws.{all_succeed}
+use Rattle.board_model.proofs.OrderRuns.{few_left}
 
 -- ---- one script: each message was accepted by a call that is not refused
 
@@ -32,14 +34,14 @@ one_message : (x : Option Endpoint) (f : Endpoint → Message) → length (at_li
 one_message None f = omega arith
 one_message (Some e) f = omega arith
 
-send_few : (d : ℕ) (s : DomainState) (node port : ℕ) (to : EndName) (priority : ℕ) (bytes : List ℕ) (a : PlainAnswer) → length (accepted_by d s (calls node (send_from port to priority bytes) a)) ≤ gives_by (calls node (send_from port to priority bytes) a)
+send_few : (d : ℕ) (s : DomainState) (node port : ℕ) (to : EndName) (priority : ℕ) (bytes : List ℕ) (a : PlainAnswer) → length (accepted_by d s (calls node (send_from port to priority bytes) a)) ≤ succeeds (calls node (send_from port to priority bytes) a)
 send_few d s node port to priority bytes agrees = one_message (live_at s (local node port)) _
 send_few d s node port to priority bytes (refuses w) = omega arith
 send_few d s node port to priority bytes (tells n) = omega arith
 send_few d s node port to priority bytes (gives size got) = omega arith
 send_few d s node port to priority bytes (completes x) = omega arith
 
-deed_few : (d : ℕ) (s : DomainState) (e : Deed) → length (accepted_by d s e) ≤ gives_by e
+deed_few : (d : ℕ) (s : DomainState) (e : Deed) → length (accepted_by d s e) ≤ succeeds e
 deed_few d s (calls node (send_from port to priority bytes) a) = send_few d s node port to priority bytes a
 deed_few d s (calls node (create_at port) a) = omega arith
 deed_few d s (calls node (delete_at port) a) = omega arith
@@ -55,14 +57,14 @@ deed_few d s (puts_owed q f) = omega arith
 deed_few d s (looks_ahead q n) = omega arith
 deed_few d s (takes q name f w) = omega arith
 
-deeds_few : (d : ℕ) (s : DomainState) (ds : List Deed) → length (along (accepted_by d) s ds) ≤ gives_in ds
+deeds_few : (d : ℕ) (s : DomainState) (ds : List Deed) → length (along (accepted_by d) s ds) ≤ all_succeed ds
 deeds_few d s [] = omega arith
 deeds_few d s (e ∷ ds) = omega (arith, length-append (accepted_by d s e) (along (accepted_by d) (after_deed s e) ds), deed_few d s e, deeds_few d (after_deed s e) ds)
 
 journal_few : (s : Scenario) (j : DomainJournal) → IsDomainRun s j.line j.entries → length (accepted_in s j) ≤ length (script s j.line.domain)
 journal_few s j run =
     let lines : List CallLine = script s j.line.domain in
-    omega (arith, deeds_few j.line.domain (opened s j) (deeds_of s j), gives_along lines [] (start s j.line) j.entries (allowed_all lines (start s j.line) (left_by s j.line j.entries) j.entries run.steps) (omega arith))
+    omega (arith, deeds_few j.line.domain (opened s j) (deeds_of s j), few_left lines [] (start s j.line) j.entries (allowed-all lines (start s j.line) (left_by s j.line j.entries) j.entries run.steps) (omega arith))
 
 -- ---- all scripts
 

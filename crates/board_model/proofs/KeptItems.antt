@@ -1,10 +1,10 @@
 -- How many of the messages that are queued at the endpoints of a domain pass a test, change by change.
-use Rattle.std.proofs.Common.{◌≡◌, ℕ, ◌+◌, ◌≤◌, ◌<◌, Bool, true, false, not, cond, List, [], ◌∷◌, ◌++◌, map, filter, find, Option, Some, None, option_to_list, refl, sym, ap, ◌∙◌, subst, arith}
+use Rattle.std.proofs.Common.{◌≡◌, ℕ, ◌+◌, ◌≤◌, ◌<◌, Bool, true, false, not, cond, List, [], ◌∷◌, ◌++◌, map, filter, find, Option, Some, None, option_to_list, refl, ap, ◌∙◌, arith}
 use Rattle.std.specs.Prelude.{count_by, ◌==◌}
 use Rattle.std.specs.List.{flat_map}
-use Rattle.std.proofs.lemmas.Bool.{eqb-true, eq-eqb, ne_eqb, cases_Bool, cond_both}
+use Rattle.std.proofs.lemmas.Bool.{eqb-true, ne_eqb}
 use Rattle.std.proofs.lemmas.List.{map-append}
-use Rattle.board_model.specs.Choice.{best, without_best}
+use Rattle.board_model.specs.Choice.{without_best}
 use Rattle.board_model.specs.State.{Item, Endpoint, has_address_of}
 use Rattle.board_model.specs.Change.{with_queue, at_address}
 use Rattle.board_model.specs.CallChanges.{best_item}
@@ -13,7 +13,7 @@ use Rattle.board_model.specs.Takings.{Taking, taken_message}
 use Rattle.board_model.proofs.ListsCounts.{one_if, count-cons, count-append}
 use Rattle.board_model.proofs.MessageBest.{count-best}
 use Rattle.board_model.proofs.MessageVisitLines.{count-map}
-use Rattle.board_model.proofs.HonestSound.{Rise}
+use Rattle.board_model.proofs.OrderSound.{Rise}
 
 module _ (r : ℕ) (test : Message → Bool) where
   -- of the queues of endpoints, and of one

@@ -1,37 +1,20 @@
 -- Lane by lane: what the frames that a domain puts say is what its sends had accepted, and what the frames that it takes say is what
 -- they bring.
-use Rattle.std.proofs.Common.{◌≡◌, ℕ, ◌+◌, ◌≤◌, ◌<◌, ◌^◌, Bool, true, false, not, cond, List, [], ◌∷◌, ◌++◌, map, find, length, Option, Some, None, refl, sym, ap, ap₂, ◌∙◌, subst, arith}
-use Rattle.std.specs.Prelude.{count_by, is_some, option_map, unwrap_or, ◌==◌}
+use Rattle.std.proofs.Common.{◌≡◌, ℕ, ◌+◌, Bool, true, false, cond, List, [], ◌∷◌, ◌++◌, map, find, Option, Some, None, refl, sym, ap, ◌∙◌, subst, arith}
+use Rattle.std.specs.Prelude.{count_by, is_some, ◌==◌}
 use Rattle.std.specs.List.{AllByRecursion, flat_map}
-use Rattle.std.proofs.lemmas.Bool.{eqb-true, eq-eqb, ne_eqb, ltb-false}
+use Rattle.std.proofs.lemmas.Bool.{eqb-true, eq-eqb, ne_eqb}
 use Rattle.std.proofs.lemmas.List.{append-nil}
-use Rattle.mc_base.specs.Limits.{creation_limit, item_size}
-use Rattle.mc_base.specs.Frame.{made}
-use Rattle.mc_base.specs.Letter.{msg, spelling}
-use Rattle.mc_base.specs.NameMap.{Names, has_name, address_in}
-use Rattle.mc_base.specs.Reading.{Reading, says, reading}
-use Rattle.mc_base.specs.declared.name.Local.{Local}
-use Rattle.mc_base.specs.declared.name.EndName.{EndName}
-use Rattle.mc_base.specs.declared.refusal.Refusal.{Refusal}
+use Rattle.mc_base.specs.Reading.{reading}
 use Rattle.board_model.specs.LinkedBoard.{Differ}
-use Rattle.board_model.specs.DomainCall.{DomainCall, create_at, delete_at, lookup_of, send_from, receive_at, request_at, available_at, test_of, cancel_of, turn_alone}
-use Rattle.board_model.specs.Journal.{PlainAnswer, refuses, agrees}
-use Rattle.board_model.specs.State.{Endpoint, Peer, DomainState, is_at, endpoint_at, live_at, peer_of, is_numbered}
-use Rattle.board_model.specs.Answer.{local, known_address, address_of, holds, words_of, refusal, success, answer_by, success_puts, unless_refused}
-use Rattle.board_model.specs.CallChanges.{at_live}
-use Rattle.board_model.specs.Deeds.{Deed, looks_back, puts_owed, looks_ahead, takes, calls, happens_by, after_deed, after_deeds, MayDo, AllMayDo, along}
-use Rattle.board_model.specs.Messages.{Message, said_by, messages_in, accepted_by}
-use Rattle.board_model.proofs.DeedRuns.{frames_if, frames_to, puts_by, takes_by}
+use Rattle.board_model.specs.State.{Peer, DomainState, is_numbered}
+use Rattle.board_model.specs.Deeds.{Deed, looks_back, puts_owed, looks_ahead, takes, calls, after_deed, along}
+use Rattle.board_model.specs.Messages.{Message, said_by, messages_in}
+use Rattle.board_model.proofs.DeedRuns.{frames_if, takes_by}
 use Rattle.board_model.proofs.ListsApart.{all-unmap}
 use Rattle.board_model.proofs.ListsCounts.{count-append}
-use Rattle.board_model.proofs.MessageAlls.{none-passes, all-found, all-with, found-passes}
-use Rattle.board_model.proofs.MessageLists.{get-position, some-position}
-use Rattle.board_model.proofs.MessageCanSend.{send-found}
-use Rattle.board_model.proofs.MessageOnce.{total, total-same, total-zero, total-sum, times, only, total-once}
-use Rattle.board_model.proofs.HonestReads.{letter_back}
-use Rattle.board_model.proofs.HonestSound.{Own, own, PeerSound, Sound}
-use Rattle.board_model.proofs.HonestDeeds.{NoWord, HearsDeed, OwedWell, owed_well, sound_deed}
-use Rattle.board_model.proofs.HonestRuns.{given_deeds}
+use Rattle.board_model.proofs.MessageAlls.{all-found, all-with, found-passes}
+use Rattle.board_model.proofs.MessageOnce.{total, total-same, total-zero, total-sum, times, total-once, one_off, one_on, none_same}
 use Rattle.board_model.proofs.KeptDeeds.{brought_by}
 
 -- ---- numbers that come once
@@ -39,23 +22,11 @@ use Rattle.board_model.proofs.KeptDeeds.{brought_by}
 abbrev pub IsOnce : List ℕ → ℕ → Type 0
 IsOnce ns n = times (λ m. m) n ns ≡ 1
 
-count_on : (b : Bool) (k : ℕ) → b ≡ true → k ≡ 0 → cond b 1 0 + k ≡ 1
-count_on true k is none = omega arith
-count_on false k is none = absurd cc
-
-count_off : (b : Bool) (k m : ℕ) → b ≡ false → k ≡ m → cond b 1 0 + k ≡ m
-count_off true k m is rest = absurd cc
-count_off false k m is rest = omega arith
-
-not_among : (n : ℕ) (ns : List ℕ) → AllByRecursion (λ m. m ≡ n → ⊥) ns → times (λ m. m) n ns ≡ 0
-not_among n [] all = refl
-not_among n (m ∷ ms) all = count_off (n == m) (times (λ k. k) n ms) 0 (ne_eqb n m (λ same. all.0 (sym same))) (not_among n ms all.1)
-
 pub each_once : (ns : List ℕ) → Differ ns → AllByRecursion (IsOnce ns) ns
 each_once [] differ = tt
 each_once (n ∷ ns) differ = (
-  count_on (n == n) (times (λ k. k) n ns) (eq-eqb n n refl) (not_among n ns differ.0),
-  all-with (λ m. m ≡ n → ⊥) (IsOnce ns) (IsOnce (n ∷ ns)) (λ m other once. count_off (m == n) (times (λ k. k) m ns) 1 (ne_eqb m n (λ same. other same)) once) ns differ.0 (each_once ns differ.1),
+  one_on (n == n) (times (λ k. k) n ns) (eq-eqb n n refl) (none_same n ns differ.0),
+  all-with (λ m. m ≡ n → ⊥) (IsOnce ns) (IsOnce (n ∷ ns)) (λ m other once. one_off (m == n) (times (λ k. k) m ns) (ne_eqb m n (λ same. other same)) ∙ once) ns differ.0 (each_once ns differ.1),
 )
 
 pub peer_once : (ns : List ℕ) (q : ℕ) (ps : List Peer) → Differ ns → map (λ p. p.number) ps ≡ ns → is_some (find (is_numbered q) ps) ≡ true → IsOnce ns q

@@ -1,28 +1,16 @@
 -- What the lines of a journal tell of messages: those that it put, those of the frames that it took, and those that it dropped.
-use Rattle.std.proofs.Common.{◌≡◌, ◌⊎◌, inl, inr, ℕ, ◌+◌, ◌-◌, Bool, true, false, not, ◌&&◌, cond, List, [], ◌∷◌, ◌++◌, map, length, Option, Some, None, refl, sym, ap, ◌∙◌, subst, arith, sum_by}
-use Rattle.std.specs.Prelude.{count_by, slice_get, slice_index, is_none, ◌==◌}
-use Rattle.std.specs.List.{AllByRecursion, flat_map}
-use Rattle.std.proofs.lemmas.Bool.{cond_both, eqb-true, eq-eqb}
-use Rattle.std.proofs.lemmas.List.Sums.{sum_by-cons}
+use Rattle.std.proofs.Common.{◌≡◌, ℕ, Bool, true, false, not, ◌&&◌, cond, List, [], ◌∷◌, Option, Some, None, refl, arith}
+use Rattle.std.specs.Prelude.{count_by, slice_index, is_none, ◌==◌}
 use Rattle.mc_base.specs.Limits.{name_service_address}
 use Rattle.mc_base.specs.Frame.{destination_of, source_of, payload_of}
 use Rattle.mc_base.specs.Fault.{fault}
 use Rattle.mc_base.specs.LetterFaults.{fields_in}
 use Rattle.mc_base.specs.Letter.{PlainLetter, Fields, msg, connect, accept, reject, recv_open, send_open, packet, scalar, send_close, recv_close}
 use Rattle.mc_base.specs.Bytes.{number_at}
-use Rattle.mc_base.specs.Reading.{Reading, is_faulty, announces, says, reading, reading_by, announced_in, letter_of, kind_numbered, reason_numbered, bits_of_bytes}
+use Rattle.mc_base.specs.Reading.{Reading, says, reading, reading_by, announced_in, letter_of, kind_numbered, reason_numbered, bits_of_bytes}
 use Rattle.mc_base.specs.declared.fault.Fault.{Fault}
-use Rattle.mc_base.specs.declared.fate.Fate.{Fate}
-use Rattle.board_model.specs.declared.scenario.Call.{Call}
-use Rattle.board_model.specs.declared.scenario.Call.TheVariants.{Create, Delete, Lookup, MsgSend, MsgRecv, MsgRecvI, MsgAvailable, Test, Cancel, Turn}
-use Rattle.board_model.specs.declared.scenario.CallLine.{CallLine}
-use Rattle.board_model.specs.Journal.{PlainEntry, turned, put, again, called, PlainAnswer, refuses, agrees, tells, gives, completes, Visit, Taken, Line, put_line, taken_line, take_line, call_line, back_line, see_line, turn_line, looked, visit_lines}
-use Rattle.board_model.specs.State.{DomainState, Endpoint, live_at, endpoint_at, is_at, queue_in, queue_at}
-use Rattle.board_model.specs.Labels.{Labelled, call_of}
 use Rattle.board_model.specs.Messages.{Message, said_by, messages_in, carries_message}
-use Rattle.board_model.specs.Tallies.{is_sent_line, is_brought_line, is_lost_line}
 use Rattle.board_model.proofs.ListsCounts.{one_if, count-cons, count-append}
-use Rattle.board_model.proofs.KeptLanes.{passing}
 
 -- ---- whether a frame says a message, by its bytes
 

@@ -1,27 +1,27 @@
 -- On a board of linked domains the lines of the journals tell how many messages were accepted and dropped, and are in the ring.
 -- Those that were taken are the rest.
-use Rattle.std.proofs.Common.{◌≡◌, ℕ, ◌+◌, ◌-◌, ◌≤◌, Bool, true, List, [], ◌∷◌, length, map, sum_by, refl, sym, ap, ◌∙◌, subst, arith}
+use Rattle.std.proofs.Common.{◌≡◌, ℕ, ◌+◌, ◌-◌, ◌≤◌, List, [], ◌∷◌, length, map, sum_by, refl, sym, ap, ◌∙◌, subst, arith}
 use Rattle.std.specs.Prelude.{count_by}
-use Rattle.std.specs.List.{AllByRecursion, flat_map}
+use Rattle.std.specs.List.{flat_map}
 use Rattle.std.proofs.lemmas.List.{length-append, length-map}
 use Rattle.board_model.specs.declared.scenario.Scenario.{Scenario}
-use Rattle.board_model.specs.Scenario.{Neighbour, script, neighbours}
+use Rattle.board_model.specs.Scenario.{script, neighbours}
 use Rattle.board_model.specs.LinkedBoard.{IsLinkedBoard}
 use Rattle.board_model.specs.Journal.{joined}
-use Rattle.board_model.specs.Run.{start, left_by, IsDomainRun}
+use Rattle.board_model.specs.Run.{start, left_by}
 use Rattle.board_model.specs.State.{Endpoint, DomainState, queued_items}
 use Rattle.board_model.specs.Traffic.{put_to}
-use Rattle.board_model.specs.Board.{DomainJournal, journal_of, IsBoardRun}
-use Rattle.board_model.specs.Deeds.{along}
+use Rattle.board_model.specs.Board.{DomainJournal, IsBoardRun}
 use Rattle.board_model.specs.JournalDeeds.{deeds_of, opened, left_in}
 use Rattle.board_model.specs.Messages.{message_of, accepted_in, accepted, queued_at, queued_in, messages_queued, messages_in_ring, carries_message}
 use Rattle.board_model.specs.Drops.{dropped_in, dropped}
 use Rattle.board_model.specs.Takings.{messages_taken}
 use Rattle.board_model.specs.Tallies.{is_sent_line, is_brought_line, is_lost_line, deleted_in}
-use Rattle.board_model.proofs.DeedRuns.{unnamed_item, unnamed_end, puts_by}
+use Rattle.board_model.proofs.BridgeRuns.{AllAllowed, allowed-all}
+use Rattle.board_model.proofs.DeedRuns.{unnamed_item, unnamed_end}
 use Rattle.board_model.proofs.ListsCounts.{count-every}
 use Rattle.board_model.proofs.MessageAlls.{all-weaken}
-use Rattle.board_model.proofs.MessageOnce.{total, total-each, total-same, total-map, length-joined}
+use Rattle.board_model.proofs.MessageOnce.{total, total-each, total-same, length-joined}
 use Rattle.board_model.proofs.PlaceBoards.{neighbours_differ}
 use Rattle.board_model.proofs.HonestRuns.{anything, sound_opening}
 use Rattle.board_model.proofs.HonestBoard.{OnBoard, each_on_board}
@@ -29,7 +29,7 @@ use Rattle.board_model.proofs.KeptBoard.{brought, journal-accepted, accepted-par
 use Rattle.board_model.proofs.KeptLanes.{passing}
 use Rattle.board_model.proofs.KeptLines.{any, said_frames}
 use Rattle.board_model.proofs.KeptSent.{AreOn, run_on, sent-told}
-use Rattle.board_model.proofs.KeptTells.{AllAllowed, allowed_all, numbers_of}
+use Rattle.board_model.proofs.KeptTells.{numbers_of}
 use Rattle.board_model.proofs.KeptTold.{brought-deeds, brought-told, lost-deeds, lost-told}
 
 -- the numbers that lines tell, of one journal and of all
@@ -71,7 +71,7 @@ module _ (s : Scenario) (js : List DomainJournal) (board : IsLinkedBoard s) (run
   Placed j = OnBoard s js board run j
 
   allowed : (j : DomainJournal) → Placed j → AllAllowed (script s j.line.domain) (start s j.line) j.entries
-  allowed j on = allowed_all (script s j.line.domain) (start s j.line) (left_by s j.line j.entries) j.entries on.is_run.steps
+  allowed j on = allowed-all (script s j.line.domain) (start s j.line) (left_by s j.line j.entries) j.entries on.is_run.steps
 
   journal_sent : (j : DomainJournal) → Placed j → length (accepted_in s j) ≡ sent j
   journal_sent j on =

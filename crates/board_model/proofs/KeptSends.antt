@@ -1,15 +1,15 @@
 -- What the frames that a domain puts say is what its sends had accepted, lane by lane: each frame of a send is read back, since the
 -- addresses that a domain has and knows are real.
-use Rattle.std.proofs.Common.{◌≡◌, ℕ, ◌+◌, ◌≤◌, ◌<◌, ◌^◌, Bool, true, false, not, cond, List, [], ◌∷◌, ◌++◌, map, find, length, Option, Some, None, refl, sym, ap, ap₂, ◌∙◌, subst, arith}
+use Rattle.std.proofs.Common.{◌≡◌, ℕ, ◌+◌, ◌≤◌, ◌<◌, ◌^◌, Bool, true, false, not, cond, List, [], ◌∷◌, ◌++◌, find, length, Option, Some, None, refl, sym, ap, ◌∙◌, subst, arith}
 use Rattle.std.specs.Prelude.{count_by, is_some, option_map, unwrap_or, ◌==◌}
-use Rattle.std.specs.List.{AllByRecursion, flat_map}
+use Rattle.std.specs.List.{AllByRecursion}
 use Rattle.std.proofs.lemmas.Bool.{ltb-false}
 use Rattle.std.proofs.lemmas.List.{append-nil}
 use Rattle.mc_base.specs.Limits.{creation_limit, item_size}
 use Rattle.mc_base.specs.Frame.{made}
 use Rattle.mc_base.specs.Letter.{msg, spelling}
 use Rattle.mc_base.specs.NameMap.{Names, has_name, address_in}
-use Rattle.mc_base.specs.Reading.{Reading, says, reading}
+use Rattle.mc_base.specs.Reading.{says, reading}
 use Rattle.mc_base.specs.declared.name.Local.{Local}
 use Rattle.mc_base.specs.declared.name.EndName.{EndName}
 use Rattle.mc_base.specs.declared.refusal.Refusal.{Refusal}
@@ -20,7 +20,7 @@ use Rattle.board_model.specs.State.{Endpoint, Peer, DomainState, is_at, endpoint
 use Rattle.board_model.specs.Answer.{local, known_address, address_of, holds, words_of, refusal, success, answer_by, success_puts, unless_refused}
 use Rattle.board_model.specs.CallChanges.{at_live}
 use Rattle.board_model.specs.Deeds.{Deed, looks_back, puts_owed, looks_ahead, takes, calls, after_deed, after_deeds, MayDo, AllMayDo, along}
-use Rattle.board_model.specs.Messages.{Message, said_by, messages_in, accepted_by}
+use Rattle.board_model.specs.Messages.{Message, said_by, accepted_by}
 use Rattle.board_model.proofs.DeedRuns.{frames_if, frames_to, puts_by}
 use Rattle.board_model.proofs.ListsCounts.{count-append}
 use Rattle.board_model.proofs.MessageAlls.{none-passes, all-found}
@@ -28,10 +28,10 @@ use Rattle.board_model.proofs.MessageLists.{get-position, some-position}
 use Rattle.board_model.proofs.MessageCanSend.{send-found}
 use Rattle.board_model.proofs.MessageOnce.{total, total-same, total-zero, total-sum}
 use Rattle.board_model.proofs.HonestReads.{letter_back}
-use Rattle.board_model.proofs.HonestSound.{Own, own, PeerSound, Sound}
+use Rattle.board_model.proofs.HonestSound.{own, PeerSound, Sound}
 use Rattle.board_model.proofs.HonestDeeds.{NoWord, HearsDeed, OwedWell, owed_well, sound_deed}
 use Rattle.board_model.proofs.HonestRuns.{given_deeds}
-use Rattle.board_model.proofs.KeptLanes.{IsOnce, peer_once, passing, passing-append, one_frame, said_alone, lane_once}
+use Rattle.board_model.proofs.KeptLanes.{peer_once, passing, passing-append, one_frame, said_alone, lane_once}
 
 -- a call as a lawful scenario has it
 abbrev pub FitsDeed : Deed → Type 0

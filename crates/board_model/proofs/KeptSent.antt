@@ -1,13 +1,12 @@
 -- What the lines of a journal tell of the messages that its frames put: each frame is put to a neighbour, so the lines are counted lane
 -- by lane.
-use Rattle.std.proofs.Common.{◌≡◌, ◌⊎◌, inl, inr, ℕ, ◌+◌, ◌≤◌, Bool, true, false, cond, List, [], ◌∷◌, ◌++◌, map, find, Option, Some, None, refl, sym, ap, ◌∙◌, subst, arith}
+use Rattle.std.proofs.Common.{◌≡◌, ◌⊎◌, inl, inr, ℕ, ◌+◌, ◌≤◌, Bool, true, false, cond, List, [], ◌∷◌, ◌++◌, refl, sym, ap, ◌∙◌, subst, arith}
 use Rattle.std.specs.Prelude.{count_by, is_some, ◌==◌}
 use Rattle.std.specs.List.{AllByRecursion, flat_map}
-use Rattle.std.proofs.lemmas.Bool.{eqb-true, eq-eqb, cases_Bool}
+use Rattle.std.proofs.lemmas.Bool.{eqb-true, eq-eqb}
 use Rattle.board_model.specs.LinkedBoard.{Differ}
-use Rattle.board_model.specs.Journal.{PlainEntry, turned, put, again, called, Visit, Taken, turn_line, put_line, back_line, see_line, taken_line, visit_lines, joined}
-use Rattle.board_model.specs.State.{Peer, DomainState, is_numbered, peer_at}
-use Rattle.board_model.specs.DomainCall.{DomainCall}
+use Rattle.board_model.specs.Journal.{PlainEntry, turned, put, again, called, Visit, turn_line, taken_line, visit_lines, joined}
+use Rattle.board_model.specs.State.{DomainState}
 use Rattle.board_model.specs.Answer.{puts}
 use Rattle.board_model.specs.Deeds.{Deed, looks_back, puts_owed, looks_ahead, takes, calls, after_deed, after_deeds, MayDo, AllMayDo, along}
 use Rattle.board_model.specs.Traffic.{visits_to, puts_in, put_to}

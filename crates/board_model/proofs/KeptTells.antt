@@ -1,34 +1,34 @@
 -- What the runs of domains tell of deeds, as the laws of boards take it; and which deeds a journal tells of: calls as the scenario has
--- them, few that give a request, and frames taken from neighbours alone.
-use Rattle.std.proofs.Common.{◌≡◌, ℕ, ◌+◌, ◌≤◌, ◌<◌, ◌^◌, Bool, true, false, cond, List, [], ◌∷◌, ◌++◌, map, filter, length, Option, Some, None, refl, sym, ap, ◌∙◌, subst, arith, append_assoc}
+-- them, few that succeed, and frames taken from neighbours alone.
+use Rattle.std.proofs.Common.{◌≡◌, ℕ, ◌+◌, ◌<◌, ◌^◌, List, [], ◌∷◌, ◌++◌, map, length, Option, Some, None, refl, sym, ap, ◌∙◌, subst, arith, append_assoc}
 use Rattle.std.specs.Prelude.{◌==◌}
 use Rattle.std.specs.List.{AllByRecursion, flat_map}
-use Rattle.std.proofs.lemmas.Bool.{cond_both}
-use Rattle.std.proofs.lemmas.Option.{slice_get_within}
 use Rattle.board_model.specs.declared.scenario.Call.{Call}
 use Rattle.board_model.specs.declared.scenario.Call.TheVariants.{Create, Delete, Lookup, MsgSend, MsgRecv, MsgRecvI, MsgAvailable, Test, Cancel, Turn}
 use Rattle.board_model.specs.declared.scenario.CallLine.{CallLine}
 use Rattle.board_model.specs.declared.scenario.DomainLine.{DomainLine}
 use Rattle.board_model.specs.declared.scenario.Scenario.{Scenario}
-use Rattle.board_model.specs.Scenario.{script, Neighbour, neighbours}
-use Rattle.board_model.specs.LinkedBoard.{Differ, HasFitArguments, IsLinkedBoard}
-use Rattle.board_model.specs.Journal.{PlainEntry, turned, put, again, called, PlainAnswer, refuses, agrees, tells, gives, completes, Visit, Taken}
+use Rattle.board_model.specs.Scenario.{script, neighbours}
+use Rattle.board_model.specs.LinkedBoard.{HasFitArguments, IsLinkedBoard}
+use Rattle.board_model.specs.Journal.{PlainEntry, turned, put, again, called, PlainAnswer, refuses, Visit, Taken}
 use Rattle.board_model.specs.State.{DomainState}
 use Rattle.board_model.specs.Labels.{Labelled, call_of}
-use Rattle.board_model.specs.Step.{RunState, Allowed, next_line, call_at, after}
+use Rattle.board_model.specs.Step.{RunState, Allowed, next_line, after}
 use Rattle.board_model.specs.Run.{start, Leads, after_all, left_by, IsDomainRun}
 use Rattle.board_model.specs.Traffic.{put_to, taken_from}
 use Rattle.board_model.specs.Board.{DomainJournal}
 use Rattle.board_model.specs.Deeds.{Deed, looks_back, puts_owed, looks_ahead, takes, calls, along}
 use Rattle.board_model.specs.JournalDeeds.{takes_named, visit_deeds, call_deeds, entry_deeds, deeds_along, deeds_of, opened, left_in}
 use Rattle.board_model.proofs.DeedRuns.{IsDeedRun, puts_by, takes_by, unnamed}
-use Rattle.board_model.proofs.BridgeRuns.{deeds_run, state_is, puts_are, takes_are}
+use Rattle.board_model.proofs.BridgeFronts.{allowed-front}
+use Rattle.board_model.proofs.BridgeRuns.{AllAllowed, allowed-all, deeds_run, state_is, puts_are, takes_are}
 use Rattle.board_model.proofs.ListsApart.{all-unmap}
 use Rattle.board_model.proofs.MessageAlls.{all-at, all-append, all-filter}
+use Rattle.board_model.proofs.OrderLaws.{all_succeed}
+use Rattle.board_model.proofs.OrderRuns.{few}
 use Rattle.board_model.proofs.PlaceBoards.{neighbours_differ}
 use Rattle.board_model.proofs.HonestSound.{Sound}
 use Rattle.board_model.proofs.HonestRuns.{anything, hears_anything, sound_opening, sound_deeds}
-use Rattle.board_model.proofs.KeptRuns.{gives_by, gives_in}
 use Rattle.board_model.proofs.KeptLanes.{IsOnce, IsFrom, each_once}
 use Rattle.board_model.proofs.KeptSends.{FitsDeed}
 
@@ -44,21 +44,9 @@ tells_deeds s j board run = record { run = deeds_run s j board run; state = stat
 
 -- ---- entries that are allowed
 
-abbrev pub AllAllowed : List CallLine → RunState → List PlainEntry → Type 0
-AllAllowed lines r [] = Unit {0}
-AllAllowed lines r (e ∷ es) = Allowed lines r e × AllAllowed lines (after lines r e) es
-
-pub allowed_all : (lines : List CallLine) (r to : RunState) (es : List PlainEntry) → Leads lines r es to → AllAllowed lines r es
-allowed_all lines r to [] leads = tt
-allowed_all lines r to (e ∷ es) leads = (leads.1.allowed, allowed_all lines (after lines r e) to es (subst (λ (n : RunState). Leads lines n es to) leads.1.leads leads.2))
-
 leads_all : (lines : List CallLine) (r : RunState) (es : List PlainEntry) → AllAllowed lines r es → Leads lines r es (after_all lines r es)
 leads_all lines r [] allowed = refl
 leads_all lines r (e ∷ es) allowed = (after lines r e, record { allowed = allowed.0; leads = refl }, leads_all lines (after lines r e) es allowed.1)
-
-allowed_front : (lines : List CallLine) (r : RunState) (es fs : List PlainEntry) → AllAllowed lines r (es ++ fs) → AllAllowed lines r es
-allowed_front lines r [] fs allowed = tt
-allowed_front lines r (e ∷ es) fs allowed = (allowed.0, allowed_front lines (after lines r e) es fs allowed.1)
 
 allowed_back : (lines : List CallLine) (r : RunState) (es fs : List PlainEntry) → AllAllowed lines r (es ++ fs) → AllAllowed lines (after_all lines r es) fs
 allowed_back lines r [] fs allowed = allowed
@@ -115,49 +103,6 @@ pub fits_along : (lines : List CallLine) (before : List PlainEntry) (r : RunStat
 fits_along lines before r [] fit = tt
 fits_along lines before r (e ∷ es) fit = all-append FitsDeed (entry_deeds lines before r e) (deeds_along lines (before ++ e ∷ []) (after lines r e) es) (fits_entry lines before r e fit) (fits_along lines (before ++ e ∷ []) (after lines r e) es fit)
 
--- ---- few calls give a request
-
-gives_append : (ds es : List Deed) → gives_in (ds ++ es) ≡ gives_in ds + gives_in es
-gives_append [] es = omega arith
-gives_append (d ∷ ds) es = omega (arith, gives_append ds es)
-
-gives_none : (ds : List Deed) → AllByRecursion (λ d. gives_by d ≡ 0) ds → gives_in ds ≡ 0
-gives_none [] all = refl
-gives_none (d ∷ ds) all = omega (arith, all.0, gives_none ds all.1)
-
-at_most_one : (d : Deed) → gives_by d ≤ 1
-at_most_one (calls node call (refuses w)) = omega arith
-at_most_one (calls node call agrees) = omega arith
-at_most_one (calls node call (tells n)) = omega arith
-at_most_one (calls node call (gives size bytes)) = omega arith
-at_most_one (calls node call (completes x)) = omega arith
-at_most_one (looks_back q n) = omega arith
-at_most_one (puts_owed q f) = omega arith
-at_most_one (looks_ahead q n) = omega arith
-at_most_one (takes q name f w) = omega arith
-
-gives_call : (r : RunState) (a : PlainAnswer) (o : Option CallLine) → gives_in (call_deeds o r a) ≤ 1
-gives_call r a None = omega arith
-gives_call r a (Some line) = omega (arith, at_most_one (calls line.node (call_at r line) a))
-
-gives_again : (r : RunState) (word : _) (o : Option CallLine) → gives_in (call_deeds o r (refuses word)) ≡ 0
-gives_again r word None = refl
-gives_again r word (Some line) = refl
-
-gives_entry : (lines : List CallLine) (before : List PlainEntry) (r : RunState) (e : PlainEntry) → Allowed lines r e → r.lines_called ≤ length lines →
-    (gives_in (entry_deeds lines before r e) + r.lines_called ≤ (after lines r e).lines_called) × ((after lines r e).lines_called ≤ length lines)
-gives_entry lines before r (turned vs) allowed below =
-    (omega (arith, gives_none (flat_map (visit_deeds before) vs) (each_turn (λ d. gives_by d ≡ 0) (λ q. Unit {0}) (λ q n. refl) (λ q f. refl) (λ q n. refl) (λ q name t is. refl) before vs (any_visit vs))), below)
-gives_entry lines before r (put peer frame) allowed below = (omega arith, below)
-gives_entry lines before r (again word) allowed below = (omega (arith, gives_again r word (next_line lines r)), below)
-gives_entry lines before r (called k a) allowed below = (omega (arith, gives_call r a (next_line lines r)), omega (arith, slice_get_within lines r.lines_called allowed.0 allowed.1))
-
-pub gives_along : (lines : List CallLine) (before : List PlainEntry) (r : RunState) (es : List PlainEntry) → AllAllowed lines r es → r.lines_called ≤ length lines → gives_in (deeds_along lines before r es) + r.lines_called ≤ length lines
-gives_along lines before r [] allowed below = omega arith
-gives_along lines before r (e ∷ es) allowed below =
-    let here = gives_entry lines before r e allowed.0 below in
-    omega (arith, here.0, gives_append (entry_deeds lines before r e) (deeds_along lines (before ++ e ∷ []) (after lines r e) es), gives_along lines (before ++ e ∷ []) (after lines r e) es allowed.1 here.1)
-
 -- ---- frames are taken from neighbours
 
 abbrev pub numbers_of : Scenario → DomainLine → List ℕ
@@ -205,7 +150,7 @@ module _ (s : Scenario) (board : IsLinkedBoard s) where
         let r : RunState = after_all lines (start s d) before in
         let next : AllAllowed lines (start s d) ((before ++ e ∷ []) ++ es) = subst (AllAllowed lines (start s d)) (sym (append_assoc before (e ∷ []) es)) allowed in
         all-append FromPeers (entry_deeds lines before r e) (deeds_along lines (before ++ e ∷ []) (after lines r e) es)
-        (from_entry before e (allowed_front lines (start s d) before (e ∷ es) allowed) (allowed_back lines (start s d) before (e ∷ es) allowed).0)
+        (from_entry before e (allowed-front lines (start s d) before (e ∷ es) allowed) (allowed_back lines (start s d) before (e ∷ es) allowed).0)
         (subst (λ t. AllByRecursion FromPeers (deeds_along lines (before ++ e ∷ []) t es)) (after_more (start s d) before e) (from_along (before ++ e ∷ []) es next))
 
   -- ---- what is known of the deeds of a journal
@@ -213,19 +158,14 @@ module _ (s : Scenario) (board : IsLinkedBoard s) where
   pub record OfJournal (j : DomainJournal) : Type 0 where
     pub fit : AllByRecursion FitsDeed (deeds_of s j)
     pub from : AllByRecursion (IsFrom (numbers_of s j.line)) (deeds_of s j)
-    pub few : gives_in (deeds_of s j) < 2 ^ 32
-
-  fewer : (p : CallLine → Bool) (ls : List CallLine) → length (filter p ls) ≤ length ls
-  fewer p [] = omega arith
-  fewer p (l ∷ ls) = cond_both (p l) (l ∷ filter p ls) (filter p ls) (λ ks. length ks ≤ length (l ∷ ls)) (λ k. omega (arith, fewer p ls)) (λ k. omega (arith, fewer p ls))
+    pub few : all_succeed (deeds_of s j) + 1 < 2 ^ 64
 
   pub of_journal : (j : DomainJournal) → IsDomainRun s j.line j.entries → OfJournal j
   of_journal j run =
-      let allowed : AllAllowed (script s j.line.domain) (start s j.line) j.entries = allowed_all (script s j.line.domain) (start s j.line) (left_by s j.line j.entries) j.entries run.steps in
-      let most = gives_along (script s j.line.domain) [] (start s j.line) j.entries allowed (omega arith) in
+      let allowed : AllAllowed (script s j.line.domain) (start s j.line) j.entries = allowed-all (script s j.line.domain) (start s j.line) (left_by s j.line j.entries) j.entries run.steps in
       let lines_fit = all-filter (λ c. HasFitArguments c.call) (λ c. c.domain == j.line.domain) s.calls board.arguments_fit in
       record {
         fit = fits_along (script s j.line.domain) [] (start s j.line) j.entries lines_fit;
         from = from_along j.line [] j.entries allowed;
-        few = omega (arith, most, fewer (λ c. c.domain == j.line.domain) s.calls, board.lines_few);
+        few = few s j board run;
       }

@@ -5,17 +5,15 @@ use Rattle.std.specs.List.{AllByRecursion, flat_map}
 use Rattle.std.proofs.lemmas.List.{length-map}
 use Rattle.std.proofs.lemmas.List.Sums.{sum_by-cons}
 use Rattle.mc_base.specs.Reading.{reading}
-use Rattle.mc_base.specs.declared.fate.Fate.{Fate}
-use Rattle.mc_base.specs.declared.name.Local.{Local}
 use Rattle.mc_base.specs.declared.refusal.Refusal.{Refusal}
 use Rattle.board_model.specs.declared.scenario.Call.{Call}
 use Rattle.board_model.specs.declared.scenario.Call.TheVariants.{Create, Delete, Lookup, MsgSend, MsgRecv, MsgRecvI, MsgAvailable, Test, Cancel, Turn}
 use Rattle.board_model.specs.declared.scenario.CallLine.{CallLine}
 use Rattle.board_model.specs.Journal.{PlainEntry, turned, put, again, called, PlainAnswer, refuses, agrees, tells, gives, completes, Visit, Taken, Line, turn_line, back_line, put_line, see_line, call_line, taken_line, looked, visit_lines, joined}
-use Rattle.board_model.specs.State.{DomainState, Endpoint, is_at, live_at, endpoint_at, queue_in, queue_at}
+use Rattle.board_model.specs.State.{DomainState, Endpoint, is_at, live_at, queue_in, queue_at}
 use Rattle.board_model.specs.Labels.{Labelled, call_of}
 use Rattle.board_model.specs.DomainCall.{DomainCall, create_at, delete_at, lookup_of, send_from, receive_at, request_at, available_at, test_of, cancel_of, turn_alone}
-use Rattle.board_model.specs.Answer.{local, refusal, success, answer_by}
+use Rattle.board_model.specs.Answer.{local, refusal, answer_by}
 use Rattle.board_model.specs.Step.{RunState, Allowed, next_line, call_at, after}
 use Rattle.board_model.specs.CallChanges.{at_live}
 use Rattle.board_model.specs.Deeds.{Deed, looks_back, puts_owed, looks_ahead, takes, calls, after_deed, MayDo, AllMayDo, along}
@@ -33,7 +31,7 @@ use Rattle.board_model.proofs.MessageOnce.{total, total-append}
 use Rattle.board_model.proofs.MessageVisitLines.{count-never, visit_lines_count}
 use Rattle.board_model.proofs.KeptDeeds.{brought_by}
 use Rattle.board_model.proofs.KeptLines.{any, said_bytes}
-use Rattle.board_model.proofs.KeptTells.{AllAllowed}
+use Rattle.board_model.proofs.BridgeRuns.{AllAllowed}
 
 -- ---- by deeds
 

@@ -17,7 +17,6 @@ pub mod BridgeSound
 pub mod BridgeTraffic
 pub mod BridgeUnnamed
 pub mod BridgeVisits
-pub mod DeedRuns
 pub mod Headlines
 pub mod HonestBoard
 pub mod HonestDeeds
@@ -38,6 +37,7 @@ pub mod KeptSent
 pub mod KeptTells
 pub mod KeptTold
 pub mod LaneCalls
+pub mod DeedRuns
 pub mod LanePeers
 pub mod LaneRows
 pub mod LaneRuns
@@ -47,8 +47,8 @@ pub mod LawfulBoards
 pub mod LawfulForms
 pub mod LawfulLines
 pub mod LawfulParts
-pub mod LawfulRanges
 pub mod LawfulRuns
+pub mod LawfulRanges
 pub mod LawfulSizes
 pub mod LawfulSteps
 pub mod LawfulTelling

@@ -1,20 +1,12 @@
 -- The endpoints of one domain have names of their own: each is the one that is found by its name.
-use Rattle.std.proofs.Common.{◌≡◌, Bool, true, false, cond, List, [], ◌∷◌, ◌++◌, Some, refl, sym, ap, ◌∙◌, arith, inl, inr}
+use Rattle.std.proofs.Common.{◌≡◌, true, false, cond, List, [], ◌∷◌, Some, refl, sym, ap, ◌∙◌, inl, inr}
 use Rattle.std.specs.Prelude.{find, ◌==◌}
 use Rattle.std.specs.List.{AllByRecursion}
-use Rattle.std.proofs.lemmas.Bool.{and_parts, eqb-true, eq-eqb, cases_Bool, cond_both}
+use Rattle.std.proofs.lemmas.Bool.{and_parts, eqb-true, eq-eqb, cases_Bool}
 use Rattle.mc_base.specs.declared.name.Local.{Local}
 use Rattle.board_model.specs.State.{Endpoint, is_at}
-use Rattle.board_model.proofs.MessageAlls.{all-append, all-changed-first, all-without-first, all-weaken}
-use Rattle.board_model.proofs.MessageLists.{changed_first, without_first}
-
--- no later endpoint has the name of an earlier one
-abbrev pub Apart : List Endpoint → Type 0
-Apart [] = Unit {0}
-Apart (e ∷ es) = AllByRecursion (λ f. is_at e.local f ≡ false) es × Apart es
-
-same_swapped : (e f : Endpoint) → is_at e.local f ≡ is_at f.local e
-same_swapped e f = grind (arith, eqb-true, eq-eqb)
+use Rattle.board_model.proofs.OrderSound.{Apart}
+use Rattle.board_model.proofs.MessageAlls.{all-weaken}
 
 -- what has a name has no other
 at_one : (at : Local) (e f : Endpoint) → is_at at e ≡ true → is_at at f ≡ true → is_at e.local f ≡ true
@@ -38,17 +30,3 @@ each-found at (e ∷ es) apart =
       | inl is ↦ (here, all-weaken (λ f. is_at e.local f ≡ false) (found_by at (e ∷ es)) (λ f not_it there. let it : is_at e.local f ≡ true = at_one at e f is there in absurd cc) es apart.0)
       | inr other ↦ (here, all-weaken (found_by at es) (found_by at (e ∷ es)) (λ f found there. ap (λ b. cond b (Some e) (find (is_at at) es)) other ∙ found there) es (each-found at es apart.1))
     ]
-
--- ---- names stay apart
-
-pub apart-created : (es : List Endpoint) (e : Endpoint) → Apart es → AllByRecursion (λ f. is_at e.local f ≡ false) es → Apart (es ++ e ∷ [])
-apart-created [] e apart none = (tt, tt)
-apart-created (f ∷ fs) e apart none =
-    (all-append (λ g. is_at f.local g ≡ false) fs (e ∷ []) apart.0 (same_swapped f e ∙ none.0, tt), apart-created fs e apart.1 none.1)
-
-pub apart-changed : (p : Endpoint → Bool) (g : Endpoint → Endpoint) (name_same : (e : Endpoint) → (g e).local ≡ e.local) (es : List Endpoint) → Apart es → Apart (changed_first p g es)
-apart-changed p g name_same [] apart = tt
-apart-changed p g name_same (e ∷ es) apart =
-    cond_both (p e) (g e ∷ es) (e ∷ changed_first p g es) (λ fs. Apart fs)
-    (λ here. rw (name_same e) apart)
-    (λ other. (all-changed-first (λ f. is_at e.local f ≡ false) p g es apart.0 (λ f found not_it. rw (name_same f) not_it), apart-changed p g name_same es apart.1))

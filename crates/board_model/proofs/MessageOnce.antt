@@ -87,15 +87,15 @@ module _ {A : Type 0} (key : A → ℕ) (n : ℕ) (f : A → ℕ) where
 
 -- ---- numbers that differ
 
-one_off : (b : Bool) (k : ℕ) → b ≡ false → cond b 1 0 + k ≡ k
+pub one_off : (b : Bool) (k : ℕ) → b ≡ false → cond b 1 0 + k ≡ k
 one_off true k off = absurd cc
 one_off false k off = omega arith
 
-one_on : (b : Bool) (k : ℕ) → b ≡ true → k ≡ 0 → cond b 1 0 + k ≡ 1
+pub one_on : (b : Bool) (k : ℕ) → b ≡ true → k ≡ 0 → cond b 1 0 + k ≡ 1
 one_on true k on none = omega arith
 one_on false k on none = absurd cc
 
-none_same : (n : ℕ) (ns : List ℕ) → AllByRecursion (λ m. m ≡ n → ⊥) ns → times (λ m. m) n ns ≡ 0
+pub none_same : (n : ℕ) (ns : List ℕ) → AllByRecursion (λ m. m ≡ n → ⊥) ns → times (λ m. m) n ns ≡ 0
 none_same n [] all = refl
 none_same n (m ∷ ms) all = one_off (n == m) (times (λ k. k) n ms) (ne_eqb n m (λ e. all.0 (sym e))) ∙ none_same n ms all.1
 

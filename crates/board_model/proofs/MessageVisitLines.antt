@@ -1,10 +1,7 @@
 -- What the lines of a visit count: those of the frames that it puts, and those of the frames that it takes.
-use Rattle.std.proofs.Common.{◌≡◌, ℕ, ◌+◌, Bool, true, false, ◌&&◌, cond, List, [], ◌∷◌, ◌++◌, map, length, refl, sym, ap, ◌∙◌, arith}
-use Rattle.std.specs.Prelude.{count_by, filter, ◌==◌}
-use Rattle.std.proofs.lemmas.List.{length-map}
-use Rattle.std.proofs.lemmas.List.Sums.{length-filter}
-use Rattle.std.proofs.lemmas.Bool.{cond_both}
-use Rattle.board_model.specs.Journal.{Visit, Taken, Line, back_line, put_line, see_line, taken_line, looked, visit_lines}
+use Rattle.std.proofs.Common.{◌≡◌, ℕ, ◌+◌, Bool, true, false, cond, List, [], ◌∷◌, ◌++◌, map, refl, ◌∙◌, arith}
+use Rattle.std.specs.Prelude.{count_by, ◌==◌}
+use Rattle.board_model.specs.Journal.{Visit, Line, back_line, put_line, see_line, taken_line, looked, visit_lines}
 use Rattle.board_model.proofs.MessageBest.{count-cons}
 use Rattle.board_model.proofs.ListsCounts.{count-append}
 

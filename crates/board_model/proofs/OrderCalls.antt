@@ -1,38 +1,38 @@
 -- What taken frames and calls do to what is queued.
-use Rattle.std.proofs.Common.{◌≡◌, ◌⊎◌, inl, inr, ℕ, zero, suc, ◌+◌, ◌-◌, ◌<◌, ◌≤◌, Bool, true, false, not, cond, List, [], ◌∷◌, ◌++◌, map, filter, find, flat_map, length, Option, Some, None, option_map, option_to_list, refl, sym, ap, ap₂, ◌∙◌, subst, arith}
-use Rattle.std.specs.Prelude.{◌==◌, ◌&&◌, ◌||◌, is_none, is_some, nat_le, position, option_and_then}
-use Rattle.std.specs.List.{AllByRecursion, list_any}
-use Rattle.std.proofs.lemmas.Bool.{eqb-true, eq-eqb, ne_eqb, cases_Bool, and_parts}
+use Rattle.std.proofs.Common.{◌≡◌, inl, inr, ℕ, ◌+◌, ◌-◌, ◌≤◌, Bool, true, false, not, cond, List, [], ◌∷◌, ◌++◌, map, find, flat_map, length, Option, Some, None, option_map, option_to_list, refl, sym, ap, ap₂, ◌∙◌, subst, arith}
+use Rattle.std.specs.Prelude.{◌==◌, ◌&&◌, is_none, is_some}
+use Rattle.std.specs.List.{AllByRecursion}
+use Rattle.std.proofs.lemmas.Bool.{eqb-true, eq-eqb, and_parts}
 use Rattle.std.proofs.lemmas.List.{append-nil}
-use Rattle.mc_base.specs.Reading.{Reading, reading}
+use Rattle.mc_base.specs.Reading.{reading}
 use Rattle.mc_base.specs.Limits.{first_address}
 use Rattle.mc_base.specs.FullName.{end_name}
 use Rattle.mc_base.specs.declared.name.Local.{Local}
 use Rattle.mc_base.specs.declared.name.EndName.{EndName}
 use Rattle.mc_base.specs.declared.fate.Fate.{Fate}
 use Rattle.mc_base.specs.declared.refusal.Refusal.{Refusal}
-use Rattle.mc_base.specs.declared.refusal.Refusal.TheVariants.{EndpInvalid, Empty}
+use Rattle.mc_base.specs.declared.refusal.Refusal.TheVariants.{EndpInvalid}
 use Rattle.board_model.specs.DomainCall.{DomainCall, create_at, delete_at, lookup_of, send_from, receive_at, request_at, available_at, test_of, cancel_of, turn_alone}
-use Rattle.board_model.specs.Journal.{PlainAnswer, refuses, agrees, tells, gives, completes}
+use Rattle.board_model.specs.Journal.{PlainAnswer, refuses, agrees}
 use Rattle.board_model.specs.Choice.{least, best, without_best}
-use Rattle.board_model.specs.State.{Item, Endpoint, Asked, name_of, message_at, Outcome, has_address, has_item, has_ended, Request, DomainState, is_at, has_address_of, live_at, place_at, endpoint_at, queue_at, endpoint_of, queue_in, receives_at, waits_at}
+use Rattle.board_model.specs.State.{Item, Endpoint, name_of, message_at, has_address, has_item, has_ended, Request, DomainState, is_at, has_address_of, live_at, place_at, endpoint_at, queue_at, endpoint_of, queue_in, receives_at, waits_at}
 use Rattle.board_model.specs.Answer.{local, holds, words_of, refusal, success, answer, answer_by, unless_refused, given as given_first, address_of}
-use Rattle.board_model.specs.Change.{Change, end_announced, asks_for, all_done, best_gone, request_added, endpoint_gone, endpoint_made, waiting_ended, ended_in, done_with, with_queue, changed, changed_all}
+use Rattle.board_model.specs.Change.{Change, end_announced, asks_for, all_done, best_gone, request_added, endpoint_gone, waiting_ended, ended_in, done_with, with_queue, changed, changed_all}
 use Rattle.board_model.specs.CallChanges.{at_live, best_item, success_changes, call_changes}
 use Rattle.board_model.specs.TakenFrames.{row_of}
-use Rattle.board_model.specs.Deeds.{Deed, takes, calls, happens_by, after_deed, MayDo}
-use Rattle.board_model.specs.Takings.{Taking, taking, answered_by, completed_by, takings_by, asked_address}
-use Rattle.board_model.specs.MessageOrder.{is_handed, item_said, is_queued, came_to, items_at, dropped_at, dropped_from, gone_from}
+use Rattle.board_model.specs.Deeds.{Deed, takes, calls, happens_by, after_deed}
+use Rattle.board_model.specs.Takings.{Taking, taking, answered_by}
+use Rattle.board_model.specs.MessageOrder.{is_handed, item_said, came_to, items_at, dropped_at, dropped_from, gone_from}
 use Rattle.board_model.proofs.DeedRuns.{count_taken}
 use Rattle.board_model.proofs.MessageLists.{get-position, some-position, best_is, without_best_is}
-use Rattle.board_model.proofs.MessageBest.{best-none, without_best-none}
-use Rattle.board_model.proofs.OrderDeeds.{Takes, RowHands, Does, Comes, still, gone_none, RowDoes, row_does, queues, after_row}
-use Rattle.board_model.proofs.OrderItems.{IsPast, IsNext, all_past_more, next_past_after, Apart, NoneSame, left_of, left_none, left_all, left_self, left_first, all_none_next, found_all}
+use Rattle.board_model.proofs.MessageBest.{best-none}
+use Rattle.board_model.proofs.OrderDeeds.{Takes, RowHands, Does, row_does, queues}
+use Rattle.board_model.proofs.OrderItems.{IsPast, IsNext, all_past_more, next_past_after, Apart, left_of, left_none, left_all, left_self, left_first, all_none_next, found_all}
 use Rattle.board_model.proofs.OrderQueues.{queued_for, queued_made, queued_gone, queued_best}
 use Rattle.board_model.proofs.OrderRequests.{RequestsBy, kept, turned, gone, given, found_turns, ended_by, items_one, no_items}
-use Rattle.board_model.proofs.OrderSerials.{Differ, Below, Serials, given_by_all, serials_changes}
-use Rattle.board_model.proofs.OrderSound.{Apart as NamesApart, all_changed, Sound, Waits, FitsSound, FitAllSound, sound_changes, sound_own}
-use Rattle.board_model.proofs.OrderTakings.{taken_of, IsOld, all_old, none_taken, old_mapped, old_done, old_without, added_takes, given_takes}
+use Rattle.board_model.proofs.OrderSerials.{Serials, given_by_all, serials_changes}
+use Rattle.board_model.proofs.OrderSound.{Apart as NamesApart, all_changed, Sound, FitAllSound, sound_changes, sound_own}
+use Rattle.board_model.proofs.OrderTakings.{taken_of, IsOld, all_old, none_taken, old_mapped, old_done, old_without, added_takes}
 
 -- a call that is not refused
 abbrev pub succeeds : Deed → ℕ

@@ -1,21 +1,20 @@
 -- What a cancel leaves: a request that took nothing, and that is gone. And what a test answers of the request that it names.
-use Rattle.std.proofs.Common.{◌≡◌, ◌⊎◌, inl, inr, ℕ, zero, suc, ◌+◌, ◌<◌, ◌≤◌, Bool, true, false, not, cond, List, [], ◌∷◌, ◌++◌, map, filter, find, flat_map, length, take, Option, Some, None, option_map, option_to_list, refl, sym, ap, ap₂, ◌∙◌, subst, arith}
+use Rattle.std.proofs.Common.{◌≡◌, ℕ, zero, suc, ◌<◌, false, not, cond, List, [], ◌∷◌, ◌++◌, flat_map, Option, Some, None, option_map, option_to_list, refl, sym, ap, ap₂, ◌∙◌, subst, arith}
 use Rattle.std.specs.Prelude.{◌==◌, is_some, slice_get, option_and_then}
 use Rattle.std.specs.List.{AllByRecursion}
 use Rattle.std.proofs.lemmas.Bool.{eqb-true, eq-eqb}
-use Rattle.std.proofs.lemmas.List.{append-nil}
 use Rattle.mc_base.specs.declared.refusal.Refusal.{Refusal}
 use Rattle.mc_base.specs.declared.refusal.Refusal.TheVariants.{RequestInvalid, Pending}
 use Rattle.board_model.specs.Lists.{without, without_at}
-use Rattle.board_model.specs.DomainCall.{DomainCall, create_at, delete_at, lookup_of, send_from, receive_at, request_at, available_at, test_of, cancel_of, turn_alone}
-use Rattle.board_model.specs.Journal.{PlainAnswer, refuses, agrees, tells, gives, completes}
-use Rattle.board_model.specs.State.{Item, Asked, name_of, channel_of, message_at, packet_at, Outcome, has_address, is_accepted, is_rejected, has_item, has_ended, Request, DomainState, request_at_place}
-use Rattle.board_model.specs.Answer.{holds, words_of, refusal, success, answer, answer_by, unless_refused, is_complete, result_by, result_of}
+use Rattle.board_model.specs.DomainCall.{test_of, cancel_of}
+use Rattle.board_model.specs.Journal.{PlainAnswer, refuses, agrees, completes}
+use Rattle.board_model.specs.State.{Asked, name_of, channel_of, message_at, packet_at, Outcome, has_address, has_item, has_ended, Request, DomainState, request_at_place}
+use Rattle.board_model.specs.Answer.{holds, words_of, refusal, answer, answer_by, unless_refused, is_complete, result_by, result_of}
 use Rattle.board_model.specs.Change.{request_gone, changed_all}
 use Rattle.board_model.specs.CallChanges.{success_changes, call_changes}
-use Rattle.board_model.specs.Deeds.{Deed, calls, after_deed, after_deeds, MayDo}
-use Rattle.board_model.specs.Takings.{Taking, item_held, completed_by, takings_by, cancelled_by}
-use Rattle.board_model.specs.MessageOrder.{taken_for, TellsAsked, TellsOf, TestTells}
+use Rattle.board_model.specs.Deeds.{Deed, calls, after_deed, MayDo}
+use Rattle.board_model.specs.Takings.{item_held, completed_by, takings_by, cancelled_by}
+use Rattle.board_model.specs.MessageOrder.{taken_for, TellsAsked, TellsOf}
 use Rattle.board_model.proofs.OrderCalls.{none_holds}
 use Rattle.board_model.proofs.OrderRequests.{Took, Holds, Held, IsDone, FitsAsked, items_by}
 use Rattle.board_model.proofs.OrderSerials.{IsOther, Differ, Below}

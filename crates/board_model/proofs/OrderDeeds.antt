@@ -1,32 +1,32 @@
 -- What each deed does to what is queued at each address, and which items are gone from it: one record for all deeds.
-use Rattle.std.proofs.Common.{◌≡◌, ◌⊎◌, inl, inr, ℕ, zero, suc, ◌+◌, ◌-◌, ◌<◌, ◌≤◌, Bool, true, false, not, cond, List, [], ◌∷◌, ◌++◌, map, filter, find, flat_map, length, Option, Some, None, option_map, option_to_list, refl, sym, ap, ◌∙◌, subst, arith}
-use Rattle.std.specs.Prelude.{◌==◌, ◌&&◌, ◌||◌, is_none, is_some, nat_le, position, option_and_then}
+use Rattle.std.proofs.Common.{◌≡◌, ◌⊎◌, inl, inr, ℕ, ◌-◌, Bool, true, false, cond, List, [], ◌∷◌, ◌++◌, map, find, flat_map, Option, Some, None, option_map, refl, sym, ap, ◌∙◌, subst, arith}
+use Rattle.std.specs.Prelude.{◌==◌, ◌&&◌, ◌||◌, is_none, option_and_then}
 use Rattle.std.specs.List.{AllByRecursion, list_any}
-use Rattle.std.proofs.lemmas.Bool.{eqb-true, eq-eqb, ne_eqb, cases_Bool, and_parts}
+use Rattle.std.proofs.lemmas.Bool.{eqb-true, eq-eqb, and_parts}
 use Rattle.std.proofs.lemmas.List.{append-nil}
-use Rattle.mc_base.specs.Letter.{PlainLetter, msg, connect, accept, reject, recv_open, send_open, packet, scalar, send_close, recv_close}
+use Rattle.mc_base.specs.Letter.{PlainLetter, msg}
 use Rattle.mc_base.specs.NameMap.{Names, learned, forgotten}
 use Rattle.mc_base.specs.FullName.{endpoint_named}
-use Rattle.mc_base.specs.Reading.{Reading, is_faulty, announces, says, reading}
+use Rattle.mc_base.specs.Reading.{Reading, is_faulty, announces, says}
 use Rattle.mc_base.specs.declared.name.EndName.{EndName}
 use Rattle.mc_base.specs.declared.fate.Fate.{Fate}
 use Rattle.mc_base.specs.declared.fate.Fate.TheVariants.{Queued, Handed, NoEndpoint, State, Acted}
-use Rattle.board_model.specs.State.{Item, Endpoint, Asked, name_of, channel_of, message_at, packet_at, Outcome, has_address, has_item, has_ended, Request, DomainState, is_at, has_address_of, receives_at, live_at, endpoint_of, one_waits, oldest_waiting, peer_at, queue_in, waits_at}
-use Rattle.board_model.specs.Change.{Change, item_queued, item_handed, name_found, names_known, frame_taken, handed_in, all_done, asks_for, changed, changed_all}
+use Rattle.board_model.specs.State.{Item, Endpoint, Asked, name_of, channel_of, message_at, packet_at, has_address, Request, DomainState, is_at, has_address_of, receives_at, live_at, endpoint_of, one_waits, oldest_waiting, peer_at, queue_in, waits_at}
+use Rattle.board_model.specs.Change.{item_queued, item_handed, name_found, names_known, frame_taken, handed_in, all_done, asks_for, changed, changed_all}
 use Rattle.board_model.specs.Dealing.{names_of}
-use Rattle.board_model.specs.TakenFrames.{Row, row, first_row, rows, row_of, name_rows, letter_rows, message_item}
-use Rattle.board_model.specs.Deeds.{Deed, looks_back, puts_owed, looks_ahead, takes, calls, happens_by, after_deed, MayDo}
-use Rattle.board_model.specs.Takings.{Taking, taking, answered_by, completed_by, takings_by, asked_address}
+use Rattle.board_model.specs.TakenFrames.{Row, row, first_row, row_of, name_rows, letter_rows, message_item}
+use Rattle.board_model.specs.Deeds.{Deed, looks_back, puts_owed, looks_ahead, happens_by, after_deed}
+use Rattle.board_model.specs.Takings.{Taking, taking, takings_by, asked_address}
 use Rattle.mc_base.specs.declared.name.Local.{Local}
 use Rattle.board_model.specs.Choice.{best}
 use Rattle.board_model.specs.CallChanges.{at_live}
-use Rattle.board_model.specs.MessageOrder.{is_handed, comes_now, waiting_first, item_said, is_queued, came_to, items_at, dropped_from, gone_from, is_same}
-use Rattle.board_model.proofs.DeedRuns.{count_taken, IsNamed}
-use Rattle.board_model.proofs.OrderItems.{IsPast, IsNext, left_of, left_none, left_all, all_none_next}
+use Rattle.board_model.specs.MessageOrder.{is_handed, comes_now, waiting_first, item_said, is_queued, came_to, items_at, dropped_from, gone_from}
+use Rattle.board_model.proofs.DeedRuns.{count_taken}
+use Rattle.board_model.proofs.OrderItems.{IsPast, IsNext, left_of, left_none}
 use Rattle.board_model.proofs.OrderQueues.{queued_for, queued_item}
 use Rattle.board_model.proofs.OrderRequests.{RequestsBy, kept, turned, handed, FitsAsked, NoneBy, items_by, items_one, found_turns}
-use Rattle.board_model.proofs.OrderSerials.{Differ, Below, Serials, given_by, given_by_all, serials_changes}
-use Rattle.board_model.proofs.OrderSound.{Apart as NamesApart, sound_quiet, Sound, Waits, FitsSound, FitAllSound, sound_changes}
+use Rattle.board_model.proofs.OrderSerials.{Differ, Below, Serials, given_by_all, serials_changes}
+use Rattle.board_model.proofs.OrderSound.{Apart as NamesApart, sound_quiet, Sound, FitAllSound, sound_changes}
 use Rattle.board_model.proofs.OrderTakings.{found_pends, taken_of, IsOld, all_old, none_taken, old_mapped, old_done, handed_takes, waiter_takes}
 
 -- at most one item comes, and then none is gone

@@ -1,26 +1,24 @@
 -- Each receive takes the best of what stands, and each delete answers how many messages it drops: along every run of deeds.
-use Rattle.std.proofs.Common.{◌≡◌, ◌⊎◌, inl, inr, ℕ, zero, suc, ◌+◌, ◌-◌, ◌<◌, ◌≤◌, ◌^◌, Bool, true, false, cond, List, [], ◌∷◌, ◌++◌, map, filter, flat_map, option_to_list, length, Option, Some, None, refl, sym, ap, ◌∙◌, subst, arith}
+use Rattle.std.proofs.Common.{◌≡◌, ◌⊎◌, inl, inr, ℕ, ◌+◌, ◌-◌, ◌<◌, ◌≤◌, ◌^◌, Bool, true, false, cond, List, [], ◌∷◌, ◌++◌, map, filter, flat_map, option_to_list, length, Option, Some, None, refl, sym, ap, ◌∙◌, subst, arith}
 use Rattle.std.specs.List.{AllByRecursion}
 use Rattle.std.specs.Prelude.{Contains}
 use Rattle.std.proofs.lemmas.Bool.{eq-eqb}
 use Rattle.std.proofs.lemmas.List.{append-nil, append_assoc}
 use Rattle.std.proofs.lemmas.List.Elements.{Contains-append_cases, Contains-push_cases}
-use Rattle.mc_base.specs.Limits.{first_address}
 use Rattle.mc_base.specs.declared.refusal.Refusal.{Refusal}
 use Rattle.board_model.specs.Choice.{best}
-use Rattle.board_model.specs.DomainCall.{DomainCall, create_at, delete_at, lookup_of, send_from, receive_at, request_at, available_at, test_of, cancel_of, turn_alone}
-use Rattle.board_model.specs.Journal.{PlainAnswer, refuses, agrees, tells, gives, completes}
+use Rattle.board_model.specs.DomainCall.{delete_at, test_of}
+use Rattle.board_model.specs.Journal.{tells}
 use Rattle.board_model.specs.Scenario.{Neighbour}
-use Rattle.board_model.specs.State.{Item, Endpoint, DomainState, opening, live_at, queue_at, queue_in}
-use Rattle.board_model.specs.Answer.{local, refusal, success, answer, answer_by}
+use Rattle.board_model.specs.State.{Endpoint, DomainState, opening, live_at, queue_at, queue_in}
+use Rattle.board_model.specs.Answer.{local, refusal, success, answer_by}
 use Rattle.board_model.specs.CallChanges.{at_live}
-use Rattle.board_model.specs.Deeds.{Deed, looks_back, puts_owed, looks_ahead, takes, calls, happens_by, after_deed, after_deeds, MayDo, AllMayDo, along, EachDeed}
+use Rattle.board_model.specs.Deeds.{Deed, calls, after_deed, after_deeds, MayDo, AllMayDo, along, EachDeed}
 use Rattle.board_model.specs.Takings.{Taking, takings_by, cancelled_by}
 use Rattle.board_model.specs.MessageOrder.{is_by, taken_for, standing, TakesWhatComes, TakesBest, TestTells, DeleteTells}
 use Rattle.board_model.proofs.DeedRuns.{IsNamed, AreNamed, IsDeedRun}
-use Rattle.board_model.proofs.OrderCalls.{Moment, succeeds, live_found}
-use Rattle.board_model.proofs.OrderDeeds.{Does, Hands, Takes}
-use Rattle.board_model.proofs.OrderQueues.{queued_for}
+use Rattle.board_model.proofs.OrderCalls.{succeeds, live_found}
+use Rattle.board_model.proofs.OrderDeeds.{Takes}
 use Rattle.board_model.proofs.OrderSound.{sound_own}
 use Rattle.board_model.proofs.OrderStands.{Stands, stands_more, given_few, after_append, all_done, done_same, taken_after}
 use Rattle.board_model.proofs.OrderCancels.{cancels_done, test_tells}

@@ -1,12 +1,10 @@
 -- What is queued at an address after each change.
-use Rattle.std.proofs.Common.{◌≡◌, ℕ, ◌+◌, Bool, true, false, not, cond, List, [], ◌∷◌, ◌++◌, filter, find, Option, Some, None, option_map, refl, sym, ap, ◌∙◌, arith}
+use Rattle.std.proofs.Common.{◌≡◌, ℕ, Bool, true, false, not, cond, List, [], ◌∷◌, ◌++◌, filter, find, Option, Some, None, option_map, refl, sym, ap, ◌∙◌, arith}
 use Rattle.std.specs.Prelude.{◌==◌}
-use Rattle.std.proofs.lemmas.Bool.{eqb-true, eqb-false, eq-eqb, ne_eqb}
-use Rattle.mc_base.specs.Limits.{first_address}
-use Rattle.board_model.specs.Lists.{changed_first}
+use Rattle.std.proofs.lemmas.Bool.{eqb-true, eqb-false, eq-eqb}
 use Rattle.board_model.specs.Choice.{without_best}
 use Rattle.board_model.specs.State.{Item, Endpoint, DomainState, has_address_of, endpoint_of, queue_in}
-use Rattle.board_model.specs.Change.{Change, endpoint_made, endpoint_gone, item_queued, best_gone, with_queue, endpoint_with, at_address, changed}
+use Rattle.board_model.specs.Change.{endpoint_made, endpoint_gone, item_queued, best_gone, with_queue, endpoint_with, at_address, changed}
 
 -- what is queued at an address
 abbrev pub queued_for : DomainState → ℕ → List Item

@@ -1,6 +1,6 @@
 -- What the requests of a domain hold: each the item that it took, and none where it took none; and a request that was cancelled took
 -- nothing.
-use Rattle.std.proofs.Common.{◌≡◌, ◌⊎◌, inl, inr, ℕ, zero, suc, ◌+◌, ◌-◌, ◌%◌, ◌^◌, ◌<◌, ◌≤◌, Bool, true, false, not, cond, List, [], ◌∷◌, ◌++◌, map, filter, find, Option, Some, None, refl, sym, ap, ap₂, ◌∙◌, subst, arith}
+use Rattle.std.proofs.Common.{◌≡◌, ◌⊎◌, inl, inr, ℕ, zero, suc, ◌+◌, ◌%◌, ◌^◌, ◌<◌, ◌≤◌, Bool, true, false, cond, List, [], ◌∷◌, ◌++◌, map, filter, find, Option, Some, None, refl, sym, ap, ap₂, ◌∙◌, subst, arith}
 use Rattle.std.specs.Prelude.{◌==◌, ◌&&◌, is_none}
 use Rattle.std.specs.List.{AllByRecursion}
 use Rattle.std.proofs.lemmas.Bool.{eqb-true, eq-eqb, ne_eqb, cases_Bool, and_parts}
@@ -10,7 +10,7 @@ use Rattle.mc_base.specs.declared.name.Local.{Local}
 use Rattle.mc_base.specs.declared.name.EndName.{EndName}
 use Rattle.mc_base.specs.declared.refusal.Refusal.{Refusal}
 use Rattle.board_model.specs.Lists.{changed_first, without, without_at}
-use Rattle.board_model.specs.State.{Item, Endpoint, Asked, name_of, channel_of, message_at, packet_at, Outcome, has_address, is_accepted, is_rejected, has_item, has_ended, Request, DomainState, waits_at, receives_at}
+use Rattle.board_model.specs.State.{Item, Endpoint, Asked, name_of, channel_of, message_at, packet_at, Outcome, has_address, has_item, has_ended, Request, DomainState, waits_at, receives_at}
 use Rattle.board_model.specs.Change.{done_with, all_done, asks_for, ended_in}
 use Rattle.board_model.specs.Takings.{Taking, item_held}
 use Rattle.board_model.specs.MessageOrder.{is_by}

@@ -1,22 +1,21 @@
 -- The laws of one domain, of its journal: what its receives take, what its tests and deletes answer, and what its cancels leave.
-use Rattle.std.proofs.Common.{◌≡◌, ℕ, zero, suc, ◌+◌, ◌<◌, ◌≤◌, ◌^◌, List, [], ◌∷◌, ◌++◌, map, length, Option, Some, None, refl, sym, ap, ◌∙◌, subst, arith}
-use Rattle.std.specs.Prelude.{slice_get, ◌==◌, filter}
-use Rattle.std.specs.List.{AllByRecursion, flat_map}
+use Rattle.std.proofs.Common.{◌≡◌, ℕ, zero, suc, ◌+◌, ◌<◌, ◌≤◌, ◌^◌, List, [], ◌∷◌, ◌++◌, map, length, Option, Some, None, refl, arith}
+use Rattle.std.specs.Prelude.{slice_get, ◌==◌}
+use Rattle.std.specs.List.{flat_map}
 use Rattle.std.proofs.lemmas.List.Sums.{length-filter, count_by-le-length}
 use Rattle.board_model.specs.declared.scenario.CallLine.{CallLine}
 use Rattle.board_model.specs.declared.scenario.Scenario.{Scenario}
 use Rattle.board_model.specs.Scenario.{script, neighbours}
 use Rattle.board_model.specs.LinkedBoard.{IsLinkedBoard}
 use Rattle.board_model.specs.Journal.{PlainEntry, turned, put, again, called, PlainAnswer, refuses, agrees, tells, gives, completes, Visit, Taken}
-use Rattle.board_model.specs.Step.{RunState, next_line, call_at, Allowed, after}
+use Rattle.board_model.specs.Step.{RunState, next_line, after}
 use Rattle.board_model.specs.Run.{start, left_by, IsDomainRun}
-use Rattle.board_model.specs.Board.{DomainJournal, IsBoardRun}
+use Rattle.board_model.specs.Board.{DomainJournal}
 use Rattle.board_model.specs.Deeds.{Deed, puts_owed, looks_ahead}
 use Rattle.board_model.specs.Traffic.{taken_from}
-use Rattle.board_model.specs.JournalDeeds.{takes_named, visit_deeds, call_deeds, entry_deeds, deeds_along, deeds_of}
+use Rattle.board_model.specs.JournalDeeds.{takes_named, visit_deeds, call_deeds, deeds_along, deeds_of}
 use Rattle.board_model.specs.MessageOrder.{ReceivesBest, TestsTellTaken, DeletesTellDropped, CancelledTookNothing}
 use Rattle.board_model.proofs.BridgeRuns.{AllAllowed, allowed-all, deeds_run}
-use Rattle.board_model.proofs.OrderCalls.{succeeds}
 use Rattle.board_model.proofs.OrderLaws.{all_succeed, run_takes_best, run_tests_tell, run_deletes_tell, run_cancelled}
 
 -- ---- calls that are not refused are as many as lines at most
@@ -59,7 +58,7 @@ within [] i x is = absurd cc
 within (y ∷ ys) zero x is = omega arith
 within (y ∷ ys) (suc i) x is = let less = within ys i x is in omega arith
 
-few_left : (lines : List CallLine) (before : List PlainEntry) (r : RunState) (es : List PlainEntry) → AllAllowed lines r es → r.lines_called ≤ length lines → all_succeed (deeds_along lines before r es) + r.lines_called ≤ length lines
+pub few_left : (lines : List CallLine) (before : List PlainEntry) (r : RunState) (es : List PlainEntry) → AllAllowed lines r es → r.lines_called ≤ length lines → all_succeed (deeds_along lines before r es) + r.lines_called ≤ length lines
 few_left lines before r [] allowed le = omega arith
 few_left lines before r (turned vs ∷ es) allowed le =
     omega (arith, succeed_join (flat_map (visit_deeds before) vs) (deeds_along lines (before ++ turned vs ∷ []) (after lines r (turned vs)) es), visits_none before vs, few_left lines (before ++ turned vs ∷ []) (after lines r (turned vs)) es allowed.1 le)
@@ -73,7 +72,7 @@ few_left lines before r (called k a ∷ es) allowed le =
 script_within : (s : Scenario) (d : ℕ) → length (script s d) ≤ length s.calls
 script_within s d = omega (arith, length-filter (λ (c : CallLine). c.domain == d) s.calls, count_by-le-length (λ (c : CallLine). c.domain == d) s.calls)
 
-few : (s : Scenario) (j : DomainJournal) → IsLinkedBoard s → IsDomainRun s j.line j.entries → all_succeed (deeds_of s j) + 1 < 2 ^ 64
+pub few : (s : Scenario) (j : DomainJournal) → IsLinkedBoard s → IsDomainRun s j.line j.entries → all_succeed (deeds_of s j) + 1 < 2 ^ 64
 few s j board run =
     let lines = script s j.line.domain in
     omega (arith, few_left lines [] (start s j.line) j.entries (allowed-all lines (start s j.line) (left_by s j.line j.entries) j.entries run.steps) (omega arith), script_within s j.line.domain, board.lines_few)

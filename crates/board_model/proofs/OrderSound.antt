@@ -1,13 +1,13 @@
 -- The names and addresses of endpoints are apart, and where a receive waits the queue is empty.
-use Rattle.std.proofs.Common.{◌≡◌, ℕ, zero, suc, ◌+◌, ◌≤◌, ◌<◌, Bool, true, false, not, cond, List, [], ◌∷◌, ◌++◌, map, filter, find, Option, Some, None, option_map, refl, sym, ap, ◌∙◌, subst, arith}
-use Rattle.std.specs.Prelude.{◌==◌, ◌&&◌, ◌||◌, is_none, is_some}
+use Rattle.std.proofs.Common.{◌≡◌, ℕ, zero, suc, ◌+◌, ◌≤◌, Bool, true, false, cond, List, [], ◌∷◌, ◌++◌, map, filter, find, Option, Some, None, refl, sym, ap, ◌∙◌, subst, arith}
+use Rattle.std.specs.Prelude.{◌&&◌, ◌||◌, is_none, is_some}
 use Rattle.std.specs.List.{AllByRecursion, list_any}
 use Rattle.std.proofs.lemmas.Bool.{eqb-true, eq-eqb, ne_eqb, cond_both}
 use Rattle.mc_base.specs.Limits.{first_address}
 use Rattle.mc_base.specs.declared.name.Local.{Local}
 use Rattle.board_model.specs.Lists.{changed_first, without, without_at}
 use Rattle.board_model.specs.Choice.{without_best}
-use Rattle.board_model.specs.State.{Item, Endpoint, Asked, Outcome, has_address, has_item, has_ended, Request, DomainState, is_at, has_address_of, live_at, endpoint_of, receives_at, waits_at}
+use Rattle.board_model.specs.State.{Item, Endpoint, Outcome, has_address, Request, DomainState, is_at, has_address_of, live_at, endpoint_of, receives_at, waits_at}
 use Rattle.board_model.specs.Change.{Change, endpoint_made, endpoint_gone, item_queued, best_gone, request_added, item_handed, waiting_ended, name_found, request_gone, done_with, all_done, handed_in, ended_in, with_queue, endpoint_with, at_address, asks_for, changed, changed_all}
 
 -- ---- every endpoint
@@ -52,20 +52,20 @@ abbrev pub Rise : ℕ → List Endpoint → ℕ → Type 0
 Rise lo [] hi = lo ≤ hi
 Rise lo (e ∷ es) hi = (lo ≤ e.address) × Rise (e.address + 1) es hi
 
-rise_from : (lo low hi : ℕ) (es : List Endpoint) → low ≤ lo → Rise lo es hi → Rise low es hi
+pub rise_from : (lo low hi : ℕ) (es : List Endpoint) → low ≤ lo → Rise lo es hi → Rise low es hi
 rise_from lo low hi [] le rise = omega arith
 rise_from lo low hi (e ∷ es) le rise = let here : lo ≤ e.address = rise.0 in (omega arith, rise.1)
 
-rise_changed : (p : Endpoint → Bool) (f : Endpoint → Endpoint) → ((e : Endpoint) → (f e).address ≡ e.address) → (lo hi : ℕ) (es : List Endpoint) → Rise lo es hi → Rise lo (changed_first p f es) hi
+pub rise_changed : (p : Endpoint → Bool) (f : Endpoint → Endpoint) → ((e : Endpoint) → (f e).address ≡ e.address) → (lo hi : ℕ) (es : List Endpoint) → Rise lo es hi → Rise lo (changed_first p f es) hi
 rise_changed p f same lo hi [] rise = rise
 rise_changed p f same lo hi (e ∷ es) rise = cond_both (p e) (f e ∷ es) (e ∷ changed_first p f es) (λ xs. Rise lo xs hi) (λ k. rw (same e) rise) (λ k. (rise.0, rise_changed p f same (e.address + 1) hi es rise.1))
 
-rise_fewer : (p : Endpoint → Bool) (lo hi : ℕ) (es : List Endpoint) → Rise lo es hi → Rise lo (filter p es) hi
+pub rise_fewer : (p : Endpoint → Bool) (lo hi : ℕ) (es : List Endpoint) → Rise lo es hi → Rise lo (filter p es) hi
 rise_fewer p lo hi [] rise = rise
 rise_fewer p lo hi (e ∷ es) rise = cond_both (p e) (e ∷ filter p es) (filter p es) (λ xs. Rise lo xs hi) (λ k. (rise.0, rise_fewer p (e.address + 1) hi es rise.1))
     (λ k. let here : lo ≤ e.address = rise.0 in rise_fewer p lo hi es (rise_from (e.address + 1) lo hi es (omega arith) rise.1))
 
-rise_more : (lo hi : ℕ) (es : List Endpoint) (e : Endpoint) → e.address ≡ hi → Rise lo es hi → Rise lo (es ++ e ∷ []) (hi + 1)
+pub rise_more : (lo hi : ℕ) (es : List Endpoint) (e : Endpoint) → e.address ≡ hi → Rise lo es hi → Rise lo (es ++ e ∷ []) (hi + 1)
 rise_more lo hi [] e is rise = (omega arith, omega arith)
 rise_more lo hi (x ∷ xs) e is rise = (rise.0, rise_more (x.address + 1) hi xs e is rise.1)
 
@@ -77,7 +77,7 @@ above p lo hi (x ∷ xs) e rise is = go (p x) is (λ k. above p (x.address + 1) 
     go true is later = let same : x ≡ e = cc in rw (← same) rise.0
     go false is later = let k = later is in let here : lo ≤ x.address = rise.0 in omega arith
 
-own : (p : Endpoint → Bool) (lo hi : ℕ) (es : List Endpoint) (e : Endpoint) → Rise lo es hi → find p es ≡ Some e → find (has_address_of e.address) es ≡ Some e
+pub own : (p : Endpoint → Bool) (lo hi : ℕ) (es : List Endpoint) (e : Endpoint) → Rise lo es hi → find p es ≡ Some e → find (has_address_of e.address) es ≡ Some e
 own p lo hi [] e rise is = absurd cc
 own p lo hi (x ∷ xs) e rise is = go (p x) is (λ k. own p (x.address + 1) hi xs e rise.1 k)
   where
@@ -93,19 +93,19 @@ abbrev pub Apart : List Endpoint → Type 0
 Apart [] = Unit {0}
 Apart (e ∷ es) = AllByRecursion (λ f. is_at e.local f ≡ false) es × Apart es
 
-apart_changed : (p : Endpoint → Bool) (f : Endpoint → Endpoint) → ((e : Endpoint) → (f e).local ≡ e.local) → (es : List Endpoint) → Apart es → Apart (changed_first p f es)
+pub apart_changed : (p : Endpoint → Bool) (f : Endpoint → Endpoint) → ((e : Endpoint) → (f e).local ≡ e.local) → (es : List Endpoint) → Apart es → Apart (changed_first p f es)
 apart_changed p f same [] apart = tt
 apart_changed p f same (e ∷ es) apart = cond_both (p e) (f e ∷ es) (e ∷ changed_first p f es) Apart (λ k. rw (same e) apart)
     (λ k. (all_changed (λ x. is_at e.local x ≡ false) (λ x. is_at e.local x ≡ false) p f (λ x a. a) es (λ x i a. rw (same x) a) apart.0, apart_changed p f same es apart.1))
 
-apart_fewer : (p : Endpoint → Bool) (es : List Endpoint) → Apart es → Apart (filter p es)
+pub apart_fewer : (p : Endpoint → Bool) (es : List Endpoint) → Apart es → Apart (filter p es)
 apart_fewer p [] apart = tt
 apart_fewer p (e ∷ es) apart = cond_both (p e) (e ∷ filter p es) (filter p es) Apart (λ k. (all_kept (λ x. is_at e.local x ≡ false) p es apart.0, apart_fewer p es apart.1)) (λ k. apart_fewer p es apart.1)
 
 swapped : (e f : Endpoint) → is_at e.local f ≡ is_at f.local e
 swapped e f = grind (arith, eqb-true, eq-eqb)
 
-apart_more : (es : List Endpoint) (e : Endpoint) → Apart es → AllByRecursion (λ f. is_at e.local f ≡ false) es → Apart (es ++ e ∷ [])
+pub apart_more : (es : List Endpoint) (e : Endpoint) → Apart es → AllByRecursion (λ f. is_at e.local f ≡ false) es → Apart (es ++ e ∷ [])
 apart_more [] e apart free = (tt, tt)
 apart_more (x ∷ xs) e apart free = (all_more (λ f. is_at x.local f ≡ false) xs e apart.0 (swapped x e ∙ free.0), apart_more xs e apart.1 free.1)
 

@@ -1,25 +1,18 @@
 -- At every moment of a run the queue of each endpoint is what stands at its address: what came there and is not gone.
-use Rattle.std.proofs.Common.{◌≡◌, ◌⊎◌, inl, inr, ℕ, zero, suc, ◌+◌, ◌-◌, ◌<◌, ◌≤◌, ◌^◌, Bool, true, false, not, cond, List, [], ◌∷◌, ◌++◌, map, filter, Option, Some, None, refl, sym, ap, ap₂, ◌∙◌, subst, arith}
-use Rattle.std.specs.Prelude.{◌==◌}
+use Rattle.std.proofs.Common.{◌≡◌, inl, inr, ℕ, ◌+◌, ◌-◌, ◌<◌, ◌≤◌, ◌^◌, Bool, true, false, not, cond, List, [], ◌∷◌, ◌++◌, map, filter, refl, sym, ap, ap₂, ◌∙◌, subst, arith}
 use Rattle.std.specs.List.{AllByRecursion, list_any}
-use Rattle.std.proofs.lemmas.Bool.{eq-eqb}
 use Rattle.std.proofs.lemmas.List.{append-nil, append_assoc}
-use Rattle.mc_base.specs.Limits.{first_address}
-use Rattle.mc_base.specs.Reading.{Reading, says, reading}
-use Rattle.mc_base.specs.declared.fate.Fate.{Fate}
-use Rattle.board_model.specs.Scenario.{Neighbour}
-use Rattle.board_model.specs.State.{Item, Request, DomainState, opening}
-use Rattle.board_model.specs.Deeds.{Deed, looks_back, puts_owed, looks_ahead, takes, calls, happens_by, after_deed, after_deeds, MayDo, AllMayDo, along, EachDeed}
-use Rattle.board_model.specs.MessageOrder.{is_by, taken_for, is_same, came_to, gone_from, standing, item_said}
-use Rattle.board_model.proofs.DeedRuns.{taken_by, count_taken, IsNamed, AreNamed, IsDeedRun}
+use Rattle.board_model.specs.State.{Item, Request, DomainState}
+use Rattle.board_model.specs.Deeds.{Deed, looks_back, puts_owed, looks_ahead, takes, calls, happens_by, after_deed, after_deeds, MayDo, along}
+use Rattle.board_model.specs.MessageOrder.{is_by, taken_for, is_same, came_to, gone_from, standing}
+use Rattle.board_model.proofs.DeedRuns.{IsNamed}
 use Rattle.board_model.proofs.OrderCalls.{Moment, succeeds, takes_given, calls_does, call_given}
 use Rattle.board_model.proofs.OrderDeeds.{Does, Comes, looks_back_does, puts_owed_does, looks_ahead_does}
-use Rattle.board_model.proofs.OrderItems.{IsPast, IsNext, all_past_more, Apart, Unlike, NoneSame, left_of, left_append, left_twice, left_all, none_in_past, apart_last}
+use Rattle.board_model.proofs.OrderItems.{IsPast, all_past_more, Apart, Unlike, left_of, left_append, left_twice, left_all, none_in_past, apart_last}
 use Rattle.board_model.proofs.OrderQueues.{queued_for}
 use Rattle.board_model.specs.Takings.{Taking, takings_by, cancelled_by}
 use Rattle.board_model.proofs.OrderRequests.{Took, Held, IsDone, taken_more, items_by, held_more, done_more, all_holds_same}
-use Rattle.board_model.proofs.OrderSerials.{Serials, given_by_all}
-use Rattle.board_model.proofs.OrderSound.{Sound}
+use Rattle.board_model.proofs.OrderSerials.{given_by_all}
 
 -- ---- deeds one after the other
 

@@ -1,13 +1,12 @@
 -- What each deed takes: where a receive answers, where a request is given complete, and where an item is handed to one that waits.
-use Rattle.std.proofs.Common.{◌≡◌, ◌⊎◌, inl, inr, ℕ, zero, suc, ◌+◌, ◌<◌, Bool, true, false, not, cond, List, [], ◌∷◌, ◌++◌, map, find, flat_map, Option, Some, None, option_to_list, refl, sym, ap, ◌∙◌, subst, arith}
+use Rattle.std.proofs.Common.{◌≡◌, ◌⊎◌, inl, inr, ℕ, zero, suc, ◌<◌, Bool, true, false, cond, List, [], ◌∷◌, ◌++◌, map, find, flat_map, Option, Some, None, refl, sym, ap, ◌∙◌, subst, arith}
 use Rattle.std.specs.Prelude.{◌==◌, ◌&&◌, ◌||◌, is_none}
 use Rattle.std.specs.List.{AllByRecursion, list_any}
 use Rattle.std.proofs.lemmas.Bool.{eqb-true, eq-eqb, ne_eqb, cases_Bool, and_parts}
 use Rattle.std.proofs.lemmas.List.{append-nil}
 use Rattle.board_model.specs.Lists.{changed_first, without, without_at}
-use Rattle.board_model.specs.State.{Item, Endpoint, Asked, Outcome, has_address, is_accepted, is_rejected, has_item, has_ended, Request, DomainState, endpoint_of, waits_at, receives_at, oldest_waiting}
-use Rattle.board_model.specs.Change.{Change, request_added, item_handed, waiting_ended, name_found, request_gone, done_with, all_done, handed_in, ended_in, asks_for, changed, changed_all}
-use Rattle.board_model.specs.CallChanges.{at_live}
+use Rattle.board_model.specs.State.{Item, Endpoint, Asked, Outcome, has_address, is_accepted, is_rejected, has_item, has_ended, Request, DomainState, waits_at, receives_at, oldest_waiting}
+use Rattle.board_model.specs.Change.{done_with, handed_in}
 use Rattle.board_model.specs.Takings.{Taking, taking, item_held, holds_item, held_before, asked_address, completed_by}
 use Rattle.board_model.proofs.OrderSerials.{IsOther, Differ, Below}
 

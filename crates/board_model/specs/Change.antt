@@ -10,7 +10,7 @@ use Rattle.mc_base.specs.declared.name.EndName.{EndName}
 use Rattle.mc_base.specs.declared.refusal.Refusal.{Refusal}
 use Rattle.board_model.specs.Lists.{without, changed_first, with_rising}
 use Rattle.board_model.specs.Choice.{without_best}
-use Rattle.board_model.specs.State.{Item, Endpoint, Asked, name_of, Outcome, has_address, has_item, has_ended, Request, LentPacket, Announcement, Peer, DomainState, has_address_of, endpoint_of, waits_at, is_numbered, is_owed_end}
+use Rattle.board_model.specs.State.{Item, Endpoint, Asked, name_of, Outcome, has_address, has_item, has_ended, Request, Announcement, Peer, DomainState, has_address_of, endpoint_of, waits_at, is_numbered, is_owed_end}
 
 pub data Change : Type 0 where
   -- an endpoint of this name is made; the one with this address is gone, with all that is queued there

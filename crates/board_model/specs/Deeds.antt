@@ -1,6 +1,6 @@
 -- Deeds: what a domain does, one thing after the other: looks, owed frames put, frames taken, and calls.
 -- Source: docs/PROFILE.md, "A turn" and "Calls".
-use Rattle.std.specs.Prelude.{◌≡◌, ℕ, ◌+◌, List, [], ◌∷◌, ◌++◌, Some}
+use Rattle.std.specs.Prelude.{◌≡◌, ℕ, List, [], ◌∷◌, ◌++◌, Some}
 use Rattle.mc_base.specs.Reading.{reading}
 use Rattle.mc_base.specs.declared.fate.Fate.{Fate}
 use Rattle.board_model.specs.DomainCall.{DomainCall}

@@ -1,7 +1,7 @@
 -- The messages that were dropped: those that came to no endpoint or to one on a channel, and those that were queued at an endpoint
 -- when it was deleted.
 -- Source: docs/PROFILE.md, "Messages".
-use Rattle.std.specs.Prelude.{ℕ, Bool, true, false, List, [], map, if◌then◌else◌}
+use Rattle.std.specs.Prelude.{ℕ, Bool, true, false, List, [], if◌then◌else◌}
 use Rattle.std.specs.List.{flat_map}
 use Rattle.mc_base.specs.Reading.{reading}
 use Rattle.mc_base.specs.declared.fate.Fate.{Fate}
@@ -9,7 +9,7 @@ use Rattle.mc_base.specs.declared.fate.Fate.TheVariants.{NoEndpoint, OnChannel}
 use Rattle.board_model.specs.declared.scenario.Scenario.{Scenario}
 use Rattle.board_model.specs.Journal.{tells}
 use Rattle.board_model.specs.DomainCall.{delete_at}
-use Rattle.board_model.specs.State.{Item, DomainState, live_at}
+use Rattle.board_model.specs.State.{DomainState, live_at}
 use Rattle.board_model.specs.Answer.{local}
 use Rattle.board_model.specs.Board.{DomainJournal}
 use Rattle.board_model.specs.CallChanges.{at_live}

@@ -1,6 +1,6 @@
 -- Which addresses are real: those that a domain gave to endpoints of its own.
 -- Source: docs/PROFILE.md, "Names": a domain gives its endpoints the addresses from 1024 on, one after the other.
-use Rattle.std.specs.Prelude.{◌≡◌, ℕ, ◌+◌, ◌≤◌, ◌<◌, ◌==◌, ◌++◌, List, find, Option, Some}
+use Rattle.std.specs.Prelude.{◌≡◌, ℕ, ◌+◌, ◌≤◌, ◌<◌, ◌==◌, ◌++◌, List, find, Some}
 use Rattle.std.specs.List.{AllByRecursion}
 use Rattle.mc_base.specs.Limits.{first_address, creation_limit}
 use Rattle.mc_base.specs.NameMap.{address_in}

@@ -3,9 +3,7 @@
 use Rattle.std.specs.Prelude.{ℕ, ◌+◌, List, [], ◌∷◌, ◌++◌, map, length, Option, None, Some}
 use Rattle.std.specs.List.{flat_map}
 use Rattle.board_model.specs.declared.scenario.CallLine.{CallLine}
-use Rattle.board_model.specs.declared.scenario.DomainLine.{DomainLine}
 use Rattle.board_model.specs.declared.scenario.Scenario.{Scenario}
-use Rattle.mc_base.specs.declared.refusal.Refusal.{Refusal}
 use Rattle.board_model.specs.Scenario.{script, neighbours}
 use Rattle.board_model.specs.Journal.{PlainEntry, turned, put, again, called, PlainAnswer, refuses, Visit, Taken}
 use Rattle.board_model.specs.State.{DomainState, opening}

@@ -9,7 +9,7 @@ use Rattle.mc_base.specs.declared.fate.Fate.{Fate}
 use Rattle.mc_base.specs.declared.fate.Fate.TheVariants.{Queued, Handed}
 use Rattle.board_model.specs.declared.scenario.Scenario.{Scenario}
 use Rattle.board_model.specs.DomainCall.{delete_at, test_of}
-use Rattle.board_model.specs.Journal.{PlainResult, found_at, brought, ended_by, PlainAnswer, refuses, tells, completes}
+use Rattle.board_model.specs.Journal.{found_at, brought, ended_by, PlainAnswer, refuses, tells, completes}
 use Rattle.board_model.specs.State.{DomainState, Item, Endpoint, Asked, name_of, message_at, Request, live_at, endpoint_of, oldest_waiting, request_at_place}
 use Rattle.board_model.specs.Choice.{best}
 use Rattle.board_model.specs.Answer.{local}

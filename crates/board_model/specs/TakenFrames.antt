@@ -9,7 +9,7 @@ use Rattle.mc_base.specs.Reading.{Reading, is_faulty, announces, says}
 use Rattle.mc_base.specs.declared.name.EndName.{EndName}
 use Rattle.mc_base.specs.declared.fate.Fate.{Fate}
 use Rattle.mc_base.specs.declared.fate.Fate.TheVariants as fate
-use Rattle.board_model.specs.State.{Item, Endpoint, Peer, DomainState, endpoint_of, one_waits, peer_at}
+use Rattle.board_model.specs.State.{Item, Endpoint, DomainState, endpoint_of, one_waits, peer_at}
 use Rattle.board_model.specs.Change.{Change, item_queued, item_handed, name_found, names_known}
 use Rattle.board_model.specs.Dealing.{fault_word, names_of}
 

@@ -1,6 +1,6 @@
 -- What receives took. A receive takes a message when it answers, or when its request becomes complete.
 -- Source: docs/PROFILE.md, "Messages" and "Requests".
-use Rattle.std.specs.Prelude.{ℕ, Bool, true, false, not, ◌&&◌, ◌==◌, List, [], ◌∷◌, ◌++◌, map, filter, option_to_list, option_map, Option, None, Some, if◌then◌else◌}
+use Rattle.std.specs.Prelude.{ℕ, Bool, true, false, ◌&&◌, ◌==◌, List, [], ◌∷◌, ◌++◌, map, option_to_list, option_map, Option, None, Some, if◌then◌else◌}
 use Rattle.std.specs.List.{flat_map, list_any}
 use Rattle.board_model.specs.declared.scenario.Scenario.{Scenario}
 use Rattle.board_model.specs.DomainCall.{receive_at, cancel_of}

@@ -2,9 +2,10 @@
 //! against. It has no code of its own beyond the types and the laws.
 //!
 //! `specs/` is to be read in this order: Lists, Scenario, FileLines, FileWords, Forms, Grammar, LineReasons, Language,
-//! LinkedBoard, Words, Journal, State, Choice, Dealing, Turn, DomainCall, Answer, Effect, Labels, Step, Run, Traffic,
-//! Board, Channels, Messages, Takings, Drops, Totals, Tallies, Places, Serial, Loads, SerialRun, Report, Headline,
-//! Laws, MessageLaws, SerialLaws, LanguageLaws.
+//! LinkedBoard, Words, Journal, State, Choice, Post, Change, Dealing, Turn, DomainCall, Answer, Effect, TakenFrames,
+//! CallChanges, Deeds, Labels, Step, Run, Traffic, Board, JournalDeeds, Given, Channels, Messages, Takings, Drops,
+//! MessageOrder, Totals, Tallies, Places, Serial, Loads, SerialRun, Report, Headline, Laws, MessageLaws, Honesty,
+//! ReadBack, SerialLaws, LanguageLaws.
 #![tactic(auto)]
 
 mod form;

@@ -37,7 +37,6 @@ pub mod CountLemmas
 pub mod FinishLemmas
 pub mod LaneLemmas
 pub mod ReportLemmas
-pub mod ScriptLemmas
 pub mod SumLemmas
 pub mod TallyLemmas
 pub mod ToldDomains

@@ -1,31 +1,28 @@
 -- The numbers of all tallies are those of the messages of the serial run.
 use Rattle.std.proofs.Common.{◌≡◌, ℕ, ◌+◌, ◌-◌, ◌<◌, ◌≤◌, ◌^◌, true, List, [], ◌∷◌, length, map, sum_by, refl, sym, ap, ap₂, ◌∙◌, arith, length-append}
-use Rattle.std.specs.List.{AllByRecursion, flat_map}
-use Rattle.std.proofs.lemmas.List.{length-map}
+use Rattle.std.specs.List.{AllByRecursion}
 use Rattle.std.proofs.lemmas.List.Sums.{sum_by-cons}
 use Rattle.board_model.specs.declared.totals.Totals.{Totals}
 use Rattle.board_model.specs.declared.scenario.Scenario.{Scenario}
 use Rattle.board_model.specs.LinkedBoard.{IsLinkedBoard}
-use Rattle.board_model.specs.State.{Endpoint, queued_items}
+use Rattle.board_model.specs.State.{queued_items}
 use Rattle.board_model.specs.Step.{RunState}
 use Rattle.board_model.specs.Run.{left_by}
 use Rattle.board_model.specs.Board.{DomainJournal}
 use Rattle.board_model.specs.Totals.{totals}
-use Rattle.board_model.specs.Messages.{queued_message, queued_at, queued_by, accepted, messages_queued, messages_in_ring}
+use Rattle.board_model.specs.Messages.{accepted, messages_queued, messages_in_ring}
 use Rattle.board_model.specs.Drops.{dropped}
 use Rattle.board_model.specs.Takings.{messages_taken}
 use Rattle.board_model.specs.SerialRun.{Station, journal_left, finished, serial_run}
 use Rattle.board_model.proofs.WholeBoard.{serial_run_is_whole}
 use Rattle.board_model.proofs.ListsCounts.{count-every}
-use Rattle.board_model.proofs.MessageBalance.{carried_in}
-use Rattle.board_model.proofs.MessageTold.{brought-told}
-use Rattle.board_model.proofs.MessageOnce.{total, total-same, length-joined}
-use Rattle.board_model.proofs.MessageBoard.{brought_by, accepted-parts, no-message-lost}
-use Rattle.board_model.proofs.MessageNumbers.{sent, brought, lost, numbers-told}
+use Rattle.board_model.proofs.MessageOnce.{total}
+use Rattle.board_model.proofs.KeptBoard.{no-message-lost}
+use Rattle.board_model.proofs.KeptFew.{accepted-few}
+use Rattle.board_model.proofs.KeptNumbers.{sent, came, lost, numbers-told}
 use Rattle.board_runner.specs.declared.tally.Tally.{Tally}
 use Rattle.board_runner.specs.Tallied.{IsTally, AreTallies}
 use Rattle.board_runner.proofs.FinishLemmas.{stations_left}
-use Rattle.board_runner.proofs.ScriptLemmas.{accepted-few}
 
 -- ---- sums
 
@@ -39,31 +36,17 @@ tallied s g f same [] (y ∷ ys) left all = absurd all
 tallied s g f same (t ∷ ts) [] left all = absurd all
 tallied s g f same (t ∷ ts) (y ∷ ys) left all = omega (arith, sum_by-cons g y ys, same t y left.0 all.0, tallied s g f same ts ys left.1 all.1)
 
--- the queued messages of a domain are its queued items
-queued_each : (d : ℕ) (es : List Endpoint) → length (flat_map (queued_at d) es) ≡ length (flat_map (λ (e : Endpoint). e.queue) es)
-queued_each d [] = refl
-queued_each d (e ∷ es) =
-    omega (arith, length-append (queued_at d e) (flat_map (queued_at d) es), length-append e.queue (flat_map (λ (x : Endpoint). x.queue) es), length-map e.queue (queued_message d e.address), queued_each d es)
-
 -- ---- the numbers of messages
 
 -- what tallies add up to
 pub record Sums (s : Scenario) (ys : List Tally) : Type 0 where
-  pub accepts : sum_by (λ y. y.counts.sent) ys ≡ length (accepted (serial_run s))
+  pub accepts : sum_by (λ y. y.counts.sent) ys ≡ length (accepted s (serial_run s))
   pub brings : sum_by (λ y. y.counts.brought) ys ≤ sum_by (λ y. y.counts.sent) ys
   pub in_ring : sum_by (λ y. y.counts.sent) ys - sum_by (λ y. y.counts.brought) ys ≡ length (messages_in_ring s (serial_run s))
   pub drops_some : sum_by (λ y. y.counts.lost + y.deleted) ys ≡ length (dropped s (serial_run s))
   pub queues : sum_by (λ y. y.held.queued) ys ≡ length (messages_queued s (serial_run s))
-  pub all : length (accepted (serial_run s)) ≡ length (messages_taken s (serial_run s)) + length (dropped s (serial_run s)) + length (messages_queued s (serial_run s)) + length (messages_in_ring s (serial_run s))
-  pub few : length (accepted (serial_run s)) < 2 ^ 32
-
--- what was brought was sent
-brought_few : (s : Scenario) → IsLinkedBoard s → total brought (serial_run s) ≤ total sent (serial_run s)
-brought_few s board =
-    let run = (serial_run_is_whole s board).0 in
-    let js = serial_run s in
-    let same = total-same (brought_by (λ m. true) s js) brought (λ j. count-every (flat_map (carried_in j.line.domain) j.entries) ∙ brought-told j.line.domain j.entries) js in
-    omega (arith, accepted-parts (λ m. true) s js board run, count-every (accepted js), same, (numbers-told s js board run).accepts)
+  pub all : length (accepted s (serial_run s)) ≡ length (messages_taken s (serial_run s)) + length (dropped s (serial_run s)) + length (messages_queued s (serial_run s)) + length (messages_in_ring s (serial_run s))
+  pub few : length (accepted s (serial_run s)) < 2 ^ 32
 
 pub sums : (s : Scenario) (ys : List Tally) → IsLinkedBoard s → AreTallies s (finished s).stations ys → Sums s ys
 sums s ys board tallies =
@@ -73,20 +56,20 @@ sums s ys board tallies =
     let left = stations_left s board in
     let told = numbers-told s js board whole.0 in
     let sends : sum_by (λ (y : Tally). y.counts.sent) ys ≡ total sent js = tallied s (λ y. y.counts.sent) sent (λ t y at is. is.counts.sent) ts ys left tallies in
-    let brings : sum_by (λ (y : Tally). y.counts.brought) ys ≡ total brought js = tallied s (λ y. y.counts.brought) brought (λ t y at is. is.counts.brought) ts ys left tallies in
+    let brings : sum_by (λ (y : Tally). y.counts.brought) ys ≡ total came js = tallied s (λ y. y.counts.brought) came (λ t y at is. is.counts.brought) ts ys left tallies in
     let losts : sum_by (λ (y : Tally). y.counts.lost + y.deleted) ys ≡ total (lost s) js
     = tallied s (λ y. y.counts.lost + y.deleted) (lost s) (λ t y at is. omega (arith, is.counts.lost, is.deleted)) ts ys left tallies in
-    let queues : sum_by (λ (y : Tally). y.held.queued) ys ≡ total (λ j. length (queued_by s j)) js
-    = tallied s (λ y. y.held.queued) (λ j. length (queued_by s j))
-    (λ t y at is. is.held.queued ∙ ap (λ (r : RunState). length (queued_items r.state)) at ∙ sym (queued_each t.line.domain (left_by s t.line t.entries).state.endpoints)) ts ys left tallies in
+    let queues : sum_by (λ (y : Tally). y.held.queued) ys ≡ total (λ j. length (queued_items (left_by s j.line j.entries).state)) js
+    = tallied s (λ y. y.held.queued) (λ j. length (queued_items (left_by s j.line j.entries).state))
+    (λ t y at is. is.held.queued ∙ ap (λ (r : RunState). length (queued_items r.state)) at) ts ys left tallies in
     record {
       accepts = sends ∙ sym told.accepts;
-      brings = omega (arith, sends, brings, brought_few s board);
+      brings = omega (arith, sends, brings, told.brings);
       in_ring = omega (arith, sends, brings, told.in_ring);
       drops_some = losts ∙ sym told.drops_some;
-      queues = queues ∙ sym (length-joined (queued_by s) js);
-      all = omega (arith, no-message-lost s js board whole.0 (λ m. true), count-every (accepted js), count-every (messages_taken s js), count-every (dropped s js), count-every (messages_queued s js), count-every (messages_in_ring s js));
-      few = omega (arith, accepted-few s js board whole.0 whole.1, board.lines_few);
+      queues = queues ∙ sym told.queues;
+      all = omega (arith, no-message-lost s js board whole.0 (λ m. true), count-every (accepted s js), count-every (messages_taken s js), count-every (dropped s js), count-every (messages_queued s js), count-every (messages_in_ring s js));
+      few = omega (arith, accepted-few s js board whole.0, board.lines_few);
     }
 
 -- the totals that these numbers are
@@ -95,7 +78,7 @@ pub totals-are : (s : Scenario) (ys : List Tally) → Sums s ys → (sent_all br
     ring ≡ sent_all - brought_all → taken ≡ sent_all - dropped_all - queued_all - ring →
     ◌≡◌ {A = Totals} (record { accepted = sent_all; taken = taken; dropped = dropped_all; queued = queued_all; ring = ring }) (totals s (serial_run s))
 totals-are s ys h sent_all brought_all dropped_all queued_all taken ring e1 e2 e3 e4 e5 e6 =
-    let a1 : sent_all ≡ length (accepted (serial_run s)) = e1 ∙ h.accepts in
+    let a1 : sent_all ≡ length (accepted s (serial_run s)) = e1 ∙ h.accepts in
     let a2 : dropped_all ≡ length (dropped s (serial_run s)) = e3 ∙ h.drops_some in
     let a3 : queued_all ≡ length (messages_queued s (serial_run s)) = e4 ∙ h.queues in
     let a4 : ring ≡ length (messages_in_ring s (serial_run s)) = e5 ∙ ap₂ (λ (n m : ℕ). n - m) e1 e2 ∙ h.in_ring in

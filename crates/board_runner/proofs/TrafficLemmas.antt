@@ -3,13 +3,12 @@ use Rattle.std.proofs.Common.{◌≡◌, ℕ, ◌+◌, Bool, true, false, cond, 
 use Rattle.std.specs.Prelude.{count_by, ◌==◌}
 use Rattle.std.specs.List.{flat_map}
 use Rattle.std.proofs.lemmas.List.{length-map}
-use Rattle.board_model.specs.Journal.{PlainEntry, turned, put, again, called, Visit, Taken, put_line, taken_line, visit_lines, joined}
+use Rattle.board_model.specs.Journal.{PlainEntry, turned, put, again, called, Visit, Taken, put_line, turn_line, taken_line, visit_lines, joined}
 use Rattle.board_model.specs.Traffic.{visits_to, puts_in, takes_in, put_to, takes_from, taken_from}
 use Rattle.board_model.specs.Tallies.{is_put_to, is_taken_from}
 use Rattle.board_model.proofs.ListsJoined.{entry_lines}
-use Rattle.board_model.proofs.MessageSums.{count-append}
+use Rattle.board_model.proofs.ListsCounts.{count-cons, count-append}
 use Rattle.board_model.proofs.MessageLines.{joined-count}
-use Rattle.board_model.proofs.MessageTold.{turned_count}
 use Rattle.board_model.proofs.MessageVisitLines.{count-never, visit_lines_count}
 
 -- a test that does not look at the items
@@ -40,7 +39,7 @@ module _ (n : ℕ) where
   one_put false frame = refl
 
   entry_puts : (e : PlainEntry) → count_by (is_put_to n) (entry_lines e) ≡ length (puts_in n e)
-  entry_puts (turned vs) = turned_count (is_put_to n) vs (record { no_turn = refl; no_back = λ p k. refl; no_see = λ p k. refl }) ∙ visits_puts vs
+  entry_puts (turned vs) = omega (arith, count-cons (is_put_to n) turn_line (flat_map visit_lines vs), visits_puts vs)
   entry_puts (put peer frame) = one_put (peer == n) frame
   entry_puts (again word) = refl
   entry_puts (called k a) = refl
@@ -70,7 +69,7 @@ module _ (n : ℕ) where
       ∙ takes_if (v.peer == n) v (visits_to n vs) (count_by (is_taken_from n) (flat_map visit_lines vs)) (visits_takes vs)
 
   entry_takes : (e : PlainEntry) → count_by (is_taken_from n) (entry_lines e) ≡ length (takes_in n e)
-  entry_takes (turned vs) = turned_count (is_taken_from n) vs (record { no_turn = refl; no_back = λ p k. refl; no_see = λ p k. refl }) ∙ visits_takes vs
+  entry_takes (turned vs) = omega (arith, count-cons (is_taken_from n) turn_line (flat_map visit_lines vs), visits_takes vs)
   entry_takes (put peer frame) = refl
   entry_takes (again word) = refl
   entry_takes (called k a) = refl

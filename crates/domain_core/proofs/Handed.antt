@@ -26,7 +26,7 @@ one-slot : (s t : Slot) → times_in s (t ∷ []) ≡ 0 → is_same t s ≡ fals
 one-slot s t none = no-one (is_same t s) (let sum = count-cons (λ (x : Slot). is_same x s) t [] in omega (arith, sum, none))
 
 item-stays : (b : Book) (s t : Slot) (k : Option Kept) → times_in s (t ∷ []) ≡ 0 → item_at (with_place b s k) t ≡ item_at b t
-item-stays b s t k none = ap (λ (o : Option Kept). record { peer = t.peer; source = source_in o; priority = priority_in o; content = content_in o }) (queued-there b s k t (differ-back t s (one-slot s t none)))
+item-stays b s t k none = ap (λ (o : Option Kept). record { peer = t.peer; source = source_in o; priority = priority_in o; channel = None; content = content_in o; frames = [] }) (queued-there b s k t (differ-back t s (one-slot s t none)))
 
 outcome-stays : (b : Book) (s : Slot) (k : Option Kept) (o : Option Complete) → times_in s (slots_in o) ≡ 0 → option_map (outcome_in (with_place b s k)) o ≡ option_map (outcome_in b) o
 outcome-stays b s k None none = refl

@@ -1,5 +1,5 @@
 -- An endpoint that is ended: the words of the call, what it leaves, and what is kept.
-use Rattle.std.proofs.Common.{◌≡◌, ℕ, ◌≤◌, Bool, true, false, cond, List, [], ◌∷◌, map, Option, Some, zero, suc, refl, sym, ap, ◌∙◌, subst, arith}
+use Rattle.std.proofs.Common.{◌≡◌, ℕ, ◌≤◌, Bool, true, false, cond, List, [], ◌∷◌, map, Option, Some, None, zero, suc, refl, sym, ap, ◌∙◌, subst, arith}
 use Rattle.std.specs.Prelude.{Contains, count_by, is_some, not, option_and_then, option_map, position, slice_get, unwrap_or, Ok, Err, ◌==◌}
 use Rattle.std.specs.List.{AllByRecursion}
 use Rattle.std.proofs.lemmas.Bool.{eqb-true}
@@ -46,7 +46,7 @@ items-at b (w ∷ ws) none =
     let rest : count_by (is_misplaced b) ws ≡ 0 = omega (arith, sum, none) in
     let o = queued_at b w.slot in
     let same : w.priority ≡ priority_in o = eqb-true w.priority (priority_in o) (is-true (w.priority == priority_in o) (no-one (is_misplaced b w) here)) in
-    ap (λ (n : ℕ). record { peer = w.slot.peer; source = source_in o; priority = n; content = content_in o } ∷ map (item_at b) (slots ws)) (sym same)
+    ap (λ (n : ℕ). record { peer = w.slot.peer; source = source_in o; priority = n; channel = None; content = content_in o; frames = [] } ∷ map (item_at b) (slots ws)) (sym same)
     ∙ ap (λ (is : List Item). item_in b w ∷ is) (items-at b ws rest)
 
 count-within : (test : Waiting → Bool) (es : List Endpoint) (i : ℕ) → count_by test (waiting_in (slice_get es i)) ≤ count_by test (all_waiting es)

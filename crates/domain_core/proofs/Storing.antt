@@ -31,7 +31,7 @@ keeps-both a b c first then s is = then s (still-queued a b s first is) ∙ firs
 
 -- what was stored stays
 pub item-same : (b b' : Book) (s : Slot) → queued_at b' s ≡ queued_at b s → item_at b' s ≡ item_at b s
-item-same b b' s same = ap (λ (o : Option Kept). record { peer = s.peer; source = source_in o; priority = priority_in o; content = content_in o }) same
+item-same b b' s same = ap (λ (o : Option Kept). record { peer = s.peer; source = source_in o; priority = priority_in o; channel = None; content = content_in o; frames = [] }) same
 
 pub stays-stored : (peer n : ℕ) (frame : List ℕ) (b b' : Book) → KeepsQueued b b' → IsStored peer n frame b → IsStored peer n frame b'
 stays-stored peer n frame b b' keeps stored = record {

@@ -1,5 +1,5 @@
 -- Visits to the peers of a domain, one after the other, and the turn that they make.
-use Rattle.std.proofs.Common.{◌≡◌, ℕ, zero, suc, ◌+◌, ◌<◌, ◌≤◌, Bool, true, false, not, cond, List, [], ◌∷◌, ◌++◌, length, map, take, drop, Option, Some, is_some, slice_get, refl, sym, ap, ◌∙◌, subst, arith, append_assoc}
+use Rattle.std.proofs.Common.{◌≡◌, ℕ, zero, suc, ◌+◌, ◌<◌, ◌≤◌, Bool, true, false, not, cond, List, [], ◌∷◌, ◌++◌, length, map, take, drop, Option, Some, None, is_some, slice_get, refl, sym, ap, ◌∙◌, subst, arith, append_assoc}
 use Rattle.std.specs.Prelude.{slice_set}
 use Rattle.std.specs.List.{AllByRecursion, flat_map, list_all}
 use Rattle.std.proofs.lemmas.List.{append-nil, drop-drop, drop-set-lt, length-map, map_push, take_all, take_more_set}
@@ -68,7 +68,7 @@ moved-last M (x ∷ olds) (y ∷ news) [] a ms b all one = absurd all
 -- ---- what was stored stays
 
 abbrev item_of_kept : ℕ → Option Kept → Item
-item_of_kept peer o = record { peer = peer; source = source_in o; priority = priority_in o; content = content_in o }
+item_of_kept peer o = record { peer = peer; source = source_in o; priority = priority_in o; channel = None; content = content_in o; frames = [] }
 
 still-stored : (b b' : Book) (peer number : ℕ) (frame : List ℕ) → KeepsQueued b b' → IsStored peer number frame b → IsStored peer number frame b'
 still-stored b b' peer number frame keeps stored =

@@ -1,6 +1,6 @@
 -- What frames that are taken mean for what the domain holds, for the lane and for the journal.
 -- Source: docs/PROFILE.md, "What a domain does with a taken frame".
-use Rattle.std.specs.Prelude.{◌≡◌, ℕ, ◌+◌, ◌≤◌, ◌<◌, true, false, List, ◌∷◌, [], ◌++◌, length, take, drop, map, position, slice_index, Some, option_map}
+use Rattle.std.specs.Prelude.{◌≡◌, ℕ, ◌+◌, ◌≤◌, ◌<◌, true, false, List, ◌∷◌, [], ◌++◌, length, take, drop, map, position, slice_index, Some, None, option_map}
 use Rattle.mc_base.specs.Limits.{item_size}
 use Rattle.mc_base.specs.Frame.{source_of}
 use Rattle.mc_base.specs.declared.fate.Fate.{Fate}
@@ -44,7 +44,7 @@ pub record IsReturned (peer : ℕ) (h : Held) (frame : List ℕ) (fate : Fate) :
   pub returned : keeps_buffer fate ≡ false
 
 abbrev pub message : ℕ → ℕ → ℕ → List ℕ → Item
-message peer source priority content = record { peer = peer; source = source; priority = priority; content = content }
+message peer source priority content = record { peer = peer; source = source; priority = priority; channel = None; content = content; frames = [] }
 
 -- the message of a frame whose content of this size lies behind 24 bytes of headers; byte 19 is the letter's argument
 abbrev pub message_in : ℕ → List ℕ → ℕ → Item

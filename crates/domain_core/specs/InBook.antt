@@ -32,7 +32,7 @@ priority_in (Some k) = slice_index k.buffer.bytes 19
 
 -- what waits in a buffer
 abbrev pub item_in : Book → Waiting → state.Item
-item_in b w = record { peer = w.slot.peer; source = source_in (queued_at b w.slot); priority = w.priority; content = content_in (queued_at b w.slot) }
+item_in b w = record { peer = w.slot.peer; source = source_in (queued_at b w.slot); priority = w.priority; channel = None; content = content_in (queued_at b w.slot); frames = [] }
 
 -- what was handed in a buffer
 abbrev pub item_at : Book → Slot → state.Item

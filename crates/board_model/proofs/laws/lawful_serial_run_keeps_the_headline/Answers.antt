@@ -1,4 +1,4 @@
-use Rattle.board_model.proofs.Headlines.{lawful_headline}
+use Rattle.board_model.proofs.LawfulRuns.{lawful_headline}
 use Rattle.board_model.proofs.laws.lawful_serial_run_keeps_the_headline.Goals as goal
 
 pub returns : goal.returns
