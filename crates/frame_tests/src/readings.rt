@@ -2,7 +2,7 @@ ghost use Rattle.mc_base.specs.Letter.{HasSpelling, plain_letter};
 
 use bridge_frame::{Letter, write_letter};
 use mc_base::{FrameFault, LetterFault, NAME_SERVICE_ADDRESS, Priority};
-use name_service::{Fault, NsFault, Said, fault_of, read_frame};
+use name_service::{Fault, NsFault, Said, fault_of, frames_say_what_they_carry, read_frame};
 use rpmsg_frame::encode_into;
 use std::test::Fail;
 
@@ -107,4 +107,5 @@ fn a_frame_is_faulty_announces_or_sends(rt: HostRuntime) {
     assert!(rt; is_faulty(&[0; 15], Fault::Frame(FrameFault::FrameShort)));
     assert!(rt; is_faulty(&[0; 513], Fault::Frame(FrameFault::FrameLong)));
     assert!(rt; is_faulty(&[0; 16], Fault::Letter(LetterFault::PayloadShort)));
+    frames_say_what_they_carry();
 }
