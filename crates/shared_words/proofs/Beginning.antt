@@ -2,7 +2,7 @@
 use Rattle.std.proofs.Common.{◌≡◌, ℕ, zero, suc, ◌+◌, ◌*◌, ◌/◌, ◌%◌, ◌<◌, ◌≤◌, List, [], ◌∷◌, ◌++◌, map, length, replicate, set, get_or, sym, refl, ap, ◌∙◌, subst, inl, inr, arith, Option, None, Bool, cond, le-ltb, lt-ltb, append-nil, length-set, add-one}
 use mathlib.Core.Option.{none, some, some-injective, some-ne-none}
 use mathlib.Core.Logic.{dite}
-use native.Mathlib.Decide.{ℕ_discrete, dec_lt}
+use native.Mathlib.Decide.{ℕ_discrete}
 use lib.ListN.{get_elem?}
 use lib.Seq.{set-get_or}
 use Rattle.atomic_table.specs.Table.{step, Act, keeps, takes, chain, carried_after, homes_after, Valid, Allows, Splits, opening}
@@ -28,7 +28,7 @@ use Rattle.shared_words.specs.Slots.{Slot, vacant, numbers_from, carried_times}
 use Rattle.shared_words.specs.Kinds.{Seated, begun}
 use Rattle.shared_words.specs.HalfHolds.{HalfHolds}
 use Rattle.shared_words.specs.Start.{start_word, desc_word, new_buffer}
-use Rattle.shared_words.proofs.CountLemmas.{inside-lt, inside-le, inside-yes, tick-same, tick-other}
+use Rattle.shared_words.proofs.CountLemmas.{inside-lt, all_numbers, by-map}
 use Rattle.shared_words.proofs.WordLemmas.{size_facts, idle_in_order}
 use Rattle.shared_words.proofs.ViewLemmas.{one_of, views_part}
 
@@ -210,22 +210,8 @@ splits_part key id d e s (inr r) at = inr record {
 
 -- The slots of the halves
 
-numbers-below : (x j n : ℕ) → x < j → carried_times x (map vacant (numbers_from j n)) ≡ 0
-numbers-below x j zero l = refl
-numbers-below x j (suc n) l = let o = tick-other j x (λ e. omega arith) in let h = numbers-below x (suc j) n (omega arith) in omega (arith, o, h)
-
-numbers-yes : (x j n : ℕ) → j ≤ x → x < j + n → carried_times x (map vacant (numbers_from j n)) ≡ 1
-numbers-yes x j zero a b = absurd (omega arith)
-numbers-yes x j (suc n) a b = dite (ℕ_discrete j x) (λ e. let o = tick-same j x e in let h = numbers-below x (suc j) n (omega arith) in omega (arith, o, h))
-    (λ ne. let o = tick-other j x ne in let h = numbers-yes x (suc j) n (omega arith) (omega arith) in omega (arith, o, h))
-
-numbers-no : (x j n : ℕ) → j + n ≤ x → carried_times x (map vacant (numbers_from j n)) ≡ 0
-numbers-no x j zero a = refl
-numbers-no x j (suc n) a = let o = tick-other j x (λ e. omega arith) in let h = numbers-no x (suc j) n (omega arith) in omega (arith, o, h)
-
 all_carried : (x z : ℕ) → carried_times x (map vacant (numbers_from 0 z)) ≡ inside z x
-all_carried x z = dite (dec_lt x z) (λ l. numbers-yes x 0 z (omega arith) (omega arith) ∙ sym (inside-yes z x l))
-    (λ n. let o = numbers-no x 0 z (omega arith) in let k = inside-le z x in dite (dec_lt 0 (inside z x)) (λ y. absurd (n (inside-lt z x y))) (λ y. omega (arith, y, o)))
+all_carried x z = by-map (λ (s : Slot). s.0) vacant x (numbers_from 0 z) ∙ all_numbers x z
 
 pub first_driver : (z longest : ℕ) (slots : List Slot) → slots ≡ map vacant (numbers_from 0 z) → HalfHolds z Driver (new_view longest) slots 0 0 0
 first_driver z longest slots is = record {
@@ -258,20 +244,6 @@ numbers-more k = ap (numbers_from 0) (add-one k) ∙ (numbers-suc 0 k ∙ ap (λ
 
 -- The first buffers
 
-buffers-below : (x j n : ℕ) → x < j → times_by (λ (b : Stored). b.number) x (map new_buffer (numbers_from j n)) ≡ 0
-buffers-below x j zero l = refl
-buffers-below x j (suc n) l = let o = tick-other j x (λ e. omega arith) in let h = buffers-below x (suc j) n (omega arith) in omega (arith, o, h)
-
-buffers-yes : (x j n : ℕ) → j ≤ x → x < j + n → times_by (λ (b : Stored). b.number) x (map new_buffer (numbers_from j n)) ≡ 1
-buffers-yes x j zero a b = absurd (omega arith)
-buffers-yes x j (suc n) a b = dite (ℕ_discrete j x) (λ e. let o = tick-same j x e in let h = buffers-below x (suc j) n (omega arith) in omega (arith, o, h))
-    (λ ne. let o = tick-other j x ne in let h = buffers-yes x (suc j) n (omega arith) (omega arith) in omega (arith, o, h))
-
-buffers-no : (x j n : ℕ) → j + n ≤ x → times_by (λ (b : Stored). b.number) x (map new_buffer (numbers_from j n)) ≡ 0
-buffers-no x j zero a = refl
-buffers-no x j (suc n) a = let o = tick-other j x (λ e. omega arith) in let h = buffers-no x (suc j) n (omega arith) in omega (arith, o, h)
-
 -- each number below the size is that of one of them
 pub all_buffers : (x z : ℕ) → times_by (λ (b : Stored). b.number) x (map new_buffer (numbers_from 0 z)) ≡ inside z x
-all_buffers x z = dite (dec_lt x z) (λ l. buffers-yes x 0 z (omega arith) (omega arith) ∙ sym (inside-yes z x l))
-    (λ n. let o = buffers-no x 0 z (omega arith) in let k = inside-le z x in dite (dec_lt 0 (inside z x)) (λ y. absurd (n (inside-lt z x y))) (λ y. omega (arith, y, o)))
+all_buffers x z = by-map (λ (b : Stored). b.number) new_buffer x (numbers_from 0 z) ∙ all_numbers x z

@@ -1,10 +1,11 @@
 -- How often a number stands in a list, and how long such a list can be.
-use Rattle.std.proofs.Common.{◌≡◌, ◌≢◌, ℕ, zero, suc, ◌+◌, ◌<◌, ◌≤◌, eqb, ltb, cond, Bool, true, false, List, [], ◌∷◌, ◌++◌, length, sym, refl, ap, subst, arith, eq-eqb, ne_eqb, lt-ltb, le-ltb}
+use Rattle.std.proofs.Common.{◌≡◌, ◌≢◌, ℕ, zero, suc, ◌+◌, ◌<◌, ◌≤◌, eqb, ltb, cond, Bool, true, false, List, [], ◌∷◌, ◌++◌, length, map, sym, refl, ap, ◌∙◌, subst, arith, eq-eqb, ne_eqb, lt-ltb, le-ltb}
 use mathlib.Core.Option.{some, some-injective, some-ne-none}
 use mathlib.Core.Logic.{dite}
 use native.Mathlib.Decide.{ℕ_discrete, dec_lt}
 use lib.ListN.{get_elem?}
-use Rattle.shared_words.specs.Entry.{Entry, number_of, times, times_by, inside}
+use Rattle.shared_words.specs.Entry.{Entry, number_of, times, times_by, often, inside}
+use Rattle.shared_words.specs.Slots.{numbers_from}
 
 abbrev pub tick : ℕ → ℕ → ℕ
 tick a x = cond (eqb a x) 1 0
@@ -137,3 +138,21 @@ shorter_by N xs ys a b h = let p = length_is number_of N xs (all_small N xs a) i
 pub longer_by : (N : ℕ) (xs ys : List Entry) → ((n : ℕ) (e : Entry) → get_elem? xs n ≡ some e → number_of e < N) → ((n : ℕ) (e : Entry) → get_elem? ys n ≡ some e → number_of e < N) → ((x : ℕ) → times x xs ≤ inside N x + times x ys) → length xs ≤ N + length ys
 longer_by N xs ys a b h = let p = length_is number_of N xs (all_small N xs a) in let q = length_is number_of N ys (all_small N ys b) in let r = sum_le N (λ k. times k xs) (λ k. inside N k + times k ys) h in
     let s = sum_add N (inside N) (λ k. times k ys) in let t = sum_inside N N (omega arith) in omega (arith, p, q, r, s, t)
+
+-- the numbers from 0 on
+often-below : (x j n : ℕ) → x < j → often x (numbers_from j n) ≡ 0
+often-below x j zero l = refl
+often-below x j (suc n) l = let o = tick-other j x (λ e. omega arith) in let h = often-below x (suc j) n (omega arith) in omega (arith, o, h)
+
+often-from : (x j n : ℕ) → j ≤ x → often x (numbers_from j n) ≡ inside (j + n) x
+often-from x j zero l = sym (inside-no (j + 0) x (omega arith))
+often-from x j (suc n) l = dite (ℕ_discrete j x)
+    (λ e. let o = tick-same j x e in let b = often-below x (suc j) n (omega arith) in let y = inside-yes (j + suc n) x (omega arith) in omega (arith, o, b, y))
+    (λ ne. let o = tick-other j x ne in let h = often-from x (suc j) n (omega (arith, ne)) in let i : inside (suc j + n) x ≡ inside (j + suc n) x = ap (λ (m : ℕ). inside m x) (let e : suc j + n ≡ j + suc n = omega arith in e) in omega (arith, o, h, i))
+
+pub all_numbers : (x z : ℕ) → often x (numbers_from 0 z) ≡ inside z x
+all_numbers x z = often-from x 0 z (omega arith) ∙ ap (λ (m : ℕ). inside m x) (let e : 0 + z ≡ z = omega arith in e)
+
+pub by-map : {A B : Type 0} (number : B → ℕ) (f : A → B) (x : ℕ) (items : List A) → times_by number x (map f items) ≡ times_by (λ a. number (f a)) x items
+by-map {A} {B} number f x [] = refl
+by-map {A} {B} number f x (a ∷ more) = ap (λ (n : ℕ). tick (number (f a)) x + n) (by-map number f x more)

@@ -1,68 +1,48 @@
 -- Lists in which each number stands as often have the same length.
-use Rattle.std.proofs.Common.{◌≡◌, ℕ, zero, suc, ◌+◌, ◌<◌, ◌≤◌, Bool, true, false, cond, List, [], ◌∷◌, ◌++◌, length, map, sym, refl, ap, ◌∙◌, arith, length-append, eq-eqb, ne_eqb}
+use Rattle.std.proofs.Common.{◌≡◌, ℕ, zero, suc, ◌+◌, ◌<◌, Bool, true, false, cond, List, [], ◌∷◌, ◌++◌, length, map, refl, ap, arith, length-append}
 use Rattle.std.proofs.lemmas.List.{length-map}
 use Rattle.std.specs.Prelude.{◌==◌}
-use mathlib.Core.Logic.{dite}
-use native.Mathlib.Decide.{ℕ_discrete}
-use Rattle.shared_words.specs.Entry.{Entry, number_of, times, often, inside}
+use Rattle.shared_words.specs.Entry.{Entry, number_of, times, often}
 use Rattle.shared_words.specs.Places.{begins, starts_with}
 use Rattle.shared_words.specs.Slots.{numbers_from}
 use Rattle.shared_words.specs.declared.view.Role.{Role}
 use Rattle.shared_words.specs.declared.view.Role.TheVariants.{Driver, Device}
-use Rattle.shared_words.proofs.CountLemmas.{inside-yes, inside-no, by-append}
+use Rattle.shared_words.proofs.CountLemmas.{tick, tick-same, by-append, by-map, all_numbers}
 
 -- the list without the first n in it
 abbrev without : ℕ → List ℕ → List ℕ
 without n [] = []
 without n (x ∷ xs) = cond (x == n) xs (x ∷ without n xs)
 
--- one where two numbers are the same
-abbrev one_if : ℕ → ℕ → ℕ
-one_if a x = cond (a == x) 1 0
-
 same-number : (a b : ℕ) → (a == b) ≡ true → a ≡ b
 same-number a b e = grind arith
 
-one_if-same : (a x : ℕ) → a ≡ x → one_if a x ≡ 1
-one_if-same a x e = ap {B = ℕ} (λ (b : Bool). cond b 1 0) (eq-eqb a x e)
-
-often-without : (x n : ℕ) (xs : List ℕ) → 0 < often n xs → often x xs ≡ often x (without n xs) + one_if n x
+often-without : (x n : ℕ) (xs : List ℕ) → 0 < often n xs → often x xs ≡ often x (without n xs) + tick n x
 often-without x n [] l = absurd (omega arith)
-often-without x n (y ∷ ys) l = elim (y == n) as (λ b. (y == n) ≡ b → often x (y ∷ ys) ≡ often x (cond b ys (y ∷ without n ys)) + one_if n x) [
-  | true ↦ λ e. let same : y ≡ n = same-number y n e in let t = ap {B = ℕ} (λ (m : ℕ). one_if m x) same in omega (arith, t)
-  | false ↦ λ e. let none : one_if y n ≡ 0 = ap {B = ℕ} (λ (b : Bool). cond b 1 0) e in let left : 0 < often n ys = omega (arith, none) in let more = often-without x n ys left in omega (arith, more)
+often-without x n (y ∷ ys) l = elim (y == n) as (λ b. (y == n) ≡ b → often x (y ∷ ys) ≡ often x (cond b ys (y ∷ without n ys)) + tick n x) [
+  | true ↦ λ e. let same : y ≡ n = same-number y n e in let t = ap {B = ℕ} (λ (m : ℕ). tick m x) same in omega (arith, t)
+  | false ↦ λ e. let none : tick y n ≡ 0 = ap {B = ℕ} (λ (b : Bool). cond b 1 0) e in let left : 0 < often n ys = omega (arith, none) in let more = often-without x n ys left in omega (arith, more)
 ] refl
 
 length-without : (n : ℕ) (xs : List ℕ) → 0 < often n xs → length (without n xs) + 1 ≡ length xs
 length-without n [] l = absurd (omega arith)
 length-without n (y ∷ ys) l = elim (y == n) as (λ b. (y == n) ≡ b → length (cond b ys (y ∷ without n ys)) + 1 ≡ length (y ∷ ys)) [
   | true ↦ λ e. omega arith
-  | false ↦ λ e. let none : one_if y n ≡ 0 = ap {B = ℕ} (λ (b : Bool). cond b 1 0) e in let left : 0 < often n ys = omega (arith, none) in let more = length-without n ys left in omega (arith, more)
+  | false ↦ λ e. let none : tick y n ≡ 0 = ap {B = ℕ} (λ (b : Bool). cond b 1 0) e in let left : 0 < often n ys = omega (arith, none) in let more = length-without n ys left in omega (arith, more)
 ] refl
 
 pub same-length : (xs ys : List ℕ) → ((x : ℕ) → often x xs ≡ often x ys) → length xs ≡ length ys
 same-length [] [] same = refl
-same-length [] (y ∷ ys) same = let s = same y in let o = one_if-same y y refl in absurd (omega (arith, s, o))
-same-length (x ∷ xs) ys same = let s = same x in let o = one_if-same x x refl in let l : 0 < often x ys = omega (arith, s, o) in
+same-length [] (y ∷ ys) same = let s = same y in let o = tick-same y y refl in absurd (omega (arith, s, o))
+same-length (x ∷ xs) ys same = let s = same x in let o = tick-same x x refl in let l : 0 < often x ys = omega (arith, s, o) in
     let h = same-length xs (without x ys) (λ z. let q = same z in let w = often-without z x ys l in omega (arith, q, w)) in let k = length-without x ys l in omega (arith, h, k)
 
 pub often-numbers : (x : ℕ) (es : List Entry) → often x (map number_of es) ≡ times x es
-often-numbers x [] = refl
-often-numbers x (e ∷ es) = ap (λ (n : ℕ). one_if (number_of e) x + n) (often-numbers x es)
+often-numbers x es = by-map (λ (n : ℕ). n) number_of x es
 
 length-from : (j n : ℕ) → length (numbers_from j n) ≡ n
 length-from j zero = refl
 length-from j (suc n) = let h = length-from (suc j) n in omega (arith, h)
-
-below : (x j n : ℕ) → x < j → often x (numbers_from j n) ≡ 0
-below x j zero l = refl
-below x j (suc n) l = let h = below x (suc j) n (omega arith) in let o : one_if j x ≡ 0 = ap {B = ℕ} (λ (b : Bool). cond b 1 0) (ne_eqb j x (λ e. omega arith)) in omega (arith, h, o)
-
-often-from : (x j n : ℕ) → j ≤ x → often x (numbers_from j n) ≡ inside (j + n) x
-often-from x j zero l = sym (inside-no (j + 0) x (omega arith))
-often-from x j (suc n) l = dite (ℕ_discrete j x)
-    (λ e. let o = one_if-same j x e in let b = below x (suc j) n (omega arith) in let y = inside-yes (j + suc n) x (omega arith) in omega (arith, o, b, y))
-    (λ ne. let o : one_if j x ≡ 0 = ap {B = ℕ} (λ (b : Bool). cond b 1 0) (ne_eqb j x ne) in let h = often-from x (suc j) n (omega (arith, ne)) in let i : inside (suc j + n) x ≡ inside (j + suc n) x = ap (λ (m : ℕ). inside m x) (let e : suc j + n ≡ j + suc n = omega arith in e) in omega (arith, o, h, i))
 
 -- the numbers that a half begins with
 abbrev first-numbers : Role → ℕ → List ℕ
@@ -70,7 +50,7 @@ first-numbers Driver size = numbers_from 0 size
 first-numbers Device size = []
 
 first-times : (role : Role) (size x : ℕ) → often x (first-numbers role size) ≡ begins role size x
-first-times Driver size x = often-from x 0 size (omega arith) ∙ ap (λ (m : ℕ). inside m x) (let e : 0 + size ≡ size = omega arith in e)
+first-times Driver size x = all_numbers x size
 first-times Device size x = refl
 
 first-count : (role : Role) (size : ℕ) → length (first-numbers role size) ≡ starts_with role size
