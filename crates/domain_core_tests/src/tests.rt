@@ -34,7 +34,11 @@ use Call::{Create, Receive, Send, SendAbroad};
 type Answered = (Call, Result<u32, Refusal>);
 
 /// A domain without links: its number is 3.
-fn alone(alloc: Global, nodes: u8, pool: u32) -> Result<Domain<AnySend<'static>, AnyRecv<'static>>, NoMemory>
+fn alone(
+    alloc: Global,
+    nodes: u8,
+    pool: u32,
+) -> Result<Domain<AnySend<'static>, AnyRecv<'static>>, NoMemory>
     requires some_nodes { 1 ≤ nodes }
     requires nodes { nodes ≤ 16 }
     requires some_pool { 1 ≤ pool }
