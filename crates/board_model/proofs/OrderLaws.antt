@@ -1,5 +1,5 @@
 -- Each receive takes the best of what stands, and each delete answers how many messages it drops: along every run of deeds.
-use Rattle.std.proofs.Common.{◌≡◌, ◌⊎◌, inl, inr, ℕ, ◌+◌, ◌-◌, ◌<◌, ◌≤◌, ◌^◌, Bool, true, false, cond, List, [], ◌∷◌, ◌++◌, map, filter, flat_map, option_to_list, length, Option, Some, None, refl, sym, ap, ◌∙◌, subst, arith}
+use Rattle.std.proofs.Common.{◌≡◌, ◌⊎◌, inl, inr, ℕ, ◌+◌, ◌-◌, ◌<◌, ◌≤◌, ◌^◌, Bool, true, false, cond, List, [], ◌∷◌, ◌++◌, map, filter, flat_map, option_to_list, length, take, Option, Some, None, refl, sym, ap, ap₂, ◌∙◌, subst, arith}
 use Rattle.std.specs.List.{AllByRecursion}
 use Rattle.std.specs.Prelude.{Contains}
 use Rattle.std.proofs.lemmas.Bool.{eq-eqb}
@@ -7,19 +7,21 @@ use Rattle.std.proofs.lemmas.List.{append-nil, append_assoc}
 use Rattle.std.proofs.lemmas.List.Elements.{Contains-append_cases, Contains-push_cases}
 use Rattle.mc_base.specs.declared.refusal.Refusal.{Refusal}
 use Rattle.board_model.specs.Choice.{best}
-use Rattle.board_model.specs.DomainCall.{delete_at, test_of}
-use Rattle.board_model.specs.Journal.{tells}
+use Rattle.board_model.specs.DomainCall.{delete_at, receive_at, test_of}
+use Rattle.board_model.specs.Journal.{PlainAnswer, refuses, agrees, tells, gives, completes}
 use Rattle.board_model.specs.Scenario.{Neighbour}
-use Rattle.board_model.specs.State.{Endpoint, DomainState, opening, live_at, queue_at, queue_in}
-use Rattle.board_model.specs.Answer.{local, refusal, success, answer_by}
-use Rattle.board_model.specs.CallChanges.{at_live}
+use Rattle.board_model.specs.State.{Item, Endpoint, DomainState, opening, live_at, queue_at, queue_in}
+use Rattle.board_model.specs.Answer.{local, refusal, success, answer, answer_by, unless_refused, given}
+use Rattle.board_model.specs.Change.{best_gone, changed_all}
+use Rattle.board_model.specs.CallChanges.{at_live, best_item, success_changes, call_changes}
 use Rattle.board_model.specs.Deeds.{Deed, calls, after_deed, after_deeds, MayDo, AllMayDo, along, EachDeed}
-use Rattle.board_model.specs.Takings.{Taking, takings_by, cancelled_by}
-use Rattle.board_model.specs.MessageOrder.{is_by, taken_for, standing, TakesWhatComes, TakesBest, TestTells, DeleteTells}
+use Rattle.board_model.specs.Takings.{Taking, taking, answered_by, completed_by, takings_by, cancelled_by}
+use Rattle.board_model.specs.MessageOrder.{Gives, GivesTaken, is_by, taken_for, standing, TakesWhatComes, TakesBest, TestTells, DeleteTells}
 use Rattle.board_model.proofs.DeedRuns.{IsNamed, AreNamed, IsDeedRun}
 use Rattle.board_model.proofs.OrderCalls.{succeeds, live_found}
 use Rattle.board_model.proofs.OrderDeeds.{Takes}
 use Rattle.board_model.proofs.OrderSound.{sound_own}
+use Rattle.board_model.proofs.OrderTakings.{all_old, none_taken}
 use Rattle.board_model.proofs.OrderStands.{Stands, stands_more, given_few, after_append, all_done, done_same, taken_after}
 use Rattle.board_model.proofs.OrderCancels.{cancels_done, test_tells}
 use Rattle.board_model.proofs.OrderRequests.{IsDone, items_by, taken_more}
@@ -64,10 +66,44 @@ stands_open room number nodes neighbours small = record {
 
 -- ---- the best
 
+-- a receive that answers
+module _ (s : DomainState) (node port max : ℕ) (size : ℕ) (bytes : List ℕ) where
+  given_is : (x : Option Item) → gives size bytes ≡ given max x → (i : Item) × (x ≡ Some i) × Gives max i size bytes
+  given_is None is = absurd cc
+  given_is (Some i) is = (i, refl, record { whole = size_is is; first = bytes_are is })
+    where
+      size_is : gives size bytes ≡ gives (length i.content) (take max i.content) → size ≡ length i.content
+      size_is e = cc
+
+      bytes_are : gives size bytes ≡ gives (length i.content) (take max i.content) → bytes ≡ take max i.content
+      bytes_are e = cc
+
+  found_best : (o : Option Endpoint) (i : Item) → best (λ x. x.priority) (queue_in o) ≡ Some i → (e : Endpoint) × (o ≡ Some e) × (best_item e ≡ Some i)
+  found_best None i is = absurd cc
+  found_best (Some e) i is = (e, refl, is)
+
+  receive_gives : gives size bytes ≡ answer s node (receive_at port max) → GivesTaken s (calls node (receive_at port max) (gives size bytes))
+  receive_gives may = go (refusal s node (receive_at port max)) refl may
+    where
+      go : (o : Option Refusal) → refusal s node (receive_at port max) ≡ o → gives size bytes ≡ answer_by o (success s node (receive_at port max)) → GivesTaken s (calls node (receive_at port max) (gives size bytes))
+      go (Some w) refused is = absurd cc
+      go None none is =
+          let i = given_is (best (λ x. x.priority) (queue_at s (local node port))) is in
+          let e = found_best (live_at s (local node port)) i.0 (ap (λ o. best (λ x. x.priority) (queue_in o)) (sym (live_found s (local node port))) ∙ i.1) in
+          let answers : answered_by s (calls node (receive_at port max) (gives size bytes)) ≡ taking None e.0.address i.0 ∷ [] =
+          ap (λ o. at_live o (λ f. map (taking None f.address) (option_to_list (best_item f)))) e.1 ∙ ap (λ x. map (taking None e.0.address) (option_to_list x)) e.2 in
+          let after : call_changes s node (receive_at port max) ≡ best_gone e.0.address ∷ [] = ap (λ o. unless_refused o [] (success_changes s node (receive_at port max))) none ∙ ap (λ o. at_live o (λ f. best_gone f.address ∷ [])) e.1 in
+          let rest : flat_map (completed_by s) (changed_all s (call_changes s node (receive_at port max))).requests ≡ [] = ap (λ cs. flat_map (completed_by s) (changed_all s cs).requests) after ∙ none_taken s s.requests (all_old s) in
+          (taking None e.0.address i.0, ap₂ (λ xs ys. xs ++ ys) answers rest, i.2)
+
+gives_taken : (s : DomainState) (d : Deed) → MayDo s d → GivesTaken s d
+gives_taken s (calls node (receive_at port max) (gives size bytes)) may = receive_gives s node port max size bytes may
+gives_taken s other may = tt
+
 takes_best : (start : DomainState) (room : ℕ) (before : List Deed) (d : Deed) → Stands room start before → MayDo (after_deeds start before) d → IsNamed before d → succeeds d ≤ room → TakesBest start before d
 takes_best start room before d stands may named few =
     let does = given_few room before (after_deeds start before) d may named few stands.moment in
-    each (takings_by (after_deeds start before) d) does.0.takes_best
+    (each (takings_by (after_deeds start before) d) does.0.takes_best, gives_taken (after_deeds start before) d may)
   where
     one : (t : Taking) → Takes (after_deeds start before) d t → (best (λ i. i.priority) (standing start before t.address) ≡ Some t.item) ⊎ TakesWhatComes start before d t
     one t (inl is) = inl (ap (best (λ i. i.priority)) (sym (stands.queues t.address)) ∙ is)

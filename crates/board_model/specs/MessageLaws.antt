@@ -8,7 +8,8 @@ use Rattle.board_model.specs.Board.{DomainJournal, IsBoardRun}
 use Rattle.board_model.specs.MessageOrder.{ReceivesBest, TestsTellTaken, DeletesTellDropped, CancelledTookNothing}
 use Rattle.board_model.specs.Headline.{NoMessageLost}
 
--- each message receive takes the oldest of the best priority that stands, or, where none does, the message that comes in that moment
+-- each message receive takes the oldest of the best priority that stands, or, where none does, the message that comes in that moment;
+-- and one that answers gives the size and the first bytes of what it took
 abbrev pub ReceivesTakeTheBest : Type 0
 ReceivesTakeTheBest = (s : Scenario) (j : DomainJournal) → IsLinkedBoard s → IsDomainRun s j.line j.entries → ReceivesBest s j
 

@@ -8,8 +8,8 @@ use Rattle.mc_base.specs.Reading.{Reading, says, reading}
 use Rattle.mc_base.specs.declared.fate.Fate.{Fate}
 use Rattle.mc_base.specs.declared.fate.Fate.TheVariants.{Queued, Handed}
 use Rattle.board_model.specs.declared.scenario.Scenario.{Scenario}
-use Rattle.board_model.specs.DomainCall.{delete_at, test_of}
-use Rattle.board_model.specs.Journal.{found_at, brought, ended_by, PlainAnswer, refuses, tells, completes}
+use Rattle.board_model.specs.DomainCall.{delete_at, receive_at, test_of}
+use Rattle.board_model.specs.Journal.{found_at, brought, ended_by, PlainAnswer, refuses, tells, gives, completes}
 use Rattle.board_model.specs.State.{DomainState, Item, Endpoint, Asked, name_of, message_at, Request, live_at, endpoint_of, oldest_waiting, request_at_place}
 use Rattle.board_model.specs.Choice.{best}
 use Rattle.board_model.specs.Answer.{local}
@@ -75,8 +75,21 @@ pub record TakesWhatComes (start : DomainState) (before : List Deed) (d : Deed) 
   pub comes : comes_now t.address d ≡ t.item ∷ []
   pub waits : waiting_first (after_deeds start before) t.address ≡ t.request
 
+abbrev pub EachBest : DomainState → List Deed → Deed → Type 0
+EachBest start before d = AllByRecursion (λ t. (best (λ i. i.priority) (standing start before t.address) ≡ Some t.item) ⊎ TakesWhatComes start before d t) (takings_by (after_deeds start before) d)
+
+-- the size of the item, and its first bytes, as many as the receive asks for
+pub record Gives (max : ℕ) (i : Item) (size : ℕ) (bytes : List ℕ) : Type 0 where
+  pub whole : size ≡ length i.content
+  pub first : bytes ≡ take max i.content
+
+-- a receive that answers gives what it took, and no more
+abbrev pub GivesTaken : DomainState → Deed → Type 0
+GivesTaken s (calls node (receive_at port max) (gives size bytes)) = (t : Taking) × (takings_by s (calls node (receive_at port max) (gives size bytes)) ≡ t ∷ []) × Gives max t.item size bytes
+GivesTaken s other = Unit {0}
+
 abbrev pub TakesBest : DomainState → List Deed → Deed → Type 0
-TakesBest start before d = AllByRecursion (λ t. (best (λ i. i.priority) (standing start before t.address) ≡ Some t.item) ⊎ TakesWhatComes start before d t) (takings_by (after_deeds start before) d)
+TakesBest start before d = EachBest start before d × GivesTaken (after_deeds start before) d
 
 -- ---- what a test answers, by what was asked
 
@@ -87,11 +100,6 @@ is_by serial (Some request) = request == serial
 
 abbrev pub taken_for : DomainState → List Deed → ℕ → List Item
 taken_for start before serial = map (λ t. t.item) (filter (λ t. is_by serial t.request) (along takings_by start before))
-
--- the size of the item, and its first bytes, as many as the receive asks for
-pub record Gives (max : ℕ) (i : Item) (size : ℕ) (bytes : List ℕ) : Type 0 where
-  pub whole : size ≡ length i.content
-  pub first : bytes ≡ take max i.content
 
 pub record TellsTaken (max : ℕ) (took : List Item) (size : ℕ) (bytes : List ℕ) : Type 0 where
   pub item : Item
