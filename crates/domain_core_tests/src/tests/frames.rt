@@ -1,6 +1,6 @@
 //! What becomes of the frames of a linked domain, whatever bytes they have.
 
-ghost use Rattle.std.specs.Prelude.{◌≡◌, ◌≤◌, ◌<◌, [], IfOk, IsTrue, length};
+ghost use Rattle.std.specs.Prelude.{◌≡◌, ◌≤◌, ◌<◌, ◌∷◌, [], IfOk, IsTrue, length};
 ghost use Rattle.lane_end.specs.PlainLane.{AreOneLane};
 ghost use Rattle.lane_end.specs.AnySender as any_sender;
 ghost use Rattle.lane_end.specs.AnyReceiver as any_receiver;
@@ -116,10 +116,18 @@ fn fed(alloc: Global, rows: &[Row]) -> Result<Domain<AnySend<'static>, AnyRecv<'
         return Err("no lane".into());
     };
     feed.give_all(rows);
-    let mut links = Vec::new(alloc);
-    links.push(feed.into_link(alloc)?)?;
+    let links = only(alloc, feed.into_link(alloc)?)?;
     let domain = Domain::open(alloc, 0, 1, 2, links)?;
     Ok(domain)
+}
+
+/// A list of this one. A push onto a list of what names a lifetime is beyond the borrow checker today.
+fn only<T: Drop>(alloc: Global, it: T) -> Result<Vec<T>, Fail>
+    ensures { IfOk result (λ all. all.items ≡ it ∷ []) }
+{
+    let mut all = Vec::new(alloc);
+    all.push(it)?;
+    Ok(all)
 }
 
 /// Domain 0, linked to domain 1, and what it noted.
