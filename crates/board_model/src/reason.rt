@@ -1,24 +1,35 @@
+use thiserror::Error;
+
 /// Why a line of a scenario file is refused. Where several reasons hold of a line, the first in this order counts.
-#[derive(Clone, Copy, Debug, PartialEq, Eq)]
+#[derive(Clone, Copy, Debug, PartialEq, Eq, Error)]
 pub enum LineReason {
     /// A byte is outside 0x20 to 0x7e, and no tab.
+    #[error("a byte is neither printable ASCII nor a tab")]
     Byte,
     /// The line has more than 20,000 bytes.
+    #[error("the line has more than 20,000 bytes; split it")]
     Long,
     /// The words fit no form.
+    #[error("the words fit no form")]
     Form,
     /// A number isn't written in decimal without leading zeros, or is out of its range.
+    #[error("a number is out of its range, or has a sign or leading zeros")]
     Number,
     /// Bytes have an odd number of digits or other digits, or are more than 9,000.
+    #[error("bytes are not hexadecimal digits, two a byte, or are more than 9,000")]
     Bytes,
     /// A domain line stands after a link or call line, or a link line after a call line.
+    #[error("a domain line comes after a link or call line, or a link line after a call line")]
     Order,
     /// A domain is told twice, or is named by a link or as the domain of a call line and not told above. A file that tells
     /// no domain has this reason at the line after its last.
+    #[error("a domain is declared twice, or not declared above")]
     Domain,
     /// A domain is linked to itself, a pair is linked twice, or a size is no power of two from 2 to 256.
+    #[error("a domain is linked to itself, a pair is linked twice, or the size is not a power of two from 2 to 256")]
     Link,
     /// A label is told twice in its domain or told where no label stands, or is used and was not told above by the same
     /// domain for a request.
+    #[error("a label is set twice, stands where none may, or is not set above by the same domain")]
     Label,
 }

@@ -8,10 +8,10 @@ use thiserror::Error;
 #[derive(Debug, Drop, Error)]
 pub enum LaneFault {
     /// The size is not from 1 to 256.
-    #[error("the size is not from 1 to 256")]
+    #[error("the size of a lane is not from 1 to 256 buffers")]
     Size,
-    /// Want of memory.
-    #[error("no memory")]
+    /// An allocation failed.
+    #[error("out of memory")]
     NoMemory,
 }
 

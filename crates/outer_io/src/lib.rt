@@ -14,6 +14,9 @@ pub use source::{ReadFault, Source, read_all};
 pub use standard::{StdSink, StdSource};
 pub use writer::Writer;
 
+use thiserror::Error;
+
 /// A read or a write failed.
-#[derive(Clone, Copy, Debug, PartialEq, Eq)]
+#[derive(Clone, Copy, Debug, PartialEq, Eq, Error)]
+#[error("a read or a write failed")]
 pub struct Failed;

@@ -43,10 +43,10 @@ pub trait Source {
 #[derive(Clone, Copy, Debug, PartialEq, Eq, Error)]
 pub enum ReadFault {
     /// A read failed, and no more were made.
-    #[error("a read failed")]
+    #[error("a read failed; the bytes read before are lost")]
     Failed,
     /// More bytes came than the limit. No read failed.
-    #[error("more bytes came than the limit")]
+    #[error("the input has more bytes than the limit; shorten it")]
     TooLong,
     /// Memory is out, which may happen at any time; no read failed.
     #[error("out of memory")]

@@ -1,13 +1,16 @@
 //! Why a scenario file is not read.
 
 use board_model::LineReason;
+use thiserror::Error;
 
 /// Why a scenario file is not read.
-#[derive(Clone, Copy, Debug, PartialEq, Eq)]
+#[derive(Clone, Copy, Debug, PartialEq, Eq, Error)]
 pub enum ScenarioFault {
     /// The line, counted from 1, is refused.
+    #[error("line {line} is refused: {reason}")]
     Refused { line: u32, reason: LineReason },
-    /// Out of memory. It may come at any time.
+    /// An allocation failed, which may happen at any time.
+    #[error("out of memory")]
     NoMemory,
 }
 

@@ -5,13 +5,13 @@ use thiserror::Error;
 #[derive(Debug, Drop, Error)]
 pub enum RingFault {
     /// The queue is neither 0 nor 1.
-    #[error("the queue is neither 0 nor 1")]
+    #[error("the number of the queue is neither 0 nor 1")]
     Queue,
-    /// The size is no power of two from 2 to 256.
-    #[error("the size is no power of two from 2 to 256")]
+    /// The size is not a power of two from 2 to 256.
+    #[error("the size of the ring is not a power of two from 2 to 256")]
     Size,
-    /// Want of memory.
-    #[error("no memory")]
+    /// An allocation failed.
+    #[error("out of memory")]
     NoMemory,
 }
 
