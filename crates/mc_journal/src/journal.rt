@@ -3,9 +3,11 @@
 
 ghost use Rattle.std.specs.Prelude.{◌≡◌, ◌≤◌, ◌<◌, ◌+◌, [], IfOk, OnOk, IsNone, ◌↔◌, length, option_map, slice_get};
 ghost use Rattle.mc_journal.specs.Entry.{line_of_entry, bytes_in, noted_entry, IsNotable};
+ghost use Rattle.mc_journal.specs.Written.{StaysOrDoubles, byte_places, entry_places};
 
 use crate::entry::Entry;
 use crate::kept::{Kept, entry_of, keep, keep_again, keep_idle};
+use crate::room::make_room;
 use mc_base::NoMemory;
 use std::alloc::Global;
 use std::marker::Model;
@@ -25,15 +27,16 @@ impl Model for Journal {
 
     ghost use Rattle.mc_journal.specs.Kept.{AreWithin, kept_line};
 
-    ghost view = { λ j. record { lines = map (kept_line j.bytes.items) j.entries.items; entry_room = vec_capacity j.entries - vec_len j.entries; byte_room = vec_capacity j.bytes - vec_len j.bytes } };
+    ghost view = { λ j. record { lines = map (kept_line j.bytes.items) j.entries.items; bytes_held = vec_len j.bytes; entry_room = vec_capacity j.entries - vec_len j.entries; byte_room = vec_capacity j.bytes - vec_len j.bytes } };
 
     ghost invariant = { λ j. AreWithin j.bytes.items j.entries.items };
 }
 
 impl Journal {
-    /// A journal without entries. It takes no memory before the first `reserve`, so `NoMemory` never comes today.
+    /// Makes a journal without entries. It takes no memory before the first `reserve`, so `NoMemory` does not occur today.
     pub fn new(alloc: Global) -> Result<Journal, NoMemory>
-        ensures { IfOk result (λ j. j.lines ≡ []) }
+        ensures lines { IfOk result (λ j. j.lines ≡ []) }
+        ensures bytes { IfOk result (λ j. j.bytes_held ≡ 0) }
     {
         Ok(Journal {
             entries: Vec::new(alloc),
@@ -41,35 +44,50 @@ impl Journal {
         })
     }
 
-    /// Makes room for as many more entries, which hold as many bytes together. What is kept stays, and so does the
-    /// room that there is, also at want of memory, which is the only refusal. Where room is made, it at least doubles.
+    /// Makes room for `entries` more entries, which hold `bytes` bytes together. The entries stay, and the room never
+    /// shrinks. Where there is not enough room, the places for all entries (or bytes) become at least twice as many, so
+    /// that reserving before each entry moves each byte a constant number of times.
+    ///
+    /// # Errors
+    ///
+    /// `NoMemory` where an allocation fails. The room for entries may have grown then.
     pub fn reserve(&mut self, entries: u32, bytes: u32) -> Result<(), NoMemory>
         ensures lines { self.new.lines ≡ self.old.lines }
+        ensures bytes { self.new.bytes_held ≡ self.old.bytes_held }
         ensures entry_room { OnOk result (entries ≤ self.new.entry_room) }
         ensures byte_room { OnOk result (bytes ≤ self.new.byte_room) }
         ensures entry_room_stays { self.old.entry_room ≤ self.new.entry_room }
         ensures byte_room_stays { self.old.byte_room ≤ self.new.byte_room }
+        ensures entries_double { StaysOrDoubles (entry_places self.old) (entry_places self.new) }
+        ensures bytes_double { StaysOrDoubles (byte_places self.old) (byte_places self.new) }
     {
-        if self.entries.reserve(entries as usize).is_err() {
-            return Err(NoMemory);
-        }
-        if self.bytes.reserve(bytes as usize).is_err() {
-            return Err(NoMemory);
-        }
+        make_room(&mut self.entries, entries as usize)?;
+        make_room(&mut self.bytes, bytes as usize)?;
         Ok(())
     }
 
-    /// Notes an entry, and copies its bytes once. There has to be room for one entry more and for its bytes.
+    /// Removes all entries and keeps the room. It takes no memory and frees none.
+    pub fn clear(&mut self)
+        ensures lines { self.new.lines ≡ [] }
+        ensures bytes { self.new.bytes_held ≡ 0 }
+        ensures entry_places { entry_places self.new ≡ entry_places self.old }
+        ensures byte_places { byte_places self.new ≡ byte_places self.old }
+    {
+        self.entries.clear();
+        self.bytes.clear();
+    }
+
+    /// Notes an entry, and copies its bytes once. There must be room for one more entry and for its bytes.
     ///
     /// An idle turn is noted by itself, as `Idle` with `turns` 1, and joins the idle turns of the last entry. A call that is
-    /// made again is noted by itself, as `Again`, and never as `Spin`. Where one idle turn is the last entry, it takes that
-    /// away and is told by `Spin`, or joins one of the same word that stands directly before. A count at the greatest `u64`
-    /// is not joined further.
+    /// made again is noted by itself, as `Again`, and never as `Spin`. Where the last entry is one idle turn, the two become
+    /// a `Spin`, which joins a `Spin` of the same word directly before. A count at the greatest `u64` is not joined further.
     pub fn note(&mut self, entry: Entry<'_>)
         requires entry_room { 0 < self.old.entry_room }
         requires byte_room { bytes_in entry ≤ self.old.byte_room }
         requires notable { IsNotable entry }
         ensures lines { self.new.lines ≡ noted_entry self.old.lines (line_of_entry entry.entry) }
+        ensures bytes { self.new.bytes_held ≡ self.old.bytes_held + bytes_in entry.entry }
         ensures entry_room { self.old.entry_room ≤ self.new.entry_room + 1 }
         ensures byte_room { self.old.byte_room ≤ self.new.byte_room + bytes_in entry.entry }
     {
@@ -83,14 +101,14 @@ impl Journal {
         }
     }
 
-    /// How many entries there are.
+    /// Returns how many entries there are.
     pub fn len(&self) -> usize
         ensures { result ≡ length self.now.lines }
     {
         self.entries.len()
     }
 
-    /// The entry at a place, counted from 0, or `None` past the end.
+    /// Returns the entry at a place, counted from 0, or `None` past the end.
     pub fn entry(&self, at: usize) -> Option<Entry<'_>>
         ensures none { IsNone result ↔ (length self.now.lines ≤ at) }
         ensures value { option_map line_of_entry result ≡ slice_get self.now.lines at }

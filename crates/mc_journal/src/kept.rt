@@ -48,7 +48,7 @@ pub enum Kept {
 /// Keeps an entry. Its bytes go behind the others, for which there is room.
 pub fn keep(bytes: &mut Vec<u8>, entry: Entry<'_>) -> Kept
     requires room { vec_len bytes.old + bytes_in entry ≤ vec_capacity bytes.old }
-    ensures bytes { (more : List ℕ) × (bytes.new.items ≡ bytes.old.items ++ more) × (length more ≤ bytes_in entry.entry) }
+    ensures bytes { (more : List ℕ) × (bytes.new.items ≡ bytes.old.items ++ more) × (length more ≡ bytes_in entry.entry) }
     ensures line { kept_line bytes.new.items result ≡ line_of_entry entry.entry }
     ensures within { IsWithin (length bytes.new.items) result }
     ensures capacity { vec_capacity bytes.old ≤ vec_capacity bytes.new }
@@ -79,7 +79,7 @@ pub fn keep(bytes: &mut Vec<u8>, entry: Entry<'_>) -> Kept
 /// Keeps how a request ended.
 fn keep_result(bytes: &mut Vec<u8>, told: Told<'_>) -> KeptResult
     requires room { vec_len bytes.old + bytes_in_told told ≤ vec_capacity bytes.old }
-    ensures bytes { (more : List ℕ) × (bytes.new.items ≡ bytes.old.items ++ more) × (length more ≤ bytes_in_told told.entry) }
+    ensures bytes { (more : List ℕ) × (bytes.new.items ≡ bytes.old.items ++ more) × (length more ≡ bytes_in_told told.entry) }
     ensures result { kept_result bytes.new.items result ≡ result_of_told told.entry }
     ensures within { IsResultWithin (length bytes.new.items) result }
     ensures capacity { vec_capacity bytes.old ≤ vec_capacity bytes.new }

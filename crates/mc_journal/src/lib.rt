@@ -6,6 +6,7 @@
 mod entry;
 mod journal;
 mod kept;
+mod room;
 mod text;
 mod threads;
 mod words;

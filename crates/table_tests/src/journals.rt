@@ -141,3 +141,13 @@ fn answers_are_noted(rt: HostRuntime) -> Result<(), Fail> {
     note_answers(&mut journal)?;
     assert_shown(&rt, rt.alloc(), &journal, &NOTED_ANSWERS)
 }
+
+#[test]
+fn a_cleared_journal_is_used_again(rt: HostRuntime) -> Result<(), Fail> {
+    let mut journal = Journal::new(rt.alloc())?;
+    note_answers(&mut journal)?;
+    journal.clear();
+    assert!(rt; journal.len() == 0 && journal.entry(0).is_none());
+    note_answers(&mut journal)?;
+    assert_shown(&rt, rt.alloc(), &journal, &NOTED_ANSWERS)
+}

@@ -37,7 +37,7 @@ returns c =
           ∙ ap (λ (ns : List Neighbour). opening d.domain d.nodes ns) (neighbours-opened c.args.scenario.now c.requires.board d);
       ends = c.in_ok-domain.ensures.ends ∙ ap (λ (ls : List PlainLink). ends_opened d.domain (new_loop d.pool) ls) c.in_ok-links.ensures;
       requests = c.in_ok-domain.ensures.ids;
-      told = c.in_ok-journal.ensures;
+      told = c.in_ok-journal.ensures.lines;
       number = refl;
       labels = λ label. ap (lookup (is_at (λ k. slice_cmp nat_cmp label k.now))) c.new-2.ensures.empty;
       dropped = refl;
