@@ -19,6 +19,7 @@ pub mod Answer
 pub mod Effect
 pub mod Change
 pub mod TakenFrames
+pub mod ChannelEnds
 pub mod CallChanges
 pub mod Deeds
 pub mod Labels

@@ -3,7 +3,7 @@
 //!
 //! `specs/` is to be read in this order: Lists, Scenario, FileLines, FileWords, Forms, Grammar, LineReasons, Language,
 //! LinkedBoard, Words, Journal, State, Choice, Post, Change, Dealing, Turn, DomainCall, Answer, Effect, TakenFrames,
-//! CallChanges, Deeds, Labels, Step, Run, Traffic, Board, JournalDeeds, Given, Channels, Messages, Takings, Drops,
+//! ChannelEnds, CallChanges, Deeds, Labels, Step, Run, Traffic, Board, JournalDeeds, Given, Channels, Messages, Takings, Drops,
 //! MessageOrder, Totals, Tallies, Places, Serial, Loads, SerialRun, Report, Headline, Laws, MessageLaws, Honesty,
 //! ReadBack, SerialLaws, LanguageLaws.
 #![tactic(auto)]
