@@ -44,11 +44,13 @@ written-count : (s : RingSender) (r : RingReceiver) → AreOfOneRing s r → IsS
 written-count s r one a back =
     let d = length-drop (written_before r.role (receiver_size r)) r.half.written in let b = before-same s r one in omega (arith, d, b)
 
-pub have-met : (s : RingSender) (r : RingReceiver) → AreOfOneRing s r → IsSender s → IsReceiver r → IsPrefix r.half.taken s.half.written → IsPrefix s.half.taken r.half.written → r.half.shown ≤ length s.half.written
+pub have-met : (s : RingSender) (r : RingReceiver) → AreOfOneRing s r → IsSender s → IsReceiver r → IsPrefix r.half.taken s.half.written → IsPrefix s.half.taken r.half.written → r.half.shown ≤ length s.half.written → s.half.shown ≤ length r.half.written
     → HaveMet s r (sender_met s r) (receiver_met s r)
-have-met s r one a b front back most = record {
+have-met s r one a b front back most most_back = record {
   sends = refl;
   receives = refl;
+  come = let w = length-map s.half.written frame_in in omega (arith, most, w);
+  back = let w = written-count s r one a back in omega (arith, most_back, w);
   all_come = sym (length-map s.half.written frame_in);
   all_back = written-count s r one a back;
   lane = ring-lane (sender_met s r) (receiver_met s r) (record { ring = one.ring; role = one.role }) a front back (met-receiver s r one a front back b most) (Rattle.std.proofs.Common.le_refl (length s.half.written));

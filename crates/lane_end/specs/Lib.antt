@@ -34,4 +34,5 @@ pub mod LooksBack
 pub mod RingOpening
 pub mod Priming
 pub mod AnyLane
+pub mod AnyLaneLaws
 pub mod ExactLooks

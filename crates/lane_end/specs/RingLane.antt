@@ -48,6 +48,10 @@ receiver_met s r = record r { half = shows (length s.half.written) r.half }
 pub record HaveMet (s : RingSender) (r : RingReceiver) (sender : RingSender) (receiver : RingReceiver) : Type 0 where
   pub sends : sender ≡ sender_met s r
   pub receives : receiver ≡ receiver_met s r
+  -- what each knew before was done
+  pub come : come_known r ≤ length (put_by s)
+  pub back : back_known s ≤ length (given_entries r)
+  -- and now each knows of all that was done
   pub all_come : come_known receiver ≡ length (put_by s)
   pub all_back : back_known sender ≡ length (given_entries r)
   pub lane : IsRingLane sender receiver
