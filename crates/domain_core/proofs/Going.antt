@@ -1,5 +1,5 @@
 -- What a domain keeps through any of its calls: its number, and that the ends of a link to another still fit together.
-use Rattle.std.proofs.Common.{◌≡◌, ℕ, Bool, true, false, cond, List, [], ◌∷◌, ◌++◌, Option, Some, None, refl, ap, ◌∙◌, subst}
+use Rattle.std.proofs.Common.{◌≡◌, ℕ, Bool, true, false, cond, List, [], ◌∷◌, ◌++◌, Option, Some, None, refl, sym, ap, ◌∙◌, subst}
 use Rattle.std.specs.Prelude.{◌==◌}
 use Rattle.mc_base.specs.declared.refusal.Refusal.{Refusal}
 use Rattle.mc_base.specs.declared.request.RequestId.{RequestId}
@@ -12,6 +12,11 @@ use Rattle.board_model.proofs.WholeTurns.{turn_number}
 use Rattle.lane_end.specs.SendMoves.{SendMove}
 use Rattle.lane_end.specs.ReceiveMoves.{ReceiveMove}
 use Rattle.lane_end.specs.MoveLaws.{Lead-append}
+use Rattle.lane_end.specs.PlainLane.{AreOneLane}
+use Rattle.lane_end.specs.AnySender.{AnySends, AnySends-none, AnySends-both}
+use Rattle.lane_end.specs.AnyReceiver.{AnyReceives, AnyReceives-none, AnyReceives-both}
+use Rattle.lane_end.specs.AnyLane.{AreEndsOfOneRing}
+use Rattle.lane_end.proofs.AnyLaneLemmas.{ends-stay}
 use Rattle.lane_end.specs.PlainSender.{Sender, Sends, MaySend, sender_after}
 use Rattle.lane_end.specs.PlainReceiver.{Receiver, Receives, MayReceive, receiver_after}
 use Rattle.lane_end.proofs.LaneLemmas.{stay-one-lane}
@@ -23,8 +28,9 @@ use Rattle.domain_core.specs.Ends.{EndsMoved, EndsMoved-both}
 use Rattle.domain_core.specs.AllMoved.{AllMoved}
 use Rattle.domain_core.specs.DomainView.{DomainView}
 use Rattle.domain_core.specs.Calls.{Calls}
-use Rattle.domain_core.specs.Carrying.{PlainLink, link_to}
-use Rattle.domain_core.specs.Going.{AreLinkedDomains, Goes, PlainDomain, PlainGoes}
+use Rattle.domain_core.specs.Carrying.{AreLinked, link_to}
+use Rattle.domain_core.specs.Going.{CallsGoBy, StayLinkedBy, AreLinkedBy, Goes, LinkedDomain}
+use Rattle.domain_core.specs.declared.link.Link.{Link}
 
 -- ---- the number
 
@@ -73,78 +79,6 @@ module _ {L : Type 0} (Moved : L → List LaneMove → L → Type 0) (both : (a 
         moved = all.1;
       }
 
--- ---- links in one memory
-
-abbrev PlainEnds : Type 0
-PlainEnds = Ends Sender Receiver
-
-abbrev PlainMoved : PlainEnds → List LaneMove → PlainEnds → Type 0
-PlainMoved a moves b = EndsMoved Sends Receives a moves b
-
-plain-both : (a b c : PlainEnds) (xs ys : List LaneMove) → PlainMoved a xs b → PlainMoved b ys c → PlainMoved a (xs ++ ys) c
-plain-both a b c xs ys first then =
-    EndsMoved-both Sends Receives (λ x y z ms ns one two. Lead-append MaySend sender_after x y z ms ns one two) (λ x y z ms ns one two. Lead-append MayReceive receiver_after x y z ms ns one two) a b c xs ys first then
-
-pub plain-calls-go : (node : ℕ) (call : DomainCall) (old new : PlainDomain) (lines lines' : List Line) (answered : PlainAnswer) (given : Option RequestId) → Calls PlainMoved node call old new lines lines' answered given → PlainGoes old new
-plain-calls-go node call old new lines lines' answered given calls = calls-go PlainMoved plain-both node call old new lines lines' answered given calls
-
--- a link after moves
-record HasMoved (a : PlainLink) (o : Option PlainLink) : Type 0 where
-  link : PlainLink
-  is : o ≡ Some link
-  moves : List LaneMove
-  moved : LinkMoved Sends Receives a moves link
-
-link-moved : (n : ℕ) (es fs : List PlainEnds) (moves : List (List LaneMove)) (a : PlainLink) → AllMoved PlainMoved es moves fs → link_to n es ≡ Some a → HasMoved a (link_to n fs)
-link-moved n [] fs moves a moved has = absurd cc
-link-moved n (Own l ∷ es) (Own m ∷ fs) (ms ∷ moves) a moved has = link-moved n es fs moves a moved.1 has
-link-moved n (Linked l ∷ es) (Linked m ∷ fs) (ms ∷ moves) a moved has =
-    elim (l.peer == n) as (λ b. (l.peer == n) ≡ b → cond b (Some l) (link_to n es) ≡ Some a → HasMoved a (link_to n (Linked m ∷ fs))) [
-      | true ↦ λ is found.
-          let same : l ≡ a = cc in
-          let here : (m.peer == n) ≡ true = ap (λ k. k == n) moved.0.peer ∙ is in
-          record {
-            link = m;
-            is = ap (λ (b : Bool). cond b (Some m) (link_to n fs)) here;
-            moves = ms;
-            moved = subst (λ (x : PlainLink). LinkMoved Sends Receives x ms m) same moved.0;
-          }
-      | false ↦ λ other found.
-          let rest = link-moved n es fs moves a moved.1 found in
-          let there : (m.peer == n) ≡ false = ap (λ k. k == n) moved.0.peer ∙ other in
-          record {
-            link = rest.link;
-            is = ap (λ (b : Bool). cond b (Some m) (link_to n fs)) there ∙ rest.is;
-            moves = rest.moves;
-            moved = rest.moved;
-          }
-    ] refl has
-link-moved n (Own l ∷ es) (Linked m ∷ fs) (ms ∷ moves) a moved has = absurd moved.0
-link-moved n (Linked l ∷ es) (Own m ∷ fs) (ms ∷ moves) a moved has = absurd moved.0
-link-moved n (e ∷ es) fs [] a moved has = absurd moved
-link-moved n (e ∷ es) [] (ms ∷ moves) a moved has = absurd moved
-
--- one domain of two that are linked makes a call
-pub stay-linked : (one one' two : PlainDomain) → PlainGoes one one' → AreLinkedDomains one two → AreLinkedDomains one' two
-stay-linked one one' two goes l =
-    let mine = link-moved two.state.number one.ends one'.ends goes.moves l.there goes.moved l.one_has in
-    record {
-      there = mine.link;
-      back = l.back;
-      one_has = mine.is;
-      two_has = ap (λ (n : ℕ). link_to n two.ends) goes.number ∙ l.two_has;
-      joined = record {
-        there = stay-one-lane l.there.send mine.link.send l.back.recv l.back.recv (sends mine.moves) [] l.joined.there mine.moved.sent refl;
-        back = stay-one-lane l.back.send l.back.send l.there.recv mine.link.recv [] (receives mine.moves) l.joined.back refl mine.moved.received;
-      };
-    }
-
-pub linked-other : (one two : PlainDomain) → AreLinkedDomains one two → AreLinkedDomains two one
-linked-other one two l = record { there = l.back; back = l.there; one_has = l.two_has; two_has = l.one_has; joined = record { there = l.joined.back; back = l.joined.there } }
-
-pub stay-linked-both : (one one' two : PlainDomain) → PlainGoes one one' → (AreLinkedDomains one two → AreLinkedDomains one' two) × (AreLinkedDomains two one → AreLinkedDomains two one')
-stay-linked-both one one' two goes = (λ l. stay-linked one one' two goes l, λ l. linked-other one' two (stay-linked one one' two goes (linked-other two one l)))
-
 -- ---- ends of any kind
 
 module _ {S R : Type 0} (Sent : S → List SendMove → S → Type 0) (Received : R → List ReceiveMove → R → Type 0)
@@ -152,3 +86,86 @@ module _ {S R : Type 0} (Sent : S → List SendMove → S → Type 0) (Received 
   pub ends-go : (node : ℕ) (call : DomainCall) (old new : DomainView (Ends S R)) (lines lines' : List Line) (answered : PlainAnswer) (given : Option RequestId) → Calls (EndsMoved Sent Received) node call old new lines lines' answered given → Goes (EndsMoved Sent Received) old new
   ends-go node call old new lines lines' answered given calls =
       calls-go (EndsMoved Sent Received) (λ a b c xs ys first then. EndsMoved-both Sent Received sent-both received-both a b c xs ys first then) node call old new lines lines' answered given calls
+
+-- ---- links after moves
+
+module _ {S R : Type 0} (Sent : S → List SendMove → S → Type 0) (Received : R → List ReceiveMove → R → Type 0) where
+  abbrev Moved : Ends S R → List LaneMove → Ends S R → Type 0
+  Moved a moves b = EndsMoved Sent Received a moves b
+
+  -- the link to a peer after moves
+  pub record HasMoved (a : Link S R) (o : Option (Link S R)) : Type 0 where
+    pub link : Link S R
+    pub is : o ≡ Some link
+    pub moves : List LaneMove
+    pub moved : LinkMoved Sent Received a moves link
+
+  pub link-moved : (n : ℕ) (es fs : List (Ends S R)) (moves : List (List LaneMove)) (a : Link S R) → AllMoved Moved es moves fs → link_to n es ≡ Some a → HasMoved a (link_to n fs)
+  link-moved n [] fs moves a moved has = absurd cc
+  link-moved n (Own l ∷ es) (Own m ∷ fs) (ms ∷ moves) a moved has = link-moved n es fs moves a moved.1 has
+  link-moved n (Linked l ∷ es) (Linked m ∷ fs) (ms ∷ moves) a moved has =
+      elim (l.peer == n) as (λ b. (l.peer == n) ≡ b → cond b (Some l) (link_to n es) ≡ Some a → HasMoved a (link_to n (Linked m ∷ fs))) [
+        | true ↦ λ is found.
+            let same : l ≡ a = cc in
+            let here : (m.peer == n) ≡ true = ap (λ k. k == n) moved.0.peer ∙ is in
+            record {
+              link = m;
+              is = ap (λ (b : Bool). cond b (Some m) (link_to n fs)) here;
+              moves = ms;
+              moved = subst (λ (x : Link S R). LinkMoved Sent Received x ms m) same moved.0;
+            }
+        | false ↦ λ other found.
+            let rest = link-moved n es fs moves a moved.1 found in
+            let there : (m.peer == n) ≡ false = ap (λ k. k == n) moved.0.peer ∙ other in
+            record {
+              link = rest.link;
+              is = ap (λ (b : Bool). cond b (Some m) (link_to n fs)) there ∙ rest.is;
+              moves = rest.moves;
+              moved = rest.moved;
+            }
+      ] refl has
+  link-moved n (Own l ∷ es) (Linked m ∷ fs) (ms ∷ moves) a moved has = absurd moved.0
+  link-moved n (Linked l ∷ es) (Own m ∷ fs) (ms ∷ moves) a moved has = absurd moved.0
+  link-moved n (e ∷ es) fs [] a moved has = absurd moved
+  link-moved n (e ∷ es) [] (ms ∷ moves) a moved has = absurd moved
+
+  module _ (AreOne : S → R → Type 0) (stays : (a b : S) (c d : R) (xs : List SendMove) (ys : List ReceiveMove) → AreOne a c → Sent a xs b → Received c ys d → AreOne b d) (sent-none : (e : S) → Sent e [] e) (received-none : (e : R) → Received e [] e) where
+    -- the ends of one of two domains that are linked move
+    pub linked-moved : (one two : ℕ) (ones ones' twos : List (Ends S R)) (moves : List (List LaneMove)) → AllMoved Moved ones moves ones' → AreLinked AreOne one two ones twos → AreLinked AreOne one two ones' twos
+    linked-moved one two ones ones' twos moves moved l =
+        let mine = link-moved two ones ones' moves l.there moved l.one_has in
+        record {
+          there = mine.link;
+          back = l.back;
+          one_has = mine.is;
+          two_has = l.two_has;
+          joined = record {
+            there = stays l.there.send mine.link.send l.back.recv l.back.recv (sends mine.moves) [] l.joined.there mine.moved.sent (received-none l.back.recv);
+            back = stays l.back.send l.back.send l.there.recv mine.link.recv [] (receives mine.moves) l.joined.back (sent-none l.back.send) mine.moved.received;
+          };
+        }
+
+    pub linked-other : (one two : ℕ) (ones twos : List (Ends S R)) → AreLinked AreOne one two ones twos → AreLinked AreOne two one twos ones
+    linked-other one two ones twos l = record { there = l.back; back = l.there; one_has = l.two_has; two_has = l.one_has; joined = record { there = l.joined.back; back = l.joined.there } }
+
+    stay-one : (old new other : LinkedDomain S R) → Goes Moved old new → AreLinkedBy AreOne old other → AreLinkedBy AreOne new other
+    stay-one old new other goes l =
+        subst (λ (n : ℕ). AreLinked AreOne n other.state.number new.ends other.ends) (sym goes.number) (linked-moved old.state.number other.state.number old.ends new.ends other.ends goes.moves goes.moved l)
+
+    pub stay-linked : StayLinkedBy Sent Received AreOne
+    stay-linked old new other goes = (λ l. stay-one old new other goes l, λ l. linked-other new.state.number other.state.number new.ends other.ends (stay-one old new other goes (linked-other other.state.number old.state.number other.ends old.ends l)))
+
+-- ---- over plain lanes, and over rings
+
+pub plain-calls-go : CallsGoBy Sends Receives
+plain-calls-go node call old new lines lines' answered given calls =
+    ends-go Sends Receives (λ x y z ms ns one two. Lead-append MaySend sender_after x y z ms ns one two) (λ x y z ms ns one two. Lead-append MayReceive receiver_after x y z ms ns one two) node call old new lines lines' answered given calls
+
+pub any-calls-go : CallsGoBy AnySends AnyReceives
+any-calls-go node call old new lines lines' answered given calls = ends-go AnySends AnyReceives AnySends-both AnyReceives-both node call old new lines lines' answered given calls
+
+pub plain-stay : StayLinkedBy Sends Receives AreOneLane
+plain-stay = stay-linked Sends Receives AreOneLane stay-one-lane (λ e. refl) (λ e. refl)
+
+pub any-stay : StayLinkedBy AnySends AnyReceives AreEndsOfOneRing
+any-stay = stay-linked AnySends AnyReceives AreEndsOfOneRing ends-stay AnySends-none AnyReceives-none

@@ -8,6 +8,7 @@ pub mod Outs
 pub mod LinkPlaces
 pub mod LinksIn
 pub mod Carries
+pub mod CarriedDomains
 pub mod Going
 pub mod Opening
 pub mod Waits

@@ -1,50 +1,75 @@
--- Both lanes of a link between two domains, shuttled.
--- Source: docs/PROFILE.md, "Lanes". What the one put has come to the other, and what the other gave back has come back.
+-- Both lanes of a link between two domains, carried: the ends of each lane meet.
+-- Source: docs/PROFILE.md, "Lanes".
 use Rattle.std.specs.Prelude.{◌≡◌, ℕ, Bool, false, List, find, position, ◌==◌, Option, Some}
 use Rattle.board_model.specs.Lists.{changed}
 use Rattle.lane_end.specs.PlainSender.{Sender}
 use Rattle.lane_end.specs.PlainReceiver.{Receiver}
-use Rattle.lane_end.specs.PlainLane.{AreOneLane, shuttled_sender, shuttled_receiver}
+use Rattle.lane_end.specs.PlainLane.{shuttled_sender, shuttled_receiver}
+use Rattle.lane_end.specs.declared.any.AnySend.{AnySend}
+use Rattle.lane_end.specs.declared.any.AnyRecv.{AnyRecv}
 use Rattle.domain_core.specs.declared.link.Link.{Link}
 use Rattle.domain_core.specs.declared.ends.Ends.{Ends}
 use Rattle.domain_core.specs.declared.ends.Ends.TheVariants.{Own, Linked}
 use Rattle.domain_core.specs.Opening.{links_in}
 
--- a link whose ends stand in one memory with the other domain's
+-- links whose ends stand in one memory with the other domain's, and links with ends of any kind
 abbrev pub PlainLink : Type 0
 PlainLink = Link Sender Receiver
 
--- the link to a peer
-abbrev pub link_to : ℕ → List (Ends Sender Receiver) → Option PlainLink
-link_to peer es = find (λ l. l.peer == peer) (links_in es)
+abbrev pub AnyLink : Type 0
+AnyLink = Link AnySend AnyRecv
 
--- the ends of both lanes fit together
-pub record AreJoined (a b : PlainLink) : Type 0 where
-  pub there : AreOneLane a.send b.recv
-  pub back : AreOneLane b.send a.recv
-
--- one domain's ends of a link, after the shuttle with the other's
-abbrev pub carried : PlainLink → PlainLink → PlainLink
-carried a b = record a { send = shuttled_sender a.send b.recv; recv = shuttled_receiver b.send a.recv }
-
--- the ends of a link, after the shuttle with the other's
-abbrev pub carried_with : PlainLink → Ends Sender Receiver → Ends Sender Receiver
-carried_with b (Own l) = Own l
-carried_with b (Linked a) = Linked (carried a b)
+-- the two ends of a plain lane meet where a shuttle goes between them: what the one put has come to the other, and what the other
+-- gave back has come back
+pub record HasShuttled (s : Sender) (r : Receiver) (s' : Sender) (r' : Receiver) : Type 0 where
+  pub sends : s' ≡ shuttled_sender s r
+  pub receives : r' ≡ shuttled_receiver s r
 
 -- whether ends are those of a link to a peer
 abbrev pub leads_to : {S R : Type 0} → ℕ → Ends S R → Bool
 leads_to peer (Own l) = false
 leads_to peer (Linked l) = l.peer == peer
 
--- the ends with those of the link to a peer carried: the first that lead to it
-abbrev pub with_carried : ℕ → PlainLink → List (Ends Sender Receiver) → List (Ends Sender Receiver)
-with_carried peer b es = changed (carried_with b) (position (leads_to peer) es) es
+-- the link to a peer
+abbrev pub link_to : {S R : Type 0} → ℕ → List (Ends S R) → Option (Link S R)
+link_to peer es = find (λ l. l.peer == peer) (links_in es)
+
+-- the ends with another link to a peer: in the place of the first that lead to it
+abbrev pub with_link : {S R : Type 0} → ℕ → Link S R → List (Ends S R) → List (Ends S R)
+with_link peer a es = changed (λ e. Linked a) (position (leads_to peer) es) es
+
+-- ---- by what two ends of one lane are, and by what they do where they meet
+
+-- the ends of both lanes fit together
+pub record AreJoined {S R : Type 0} (AreOne : S → R → Type 0) (a b : Link S R) : Type 0 where
+  pub there : AreOne a.send b.recv
+  pub back : AreOne b.send a.recv
 
 -- two domains, by their numbers and their ends: each has a link to the other, and these fit together
-pub record AreLinked (one two : ℕ) (ones twos : List (Ends Sender Receiver)) : Type 0 where
-  pub there : PlainLink
-  pub back : PlainLink
+pub record AreLinked {S R : Type 0} (AreOne : S → R → Type 0) (one two : ℕ) (ones twos : List (Ends S R)) : Type 0 where
+  pub there : Link S R
+  pub back : Link S R
   pub one_has : link_to two ones ≡ Some there
   pub two_has : link_to one twos ≡ Some back
-  pub joined : AreJoined there back
+  pub joined : AreJoined AreOne there back
+
+-- the ends of both lanes met, and all else of the links stays
+pub record LinksMeet {S R : Type 0} (Meet : S → R → S → R → Type 0) (a b a' b' : Link S R) : Type 0 where
+  pub there : Meet a.send b.recv a'.send b'.recv
+  pub back : Meet b.send a.recv b'.send a'.recv
+  pub one_peer : a'.peer ≡ a.peer
+  pub one_size : a'.size ≡ a.size
+  pub two_peer : b'.peer ≡ b.peer
+  pub two_size : b'.size ≡ b.size
+
+-- the link between two domains, by their numbers and their ends, is carried: its ends meet, and all other ends stay
+pub record Carries {S R : Type 0} (Meet : S → R → S → R → Type 0) (one two : ℕ) (ones twos ones' twos' : List (Ends S R)) : Type 0 where
+  pub there : Link S R
+  pub back : Link S R
+  pub there_after : Link S R
+  pub back_after : Link S R
+  pub one_had : link_to two ones ≡ Some there
+  pub two_had : link_to one twos ≡ Some back
+  pub meets : LinksMeet Meet there back there_after back_after
+  pub one_has : ones' ≡ with_link two there_after ones
+  pub two_has : twos' ≡ with_link one back_after twos

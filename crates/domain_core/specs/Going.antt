@@ -7,6 +7,14 @@ use Rattle.board_model.specs.DomainCall.{DomainCall}
 use Rattle.board_model.specs.Journal.{Line, PlainAnswer}
 use Rattle.lane_end.specs.PlainSender.{Sender, Sends}
 use Rattle.lane_end.specs.PlainReceiver.{Receiver, Receives}
+use Rattle.lane_end.specs.PlainLane.{AreOneLane}
+use Rattle.lane_end.specs.AnySender.{AnySends}
+use Rattle.lane_end.specs.AnyReceiver.{AnyReceives}
+use Rattle.lane_end.specs.AnyLane.{AreEndsOfOneRing}
+use Rattle.lane_end.specs.declared.any.AnySend.{AnySend}
+use Rattle.lane_end.specs.declared.any.AnyRecv.{AnyRecv}
+use Rattle.lane_end.specs.SendMoves.{SendMove}
+use Rattle.lane_end.specs.ReceiveMoves.{ReceiveMove}
 use Rattle.domain_core.specs.declared.ends.Ends.{Ends}
 use Rattle.domain_core.specs.LaneMoves.{LaneMove}
 use Rattle.domain_core.specs.Ends.{EndsMoved}
@@ -20,20 +28,38 @@ pub record Goes {L : Type 0} (Moved : L → List LaneMove → L → Type 0) (old
   pub moves : List (List LaneMove)
   pub moved : AllMoved Moved old.ends moves new.ends
 
--- a domain whose links stand in one memory with the other domains'
+-- a domain over links, by the moves of their ends; and each call of it does so
+abbrev pub LinkedDomain : Type 0 → Type 0 → Type 0
+LinkedDomain S R = DomainView (Ends S R)
+
+abbrev pub CallsGoBy : {S R : Type 0} → (S → List SendMove → S → Type 0) → (R → List ReceiveMove → R → Type 0) → Type 0
+CallsGoBy {S} {R} Sent Received = (node : ℕ) (call : DomainCall) (old new : LinkedDomain S R) (lines lines' : List Line) (answered : PlainAnswer) (given : Option RequestId) → Calls (EndsMoved Sent Received) node call old new lines lines' answered given → Goes (EndsMoved Sent Received) old new
+
+-- two domains that are linked stay so, whichever of them it is
+abbrev pub AreLinkedBy : {S R : Type 0} → (S → R → Type 0) → LinkedDomain S R → LinkedDomain S R → Type 0
+AreLinkedBy AreOne one two = AreLinked AreOne one.state.number two.state.number one.ends two.ends
+
+abbrev pub StayLinkedBy : {S R : Type 0} → (S → List SendMove → S → Type 0) → (R → List ReceiveMove → R → Type 0) → (S → R → Type 0) → Type 0
+StayLinkedBy {S} {R} Sent Received AreOne = (old new other : LinkedDomain S R) → Goes (EndsMoved Sent Received) old new → (AreLinkedBy AreOne old other → AreLinkedBy AreOne new other) × (AreLinkedBy AreOne other old → AreLinkedBy AreOne other new)
+
+-- ---- over plain lanes
+
 abbrev pub PlainDomain : Type 0
-PlainDomain = DomainView (Ends Sender Receiver)
+PlainDomain = LinkedDomain Sender Receiver
 
 abbrev pub PlainGoes : PlainDomain → PlainDomain → Type 0
 PlainGoes old new = Goes (EndsMoved Sends Receives) old new
 
--- each call does so
-abbrev pub CallsGo : Type 0
-CallsGo = (node : ℕ) (call : DomainCall) (old new : PlainDomain) (lines lines' : List Line) (answered : PlainAnswer) (given : Option RequestId) → Calls (EndsMoved Sends Receives) node call old new lines lines' answered given → PlainGoes old new
-
 abbrev pub AreLinkedDomains : PlainDomain → PlainDomain → Type 0
-AreLinkedDomains one two = AreLinked one.state.number two.state.number one.ends two.ends
+AreLinkedDomains one two = AreLinkedBy AreOneLane one two
 
--- two domains that are linked stay so, whichever of them it is
-abbrev pub StayLinked : Type 0
-StayLinked = (old new other : PlainDomain) → PlainGoes old new → (AreLinkedDomains old other → AreLinkedDomains new other) × (AreLinkedDomains other old → AreLinkedDomains other new)
+-- ---- over rings
+
+abbrev pub AnyDomain : Type 0
+AnyDomain = LinkedDomain AnySend AnyRecv
+
+abbrev pub AnyGoes : AnyDomain → AnyDomain → Type 0
+AnyGoes old new = Goes (EndsMoved AnySends AnyReceives) old new
+
+abbrev pub AreLinkedByRings : AnyDomain → AnyDomain → Type 0
+AreLinkedByRings one two = AreLinkedBy AreEndsOfOneRing one two

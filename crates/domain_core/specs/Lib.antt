@@ -34,4 +34,5 @@ pub mod Opening
 pub mod Opened
 pub mod Carrying
 pub mod Carried
+pub mod Meets
 pub mod Going

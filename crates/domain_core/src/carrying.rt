@@ -1,49 +1,123 @@
-//! What moves between two domains whose ends stand in one memory.
+//! What moves between two domains: the ends of the link between them meet.
 
-ghost use Rattle.std.specs.Prelude.{◌≡◌, ◌<◌, IfSome, length, position};
+ghost use Rattle.std.specs.Prelude.{◌≡◌, ◌<◌, ℕ, Bool, IfSome, length, position};
+ghost use Rattle.lane_end.specs.PlainSender.{Sends};
+ghost use Rattle.lane_end.specs.PlainReceiver.{Receives};
+ghost use Rattle.lane_end.specs.PlainLane.{AreOneLane};
+ghost use Rattle.lane_end.specs.AnySender.{AnySends};
+ghost use Rattle.lane_end.specs.AnyReceiver.{AnyReceives};
+ghost use Rattle.lane_end.specs.AnyLane.{AreEndsOfOneRing, EndsHaveMet};
 ghost use Rattle.domain_core.specs.AllMoved.{ends_of};
-ghost use Rattle.domain_core.specs.Carried.{AreJoinedEnds, ends_carried, peers_carried};
-ghost use Rattle.domain_core.specs.Going.{CallsGo, StayLinked};
-ghost use Rattle.domain_core.specs.Carrying.{AreJoined, AreLinked, carried, leads_to, link_to};
+ghost use Rattle.domain_core.specs.Carried.{MayMeet, PeersMeet};
+ghost use Rattle.domain_core.specs.Carrying.{AreJoined, HasShuttled, LinksMeet, leads_to};
+ghost use Rattle.domain_core.specs.Going.{CallsGoBy, StayLinkedBy};
 
 use crate::ends::Ends;
 use crate::link::Link;
 use crate::peer::Peer;
-use lane_end::{PlainRecv, PlainSend, shuttle};
+use crate::peer_lane::PeerLane;
+use lane_end::{AnyRecv, AnySend, PlainRecv, PlainSend, meet_ends, shuttle};
 
-/// Shows that each call of a domain whose links stand in one memory keeps its number, and moves its ends.
+/// Shows that each call of a domain keeps its number and moves its ends, over plain lanes and over rings.
 pub fn calls_move_ends()
-    ensures { CallsGo }
+    ensures plain { CallsGoBy Sends Receives }
+    ensures rings { CallsGoBy AnySends AnyReceives }
 {}
 
 /// Shows that two domains that are linked stay so, whatever calls each of them makes: so they can be carried again.
 pub fn domains_stay_linked()
-    ensures { StayLinked }
+    ensures plain { StayLinkedBy Sends Receives AreOneLane }
+    ensures rings { StayLinkedBy AnySends AnyReceives AreEndsOfOneRing }
 {}
 
-type PlainEnds = Ends<PlainSend, PlainRecv>;
+/// Ends towards a peer that meet the ends of the peer.
+pub trait MeetingEnds: PeerLane {
+    /// Whether they are those of a link to the peer of this number.
+    ghost leads: { ℕ → Self → Bool };
 
-/// Shuttles both lanes of the link between two domains, by their peers and their numbers.
-pub fn carry_between(ones: &mut [Peer<PlainEnds>], one: u8, twos: &mut [Peer<PlainEnds>], two: u8)
-    requires { AreLinked one two (ends_of ones.old) (ends_of twos.old) }
-    ensures ones { IfSome (link_to one (ends_of twos.old)) (λ b. ones.new ≡ peers_carried two b ones.old) }
-    ensures twos { IfSome (link_to two (ends_of ones.old)) (λ a. twos.new ≡ peers_carried one a twos.old) }
-{
-    let Some(place) = place_of_link(ones, two) else {
-        return;
-    };
-    let Some(back) = place_of_link(twos, one) else {
-        return;
-    };
-    carry_ends(&mut ones[place].ends, &mut twos[back].ends);
+    /// Two that may meet: the ends of both lanes of one link.
+    ghost May: { Self → Self → Type 0 };
+
+    ghost Met: { Self → Self → Self → Self → Type 0 };
+
+    fn leads_to(&self, number: u8) -> bool
+        ensures { result ≡ leads number self.now };
+
+    /// Has both lanes meet. What is seen of the ends stays.
+    fn meet(&mut self, other: &mut Self)
+        requires { May self.old other.old }
+        ensures { Met self.old other.old self.new other.new };
+
+    /// A meeting leaves what is seen of both.
+    ghost same_seen: { (a b c d : Self) → Met a b c d → (Self.seen c ≡ Self.seen a) × (Self.seen d ≡ Self.seen b) };
 }
 
-/// The place of the peer to which a link leads.
-fn place_of_link<S, R>(peers: &[Peer<Ends<S, R>>], number: u8) -> Option<usize>
-    ensures place { result ≡ position (λ p. leads_to number p.ends) peers.now }
-    ensures within { IfSome result (λ i. i < length peers.now) }
+impl MeetingEnds for Ends<PlainSend, PlainRecv> {
+    ghost use Rattle.lane_end.specs.PlainLane.{AreOneLane};
+    ghost use Rattle.domain_core.specs.Carrying.{HasShuttled, leads_to as leads_among};
+    ghost use Rattle.domain_core.specs.Carried.{AreJoinedEnds, EndsMeet};
+    ghost use Rattle.domain_core.specs.Meets.{plain-seen};
+
+    ghost leads = { leads_among };
+
+    ghost May = { AreJoinedEnds AreOneLane };
+
+    ghost Met = { EndsMeet HasShuttled };
+
+    ghost same_seen = { plain-seen };
+
+    fn leads_to(&self, number: u8) -> bool {
+        leads_to(self, number)
+    }
+
+    fn meet(&mut self, other: &mut Self) {
+        if let (Ends::Linked(a), Ends::Linked(b)) = (self, other) {
+            shuttle_link(a, b);
+        }
+    }
+}
+
+impl<'a> MeetingEnds for Ends<AnySend<'a>, AnyRecv<'a>> {
+    ghost use Rattle.lane_end.specs.AnyLane.{AreEndsOfOneRing, EndsHaveMet};
+    ghost use Rattle.domain_core.specs.Carrying.{leads_to as leads_among};
+    ghost use Rattle.domain_core.specs.Carried.{AreJoinedEnds, EndsMeet};
+    ghost use Rattle.domain_core.specs.Meets.{any-seen};
+
+    ghost leads = { leads_among };
+
+    ghost May = { AreJoinedEnds AreEndsOfOneRing };
+
+    ghost Met = { EndsMeet EndsHaveMet };
+
+    ghost same_seen = { any-seen };
+
+    fn leads_to(&self, number: u8) -> bool {
+        leads_to(self, number)
+    }
+
+    fn meet(&mut self, other: &mut Self) {
+        if let (Ends::Linked(a), Ends::Linked(b)) = (self, other) {
+            meet_link(a, b);
+        }
+    }
+}
+
+/// Shuttles both lanes of a link.
+fn shuttle_link(a: &mut Link<PlainSend, PlainRecv>, b: &mut Link<PlainSend, PlainRecv>)
+    requires { AreJoined AreOneLane a.old b.old }
+    ensures { LinksMeet HasShuttled a.old b.old a.new b.new }
 {
-    peers.iter().position(|p| leads_to(&p.ends, number))
+    shuttle(&mut a.send, &mut b.recv);
+    shuttle(&mut b.send, &mut a.recv);
+}
+
+/// Lets the ends of both lanes of a link meet.
+fn meet_link<'a>(a: &mut Link<AnySend<'a>, AnyRecv<'a>>, b: &mut Link<AnySend<'a>, AnyRecv<'a>>)
+    requires { AreJoined AreEndsOfOneRing a.old b.old }
+    ensures { LinksMeet EndsHaveMet a.old b.old a.new b.new }
+{
+    meet_ends(&mut a.send, &mut b.recv);
+    meet_ends(&mut b.send, &mut a.recv);
 }
 
 /// Whether these are the ends of a link to a peer.
@@ -56,23 +130,24 @@ fn leads_to<S, R>(ends: &Ends<S, R>, number: u8) -> bool
     }
 }
 
-/// Shuttles both lanes of a link.
-fn carry_ends(a: &mut PlainEnds, b: &mut PlainEnds)
-    requires { AreJoinedEnds a.old b.old }
-    ensures a { a.new ≡ ends_carried a.old b.old }
-    ensures b { b.new ≡ ends_carried b.old a.old }
+/// Has the ends of two domains towards each other meet, which are found by the domains' numbers.
+pub fn carry_between<P: MeetingEnds>(ones: &mut [Peer<P>], one: u8, twos: &mut [Peer<P>], two: u8)
+    requires { MayMeet P.leads P.May one two (ends_of ones.old) (ends_of twos.old) }
+    ensures { PeersMeet P.leads P.Met one two ones.old twos.old ones.new twos.new }
 {
-    if let (Ends::Linked(a), Ends::Linked(b)) = (a, b) {
-        carry_link(a, b);
-    }
+    let Some(place) = place_of_link(ones, two) else {
+        return;
+    };
+    let Some(back) = place_of_link(twos, one) else {
+        return;
+    };
+    ones[place].ends.meet(&mut twos[back].ends);
 }
 
-fn carry_link(a: &mut Link<PlainSend, PlainRecv>, b: &mut Link<PlainSend, PlainRecv>)
-    requires { AreJoined a.old b.old }
-    ensures a { a.new ≡ carried a.old b.old }
-    ensures b { b.new ≡ carried b.old a.old }
-    ensures joined { AreJoined a.new b.new }
+/// The place of the peer to which a link leads.
+fn place_of_link<P: MeetingEnds>(peers: &[Peer<P>], number: u8) -> Option<usize>
+    ensures place { result ≡ position (λ p. P.leads number p.ends) peers.now }
+    ensures within { IfSome result (λ i. i < length peers.now) }
 {
-    shuttle(&mut a.send, &mut b.recv);
-    shuttle(&mut b.send, &mut a.recv);
+    peers.iter().position(|p| p.ends.leads_to(number))
 }

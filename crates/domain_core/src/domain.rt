@@ -19,7 +19,7 @@ pub use buffer_book::Places;
 use lane_end::{RecvEnd, SendEnd};
 use mc_base::{Done, EndName, Got, Local, Priority, Refusal, RequestId};
 use mc_journal::Journal;
-pub use opening::carry;
+pub use opening::{carry, carry_rings};
 use std::marker::Model;
 
 /// The room that a call needs in the journal: for so many entries.

@@ -26,8 +26,8 @@ mod threads;
 mod turn;
 mod visit;
 
-pub use carrying::{calls_move_ends, domains_stay_linked};
-pub use domain::{CALL_BYTES, CALL_ENTRIES, Domain, Places, carry};
+pub use carrying::{MeetingEnds, calls_move_ends, domains_stay_linked};
+pub use domain::{CALL_BYTES, CALL_ENTRIES, Domain, Places, carry, carry_rings};
 pub use ends::Ends;
 pub use fates::fault_fate;
 pub use link::Link;

@@ -1,19 +1,21 @@
 //! How a domain begins and ends.
 
-ghost use Rattle.std.specs.Prelude.{◌≡◌, ◌≤◌, [], IfOk, IfSome, None};
+ghost use Rattle.std.specs.Prelude.{◌≡◌, ◌≤◌, [], IfOk, None};
 ghost use Rattle.std.specs.List.{AllByRecursion};
 ghost use Rattle.mc_base.specs.declared.request.Slot.{Slot};
 ghost use Rattle.board_model.specs.State.{opening};
 ghost use Rattle.buffer_book.specs.Book.{kept_at};
-ghost use Rattle.domain_core.specs.Carrying.{AreLinked, link_to, with_carried};
+ghost use Rattle.domain_core.specs.Carrying.{AreLinked, Carries, HasShuttled};
 ghost use Rattle.domain_core.specs.Opening.{IsOpenLink, AreLinksOf, neighbours_opened, ends_opened, links_in};
+ghost use Rattle.lane_end.specs.AnyLane.{AreEndsOfOneRing, EndsHaveMet};
 ghost use Rattle.lane_end.specs.Loop.{new_loop};
+ghost use Rattle.lane_end.specs.PlainLane.{AreOneLane};
 
 use crate::domain::Domain;
 use crate::holdings::{self, Holdings};
 use crate::link::Link;
 use crate::link_room::LinkRoom;
-use lane_end::{PlainRecv, PlainSend, RecvEnd, SendEnd};
+use lane_end::{AnyRecv, AnySend, PlainRecv, PlainSend, RecvEnd, SendEnd};
 use mc_base::NoMemory;
 use std::alloc::Global;
 
@@ -55,13 +57,28 @@ impl<S: SendEnd + Drop, R: RecvEnd + Drop> Domain<S, R> {
     }
 }
 
-/// Shuttles both lanes of the link between two domains: what each put comes to the other, and what each gave back comes back. The
+/// Carries the link between two domains over plain lanes: what each put comes to the other, and what each gave back comes back. The
 /// next looks show it.
 pub fn carry(one: &mut Domain<PlainSend, PlainRecv>, two: &mut Domain<PlainSend, PlainRecv>)
-    requires linked { AreLinked one.old.state.number two.old.state.number one.old.ends two.old.ends }
-    ensures one { IfSome (link_to one.old.state.number two.old.ends) (λ b. one.new ≡ record one.old { ends = with_carried two.old.state.number b one.old.ends }) }
-    ensures two { IfSome (link_to two.old.state.number one.old.ends) (λ a. two.new ≡ record two.old { ends = with_carried one.old.state.number a two.old.ends }) }
-    ensures linked { AreLinked one.new.state.number two.new.state.number one.new.ends two.new.ends }
+    requires linked { AreLinked AreOneLane one.old.state.number two.old.state.number one.old.ends two.old.ends }
+    ensures carries { Carries HasShuttled one.old.state.number two.old.state.number one.old.ends two.old.ends one.new.ends two.new.ends }
+    ensures one { one.new ≡ record one.old { ends = one.new.ends } }
+    ensures two { two.new ≡ record two.old { ends = two.new.ends } }
+    ensures linked { AreLinked AreOneLane one.new.state.number two.new.state.number one.new.ends two.new.ends }
+{
+    holdings::carry(&mut one.inside, &mut two.inside);
+}
+
+/// Carries the link between two domains over rings: the two ends of each lane meet, and each knows of all that the other did.
+pub fn carry_rings<'a>(
+    one: &mut Domain<AnySend<'a>, AnyRecv<'a>>,
+    two: &mut Domain<AnySend<'a>, AnyRecv<'a>>,
+)
+    requires linked { AreLinked AreEndsOfOneRing one.old.state.number two.old.state.number one.old.ends two.old.ends }
+    ensures carries { Carries EndsHaveMet one.old.state.number two.old.state.number one.old.ends two.old.ends one.new.ends two.new.ends }
+    ensures one { one.new ≡ record one.old { ends = one.new.ends } }
+    ensures two { two.new ≡ record two.old { ends = two.new.ends } }
+    ensures linked { AreLinked AreEndsOfOneRing one.new.state.number two.new.state.number one.new.ends two.new.ends }
 {
     holdings::carry(&mut one.inside, &mut two.inside);
 }

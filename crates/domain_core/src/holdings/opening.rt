@@ -1,16 +1,16 @@
 //! How the inside of a domain begins and ends, and how two are carried.
 
-ghost use Rattle.std.specs.Prelude.{◌≡◌, ◌≤◌, [], IfOk, IfSome, None};
+ghost use Rattle.std.specs.Prelude.{◌≡◌, ◌≤◌, [], IfOk, None};
 ghost use Rattle.std.specs.List.{AllByRecursion};
 ghost use Rattle.mc_base.specs.declared.request.Slot.{Slot};
 ghost use Rattle.board_model.specs.State.{opening};
 ghost use Rattle.buffer_book.specs.Book.{kept_at};
 ghost use Rattle.lane_end.specs.Loop.{new_loop};
-ghost use Rattle.domain_core.specs.Carrying.{AreLinked, link_to, with_carried};
+ghost use Rattle.domain_core.specs.Carried.{FirstMeet, MayMeet};
 ghost use Rattle.domain_core.specs.Opening.{AreLinksOf, IsOpenLink, ends_opened, links_in, neighbours_opened};
 ghost use Rattle.domain_core.specs.Parts.{shown, state_of};
 
-use crate::carrying::carry_between;
+use crate::carrying::{MeetingEnds, carry_between};
 use crate::endpoints::Endpoints;
 use crate::ends::Ends;
 use crate::holdings::Holdings;
@@ -19,7 +19,7 @@ use crate::link_room::LinkRoom;
 use crate::linking::{buffers_in, links_of, numbers_of, peers_of, sizes_of};
 use buffer_book::BufferBook;
 use endpoint_table::EndpointTable;
-use lane_end::{PlainRecv, PlainSend, RecvEnd, SendEnd};
+use lane_end::{RecvEnd, SendEnd};
 use mc_base::NoMemory;
 use request_set::RequestSet;
 use std::alloc::Global;
@@ -65,15 +65,12 @@ impl<S: SendEnd + Drop, R: RecvEnd + Drop> Holdings<Ends<S, R>> {
     }
 }
 
-/// Shuttles both lanes of the link between two domains.
-pub fn carry(
-    one: &mut Holdings<Ends<PlainSend, PlainRecv>>,
-    two: &mut Holdings<Ends<PlainSend, PlainRecv>>,
-)
-    requires linked { AreLinked (state_of one.old.parts).number (state_of two.old.parts).number one.old.ends two.old.ends }
-    ensures one { IfSome (link_to (state_of one.old.parts).number two.old.ends) (λ b. one.new ≡ record one.old { ends = with_carried (state_of two.old.parts).number b one.old.ends }) }
-    ensures two { IfSome (link_to (state_of two.old.parts).number one.old.ends) (λ a. two.new ≡ record two.old { ends = with_carried (state_of one.old.parts).number a two.old.ends }) }
-    ensures linked { AreLinked (state_of one.new.parts).number (state_of two.new.parts).number one.new.ends two.new.ends }
+/// Has the ends of two domains towards each other meet, and leaves all else of them.
+pub fn carry<P: MeetingEnds>(one: &mut Holdings<P>, two: &mut Holdings<P>)
+    requires { MayMeet P.leads P.May (state_of one.old.parts).number (state_of two.old.parts).number one.old.ends two.old.ends }
+    ensures met { FirstMeet P.leads P.Met (state_of one.old.parts).number (state_of two.old.parts).number one.old.ends two.old.ends one.new.ends two.new.ends }
+    ensures one { one.new ≡ record one.old { ends = one.new.ends } }
+    ensures two { two.new ≡ record two.old { ends = two.new.ends } }
 {
     let first = one.endpoints.number();
     let second = two.endpoints.number();

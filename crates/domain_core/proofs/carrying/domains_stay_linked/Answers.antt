@@ -1,5 +1,8 @@
-use Rattle.domain_core.proofs.Going.{stay-linked-both}
+use Rattle.domain_core.proofs.Going.{plain-stay, any-stay}
 use Rattle.domain_core.proofs.carrying.domains_stay_linked.Goals as goal
 
-pub returns : goal.returns
-returns c = stay-linked-both
+pub returns-clause-plain : goal.returns-clause-plain
+returns-clause-plain c = plain-stay
+
+pub returns-clause-rings : goal.returns-clause-rings
+returns-clause-rings c = any-stay

@@ -1,31 +1,28 @@
-use Rattle.std.proofs.Common.{◌≡◌, ℕ, Option, None, Some, ap, subst}
-use Rattle.std.specs.Prelude.{IfSome}
-use Rattle.lane_end.specs.PlainReceiver.{Receiver}
+use Rattle.std.proofs.Common.{◌≡◌, subst, sym}
 use Rattle.lane_end.specs.PlainSender.{Sender}
-use Rattle.domain_core.specs.declared.ends.Ends.{Ends}
-use Rattle.domain_core.specs.Carrying.{PlainLink, link_to, with_carried}
-use Rattle.domain_core.specs.Parts.{Holding, shown}
+use Rattle.lane_end.specs.PlainReceiver.{Receiver}
+use Rattle.lane_end.specs.PlainLane.{AreOneLane, shuttled_sender}
+use Rattle.lane_end.proofs.LaneLemmas.{shuttled-one-lane}
+use Rattle.domain_core.specs.Carrying.{HasShuttled}
+use Rattle.domain_core.proofs.CarriedDomains.{carried-inside, kept-inside, linked-inside, still-linked}
 use Rattle.domain_core.proofs.domain.opening.carry.Goals as goal
 
--- what is carried inside is carried
-carried : (o : Option PlainLink) (n : ℕ) (old new : Holding (Ends Sender Receiver)) → IfSome o (λ l. new ≡ record old { ends = with_carried n l old.ends }) → IfSome o (λ l. shown new ≡ record (shown old) { ends = with_carried n l old.ends })
-carried None n old new is = tt
-carried (Some l) n old new is = ap shown is
+-- the ends of a plain lane stay so through a shuttle
+shuttled-still : (s : Sender) (r : Receiver) (s' : Sender) (r' : Receiver) → HasShuttled s r s' r' → AreOneLane s r → AreOneLane s' r'
+shuttled-still s r s' r' met one = subst (λ (x : Sender). AreOneLane x r') (sym met.sends) (subst (λ (y : Receiver). AreOneLane (shuttled_sender s r) y) (sym met.receives) (shuttled-one-lane s r one))
+
+pub carry-requires : goal.carry-requires
+carry-requires c = linked-inside c.one.inside.inside c.two.inside.inside c.args.one.now c.args.two.now c.one.view_is c.two.view_is AreOneLane c.requires.linked
+
+pub returns-clause-carries : goal.returns-clause-carries
+returns-clause-carries c = carried-inside c.one.inside.inside c.two.inside.inside c.args.one.now c.args.two.now c.one.view_is c.two.view_is HasShuttled c.carry.new.one c.carry.new.two c.carry.ensures.met
 
 pub returns-clause-one : goal.returns-clause-one
-returns-clause-one c =
-    let one = c.one.inside.inside in
-    let two = c.two.inside.inside in
-    let new = c.carry.new.one in
-    subst (λ x. IfSome (link_to x.state.number c.args.two.now.ends) (λ l. shown new ≡ record x { ends = with_carried c.args.two.now.state.number l x.ends })) c.one.view_is
-    (subst (λ y. IfSome (link_to (shown one).state.number y.ends) (λ l. shown new ≡ record (shown one) { ends = with_carried y.state.number l one.ends })) c.two.view_is
-    (carried (link_to (shown one).state.number two.ends) (shown two).state.number one new c.carry.ensures.one))
+returns-clause-one c = kept-inside c.one.inside.inside c.carry.new.one c.args.one.now c.one.view_is c.carry.ensures.one
 
 pub returns-clause-two : goal.returns-clause-two
-returns-clause-two c =
-    let one = c.one.inside.inside in
-    let two = c.two.inside.inside in
-    let new = c.carry.new.two in
-    subst (λ x. IfSome (link_to x.state.number c.args.one.now.ends) (λ l. shown new ≡ record x { ends = with_carried c.args.one.now.state.number l x.ends })) c.two.view_is
-    (subst (λ y. IfSome (link_to (shown two).state.number y.ends) (λ l. shown new ≡ record (shown two) { ends = with_carried y.state.number l two.ends })) c.one.view_is
-    (carried (link_to (shown two).state.number one.ends) (shown one).state.number two new c.carry.ensures.two))
+returns-clause-two c = kept-inside c.two.inside.inside c.carry.new.two c.args.two.now c.two.view_is c.carry.ensures.two
+
+pub returns-clause-linked : goal.returns-clause-linked
+returns-clause-linked c =
+    still-linked c.one.inside.inside c.two.inside.inside c.args.one.now c.args.two.now c.one.view_is c.two.view_is HasShuttled c.carry.new.one c.carry.new.two c.carry.ensures.met AreOneLane shuttled-still c.requires.linked c.carry.ensures.one c.carry.ensures.two
