@@ -61,13 +61,13 @@ names_about peer known None address there = tt
 names_about peer known (Some n) address true = first-all (AllAbout peer) (name_rows peer known (Some n) address true) tt (tt, (tt, ((refl, (tt, tt)), tt)))
 names_about peer known (Some n) address false = first-all (AllAbout peer) (name_rows peer known (Some n) address false) tt (tt, (tt, ((refl, tt), tt)))
 
-letters_about : (s : DomainState) (peer name source destination : ℕ) (o : Option Endpoint) (l : PlainLetter) → AllAbout peer (first_row (letter_rows s peer name source destination o l))
+letters_about : (s : DomainState) (peer : ℕ) (name : Option ℕ) (source destination : ℕ) (o : Option Endpoint) (l : PlainLetter) → AllAbout peer (first_row (letter_rows s peer name source destination o l))
 letters_about s peer name source destination None l = tt
 letters_about s peer name source destination (Some e) (msg priority content) =
     first-all (AllAbout peer) (letter_rows s peer name source destination (Some e) (msg priority content)) tt ((tt, tt), ((tt, tt), tt))
 letters_about s peer name source destination (Some e) other = tt
 
-pub rows-about : (s : DomainState) (peer name : ℕ) (r : Reading) → AllByRecursion (IsAbout peer) (row_of s peer name r).happens
+pub rows-about : (s : DomainState) (peer : ℕ) (name : Option ℕ) (r : Reading) → AllByRecursion (IsAbout peer) (row_of s peer name r).happens
 rows-about s peer name (is_faulty f) = tt
 rows-about s peer name (announces text address there) = names_about peer (names_of (peer_at s peer)) (endpoint_named text) address there
 rows-about s peer name (says source destination l) = letters_about s peer name source destination (endpoint_of s destination) l

@@ -124,7 +124,7 @@ abbrev rest_of : Fields → PlainLetter
 rest_of f = letter_by f (f.kind == 2) (f.kind == 3) (f.kind == 4) (f.kind == 5) (f.kind == 6) (f.kind == 7) (f.kind == 8) (f.kind == 9)
 
 -- none of them is a message
-module _ (u : DomainState) (peer name source destination : ℕ) where
+module _ (u : DomainState) (peer : ℕ) (name : Option ℕ) (source destination : ℕ) where
   abbrev IsRefused : Endpoint → PlainLetter → Type 0
   IsRefused e l = letter_rows u peer name source destination (Some e) l ≡ last_row fate.State []
 
@@ -146,7 +146,7 @@ module _ (u : DomainState) (peer name source destination : ℕ) where
 waiting_so : (u : DomainState) (a : ℕ) (e : Endpoint) → endpoint_of u a ≡ Some e → place_waiting_for u a ≡ position (waits_at e.local) u.requests
 waiting_so u a e is = ap (λ (o : Option Endpoint). option_and_then (place_of_waiting u) (option_map (λ (d : Endpoint). d.local) o)) (get-position (has_address_of a) u.endpoints ∙ is)
 
-module _ (u : DomainState) (peer name : ℕ) (frame : List ℕ) where
+module _ (u : DomainState) (peer : ℕ) (name : Option ℕ) (frame : List ℕ) where
   abbrev at : ℕ
   at = destination_of frame
 

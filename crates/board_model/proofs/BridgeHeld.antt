@@ -1,6 +1,6 @@
 -- Each item that a domain holds was brought by one frame, and a call gives back that frame's buffer alone.
 use Rattle.std.proofs.Common.{◌≡◌, ℕ, ◌+◌, Bool, true, false, not, ◌&&◌, cond, List, [], ◌∷◌, ◌++◌, map, length, Option, Some, None, refl, sym, ap, ap₂, ◌∙◌, arith, length-append}
-use Rattle.std.specs.Prelude.{find, filter, count_by, is_none, slice_get, option_map, option_to_list, ◌==◌}
+use Rattle.std.specs.Prelude.{find, filter, count_by, is_none, slice_get, option_map, option_to_list, IsSome, ◌==◌}
 use Rattle.std.specs.List.{AllByRecursion, flat_map}
 use Rattle.std.proofs.lemmas.Bool.{cond_both}
 use Rattle.mc_base.specs.FullName.{endpoint_named}
@@ -101,13 +101,13 @@ names_one peer known None address there = tt
 names_one peer known (Some n) address true = first-all RowBringsOne (name_rows peer known (Some n) address true) tt (tt, (tt, ((tt, (tt, tt)), tt)))
 names_one peer known (Some n) address false = first-all RowBringsOne (name_rows peer known (Some n) address false) tt (tt, (tt, ((tt, tt), tt)))
 
-letters_one : (s : DomainState) (peer name source destination : ℕ) (o : Option Endpoint) (l : PlainLetter) → RowBringsOne (first_row (letter_rows s peer name source destination o l))
+letters_one : (s : DomainState) (peer name source destination : ℕ) (o : Option Endpoint) (l : PlainLetter) → RowBringsOne (first_row (letter_rows s peer (Some name) source destination o l))
 letters_one s peer name source destination None l = tt
 letters_one s peer name source destination (Some e) (msg priority content) =
-    first-all RowBringsOne (letter_rows s peer name source destination (Some e) (msg priority content)) tt ((refl, tt), ((refl, tt), tt))
+    first-all RowBringsOne (letter_rows s peer (Some name) source destination (Some e) (msg priority content)) tt ((refl, tt), ((refl, tt), tt))
 letters_one s peer name source destination (Some e) other = tt
 
-rows_one : (s : DomainState) (peer name : ℕ) (r : Reading) → RowBringsOne (row_of s peer name r)
+rows_one : (s : DomainState) (peer name : ℕ) (r : Reading) → RowBringsOne (row_of s peer (Some name) r)
 rows_one s peer name (is_faulty f) = tt
 rows_one s peer name (announces text address there) = names_one peer (names_of (peer_at s peer)) (endpoint_named text) address there
 rows_one s peer name (says source destination l) = letters_one s peer name source destination (endpoint_of s destination) l
@@ -186,16 +186,22 @@ module _ (s : DomainState) (held : Held s) (node : ℕ) where
 
 -- ---- deeds
 
-pub deed-held : (t : DomainState) (d : Deed) → Held t → Held (after_deed t d)
-deed-held t (looks_back peer count) held = record { queued = held.queued; lent = held.lent }
-deed-held t (puts_owed peer frame) held = record { queued = held.queued; lent = held.lent }
-deed-held t (looks_ahead peer count) held = record { queued = held.queued; lent = held.lent }
-deed-held t (takes peer name frame word) held = held_all (changed t (frame_taken peer)) (row_of t peer name (reading frame)).happens (rows_one t peer name (reading frame)) (record { queued = held.queued; lent = held.lent })
-deed-held t (calls node call a) held = held_all t (call_changes t node call) (call_one t held node call) held
+-- a frame that is taken has a name
+abbrev pub HasName : Deed → Type 0
+HasName (takes peer name frame word) = IsSome name
+HasName other = Unit {0}
 
-pub deeds-held : (t : DomainState) (ds : List Deed) → Held t → Held (after_deeds t ds)
-deeds-held t [] held = held
-deeds-held t (d ∷ ds) held = deeds-held (after_deed t d) ds (deed-held t d held)
+pub deed-held : (t : DomainState) (d : Deed) → HasName d → Held t → Held (after_deed t d)
+deed-held t (looks_back peer count) named held = record { queued = held.queued; lent = held.lent }
+deed-held t (puts_owed peer frame) named held = record { queued = held.queued; lent = held.lent }
+deed-held t (looks_ahead peer count) named held = record { queued = held.queued; lent = held.lent }
+deed-held t (takes peer None frame word) named held = absurd cc
+deed-held t (takes peer (Some name) frame word) named held = held_all (changed t (frame_taken peer)) (row_of t peer (Some name) (reading frame)).happens (rows_one t peer name (reading frame)) (record { queued = held.queued; lent = held.lent })
+deed-held t (calls node call a) named held = held_all t (call_changes t node call) (call_one t held node call) held
+
+pub deeds-held : (t : DomainState) (ds : List Deed) → AllByRecursion HasName ds → Held t → Held (after_deeds t ds)
+deeds-held t [] named held = held
+deeds-held t (d ∷ ds) named held = deeds-held (after_deed t d) ds named.1 (deed-held t d named.0 held)
 
 -- ---- the names of what a call gives back
 

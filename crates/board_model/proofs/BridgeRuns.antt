@@ -27,7 +27,7 @@ use Rattle.board_model.specs.Run.{start, after_all, left_by, IsDomainRun}
 use Rattle.board_model.specs.Traffic.{puts_in, takes_in, put_to, takes_from, taken_from}
 use Rattle.board_model.specs.Board.{DomainJournal}
 use Rattle.board_model.specs.Deeds.{Deed, after_deeds, along}
-use Rattle.board_model.specs.JournalDeeds.{visit_deeds, call_deeds, entry_deeds, deeds_along, deeds_of, opened, left_in}
+use Rattle.board_model.specs.JournalDeeds.{named_deeds, call_deeds, entry_deeds, deeds_along, deeds_of, opened, left_in}
 use Rattle.board_model.proofs.DeedRuns.{count_taken, AreNamed, IsDeedRun, frames_if, frames_to, puts_by, takes_by, unnamed}
 use Rattle.board_model.proofs.MessageAlls.{none-passes}
 use Rattle.board_model.proofs.MessageLists.{best_is, without_best_is, changed-position}
@@ -109,7 +109,7 @@ module _ (lines : List CallLine) (before : List PlainEntry) (r : RunState) (t : 
 
   entry_leads : (e : PlainEntry) → Allowed lines r e → Leads t (entry_deeds lines before r e) (after lines r e).state
   entry_leads (turned vs) allowed =
-      subst (λ s. Leads t (flat_map (visit_deeds before) vs) (after_turn s vs)) (sym same) (turn-leads before vs t sound (subst (λ s. AreVisits s vs) same allowed.1.allowed))
+      subst (λ s. Leads t (flat_map (named_deeds before) vs) (after_turn s vs)) (sym same) (turn-leads before vs t sound (subst (λ s. AreVisits s vs) same allowed.1.allowed))
   entry_leads (put q frame) allowed = record { may = tt; leads = sym same }
   entry_leads (again word) allowed =
       let line : CallLine = allowed.0 in
@@ -189,7 +189,7 @@ module _ (lines : List CallLine) (p : ℕ) where
       pending p r.put_since_turn ++ puts_in p e ≡ along (puts_by p) t (entry_deeds lines before r e) ++ pending p (after lines r e).put_since_turn
   entry_puts before r t (turned vs) same allowed =
       ap (λ x. x ++ puts_in p (turned vs)) (none_pending p r.put_since_turn allowed.0)
-      ∙ (sym (turn-put p before vs t) ∙ sym (append-nil (along (puts_by p) t (flat_map (visit_deeds before) vs))))
+      ∙ (sym (turn-put p before vs t) ∙ sym (append-nil (along (puts_by p) t (flat_map (named_deeds before) vs))))
   entry_puts before r t (put q frame) same allowed = sym (one_more p q frame r.put_since_turn allowed)
   entry_puts before r t (again word) same allowed =
       let line : CallLine = allowed.0 in

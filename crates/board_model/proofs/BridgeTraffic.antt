@@ -12,12 +12,12 @@ use Rattle.board_model.specs.State.{DomainState}
 use Rattle.board_model.specs.Step.{RunState, next_line, after}
 use Rattle.board_model.specs.Traffic.{visits_to, puts_in, takes_in, takes_from, taken_from}
 use Rattle.board_model.specs.Deeds.{Deed, looks_back, puts_owed, looks_ahead, takes, after_deed, after_deeds, along}
-use Rattle.board_model.specs.JournalDeeds.{takes_named, visit_deeds, call_deeds, entry_deeds, deeds_along}
+use Rattle.board_model.specs.Turn.{takes_named, visit_deeds}
+use Rattle.board_model.specs.JournalDeeds.{names_from, named_deeds, call_deeds, entry_deeds, deeds_along}
 use Rattle.board_model.proofs.DeedRuns.{taken_by, count_taken, AreNamed, frames_if, puts_by, takes_by}
 use Rattle.board_model.proofs.MessageAlls.{all-with}
 use Rattle.board_model.proofs.ListsApart.{all-unmap}
 use Rattle.board_model.proofs.BridgeDeeds.{along-join}
-use Rattle.board_model.proofs.BridgeVisits.{deeds_named}
 
 frames_of : List Taken → List (List ℕ)
 frames_of ts = map (λ t. t.frame) ts
@@ -37,31 +37,31 @@ module _ (p : ℕ) where
   puts_put q [] s = sym (none_if (q == p))
   puts_put q (f ∷ fs) s = ap (λ k. frames_if (q == p) (f ∷ []) ++ k) (puts_put q fs (after_deed s (puts_owed q f))) ∙ one_if (q == p) f fs
 
-  takes_put : (q m : ℕ) (ts : List Taken) (s : DomainState) → along (puts_by p) s (takes_named q m ts) ≡ []
+  takes_put : (q : ℕ) (m : ℕ → Option ℕ) (ts : List Taken) (s : DomainState) → along (puts_by p) s (takes_named m q ts) ≡ []
   takes_put q m [] s = refl
-  takes_put q m (t ∷ ts) s = takes_put q (m + 1) ts (after_deed s (takes q m t.frame t.fate))
+  takes_put q m (t ∷ ts) s = takes_put q (λ k. m (k + 1)) ts (after_deed s (takes q (m 0) t.frame t.fate))
 
   puts_take : (q : ℕ) (fs : List (List ℕ)) → flat_map (takes_by p) (map (puts_owed q) fs) ≡ []
   puts_take q [] = refl
   puts_take q (f ∷ fs) = puts_take q fs
 
-  takes_take : (q m : ℕ) (ts : List Taken) → flat_map (takes_by p) (takes_named q m ts) ≡ frames_if (q == p) (map (λ t. t.frame) ts)
+  takes_take : (q : ℕ) (m : ℕ → Option ℕ) (ts : List Taken) → flat_map (takes_by p) (takes_named m q ts) ≡ frames_if (q == p) (map (λ t. t.frame) ts)
   takes_take q m [] = sym (none_if (q == p))
-  takes_take q m (t ∷ ts) = ap (λ k. frames_if (q == p) (t.frame ∷ []) ++ k) (takes_take q (m + 1) ts) ∙ one_if (q == p) t.frame (map (λ u. u.frame) ts)
+  takes_take q m (t ∷ ts) = ap (λ k. frames_if (q == p) (t.frame ∷ []) ++ k) (takes_take q (λ k. m (k + 1)) ts) ∙ one_if (q == p) t.frame (map (λ u. u.frame) ts)
 
   -- ---- a visit
 
-  visit_put : (m : ℕ) (v : Visit) (s : DomainState) → along (puts_by p) s (deeds_named v m) ≡ frames_if (v.peer == p) v.owed
+  visit_put : (m : ℕ → Option ℕ) (v : Visit) (s : DomainState) → along (puts_by p) s (visit_deeds m v) ≡ frames_if (v.peer == p) v.owed
   visit_put m v s =
       let t : DomainState = after_deed s (looks_back v.peer v.back) in
-      along-join (puts_by p) t (map (puts_owed v.peer) v.owed) (looks_ahead v.peer v.see ∷ takes_named v.peer m v.takes)
+      along-join (puts_by p) t (map (puts_owed v.peer) v.owed) (looks_ahead v.peer v.see ∷ takes_named m v.peer v.takes)
       ∙ (ap (λ k. along (puts_by p) t (map (puts_owed v.peer) v.owed) ++ k) (takes_put v.peer m v.takes (after_deed (after_deeds t (map (puts_owed v.peer) v.owed)) (looks_ahead v.peer v.see)))
       ∙ (append-nil (along (puts_by p) t (map (puts_owed v.peer) v.owed)) ∙ puts_put v.peer v.owed t))
 
-  visit_take : (m : ℕ) (v : Visit) → flat_map (takes_by p) (deeds_named v m) ≡ frames_if (v.peer == p) (map (λ t. t.frame) v.takes)
+  visit_take : (m : ℕ → Option ℕ) (v : Visit) → flat_map (takes_by p) (visit_deeds m v) ≡ frames_if (v.peer == p) (map (λ t. t.frame) v.takes)
   visit_take m v =
-      flat_map-append (takes_by p) (map (puts_owed v.peer) v.owed) (looks_ahead v.peer v.see ∷ takes_named v.peer m v.takes)
-      ∙ (ap (λ k. k ++ flat_map (takes_by p) (takes_named v.peer m v.takes)) (puts_take v.peer v.owed) ∙ takes_take v.peer m v.takes)
+      flat_map-append (takes_by p) (map (puts_owed v.peer) v.owed) (looks_ahead v.peer v.see ∷ takes_named m v.peer v.takes)
+      ∙ (ap (λ k. k ++ flat_map (takes_by p) (takes_named m v.peer v.takes)) (puts_take v.peer v.owed) ∙ takes_take v.peer m v.takes)
 
   -- ---- a turn
 
@@ -73,17 +73,17 @@ module _ (p : ℕ) where
   more_takes true v vs = sym (map-append (λ t. t.frame) v.takes (flat_map (λ w. w.takes) vs))
   more_takes false v vs = refl
 
-  pub turn-put : (before : List PlainEntry) (vs : List Visit) (s : DomainState) → along (puts_by p) s (flat_map (visit_deeds before) vs) ≡ puts_in p (turned vs)
+  pub turn-put : (before : List PlainEntry) (vs : List Visit) (s : DomainState) → along (puts_by p) s (flat_map (named_deeds before) vs) ≡ puts_in p (turned vs)
   turn-put before [] s = refl
   turn-put before (v ∷ vs) s =
-      along-join (puts_by p) s (visit_deeds before v) (flat_map (visit_deeds before) vs)
-      ∙ (ap₂ (λ a b. a ++ b) (visit_put (length (taken_from v.peer before)) v s) (turn-put before vs (after_deeds s (visit_deeds before v))) ∙ more_puts (v.peer == p) v (visits_to p vs))
+      along-join (puts_by p) s (named_deeds before v) (flat_map (named_deeds before) vs)
+      ∙ (ap₂ (λ a b. a ++ b) (visit_put (names_from (length (taken_from v.peer before))) v s) (turn-put before vs (after_deeds s (named_deeds before v))) ∙ more_puts (v.peer == p) v (visits_to p vs))
 
-  turn_take : (before : List PlainEntry) (vs : List Visit) → flat_map (takes_by p) (flat_map (visit_deeds before) vs) ≡ map (λ t. t.frame) (takes_in p (turned vs))
+  turn_take : (before : List PlainEntry) (vs : List Visit) → flat_map (takes_by p) (flat_map (named_deeds before) vs) ≡ map (λ t. t.frame) (takes_in p (turned vs))
   turn_take before [] = refl
   turn_take before (v ∷ vs) =
-      flat_map-append (takes_by p) (visit_deeds before v) (flat_map (visit_deeds before) vs)
-      ∙ (ap₂ (λ a b. a ++ b) (visit_take (length (taken_from v.peer before)) v) (turn_take before vs) ∙ more_takes (v.peer == p) v (visits_to p vs))
+      flat_map-append (takes_by p) (named_deeds before v) (flat_map (named_deeds before) vs)
+      ∙ (ap₂ (λ a b. a ++ b) (visit_take (names_from (length (taken_from v.peer before))) v) (turn_take before vs) ∙ more_takes (v.peer == p) v (visits_to p vs))
 
   -- ---- entries
 
@@ -123,8 +123,8 @@ module _ (p : ℕ) where
   count-takes (d ∷ ds) = omega (arith, count_one d, count-takes ds, length-append (takes_by p d) (flat_map (takes_by p) ds))
 
   -- none is taken from another peer
-  count_other : (m : ℕ) (v : Visit) → (v.peer == p) ≡ false → count_taken p (deeds_named v m) ≡ 0
-  count_other m v other = count-takes (deeds_named v m) ∙ ap length (visit_take m v) ∙ ap (λ b. length (frames_if b (map (λ t. t.frame) v.takes))) other
+  count_other : (m : ℕ → Option ℕ) (v : Visit) → (v.peer == p) ≡ false → count_taken p (visit_deeds m v) ≡ 0
+  count_other m v other = count-takes (visit_deeds m v) ∙ ap length (visit_take m v) ∙ ap (λ b. length (frames_if b (map (λ t. t.frame) v.takes))) other
 
 -- ---- names
 
@@ -136,38 +136,43 @@ puts_named : (q : ℕ) (fs : List (List ℕ)) (before : List Deed) → AreNamed 
 puts_named q [] before = tt
 puts_named q (f ∷ fs) before = (tt, puts_named q fs (before ++ puts_owed q f ∷ []))
 
-count_here : (q m : ℕ) (t : Taken) → count_taken q (takes q m t.frame t.fate ∷ []) ≡ 1
-count_here q m t = let itself : (q == q) ≡ true = eq-eqb q q refl in rw itself (omega arith)
+count_here : (q : ℕ) (name : Option ℕ) (t : Taken) → count_taken q (takes q name t.frame t.fate ∷ []) ≡ 1
+count_here q name t = let itself : (q == q) ≡ true = eq-eqb q q refl in rw itself (omega arith)
 
-takes_are_named : (q m : ℕ) (ts : List Taken) (before : List Deed) → m ≡ count_taken q before → AreNamed before (takes_named q m ts)
-takes_are_named q m [] before is = tt
-takes_are_named q m (t ∷ ts) before is =
-    (is, takes_are_named q (m + 1) ts (before ++ takes q m t.frame t.fate ∷ []) (omega (arith, is, count-join q before (takes q m t.frame t.fate ∷ []), count_here q m t)))
+takes_are_named : (q m : ℕ) (name : ℕ → Option ℕ) (ts : List Taken) (before : List Deed) → ((k : ℕ) → name k ≡ Some (m + k)) → m ≡ count_taken q before → AreNamed before (takes_named name q ts)
+takes_are_named q m name [] before so is = tt
+takes_are_named q m name (t ∷ ts) before so is =
+    (
+      so 0 ∙ ap Some (let here : m + 0 ≡ count_taken q before = omega (arith, is) in here),
+      takes_are_named q (m + 1) (λ k. name (k + 1)) ts (before ++ takes q (name 0) t.frame t.fate ∷ [])
+          (λ k. so (k + 1) ∙ ap Some (let same : m + (k + 1) ≡ m + 1 + k = omega arith in same))
+          (omega (arith, is, count-join q before (takes q (name 0) t.frame t.fate ∷ []), count_here q (name 0) t)),
+    )
 
 count_put : (q p : ℕ) (fs : List (List ℕ)) → count_taken q (map (puts_owed p) fs) ≡ 0
 count_put q p [] = refl
 count_put q p (f ∷ fs) = omega (arith, count_put q p fs)
 
-visit_named : (m : ℕ) (v : Visit) (before : List Deed) → m ≡ count_taken v.peer before → AreNamed before (deeds_named v m)
+visit_named : (m : ℕ) (v : Visit) (before : List Deed) → m ≡ count_taken v.peer before → AreNamed before (visit_deeds (names_from m) v)
 visit_named m v before is = (
   tt,
-  named-join (before ++ looks_back v.peer v.back ∷ []) (map (puts_owed v.peer) v.owed) (looks_ahead v.peer v.see ∷ takes_named v.peer m v.takes)
+  named-join (before ++ looks_back v.peer v.back ∷ []) (map (puts_owed v.peer) v.owed) (looks_ahead v.peer v.see ∷ takes_named (names_from m) v.peer v.takes)
       (puts_named v.peer v.owed (before ++ looks_back v.peer v.back ∷ [])) (
         tt,
-        takes_are_named v.peer m v.takes (((before ++ looks_back v.peer v.back ∷ []) ++ map (puts_owed v.peer) v.owed) ++ looks_ahead v.peer v.see ∷ [])
+        takes_are_named v.peer m (names_from m) v.takes (((before ++ looks_back v.peer v.back ∷ []) ++ map (puts_owed v.peer) v.owed) ++ looks_ahead v.peer v.see ∷ []) (λ k. refl)
             (omega (arith, is, count-join v.peer ((before ++ looks_back v.peer v.back ∷ []) ++ map (puts_owed v.peer) v.owed) (looks_ahead v.peer v.see ∷ []), count-join v.peer (before ++ looks_back v.peer v.back ∷ []) (map (puts_owed v.peer) v.owed), count-join v.peer before (looks_back v.peer v.back ∷ []), count_put v.peer v.peer v.owed)),
       ),
 )
 
 -- each peer is visited once in a turn
-pub turn-named : (entries : List PlainEntry) (vs : List Visit) (before : List Deed) → Differ (map (λ v. v.peer) vs) → AllByRecursion (λ v. length (taken_from v.peer entries) ≡ count_taken v.peer before) vs → AreNamed before (flat_map (visit_deeds entries) vs)
+pub turn-named : (entries : List PlainEntry) (vs : List Visit) (before : List Deed) → Differ (map (λ v. v.peer) vs) → AllByRecursion (λ v. length (taken_from v.peer entries) ≡ count_taken v.peer before) vs → AreNamed before (flat_map (named_deeds entries) vs)
 turn-named entries [] before differ counts = tt
 turn-named entries (v ∷ vs) before differ counts =
-    named-join before (visit_deeds entries v) (flat_map (visit_deeds entries) vs)
+    named-join before (named_deeds entries v) (flat_map (named_deeds entries) vs)
     (visit_named (length (taken_from v.peer entries)) v before counts.0)
-    (turn-named entries vs (before ++ visit_deeds entries v) differ.1
-    (all-with (λ w. w.peer ≡ v.peer → ⊥) (λ w. length (taken_from w.peer entries) ≡ count_taken w.peer before) (λ w. length (taken_from w.peer entries) ≡ count_taken w.peer (before ++ visit_deeds entries v)) later vs
+    (turn-named entries vs (before ++ named_deeds entries v) differ.1
+    (all-with (λ w. w.peer ≡ v.peer → ⊥) (λ w. length (taken_from w.peer entries) ≡ count_taken w.peer before) (λ w. length (taken_from w.peer entries) ≡ count_taken w.peer (before ++ named_deeds entries v)) later vs
     (all-unmap (λ n. n ≡ v.peer → ⊥) (λ w. w.peer) vs differ.0) counts.1))
   where
-    later : (w : Visit) → (w.peer ≡ v.peer → ⊥) → length (taken_from w.peer entries) ≡ count_taken w.peer before → length (taken_from w.peer entries) ≡ count_taken w.peer (before ++ visit_deeds entries v)
-    later w other same = omega (arith, same, count-join w.peer before (visit_deeds entries v), count_other w.peer (length (taken_from v.peer entries)) v (ne_eqb v.peer w.peer (λ e. other (sym e))))
+    later : (w : Visit) → (w.peer ≡ v.peer → ⊥) → length (taken_from w.peer entries) ≡ count_taken w.peer before → length (taken_from w.peer entries) ≡ count_taken w.peer (before ++ named_deeds entries v)
+    later w other same = omega (arith, same, count-join w.peer before (named_deeds entries v), count_other w.peer (names_from (length (taken_from v.peer entries))) v (ne_eqb v.peer w.peer (λ e. other (sym e))))

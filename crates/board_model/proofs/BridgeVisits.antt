@@ -11,12 +11,12 @@ use Rattle.mc_base.specs.declared.fate.Fate.TheVariants as fate
 use Rattle.board_model.specs.Journal.{PlainEntry, Visit, Taken}
 use Rattle.board_model.specs.State.{Endpoint, Peer, DomainState, is_numbered, peer_at, endpoint_of, owed_to}
 use Rattle.board_model.specs.Dealing.{names_of, row_for, after_frame, after_takes, HaveWords}
-use Rattle.board_model.specs.Turn.{turn_limit, after_looks, after_visit, IsVisit, AreVisits, after_turn}
+use Rattle.board_model.specs.Turn.{turn_limit, after_looks, after_visit, IsVisit, AreVisits, after_turn, takes_named, visit_deeds}
 use Rattle.board_model.specs.Change.{Change, item_queued, item_handed, name_found, names_known, buffers_back, frames_shown, frame_taken, changed, changed_all}
 use Rattle.board_model.specs.TakenFrames.{Row, row, last_row, message_item, letter_rows, name_rows, first_row, rows, row_of}
 use Rattle.board_model.specs.Deeds.{Deed, looks_back, puts_owed, looks_ahead, takes, after_deed, after_deeds, AllMayDo}
 use Rattle.board_model.specs.Traffic.{taken_from}
-use Rattle.board_model.specs.JournalDeeds.{takes_named, visit_deeds}
+use Rattle.board_model.specs.JournalDeeds.{names_from, named_deeds}
 use Rattle.board_model.proofs.DeedRuns.{unnamed_end, unnamed}
 use Rattle.board_model.proofs.MessageLists.{get-position}
 use Rattle.board_model.proofs.BridgeLists.{changed-twice, changed-found, changed-nothing, found-changed, option-map-map}
@@ -38,12 +38,12 @@ module _ (peer count : ℕ) where
   known_same None = refl
   known_same (Some p) = refl
 
-  letter_same : (t : DomainState) (name source destination : ℕ) (o : Option Endpoint) (l : PlainLetter) → letter_rows (showing peer count t) peer name source destination (option_map unnamed_end o) l ≡ letter_rows t peer name source destination o l
+  letter_same : (t : DomainState) (name : Option ℕ) (source destination : ℕ) (o : Option Endpoint) (l : PlainLetter) → letter_rows (showing peer count t) peer name source destination (option_map unnamed_end o) l ≡ letter_rows t peer name source destination o l
   letter_same t name source destination None l = refl
   letter_same t name source destination (Some e) (msg priority content) = ap (λ b. row b fate.Handed (item_handed destination (message_item peer name source priority content) ∷ []) ∷ last_row fate.Queued (item_queued destination (message_item peer name source priority content) ∷ [])) (one_waits-unnamed t e.local)
   letter_same t name source destination (Some e) other = refl
 
-  rows_same : (t : DomainState) (name : ℕ) (r : Reading) → rows (showing peer count t) peer name r ≡ rows t peer name r
+  rows_same : (t : DomainState) (name : Option ℕ) (r : Reading) → rows (showing peer count t) peer name r ≡ rows t peer name r
   rows_same t name (is_faulty f) = refl
   rows_same t name (announces text address there) =
       ap (λ known. name_rows peer known (endpoint_named text) address there)
@@ -71,7 +71,7 @@ module _ (peer count : ℕ) where
   shown_again : (s : DomainState) → changed (changed s (frame_taken peer)) (frames_shown peer count) ≡ changed s (frames_shown peer count)
   shown_again s = ap (λ ps. record s { peers = ps }) (changed-twice (is_numbered peer) (λ p. record p { shown = count }) (λ p. record p { shown = p.shown - 1 }) (λ p. refl) s.peers)
 
-  module _ (t : DomainState) (name : ℕ) (frame : List ℕ) where
+  module _ (t : DomainState) (name : Option ℕ) (frame : List ℕ) where
     same_row : row_of (showing peer count t) peer name (reading frame) ≡ row_of t peer name (reading frame)
     same_row = ap first_row (rows_same t name (reading frame))
 
@@ -94,16 +94,16 @@ module _ (peer count : ℕ) where
 
   -- ---- the frames that are taken, one by one
 
-  takes_lead : (name : ℕ) (ts : List Taken) (t : DomainState) → showing peer count (after_deeds t (takes_named peer name ts)) ≡ after_takes (showing peer count t) peer ts
+  takes_lead : (name : ℕ → Option ℕ) (ts : List Taken) (t : DomainState) → showing peer count (after_deeds t (takes_named name peer ts)) ≡ after_takes (showing peer count t) peer ts
   takes_lead name [] t = refl
   takes_lead name (x ∷ ts) t =
-      takes_lead (name + 1) ts (after_deed t (takes peer name x.frame x.fate))
-      ∙ ap (λ s. after_takes s peer ts) (frame-leads t name x.frame x.fate)
+      takes_lead (λ k. name (k + 1)) ts (after_deed t (takes peer (name 0) x.frame x.fate))
+      ∙ ap (λ s. after_takes s peer ts) (frame-leads t (name 0) x.frame x.fate)
 
-  takes_may : (name : ℕ) (ts : List Taken) (t : DomainState) → HaveWords (showing peer count t) peer ts → AllMayDo t (takes_named peer name ts)
+  takes_may : (name : ℕ → Option ℕ) (ts : List Taken) (t : DomainState) → HaveWords (showing peer count t) peer ts → AllMayDo t (takes_named name peer ts)
   takes_may name [] t words = tt
   takes_may name (x ∷ ts) t words =
-      (frame_word t name x.frame x.fate words.0, takes_may (name + 1) ts (after_deed t (takes peer name x.frame x.fate)) (subst (λ s. HaveWords s peer ts) (sym (frame-leads t name x.frame x.fate)) words.1))
+      (frame_word t (name 0) x.frame x.fate words.0, takes_may (λ k. name (k + 1)) ts (after_deed t (takes peer (name 0) x.frame x.fate)) (subst (λ s. HaveWords s peer ts) (sym (frame-leads t (name 0) x.frame x.fate)) words.1))
 
 -- ---- how many frames are shown
 
@@ -128,15 +128,15 @@ shown_less n t =
     ap (option_map (λ p. p.shown)) (found-changed (is_numbered n) (λ p. record p { shown = p.shown - 1 }) (λ p. refl) t.peers)
     ∙ (option-map-map (λ (p : Peer). p.shown) (λ (p : Peer). record p { shown = p.shown - 1 }) (peer_at t n) ∙ sym (option-map-map (λ k. k - 1) (λ (p : Peer). p.shown) (peer_at t n)))
 
-shown_after : (n m k : ℕ) (t : DomainState) (frame : List ℕ) (word : Fate) → shown_in n t ≡ Some k → shown_in n (after_deed t (takes n m frame word)) ≡ Some (k - 1)
+shown_after : (n : ℕ) (m : Option ℕ) (k : ℕ) (t : DomainState) (frame : List ℕ) (word : Fate) → shown_in n t ≡ Some k → shown_in n (after_deed t (takes n m frame word)) ≡ Some (k - 1)
 shown_after n m k t frame word is =
     shown_all n (changed t (frame_taken n)) (row_of t n m (reading frame)).happens (rows-about t n m (reading frame)) ∙ (shown_less n t ∙ ap (option_map (λ i. i - 1)) is)
 
-shown_left : (n m k : ℕ) (ts : List Taken) (t : DomainState) → shown_in n t ≡ Some k → shown_in n (after_deeds t (takes_named n m ts)) ≡ Some (k - length ts)
+shown_left : (n : ℕ) (m : ℕ → Option ℕ) (k : ℕ) (ts : List Taken) (t : DomainState) → shown_in n t ≡ Some k → shown_in n (after_deeds t (takes_named m n ts)) ≡ Some (k - length ts)
 shown_left n m k [] t is = is ∙ ap Some (let same : k ≡ k - 0 = omega arith in same)
 shown_left n m k (x ∷ ts) t is =
     let less : k - 1 - length ts ≡ k - length (x ∷ ts) = omega arith in
-    shown_left n (m + 1) (k - 1) ts (after_deed t (takes n m x.frame x.fate)) (shown_after n m k t x.frame x.fate is) ∙ ap Some less
+    shown_left n (λ i. m (i + 1)) (k - 1) ts (after_deed t (takes n (m 0) x.frame x.fate)) (shown_after n (m 0) k t x.frame x.fate is) ∙ ap Some less
 
 -- where so many are shown, they are so many
 shown_is : (n k : ℕ) (t : DomainState) → shown_in n t ≡ Some k → showing n k t ≡ unnamed t
@@ -154,10 +154,6 @@ shown_is n k t is =
 pub record Leads (t : DomainState) (ds : List Deed) (left : DomainState) : Type 0 where
   pub may : AllMayDo t ds
   pub leads : unnamed (after_deeds t ds) ≡ left
-
--- a visit whose first frame has this name
-abbrev pub deeds_named : Visit → ℕ → List Deed
-deeds_named v name = looks_back v.peer v.back ∷ (map (puts_owed v.peer) v.owed ++ (looks_ahead v.peer v.see ∷ takes_named v.peer name v.takes))
 
 module _ (t : DomainState) (v : Visit) (sound : Sound (unnamed t)) (is : IsVisit (unnamed t) v) where
   -- after the look at buffers, the owed frames, and the look at frames
@@ -191,17 +187,17 @@ module _ (t : DomainState) (v : Visit) (sound : Sound (unnamed t)) (is : IsVisit
       ap (option_map (λ p. p.shown)) (found-changed (is_numbered v.peer) (λ p. record p { shown = v.see }) (λ p. refl) put.peers
       ∙ ap (option_map (λ (p : Peer). record p { shown = v.see })) (put-found v.peer v.owed back (sound-plain (unnamed t) (buffers_back v.peer v.back) tt sound).told ∙ ap (option_map (puts_of v.owed)) found_back))
 
-  pub visit-leads : (name : ℕ) → Leads t (deeds_named v name) (after_visit (unnamed t) v)
+  pub visit-leads : (name : ℕ → Option ℕ) → Leads t (visit_deeds name v) (after_visit (unnamed t) v)
   visit-leads name = record {
     may = (
       tt,
-      may-join back (map (puts_owed v.peer) v.owed) (looks_ahead v.peer v.see ∷ takes_named v.peer name v.takes)
+      may-join back (map (puts_owed v.peer) v.owed) (looks_ahead v.peer v.see ∷ takes_named name v.peer v.takes)
           (puts-may v.peer v.owed (drop (min turn_limit (is.at.free + v.back)) (owed_to t.number (is.at))) back (record (is.at) { free = is.at.free + v.back }) found_back owed_so)
           (tt, takes_may v.peer (v.see - length v.takes) name v.takes seen (subst (λ s. HaveWords s v.peer v.takes) (sym looks_so) is.words)),
     );
     leads =
-        ap unnamed (after-join back (map (puts_owed v.peer) v.owed) (looks_ahead v.peer v.see ∷ takes_named v.peer name v.takes))
-        ∙ (sym (shown_is v.peer (v.see - length v.takes) (after_deeds seen (takes_named v.peer name v.takes)) (shown_left v.peer name v.see v.takes seen shown_so))
+        ap unnamed (after-join back (map (puts_owed v.peer) v.owed) (looks_ahead v.peer v.see ∷ takes_named name v.peer v.takes))
+        ∙ (sym (shown_is v.peer (v.see - length v.takes) (after_deeds seen (takes_named name v.peer v.takes)) (shown_left v.peer name v.see v.takes seen shown_so))
         ∙ (takes_lead v.peer (v.see - length v.takes) name v.takes seen ∙ ap (λ s. after_takes s v.peer v.takes) looks_so));
   }
 
@@ -210,11 +206,11 @@ module _ (t : DomainState) (v : Visit) (sound : Sound (unnamed t)) (is : IsVisit
 pub leads-join : (t : DomainState) (xs ys : List Deed) (middle left : DomainState) → Leads t xs middle → Leads (after_deeds t xs) ys left → Leads t (xs ++ ys) left
 leads-join t xs ys middle left front rest = record { may = may-join t xs ys front.may rest.may; leads = ap unnamed (after-join t xs ys) ∙ rest.leads }
 
-pub turn-leads : (before : List PlainEntry) (vs : List Visit) (t : DomainState) → Sound (unnamed t) → AreVisits (unnamed t) vs → Leads t (flat_map (visit_deeds before) vs) (after_turn (unnamed t) vs)
+pub turn-leads : (before : List PlainEntry) (vs : List Visit) (t : DomainState) → Sound (unnamed t) → AreVisits (unnamed t) vs → Leads t (flat_map (named_deeds before) vs) (after_turn (unnamed t) vs)
 turn-leads before [] t sound are = record { may = tt; leads = refl }
 turn-leads before (v ∷ vs) t sound are =
-    let front = visit-leads t v sound are.0 (length (taken_from v.peer before)) in
-    let after : unnamed (after_deeds t (visit_deeds before v)) ≡ after_visit (unnamed t) v = front.leads in
-    let rest = turn-leads before vs (after_deeds t (visit_deeds before v)) (deeds-sound t (visit_deeds before v) sound) (subst (λ s. AreVisits s vs) (sym after) are.1) in
-    leads-join t (visit_deeds before v) (flat_map (visit_deeds before) vs) (after_visit (unnamed t) v) (after_turn (after_visit (unnamed t) v) vs) front
+    let front = visit-leads t v sound are.0 (names_from (length (taken_from v.peer before))) in
+    let after : unnamed (after_deeds t (named_deeds before v)) ≡ after_visit (unnamed t) v = front.leads in
+    let rest = turn-leads before vs (after_deeds t (named_deeds before v)) (deeds-sound t (named_deeds before v) sound) (subst (λ s. AreVisits s vs) (sym after) are.1) in
+    leads-join t (named_deeds before v) (flat_map (named_deeds before) vs) (after_visit (unnamed t) v) (after_turn (after_visit (unnamed t) v) vs) front
     (record { may = rest.may; leads = rest.leads ∙ ap (λ s. after_turn s vs) after })

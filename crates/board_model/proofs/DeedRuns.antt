@@ -1,5 +1,5 @@
 -- Runs of deeds: what the laws of messages rest on. Each deed is allowed, and each frame is named by its place among those taken.
-use Rattle.std.proofs.Common.{◌≡◌, ℕ, ◌+◌, Bool, cond, List, [], ◌∷◌, ◌++◌}
+use Rattle.std.proofs.Common.{◌≡◌, ℕ, ◌+◌, Bool, cond, List, [], ◌∷◌, ◌++◌, Some}
 use Rattle.std.specs.Prelude.{◌==◌, map}
 use Rattle.std.specs.List.{flat_map}
 use Rattle.board_model.specs.Answer.{puts}
@@ -18,7 +18,7 @@ count_taken peer (d ∷ ds) = taken_by peer d + count_taken peer ds
 
 -- each frame is named by its place
 abbrev pub IsNamed : List Deed → Deed → Type 0
-IsNamed before (takes p name frame word) = name ≡ count_taken p before
+IsNamed before (takes p name frame word) = name ≡ Some (count_taken p before)
 IsNamed before other = Unit {0}
 
 abbrev pub AreNamed : List Deed → List Deed → Type 0

@@ -67,7 +67,7 @@ by_names P none q ks (Some n) a false learn forget =
     cond_both (not (n.domain == q)) (row (not (n.domain == q)) fate.ForeignName []) (cond unknown.applies unknown acts) (λ w. P w.happens) (λ k. none) (λ k. cond_both unknown.applies unknown acts (λ w. P w.happens) (λ j. none) (λ j. forget n))
 
 -- what holds of no change, and of those by which an item is handed or queued, holds of what a letter brings
-pub by_letters : (P : List Change → Type 0) → P [] → (s : DomainState) (q name src dst : ℕ) (x : Option Endpoint) (l : PlainLetter) → ((i : Item) → P (item_handed dst i ∷ [])) → ((i : Item) → P (item_queued dst i ∷ [])) → P (first_row (letter_rows s q name src dst x l)).happens
+pub by_letters : (P : List Change → Type 0) → P [] → (s : DomainState) (q : ℕ) (name : Option ℕ) (src dst : ℕ) (x : Option Endpoint) (l : PlainLetter) → ((i : Item) → P (item_handed dst i ∷ [])) → ((i : Item) → P (item_queued dst i ∷ [])) → P (first_row (letter_rows s q name src dst x l)).happens
 by_letters P none s q name src dst None l hand queue = none
 by_letters P none s q name src dst (Some e) (msg priority content) hand queue =
     let i : Item = message_item q name src priority content in
@@ -109,7 +109,7 @@ module _ (made : ℕ) (known : ℕ → ℕ → Type 0) (ns : List ℕ) where
     abbrev RowFits : DomainState → Row → Type 0
     RowFits t r = FitAll made known ns t r.happens
 
-    frame_fits : (t : DomainState) (q name : ℕ) (r : Reading) → Hears known q r → RowFits t (row_of s q name r)
+    frame_fits : (t : DomainState) (q : ℕ) (name : Option ℕ) (r : Reading) → Hears known q r → RowFits t (row_of s q name r)
     frame_fits t q name (is_faulty w) hears = tt
     frame_fits t q name (announces text a there) hears = by_names (FitAll made known ns t) tt q (names_of (peer_at s q)) (endpoint_named text) a there
         (λ n. (learned_known q n a (names_of (peer_at s q)) hears (names_known_of q), (tt, tt)))

@@ -86,15 +86,15 @@ module _ (r : ℕ) (test : Message → Bool) where
     no_said false = refl
 
     -- a frame that says no message
-    abbrev Leads : ℕ → ℕ → Reading → Fate → Type 0
+    abbrev Leads : ℕ → Option ℕ → Reading → Fate → Type 0
     Leads q name rd word = let t = changed_all s (frame_taken q ∷ (row_of s q name rd).happens) in Balance s (said_by q r rd) (taken_of s t.requests) (cond (drops word) (said_by q r rd) []) t.endpoints
 
-    idle_leads : (q name : ℕ) (rd : Reading) (word : Fate) → said_by q r rd ≡ [] → taken_of s (changed_all s (frame_taken q ∷ (row_of s q name rd).happens)).requests ≡ [] → (changed_all s (frame_taken q ∷ (row_of s q name rd).happens)).endpoints ≡ s.endpoints → Leads q name rd word
+    idle_leads : (q : ℕ) (name : Option ℕ) (rd : Reading) (word : Fate) → said_by q r rd ≡ [] → taken_of s (changed_all s (frame_taken q ∷ (row_of s q name rd).happens)).requests ≡ [] → (changed_all s (frame_taken q ∷ (row_of s q name rd).happens)).endpoints ≡ s.endpoints → Leads q name rd word
     idle_leads q name rd word silent none same =
         omega (arith, ap (count_by test) silent, ap (took r test) none, ap (λ (ms : List Message). count_by test (cond (drops word) ms [])) silent, no_said (drops word), ap (weight r test) same)
 
     -- letters, by the endpoint with the destination's address
-    module _ (q name src dst : ℕ) where
+    module _ (q : ℕ) (name : Option ℕ) (src dst : ℕ) where
       abbrev Arrives : Option Endpoint → PlainLetter → Fate → Type 0
       Arrives x l word = let t = changed_all s (frame_taken q ∷ (first_row (letter_rows s q name src dst x l)).happens) in Balance s (said_by q r (says src dst l)) (taken_of s t.requests) (cond (drops word) (said_by q r (says src dst l)) []) t.endpoints
 
@@ -156,7 +156,7 @@ module _ (r : ℕ) (test : Message → Bool) where
       letter (Some e) found (send_close m) word is = silent word
       letter (Some e) found (recv_close m) word is = silent word
 
-    take_leads : (q name : ℕ) (rd : Reading) (word : Fate) → (row_of s q name rd).word ≡ word → Leads q name rd word
+    take_leads : (q : ℕ) (name : Option ℕ) (rd : Reading) (word : Fate) → (row_of s q name rd).word ≡ word → Leads q name rd word
     take_leads q name (is_faulty w) word is = idle_leads q name (is_faulty w) word refl none_new refl
     take_leads q name (announces text a there) word is =
         let idle = by_names (λ cs. (taken_of s (changed_all s (frame_taken q ∷ cs)).requests ≡ []) × ((changed_all s (frame_taken q ∷ cs)).endpoints ≡ s.endpoints)) (none_new, refl) q (names_of (peer_at s q)) (endpoint_named text) a there (λ n. (found_none n a, refl)) (λ n. (none_new, refl)) in

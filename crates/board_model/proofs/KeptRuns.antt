@@ -1,6 +1,6 @@
 -- The items of one domain are kept along a run of deeds; and what the run's frames bring is counted lane by lane.
 use Rattle.std.proofs.Common.{◌≡◌, ℕ, ◌+◌, ◌-◌, ◌≤◌, Bool, List, [], ◌∷◌, ◌++◌, map, refl, ap, ◌∙◌, arith}
-use Rattle.std.specs.Prelude.{count_by}
+use Rattle.std.specs.Prelude.{count_by, Option}
 use Rattle.std.proofs.lemmas.List.{map-append}
 use Rattle.mc_base.specs.FullName.{endpoint_named}
 use Rattle.mc_base.specs.Reading.{Reading, is_faulty, announces, says, reading}
@@ -23,7 +23,7 @@ use Rattle.board_model.proofs.KeptDeeds.{brought_by, deed_balanced}
 
 -- ---- how many requests are given: one at most by a call that is not refused
 
-frame_gives : (s : DomainState) (q name : ℕ) (r : Reading) → given_by_all (row_of s q name r).happens ≡ 0
+frame_gives : (s : DomainState) (q : ℕ) (name : Option ℕ) (r : Reading) → given_by_all (row_of s q name r).happens ≡ 0
 frame_gives s q name (is_faulty w) = refl
 frame_gives s q name (announces text a there) = by_names (λ cs. given_by_all cs ≡ 0) refl q (names_of (peer_at s q)) (endpoint_named text) a there (λ n. refl) (λ n. refl)
 frame_gives s q name (says src dst l) = by_letters (λ cs. given_by_all cs ≡ 0) refl s q name src dst (endpoint_of s dst) l (λ i. refl) (λ i. refl)

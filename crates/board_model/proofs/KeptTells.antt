@@ -18,7 +18,8 @@ use Rattle.board_model.specs.Run.{start, Leads, after_all, left_by, IsDomainRun}
 use Rattle.board_model.specs.Traffic.{put_to, taken_from}
 use Rattle.board_model.specs.Board.{DomainJournal}
 use Rattle.board_model.specs.Deeds.{Deed, looks_back, puts_owed, looks_ahead, takes, calls, along}
-use Rattle.board_model.specs.JournalDeeds.{takes_named, visit_deeds, call_deeds, entry_deeds, deeds_along, deeds_of, opened, left_in}
+use Rattle.board_model.specs.Turn.{takes_named}
+use Rattle.board_model.specs.JournalDeeds.{names_from, named_deeds, call_deeds, entry_deeds, deeds_along, deeds_of, opened, left_in}
 use Rattle.board_model.proofs.DeedRuns.{IsDeedRun, puts_by, takes_by, unnamed}
 use Rattle.board_model.proofs.BridgeFronts.{allowed-front}
 use Rattle.board_model.proofs.BridgeRuns.{AllAllowed, allowed-all, deeds_run, state_is, puts_are, takes_are}
@@ -54,22 +55,22 @@ allowed_back lines r (e ∷ es) fs allowed = allowed_back lines (after lines r e
 
 -- ---- the deeds of a turn
 
-module _ (P : Deed → Type 0) (Q : ℕ → Type 0) (back : (q n : ℕ) → P (looks_back q n)) (owed : (q : ℕ) (f : List ℕ) → P (puts_owed q f)) (ahead : (q n : ℕ) → P (looks_ahead q n)) (takes_it : (q name : ℕ) (t : Taken) → Q q → P (takes q name t.frame t.fate)) where
+module _ (P : Deed → Type 0) (Q : ℕ → Type 0) (back : (q n : ℕ) → P (looks_back q n)) (owed : (q : ℕ) (f : List ℕ) → P (puts_owed q f)) (ahead : (q n : ℕ) → P (looks_ahead q n)) (takes_it : (q : ℕ) (name : Option ℕ) (t : Taken) → Q q → P (takes q name t.frame t.fate)) where
   each_owed : (q : ℕ) (fs : List (List ℕ)) → AllByRecursion P (map (puts_owed q) fs)
   each_owed q [] = tt
   each_owed q (f ∷ fs) = (owed q f, each_owed q fs)
 
-  each_take : (q name : ℕ) (ts : List Taken) → Q q → AllByRecursion P (takes_named q name ts)
+  each_take : (q : ℕ) (name : ℕ → Option ℕ) (ts : List Taken) → Q q → AllByRecursion P (takes_named name q ts)
   each_take q name [] is = tt
-  each_take q name (t ∷ ts) is = (takes_it q name t is, each_take q (name + 1) ts is)
+  each_take q name (t ∷ ts) is = (takes_it q (name 0) t is, each_take q (λ k. name (k + 1)) ts is)
 
-  each_visit : (before : List PlainEntry) (v : Visit) → Q v.peer → AllByRecursion P (visit_deeds before v)
+  each_visit : (before : List PlainEntry) (v : Visit) → Q v.peer → AllByRecursion P (named_deeds before v)
   each_visit before v is =
-      (back v.peer v.back, all-append P (map (puts_owed v.peer) v.owed) (looks_ahead v.peer v.see ∷ takes_named v.peer (length (taken_from v.peer before)) v.takes) (each_owed v.peer v.owed) (ahead v.peer v.see, each_take v.peer (length (taken_from v.peer before)) v.takes is))
+      (back v.peer v.back, all-append P (map (puts_owed v.peer) v.owed) (looks_ahead v.peer v.see ∷ takes_named (names_from (length (taken_from v.peer before))) v.peer v.takes) (each_owed v.peer v.owed) (ahead v.peer v.see, each_take v.peer (names_from (length (taken_from v.peer before))) v.takes is))
 
-  pub each_turn : (before : List PlainEntry) (vs : List Visit) → AllByRecursion (λ v. Q v.peer) vs → AllByRecursion P (flat_map (visit_deeds before) vs)
+  pub each_turn : (before : List PlainEntry) (vs : List Visit) → AllByRecursion (λ v. Q v.peer) vs → AllByRecursion P (flat_map (named_deeds before) vs)
   each_turn before [] all = tt
-  each_turn before (v ∷ vs) all = all-append P (visit_deeds before v) (flat_map (visit_deeds before) vs) (each_visit before v all.0) (each_turn before vs all.1)
+  each_turn before (v ∷ vs) all = all-append P (named_deeds before v) (flat_map (named_deeds before) vs) (each_visit before v all.0) (each_turn before vs all.1)
 
 any_visit : (vs : List Visit) → AllByRecursion (λ (v : Visit). Unit {0}) vs
 any_visit [] = tt

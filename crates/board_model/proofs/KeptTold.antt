@@ -17,7 +17,8 @@ use Rattle.board_model.specs.Answer.{local, refusal, answer_by}
 use Rattle.board_model.specs.Step.{RunState, Allowed, next_line, call_at, after}
 use Rattle.board_model.specs.CallChanges.{at_live}
 use Rattle.board_model.specs.Deeds.{Deed, looks_back, puts_owed, looks_ahead, takes, calls, after_deed, MayDo, AllMayDo, along}
-use Rattle.board_model.specs.JournalDeeds.{takes_named, visit_deeds, call_deeds, entry_deeds, deeds_along}
+use Rattle.board_model.specs.Turn.{takes_named}
+use Rattle.board_model.specs.JournalDeeds.{names_from, named_deeds, call_deeds, entry_deeds, deeds_along}
 use Rattle.board_model.specs.Traffic.{taken_from}
 use Rattle.board_model.specs.Messages.{Message, said_by, carries_message, message_of, queued_at}
 use Rattle.board_model.specs.Drops.{drops, dropped_by}
@@ -98,7 +99,7 @@ pub record Counts (w : Deed → ℕ) (test : Line → Bool) : Type 0 where
   pub back : (q n : ℕ) → w (looks_back q n) ≡ 0
   pub owed : (q : ℕ) (f : List ℕ) → w (puts_owed q f) ≡ 0
   pub ahead : (q n : ℕ) → w (looks_ahead q n) ≡ 0
-  pub taken : (q name : ℕ) (t : Taken) → w (takes q name t.frame t.fate) ≡ one_if (test (taken_line q t))
+  pub taken : (q : ℕ) (name : Option ℕ) (t : Taken) → w (takes q name t.frame t.fate) ≡ one_if (test (taken_line q t))
   pub no_turn : test turn_line ≡ false
   pub no_back : (q n : ℕ) → test (back_line q n) ≡ false
   pub no_see : (q n : ℕ) → test (see_line q n) ≡ false
@@ -109,17 +110,17 @@ module _ (w : Deed → ℕ) (test : Line → Bool) (counts : Counts w test) wher
   owed_none q [] = refl
   owed_none q (f ∷ fs) = omega (arith, counts.owed q f, owed_none q fs)
 
-  takes_count : (q name : ℕ) (ts : List Taken) → total w (takes_named q name ts) ≡ count_by (λ t. test (taken_line q t)) ts
+  takes_count : (q : ℕ) (name : ℕ → Option ℕ) (ts : List Taken) → total w (takes_named name q ts) ≡ count_by (λ t. test (taken_line q t)) ts
   takes_count q name [] = refl
-  takes_count q name (t ∷ ts) = omega (arith, counts.taken q name t, takes_count q (name + 1) ts, count-cons (λ u. test (taken_line q u)) t ts)
+  takes_count q name (t ∷ ts) = omega (arith, counts.taken q (name 0) t, takes_count q (λ k. name (k + 1)) ts, count-cons (λ u. test (taken_line q u)) t ts)
 
-  visit_count : (before : List PlainEntry) (v : Visit) → total w (visit_deeds before v) ≡ count_by test (visit_lines v)
+  visit_count : (before : List PlainEntry) (v : Visit) → total w (named_deeds before v) ≡ count_by test (visit_lines v)
   visit_count before v =
-      let name : ℕ = length (taken_from v.peer before) in
+      let name : ℕ → Option ℕ = names_from (length (taken_from v.peer before)) in
       omega (
         arith,
         counts.back v.peer v.back,
-        total-append w (map (puts_owed v.peer) v.owed) (looks_ahead v.peer v.see ∷ takes_named v.peer name v.takes),
+        total-append w (map (puts_owed v.peer) v.owed) (looks_ahead v.peer v.see ∷ takes_named name v.peer v.takes),
         owed_none v.peer v.owed,
         counts.ahead v.peer v.see,
         takes_count v.peer name v.takes,
@@ -127,11 +128,11 @@ module _ (w : Deed → ℕ) (test : Line → Bool) (counts : Counts w test) wher
         count-never (λ f. test (put_line v.peer f)) (counts.no_put v.peer) v.owed,
       )
 
-  visits_count : (before : List PlainEntry) (vs : List Visit) → total w (flat_map (visit_deeds before) vs) ≡ count_by test (flat_map visit_lines vs)
+  visits_count : (before : List PlainEntry) (vs : List Visit) → total w (flat_map (named_deeds before) vs) ≡ count_by test (flat_map visit_lines vs)
   visits_count before [] = refl
-  visits_count before (v ∷ vs) = omega (arith, total-append w (visit_deeds before v) (flat_map (visit_deeds before) vs), visit_count before v, visits_count before vs, count-append test (visit_lines v) (flat_map visit_lines vs))
+  visits_count before (v ∷ vs) = omega (arith, total-append w (named_deeds before v) (flat_map (named_deeds before) vs), visit_count before v, visits_count before vs, count-append test (visit_lines v) (flat_map visit_lines vs))
 
-  pub turn-count : (before : List PlainEntry) (vs : List Visit) → total w (flat_map (visit_deeds before) vs) ≡ count_by test (entry_lines (turned vs))
+  pub turn-count : (before : List PlainEntry) (vs : List Visit) → total w (flat_map (named_deeds before) vs) ≡ count_by test (entry_lines (turned vs))
   turn-count before vs = omega (arith, visits_count before vs, count-cons test turn_line (flat_map visit_lines vs), ap one_if counts.no_turn)
 
 -- ---- what is brought

@@ -61,7 +61,7 @@ all_of : {A : Type 0} (P Q : A → Type 0) → ((x : A) → P x → Q x) → (xs
 all_of P Q more [] all = tt
 all_of P Q more (x ∷ xs) all = (more x all.0, all_of P Q more xs all.1)
 
-pub takes_does : (room : ℕ) (before : List Deed) (s : DomainState) (peer name : ℕ) (frame : List ℕ) (word : Fate) → Moment room before s → (row_of s peer name (reading frame)).word ≡ word → name ≡ count_taken peer before → Does room before s (takes peer name frame word)
+pub takes_does : (room : ℕ) (before : List Deed) (s : DomainState) (peer : ℕ) (name : Option ℕ) (frame : List ℕ) (word : Fate) → Moment room before s → (row_of s peer name (reading frame)).word ≡ word → name ≡ Some (count_taken peer before) → Does room before s (takes peer name frame word)
 takes_does room before s peer name frame word moment is named =
     let d : Deed = takes peer name frame word in
     let does = row_does before s moment.sound moment.serials.differ peer name named (reading frame) in
@@ -449,7 +449,7 @@ module _ (room : ℕ) (before : List Deed) (s : DomainState) (moment : Moment ro
 
 -- ---- how many requests a deed gives
 
-pub takes_given : (room : ℕ) (before : List Deed) (s : DomainState) (peer name : ℕ) (frame : List ℕ) (word : Fate) → Moment room before s → (row_of s peer name (reading frame)).word ≡ word → name ≡ count_taken peer before →
+pub takes_given : (room : ℕ) (before : List Deed) (s : DomainState) (peer : ℕ) (name : Option ℕ) (frame : List ℕ) (word : Fate) → Moment room before s → (row_of s peer name (reading frame)).word ≡ word → name ≡ Some (count_taken peer before) →
     Does room before s (takes peer name frame word) × (given_by_all (happens_by s (takes peer name frame word)) ≤ 0)
 takes_given room before s peer name frame word moment is named =
     let none : given_by_all (row_of s peer name (reading frame)).happens ≡ 0 = (row_does before s moment.sound moment.serials.differ peer name named (reading frame)).gives_none in

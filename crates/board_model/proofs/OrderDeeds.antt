@@ -1,6 +1,6 @@
 -- What each deed does to what is queued at each address, and which items are gone from it: one record for all deeds.
 use Rattle.std.proofs.Common.{◌≡◌, ◌⊎◌, inl, inr, ℕ, ◌-◌, Bool, true, false, cond, List, [], ◌∷◌, ◌++◌, map, find, flat_map, Option, Some, None, option_map, refl, sym, ap, ◌∙◌, subst, arith}
-use Rattle.std.specs.Prelude.{◌==◌, ◌&&◌, ◌||◌, is_none, option_and_then}
+use Rattle.std.specs.Prelude.{◌==◌, ◌&&◌, ◌||◌, is_none, option_and_then, option_to_list}
 use Rattle.std.specs.List.{AllByRecursion, list_any}
 use Rattle.std.proofs.lemmas.Bool.{eqb-true, eq-eqb, and_parts}
 use Rattle.std.proofs.lemmas.List.{append-nil}
@@ -158,7 +158,7 @@ asked_waits s l (name_of n) e waits find_it = absurd cc
 asked_waits s l (channel_of n) e waits find_it = absurd cc
 
 -- what the item is that a frame queues
-abbrev pub queues : ℕ → ℕ → ℕ → Reading → Fate → List Item
+abbrev pub queues : ℕ → ℕ → Option ℕ → Reading → Fate → List Item
 queues b peer name rd word = cond (is_queued word) (item_said b peer name rd) []
 
 -- the state after the frame is taken, and then after its row
@@ -166,12 +166,12 @@ abbrev pub after_row : DomainState → ℕ → Row → DomainState
 after_row s peer r = changed_all (changed s (frame_taken peer)) r.happens
 
 -- by a frame that says so, with this word
-pub record RowHands (s : DomainState) (peer name : ℕ) (rd : Reading) (word : Fate) (t : Taking) : Type 0 where
+pub record RowHands (s : DomainState) (peer : ℕ) (name : Option ℕ) (rd : Reading) (word : Fate) (t : Taking) : Type 0 where
   pub nothing_queued : queued_for s t.address ≡ []
   pub comes : cond (is_handed word) (item_said t.address peer name rd) [] ≡ t.item ∷ []
   pub waits : waiting_first s t.address ≡ t.request
 
-pub record RowDoes (before : List Deed) (s : DomainState) (peer name : ℕ) (rd : Reading) (r : Row) : Type 0 where
+pub record RowDoes (before : List Deed) (s : DomainState) (peer : ℕ) (name : Option ℕ) (rd : Reading) (r : Row) : Type 0 where
   pub fits : FitAllSound (changed s (frame_taken peer)) r.happens
   pub gives_none : given_by_all r.happens ≡ 0
   pub taken : List Taking
@@ -182,7 +182,7 @@ pub record RowDoes (before : List Deed) (s : DomainState) (peer name : ℕ) (rd 
   pub hands : AllByRecursion (RowHands s peer name rd r.word) taken
   pub requests : RequestsBy s (after_row s peer r).requests taken (after_row s peer r).requests_given
 
-module _ (before : List Deed) (s : DomainState) (sound : Sound s) (differ : Differ s.requests) (peer name : ℕ) where
+module _ (before : List Deed) (s : DomainState) (sound : Sound s) (differ : Differ s.requests) (peer : ℕ) (name : Option ℕ) where
   quiet_row : (rd : Reading) (r : Row) → FitAllSound (changed s (frame_taken peer)) r.happens → given_by_all r.happens ≡ 0 → AllByRecursion (IsOld s) (after_row s peer r).requests → ((b : ℕ) → queued_for (after_row s peer r) b ≡ queued_for s b) → ((b : ℕ) → queues b peer name rd r.word ≡ []) →
       RequestsBy s (after_row s peer r).requests [] (after_row s peer r).requests_given → RowDoes before s peer name rd r
   quiet_row rd r fits gives old same none requests = record {
@@ -229,12 +229,12 @@ module _ (before : List Deed) (s : DomainState) (sound : Sound s) (differ : Diff
 
   -- ---- messages
 
-  module _ (source destination priority : ℕ) (content : List ℕ) (named : name ≡ count_taken peer before) where
+  module _ (source destination priority : ℕ) (content : List ℕ) (named : name ≡ Some (count_taken peer before)) where
     abbrev item : Item
     item = message_item peer name source priority content
 
     item_next : IsNext before item
-    item_next = ap (λ n. n ∷ []) named
+    item_next = ap option_to_list named
 
     abbrev says_it : Reading
     says_it = says source destination (msg priority content)
@@ -317,13 +317,13 @@ module _ (before : List Deed) (s : DomainState) (sound : Sound s) (differ : Diff
     message_rows None found = idle_row says_it true NoEndpoint (λ b. refl)
     message_rows (Some e) found = by_rows (RowDoes before s peer name says_it) (letter_rows s peer name source destination (Some e) (msg priority content)) ((λ on. handed_row e found (one_waits s e.local)), (λ off. queued_row e found off))
 
-  letter_does : (named : name ≡ count_taken peer before) (source destination : ℕ) (l : PlainLetter) (o : Option Endpoint) → endpoint_of s destination ≡ o → RowDoes before s peer name (says source destination l) (first_row (letter_rows s peer name source destination o l))
+  letter_does : (named : name ≡ Some (count_taken peer before)) (source destination : ℕ) (l : PlainLetter) (o : Option Endpoint) → endpoint_of s destination ≡ o → RowDoes before s peer name (says source destination l) (first_row (letter_rows s peer name source destination o l))
   letter_does named source destination (msg priority content) o found = message_rows source destination priority content named o found
   letter_does named source destination l None found = idle_row (says source destination l) true NoEndpoint (λ b. refl)
   letter_does named source destination l (Some e) found = idle_row (says source destination l) true State (λ b. refl)
 
   -- whatever the frame says
-  pub row_does : (named : name ≡ count_taken peer before) (rd : Reading) → RowDoes before s peer name rd (row_of s peer name rd)
+  pub row_does : (named : name ≡ Some (count_taken peer before)) (rd : Reading) → RowDoes before s peer name rd (row_of s peer name rd)
   row_does named (is_faulty f) = quiet_row (is_faulty f) (row_of s peer name (is_faulty f)) tt refl (all_old s) (λ b. refl) (λ b. both_none (is_queued (row_of s peer name (is_faulty f)).word)) (kept [] (λ k. refl))
   row_does named (announces text address there) = named_rows text (names_of (peer_at s peer)) (endpoint_named text) address there
   row_does named (says source destination l) = letter_does named source destination l (endpoint_of s destination) refl

@@ -13,7 +13,8 @@ use Rattle.board_model.specs.Run.{start, left_by, IsDomainRun}
 use Rattle.board_model.specs.Board.{DomainJournal}
 use Rattle.board_model.specs.Deeds.{Deed, puts_owed, looks_ahead}
 use Rattle.board_model.specs.Traffic.{taken_from}
-use Rattle.board_model.specs.JournalDeeds.{takes_named, visit_deeds, call_deeds, deeds_along, deeds_of}
+use Rattle.board_model.specs.Turn.{takes_named}
+use Rattle.board_model.specs.JournalDeeds.{names_from, named_deeds, call_deeds, deeds_along, deeds_of}
 use Rattle.board_model.specs.MessageOrder.{ReceivesBest, TestsTellTaken, DeletesTellDropped, CancelledTookNothing}
 use Rattle.board_model.proofs.BridgeRuns.{AllAllowed, allowed-all, deeds_run}
 use Rattle.board_model.proofs.OrderLaws.{all_succeed, run_takes_best, run_tests_tell, run_deletes_tell, run_cancelled}
@@ -28,18 +29,18 @@ puts_none : (peer : ℕ) (fs : List (List ℕ)) → all_succeed (map (puts_owed 
 puts_none peer [] = refl
 puts_none peer (f ∷ fs) = omega (arith, puts_none peer fs)
 
-takes_none : (peer name : ℕ) (ts : List Taken) → all_succeed (takes_named peer name ts) ≡ 0
-takes_none peer name [] = refl
-takes_none peer name (t ∷ ts) = omega (arith, takes_none peer (name + 1) ts)
+takes_none : (name : ℕ → Option ℕ) (peer : ℕ) (ts : List Taken) → all_succeed (takes_named name peer ts) ≡ 0
+takes_none name peer [] = refl
+takes_none name peer (t ∷ ts) = omega (arith, takes_none (λ k. name (k + 1)) peer ts)
 
-visit_none : (before : List PlainEntry) (v : Visit) → all_succeed (visit_deeds before v) ≡ 0
+visit_none : (before : List PlainEntry) (v : Visit) → all_succeed (named_deeds before v) ≡ 0
 visit_none before v =
-    let name = length (taken_from v.peer before) in
-    omega (arith, succeed_join (map (puts_owed v.peer) v.owed) (looks_ahead v.peer v.see ∷ takes_named v.peer name v.takes), puts_none v.peer v.owed, takes_none v.peer name v.takes)
+    let name = names_from (length (taken_from v.peer before)) in
+    omega (arith, succeed_join (map (puts_owed v.peer) v.owed) (looks_ahead v.peer v.see ∷ takes_named name v.peer v.takes), puts_none v.peer v.owed, takes_none name v.peer v.takes)
 
-visits_none : (before : List PlainEntry) (vs : List Visit) → all_succeed (flat_map (visit_deeds before) vs) ≡ 0
+visits_none : (before : List PlainEntry) (vs : List Visit) → all_succeed (flat_map (named_deeds before) vs) ≡ 0
 visits_none before [] = refl
-visits_none before (v ∷ vs) = omega (arith, succeed_join (visit_deeds before v) (flat_map (visit_deeds before) vs), visit_none before v, visits_none before vs)
+visits_none before (v ∷ vs) = omega (arith, succeed_join (named_deeds before v) (flat_map (named_deeds before) vs), visit_none before v, visits_none before vs)
 
 one_call : (o : Option CallLine) (r : RunState) (a : PlainAnswer) → all_succeed (call_deeds o r a) ≤ 1
 one_call None r a = omega arith
@@ -61,7 +62,7 @@ within (y ∷ ys) (suc i) x is = let less = within ys i x is in omega arith
 pub few_left : (lines : List CallLine) (before : List PlainEntry) (r : RunState) (es : List PlainEntry) → AllAllowed lines r es → r.lines_called ≤ length lines → all_succeed (deeds_along lines before r es) + r.lines_called ≤ length lines
 few_left lines before r [] allowed le = omega arith
 few_left lines before r (turned vs ∷ es) allowed le =
-    omega (arith, succeed_join (flat_map (visit_deeds before) vs) (deeds_along lines (before ++ turned vs ∷ []) (after lines r (turned vs)) es), visits_none before vs, few_left lines (before ++ turned vs ∷ []) (after lines r (turned vs)) es allowed.1 le)
+    omega (arith, succeed_join (flat_map (named_deeds before) vs) (deeds_along lines (before ++ turned vs ∷ []) (after lines r (turned vs)) es), visits_none before vs, few_left lines (before ++ turned vs ∷ []) (after lines r (turned vs)) es allowed.1 le)
 few_left lines before r (put q f ∷ es) allowed le = few_left lines (before ++ put q f ∷ []) (after lines r (put q f)) es allowed.1 le
 few_left lines before r (again w ∷ es) allowed le =
     omega (arith, succeed_join (call_deeds (next_line lines r) r (refuses w)) (deeds_along lines (before ++ again w ∷ []) (after lines r (again w)) es), no_call (next_line lines r) r w, few_left lines (before ++ again w ∷ []) (after lines r (again w)) es allowed.1 le)

@@ -1,6 +1,6 @@
 -- Deeds: what a domain does, one thing after the other: looks, owed frames put, frames taken, and calls.
 -- Source: docs/PROFILE.md, "A turn" and "Calls".
-use Rattle.std.specs.Prelude.{◌≡◌, ℕ, List, [], ◌∷◌, ◌++◌, Some}
+use Rattle.std.specs.Prelude.{◌≡◌, ℕ, List, [], ◌∷◌, ◌++◌, Option, Some}
 use Rattle.mc_base.specs.Reading.{reading}
 use Rattle.mc_base.specs.declared.fate.Fate.{Fate}
 use Rattle.board_model.specs.DomainCall.{DomainCall}
@@ -12,12 +12,12 @@ use Rattle.board_model.specs.CallChanges.{call_changes}
 use Rattle.board_model.specs.Answer.{answer}
 
 -- at a peer a look shows so many buffers that came back; the first owed frame is put; a look shows so many frames; the oldest of them
--- is taken, under a name and with its word. A call is made at a node, with its answer
+-- is taken, under a name or none, and with its word. A call is made at a node, with its answer
 pub data Deed : Type 0 where
   looks_back : ℕ → ℕ → Deed
   puts_owed : ℕ → List ℕ → Deed
   looks_ahead : ℕ → ℕ → Deed
-  takes : ℕ → ℕ → List ℕ → Fate → Deed
+  takes : ℕ → Option ℕ → List ℕ → Fate → Deed
   calls : ℕ → DomainCall → PlainAnswer → Deed
 
 -- what happens by it

@@ -2,7 +2,7 @@
 -- back, in the order of giving back.
 -- Source: docs/PROFILE.md, "Lanes". The buffer of a frame that is neither queued nor handed is given back at once. The others are by the
 -- call that drops, receives or tests off the frame's item.
-use Rattle.std.specs.Prelude.{ℕ, ◌==◌, List, [], ◌∷◌, filter, if◌then◌else◌}
+use Rattle.std.specs.Prelude.{ℕ, ◌==◌, List, [], filter, Option, option_to_list, if◌then◌else◌}
 use Rattle.std.specs.List.{flat_map}
 use Rattle.mc_base.specs.declared.fate.Fate.{Fate}
 use Rattle.board_model.specs.declared.scenario.Scenario.{Scenario}
@@ -14,8 +14,8 @@ use Rattle.board_model.specs.Deeds.{Deed, takes, calls, along}
 use Rattle.board_model.specs.JournalDeeds.{deeds_of, opened}
 
 -- the frame of this name, where its word lets go of its buffer
-abbrev pub given_at_once : Fate → ℕ → List ℕ
-given_at_once word name = if keeps_buffer word then [] else name ∷ []
+abbrev pub given_at_once : Fate → Option ℕ → List ℕ
+given_at_once word name = if keeps_buffer word then [] else option_to_list name
 
 -- the names of the frames that brought these items from a peer
 abbrev pub frames_from : ℕ → List Item → List ℕ

@@ -13,7 +13,6 @@ pub mod Post
 pub mod State
 pub mod Choice
 pub mod Dealing
-pub mod Turn
 pub mod DomainCall
 pub mod Answer
 pub mod Effect
@@ -22,6 +21,7 @@ pub mod TakenFrames
 pub mod ChannelEnds
 pub mod CallChanges
 pub mod Deeds
+pub mod Turn
 pub mod Labels
 pub mod Step
 pub mod Run

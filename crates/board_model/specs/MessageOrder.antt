@@ -22,7 +22,7 @@ use Rattle.board_model.specs.Takings.{Taking, takings_by, took_something, cancel
 
 -- ---- what stands at an endpoint: the messages that came to its address with the word queued, and were neither taken nor dropped
 
-abbrev pub item_said : ℕ → ℕ → ℕ → Reading → List Item
+abbrev pub item_said : ℕ → ℕ → Option ℕ → Reading → List Item
 item_said address peer name (says source destination (msg priority content)) = if destination == address then message_item peer name source priority content ∷ [] else []
 item_said address peer name other = []
 

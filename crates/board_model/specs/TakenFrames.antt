@@ -1,7 +1,7 @@
 -- What a domain does with a frame that it takes from a peer: for each thing that a frame may say, rows in their order, of which the
 -- first that applies counts. A row has a condition, a word, and what happens.
 -- Source: docs/PROFILE.md, "What a domain does with a taken frame". Except for queued and handed the buffer is given back at once.
-use Rattle.std.specs.Prelude.{ℕ, Bool, true, false, not, ◌&&◌, nat_le, List, [], ◌∷◌, ◌==◌, length, Option, Some, None, is_some, if◌then◌else◌}
+use Rattle.std.specs.Prelude.{ℕ, Bool, true, false, not, ◌&&◌, nat_le, List, [], ◌∷◌, ◌==◌, length, Option, Some, None, is_some, option_to_list, if◌then◌else◌}
 use Rattle.mc_base.specs.Letter.{PlainLetter, msg}
 use Rattle.mc_base.specs.NameMap.{Names, names_limit, learned, forgotten, address_in}
 use Rattle.mc_base.specs.FullName.{endpoint_named}
@@ -46,11 +46,11 @@ name_rows peer known (Some name) address false =
 
 -- ---- letters, by the endpoint with the letter's destination
 
--- a message as an item, brought by a frame of this name
-abbrev pub message_item : ℕ → ℕ → ℕ → ℕ → List ℕ → Item
-message_item peer name source priority content = record { peer = peer; source = source; priority = priority; channel = None; content = content; frames = name ∷ [] }
+-- a message as an item, brought by a frame of this name, or of none
+abbrev pub message_item : ℕ → Option ℕ → ℕ → ℕ → List ℕ → Item
+message_item peer name source priority content = record { peer = peer; source = source; priority = priority; channel = None; content = content; frames = option_to_list name }
 
-abbrev pub letter_rows : DomainState → ℕ → ℕ → ℕ → ℕ → Option Endpoint → PlainLetter → List Row
+abbrev pub letter_rows : DomainState → ℕ → Option ℕ → ℕ → ℕ → Option Endpoint → PlainLetter → List Row
 letter_rows s peer name source destination None l = last_row fate.NoEndpoint []
 letter_rows s peer name source destination (Some e) (msg priority content) =
     row (one_waits s e.local) fate.Handed (item_handed destination (message_item peer name source priority content) ∷ [])
@@ -59,11 +59,11 @@ letter_rows s peer name source destination (Some e) l = last_row fate.State []
 
 -- ---- all that a frame may say
 
-abbrev pub rows : DomainState → ℕ → ℕ → Reading → List Row
+abbrev pub rows : DomainState → ℕ → Option ℕ → Reading → List Row
 rows s peer name (is_faulty f) = last_row (fault_word f) []
 rows s peer name (announces text address there) = name_rows peer (names_of (peer_at s peer)) (endpoint_named text) address there
 rows s peer name (says source destination l) = letter_rows s peer name source destination (endpoint_of s destination) l
 
--- the row of a frame with a name, and the changes and the word that it has
-abbrev pub row_of : DomainState → ℕ → ℕ → Reading → Row
+-- the row of a frame from a peer, with its name or none
+abbrev pub row_of : DomainState → ℕ → Option ℕ → Reading → Row
 row_of s peer name r = first_row (rows s peer name r)

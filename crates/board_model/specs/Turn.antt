@@ -1,9 +1,10 @@
 -- Turns: what a domain may do at its peers, one after the other, and the state that it leaves.
 -- Source: docs/PROFILE.md, "A turn". How much a look shows is left open, as far as the lane allows.
-use Rattle.std.specs.Prelude.{◌≡◌, ℕ, ◌+◌, ◌-◌, ◌≤◌, min, List, [], ◌∷◌, length, take, drop, map, filter, Some}
+use Rattle.std.specs.Prelude.{◌≡◌, ℕ, ◌+◌, ◌-◌, ◌≤◌, min, List, [], ◌∷◌, ◌++◌, length, take, drop, map, filter, Option, None, Some}
 use Rattle.board_model.specs.Lists.{changed}
-use Rattle.board_model.specs.Journal.{Visit}
+use Rattle.board_model.specs.Journal.{Visit, Taken}
 use Rattle.board_model.specs.State.{DomainState, Peer, place_of_peer, peer_of, owed_to, is_owed_end, held_from}
+use Rattle.board_model.specs.Deeds.{Deed, looks_back, puts_owed, looks_ahead, takes}
 use Rattle.board_model.specs.Dealing.{after_takes, HaveWords}
 
 -- the most owed frames that a turn puts to a peer, and the most frames that it takes from it
@@ -28,6 +29,19 @@ after_looks s v = with_peers s (changed (looked_at v) (place_of_peer s v.peer) s
 -- the state after a visit
 abbrev pub after_visit : DomainState → Visit → DomainState
 after_visit s v = after_takes (after_looks s v) v.peer v.takes
+
+-- ---- what a visit does, one deed after the other
+
+-- frames taken from a peer, each with the name of its place among them, or with none
+abbrev pub takes_named : (ℕ → Option ℕ) → ℕ → List Taken → List Deed
+takes_named name peer [] = []
+takes_named name peer (t ∷ ts) = takes peer (name 0) t.frame t.fate ∷ takes_named (λ k. name (k + 1)) peer ts
+
+abbrev pub nameless : ℕ → Option ℕ
+nameless k = None
+
+abbrev pub visit_deeds : (ℕ → Option ℕ) → Visit → List Deed
+visit_deeds name v = looks_back v.peer v.back ∷ (map (puts_owed v.peer) v.owed ++ (looks_ahead v.peer v.see ∷ takes_named name v.peer v.takes))
 
 -- the visit is one that the lanes allow, and does as it must with what the looks showed
 pub record IsVisit (s : DomainState) (v : Visit) : Type 0 where
