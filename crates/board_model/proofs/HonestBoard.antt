@@ -18,7 +18,7 @@ use Rattle.board_model.specs.Board.{DomainJournal, journal_in, journal_of, LaneF
 use Rattle.board_model.specs.Deeds.{Deed, looks_back, puts_owed, looks_ahead, takes, calls, after_deeds}
 use Rattle.board_model.specs.JournalDeeds.{deeds_of, opened, left_in}
 use Rattle.board_model.specs.Honesty.{IsMade, IsReal, KnowsReal}
-use Rattle.board_model.proofs.BridgeDeeds.{after-join}
+use Rattle.board_model.proofs.DeedJoins.{after-join}
 use Rattle.board_model.proofs.DeedRuns.{frames_if, takes_by}
 use Rattle.board_model.proofs.ListsApart.{all-map, all-unmap, differ-found}
 use Rattle.board_model.proofs.MessageAlls.{all-parts, all-found, all-weaken, all-with, found-passes}

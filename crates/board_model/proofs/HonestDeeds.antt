@@ -15,7 +15,7 @@ use Rattle.board_model.specs.Honesty.{IsMade}
 use Rattle.board_model.specs.DomainCall.{DomainCall, create_at, delete_at, lookup_of, send_from, receive_at, request_at, available_at, test_of, cancel_of, turn_alone}
 use Rattle.board_model.specs.State.{Item, Endpoint, Announcement, Peer, DomainState, is_at, live_at, endpoint_of, one_waits, peer_at, is_numbered, announcing, owed_to}
 use Rattle.board_model.specs.Change.{Change, item_queued, item_handed, names_known, name_found, changed_all}
-use Rattle.board_model.specs.Dealing.{names_of}
+use Rattle.board_model.specs.TakenFrames.{names_of}
 use Rattle.board_model.specs.TakenFrames.{Row, row, name_rows, letter_rows, message_item, first_row, row_of}
 use Rattle.board_model.specs.Messages.{said_by}
 use Rattle.board_model.specs.Answer.{local, holds, words_of, refusal, unless_refused, puts}

@@ -14,7 +14,7 @@ use Rattle.board_model.specs.Choice.{without_best}
 use Rattle.board_model.specs.State.{Item, Endpoint, Asked, name_of, message_at, Outcome, has_address, has_item, has_ended, Request, Announcement, Peer, DomainState, waits_at, is_at, has_address_of, endpoint_of, is_numbered}
 use Rattle.board_model.specs.Change.{Change, endpoint_made, endpoint_gone, item_queued, best_gone, end_announced, owed_put, buffers_back, frames_shown, frame_taken, names_known, buffer_used, request_added, item_handed, waiting_ended, name_found, request_gone, done_with, all_done, asks_for, handed_in, ended_in, endpoint_with, with_queue, at_address, at_peer, also_owed, first_put, changed, changed_all}
 use Rattle.board_model.proofs.MessageAlls.{none-passes, all-append, all-changed-first, all-drop, all-without, found-passes}
-use Rattle.board_model.proofs.BridgeSound.{numbers-kept}
+use Rattle.board_model.proofs.StateEnds.{numbers-kept}
 use Rattle.board_model.proofs.OrderSound.{Rise, rise_changed, rise_fewer, rise_more, Apart, apart_changed, apart_fewer, apart_more}
 use Rattle.board_model.proofs.HonestFrames.{IsReply}
 

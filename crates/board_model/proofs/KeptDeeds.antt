@@ -19,7 +19,7 @@ use Rattle.board_model.specs.DomainCall.{DomainCall, create_at, delete_at, looku
 use Rattle.board_model.specs.Journal.{PlainAnswer, refuses, agrees, tells, gives, completes}
 use Rattle.board_model.specs.State.{Item, Endpoint, Asked, name_of, channel_of, message_at, packet_at, has_address, has_item, has_ended, Request, DomainState, is_at, has_address_of, live_at, endpoint_at, endpoint_of, queue_at, queue_in, one_waits, oldest_waiting, receives_at, waits_at, peer_at}
 use Rattle.board_model.specs.Change.{item_handed, item_queued, frame_taken, endpoint_gone, best_gone, request_added, waiting_ended, end_announced, endpoint_with, all_done, done_with, asks_for, handed_in, ended_in, with_queue, at_address, changed_all}
-use Rattle.board_model.specs.Dealing.{names_of}
+use Rattle.board_model.specs.TakenFrames.{names_of}
 use Rattle.board_model.specs.TakenFrames.{row, letter_rows, message_item, first_row, row_of}
 use Rattle.board_model.specs.Answer.{local, address_of, given, refusal, success, answer_by, unless_refused}
 use Rattle.board_model.specs.CallChanges.{at_live, best_item, success_changes}

@@ -23,7 +23,7 @@ use Rattle.board_model.specs.Messages.{Message, accepted_by, accepted_in, accept
 use Rattle.board_model.proofs.MessageAlls.{all-weaken}
 use Rattle.board_model.proofs.MessageOnce.{total, total-map, total-zero, times, differ-few, length-joined}
 use Rattle.board_model.proofs.PlaceBoards.{rising_differ}
-use Rattle.board_model.proofs.BridgeRuns.{allowed-all}
+use Rattle.board_model.proofs.RunDeeds.{allowed-all}
 use Rattle.board_model.proofs.OrderCalls.{succeeds}
 use Rattle.board_model.proofs.OrderLaws.{all_succeed}
 use Rattle.board_model.proofs.OrderRuns.{few_left}

@@ -32,7 +32,7 @@ use Rattle.board_model.proofs.MessageOnce.{total, total-append}
 use Rattle.board_model.proofs.MessageVisitLines.{count-never, visit_lines_count}
 use Rattle.board_model.proofs.KeptDeeds.{brought_by}
 use Rattle.board_model.proofs.KeptLines.{any, said_bytes}
-use Rattle.board_model.proofs.BridgeRuns.{AllAllowed}
+use Rattle.board_model.proofs.RunDeeds.{AllAllowed}
 
 -- ---- by deeds
 

@@ -1,57 +1,25 @@
--- Calls of a domain: what they change, and what they take of the items that are held.
-use Rattle.std.proofs.Common.{◌≡◌, ℕ, zero, suc, ◌+◌, Bool, true, false, not, cond, List, [], ◌∷◌, ◌++◌, Option, Some, None, count_by, flat_map, slice_get, option_map, option_and_then, option_to_list, refl, sym, ap, ◌∙◌, arith}
+-- Calls of a domain: what they take of the items that are held.
+use Rattle.std.proofs.Common.{◌≡◌, ℕ, zero, suc, ◌+◌, Bool, true, false, not, cond, List, [], ◌∷◌, ◌++◌, map, find, filter, Option, Some, None, count_by, flat_map, slice_get, option_map, option_and_then, option_to_list, refl, sym, ap, ◌∙◌, subst, arith}
 use Rattle.std.specs.Prelude.{is_none}
-use Rattle.std.proofs.lemmas.Bool.{and_parts}
 use Rattle.std.proofs.lemmas.List.Concat.{flat_map-append}
+use Rattle.mc_base.specs.Limits.{first_address}
 use Rattle.mc_base.specs.FullName.{end_name}
 use Rattle.mc_base.specs.declared.name.Local.{Local}
 use Rattle.mc_base.specs.declared.refusal.Refusal.{Refusal}
 use Rattle.mc_base.specs.declared.refusal.Refusal.TheVariants as word
 use Rattle.board_model.specs.DomainCall.{DomainCall, create_at, delete_at, lookup_of, send_from, receive_at, request_at, available_at, test_of, cancel_of, turn_alone}
-use Rattle.board_model.specs.Lists.{changed, without}
-use Rattle.board_model.specs.State.{DomainState, Endpoint, Item, Peer, Request, name_of, message_at, has_address, has_item, has_ended, item_in, request_at_place, place_at, queue_in, waits_at, receives_at}
-use Rattle.board_model.specs.Choice.{best, best_place}
+use Rattle.board_model.specs.Lists.{changed_first, without_first, without}
+use Rattle.board_model.specs.State.{DomainState, Endpoint, Item, Request, name_of, message_at, has_address, has_item, has_ended, item_in, request_at_place, is_at, has_address_of, live_at, endpoint_of, waits_at}
+use Rattle.board_model.specs.Choice.{best, without_best}
 use Rattle.board_model.specs.Answer.{local, holds, words_of, is_complete, refusal, unless_refused, address_of}
-use Rattle.board_model.specs.Effect.{new_endpoint, ended_by_word, received, best_queued, held_by, success_effect, effect, success_returns, returns}
-use Rattle.board_model.proofs.ListsCounts.{count-append, count-without, find-none}
-use Rattle.board_model.proofs.LaneTakes.{held, pending_holds, asked_items, lent_counts, same_asked, found_asked}
+use Rattle.board_model.specs.Change.{Change, endpoint_gone, best_gone, request_added, waiting_ended, end_announced, endpoint_with, with_queue, done_with, ended_in, changed, changed_all}
+use Rattle.board_model.specs.CallChanges.{at_live, best_item, success_changes, call_changes, effect, held_by, success_returned, returned}
+use Rattle.board_model.proofs.ListsCounts.{count-append, find-none}
+use Rattle.board_model.proofs.MessageBest.{count-best}
+use Rattle.board_model.proofs.StateEnds.{Ends, by_address}
+use Rattle.board_model.proofs.LaneTakes.{held, count-first, pending_holds, waits-pending, asked_items, lent_counts, same_asked, found_asked}
 
--- ---- what calls change
-
--- what depends on nothing that a call changes
-abbrev pub Untouched : {X : Type 0} → (DomainState → X) → Type 0
-Untouched f = (t : DomainState) (ps : List Peer) (es : List Endpoint) (gone : List ℕ) (k : ℕ) (rs : List Request) (m : ℕ) → f (record t { peers = ps; endpoints = es; ended = gone; endpoints_given = k; requests = rs; requests_given = m }) ≡ f t
-
--- a call changes peers, endpoints, requests and their numbers alone
-success_keeps : {X : Type 0} (f : DomainState → X) (s : DomainState) (node : ℕ) (call : DomainCall) → Untouched f → f (success_effect s node call) ≡ f s
-success_keeps f s node (create_at port) same = let t = success_effect s node (create_at port) in same s t.peers t.endpoints t.ended t.endpoints_given t.requests t.requests_given
-success_keeps f s node (delete_at port) same = let t = success_effect s node (delete_at port) in same s t.peers t.endpoints t.ended t.endpoints_given t.requests t.requests_given
-success_keeps f s node (lookup_of name) same = let t = success_effect s node (lookup_of name) in same s t.peers t.endpoints t.ended t.endpoints_given t.requests t.requests_given
-success_keeps f s node (send_from port to priority bytes) same = let t = success_effect s node (send_from port to priority bytes) in same s t.peers t.endpoints t.ended t.endpoints_given t.requests t.requests_given
-success_keeps f s node (receive_at port max) same = let t = success_effect s node (receive_at port max) in same s t.peers t.endpoints t.ended t.endpoints_given t.requests t.requests_given
-success_keeps f s node (request_at port max) same = let t = success_effect s node (request_at port max) in same s t.peers t.endpoints t.ended t.endpoints_given t.requests t.requests_given
-success_keeps f s node (available_at port) same = refl
-success_keeps f s node (test_of request) same = let t = success_effect s node (test_of request) in same s t.peers t.endpoints t.ended t.endpoints_given t.requests t.requests_given
-success_keeps f s node (cancel_of request) same = let t = success_effect s node (cancel_of request) in same s t.peers t.endpoints t.ended t.endpoints_given t.requests t.requests_given
-success_keeps f s node turn_alone same = refl
-
-unless_keeps : {X : Type 0} (f : DomainState → X) (o : Option Refusal) (s t : DomainState) → f t ≡ f s → f (unless_refused o s t) ≡ f s
-unless_keeps f (Some r) s t e = refl
-unless_keeps f None s t e = e
-
-pub call_keeps : {X : Type 0} (f : DomainState → X) (s : DomainState) (node : ℕ) (call : DomainCall) → Untouched f → f (effect s node call) ≡ f s
-call_keeps f s node call same = unless_keeps f (refusal s node call) s (success_effect s node call) (success_keeps f s node call same)
-
--- ---- items
-
--- the item that a receive takes is gone from the queues
-received_counts : (w : Item → Bool) (o : Option ℕ) (es : List Endpoint) → count_by w (flat_map (λ e. e.queue) (changed received o es)) + count_by w (option_to_list (best (λ i. i.priority) (queue_in (option_and_then (λ i. slice_get es i) o)))) ≡ count_by w (flat_map (λ e. e.queue) es)
-received_counts w None es = omega arith
-received_counts w (Some i) [] = refl
-received_counts w (Some zero) (e ∷ es) =
-    omega (arith, count-append w (received e).queue (flat_map (λ x. x.queue) es), count-append w e.queue (flat_map (λ x. x.queue) es), count-without w (best_place (λ i. i.priority) e.queue) e.queue)
-received_counts w (Some (suc i)) (e ∷ es) =
-    omega (arith, count-append w e.queue (flat_map (λ x. x.queue) (changed received (Some i) es)), count-append w e.queue (flat_map (λ x. x.queue) es), received_counts w (Some i) es)
+-- ---- endpoints
 
 created_counts : (w : Item → Bool) (es : List Endpoint) (e : Endpoint) → e.queue ≡ [] → count_by w (flat_map (λ x. x.queue) (es ++ e ∷ [])) ≡ count_by w (flat_map (λ x. x.queue) es)
 created_counts w es e empty =
@@ -60,20 +28,24 @@ created_counts w es e empty =
     ∙ ap (λ q. count_by w (flat_map (λ x. x.queue) es) + count_by w (q ++ [])) empty
     ∙ omega arith
 
--- what stands at an endpoint that is deleted is gone with it
-deleted_counts : (w : Item → Bool) (o : Option ℕ) (es : List Endpoint) → count_by w (flat_map (λ e. e.queue) (without o es)) + count_by w (queue_in (option_and_then (λ i. slice_get es i) o)) ≡ count_by w (flat_map (λ e. e.queue) es)
-deleted_counts w None es = omega arith
-deleted_counts w (Some i) [] = refl
-deleted_counts w (Some zero) (e ∷ es) = omega (arith, count-append w e.queue (flat_map (λ x. x.queue) es))
-deleted_counts w (Some (suc i)) (e ∷ es) =
-    omega (arith, count-append w e.queue (flat_map (λ x. x.queue) (without (Some i) es)), count-append w e.queue (flat_map (λ x. x.queue) es), deleted_counts w (Some i) es)
+-- the first that passes is gone with what it holds
+gone_counts : (w : Item → Bool) (p : Endpoint → Bool) (e : Endpoint) (es : List Endpoint) → find p es ≡ Some e → count_by w (flat_map (λ x. x.queue) (without_first p es)) + count_by w e.queue ≡ count_by w (flat_map (λ x. x.queue) es)
+gone_counts w p e [] found = absurd cc
+gone_counts w p e (x ∷ es) found = go (p x) found (λ later. gone_counts w p e es later)
+  where
+    go : (b : Bool) → cond b (Some x) (find p es) ≡ Some e → (find p es ≡ Some e → count_by w (flat_map (λ y. y.queue) (without_first p es)) + count_by w e.queue ≡ count_by w (flat_map (λ y. y.queue) es)) →
+        count_by w (flat_map (λ y. y.queue) (cond b es (x ∷ without_first p es))) + count_by w e.queue ≡ count_by w (flat_map (λ y. y.queue) (x ∷ es))
+    go true is later = let same : x ≡ e = cc in omega (arith, count-append w x.queue (flat_map (λ (y : Endpoint). y.queue) es), ap (λ (y : Endpoint). count_by w y.queue) same)
+    go false is later = omega (arith, count-append w x.queue (flat_map (λ (y : Endpoint). y.queue) (without_first p es)), count-append w x.queue (flat_map (λ (y : Endpoint). y.queue) es), later is)
+
+-- ---- requests
 
 -- a receive that waits there holds nothing
-ended_holds : (r : Refusal) (at : Local) (x : Request) → item_in (ended_by_word r at x).outcome ≡ item_in x.outcome
+ended_holds : (r : Refusal) (at : Local) (x : Request) → item_in (cond (waits_at at x) (done_with (has_ended r) x) x).outcome ≡ item_in x.outcome
 ended_holds r at x = go (waits_at at x) refl
   where
-    go : (b : Bool) → waits_at at x ≡ b → item_in (cond b (record x { outcome = Some (has_ended r) }) x).outcome ≡ item_in x.outcome
-    go true waits = sym (pending_holds x.outcome (and_parts (is_none x.outcome) (receives_at at x.asked) waits).0)
+    go : (b : Bool) → waits_at at x ≡ b → item_in (cond b (done_with (has_ended r) x) x).outcome ≡ item_in x.outcome
+    go true waits = sym (pending_holds x.outcome (waits-pending at x waits))
     go false waits = refl
 
 -- a new request holds what it is complete with
@@ -109,37 +81,69 @@ cancelled_holds s node request e =
     let t = find-none (holds s node (cancel_of request)) (words_of (cancel_of request)) e in
     pending_none (request_at_place s request) t.1.0
 
-success_counts : (w : Item → Bool) (s : DomainState) (node : ℕ) (call : DomainCall) → refusal s node call ≡ None → held w (success_effect s node call) + count_by w (success_returns s node call) ≡ held w s
-success_counts w s node (create_at port) e =
-    let t = success_effect s node (create_at port) in
-    let n = end_name s.number (local node port) in
-    omega (arith, created_counts w s.endpoints (new_endpoint s (local node port)) refl, lent_counts w s, lent_counts w t, ap (count_by w) (found_asked n (1024 + s.endpoints_given) s.requests))
-success_counts w s node (delete_at port) e =
-    let t = success_effect s node (delete_at port) in
-    let at = local node port in
-    omega (arith, deleted_counts w (place_at s at) s.endpoints, lent_counts w s, lent_counts w t, ap (count_by w) (same_asked (ended_by_word word.EndpInvalid at) (ended_holds word.EndpInvalid at) s.requests))
-success_counts w s node (lookup_of name) e =
-    let t = success_effect s node (lookup_of name) in
-    let r : Request = record { serial = s.requests_given; asked = name_of name; outcome = option_map has_address (address_of s name) } in
-    omega (arith, lent_counts w s, lent_counts w t, asked_counts w s.requests r, ap (count_by w) (address_asked (address_of s name)))
-success_counts w s node (send_from port to priority bytes) e = omega arith
-success_counts w s node (receive_at port max) e = omega (arith, received_counts w (place_at s (local node port)) s.endpoints)
-success_counts w s node (request_at port max) e =
-    let t = success_effect s node (request_at port max) in
-    let item = best_queued s (local node port) in
-    let r : Request = record { serial = s.requests_given; asked = message_at (local node port) max; outcome = option_map has_item item } in
-    omega (arith, received_counts w (place_at s (local node port)) s.endpoints, lent_counts w s, lent_counts w t, asked_counts w s.requests r, ap (count_by w) (item_asked item))
-success_counts w s node (available_at port) e = omega arith
-success_counts w s node (test_of request) e =
-    omega (arith, ended_counts w request s.requests, lent_counts w s, lent_counts w (success_effect s node (test_of request)))
-success_counts w s node (cancel_of request) e =
-    omega (arith, ended_counts w request s.requests, lent_counts w s, lent_counts w (success_effect s node (cancel_of request)), ap (count_by w) (cancelled_holds s node request e))
-success_counts w s node turn_alone e = omega arith
+-- ---- a call
 
-unless_counts : (w : Item → Bool) (o : Option Refusal) (s t : DomainState) (items : List Item) → (o ≡ None → held w t + count_by w items ≡ held w s) → held w (unless_refused o s t) + count_by w (unless_refused o [] items) ≡ held w s
-unless_counts w (Some r) s t items e = omega arith
-unless_counts w None s t items e = e refl
+module _ (w : Item → Bool) (s : DomainState) (ends : Ends s) where
+  -- the best of the queue of a live endpoint is gone
+  best_counts : (at : Local) (e : Endpoint) → live_at s at ≡ Some e → held w (changed s (best_gone e.address)) + count_by w (option_to_list (best_item e)) ≡ held w s
+  best_counts at e live =
+      let found : endpoint_of s e.address ≡ Some e = (by_address at s.endpoints e ends.apart live).found in
+      let less = count-first w (λ (x : Endpoint). x.queue) (has_address_of e.address) (with_queue (without_best (λ i. i.priority))) 0 (count_by w (option_to_list (best_item e))) e s.endpoints found (omega (arith, count-best w (λ (i : Item). i.priority) e.queue)) in
+      omega (arith, less)
 
--- what a call takes of what is held is what it gives back
-pub call_counts : (w : Item → Bool) (s : DomainState) (node : ℕ) (call : DomainCall) → held w (effect s node call) + count_by w (returns s node call) ≡ held w s
-call_counts w s node call = unless_counts w (refusal s node call) s (success_effect s node call) (success_returns s node call) (success_counts w s node call)
+  deleted_counts : (at : Local) (e : Endpoint) → live_at s at ≡ Some e →
+      held w (changed_all s (waiting_ended e.address word.EndpInvalid ∷ endpoint_gone e.address ∷ end_announced (record { local = e.local; address = e.address; create = false }) ∷ [])) + count_by w e.queue ≡ held w s
+  deleted_counts at e live =
+      let by = by_address at s.endpoints e ends.apart live in
+      let t = changed_all s (waiting_ended e.address word.EndpInvalid ∷ endpoint_gone e.address ∷ end_announced (record { local = e.local; address = e.address; create = false }) ∷ []) in
+      omega (
+        arith,
+        ap (λ (es : List Endpoint). count_by w (flat_map (λ x. x.queue) es)) by.gone,
+        gone_counts w (is_at at) e s.endpoints live,
+        lent_counts w s,
+        lent_counts w t,
+        ap (λ o. count_by w (asked_items (ended_in o word.EndpInvalid s.requests))) by.found,
+        ap (count_by w) (same_asked (λ x. cond (waits_at e.local x) (done_with (has_ended word.EndpInvalid) x) x) (ended_holds word.EndpInvalid e.local) s.requests),
+      )
+
+  live_counts : (node : ℕ) (at : Local) (f : Endpoint → List Change) (q : Endpoint → List Item) → ((e : Endpoint) → live_at s at ≡ Some e → held w (changed_all s (f e)) + count_by w (q e) ≡ held w s) → held w (changed_all s (at_live (live_at s at) f)) + count_by w (at_live (live_at s at) q) ≡ held w s
+  live_counts node at f q each = go (live_at s at) refl
+    where
+      go : (o : Option Endpoint) → live_at s at ≡ o → held w (changed_all s (at_live o f)) + count_by w (at_live o q) ≡ held w s
+      go None is = omega arith
+      go (Some e) is = each e is
+
+  success_counts : (node : ℕ) (call : DomainCall) → refusal s node call ≡ None → held w (changed_all s (success_changes s node call)) + count_by w (success_returned s node call) ≡ held w s
+  success_counts node (create_at port) e =
+      let t = changed_all s (success_changes s node (create_at port)) in
+      omega (arith, created_counts w s.endpoints (endpoint_with s (local node port)) refl, lent_counts w s, lent_counts w t, ap (count_by w) (found_asked (end_name s.number (local node port)) (first_address + s.endpoints_given) s.requests))
+  success_counts node (delete_at port) e =
+      live_counts node (local node port) (λ e. waiting_ended e.address word.EndpInvalid ∷ endpoint_gone e.address ∷ end_announced (record { local = e.local; address = e.address; create = false }) ∷ []) (λ e. e.queue) (λ e is. deleted_counts (local node port) e is)
+  success_counts node (lookup_of name) e =
+      let t = changed_all s (success_changes s node (lookup_of name)) in
+      let r : Request = record { serial = s.requests_given; asked = name_of name; outcome = option_map has_address (address_of s name) } in
+      omega (arith, lent_counts w s, lent_counts w t, asked_counts w s.requests r, ap (count_by w) (address_asked (address_of s name)))
+  success_counts node (send_from port to priority bytes) e = omega arith
+  success_counts node (receive_at port max) e = live_counts node (local node port) (λ e. best_gone e.address ∷ []) (λ e. option_to_list (best_item e)) (λ e is. best_counts (local node port) e is)
+  success_counts node (request_at port max) e = go (live_at s (local node port)) refl
+    where
+      go : (o : Option Endpoint) → live_at s (local node port) ≡ o → held w (changed_all s (at_live o (λ e. best_gone e.address ∷ request_added (message_at e.local max) (option_map has_item (best_item e)) ∷ []))) + 0 ≡ held w s
+      go None is = omega arith
+      go (Some e) is =
+          let u : DomainState = changed s (best_gone e.address) in
+          let r : Request = record { serial = s.requests_given; asked = message_at e.local max; outcome = option_map has_item (best_item e) } in
+          let t : DomainState = changed u (request_added (message_at e.local max) (option_map has_item (best_item e))) in
+          omega (arith, best_counts (local node port) e is, lent_counts w u, lent_counts w t, asked_counts w s.requests r, ap (count_by w) (item_asked (best_item e)))
+  success_counts node (available_at port) e = omega arith
+  success_counts node (test_of request) e = omega (arith, ended_counts w request s.requests, lent_counts w s, lent_counts w (changed_all s (success_changes s node (test_of request))))
+  success_counts node (cancel_of request) e =
+      omega (arith, ended_counts w request s.requests, lent_counts w s, lent_counts w (changed_all s (success_changes s node (cancel_of request))), ap (count_by w) (cancelled_holds s node request e))
+  success_counts node turn_alone e = omega arith
+
+  -- what a call takes of what is held is what it gives back
+  pub call_counts : (node : ℕ) (call : DomainCall) → held w (effect s node call) + count_by w (returned s node call) ≡ held w s
+  call_counts node call = go (refusal s node call) refl
+    where
+      go : (o : Option Refusal) → refusal s node call ≡ o → held w (changed_all s (unless_refused o [] (success_changes s node call))) + count_by w (unless_refused o [] (success_returned s node call)) ≡ held w s
+      go (Some r) is = omega arith
+      go None is = success_counts node call is

@@ -1,9 +1,11 @@
--- What a domain does with a frame: a row always applies, and it is one of five things.
-use Rattle.std.proofs.Common.{◌≡◌, ℕ, Bool, true, false, not, ◌&&◌, List, [], ◌∷◌, length, Option, Some, None, option_map, is_some, refl, sym, ◌∙◌, slice_index}
-use Rattle.std.specs.Prelude.{◌==◌, nat_le, is_none}
-use Rattle.mc_base.specs.Frame.{destination_of, payload_of}
-use Rattle.mc_base.specs.NameMap.{names_limit}
-use Rattle.mc_base.specs.Fault.{fault}
+-- What a domain does with a frame: its row does one of five things.
+use Rattle.std.proofs.Common.{◌≡◌, ℕ, Bool, true, false, not, cond, List, [], ◌∷◌, length, Option, Some, None, is_some, refl, sym}
+use Rattle.std.specs.Prelude.{◌==◌, ◌&&◌, nat_le}
+use Rattle.std.specs.List.{AllByRecursion}
+use Rattle.mc_base.specs.FullName.{endpoint_named}
+use Rattle.mc_base.specs.NameMap.{names_limit, Names, learned, forgotten, address_in}
+use Rattle.mc_base.specs.Letter.{PlainLetter, msg}
+use Rattle.mc_base.specs.Reading.{Reading, is_faulty, announces, says}
 use Rattle.mc_base.specs.declared.fault.Fault.{Fault}
 use Rattle.mc_base.specs.declared.fault.Fault.TheVariants as of
 use Rattle.mc_base.specs.declared.fault.FrameFault.{FrameFault}
@@ -12,11 +14,12 @@ use Rattle.mc_base.specs.declared.fault.LetterFault.{LetterFault}
 use Rattle.mc_base.specs.declared.fault.LetterFault.TheVariants as letter_fault
 use Rattle.mc_base.specs.declared.fault.NsFault.{NsFault}
 use Rattle.mc_base.specs.declared.fault.NsFault.TheVariants as ns_fault
-use Rattle.mc_base.specs.declared.fate.Fate.{Fate}
+use Rattle.mc_base.specs.declared.name.EndName.{EndName}
 use Rattle.mc_base.specs.declared.fate.Fate.TheVariants as fate
-use Rattle.board_model.specs.State.{DomainState, place_of_address, place_waiting_for}
-use Rattle.board_model.specs.Dealing.{fault_word, frame_word, letter_word, ns_word, item_of, with_item, with_handed, is_announcement, tells_creation, announced_name, announced_address, known_from, is_known, with_created, with_destroyed, Row, row, fault_row, first_row, row_for, left_by, after_frame, keeps_buffer}
-use Rattle.board_model.specs.Serial.{word_of}
+use Rattle.board_model.specs.State.{Item, Endpoint, DomainState, endpoint_of, one_waits, peer_at}
+use Rattle.board_model.specs.Change.{Change, item_queued, item_handed, name_found, names_known}
+use Rattle.board_model.specs.Dealing.{fault_word, frame_word, letter_word, ns_word, keeps_buffer}
+use Rattle.board_model.specs.TakenFrames.{Row, row, last_row, first_row, names_of, name_rows, message_item, letter_rows, row_of}
 
 -- a fault's word keeps no buffer
 frame_word_gives : (f : FrameFault) → keeps_buffer (frame_word f) ≡ false
@@ -43,75 +46,51 @@ fault_word_gives (of.Frame f) = frame_word_gives f
 fault_word_gives (of.Letter f) = letter_word_gives f
 fault_word_gives (of.Ns f) = ns_word_gives f
 
--- by a row with this word a domain leaves the state as it is, learns a name, forgets one, hands a message to a receive that
--- waits, or queues it
-pub data Deals (s learned forgotten handed queued : DomainState) (there waits : Bool) (w : Fate) (after : DomainState) : Type 0 where
-  stays : after ≡ s → keeps_buffer w ≡ false → Deals s learned forgotten handed queued there waits w after
-  learns : after ≡ learned → w ≡ fate.Acted → Deals s learned forgotten handed queued there waits w after
-  forgets : after ≡ forgotten → w ≡ fate.Acted → Deals s learned forgotten handed queued there waits w after
-  hands : after ≡ handed → w ≡ fate.Handed → waits ≡ true → Deals s learned forgotten handed queued there waits w after
-  queues : after ≡ queued → w ≡ fate.Queued → there ≡ true → Deals s learned forgotten handed queued there waits w after
+-- ---- the first row that applies
 
--- the row by what it is chosen by
-abbrev row_by : DomainState → DomainState → DomainState → DomainState → DomainState → Option Fault → Bool → Bool → Bool → Bool → Bool → Bool → Bool → Bool → Option Row
-row_by s learned forgotten handed queued o to_names foreign creation known full message there waits =
-    first_row (fault_row s o
-    ∷ row (to_names && foreign) fate.ForeignName s
-    ∷ row ((to_names && creation) && (not known && full)) fate.NamesFull s
-    ∷ row (to_names && creation) fate.Acted learned
-    ∷ row (to_names && not known) fate.UnknownName s
-    ∷ row to_names fate.Acted forgotten
-    ∷ row (not to_names && not there) fate.NoEndpoint s
-    ∷ row ((not to_names && message) && waits) fate.Handed handed
-    ∷ row (not to_names && message) fate.Queued queued
-    ∷ row (not to_names) fate.State s
-    ∷ [])
+-- whatever holds of the last row, and of each other one where it applies
+abbrev pub ByRows : (Row → Type 0) → List Row → Type 0
+ByRows P [] = P (first_row [])
+ByRows P (r ∷ []) = P r
+ByRows P (r ∷ q ∷ rs) = (r.applies ≡ true → P r) × (r.applies ≡ false → ByRows P (q ∷ rs))
 
--- a row that applies, and what it does
-record Applies (s learned forgotten handed queued : DomainState) (there waits : Bool) (o : Option Row) : Type 0 where
-  some : option_map (λ r. r.word) o ≡ Some (word_of o)
-  does : Deals s learned forgotten handed queued there waits (word_of o) (left_by s o)
-
-row_applies : (s learned forgotten handed queued : DomainState) (o : Option Fault) (to_names foreign creation known full message there waits : Bool) → Applies s learned forgotten handed queued there waits (row_by s learned forgotten handed queued o to_names foreign creation known full message there waits)
-row_applies s learned forgotten handed queued (Some f) to_names foreign creation known full message there waits = record { some = refl; does = stays refl (fault_word_gives f) }
-row_applies s learned forgotten handed queued None true true creation known full message there waits = record { some = refl; does = stays refl refl }
-row_applies s learned forgotten handed queued None true false true true full message there waits = record { some = refl; does = learns refl refl }
-row_applies s learned forgotten handed queued None true false true false true message there waits = record { some = refl; does = stays refl refl }
-row_applies s learned forgotten handed queued None true false true false false message there waits = record { some = refl; does = learns refl refl }
-row_applies s learned forgotten handed queued None true false false false full message there waits = record { some = refl; does = stays refl refl }
-row_applies s learned forgotten handed queued None true false false true full message there waits = record { some = refl; does = forgets refl refl }
-row_applies s learned forgotten handed queued None false foreign creation known full message false waits = record { some = refl; does = stays refl refl }
-row_applies s learned forgotten handed queued None false foreign creation known full true true true = record { some = refl; does = hands refl refl refl }
-row_applies s learned forgotten handed queued None false foreign creation known full true true false = record { some = refl; does = queues refl refl refl }
-row_applies s learned forgotten handed queued None false foreign creation known full false true waits = record { some = refl; does = stays refl refl }
-
--- what a frame does
-abbrev pub DealsWith : DomainState → ℕ → List ℕ → Fate → DomainState → Type 0
-DealsWith s peer frame w after =
-    Deals s (with_created s peer (announced_name peer frame) (announced_address frame)) (with_destroyed s peer (announced_name peer frame))
-    (with_handed s (destination_of frame) (item_of peer frame)) (with_item s (destination_of frame) (item_of peer frame))
-    (is_some (place_of_address s (destination_of frame))) (is_some (place_waiting_for s (destination_of frame))) w after
-
-frame_applies : (s : DomainState) (peer : ℕ) (frame : List ℕ) →
-    Applies s (with_created s peer (announced_name peer frame) (announced_address frame)) (with_destroyed s peer (announced_name peer frame))
-    (with_handed s (destination_of frame) (item_of peer frame)) (with_item s (destination_of frame) (item_of peer frame))
-    (is_some (place_of_address s (destination_of frame))) (is_some (place_waiting_for s (destination_of frame))) (row_for s peer frame)
-frame_applies s peer frame =
-    row_applies s (with_created s peer (announced_name peer frame) (announced_address frame)) (with_destroyed s peer (announced_name peer frame))
-    (with_handed s (destination_of frame) (item_of peer frame)) (with_item s (destination_of frame) (item_of peer frame))
-    (fault frame) (is_announcement frame) (is_none (announced_name peer frame)) (tells_creation frame) (is_known (known_from s peer) (announced_name peer frame)) (nat_le names_limit (length (known_from s peer)))
-    (slice_index (payload_of frame) 2 == 1) (is_some (place_of_address s (destination_of frame))) (is_some (place_waiting_for s (destination_of frame)))
-
--- a row applies to each frame
-pub frame_row : (s : DomainState) (peer : ℕ) (frame : List ℕ) → option_map (λ r. r.word) (row_for s peer frame) ≡ Some (word_of (row_for s peer frame))
-frame_row s peer frame = (frame_applies s peer frame).some
-
-pub frame_deals : (s : DomainState) (peer : ℕ) (frame : List ℕ) → DealsWith s peer frame (word_of (row_for s peer frame)) (after_frame s peer frame)
-frame_deals s peer frame = (frame_applies s peer frame).does
-
--- the word that a frame has is that of its row
-pub frame_word_is : (s : DomainState) (peer : ℕ) (frame : List ℕ) (w : Fate) → option_map (λ r. r.word) (row_for s peer frame) ≡ Some w → word_of (row_for s peer frame) ≡ w
-frame_word_is s peer frame w e = some_word (sym (frame_row s peer frame) ∙ e)
+pub by_rows : (P : Row → Type 0) (rs : List Row) → ByRows P rs → P (first_row rs)
+by_rows P [] h = h
+by_rows P (r ∷ []) h = h
+by_rows P (r ∷ q ∷ rs) h = go r.applies refl (λ k. by_rows P (q ∷ rs) k)
   where
-    some_word : {v u : Fate} → ◌≡◌ {A = Option Fate} (Some v) (Some u) → v ≡ u
-    some_word h = cc
+    go : (b : Bool) → r.applies ≡ b → (ByRows P (q ∷ rs) → P (first_row (q ∷ rs))) → P (cond b r (first_row (q ∷ rs)))
+    go true is later = h.0 is
+    go false is later = later (h.1 is)
+
+-- ---- what a row does
+
+-- nothing; it learns a name, or forgets one; it hands a message to a receive that waits, or queues it
+pub data Deals (s : DomainState) (peer : ℕ) (name : Option ℕ) (r : Row) : Type 0 where
+  stays : r.happens ≡ [] → keeps_buffer r.word ≡ false → Deals s peer name r
+  learns : (n : EndName) (a : ℕ) (names : Names) → r.happens ≡ names_known peer names ∷ name_found n a ∷ [] → keeps_buffer r.word ≡ false → Deals s peer name r
+  forgets : (names : Names) → r.happens ≡ names_known peer names ∷ [] → keeps_buffer r.word ≡ false → Deals s peer name r
+  hands : (at source priority : ℕ) (content : List ℕ) (e : Endpoint) → endpoint_of s at ≡ Some e → one_waits s e.local ≡ true → r.happens ≡ item_handed at (message_item peer name source priority content) ∷ [] → keeps_buffer r.word ≡ true → Deals s peer name r
+  queues : (at source priority : ℕ) (content : List ℕ) (e : Endpoint) → endpoint_of s at ≡ Some e → r.happens ≡ item_queued at (message_item peer name source priority content) ∷ [] → keeps_buffer r.word ≡ true → Deals s peer name r
+
+module _ (s : DomainState) (peer : ℕ) (name : Option ℕ) where
+  names_deal : (known : Names) (o : Option EndName) (address : ℕ) (there : Bool) → Deals s peer name (first_row (name_rows peer known o address there))
+  names_deal known None address there = stays refl refl
+  names_deal known (Some n) address true =
+      by_rows (Deals s peer name) (name_rows peer known (Some n) address true)
+      ((λ on. stays refl refl), (λ off. ((λ on. stays refl refl), (λ off2. learns n address (learned n address known) refl refl))))
+  names_deal known (Some n) address false =
+      by_rows (Deals s peer name) (name_rows peer known (Some n) address false)
+      ((λ on. stays refl refl), (λ off. ((λ on. stays refl refl), (λ off2. forgets (forgotten n known) refl refl))))
+
+  letters_deal : (source destination : ℕ) (o : Option Endpoint) (l : PlainLetter) → endpoint_of s destination ≡ o → Deals s peer name (first_row (letter_rows s peer name source destination o l))
+  letters_deal source destination None l found = stays refl refl
+  letters_deal source destination (Some e) (msg priority content) found =
+      by_rows (Deals s peer name) (letter_rows s peer name source destination (Some e) (msg priority content))
+      ((λ on. hands destination source priority content e found on refl refl), (λ off. queues destination source priority content e found refl refl))
+  letters_deal source destination (Some e) other found = stays refl refl
+
+  pub row-deals : (r : Reading) → Deals s peer name (row_of s peer name r)
+  row-deals (is_faulty f) = stays refl (fault_word_gives f)
+  row-deals (announces text address there) = names_deal (names_of (peer_at s peer)) (endpoint_named text) address there
+  row-deals (says source destination l) = letters_deal source destination (endpoint_of s destination) l refl

@@ -1,35 +1,40 @@
 -- Runs of a domain, at any peer: the free buffers of the lane to it by what was put and came back, and the items that are held
 -- from it by what was taken and given back.
-use Rattle.std.proofs.Common.{◌≡◌, ℕ, ◌+◌, ◌-◌, ◌≤◌, min, Bool, true, false, not, cond, List, [], ◌∷◌, ◌++◌, length, map, sum, Option, Some, None, is_some, count_by, flat_map, find, option_map, refl, sym, ap, ◌∙◌, subst, inl, inr, arith, length-append, length-take, eq-eqb}
+use Rattle.std.proofs.Common.{◌≡◌, ℕ, ◌+◌, ◌-◌, ◌≤◌, min, Bool, true, false, not, cond, List, [], ◌∷◌, ◌++◌, length, map, sum, Option, Some, None, is_some, count_by, flat_map, option_map, refl, sym, ap, ◌∙◌, subst, inl, inr, arith, length-append, length-take, eq-eqb}
 use Rattle.std.specs.Prelude.{◌==◌, unwrap_or}
+use Rattle.std.proofs.lemmas.Bool.{ne_eqb}
 use Rattle.std.proofs.lemmas.Bool.Decides.{eqb_tells}
 use Rattle.std.proofs.lemmas.List.Sums.{sum_by-append, sum_by-cons}
 use Rattle.board_model.specs.declared.scenario.CallLine.{CallLine}
 use Rattle.board_model.specs.Journal.{PlainEntry, turned, put, again, called, Visit, Taken}
-use Rattle.board_model.specs.State.{DomainState, Peer, is_numbered, peer_of, free_to, is_from, held_from, owed_to}
-use Rattle.board_model.specs.Dealing.{knowing, item_of, HaveWords, keeps_buffer}
-use Rattle.board_model.specs.Turn.{turn_limit, looked_at, after_looks, after_visit, IsVisit, AreVisits, after_turn}
+use Rattle.board_model.specs.State.{DomainState, Peer, peer_at, peer_of, free_to, is_from, held_from, owed_to}
+use Rattle.board_model.specs.Dealing.{keeps_buffer}
+use Rattle.board_model.specs.Turn.{turn_limit, nameless, visit_deeds, after_visit, IsVisit, AreVisits, after_turn}
 use Rattle.board_model.specs.DomainCall.{DomainCall}
-use Rattle.board_model.specs.Effect.{effect, returns}
-use Rattle.board_model.specs.Step.{RunState, HasNoPuts, call_at, Allowed, effect_of_line, after}
+use Rattle.board_model.specs.CallChanges.{effect, returned}
+use Rattle.board_model.specs.Step.{RunState, HasNoPuts, next_line, call_at, Allowed, effect_of_line, after}
 use Rattle.board_model.specs.Traffic.{visits_to, puts_in, takes_in, put_to, takes_from, returned_by, given_in, given, backs_in, back_looks}
 use Rattle.board_model.specs.Run.{Leads}
 use Rattle.board_model.proofs.ListsCounts.{one_if, count-cons, count-append}
-use Rattle.board_model.proofs.LanePeers.{free_in, peer_found, free_found, free-kept, peer-other, peer-own}
-use Rattle.board_model.proofs.LaneTakes.{takes_peers, takes_count, takes_none}
+use Rattle.board_model.proofs.StateEnds.{Ends}
+use Rattle.board_model.proofs.DeedJoins.{call-ends, deeds-ends}
+use Rattle.board_model.proofs.LanePeers.{peer_found, free-at}
+use Rattle.board_model.proofs.VisitLooks.{after_looks, after_takes, HaveWords, visit-after, visit-words, looks-keep, looked, looked-free, looks-peer}
+use Rattle.board_model.proofs.LaneTakes.{takes_count, takes_none, takes-free}
 use Rattle.board_model.proofs.LaneCalls.{call_counts}
 use Rattle.board_model.proofs.LaneSends.{goes_to, call_frees}
 
 -- ---- a visit
 
--- frames that are taken use no buffer of a lane to a peer
-visit_free : (n : ℕ) (s : DomainState) (v : Visit) → free_to (after_visit s v) n ≡ free_in n (after_looks s v).peers
-visit_free n s v =
-    free_found (after_visit s v) n
-    ∙ takes_peers (λ ps. free_in n ps ≡ free_in n (after_looks s v).peers) (λ names o ps h. free-kept (knowing names) (record { number = λ p. refl; free = λ p. refl }) n o ps ∙ h) (after_looks s v) v.peer v.takes refl
+abbrev free_of : Option Peer → ℕ
+free_of o = unwrap_or (option_map (λ p. p.free) o) 0
 
-free_at : (n : ℕ) (s : DomainState) (o : Option Peer) → peer_of s n ≡ o → free_to s n ≡ unwrap_or (option_map (λ p. p.free) o) 0
-free_at n s o known = ap (λ (x : Option Peer). unwrap_or (option_map (λ p. p.free) x) 0) known
+-- frames that are taken use no buffer of a lane to a peer
+visit_free : (n : ℕ) (s : DomainState) (v : Visit) (b : Bool) → (v.peer == n) ≡ b → free_to (after_visit s v) n ≡ free_of (option_map (λ p. cond b (looked v p) p) (peer_at s n))
+visit_free n s v b is =
+    ap (λ t. free_to t n) (visit-after s v)
+    ∙ (free-at (after_takes (after_looks s v) v.peer v.takes) n
+    ∙ (ap (λ o. unwrap_or o 0) (takes-free (after_looks s v) v.peer v.takes n) ∙ ap free_of (looks-peer s v n b is)))
 
 -- what is put is at most what is free after the look
 due_within : (s : DomainState) (v : Visit) (h : IsVisit s v) → length v.owed ≤ h.at.free + v.back
@@ -38,28 +43,35 @@ due_within s v h = omega (arith, ap length h.puts_due, length-take (min turn_lim
 -- at the peer itself
 visit_frees : (n : ℕ) (s : DomainState) (v : Visit) → v.peer ≡ n → IsVisit s v → free_to (after_visit s v) n + length v.owed ≡ free_to s n + v.back
 visit_frees n s v same h =
-    let known : find (is_numbered n) s.peers ≡ Some h.at = sym (peer_found s n) ∙ ap (peer_of s) (sym same) ∙ h.known in
-    let changes : free_in n (after_looks s v).peers ≡ h.at.free + v.back - length v.owed =
-    ap (λ m. unwrap_or (option_map (λ (p : Peer). p.free) (find (is_numbered n) (after_looks s (record v { peer = m })).peers)) 0) same
-    ∙ ap (λ (o : Option Peer). unwrap_or (option_map (λ (p : Peer). p.free) o) 0) (peer-own (looked_at v) (λ p. refl) n s.peers ∙ ap (option_map (looked_at v)) known) in
-    omega (arith, visit_free n s v, changes, due_within s v h, free_at n s (Some h.at) (ap (peer_of s) (sym same) ∙ h.known))
+    let known : peer_at s n ≡ Some h.at = sym (peer_found s n) ∙ (ap (peer_of s) (sym same) ∙ h.known) in
+    omega (
+      arith,
+      visit_free n s v true (eq-eqb v.peer n same),
+      ap (λ o. free_of (option_map (looked v) o)) known,
+      looked-free v h.at,
+      due_within s v h,
+      free-at s n,
+      ap free_of known,
+    )
 
 -- at the others
 visit_other : (n : ℕ) (s : DomainState) (v : Visit) → (v.peer ≡ n → ⊥) → free_to (after_visit s v) n ≡ free_to s n
-visit_other n s v differ =
-    visit_free n s v
-    ∙ ap (λ (o : Option Peer). unwrap_or (option_map (λ (p : Peer). p.free) o) 0) (peer-other (looked_at v) (λ p. refl) n v.peer differ s.peers)
-    ∙ sym (free_found s n)
+visit_other n s v differ = visit_free n s v false (ne_eqb v.peer n differ) ∙ (go (peer_at s n) ∙ sym (free-at s n))
+  where
+    go : (o : Option Peer) → free_of (option_map (λ p. p) o) ≡ free_of o
+    go None = refl
+    go (Some p) = refl
 
--- items taken from a peer are from it
-pub from_peer : (n peer : ℕ) → peer ≡ n → (f : List ℕ) → is_from n (item_of peer f) ≡ true
-from_peer n peer same f = eq-eqb peer n same
+-- looks change nothing that is held
+looks_hold : (n : ℕ) (s : DomainState) (v : Visit) → held_from n (after_looks s v) ≡ held_from n s
+looks_hold n s v = looks-keep (held_from n) (λ t p k. refl) (λ t p. refl) (λ t p k. refl) s v
 
 visit_holds : (n : ℕ) (s : DomainState) (v : Visit) → v.peer ≡ n → HaveWords (after_looks s v) v.peer v.takes → held_from n (after_visit s v) + count_by (λ t. not (keeps_buffer t.fate)) v.takes ≡ held_from n s + length v.takes
-visit_holds n s v same words = takes_count (is_from n) (after_looks s v) v.peer (from_peer n v.peer same) v.takes words
+visit_holds n s v same words =
+    omega (arith, ap (held_from n) (visit-after s v), takes_count (is_from n) (after_looks s v) v.peer (λ source priority content. eq-eqb v.peer n same) v.takes words, looks_hold n s v)
 
 visit_holds_other : (n : ℕ) (s : DomainState) (v : Visit) → (v.peer == n) ≡ false → HaveWords (after_looks s v) v.peer v.takes → held_from n (after_visit s v) ≡ held_from n s
-visit_holds_other n s v differ words = takes_none (is_from n) (after_looks s v) v.peer (λ f. differ) v.takes words
+visit_holds_other n s v differ words = ap (held_from n) (visit-after s v) ∙ (takes_none (is_from n) (after_looks s v) v.peer (λ source priority content. differ) v.takes words ∙ looks_hold n s v)
 
 -- ---- a turn
 
@@ -88,7 +100,7 @@ turn_sums n s (v ∷ vs) are = elim (eqb_tells v.peer n) [
       let takes = ap (λ (us : List Visit). flat_map (λ x. x.takes) us) visits in
       record {
         frees = omega (arith, rest.frees, visit_frees n s v same.1 are.0, puts, length-append v.owed (puts_in n (turned vs)), ap (λ (us : List Visit). sum (map (λ x. x.back) us)) visits, sum_by-cons (λ (x : ℕ). x) v.back (backs_in n (turned vs)));
-        holds = omega (arith, rest.holds, visit_holds n s v same.1 are.0.words, ap length takes, ap given_at_once takes, length-append v.takes (takes_in n (turned vs)), count-append (λ (t : Taken). not (keeps_buffer t.fate)) v.takes (takes_in n (turned vs)));
+        holds = omega (arith, rest.holds, visit_holds n s v same.1 (visit-words s v are.0.may), ap length takes, ap given_at_once takes, length-append v.takes (takes_in n (turned vs)), count-append (λ (t : Taken). not (keeps_buffer t.fate)) v.takes (takes_in n (turned vs)));
       }
   | inr differ ↦
       let rest = turn_sums n (after_visit s v) vs are.1 in
@@ -96,7 +108,7 @@ turn_sums n s (v ∷ vs) are = elim (eqb_tells v.peer n) [
       let takes = ap (λ (us : List Visit). flat_map (λ x. x.takes) us) visits in
       record {
         frees = omega (arith, rest.frees, visit_other n s v differ.1, ap (λ (us : List Visit). length (flat_map (λ x. x.owed) us)) visits, ap (λ (us : List Visit). sum (map (λ x. x.back) us)) visits);
-        holds = omega (arith, rest.holds, visit_holds_other n s v differ.0 are.0.words, ap length takes, ap given_at_once takes);
+        holds = omega (arith, rest.holds, visit_holds_other n s v differ.0 (visit-words s v are.0.may), ap length takes, ap given_at_once takes);
       }
 ]
 
@@ -124,24 +136,45 @@ waiting_more : (n : ℕ) (o : Option (List (ℕ × List ℕ))) (to : ℕ) (frame
 waiting_more n None to frame h = absurd cc
 waiting_more n (Some ps) to frame h = omega (arith, count-append (goes_to n) ps ((to, frame) ∷ []), count-cons (goes_to n) (to, frame) [], length-if (to == n) frame)
 
-pub call_holds : (n : ℕ) (s : DomainState) (node : ℕ) (call : DomainCall) → held_from n (effect s node call) + count_by (is_from n) (returns s node call) ≡ held_from n s
-call_holds n s node call = call_counts (is_from n) s node call
+pub call_holds : (n : ℕ) (s : DomainState) → Ends s → (node : ℕ) (call : DomainCall) → held_from n (effect s node call) + count_by (is_from n) (returned s node call) ≡ held_from n s
+call_holds n s ends node call = call_counts (is_from n) s ends node call
+
+-- ---- a state of a run keeps names and addresses of endpoints apart
+
+turn_ends : (s : DomainState) (vs : List Visit) → Ends s → Ends (after_turn s vs)
+turn_ends s [] ends = ends
+turn_ends s (v ∷ vs) ends = turn_ends (after_visit s v) vs (deeds-ends s (visit_deeds nameless v) ends)
+
+pub ends-after : (script : List CallLine) (r : RunState) (e : PlainEntry) → Ends r.state → Ends (after script r e).state
+ends-after script r (turned vs) ends = turn_ends r.state vs ends
+ends-after script r (put to frame) ends = ends
+ends-after script r (again word) ends = ends
+ends-after script r (called k a) ends = line_ends (next_line script r)
+  where
+    line_ends : (o : Option CallLine) → Ends (effect_of_line o r)
+    line_ends None = ends
+    line_ends (Some line) = call-ends r.state line.node (call_at r line) ends
+
+pub ends-leads : (script : List CallLine) (r new : RunState) (es : List PlainEntry) → Leads script r es new → Ends r.state → Ends new.state
+ends-leads script r new [] leads ends = subst (λ (x : RunState). Ends x.state) (sym leads) ends
+ends-leads script r new (e ∷ es) leads ends =
+    ends-leads script leads.0 new es leads.2 (subst (λ (x : RunState). Ends x.state) (sym leads.1.leads) (ends-after script r e ends))
 
 -- an entry adds what it does
-sums_after : (script : List CallLine) (n size p b t g : ℕ) (r : RunState) (e : PlainEntry) → Allowed script r e → Sums n size p b t g r → Sums n size (p + length (puts_in n e)) (b + sum (backs_in n e)) (t + length (takes_in n e)) (g + given_in script r n e) (after script r e)
-sums_after script n size p b t g r (turned vs) allowed h =
+sums_after : (script : List CallLine) (n size p b t g : ℕ) (r : RunState) (e : PlainEntry) → Ends r.state → Allowed script r e → Sums n size p b t g r → Sums n size (p + length (puts_in n e)) (b + sum (backs_in n e)) (t + length (takes_in n e)) (g + given_in script r n e) (after script r e)
+sums_after script n size p b t g r (turned vs) ends allowed h =
     let turn = turn_sums n r.state vs allowed.1.allowed in
     record { frees = omega (arith, h.frees, turn.frees, waiting_none n r.put_since_turn allowed.0); holds = omega (arith, h.holds, turn.holds) }
-sums_after script n size p b t g r (put to frame) allowed h =
+sums_after script n size p b t g r (put to frame) ends allowed h =
     record { frees = omega (arith, h.frees, waiting_more n r.put_since_turn to frame allowed); holds = omega (arith, h.holds) }
-sums_after script n size p b t g r (again word) allowed h =
+sums_after script n size p b t g r (again word) ends allowed h =
     record { frees = omega (arith, h.frees, ap (waiting n) allowed.3); holds = omega (arith, h.holds) }
-sums_after script n size p b t g r (called k a) allowed h =
+sums_after script n size p b t g r (called k a) ends allowed h =
     let line = allowed.0 in
     let here = allowed.1 in
     record {
       frees = omega (arith, h.frees, call_frees r.state n line.node (call_at r line), ap (λ o. free_to (effect_of_line o r) n) here, ap (waiting n) allowed.4);
-      holds = omega (arith, h.holds, call_holds n r.state line.node (call_at r line), ap (λ o. held_from n (effect_of_line o r)) here, ap (λ o. count_by (is_from n) (returned_by o r)) here);
+      holds = omega (arith, h.holds, call_holds n r.state ends line.node (call_at r line), ap (λ o. held_from n (effect_of_line o r)) here, ap (λ o. count_by (is_from n) (returned_by o r)) here);
     }
 
 sum-append : (xs ys : List ℕ) → sum (xs ++ ys) ≡ sum xs + sum ys
@@ -151,15 +184,15 @@ sums_to : (n size p b t g p' b' t' g' : ℕ) (r : RunState) → p ≡ p' → b �
 sums_to n size p b t g p' b' t' g' r e1 e2 e3 e4 h = record { frees = omega (arith, h.frees); holds = omega (arith, h.holds) }
 
 -- the sums along a whole run
-pub sums_run : (script : List CallLine) (n size p b t g : ℕ) (r new : RunState) (es : List PlainEntry) → Leads script r es new → Sums n size p b t g r → Sums n size (p + length (put_to n es)) (b + sum (back_looks n es)) (t + length (takes_from n es)) (g + given script r n es) new
-sums_run script n size p b t g r new [] leads h =
+pub sums_run : (script : List CallLine) (n size p b t g : ℕ) (r new : RunState) (es : List PlainEntry) → Ends r.state → Leads script r es new → Sums n size p b t g r → Sums n size (p + length (put_to n es)) (b + sum (back_looks n es)) (t + length (takes_from n es)) (g + given script r n es) new
+sums_run script n size p b t g r new [] ends leads h =
     subst (λ x. Sums n size (p + 0) (b + 0) (t + 0) (g + 0) x) (sym leads) (sums_to n size p b t g (p + 0) (b + 0) (t + 0) (g + 0) r (omega arith) (omega arith) (omega arith) (omega arith) h)
-sums_run script n size p b t g r new (e ∷ es) leads h =
+sums_run script n size p b t g r new (e ∷ es) ends leads h =
     let next = leads.0 in
     let is_next : after script r e ≡ next = sym leads.1.leads in
     let rest : Leads script (after script r e) es new = subst (λ x. Leads script x es new) (sym is_next) leads.2 in
-    let one = sums_after script n size p b t g r e leads.1.allowed h in
-    let all = sums_run script n size (p + length (puts_in n e)) (b + sum (backs_in n e)) (t + length (takes_in n e)) (g + given_in script r n e) (after script r e) new es rest one in
+    let one = sums_after script n size p b t g r e ends leads.1.allowed h in
+    let all = sums_run script n size (p + length (puts_in n e)) (b + sum (backs_in n e)) (t + length (takes_in n e)) (g + given_in script r n e) (after script r e) new es (ends-after script r e ends) rest one in
     sums_to n size
     (p + length (puts_in n e) + length (put_to n es)) (b + sum (backs_in n e) + sum (back_looks n es)) (t + length (takes_in n e) + length (takes_from n es)) (g + given_in script r n e + given script (after script r e) n es)
     (p + length (put_to n (e ∷ es))) (b + sum (back_looks n (e ∷ es))) (t + length (takes_from n (e ∷ es))) (g + given script r n (e ∷ es)) new

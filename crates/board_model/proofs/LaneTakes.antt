@@ -1,89 +1,44 @@
--- Frames that a domain takes: each buffer stays with an item that is held, or is given back; all else is as it was, but for the
--- names that are known of a peer and lookups of them.
-use Rattle.std.proofs.Common.{◌≡◌, ℕ, ◌+◌, Bool, true, false, not, cond, List, [], ◌∷◌, ◌++◌, length, map, Option, Some, None, count_by, flat_map, slice_get, option_map, option_and_then, is_some, refl, sym, ap, ap₂, ◌∙◌, arith}
-use Rattle.std.specs.Prelude.{is_none}
-use Rattle.std.proofs.lemmas.Bool.{and_parts}
+-- Frames that a domain takes: each buffer stays with an item that is held, or is given back; of peers, the frames that are shown are
+-- fewer, and names are known.
+use Rattle.std.proofs.Common.{◌≡◌, ℕ, ◌+◌, ◌-◌, Bool, true, false, not, cond, List, [], ◌∷◌, ◌++◌, length, map, find, Option, Some, None, count_by, flat_map, option_map, is_some, refl, sym, ap, ap₂, ◌∙◌, subst, arith}
+use Rattle.std.specs.Prelude.{is_none, unwrap_or, ◌==◌, ◌&&◌}
+use Rattle.std.specs.List.{AllByRecursion}
+use Rattle.std.proofs.lemmas.Bool.{and_parts, eq-eqb}
+use Rattle.mc_base.specs.Reading.{reading}
 use Rattle.mc_base.specs.declared.name.Local.{Local}
 use Rattle.mc_base.specs.declared.name.EndName.{EndName}
-use Rattle.mc_base.specs.Frame.{destination_of}
-use Rattle.mc_base.specs.NameMap.{Names, learned, forgotten}
 use Rattle.mc_base.specs.declared.fate.Fate.{Fate}
-use Rattle.board_model.specs.Lists.{changed}
+use Rattle.board_model.specs.Lists.{changed_first}
 use Rattle.board_model.specs.Journal.{Taken}
-use Rattle.board_model.specs.State.{DomainState, Endpoint, Item, Peer, Request, Outcome, has_address, item_in, queued_items, lent_items, place_of_address, has_address_of, local_of_address, waits_at, receives_at, place_of_waiting, place_waiting_for, place_of_peer}
-use Rattle.board_model.specs.Dealing.{item_of, queued_last, with_item, complete_with, with_handed, known_from, knowing, asks_for, looks_for, found_for, with_created, with_destroyed, announced_name, announced_address, row_for, after_frame, after_takes, HaveWords, keeps_buffer}
-use Rattle.board_model.specs.Serial.{word_of}
-use Rattle.board_model.proofs.ListsCounts.{one_if, count-cons, count-append, count-changed_at, position-tells, some_place}
-use Rattle.board_model.proofs.LaneRows.{stays, learns, forgets, hands, queues, DealsWith, frame_deals, frame_word_is}
+use Rattle.board_model.specs.State.{DomainState, Endpoint, Item, Peer, Request, Outcome, has_address, has_item, item_in, queued_items, lent_items, has_address_of, endpoint_of, receives_at, waits_at, one_waits, peer_at}
+use Rattle.board_model.specs.Change.{Change, item_queued, item_handed, name_found, names_known, frame_taken, with_queue, asks_for, done_with, all_done, handed_in, changed, changed_all}
+use Rattle.board_model.specs.Dealing.{keeps_buffer}
+use Rattle.board_model.specs.TakenFrames.{Row, message_item, row_of}
+use Rattle.board_model.specs.Deeds.{takes, after_deed}
+use Rattle.board_model.proofs.ListsCounts.{one_if, count-cons, count-append}
+use Rattle.mc_base.specs.NameMap.{Names}
+use Rattle.board_model.proofs.ListsMapped.{any-found}
+use Rattle.board_model.proofs.MessageAlls.{found-passes}
+use Rattle.board_model.proofs.LanePeers.{read_of, Keeps, read-all, cond-keeps, peer-changed}
+use Rattle.board_model.proofs.LaneRows.{Deals, stays, learns, forgets, hands, queues, row-deals}
+use Rattle.board_model.proofs.VisitLooks.{after_takes, HaveWords}
 
--- ---- what frames change
+-- ---- items that are held
 
--- what depends on no endpoint, no request and no peer
-abbrev pub Apart : {X : Type 0} → (DomainState → X) → Type 0
-Apart f = (t : DomainState) (es : List Endpoint) (rs : List Request) (ps : List Peer) → f (record t { endpoints = es; requests = rs; peers = ps }) ≡ f t
-
-created_keeps : {X : Type 0} (f : DomainState → X) (s : DomainState) (peer : ℕ) (o : Option EndName) (address : ℕ) → Apart f → f (with_created s peer o address) ≡ f s
-created_keeps f s peer None address same = refl
-created_keeps f s peer (Some n) address same = same s s.endpoints (map (found_for n address) s.requests) (changed (knowing (learned n address (known_from s peer))) (place_of_peer s peer) s.peers)
-
-destroyed_keeps : {X : Type 0} (f : DomainState → X) (s : DomainState) (peer : ℕ) (o : Option EndName) → Apart f → f (with_destroyed s peer o) ≡ f s
-destroyed_keeps f s peer None same = refl
-destroyed_keeps f s peer (Some n) same = same s s.endpoints s.requests (changed (knowing (forgotten n (known_from s peer))) (place_of_peer s peer) s.peers)
-
--- a frame changes endpoints, requests and peers alone
-pub frame_keeps : {X : Type 0} (f : DomainState → X) (s : DomainState) (peer : ℕ) (frame : List ℕ) → Apart f → f (after_frame s peer frame) ≡ f s
-frame_keeps {X} f s peer frame same = go (word_of (row_for s peer frame)) (after_frame s peer frame) (frame_deals s peer frame)
-  where
-    go : (w : Fate) (after : DomainState) → DealsWith s peer frame w after → f after ≡ f s
-    go w after (stays is gives) = ap f is
-    go w after (learns is word) = ap f is ∙ created_keeps f s peer (announced_name peer frame) (announced_address frame) same
-    go w after (forgets is word) = ap f is ∙ destroyed_keeps f s peer (announced_name peer frame) same
-    go w after (hands is word waits) = ap f is ∙ same s s.endpoints (changed (complete_with (item_of peer frame)) (place_waiting_for s (destination_of frame)) s.requests) s.peers
-    go w after (queues is word there) = ap f is ∙ same s (changed (queued_last (item_of peer frame)) (place_of_address s (destination_of frame)) s.endpoints) s.requests s.peers
-
-pub takes_keep : {X : Type 0} (f : DomainState → X) (s : DomainState) (peer : ℕ) (ts : List Taken) → Apart f → f (after_takes s peer ts) ≡ f s
-takes_keep f s peer [] same = refl
-takes_keep f s peer (t ∷ ts) same = takes_keep f (after_frame s peer t.frame) peer ts same ∙ frame_keeps f s peer t.frame same
-
--- what holds of peers, and stays as names are learned and forgotten
-pub frame_peers : (P : List Peer → Type 0) → ((names : Names) (o : Option ℕ) (ps : List Peer) → P ps → P (changed (knowing names) o ps)) → (s : DomainState) (peer : ℕ) (frame : List ℕ) → P s.peers → P (after_frame s peer frame).peers
-frame_peers P known s peer frame holds = go (word_of (row_for s peer frame)) (after_frame s peer frame) (frame_deals s peer frame)
-  where
-    created : (o : Option EndName) (address : ℕ) → P (with_created s peer o address).peers
-    created None address = holds
-    created (Some n) address = known (learned n address (known_from s peer)) (place_of_peer s peer) s.peers holds
-
-    destroyed : (o : Option EndName) → P (with_destroyed s peer o).peers
-    destroyed None = holds
-    destroyed (Some n) = known (forgotten n (known_from s peer)) (place_of_peer s peer) s.peers holds
-
-    go : (w : Fate) (after : DomainState) → DealsWith s peer frame w after → P after.peers
-    go w after (stays is gives) = rw is holds
-    go w after (learns is word) = rw is (created (announced_name peer frame) (announced_address frame))
-    go w after (forgets is word) = rw is (destroyed (announced_name peer frame))
-    go w after (hands is word waits) = rw is holds
-    go w after (queues is word there) = rw is holds
-
-pub takes_peers : (P : List Peer → Type 0) → ((names : Names) (o : Option ℕ) (ps : List Peer) → P ps → P (changed (knowing names) o ps)) → (s : DomainState) (peer : ℕ) (ts : List Taken) → P s.peers → P (after_takes s peer ts).peers
-takes_peers P known s peer [] holds = holds
-takes_peers P known s peer (t ∷ ts) holds = takes_peers P known (after_frame s peer t.frame) peer ts (frame_peers P known s peer t.frame holds)
-
--- ---- what is held and given back
-
--- how many items that pass a test stand in queues or are lent
+-- how many held items pass
 abbrev pub held : (Item → Bool) → DomainState → ℕ
 held w s = count_by w (queued_items s) + count_by w (lent_items s)
 
--- what a frame's buffer counts for where it is given back, and where it stays
-abbrev pub given_of : Bool → Fate → ℕ
-given_of b f = cond (keeps_buffer f) 0 (one_if b)
-
-queued_one_more : (w : Item → Bool) (s : DomainState) (item : Item) (i : ℕ) (e : Endpoint) → slice_get s.endpoints i ≡ Some e → count_by w (flat_map (λ x. x.queue) (changed (queued_last item) (Some i) s.endpoints)) ≡ count_by w (queued_items s) + one_if (w item)
-queued_one_more w s item i e at =
-    let more : (x : Endpoint) → slice_get s.endpoints i ≡ Some x → count_by w (queued_last item x).queue + 0 ≡ count_by w x.queue + one_if (w item) =
-    λ x p. omega (arith, count-append w x.queue (item ∷ []), count-cons w item []) in
-    let r = count-changed_at w (λ x. x.queue) (queued_last item) (one_if (w item)) 0 i s.endpoints e at more in
-    omega arith
+-- of the first that passes, what it counts for changes
+pub count-first : {E I : Type 0} (w : I → Bool) (q : E → List I) (p : E → Bool) (f : E → E) (a b : ℕ) (e : E) (es : List E) → find p es ≡ Some e → count_by w (q (f e)) + b ≡ count_by w (q e) + a → count_by w (flat_map q (changed_first p f es)) + b ≡ count_by w (flat_map q es) + a
+count-first w q p f a b e [] found here = absurd cc
+count-first {E = E} w q p f a b e (x ∷ es) found here = go (p x) found (λ later. count-first w q p f a b e es later here)
+  where
+    go : (c : Bool) → cond c (Some x) (find p es) ≡ Some e → (find p es ≡ Some e → count_by w (flat_map q (changed_first p f es)) + b ≡ count_by w (flat_map q es) + a) → count_by w (flat_map q (cond c (f x ∷ es) (x ∷ changed_first p f es))) + b ≡ count_by w (flat_map q (x ∷ es)) + a
+    go true is later =
+        let same : x ≡ e = cc in
+        omega (arith, count-append w (q (f x)) (flat_map q es), count-append w (q x) (flat_map q es), here, ap (λ y. count_by w (q y)) same, ap (λ y. count_by w (q (f y))) same)
+    go false is later = omega (arith, count-append w (q x) (flat_map q (changed_first p f es)), count-append w (q x) (flat_map q es), later is)
 
 -- a pending request holds nothing
 pub pending_holds : (o : Option Outcome) → is_none o ≡ true → item_in o ≡ []
@@ -97,77 +52,69 @@ asked_items rs = flat_map (λ r. item_in r.outcome) rs
 pub lent_counts : (w : Item → Bool) (s : DomainState) → count_by w (lent_items s) ≡ count_by w (map (λ p. p.item) s.lent) + count_by w (asked_items s.requests)
 lent_counts w s = count-append w (map (λ p. p.item) s.lent) (asked_items s.requests)
 
--- a pending request that is complete holds the item
-lent_one_more : (w : Item → Bool) (s : DomainState) (item : Item) (i : ℕ) (r : Request) → slice_get s.requests i ≡ Some r → is_none r.outcome ≡ true → count_by w (asked_items (changed (complete_with item) (Some i) s.requests)) ≡ count_by w (asked_items s.requests) + one_if (w item)
-lent_one_more w s item i r at pending =
-    let more : (x : Request) → slice_get s.requests i ≡ Some x → count_by w (item_in (complete_with item x).outcome) + 0 ≡ count_by w (item_in x.outcome) + one_if (w item) =
-    λ x p.
-    let same : r ≡ x = some_request (sym at ∙ p) in
-    omega (arith, count-cons w item [], ap (λ (y : Request). count_by w (item_in y.outcome)) same, ap (count_by w) (pending_holds r.outcome pending)) in
-    let changes = count-changed_at w (λ (x : Request). item_in x.outcome) (complete_with item) (one_if (w item)) 0 i s.requests r at more in
-    omega arith
-  where
-    some_request : {x y : Request} → ◌≡◌ {A = Option Request} (Some x) (Some y) → x ≡ y
-    some_request e = cc
-
--- the receive that waits for a frame stands, and waits
-pub waiting_is : (s : DomainState) (address i : ℕ) → place_waiting_for s address ≡ Some i → (at : Local) × (r : Request) × (slice_get s.requests i ≡ Some r) × (waits_at at r ≡ true)
-waiting_is s address i e = go (local_of_address s address) e
-  where
-    go : (o : Option Local) → option_and_then (place_of_waiting s) o ≡ Some i → (at : Local) × (r : Request) × (slice_get s.requests i ≡ Some r) × (waits_at at r ≡ true)
-    go None h = absurd cc
-    go (Some at) h = let t = position-tells (waits_at at) s.requests i h in (at, t.0, t.1, t.2)
-
--- so it is pending
-pub waiting_tells : (s : DomainState) (address i : ℕ) → place_waiting_for s address ≡ Some i → (r : Request) × (slice_get s.requests i ≡ Some r) × (is_none r.outcome ≡ true)
-waiting_tells s address i e = let w = waiting_is s address i e in (w.1, w.2, (and_parts (is_none w.1.outcome) (receives_at w.0 w.1.asked) w.3).0)
+-- one that waits is pending
+pub waits-pending : (at : Local) (r : Request) → waits_at at r ≡ true → is_none r.outcome ≡ true
+waits-pending at r waits = (and_parts (is_none r.outcome) (receives_at at r.asked) waits).0
 
 -- a request that may be complete without an item holds what it held
 pub same_asked : (f : Request → Request) → ((r : Request) → item_in (f r).outcome ≡ item_in r.outcome) → (rs : List Request) → asked_items (map f rs) ≡ asked_items rs
 same_asked f same [] = refl
 same_asked f same (r ∷ rs) = ap₂ (λ (xs ys : List Item). xs ++ ys) (same r) (same_asked f same rs)
 
-found_holds : (n : EndName) (address : ℕ) (r : Request) → item_in (found_for n address r).outcome ≡ item_in r.outcome
-found_holds n address r = go (looks_for n r) refl
+done_holds : (n : EndName) (address : ℕ) (r : Request) → item_in (all_done (asks_for n) (has_address address) r).outcome ≡ item_in r.outcome
+done_holds n address r = go (is_none r.outcome && asks_for n r.asked) refl
   where
-    go : (b : Bool) → looks_for n r ≡ b → item_in (cond b (record r { outcome = Some (has_address address) }) r).outcome ≡ item_in r.outcome
+    go : (b : Bool) → (is_none r.outcome && asks_for n r.asked) ≡ b → item_in (cond b (done_with (has_address address) r) r).outcome ≡ item_in r.outcome
     go true looks = sym (pending_holds r.outcome (and_parts (is_none r.outcome) (asks_for n r.asked) looks).0)
     go false looks = refl
 
-pub found_asked : (n : EndName) (address : ℕ) (rs : List Request) → asked_items (map (found_for n address) rs) ≡ asked_items rs
-found_asked n address rs = same_asked (found_for n address) (found_holds n address) rs
+pub found_asked : (n : EndName) (address : ℕ) (rs : List Request) → asked_items (map (all_done (asks_for n) (has_address address)) rs) ≡ asked_items rs
+found_asked n address rs = same_asked (all_done (asks_for n) (has_address address)) (done_holds n address) rs
 
-created_holds : (w : Item → Bool) (s : DomainState) (peer : ℕ) (o : Option EndName) (address : ℕ) → held w (with_created s peer o address) ≡ held w s
-created_holds w s peer None address = refl
-created_holds w s peer (Some n) address =
-    omega (arith, lent_counts w s, lent_counts w (with_created s peer (Some n) address), ap (count_by w) (found_asked n address s.requests))
+-- ---- a frame
 
-destroyed_holds : (w : Item → Bool) (s : DomainState) (peer : ℕ) (o : Option EndName) → held w (with_destroyed s peer o) ≡ held w s
-destroyed_holds w s peer None = refl
-destroyed_holds w s peer (Some n) = refl
+module _ (w : Item → Bool) (s : DomainState) where
+  item_queued_holds : (at : ℕ) (i : Item) (e : Endpoint) → endpoint_of s at ≡ Some e → held w (changed s (item_queued at i)) ≡ held w s + one_if (w i)
+  item_queued_holds at i e found =
+      let more = count-first w (λ (x : Endpoint). x.queue) (has_address_of at) (with_queue (λ q. q ++ i ∷ [])) (one_if (w i)) 0 e s.endpoints found (omega (arith, count-append w e.queue (i ∷ []), count-cons w i [])) in
+      omega (arith, more)
 
-handed_holds : (w : Item → Bool) (s : DomainState) (address : ℕ) (item : Item) → is_some (place_waiting_for s address) ≡ true → held w (with_handed s address item) ≡ held w s + one_if (w item)
-handed_holds w s address item waits =
-    let p = some_place (place_waiting_for s address) waits in
-    let at = waiting_tells s address p.0 p.1 in
-    omega (arith, lent_counts w s, lent_counts w (with_handed s address item), ap (λ o. count_by w (asked_items (changed (complete_with item) o s.requests))) p.1, lent_one_more w s item p.0 at.0 at.1 at.2)
+  waiter : (at : Local) → one_waits s at ≡ true → (r : Request) × (find (waits_at at) s.requests ≡ Some r)
+  waiter at waits = go (find (waits_at at) s.requests) (sym (any-found (waits_at at) s.requests) ∙ waits)
+    where
+      go : (o : Option Request) → is_some o ≡ true → (r : Request) × (o ≡ Some r)
+      go None some = absurd cc
+      go (Some r) some = (r, refl)
 
-item_holds : (w : Item → Bool) (s : DomainState) (address : ℕ) (item : Item) → is_some (place_of_address s address) ≡ true → held w (with_item s address item) ≡ held w s + one_if (w item)
-item_holds w s address item there =
-    let p = some_place (place_of_address s address) there in
-    let at = position-tells (has_address_of address) s.endpoints p.0 p.1 in
-    omega (arith, ap (λ o. count_by w (flat_map (λ x. x.queue) (changed (queued_last item) o s.endpoints))) p.1, queued_one_more w s item p.0 at.0 at.1)
+  item_handed_holds : (at : ℕ) (i : Item) (e : Endpoint) → endpoint_of s at ≡ Some e → one_waits s e.local ≡ true → held w (changed s (item_handed at i)) ≡ held w s + one_if (w i)
+  item_handed_holds at i e found waits =
+      let t = waiter e.local waits in
+      let none : item_in t.0.outcome ≡ [] = pending_holds t.0.outcome (waits-pending e.local t.0 (found-passes (waits_at e.local) s.requests t.0 t.1)) in
+      let more = count-first w (λ (r : Request). item_in r.outcome) (waits_at e.local) (done_with (has_item i)) (one_if (w i)) 0 t.0 s.requests t.1 (omega (arith, count-cons w i [], ap (count_by w) none)) in
+      omega (arith, more, lent_counts w s, lent_counts w (changed s (item_handed at i)), ap (λ o. count_by w (asked_items (handed_in o i s.requests))) found)
+
+  name_found_holds : (n : EndName) (a : ℕ) → held w (changed s (name_found n a)) ≡ held w s
+  name_found_holds n a = omega (arith, lent_counts w s, lent_counts w (changed s (name_found n a)), ap (count_by w) (found_asked n a s.requests))
+
+-- what a frame's buffer counts for where it is given back, and where it stays
+abbrev pub given_of : Bool → Fate → ℕ
+given_of b f = cond (keeps_buffer f) 0 (one_if b)
+
+row_counts : (w : Item → Bool) (b : Bool) (s : DomainState) (peer : ℕ) (r : Row) → ((source priority : ℕ) (content : List ℕ) → w (message_item peer None source priority content) ≡ b) → Deals s peer None r →
+    held w (changed_all (changed s (frame_taken peer)) r.happens) + given_of b r.word ≡ held w s + one_if b
+row_counts w b s peer r counts (stays is gives) = omega (arith, ap (λ cs. held w (changed_all (changed s (frame_taken peer)) cs)) is, ap (λ k. cond k 0 (one_if b)) gives)
+row_counts w b s peer r counts (learns n a names is gives) =
+    omega (arith, ap (λ cs. held w (changed_all (changed s (frame_taken peer)) cs)) is, ap (λ k. cond k 0 (one_if b)) gives, name_found_holds w (changed (changed s (frame_taken peer)) (names_known peer names)) n a)
+row_counts w b s peer r counts (forgets names is gives) = omega (arith, ap (λ cs. held w (changed_all (changed s (frame_taken peer)) cs)) is, ap (λ k. cond k 0 (one_if b)) gives)
+row_counts w b s peer r counts (hands at source priority content e found waits is keeps) =
+    omega (arith, ap (λ cs. held w (changed_all (changed s (frame_taken peer)) cs)) is, ap (λ k. cond k 0 (one_if b)) keeps, item_handed_holds w (changed s (frame_taken peer)) at (message_item peer None source priority content) e found waits, ap one_if (counts source priority content))
+row_counts w b s peer r counts (queues at source priority content e found is keeps) =
+    omega (arith, ap (λ cs. held w (changed_all (changed s (frame_taken peer)) cs)) is, ap (λ k. cond k 0 (one_if b)) keeps, item_queued_holds w (changed s (frame_taken peer)) at (message_item peer None source priority content) e found, ap one_if (counts source priority content))
 
 -- a frame with the word of its row is held as an item, or its buffer is given back
-frame_counts : (w : Item → Bool) (b : Bool) (s : DomainState) (peer : ℕ) (frame : List ℕ) (f : Fate) → w (item_of peer frame) ≡ b → option_map (λ r. r.word) (row_for s peer frame) ≡ Some f → held w (after_frame s peer frame) + given_of b f ≡ held w s + one_if b
-frame_counts w b s peer frame f counts e = go (word_of (row_for s peer frame)) (after_frame s peer frame) (frame_word_is s peer frame f e) (frame_deals s peer frame)
-  where
-    go : (v : Fate) (after : DomainState) → v ≡ f → DealsWith s peer frame v after → held w after + given_of b f ≡ held w s + one_if b
-    go v after word (stays is gives) = omega (arith, ap (held w) is, ap (given_of b) (sym word), ap (λ k. cond k 0 (one_if b)) gives)
-    go v after word (learns is acted) = omega (arith, ap (held w) is, created_holds w s peer (announced_name peer frame) (announced_address frame), ap (given_of b) (sym word ∙ acted))
-    go v after word (forgets is acted) = omega (arith, ap (held w) is, destroyed_holds w s peer (announced_name peer frame), ap (given_of b) (sym word ∙ acted))
-    go v after word (hands is handed waits) = omega (arith, ap (held w) is, handed_holds w s (destination_of frame) (item_of peer frame) waits, ap (given_of b) (sym word ∙ handed), ap one_if counts)
-    go v after word (queues is queued there) = omega (arith, ap (held w) is, item_holds w s (destination_of frame) (item_of peer frame) there, ap (given_of b) (sym word ∙ queued), ap one_if counts)
+frame_counts : (w : Item → Bool) (b : Bool) (s : DomainState) (peer : ℕ) (frame : List ℕ) (f : Fate) → ((source priority : ℕ) (content : List ℕ) → w (message_item peer None source priority content) ≡ b) → (row_of s peer None (reading frame)).word ≡ f →
+    held w (after_deed s (takes peer None frame f)) + given_of b f ≡ held w s + one_if b
+frame_counts w b s peer frame f counts e = omega (arith, row_counts w b s peer (row_of s peer None (reading frame)) counts (row-deals s peer None (reading frame)), ap (given_of b) e)
 
 given_one : (f : Fate) → given_of true f ≡ one_if (not (keeps_buffer f))
 given_one f = go (keeps_buffer f)
@@ -184,12 +131,68 @@ given_none f = go (keeps_buffer f)
     go false = refl
 
 -- where all items of the peer count, and where none does
-pub takes_count : (w : Item → Bool) (s : DomainState) (peer : ℕ) → ((f : List ℕ) → w (item_of peer f) ≡ true) → (ts : List Taken) → HaveWords s peer ts → held w (after_takes s peer ts) + count_by (λ t. not (keeps_buffer t.fate)) ts ≡ held w s + length ts
+pub takes_count : (w : Item → Bool) (s : DomainState) (peer : ℕ) → ((source priority : ℕ) (content : List ℕ) → w (message_item peer None source priority content) ≡ true) → (ts : List Taken) → HaveWords s peer ts →
+    held w (after_takes s peer ts) + count_by (λ t. not (keeps_buffer t.fate)) ts ≡ held w s + length ts
 takes_count w s peer counts [] words = refl
 takes_count w s peer counts (t ∷ ts) words =
-    omega (arith, frame_counts w true s peer t.frame t.fate (counts t.frame) words.0, given_one t.fate, takes_count w (after_frame s peer t.frame) peer counts ts words.1, count-cons (λ (x : Taken). not (keeps_buffer x.fate)) t ts)
+    omega (arith, frame_counts w true s peer t.frame t.fate counts words.0, given_one t.fate, takes_count w (after_deed s (takes peer None t.frame t.fate)) peer counts ts words.1, count-cons (λ (x : Taken). not (keeps_buffer x.fate)) t ts)
 
-pub takes_none : (w : Item → Bool) (s : DomainState) (peer : ℕ) → ((f : List ℕ) → w (item_of peer f) ≡ false) → (ts : List Taken) → HaveWords s peer ts → held w (after_takes s peer ts) ≡ held w s
+pub takes_none : (w : Item → Bool) (s : DomainState) (peer : ℕ) → ((source priority : ℕ) (content : List ℕ) → w (message_item peer None source priority content) ≡ false) → (ts : List Taken) → HaveWords s peer ts → held w (after_takes s peer ts) ≡ held w s
 takes_none w s peer counts [] words = refl
 takes_none w s peer counts (t ∷ ts) words =
-    omega (arith, frame_counts w false s peer t.frame t.fate (counts t.frame) words.0, given_none t.fate, takes_none w (after_frame s peer t.frame) peer counts ts words.1)
+    omega (arith, frame_counts w false s peer t.frame t.fate counts words.0, given_none t.fate, takes_none w (after_deed s (takes peer None t.frame t.fate)) peer counts ts words.1)
+
+-- ---- peers
+
+-- what a row keeps of peers, and of lookups that are pending
+module _ {X : Type 0} (g : Peer → X) (knows : (p : Peer) (names : Names) → g (record p { known = names }) ≡ g p) where
+  row_keeps : (s : DomainState) (d n peer : ℕ) (r : Row) → Deals s peer None r → AllByRecursion (Keeps g d n) r.happens
+  row_keeps s d n peer r (stays is gives) = subst (AllByRecursion (Keeps g d n)) (sym is) tt
+  row_keeps s d n peer r (learns m a names is gives) = subst (AllByRecursion (Keeps g d n)) (sym is) ((λ p. cond-keeps g (peer == n) p (record p { known = names }) (knows p names)), ((λ p. refl), tt))
+  row_keeps s d n peer r (forgets names is gives) = subst (AllByRecursion (Keeps g d n)) (sym is) ((λ p. cond-keeps g (peer == n) p (record p { known = names }) (knows p names)), tt)
+  row_keeps s d n peer r (hands at source priority content e found waits is keeps) = subst (AllByRecursion (Keeps g d n)) (sym is) ((λ p. refl), tt)
+  row_keeps s d n peer r (queues at source priority content e found is keeps) = subst (AllByRecursion (Keeps g d n)) (sym is) ((λ p. refl), tt)
+
+  -- after a frame that is taken, all is read as after its look
+  frame_read : (s : DomainState) (peer : ℕ) (frame : List ℕ) (f : Fate) (n : ℕ) → read_of g (after_deed s (takes peer None frame f)) n ≡ read_of g (changed s (frame_taken peer)) n
+  frame_read s peer frame f n = read-all g (changed s (frame_taken peer)) (row_of s peer None (reading frame)).happens n (row_keeps s s.number n peer (row_of s peer None (reading frame)) (row-deals s peer None (reading frame)))
+
+pub takes-free : (s : DomainState) (peer : ℕ) (ts : List Taken) (n : ℕ) → read_of (λ p. p.free) (after_takes s peer ts) n ≡ read_of (λ p. p.free) s n
+takes-free s peer [] n = refl
+takes-free s peer (t ∷ ts) n =
+    takes-free (after_deed s (takes peer None t.frame t.fate)) peer ts n
+    ∙ (frame_read (λ p. p.free) (λ p names. refl) s peer t.frame t.fate n
+    ∙ (ap (option_map (λ p. p.free)) (peer-changed s (frame_taken peer) n) ∙ go (peer_at s n)))
+  where
+    go : (o : Option Peer) → option_map (λ p. p.free) (option_map (λ (p : Peer). cond (peer == n) (record p { shown = p.shown - 1 }) p) o) ≡ option_map (λ p. p.free) o
+    go None = refl
+    go (Some p) = ap Some (cond-keeps (λ q. q.free) (peer == n) p (record p { shown = p.shown - 1 }) refl)
+
+abbrev pub shown_in : DomainState → ℕ → ℕ
+shown_in s n = unwrap_or (read_of (λ p. p.shown) s n) 0
+
+-- as many fewer frames are shown of the peer, and as many as before of another
+pub takes-shown : (s : DomainState) (peer : ℕ) (ts : List Taken) (n : ℕ) (b : Bool) → (peer == n) ≡ b → shown_in (after_takes s peer ts) n ≡ shown_in s n - cond b (length ts) 0
+takes-shown s peer [] n b is = omega (arith, none b)
+  where
+    none : (c : Bool) → ◌≡◌ {A = ℕ} (cond c 0 0) 0
+    none true = refl
+    none false = refl
+takes-shown s peer (t ∷ ts) n b is =
+    omega (arith, takes-shown (after_deed s (takes peer None t.frame t.fate)) peer ts n b is, ap (λ o. unwrap_or o 0) (frame_read (λ p. p.shown) (λ p names. refl) s peer t.frame t.fate n), one (peer_at s n), ap (λ o. unwrap_or (option_map (λ (p : Peer). p.shown) o) 0) (peer-changed s (frame_taken peer) n ∙ ap (λ c. option_map (λ (p : Peer). cond c (record p { shown = p.shown - 1 }) p) (peer_at s n)) is), more b)
+  where
+    one : (o : Option Peer) → unwrap_or (option_map (λ p. p.shown) (option_map (λ (p : Peer). cond b (record p { shown = p.shown - 1 }) p) o)) 0 ≡ unwrap_or (option_map (λ p. p.shown) o) 0 - cond b 1 0
+    one None = omega (arith, some b)
+      where
+        some : (c : Bool) → ◌≡◌ {A = ℕ} (0 - cond c 1 0) 0
+        some true = refl
+        some false = refl
+    one (Some p) = go b
+      where
+        go : (c : Bool) → (cond c (record p { shown = p.shown - 1 }) p).shown ≡ p.shown - cond c 1 0
+        go true = refl
+        go false = omega arith
+
+    more : (c : Bool) → cond c (length (t ∷ ts)) 0 ≡ cond c 1 0 + cond c (length ts) 0
+    more true = omega arith
+    more false = refl

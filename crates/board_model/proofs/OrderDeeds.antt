@@ -13,7 +13,7 @@ use Rattle.mc_base.specs.declared.fate.Fate.{Fate}
 use Rattle.mc_base.specs.declared.fate.Fate.TheVariants.{Queued, Handed, NoEndpoint, State, Acted}
 use Rattle.board_model.specs.State.{Item, Endpoint, Asked, name_of, channel_of, message_at, packet_at, has_address, Request, DomainState, is_at, has_address_of, receives_at, live_at, endpoint_of, one_waits, oldest_waiting, peer_at, queue_in, waits_at}
 use Rattle.board_model.specs.Change.{item_queued, item_handed, name_found, names_known, frame_taken, handed_in, all_done, asks_for, changed, changed_all}
-use Rattle.board_model.specs.Dealing.{names_of}
+use Rattle.board_model.specs.TakenFrames.{names_of}
 use Rattle.board_model.specs.TakenFrames.{Row, row, first_row, row_of, name_rows, letter_rows, message_item}
 use Rattle.board_model.specs.Deeds.{Deed, looks_back, puts_owed, looks_ahead, happens_by, after_deed}
 use Rattle.board_model.specs.Takings.{Taking, taking, takings_by, asked_address}
@@ -21,6 +21,7 @@ use Rattle.mc_base.specs.declared.name.Local.{Local}
 use Rattle.board_model.specs.Choice.{best}
 use Rattle.board_model.specs.CallChanges.{at_live}
 use Rattle.board_model.specs.MessageOrder.{is_handed, comes_now, waiting_first, item_said, is_queued, came_to, items_at, dropped_from, gone_from}
+use Rattle.board_model.proofs.LaneRows.{by_rows}
 use Rattle.board_model.proofs.DeedRuns.{count_taken}
 use Rattle.board_model.proofs.OrderItems.{IsPast, IsNext, left_of, left_none}
 use Rattle.board_model.proofs.OrderQueues.{queued_for, queued_item}
@@ -88,23 +89,6 @@ module _ (room : ℕ) (before : List Deed) (s : DomainState) (sound : Sound s) (
 
   pub looks_ahead_does : (peer count : ℕ) → Does room before s (looks_ahead peer count)
   looks_ahead_does peer count = still room before s (looks_ahead peer count) (sound_changes s (happens_by s (looks_ahead peer count)) (tt, tt) sound) (serials_changes room s (happens_by s (looks_ahead peer count)) (omega arith) serials) (none_of s) (λ b. refl) (λ b. refl) (λ b. refl) (kept [] (λ k. refl))
-
--- ---- rows
-
--- whatever holds of the last row, and of each other one where it applies
-abbrev pub ByRows : (Row → Type 0) → List Row → Type 0
-ByRows P [] = P (first_row [])
-ByRows P (r ∷ []) = P r
-ByRows P (r ∷ q ∷ rs) = (r.applies ≡ true → P r) × (r.applies ≡ false → ByRows P (q ∷ rs))
-
-pub by_rows : (P : Row → Type 0) (rs : List Row) → ByRows P rs → P (first_row rs)
-by_rows P [] h = h
-by_rows P (r ∷ []) h = h
-by_rows P (r ∷ q ∷ rs) h = go r.applies refl (λ k. by_rows P (q ∷ rs) k)
-  where
-    go : (b : Bool) → r.applies ≡ b → (ByRows P (q ∷ rs) → P (first_row (q ∷ rs))) → P (cond b r (first_row (q ∷ rs)))
-    go true is later = h.0 is
-    go false is later = later (h.1 is)
 
 -- ---- frames
 

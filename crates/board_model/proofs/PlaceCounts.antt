@@ -29,7 +29,7 @@ record Ends (s : Scenario) (d : DomainLine) (es : List PlainEntry) (n : ℕ) : T
 
 run_ends : (s : Scenario) (d : DomainLine) (es : List PlainEntry) (n : ℕ) → IsDomainRun s d es → Ends s d es n
 run_ends s d es n run =
-    let h = sums_run (script s d.domain) n (free_to (start s d).state n) 0 0 0 0 (start s d) (left_by s d es) es run.steps (record { frees = omega arith; holds = refl }) in
+    let h = sums_run (script s d.domain) n (free_to (start s d).state n) 0 0 0 0 (start s d) (left_by s d es) es (record { apart = tt; below = tt }) run.steps (record { frees = omega arith; holds = refl }) in
     record {
       free = omega (arith, h.frees, waiting_none n (left_by s d es).put_since_turn run.settled);
       held = omega (arith, h.holds);

@@ -1,30 +1,31 @@
 -- Serials of requests: a turn leaves those of the requests that stand, and a call ends one of them at most and gives the next
 -- one at most. The place of a request is that of its serial.
-use Rattle.std.proofs.Common.{◌≡◌, ℕ, zero, suc, ◌+◌, ◌<◌, ◌≤◌, ◌^◌, Bool, true, false, ◌&&◌, cond, List, [], ◌∷◌, ◌++◌, length, map, Option, Some, None, position, option_and_then, option_to_list, refl, sym, ap, ap₂, ◌∙◌, arith, append-nil, mod-eq_of_lt, eq-eqb, eqb-true}
-use Rattle.std.specs.Prelude.{◌==◌}
+use Rattle.std.proofs.Common.{◌≡◌, ℕ, zero, suc, ◌+◌, ◌<◌, ◌≤◌, ◌^◌, Bool, true, false, cond, List, [], ◌∷◌, ◌++◌, length, map, Option, Some, None, position, option_map, option_and_then, option_to_list, refl, sym, ap, ap₂, ◌∙◌, arith, append-nil, mod-eq_of_lt, eq-eqb, eqb-true}
+use Rattle.std.specs.Prelude.{◌==◌, ◌&&◌, is_none}
 use Rattle.std.specs.List.{position_from, AllByRecursion}
 use Rattle.std.proofs.lemmas.Iterator.Adapters.{position_from-zero}
 use Rattle.std.proofs.lemmas.List.{map-append}
-use Rattle.mc_base.specs.Frame.{destination_of}
 use Rattle.mc_base.specs.FullName.{end_name}
-use Rattle.mc_base.specs.declared.name.Local.{Local}
+use Rattle.mc_base.specs.Reading.{reading}
 use Rattle.mc_base.specs.declared.name.EndName.{EndName}
-use Rattle.mc_base.specs.declared.fate.Fate.{Fate}
 use Rattle.mc_base.specs.declared.refusal.Refusal.{Refusal}
 use Rattle.mc_base.specs.declared.refusal.Refusal.TheVariants.{EndpInvalid}
 use Rattle.board_model.specs.DomainCall.{DomainCall, create_at, delete_at, lookup_of, send_from, receive_at, request_at, available_at, test_of, cancel_of, turn_alone}
 use Rattle.board_model.specs.Lists.{without_at, without}
 use Rattle.board_model.specs.Journal.{Visit, Taken}
-use Rattle.board_model.specs.State.{DomainState, Request, has_address, has_ended, has_serial, place_of_request, waits_at, place_waiting_for}
-use Rattle.board_model.specs.Dealing.{item_of, complete_with, looks_for, found_for, with_created, with_destroyed, announced_name, announced_address, row_for, after_frame, after_takes}
-use Rattle.board_model.specs.Turn.{after_looks, after_visit, after_turn}
-use Rattle.board_model.specs.Answer.{local, refusal, unless_refused}
-use Rattle.board_model.specs.Effect.{ended_by_word, success_effect, effect}
+use Rattle.board_model.specs.State.{DomainState, Endpoint, Item, Request, Outcome, message_at, has_address, has_item, has_ended, has_serial, endpoint_of, live_at, place_of_request, waits_at}
+use Rattle.board_model.specs.Change.{Change, endpoint_gone, best_gone, item_queued, item_handed, waiting_ended, name_found, request_added, request_gone, end_announced, owed_put, buffers_back, frames_shown, frame_taken, names_known, asks_for, all_done, done_with, handed_in, ended_in, changed, changed_all}
+use Rattle.board_model.specs.TakenFrames.{Row, message_item, row_of}
+use Rattle.board_model.specs.CallChanges.{at_live, best_item, success_changes, effect}
+use Rattle.board_model.specs.Deeds.{takes, after_deed}
+use Rattle.board_model.specs.Turn.{after_visit, after_turn}
+use Rattle.board_model.specs.Answer.{local, holds, words_of, refusal, unless_refused}
 use Rattle.board_model.specs.Labels.{Labelled, serial_of, place_of_label, success_request, request_given}
-use Rattle.board_model.specs.Serial.{word_of}
-use Rattle.board_model.proofs.ListsCounts.{map-changed}
-use Rattle.board_model.proofs.LaneRows.{stays, learns, forgets, hands, queues, DealsWith, frame_deals}
-use Rattle.board_model.proofs.LaneTakes.{takes_keep}
+use Rattle.board_model.proofs.MessageAlls.{none-passes}
+use Rattle.board_model.proofs.ListsMapped.{map-changed_first}
+use Rattle.board_model.proofs.StateEnds.{there_is}
+use Rattle.board_model.proofs.LaneRows.{Deals, stays, learns, forgets, hands, queues, row-deals}
+use Rattle.board_model.proofs.VisitLooks.{after_looks, after_takes, visit-after, looks-keep}
 
 -- the serials of the requests that stand, in their order
 abbrev pub serials : DomainState → List ℕ
@@ -37,50 +38,72 @@ map-kept : {A B : Type 0} (g : A → B) (f : A → A) → ((x : A) → g (f x) �
 map-kept g f same [] = refl
 map-kept {A} {B} g f same (x ∷ xs) = ap₂ (λ (y : B) (ys : List B). y ∷ ys) (same x) (map-kept g f same xs)
 
-found_serial : (n : EndName) (address : ℕ) (r : Request) → (found_for n address r).serial ≡ r.serial
-found_serial n address r = go (looks_for n r)
-  where
-    go : (b : Bool) → (cond b (record r { outcome = Some (has_address address) }) r).serial ≡ r.serial
-    go true = refl
-    go false = refl
+-- no request is given or ended by what frames and looks do
+abbrev KeepsRequests : Change → Type 0
+KeepsRequests (request_added asked o) = ⊥
+KeepsRequests (request_gone place) = ⊥
+KeepsRequests other = Unit {0}
 
-ended_serial : (w : Refusal) (at : Local) (r : Request) → (ended_by_word w at r).serial ≡ r.serial
-ended_serial w at r = go (waits_at at r)
-  where
-    go : (b : Bool) → (cond b (record r { outcome = Some (has_ended w) }) r).serial ≡ r.serial
-    go true = refl
-    go false = refl
+done_serial : (b : Bool) (o : Outcome) (r : Request) → (cond b (done_with o r) r).serial ≡ r.serial
+done_serial true o r = refl
+done_serial false o r = refl
 
-created_serials : (s : DomainState) (peer : ℕ) (o : Option EndName) (address : ℕ) → serials (with_created s peer o address) ≡ serials s
-created_serials s peer None address = refl
-created_serials s peer (Some n) address = map-kept (λ r. r.serial) (found_for n address) (found_serial n address) s.requests
+handed_serials : (o : Option Endpoint) (i : Item) (rs : List Request) → map (λ r. r.serial) (handed_in o i rs) ≡ map (λ r. r.serial) rs
+handed_serials None i rs = refl
+handed_serials (Some e) i rs = map-changed_first (λ r. r.serial) (waits_at e.local) (done_with (has_item i)) (λ r. refl) rs
 
-destroyed_serials : (s : DomainState) (peer : ℕ) (o : Option EndName) → serials (with_destroyed s peer o) ≡ serials s
-destroyed_serials s peer None = refl
-destroyed_serials s peer (Some n) = refl
+ended_serials : (o : Option Endpoint) (w : Refusal) (rs : List Request) → map (λ r. r.serial) (ended_in o w rs) ≡ map (λ r. r.serial) rs
+ended_serials None w rs = refl
+ended_serials (Some e) w rs = map-kept (λ r. r.serial) (λ r. cond (waits_at e.local r) (done_with (has_ended w) r) r) (λ r. done_serial (waits_at e.local r) (has_ended w) r) rs
 
--- no frame gives or ends a request
-frame_serials : (s : DomainState) (peer : ℕ) (frame : List ℕ) → serials (after_frame s peer frame) ≡ serials s
-frame_serials s peer frame = go (word_of (row_for s peer frame)) (after_frame s peer frame) (frame_deals s peer frame)
-  where
-    go : (w : Fate) (after : DomainState) → DealsWith s peer frame w after → serials after ≡ serials s
-    go w after (stays is gives) = ap serials is
-    go w after (learns is word) = ap serials is ∙ created_serials s peer (announced_name peer frame) (announced_address frame)
-    go w after (forgets is word) = ap serials is ∙ destroyed_serials s peer (announced_name peer frame)
-    go w after (hands is word waits) = ap serials is ∙ map-changed (λ r. r.serial) (complete_with (item_of peer frame)) (λ r. refl) (place_waiting_for s (destination_of frame)) s.requests
-    go w after (queues is word there) = ap serials is
+found_serials : (n : EndName) (a : ℕ) (rs : List Request) → map (λ r. r.serial) (map (all_done (asks_for n) (has_address a)) rs) ≡ map (λ r. r.serial) rs
+found_serials n a rs = map-kept (λ r. r.serial) (all_done (asks_for n) (has_address a)) (λ r. done_serial (is_none r.outcome && asks_for n r.asked) (has_address a) r) rs
 
-takes_serials : (s : DomainState) (peer : ℕ) (ts : List Taken) → serials (after_takes s peer ts) ≡ serials s
-takes_serials s peer [] = refl
-takes_serials s peer (t ∷ ts) = takes_serials (after_frame s peer t.frame) peer ts ∙ frame_serials s peer t.frame
+change_serials : (s : DomainState) (c : Change) → KeepsRequests c → serials (changed s c) ≡ serials s
+change_serials s (item_handed a i) keeps = handed_serials (endpoint_of s a) i s.requests
+change_serials s (waiting_ended a w) keeps = ended_serials (endpoint_of s a) w s.requests
+change_serials s (name_found n a) keeps = found_serials n a s.requests
+change_serials s (request_added asked o) keeps = absurd keeps
+change_serials s (request_gone place) keeps = absurd keeps
+change_serials s other keeps = refl
+
+change_gives : (s : DomainState) (c : Change) → KeepsRequests c → (changed s c).requests_given ≡ s.requests_given
+change_gives s (request_added asked o) keeps = absurd keeps
+change_gives s other keeps = refl
+
+module _ {X : Type 0} (f : DomainState → X) (same : (s : DomainState) (c : Change) → KeepsRequests c → f (changed s c) ≡ f s) where
+  changes_same : (s : DomainState) (cs : List Change) → AllByRecursion KeepsRequests cs → f (changed_all s cs) ≡ f s
+  changes_same s [] keep = refl
+  changes_same s (c ∷ cs) keep = changes_same (changed s c) cs keep.1 ∙ same s c keep.0
+
+  row_same : (s t : DomainState) (peer : ℕ) (r : Row) → Deals s peer None r → f (changed_all t r.happens) ≡ f t
+  row_same s t peer r (stays is gives) = ap (λ cs. f (changed_all t cs)) is
+  row_same s t peer r (learns n a names is gives) = ap (λ cs. f (changed_all t cs)) is ∙ changes_same t (names_known peer names ∷ name_found n a ∷ []) (tt, (tt, tt))
+  row_same s t peer r (forgets names is gives) = ap (λ cs. f (changed_all t cs)) is ∙ changes_same t (names_known peer names ∷ []) (tt, tt)
+  row_same s t peer r (hands at source priority content e found waits is keeps) =
+      ap (λ cs. f (changed_all t cs)) is ∙ changes_same t (item_handed at (message_item peer None source priority content) ∷ []) (tt, tt)
+  row_same s t peer r (queues at source priority content e found is keeps) =
+      ap (λ cs. f (changed_all t cs)) is ∙ changes_same t (item_queued at (message_item peer None source priority content) ∷ []) (tt, tt)
+
+  takes_same : (s : DomainState) (peer : ℕ) (ts : List Taken) → f (after_takes s peer ts) ≡ f s
+  takes_same s peer [] = refl
+  takes_same s peer (t ∷ ts) =
+      takes_same (after_deed s (takes peer None t.frame t.fate)) peer ts
+      ∙ (row_same s (changed s (frame_taken peer)) peer (row_of s peer None (reading t.frame)) (row-deals s peer None (reading t.frame)) ∙ same s (frame_taken peer) tt)
+
+  turn_same : (s : DomainState) (vs : List Visit) → f (after_turn s vs) ≡ f s
+  turn_same s [] = refl
+  turn_same s (v ∷ vs) =
+      turn_same (after_visit s v) vs
+      ∙ (ap f (visit-after s v)
+      ∙ (takes_same (after_looks s v) v.peer v.takes
+      ∙ looks-keep f (λ t p n. same t (buffers_back p n) tt) (λ t p. same t (owed_put p) tt) (λ t p n. same t (frames_shown p n) tt) s v))
 
 pub turn_serials : (s : DomainState) (vs : List Visit) → serials (after_turn s vs) ≡ serials s
-turn_serials s [] = refl
-turn_serials s (v ∷ vs) = turn_serials (after_visit s v) vs ∙ takes_serials (after_looks s v) v.peer v.takes
+turn_serials s vs = turn_same serials change_serials s vs
 
 pub turn_gives : (s : DomainState) (vs : List Visit) → (after_turn s vs).requests_given ≡ s.requests_given
-turn_gives s [] = refl
-turn_gives s (v ∷ vs) = turn_gives (after_visit s v) vs ∙ takes_keep (λ t. t.requests_given) (after_looks s v) v.peer v.takes (λ t es rs ps. refl)
+turn_gives s vs = turn_same (λ t. t.requests_given) change_gives s vs
 
 -- ---- calls
 
@@ -102,46 +125,60 @@ map-without : {A B : Type 0} (f : A → B) (o : Option ℕ) (xs : List A) → ma
 map-without f None xs = refl
 map-without f (Some i) xs = map-without_at f i xs
 
-success_serials : (s : DomainState) (node : ℕ) (call : DomainCall) → serials (success_effect s node call) ≡ without (success_ended call) (serials s) ++ option_to_list (success_request s call)
-success_serials s node (create_at port) =
-    map-kept (λ r. r.serial) (found_for (end_name s.number (local node port)) (1024 + s.endpoints_given)) (found_serial (end_name s.number (local node port)) (1024 + s.endpoints_given)) s.requests ∙ sym (append-nil (serials s))
-success_serials s node (delete_at port) =
-    map-kept (λ r. r.serial) (ended_by_word EndpInvalid (local node port)) (ended_serial EndpInvalid (local node port)) s.requests ∙ sym (append-nil (serials s))
-success_serials s node (lookup_of name) = map-append (λ r. r.serial) s.requests _
-success_serials s node (send_from port to priority bytes) = sym (append-nil (serials s))
-success_serials s node (receive_at port max) = sym (append-nil (serials s))
-success_serials s node (request_at port max) = map-append (λ r. r.serial) s.requests _
-success_serials s node (available_at port) = sym (append-nil (serials s))
-success_serials s node (test_of p) = map-without (λ r. r.serial) p s.requests ∙ sym (append-nil (without p (serials s)))
-success_serials s node (cancel_of p) = map-without (λ r. r.serial) p s.requests ∙ sym (append-nil (without p (serials s)))
-success_serials s node turn_alone = sym (append-nil (serials s))
+live_same : {X : Type 0} (f : DomainState → X) (s : DomainState) (o : Option Endpoint) (cs : Endpoint → List Change) → ((e : Endpoint) → f (changed_all s (cs e)) ≡ f s) → f (changed_all s (at_live o cs)) ≡ f s
+live_same f s None cs same = refl
+live_same f s (Some e) cs same = same e
+
+-- a call on requests at an endpoint finds it
+module _ (s : DomainState) (node port max : ℕ) where
+  abbrev asks : Endpoint → List Change
+  asks e = best_gone e.address ∷ request_added (message_at e.local max) (option_map has_item (best_item e)) ∷ []
+
+  asked_at : refusal s node (request_at port max) ≡ None → (e : Endpoint) × (live_at s (local node port) ≡ Some e)
+  asked_at none = there_is s (local node port) (none-passes (holds s node (request_at port max)) (words_of (request_at port max)) none).0
+
+success_serials : (s : DomainState) (node : ℕ) (call : DomainCall) → refusal s node call ≡ None → serials (changed_all s (success_changes s node call)) ≡ without (success_ended call) (serials s) ++ option_to_list (success_request s call)
+success_serials s node (create_at port) none = found_serials (end_name s.number (local node port)) (1024 + s.endpoints_given) s.requests ∙ sym (append-nil (serials s))
+success_serials s node (delete_at port) none =
+    live_same serials s (live_at s (local node port)) (λ e. waiting_ended e.address EndpInvalid ∷ endpoint_gone e.address ∷ end_announced (record { local = e.local; address = e.address; create = false }) ∷ [])
+    (λ e. ended_serials (endpoint_of s e.address) EndpInvalid s.requests) ∙ sym (append-nil (serials s))
+success_serials s node (lookup_of name) none = map-append (λ r. r.serial) s.requests _
+success_serials s node (send_from port to priority bytes) none = sym (append-nil (serials s))
+success_serials s node (receive_at port max) none = live_same serials s (live_at s (local node port)) (λ e. best_gone e.address ∷ []) (λ e. refl) ∙ sym (append-nil (serials s))
+success_serials s node (request_at port max) none =
+    ap (λ o. serials (changed_all s (at_live o (asks s node port max)))) (asked_at s node port max none).1 ∙ map-append (λ r. r.serial) s.requests _
+success_serials s node (available_at port) none = sym (append-nil (serials s))
+success_serials s node (test_of p) none = map-without (λ r. r.serial) p s.requests ∙ sym (append-nil (without p (serials s)))
+success_serials s node (cancel_of p) none = map-without (λ r. r.serial) p s.requests ∙ sym (append-nil (without p (serials s)))
+success_serials s node turn_alone none = sym (append-nil (serials s))
 
 -- the request that a call ends is gone, and one that it gives comes last
 pub call_serials : (s : DomainState) (node : ℕ) (call : DomainCall) → serials (effect s node call) ≡ without (request_ended s node call) (serials s) ++ option_to_list (request_given s node call)
-call_serials s node call = go (refusal s node call)
+call_serials s node call = go (refusal s node call) refl
   where
-    go : (o : Option Refusal) → serials (unless_refused o s (success_effect s node call)) ≡ without (unless_refused o None (success_ended call)) (serials s) ++ option_to_list (unless_refused o None (success_request s call))
-    go (Some w) = sym (append-nil (serials s))
-    go None = success_serials s node call
+    go : (o : Option Refusal) → refusal s node call ≡ o → serials (changed_all s (unless_refused o [] (success_changes s node call))) ≡ without (unless_refused o None (success_ended call)) (serials s) ++ option_to_list (unless_refused o None (success_request s call))
+    go (Some w) is = sym (append-nil (serials s))
+    go None is = success_serials s node call is
 
-success_gives : (s : DomainState) (node : ℕ) (call : DomainCall) → s.requests_given + 1 < 2 ^ 64 → (success_effect s node call).requests_given ≡ s.requests_given + length (option_to_list (success_request s call))
-success_gives s node (create_at port) small = omega arith
-success_gives s node (delete_at port) small = omega arith
-success_gives s node (lookup_of name) small = mod-eq_of_lt small
-success_gives s node (send_from port to priority bytes) small = omega arith
-success_gives s node (receive_at port max) small = omega arith
-success_gives s node (request_at port max) small = mod-eq_of_lt small
-success_gives s node (available_at port) small = omega arith
-success_gives s node (test_of p) small = omega arith
-success_gives s node (cancel_of p) small = omega arith
-success_gives s node turn_alone small = omega arith
+success_gives : (s : DomainState) (node : ℕ) (call : DomainCall) → refusal s node call ≡ None → s.requests_given + 1 < 2 ^ 64 → (changed_all s (success_changes s node call)).requests_given ≡ s.requests_given + length (option_to_list (success_request s call))
+success_gives s node (create_at port) none small = omega arith
+success_gives s node (delete_at port) none small =
+    omega (arith, live_same (λ t. t.requests_given) s (live_at s (local node port)) (λ e. waiting_ended e.address EndpInvalid ∷ endpoint_gone e.address ∷ end_announced (record { local = e.local; address = e.address; create = false }) ∷ []) (λ e. refl))
+success_gives s node (lookup_of name) none small = mod-eq_of_lt small
+success_gives s node (send_from port to priority bytes) none small = omega arith
+success_gives s node (receive_at port max) none small = omega (arith, live_same (λ t. t.requests_given) s (live_at s (local node port)) (λ e. best_gone e.address ∷ []) (λ e. refl))
+success_gives s node (request_at port max) none small = ap (λ o. (changed_all s (at_live o (asks s node port max))).requests_given) (asked_at s node port max none).1 ∙ mod-eq_of_lt small
+success_gives s node (available_at port) none small = omega arith
+success_gives s node (test_of p) none small = omega arith
+success_gives s node (cancel_of p) none small = omega arith
+success_gives s node turn_alone none small = omega arith
 
 pub call_gives : (s : DomainState) (node : ℕ) (call : DomainCall) → s.requests_given + 1 < 2 ^ 64 → (effect s node call).requests_given ≡ s.requests_given + length (option_to_list (request_given s node call))
-call_gives s node call small = go (refusal s node call)
+call_gives s node call small = go (refusal s node call) refl
   where
-    go : (o : Option Refusal) → (unless_refused o s (success_effect s node call)).requests_given ≡ s.requests_given + length (option_to_list (unless_refused o None (success_request s call)))
-    go (Some w) = omega arith
-    go None = success_gives s node call small
+    go : (o : Option Refusal) → refusal s node call ≡ o → (changed_all s (unless_refused o [] (success_changes s node call))).requests_given ≡ s.requests_given + length (option_to_list (unless_refused o None (success_request s call)))
+    go (Some w) is = omega arith
+    go None is = success_gives s node call is small
 
 -- the serial that is given is the number of requests that were given before
 success_is : (s : DomainState) (call : DomainCall) (m : ℕ) → success_request s call ≡ Some m → m ≡ s.requests_given

@@ -4,13 +4,14 @@ use Rattle.std.specs.Prelude.{◌==◌, unwrap_or}
 use Rattle.board_model.specs.State.{DomainState, Item, is_from, free_to, held_from}
 use Rattle.board_model.specs.DomainCall.{DomainCall}
 use Rattle.board_model.specs.Answer.{puts}
-use Rattle.board_model.specs.Effect.{effect, returns}
+use Rattle.board_model.specs.CallChanges.{effect, returned}
 use Rattle.board_model.specs.Loads.{Load, with_frames, with_returned, loads_put, loads_given}
 use Rattle.board_model.specs.SerialRun.{loads_with_puts}
 use Rattle.board_model.proofs.ListsCounts.{one_if, count-cons}
 use Rattle.board_model.proofs.LaneSends.{goes_to, call_frees}
+use Rattle.board_model.proofs.StateEnds.{Ends}
 use Rattle.board_model.proofs.LaneRuns.{call_holds}
-use Rattle.board_model.proofs.WholePeers.{size_at, shown_at, call_read}
+use Rattle.board_model.proofs.WholePeers.{size_at, shown_at, call_size, call_shown}
 use Rattle.board_model.proofs.WholeLoads.{load_on, load_ends, loaded-map, loaded-with}
 use Rattle.board_model.proofs.WholeLanes.{Book, LaneOk, placed, placed_same, eqb_turn}
 
@@ -83,18 +84,18 @@ places_by true y size free held new_free new_held n g frames returned more e f h
 places_by false y size free held new_free new_held n g frames returned more e f h k = omega (arith, e, f, h, k, length-append frames [])
 
 -- a lane, after a call
-pub call_lane : (states : ℕ → DomainState) (d : ℕ) (s : DomainState) (node : ℕ) (call : DomainCall) (loads : List Load) (size a b : ℕ) (k : Book) → LaneOk size a b (placed states d s a) (placed states d s b) k loads → LaneOk size a b (placed states d (effect s node call) a) (placed states d (effect s node call) b) (called_book d (puts s node call) (returns s node call) a b k) (loads_given d (returns s node call) (loads_with_puts d (puts s node call) loads))
-call_lane states d s node call loads size a b k h =
+pub call_lane : (states : ℕ → DomainState) (d : ℕ) (s : DomainState) → Ends s → (node : ℕ) (call : DomainCall) (loads : List Load) (size a b : ℕ) (k : Book) → LaneOk size a b (placed states d s a) (placed states d s b) k loads → LaneOk size a b (placed states d (effect s node call) a) (placed states d (effect s node call) b) (called_book d (puts s node call) (returned s node call) a b k) (loads_given d (returned s node call) (loads_with_puts d (puts s node call) loads))
+call_lane states d s ends node call loads size a b k h =
     let t = effect s node call in
     let ps = puts s node call in
-    let items = returns s node call in
+    let items = returned s node call in
     let frames = h.load.frames ++ cond (a == d) (frames_for b ps) [] in
     let more = record h.load { frames = frames } in
     let shown : shown_at (placed states d t b) a ≡ shown_at (placed states d s b) a =
-    placed_same (λ x. shown_at x a) states d s t b (ap (λ (o : Option ℕ). unwrap_or o 0) (call_read (λ p. p.shown) (λ p told. refl) (λ p. refl) s node call a)) in
+    placed_same (λ x. shown_at x a) states d s t b (call_shown s node a call) in
     record {
-      sized_out = placed_same (λ x. size_at x b) states d s t a (call_read (λ p. p.size) (λ p told. refl) (λ p. refl) s node call b) ∙ h.sized_out;
-      sized_in = placed_same (λ x. size_at x a) states d s t b (call_read (λ p. p.size) (λ p told. refl) (λ p. refl) s node call a) ∙ h.sized_in;
+      sized_out = placed_same (λ x. size_at x b) states d s t a (call_size s node call b) ∙ h.sized_out;
+      sized_in = placed_same (λ x. size_at x a) states d s t b (call_size s node call a) ∙ h.sized_in;
       load = record more { returned = h.load.returned + cond (b == d) (count_by (is_from a) items) 0 };
       loaded = loaded-given d items (loads_with_puts d ps loads) a b more (loaded-puts d ps loads a b h.load h.loaded);
       front = sym (append_assoc k.taken h.load.frames (cond (a == d) (frames_for b ps) [])) ∙ ap (λ xs. xs ++ cond (a == d) (frames_for b ps) []) h.front;
@@ -109,6 +110,6 @@ call_lane states d s node call loads size a b k h =
     freed true = call_frees s b node call
     freed false = omega arith
 
-    held : (y : Bool) → held_from a (cond y (effect s node call) (states b)) + cond y (count_by (is_from a) (returns s node call)) 0 ≡ held_from a (cond y s (states b))
-    held true = call_holds a s node call
+    held : (y : Bool) → held_from a (cond y (effect s node call) (states b)) + cond y (count_by (is_from a) (returned s node call)) 0 ≡ held_from a (cond y s (states b))
+    held true = call_holds a s ends node call
     held false = omega arith

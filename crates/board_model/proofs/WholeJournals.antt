@@ -8,7 +8,7 @@ use Rattle.board_model.specs.declared.scenario.CallLine.{CallLine}
 use Rattle.board_model.specs.Journal.{PlainEntry, turned, put, again, called, PlainAnswer, Visit, Taken}
 use Rattle.board_model.specs.State.{is_from}
 use Rattle.board_model.specs.Answer.{answer, puts}
-use Rattle.board_model.specs.Effect.{effect, returns}
+use Rattle.board_model.specs.CallChanges.{effect, returned}
 use Rattle.board_model.specs.Labels.{labels_after}
 use Rattle.board_model.specs.Step.{RunState, Allowed, next_line, call_at, tries_again, effect_of_line, labels_of_line, after}
 use Rattle.board_model.specs.Run.{Leads, after_all}
@@ -102,7 +102,7 @@ sees_call n total t (p ∷ ps) k a = sees_call n total t ps k a
 abbrev pub with_puts : RunState → List (ℕ × List ℕ) → RunState
 with_puts r ps = record r { put_since_turn = Some ps }
 
-pub given_call : (script : List CallLine) (r : RunState) (n : ℕ) (acc ps : List (ℕ × List ℕ)) (k : ℕ) (a : PlainAnswer) (line : CallLine) → next_line script r ≡ Some line → given script (with_puts r acc) n (call_entries ps k a) ≡ count_by (is_from n) (returns r.state line.node (call_at r line))
+pub given_call : (script : List CallLine) (r : RunState) (n : ℕ) (acc ps : List (ℕ × List ℕ)) (k : ℕ) (a : PlainAnswer) (line : CallLine) → next_line script r ≡ Some line → given script (with_puts r acc) n (call_entries ps k a) ≡ count_by (is_from n) (returned r.state line.node (call_at r line))
 given_call script r n acc [] k a line here = omega (arith, ap (λ o. count_by (is_from n) (returned_by o (with_puts r acc))) here)
 given_call script r n acc (p ∷ ps) k a line here = omega (arith, given_call script r n (acc ++ p ∷ []) ps k a line here)
 

@@ -5,9 +5,9 @@ use Rattle.std.specs.Prelude.{◌==◌, unwrap_or}
 use Rattle.std.proofs.lemmas.Bool.Decides.{eqb_tells}
 use Rattle.board_model.specs.Journal.{Visit}
 use Rattle.board_model.specs.State.{DomainState, Peer, peer_of, free_to, held_from}
-use Rattle.board_model.specs.Turn.{looked_at, after_looks}
 use Rattle.board_model.specs.Loads.{Load, frames_in, returned_in, frames_on, returned_on, with_load, with_frames, all_back}
 use Rattle.board_model.proofs.WholeFinds.{some_tells}
+use Rattle.board_model.proofs.VisitLooks.{after_looks, looked, looked-free, looks-keep}
 use Rattle.board_model.proofs.WholePeers.{size_at, shown_at, looks_size, looks_other, looks_own}
 use Rattle.board_model.proofs.WholeLoads.{load_on, loaded-with}
 
@@ -66,14 +66,14 @@ refilled owed l = with_frames owed (all_back l)
 pub record LooksFit (d : ℕ) (s : DomainState) (v : Visit) (loads : List Load) : Type 0 where
   pub room : length v.owed ≤ free_to s v.peer + v.back
   pub back : v.back ≡ returned_on loads d v.peer
-  pub left : v.see - length v.takes ≤ length (frames_on (with_load d v.peer (refilled v.owed) loads) v.peer d)
+  pub left : v.see ≤ length (frames_on (with_load d v.peer (refilled v.owed) loads) v.peer d)
 
 free_own : (s : DomainState) (v : Visit) (n size : ℕ) → v.peer ≡ n → size_at s n ≡ Some size → length v.owed ≤ free_to s v.peer + v.back → free_to (after_looks s v) n + length v.owed ≡ free_to s n + v.back
 free_own s v n size same sized room =
     let t = some_tells (λ p. p.size) (peer_of s n) size sized in
     let old : free_to s n ≡ t.0.free = ap (λ (o : Option Peer). unwrap_or (option_map (λ p. p.free) o) 0) t.1 in
     let new : free_to (after_looks s v) n ≡ t.0.free + v.back - length v.owed =
-    ap (λ (o : Option Peer). unwrap_or (option_map (λ p. p.free) o) 0) (looks_own s v n same ∙ ap (option_map (looked_at v)) t.1) in
+    ap (λ (o : Option Peer). unwrap_or (option_map (λ p. p.free) o) 0) (looks_own s v n same ∙ ap (option_map (looked v)) t.1) ∙ looked-free v t.0 in
     omega (arith, room, old, new, ap (free_to s) same)
 
 free_by : (states : ℕ → DomainState) (d : ℕ) (s : DomainState) (v : Visit) (size a b : ℕ) → size_at (placed states d s a) b ≡ Some size → length v.owed ≤ free_to s v.peer + v.back → (x y : Bool) → (a == d) ≡ x → (b == v.peer) ≡ y → free_to (placed states d (after_looks s v) a) b + cond (x && y) (length v.owed) 0 ≡ free_to (placed states d s a) b + cond (x && y) v.back 0
@@ -94,10 +94,10 @@ free_by states d s v size a b sized room true false is_d differs =
 free_by states d s v size a b sized room false y differs e =
     omega (arith, ap (λ t. free_to t b) (placed-other states d s a differs), ap (λ t. free_to t b) (placed-other states d (after_looks s v) a differs))
 
-pub shown_own : (s : DomainState) (v : Visit) (n size : ℕ) → v.peer ≡ n → size_at s n ≡ Some size → shown_at (after_looks s v) n ≡ v.see - length v.takes
+pub shown_own : (s : DomainState) (v : Visit) (n size : ℕ) → v.peer ≡ n → size_at s n ≡ Some size → shown_at (after_looks s v) n ≡ v.see
 shown_own s v n size same sized =
     let t = some_tells (λ p. p.size) (peer_of s n) size sized in
-    ap (λ (o : Option Peer). unwrap_or (option_map (λ p. p.shown) o) 0) (looks_own s v n same ∙ ap (option_map (looked_at v)) t.1)
+    ap (λ (o : Option Peer). unwrap_or (option_map (λ p. p.shown) o) 0) (looks_own s v n same ∙ ap (option_map (looked v)) t.1)
 
 refilled_longer : (sends : Bool) (owed : List (List ℕ)) (l : Load) → length l.frames ≤ length (cond sends (refilled owed l) l).frames
 refilled_longer true owed l = omega (arith, length-append l.frames owed)
@@ -157,7 +157,7 @@ looks_lane states d s v loads fit size a b k h =
             arith,
             places_by sends size (free_to (placed states d s a) b) (free_to (placed states d (after_looks s v) a) b) (held_from a (placed states d s b)) v.back v.owed h.load h.places
                 (free_by states d s v size a b h.sized_out fit.room (a == d) (b == v.peer) refl refl) all,
-            placed_same (held_from a) states d s (after_looks s v) b refl,
+            placed_same (held_from a) states d s (after_looks s v) b (looks-keep (held_from a) (λ t p k. refl) (λ t p. refl) (λ t p k. refl) s v),
           );
       within =
           shown_by states d s v loads size a b (cond sends (refilled v.owed h.load) h.load) h.sized_in fit loaded (omega (arith, h.within, refilled_longer sends v.owed h.load));

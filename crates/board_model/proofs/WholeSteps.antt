@@ -9,14 +9,15 @@ use Rattle.board_model.specs.declared.scenario.Scenario.{Scenario}
 use Rattle.board_model.specs.Scenario.{script}
 use Rattle.board_model.specs.Journal.{turned, again, called, PlainAnswer, refuses, agrees, tells, gives, completes, Visit}
 use Rattle.board_model.specs.Answer.{answer, puts}
-use Rattle.board_model.specs.Effect.{returns}
+use Rattle.board_model.specs.CallChanges.{call_changes, returned}
 use Rattle.board_model.specs.Step.{HasNoPuts, next_line, call_at, is_tried, may_try, tries_again, after}
 use Rattle.board_model.specs.Run.{start, Leads, after_all}
 use Rattle.board_model.specs.Traffic.{puts_in, takes_in, given, backs_in}
 use Rattle.board_model.specs.Loads.{turn_of, loads_turned, loads_given}
 use Rattle.board_model.specs.SerialRun.{Station, Running, with_entry, turned_by, turned_once, loads_with_puts, word_in, is_tried_at, called_by}
 use Rattle.board_model.proofs.ListsCounts.{one_if}
-use Rattle.board_model.proofs.LaneCalls.{call_keeps}
+use Rattle.board_model.proofs.DeedJoins.{changes-keep}
+use Rattle.board_model.proofs.LaneRuns.{ends-leads}
 use Rattle.board_model.proofs.WholePeers.{numbers, call_numbers}
 use Rattle.board_model.proofs.WholeLanes.{Book, placed}
 use Rattle.board_model.proofs.WholeTakes.{frames_of}
@@ -143,7 +144,7 @@ again_goes s counts k r line t h e here fresh tried may =
     (λ a size j. tt)
 
 call_adds : (s : Scenario) (d : ℕ) (t : Station) (line : CallLine) (k : ℕ) (x : PlainAnswer) (a b : ℕ) (book : Book) → next_line (script s t.line.domain) t.run ≡ Some line → t.run ≡ with_puts t.run [] →
-    (let ps = puts t.run.state line.node (call_at t.run line) in Adds s d t (call_entries ps k x) a b book (called_book d ps (returns t.run.state line.node (call_at t.run line)) a b book))
+    (let ps = puts t.run.state line.node (call_at t.run line) in Adds s d t (call_entries ps k x) a b book (called_book d ps (returned t.run.state line.node (call_at t.run line)) a b book))
 call_adds s d t line k x a b book next run =
     let ps = puts t.run.state line.node (call_at t.run line) in
     let sc = script s t.line.domain in
@@ -166,7 +167,7 @@ call_goes s counts k r line t h e here fresh last =
     let st = t.run.state in
     let call = call_at t.run line in
     let ps = puts st line.node call in
-    let items = returns st line.node call in
+    let items = returned st line.node call in
     let x = answer st line.node call in
     let es = call_entries ps (t.run.lines_called + 1) x in
     let next = next_of s counts (made_of d k) r line t h e here in
@@ -179,13 +180,13 @@ call_goes s counts k r line t h e here fresh last =
       no_puts = subst (λ y. HasNoPuts y.put_since_turn) (sym new_run) tt;
       lines = ap (λ y. y.lines_called) new_run ∙ omega (arith, ok.lines, ap one_if (eq-eqb d d refl));
       calls = ap (λ y. y.calls_made) new_run;
-      number = ap (λ y. y.state.number) new_run ∙ call_keeps (λ y. y.number) st line.node call (λ y peers ends gone n rs m. refl) ∙ ok.number;
+      number = ap (λ y. y.state.number) new_run ∙ changes-keep (λ y. y.number) (λ y c. refl) st (call_changes st line.node call) ∙ ok.number;
       peers = subst (AllByRecursion (λ p. (size : ℕ) × Joined s d p size)) (sym (ap (λ y. numbers y.state) new_run ∙ call_numbers st line.node call)) ok.peers;
     } in
     let old = lanes_placed s counts (made_of d k) r d t h e in
     goes_on s (Joined s) counts (made_of d k) (one_more counts d) (λ n. 0) r d t es (loads_given d items (loads_with_puts d ps r.loads)) (λ a b. called_book d ps items a b (book_of s r a b)) h e new
     (λ n differ. (omega (arith, ap one_if (ne_eqb n d differ)), sym (made_other d k n differ)))
     (subst (λ y. AllOk (Joined s) (placed (states_of r) d y) (λ a b. called_book d ps items a b (book_of s r a b)) (loads_given d items (loads_with_puts d ps r.loads))) (sym (ap (λ y. y.state) new_run))
-    (λ a b size j. call_lane (states_of r) d st line.node call r.loads size a b (book_of s r a b) (old a b size j)))
+    (λ a b size j. call_lane (states_of r) d st (ends-leads sc (start s t.line) t.run t.entries ok.leads (record { apart = tt; below = tt })) line.node call r.loads size a b (book_of s r a b) (old a b size j)))
     (λ a b. call_adds s d t line (t.run.lines_called + 1) x a b (book_of s r a b) next run)
     (λ a size j. sees_call a (length (called_book d ps items a d (book_of s r a d)).puts) (length (book_of s r a d).taken) ps (t.run.lines_called + 1) x)

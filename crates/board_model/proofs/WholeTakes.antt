@@ -1,14 +1,15 @@
 -- A lane of a board that runs, after a domain took frames from a peer.
-use Rattle.std.proofs.Common.{◌≡◌, ℕ, ◌+◌, ◌≤◌, Bool, true, false, ◌&&◌, cond, List, [], ◌++◌, length, map, take, drop, Option, refl, sym, ap, ◌∙◌, arith, append_assoc, append-nil, take-append-drop, length-drop, eqb-true}
+use Rattle.std.proofs.Common.{◌≡◌, ℕ, ◌+◌, ◌-◌, ◌≤◌, Bool, true, false, ◌&&◌, cond, List, [], ◌++◌, length, map, take, drop, Option, refl, sym, ap, ◌∙◌, arith, append_assoc, append-nil, take-append-drop, length-drop, length-take, eqb-true, ap₂}
 use Rattle.std.specs.Prelude.{◌==◌, unwrap_or}
 use Rattle.std.proofs.lemmas.Bool.{and_parts}
+use Rattle.std.proofs.lemmas.List.{length-map}
 use Rattle.board_model.specs.Journal.{Taken}
 use Rattle.board_model.specs.State.{DomainState, is_from, free_to, held_from}
-use Rattle.board_model.specs.Dealing.{after_takes, HaveWords}
 use Rattle.board_model.specs.Serial.{returned_at_once}
 use Rattle.board_model.specs.Loads.{Load, frames_in, frames_on, with_load, with_returned, with_taken}
+use Rattle.board_model.proofs.VisitLooks.{after_takes, HaveWords}
 use Rattle.board_model.proofs.LaneTakes.{takes_count, takes_none}
-use Rattle.board_model.proofs.WholePeers.{size_at, shown_at, takes_read}
+use Rattle.board_model.proofs.WholePeers.{size_at, shown_at, takes_size, takes_free, takes_shown}
 use Rattle.board_model.proofs.WholeLoads.{loaded-with}
 use Rattle.board_model.proofs.WholeLanes.{Book, LaneOk, placed, placed-own, placed-other, placed_same, eqb_turn}
 
@@ -26,13 +27,13 @@ emptied ts l = with_returned (returned_at_once ts) (with_taken (length ts) l)
 pub record TakesFit (d : ℕ) (s : DomainState) (peer : ℕ) (ts : List Taken) (loads : List Load) : Type 0 where
   pub words : HaveWords s peer ts
   pub first : frames_of ts ≡ take (length ts) (frames_on loads peer d)
-  pub shown : shown_at s peer + length ts ≤ length (frames_on loads peer d)
+  pub shown : shown_at s peer ≤ length (frames_on loads peer d)
 
 held_by : (states : ℕ → DomainState) (d : ℕ) (s : DomainState) (peer : ℕ) (ts : List Taken) → HaveWords s peer ts → (a b : ℕ) (x y : Bool) → (a == peer) ≡ x → (b == d) ≡ y → held_from a (placed states d (after_takes s peer ts) b) + cond (x && y) (returned_at_once ts) 0 ≡ held_from a (placed states d s b) + cond (x && y) (length ts) 0
 held_by states d s peer ts words a b true true is_peer is_d =
-    omega (arith, ap (held_from a) (placed-own states d s b is_d), ap (held_from a) (placed-own states d (after_takes s peer ts) b is_d), takes_count (is_from a) s peer (λ f. eqb_turn a peer true is_peer) ts words)
+    omega (arith, ap (held_from a) (placed-own states d s b is_d), ap (held_from a) (placed-own states d (after_takes s peer ts) b is_d), takes_count (is_from a) s peer (λ source priority content. eqb_turn a peer true is_peer) ts words)
 held_by states d s peer ts words a b false true differs is_d =
-    omega (arith, ap (held_from a) (placed-own states d s b is_d), ap (held_from a) (placed-own states d (after_takes s peer ts) b is_d), takes_none (is_from a) s peer (λ f. eqb_turn a peer false differs) ts words)
+    omega (arith, ap (held_from a) (placed-own states d s b is_d), ap (held_from a) (placed-own states d (after_takes s peer ts) b is_d), takes_none (is_from a) s peer (λ source priority content. eqb_turn a peer false differs) ts words)
 held_by states d s peer ts words a b true false is_peer differs =
     omega (arith, ap (held_from a) (placed-other states d s b differs), ap (held_from a) (placed-other states d (after_takes s peer ts) b differs))
 held_by states d s peer ts words a b false false differs other =
@@ -53,9 +54,9 @@ places_by : (takes : Bool) (size free held new : ℕ) (ts : List Taken) (l : Loa
 places_by true size free held new ts l e f fits = omega (arith, e, f, fits refl, length-drop (length ts) l.frames)
 places_by false size free held new ts l e f fits = omega (arith, e, f)
 
-within_by : (takes : Bool) (shown : ℕ) (ts : List Taken) (l : Load) → shown ≤ length l.frames → (takes ≡ true → shown + length ts ≤ length l.frames) → shown ≤ length (cond takes (emptied ts l) l).frames
-within_by true shown ts l e fits = omega (arith, fits refl, length-drop (length ts) l.frames)
-within_by false shown ts l e fits = e
+within_by : (takes : Bool) (shown : ℕ) (ts : List Taken) (l : Load) → shown ≤ length l.frames → shown - cond takes (length ts) 0 ≤ length (cond takes (emptied ts l) l).frames
+within_by true shown ts l e = omega (arith, e, length-drop (length ts) l.frames)
+within_by false shown ts l e = omega (arith, e)
 
 -- a lane, after a domain took frames from a peer
 pub takes_lane : (states : ℕ → DomainState) (d : ℕ) (s : DomainState) (peer : ℕ) (ts : List Taken) (loads : List Load) → TakesFit d s peer ts loads → (size a b : ℕ) (k : Book) → LaneOk size a b (placed states d s a) (placed states d s b) k loads → LaneOk size a b (placed states d (after_takes s peer ts) a) (placed states d (after_takes s peer ts) b) (taken_book ((a == peer) && (b == d)) ts k) (with_load peer d (emptied ts) loads)
@@ -65,13 +66,9 @@ takes_lane states d s peer ts loads fit size a b k h =
     let lane : takes ≡ true → frames_on loads peer d ≡ h.load.frames = λ e.
     let ends = and_parts (a == peer) (b == d) e in
     ap (λ (n : ℕ). frames_on loads n d) (sym (eqb-true a peer ends.0)) ∙ ap (λ (n : ℕ). frames_on loads a n) (sym (eqb-true b d ends.1)) ∙ ap frames_in h.loaded in
-    let shown : takes ≡ true → shown_at (placed states d t b) a + length ts ≤ length h.load.frames = λ e.
-    let ends = and_parts (a == peer) (b == d) e in
-    let state : shown_at (placed states d t b) a ≡ shown_at t peer = ap (λ x. shown_at x a) (placed-own states d t b ends.1) ∙ ap (shown_at t) (eqb-true a peer ends.0) in
-    omega (arith, state, shown_same s peer ts peer, fit.shown, ap length (lane e)) in
     record {
-      sized_out = placed_same (λ x. size_at x b) states d s t a (takes_read (λ p. p.size) (λ names p. refl) s peer ts b) ∙ h.sized_out;
-      sized_in = placed_same (λ x. size_at x a) states d s t b (takes_read (λ p. p.size) (λ names p. refl) s peer ts a) ∙ h.sized_in;
+      sized_out = placed_same (λ x. size_at x b) states d s t a (takes_size s peer ts b) ∙ h.sized_out;
+      sized_in = placed_same (λ x. size_at x a) states d s t b (takes_size s peer ts a) ∙ h.sized_in;
       load = cond takes (emptied ts h.load) h.load;
       loaded = loaded-with (emptied ts) (record { sender = λ l. refl; receiver = λ l. refl }) loads peer d a b h.load h.loaded;
       front = front_by takes k.taken k.puts ts h.load h.front (λ e. fit.first ∙ ap (take (length ts)) (lane e));
@@ -80,16 +77,32 @@ takes_lane states d s peer ts loads fit size a b k h =
           omega (
             arith,
             places_by takes size (free_to (placed states d s a) b) (held_from a (placed states d s b)) (held_from a (placed states d t b)) ts h.load h.places
-                (held_by states d s peer ts fit.words a b (a == peer) (b == d) refl refl) (λ e. let more = shown e in omega (arith, more)),
-            placed_same (λ x. free_to x b) states d s t a (free_same s peer ts b),
+                (held_by states d s peer ts fit.words a b (a == peer) (b == d) refl refl) (λ e. omega (arith, few, ap length (lane e))),
+            placed_same (λ x. free_to x b) states d s t a (takes_free s peer ts b),
           );
-      within =
-          within_by takes (shown_at (placed states d t b) a) ts h.load
-          (omega (arith, h.within, placed_same (λ x. shown_at x a) states d s t b (shown_same s peer ts a))) shown;
+      within = omega (arith, within_by takes (shown_at (placed states d s b) a) ts h.load h.within, shown_by (b == d) (a == peer) refl refl);
     }
   where
-    free_same : (s : DomainState) (peer : ℕ) (ts : List Taken) (n : ℕ) → free_to (after_takes s peer ts) n ≡ free_to s n
-    free_same s peer ts n = ap (λ (o : Option ℕ). unwrap_or o 0) (takes_read (λ p. p.free) (λ names p. refl) s peer ts n)
+    few : length ts ≤ length (frames_on loads peer d)
+    few = omega (arith, ap length fit.first, length-take (length ts) (frames_on loads peer d), sym (length-map ts (λ t. t.frame)))
 
-    shown_same : (s : DomainState) (peer : ℕ) (ts : List Taken) (n : ℕ) → shown_at (after_takes s peer ts) n ≡ shown_at s n
-    shown_same s peer ts n = ap (λ (o : Option ℕ). unwrap_or o 0) (takes_read (λ p. p.shown) (λ names p. refl) s peer ts n)
+    shown_by : (x y : Bool) → (b == d) ≡ x → (a == peer) ≡ y → shown_at (placed states d (after_takes s peer ts) b) a ≡ shown_at (placed states d s b) a - cond ((a == peer) && (b == d)) (length ts) 0
+    shown_by true y is_d is_peer =
+        omega (
+          arith,
+          ap (λ u. shown_at u a) (placed-own states d (after_takes s peer ts) b is_d),
+          ap (λ u. shown_at u a) (placed-own states d s b is_d),
+          takes_shown s peer ts a y (eqb_turn a peer y is_peer),
+          ap₂ (λ p q. cond (p && q) (length ts) 0) is_peer is_d,
+          both y,
+        )
+      where
+        both : (z : Bool) → cond (z && true) (length ts) 0 ≡ cond z (length ts) 0
+        both true = refl
+        both false = refl
+    shown_by false y differs is_peer =
+        omega (arith, ap (λ u. shown_at u a) (placed-other states d (after_takes s peer ts) b differs), ap (λ u. shown_at u a) (placed-other states d s b differs), ap₂ (λ p q. cond (p && q) (length ts) 0) is_peer differs, none y)
+      where
+        none : (z : Bool) → ◌≡◌ {A = ℕ} (cond (z && false) (length ts) 0) 0
+        none true = refl
+        none false = refl

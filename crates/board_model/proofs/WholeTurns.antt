@@ -8,14 +8,14 @@ use Rattle.std.proofs.lemmas.List.Sums.{sum_by-cons}
 use Rattle.board_model.specs.Journal.{Visit, Taken, turned}
 use Rattle.board_model.specs.State.{DomainState}
 use Rattle.board_model.specs.Dealing.{keeps_buffer}
-use Rattle.board_model.specs.Turn.{after_looks, after_visit, after_turn, AreVisits, IsTurn}
+use Rattle.board_model.specs.Turn.{nameless, visit_deeds, after_visit, after_turn, AreVisits, IsTurn}
 use Rattle.board_model.specs.Serial.{returned_at_once}
 use Rattle.board_model.specs.Loads.{Load, visit_to, loads_visited, visits_to_all, loads_after, turn_of}
 use Rattle.board_model.specs.Traffic.{visits_to, puts_in, takes_in, backs_in}
 use Rattle.board_model.specs.Board.{SeeAtMost}
 use Rattle.board_model.proofs.ListsCounts.{count-append}
-use Rattle.board_model.proofs.LaneTakes.{takes_keep}
-use Rattle.board_model.proofs.WholePeers.{numbers, looks_numbers, takes_numbers}
+use Rattle.board_model.proofs.DeedJoins.{deeds-keep, deeds-numbers}
+use Rattle.board_model.proofs.WholePeers.{numbers}
 use Rattle.board_model.proofs.WholeLanes.{Book, placed, eqb_turn}
 use Rattle.board_model.proofs.WholeTakes.{frames_of}
 use Rattle.board_model.proofs.WholeVisits.{AllOk, visited_book, visit_lanes}
@@ -113,7 +113,7 @@ pub record Turned (Joined : ℕ → ℕ → ℕ → Type 0) (states : ℕ → Do
   pub sees : (a total : ℕ) → length (turned_book d (visits_to_all s loads ps) a d (books a d)).puts ≤ total → SeeAtMost total (length (books a d).taken) (visits_to a (visits_to_all s loads ps))
 
 visit_number : (s : DomainState) (v : Visit) → (after_visit s v).number ≡ s.number
-visit_number s v = takes_keep (λ t. t.number) (after_looks s v) v.peer v.takes (λ t es rs ps. refl)
+visit_number s v = deeds-keep (λ t. t.number) (λ t c. refl) s (visit_deeds nameless v)
 
 taken_so : (d : ℕ) (v : Visit) (a : ℕ) (k : Book) (y : Bool) → (a == v.peer) ≡ y → length (visited_book d v a d k).taken ≡ length k.taken + cond y (length v.takes) 0
 taken_so d v a k true e =
@@ -165,4 +165,4 @@ turn_number s (v ∷ vs) = turn_number (after_visit s v) vs ∙ visit_number s v
 
 pub turn_numbers : (s : DomainState) (vs : List Visit) → numbers (after_turn s vs) ≡ numbers s
 turn_numbers s [] = refl
-turn_numbers s (v ∷ vs) = turn_numbers (after_visit s v) vs ∙ takes_numbers (after_looks s v) v.peer v.takes ∙ looks_numbers s v
+turn_numbers s (v ∷ vs) = turn_numbers (after_visit s v) vs ∙ deeds-numbers s (visit_deeds nameless v)

@@ -2,26 +2,18 @@
 use Rattle.std.proofs.Common.{◌≡◌, ℕ, ◌+◌, ◌-◌, ◌≤◌, min, ◌&&◌, List, length, map, take, drop, Option, Some, None, option_map, refl, sym, ap, ◌∙◌, subst, arith, length-take, length-append, eq-eqb}
 use Rattle.std.specs.Prelude.{◌==◌, unwrap_or}
 use Rattle.std.proofs.lemmas.List.{length-map}
-use Rattle.mc_base.specs.declared.fate.Fate.TheVariants.{State}
-use Rattle.board_model.specs.Lists.{changed}
-use Rattle.board_model.specs.Journal.{Visit, Taken, taken}
-use Rattle.board_model.specs.State.{DomainState, Peer, peer_of, free_to, held_from, owed_to, place_of_peer}
-use Rattle.board_model.specs.Dealing.{HaveWords}
-use Rattle.board_model.specs.Turn.{turn_limit, with_peers, after_looks, after_visit, IsVisit}
-use Rattle.board_model.specs.Serial.{due_to}
+use Rattle.board_model.specs.Journal.{Visit}
+use Rattle.board_model.specs.State.{DomainState, Peer, peer_of, free_to, held_from, owed_to}
+use Rattle.board_model.specs.Deeds.{after_deeds}
+use Rattle.board_model.specs.Turn.{turn_limit, after_visit, IsVisit}
+use Rattle.board_model.specs.Serial.{due_to, looks_deeds}
 use Rattle.board_model.specs.Loads.{Load, frames_in, returned_in, returned_on, frames_due, after_owed, frames_seen, visit_to, loads_visited}
+use Rattle.board_model.proofs.VisitLooks.{after_looks, HaveWords, visit-after, visit-may, looks-keep}
 use Rattle.board_model.proofs.SerialFrames.{dealt_words, length-dealt, frames-dealt}
 use Rattle.board_model.proofs.WholeFinds.{some_tells}
 use Rattle.board_model.proofs.WholePeers.{size_at, shown_at}
 use Rattle.board_model.proofs.WholeLanes.{Book, LaneOk, placed, placed-own, LooksFit, looked_book, looks_lane, shown_own, refilled_more}
 use Rattle.board_model.proofs.WholeTakes.{TakesFit, taken_book, takes_lane}
-
--- a look depends on how many frames are taken, and not on what becomes of them
-looks_by : (s : DomainState) (v : Visit) (ts us : List Taken) → length ts ≡ length us → after_looks s (record v { takes = ts }) ≡ after_looks s (record v { takes = us })
-looks_by s v ts us e = ap (λ k. with_peers s (changed (looked_by v k) (place_of_peer s v.peer) s.peers)) e
-  where
-    looked_by : Visit → ℕ → Peer → Peer
-    looked_by v k p = record p { free = p.free + v.back - length v.owed; shown = v.see - k; announcements = drop (length v.owed) p.announcements; replies = drop (length v.owed - length p.announcements) p.replies }
 
 -- ---- the visit
 
@@ -29,21 +21,16 @@ looks_by s v ts us e = ap (λ k. with_peers s (changed (looked_by v k) (place_of
 abbrev pub AllOk : (ℕ → ℕ → ℕ → Type 0) → (ℕ → DomainState) → (ℕ → ℕ → Book) → List Load → Type 0
 AllOk Joined states books loads = (a b size : ℕ) → Joined a b size → LaneOk size a b (states a) (states b) (books a b) loads
 
--- the frames that a visit takes, and the visit before they are dealt with
+-- the frames that a visit takes, and the state before they are dealt with
 abbrev first_seen : DomainState → List Load → ℕ → List (List ℕ)
 first_seen s loads p = take (min turn_limit (length (frames_seen s loads p))) (frames_seen s loads p)
 
-abbrev looks_to : DomainState → List Load → ℕ → Visit
-looks_to s loads p = record { peer = p; back = returned_on loads s.number p; owed = frames_due s loads p; see = length (frames_seen s loads p); takes = map (λ f. taken f State) (first_seen s loads p) }
+abbrev visit_looks : DomainState → List Load → ℕ → DomainState
+visit_looks s loads p = after_deeds s (looks_deeds p (returned_on loads s.number p) (frames_due s loads p) (length (frames_seen s loads p)))
 
 takes_many : (s : DomainState) (loads : List Load) (p : ℕ) → length (visit_to s loads p).takes ≡ min turn_limit (length (frames_seen s loads p))
 takes_many s loads p =
-    omega (arith, length-dealt (after_looks s (looks_to s loads p)) p (first_seen s loads p), length-take (min turn_limit (length (frames_seen s loads p))) (frames_seen s loads p))
-
-looks_same : (s : DomainState) (loads : List Load) (p : ℕ) → after_looks s (visit_to s loads p) ≡ after_looks s (looks_to s loads p)
-looks_same s loads p =
-    looks_by s (looks_to s loads p) (visit_to s loads p).takes (looks_to s loads p).takes
-    (length-dealt (after_looks s (looks_to s loads p)) p (first_seen s loads p) ∙ sym (length-map (first_seen s loads p) (λ f. taken f State)))
+    omega (arith, length-dealt (visit_looks s loads p) p (first_seen s loads p), length-take (min turn_limit (length (frames_seen s loads p))) (frames_seen s loads p))
 
 due_few : (domain : ℕ) (o : Option Peer) (back : ℕ) → length (due_to domain o back) ≤ unwrap_or (option_map (λ p. p.free) o) 0 + back
 due_few domain None back = omega arith
@@ -57,14 +44,14 @@ looks_fit s loads p = record {
 }
 
 visit_words : (s : DomainState) (loads : List Load) (p : ℕ) → HaveWords (after_looks s (visit_to s loads p)) p (visit_to s loads p).takes
-visit_words s loads p = subst (λ t. HaveWords t p (visit_to s loads p).takes) (sym (looks_same s loads p)) (dealt_words (after_looks s (looks_to s loads p)) p (first_seen s loads p))
+visit_words s loads p = dealt_words (visit_looks s loads p) p (first_seen s loads p)
 
 takes_fit : (s : DomainState) (loads : List Load) (p size : ℕ) → size_at s p ≡ Some size → TakesFit s.number (after_looks s (visit_to s loads p)) p (visit_to s loads p).takes (after_owed s loads p)
 takes_fit s loads p size sized = record {
   words = visit_words s loads p;
   first =
-      frames-dealt (after_looks s (looks_to s loads p)) p (first_seen s loads p) ∙ ap (λ (n : ℕ). take n (frames_seen s loads p)) (sym (takes_many s loads p));
-  shown = omega (arith, shown_own s (visit_to s loads p) p size refl sized, takes_many s loads p);
+      frames-dealt (visit_looks s loads p) p (first_seen s loads p) ∙ ap (λ (n : ℕ). take n (frames_seen s loads p)) (sym (takes_many s loads p));
+  shown = omega (arith, shown_own s (visit_to s loads p) p size refl sized);
 }
 
 -- what a visit adds to the book of a lane
@@ -101,11 +88,13 @@ visit_here Joined turn states s books loads p size joined h =
         back_fits = omega (arith, out.places, returned, free, t.2, ap (λ x. free_to x p) own);
         puts_due = ap (λ o. due_to d o v.back) t.1;
         sees_shown = omega (arith, into.within, shown, refilled_more loads d p p d v.owed into.load into.loaded, ap (λ x. shown_at x p) own);
-        see_fits = omega (arith, seen.places, lane, t.2, ap (held_from p) own_after);
+        see_fits = omega (arith, seen.places, lane, t.2, ap (held_from p) own_after, looks-keep (held_from p) (λ u q k. refl) (λ u q. refl) (λ u q k. refl) s v);
         takes_first = takes_many s loads p;
-        words = visit_words s loads p;
+        may = visit-may s v t.0 t.1 (ap (λ o. due_to d o v.back) t.1) (visit_words s loads p);
       };
-      lanes = λ a b z j. takes_lane states d (after_looks s v) p v.takes (after_owed s loads p) (takes_fit s loads p size sized) z a b (looked_book ((a == d) && (b == p)) v (books a b)) (looked a b z j);
+      lanes =
+          subst (λ t. AllOk Joined (placed states d t) (λ a b. visited_book d v a b (books a b)) (loads_visited s loads p)) (sym (visit-after s v))
+          (λ a b z j. takes_lane states d (after_looks s v) p v.takes (after_owed s loads p) (takes_fit s loads p size sized) z a b (looked_book ((a == d) && (b == p)) v (books a b)) (looked a b z j));
       sees = omega (arith, lane, ap length seen.front, length-append (books p d).taken seen.load.frames);
     }
 

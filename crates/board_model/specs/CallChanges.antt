@@ -7,7 +7,7 @@ use Rattle.mc_base.specs.declared.refusal.Refusal.TheVariants.{EndpInvalid}
 use Rattle.board_model.specs.Choice.{best}
 use Rattle.board_model.specs.DomainCall.{DomainCall, create_at, delete_at, lookup_of, send_from, receive_at, request_at, available_at, test_of, cancel_of, turn_alone}
 use Rattle.board_model.specs.State.{Item, Endpoint, Request, name_of, message_at, has_address, has_item, item_in, DomainState, live_at, request_at_place}
-use Rattle.board_model.specs.Change.{Change, endpoint_made, endpoint_gone, best_gone, request_added, waiting_ended, name_found, request_gone, end_announced, buffer_used}
+use Rattle.board_model.specs.Change.{Change, endpoint_made, endpoint_gone, best_gone, request_added, waiting_ended, name_found, request_gone, end_announced, buffer_used, changed_all}
 use Rattle.board_model.specs.Answer.{local, address_of, refusal, unless_refused}
 
 -- by a call at a live endpoint
@@ -45,6 +45,10 @@ success_changes s node turn_alone = []
 
 abbrev pub call_changes : DomainState → ℕ → DomainCall → List Change
 call_changes s node call = unless_refused (refusal s node call) [] (success_changes s node call)
+
+-- the state after a call
+abbrev pub effect : DomainState → ℕ → DomainCall → DomainState
+effect s node call = changed_all s (call_changes s node call)
 
 -- the item that a request holds
 abbrev pub held_by : Option Request → List Item

@@ -9,13 +9,11 @@ pub mod Language
 pub mod Words
 pub mod LinkedBoard
 pub mod Journal
-pub mod Post
 pub mod State
 pub mod Choice
 pub mod Dealing
 pub mod DomainCall
 pub mod Answer
-pub mod Effect
 pub mod Change
 pub mod TakenFrames
 pub mod ChannelEnds

@@ -1,37 +1,40 @@
 -- Visits of the serial run, by what their looks show, and entries of the frames that its calls put.
 -- Source: docs/PROFILE.md, "Serial run" and "What a domain does with a taken frame".
-use Rattle.std.specs.Prelude.{ℕ, not, List, [], ◌∷◌, map, count_by, Option, None, Some}
+use Rattle.std.specs.Prelude.{ℕ, not, List, [], ◌∷◌, ◌++◌, map, count_by, Option, None, Some}
+use Rattle.mc_base.specs.Reading.{reading}
 use Rattle.mc_base.specs.declared.fate.Fate.{Fate}
-use Rattle.mc_base.specs.declared.fate.Fate.TheVariants.{State}
 use Rattle.board_model.specs.Journal.{PlainEntry, put, Visit, Taken, taken}
 use Rattle.board_model.specs.State.{DomainState, Peer}
-use Rattle.board_model.specs.Dealing.{Row, row_for, after_frame, keeps_buffer}
-use Rattle.board_model.specs.Turn.{due_frames, after_looks}
+use Rattle.board_model.specs.Dealing.{keeps_buffer}
+use Rattle.board_model.specs.TakenFrames.{row_of}
+use Rattle.board_model.specs.Deeds.{Deed, looks_back, puts_owed, looks_ahead, takes, after_deed, after_deeds}
+use Rattle.board_model.specs.Turn.{due_frames}
 
--- the word of the row that counts
-abbrev pub word_of : Option Row → Fate
-word_of None = State
-word_of (Some r) = r.word
+-- the word of a frame from a peer
+abbrev pub word_of : DomainState → ℕ → List ℕ → Fate
+word_of s peer frame = (row_of s peer None (reading frame)).word
 
 -- the frames with the words of their rows
 abbrev pub dealt : DomainState → ℕ → List (List ℕ) → List Taken
 dealt s peer [] = []
-dealt s peer (f ∷ fs) = taken f (word_of (row_for s peer f)) ∷ dealt (after_frame s peer f) peer fs
+dealt s peer (f ∷ fs) = taken f (word_of s peer f) ∷ dealt (after_deed s (takes peer None f (word_of s peer f))) peer fs
 
 -- the owed frames that the look at the buffers lets a turn put
 abbrev pub due_to : ℕ → Option Peer → ℕ → List (List ℕ)
 due_to domain None back = []
 due_to domain (Some p) back = due_frames domain p back
 
--- a visit to a peer whose looks show so many buffers and frames, of which these come first
+-- a look at the buffers that shows so many, these owed frames, and a look at the frames that shows so many
+abbrev pub looks_deeds : ℕ → ℕ → List (List ℕ) → ℕ → List Deed
+looks_deeds peer back owed see = looks_back peer back ∷ (map (puts_owed peer) owed ++ looks_ahead peer see ∷ [])
+
+-- a visit to a peer that looks so, and takes these frames
 abbrev pub visit_of : DomainState → ℕ → ℕ → List (List ℕ) → ℕ → List (List ℕ) → Visit
-visit_of s peer back owed see frames =
-    let looks : Visit = record { peer = peer; back = back; owed = owed; see = see; takes = map (λ f. taken f State) frames } in
-    record looks { takes = dealt (after_looks s looks) peer frames }
+visit_of s peer back owed see frames = record { peer = peer; back = back; owed = owed; see = see; takes = dealt (after_deeds s (looks_deeds peer back owed see)) peer frames }
 
 -- how many of the buffers of taken frames are given back at once
 abbrev pub returned_at_once : List Taken → ℕ
-returned_at_once takes = count_by (λ t. not (keeps_buffer t.fate)) takes
+returned_at_once ts = count_by (λ t. not (keeps_buffer t.fate)) ts
 
 -- a frame that a call puts to a peer
 abbrev pub put_entry : ℕ × List ℕ → PlainEntry

@@ -10,7 +10,7 @@ use Rattle.board_model.specs.Journal.{PlainEntry, turned, again, called, PlainAn
 use Rattle.mc_base.specs.declared.refusal.Refusal.{Refusal}
 use Rattle.mc_base.specs.declared.refusal.Refusal.TheVariants.{Empty}
 use Rattle.board_model.specs.Answer.{answer, puts}
-use Rattle.board_model.specs.Effect.{returns}
+use Rattle.board_model.specs.CallChanges.{returned}
 use Rattle.board_model.specs.Step.{RunState, call_at, after, is_tried}
 use Rattle.board_model.specs.Run.{start}
 use Rattle.board_model.specs.Board.{DomainJournal}
@@ -81,7 +81,7 @@ abbrev pub called_by : Scenario → CallLine → Station → Running → Running
 called_by s line t r =
     with_entries s line.domain
     (map put_entry (puts t.run.state line.node (call_at t.run line)) ++ called (t.run.lines_called + 1) (answer t.run.state line.node (call_at t.run line)) ∷ [])
-    (record r { loads = loads_given line.domain (returns t.run.state line.node (call_at t.run line)) (loads_with_puts line.domain (puts t.run.state line.node (call_at t.run line)) r.loads) })
+    (record r { loads = loads_given line.domain (returned t.run.state line.node (call_at t.run line)) (loads_with_puts line.domain (puts t.run.state line.node (call_at t.run line)) r.loads) })
 
 -- a call that is made again: its word, and then the others' turns
 abbrev pub word_in : PlainAnswer → Refusal

@@ -12,7 +12,7 @@ use Rattle.board_model.specs.Turn.{IsTurn, after_turn}
 use Rattle.board_model.specs.DomainCall.{DomainCall}
 use Rattle.board_model.specs.Labels.{Labelled, call_of, labels_after}
 use Rattle.board_model.specs.Answer.{answer, puts}
-use Rattle.board_model.specs.Effect.{effect}
+use Rattle.board_model.specs.CallChanges.{effect}
 
 -- a domain on its way through its script: how many lines were called, how often the call of the next line was made already, the
 -- labels of the requests that were given, and, where a turn was made since, the frames that the next call put, each with its peer

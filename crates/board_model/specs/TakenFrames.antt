@@ -9,9 +9,9 @@ use Rattle.mc_base.specs.Reading.{Reading, is_faulty, announces, says}
 use Rattle.mc_base.specs.declared.name.EndName.{EndName}
 use Rattle.mc_base.specs.declared.fate.Fate.{Fate}
 use Rattle.mc_base.specs.declared.fate.Fate.TheVariants as fate
-use Rattle.board_model.specs.State.{Item, Endpoint, DomainState, endpoint_of, one_waits, peer_at}
+use Rattle.board_model.specs.State.{Item, Endpoint, Peer, DomainState, endpoint_of, one_waits, peer_at}
 use Rattle.board_model.specs.Change.{Change, item_queued, item_handed, name_found, names_known}
-use Rattle.board_model.specs.Dealing.{fault_word, names_of}
+use Rattle.board_model.specs.Dealing.{fault_word}
 
 pub record Row : Type 0 where
   pub applies : Bool
@@ -32,6 +32,10 @@ first_row (r ∷ []) = r
 first_row (r ∷ q ∷ rs) = if r.applies then r else first_row (q ∷ rs)
 
 -- ---- announcements by a peer, by the names that are known of it
+
+abbrev pub names_of : Option Peer → Names
+names_of None = []
+names_of (Some p) = p.known
 
 abbrev pub name_rows : ℕ → Names → Option EndName → ℕ → Bool → List Row
 name_rows peer known None address there = last_row fate.ForeignName []

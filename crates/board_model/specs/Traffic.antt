@@ -6,7 +6,7 @@ use Rattle.board_model.specs.declared.scenario.CallLine.{CallLine}
 use Rattle.board_model.specs.Journal.{PlainEntry, turned, put, again, called, Visit, Taken}
 use Rattle.board_model.specs.State.{Item, is_from}
 use Rattle.board_model.specs.Dealing.{keeps_buffer}
-use Rattle.board_model.specs.Effect.{returns}
+use Rattle.board_model.specs.CallChanges.{returned}
 use Rattle.board_model.specs.Step.{RunState, next_line, call_at, after}
 
 -- the visits to a peer
@@ -39,7 +39,7 @@ taken_from peer entries = map (λ t. t.frame) (takes_from peer entries)
 -- how many buffers an entry gives back to a peer: those of frames that do not stay, and those of what a call drops or takes
 abbrev pub returned_by : Option CallLine → RunState → List Item
 returned_by None r = []
-returned_by (Some line) r = returns r.state line.node (call_at r line)
+returned_by (Some line) r = returned r.state line.node (call_at r line)
 
 abbrev pub given_in : List CallLine → RunState → ℕ → PlainEntry → ℕ
 given_in script r peer (turned visits) = count_by (λ t. not (keeps_buffer t.fate)) (takes_in peer (turned visits))

@@ -1,11 +1,9 @@
 -- Turns: what a domain may do at its peers, one after the other, and the state that it leaves.
 -- Source: docs/PROFILE.md, "A turn". How much a look shows is left open, as far as the lane allows.
-use Rattle.std.specs.Prelude.{◌≡◌, ℕ, ◌+◌, ◌-◌, ◌≤◌, min, List, [], ◌∷◌, ◌++◌, length, take, drop, map, filter, Option, None, Some}
-use Rattle.board_model.specs.Lists.{changed}
+use Rattle.std.specs.Prelude.{◌≡◌, ℕ, ◌+◌, ◌-◌, ◌≤◌, min, List, [], ◌∷◌, ◌++◌, length, take, map, Option, None, Some}
 use Rattle.board_model.specs.Journal.{Visit, Taken}
-use Rattle.board_model.specs.State.{DomainState, Peer, place_of_peer, peer_of, owed_to, is_owed_end, held_from}
-use Rattle.board_model.specs.Deeds.{Deed, looks_back, puts_owed, looks_ahead, takes}
-use Rattle.board_model.specs.Dealing.{after_takes, HaveWords}
+use Rattle.board_model.specs.State.{DomainState, Peer, peer_of, owed_to, held_from}
+use Rattle.board_model.specs.Deeds.{Deed, looks_back, puts_owed, looks_ahead, takes, after_deeds, AllMayDo}
 
 -- the most owed frames that a turn puts to a peer, and the most frames that it takes from it
 abbrev pub turn_limit : ℕ
@@ -15,23 +13,6 @@ turn_limit = 8
 abbrev pub due_frames : ℕ → Peer → ℕ → List (List ℕ)
 due_frames domain p back = take (min turn_limit (p.free + back)) (owed_to domain p)
 
--- the peer after the looks and the owed frames; announcements are put before replies
-abbrev pub looked_at : Visit → Peer → Peer
-looked_at v p = record p { free = p.free + v.back - length v.owed; shown = v.see - length v.takes; announcements = drop (length v.owed) p.announcements; replies = drop (length v.owed - length p.announcements) p.replies }
-
--- the records of endpoints of which no linked domain is still to be told that they are gone are free
-abbrev pub with_peers : DomainState → List Peer → DomainState
-with_peers s peers = record s { peers = peers; ended = filter (is_owed_end peers) s.ended }
-
-abbrev pub after_looks : DomainState → Visit → DomainState
-after_looks s v = with_peers s (changed (looked_at v) (place_of_peer s v.peer) s.peers)
-
--- the state after a visit
-abbrev pub after_visit : DomainState → Visit → DomainState
-after_visit s v = after_takes (after_looks s v) v.peer v.takes
-
--- ---- what a visit does, one deed after the other
-
 -- frames taken from a peer, each with the name of its place among them, or with none
 abbrev pub takes_named : (ℕ → Option ℕ) → ℕ → List Taken → List Deed
 takes_named name peer [] = []
@@ -40,8 +21,13 @@ takes_named name peer (t ∷ ts) = takes peer (name 0) t.frame t.fate ∷ takes_
 abbrev pub nameless : ℕ → Option ℕ
 nameless k = None
 
+-- what a visit does: a look at the buffers, the owed frames, a look at the frames, and those that are taken
 abbrev pub visit_deeds : (ℕ → Option ℕ) → Visit → List Deed
 visit_deeds name v = looks_back v.peer v.back ∷ (map (puts_owed v.peer) v.owed ++ (looks_ahead v.peer v.see ∷ takes_named name v.peer v.takes))
+
+-- the state after a visit
+abbrev pub after_visit : DomainState → Visit → DomainState
+after_visit s v = after_deeds s (visit_deeds nameless v)
 
 -- the visit is one that the lanes allow, and does as it must with what the looks showed
 pub record IsVisit (s : DomainState) (v : Visit) : Type 0 where
@@ -52,7 +38,7 @@ pub record IsVisit (s : DomainState) (v : Visit) : Type 0 where
   pub sees_shown : at.shown ≤ v.see
   pub see_fits : v.see + held_from v.peer s ≤ at.size
   pub takes_first : length v.takes ≡ min turn_limit v.see
-  pub words : HaveWords (after_looks s v) v.peer v.takes
+  pub may : AllMayDo s (visit_deeds nameless v)
 
 abbrev pub AreVisits : DomainState → List Visit → Type 0
 AreVisits s [] = Unit {0}

@@ -23,7 +23,9 @@ use Rattle.mc_base.specs.declared.fate.Fate.TheVariants as fate
 use Rattle.mc_base.specs.declared.name.EndName.{EndName}
 use Rattle.board_model.specs.Lists.{changed, changed_at}
 use Rattle.board_model.specs.State.{DomainState, Peer, Request, place_of_peer}
-use Rattle.board_model.specs.Dealing.{Row, row, fault_row, first_row, row_for, left_by, is_announcement, is_known, known_from, names_of, of_domain, knowing, with_known, found_for, announced_address, announced_name, tells_creation, with_created, with_destroyed, fault_word, keeps_buffer}
+use Rattle.domain_core.specs.PlacedFrames.{Row, row, fault_row, first_row, row_for, left_by, is_announcement, is_known, known_from, of_domain, knowing, with_known, found_for, announced_address, announced_name, tells_creation, with_created, with_destroyed}
+use Rattle.board_model.specs.TakenFrames.{names_of}
+use Rattle.board_model.specs.Dealing.{fault_word, keeps_buffer}
 use Rattle.buffer_book.specs.Book.{Book}
 use Rattle.request_set.specs.declared.ask.Complete.TheVariants as complete
 use Rattle.request_set.specs.Requests.{Requests}

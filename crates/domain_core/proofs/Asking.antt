@@ -7,7 +7,7 @@ use Rattle.mc_base.specs.declared.request.RequestId.{RequestId}
 use Rattle.mc_base.specs.declared.request.Slot.{Slot}
 use Rattle.board_model.specs.State as state
 use Rattle.board_model.specs.State.{DomainState, Item, Outcome, has_address, name_of}
-use Rattle.board_model.specs.Effect.{with_request}
+use Rattle.domain_core.specs.PlacedCalls.{with_request}
 use Rattle.buffer_book.specs.Book.{Book}
 use Rattle.endpoint_table.specs.Table as endpoint_table
 use Rattle.request_set.specs.declared.ask.Ask.{Ask}

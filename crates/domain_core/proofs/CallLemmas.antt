@@ -9,7 +9,8 @@ use Rattle.board_model.specs.Journal.{Line, PlainAnswer, agrees, noted_all}
 use Rattle.board_model.specs.Lists.{without}
 use Rattle.board_model.specs.State as state
 use Rattle.board_model.specs.Answer.{answer, puts, refusal, success_puts, unless_refused}
-use Rattle.board_model.specs.Effect.{success_effect, success_returns}
+use Rattle.board_model.specs.Change.{changed_all}
+use Rattle.board_model.specs.CallChanges.{success_changes, success_returned}
 use Rattle.board_model.specs.Serial.{put_entry}
 use Rattle.domain_core.specs.AllMoved.{AllMoved, call_moves, moves_at, numbers_of}
 use Rattle.domain_core.specs.Calls.{Calls, Does}
@@ -49,9 +50,9 @@ module _ {L : Type 0} (M : L → List LaneMove → L → Type 0) (node : ℕ) (c
       (subst (λ (o : Option RequestId). Does M node call (shown old) (shown old) answered o) (sym none)
       (record {
         answer = answer-is;
-        state = sym (ap (λ (o : Option Refusal). unless_refused o s (success_effect s node call)) e);
+        state = sym (ap (λ (o : Option Refusal). changed_all s (unless_refused o [] (success_changes s node call))) e);
         slots = [];
-        returned = sym (ap (λ (o : Option Refusal). unless_refused o [] (success_returns s node call)) e);
+        returned = sym (ap (λ (o : Option Refusal). unless_refused o [] (success_returned s node call)) e);
         moved = moved-in [] (sym (ap (λ (o : Option Refusal). unless_refused o [] (success_puts s node call)) e)) [] (λ n. []) (λ n. refl) old.ends rests;
         stays = λ slot queued other. refl;
         ids = sym (append-nil (without _ (ids_in p.requests)) ∙ ap (λ (o : Option ℕ). without o (ids_in p.requests)) (ended-refused s node call word e));
@@ -63,9 +64,9 @@ module _ {L : Type 0} (M : L → List LaneMove → L → Type 0) (node : ℕ) (c
       let m = done.means in
       record {
         answer = answer-is;
-        state = ap state_of done.did.parts ∙ m.state ∙ sym (ap (λ (o : Option Refusal). unless_refused o s (success_effect s node call)) e);
+        state = ap state_of done.did.parts ∙ m.state ∙ sym (ap (λ (o : Option Refusal). changed_all s (unless_refused o [] (success_changes s node call))) e);
         slots = m.slots;
-        returned = m.returned ∙ sym (ap (λ (o : Option Refusal). unless_refused o [] (success_returns s node call)) e);
+        returned = m.returned ∙ sym (ap (λ (o : Option Refusal). unless_refused o [] (success_returned s node call)) e);
         moved = moved-in (success_puts s node call) (sym (puts-done s node call e)) m.slots (all_moves (call_steps p node call given)) m.moves new.ends done.did.moved;
         stays = subst (λ (x : Parts). KeepsBut m.slots p.book x.book) (sym done.did.parts) m.stays;
         ids = ap (λ (x : Parts). ids_in x.requests) done.did.parts ∙ m.ids ∙ ap (λ (o : Option ℕ). without o (ids_in p.requests) ++ option_to_list given) (sym (ended-done s node call e));

@@ -9,8 +9,9 @@ use Rattle.mc_base.specs.declared.refusal.Refusal.{Refusal}
 use Rattle.mc_base.specs.declared.request.RequestId.{RequestId}
 use Rattle.mc_base.specs.declared.request.Slot.{Slot}
 use Rattle.board_model.specs.State.{Request, has_address, has_ended}
-use Rattle.board_model.specs.Dealing.{asks_for, found_for}
-use Rattle.board_model.specs.Effect.{ended_by_word}
+use Rattle.board_model.specs.Change.{asks_for}
+use Rattle.domain_core.specs.PlacedFrames.{found_for}
+use Rattle.domain_core.specs.PlacedCalls.{ended_by_word}
 use Rattle.buffer_book.specs.Book.{AllDiffer, Book}
 use Rattle.request_set.specs.declared.ask.Ask.{Ask}
 use Rattle.request_set.specs.declared.ask.Ask.TheVariants as ask

@@ -7,7 +7,7 @@ use Rattle.mc_base.specs.declared.name.Local.{Local}
 use Rattle.mc_base.specs.declared.refusal.Refusal.TheVariants.{EndpInvalid}
 use Rattle.mc_base.specs.declared.request.Slot.{Slot}
 use Rattle.board_model.specs.DomainCall.{delete_at}
-use Rattle.board_model.specs.Effect.{ended_by_word, with_announced, without_endpoint}
+use Rattle.domain_core.specs.PlacedCalls.{ended_by_word, with_announced, without_endpoint}
 use Rattle.board_model.specs.Lists.{changed_at, with_rising, without, without_at}
 use Rattle.board_model.specs.State as state
 use Rattle.board_model.specs.State.{DomainState, address_at, place_at}
@@ -28,6 +28,8 @@ use Rattle.domain_core.specs.Peers.{state_in}
 use Rattle.domain_core.specs.Records.{slots_at, with_oldest_taken}
 use Rattle.domain_core.specs.Steps.{Step, all_moves, done, done_all, endpoint_gone, oldest_dropped, step_moves}
 use Rattle.domain_core.specs.Stores.{KeepsBut}
+use Rattle.domain_core.proofs.CallsAgree.{delete-agrees, returned-agrees}
+use Rattle.domain_core.proofs.StateFits.{ends-of}
 use Rattle.domain_core.proofs.Completing.{ids-all, requests-ended}
 use Rattle.domain_core.proofs.Deleting.{endpoints-oldest, endpoints-without, oldest-more, without_first}
 use Rattle.domain_core.proofs.Ending.{ids_in}
@@ -160,9 +162,9 @@ module _ (p : Parts) (sound : Sound p) (at : Local) (i : ℕ) (there : place_at 
 
   pub delete-means : Means p at.node (delete_at at.port) None
   delete-means = record {
-    state = ap state_of (sym all-done) ∙ gone-state;
+    state = ap state_of (sym all-done) ∙ (gone-state ∙ delete-agrees (state_of p) (ends-of plain p.book p.records p.requests p.table p.peers sound) at i there);
     slots = ss;
-    returned = gone-items plain p.book p.records p.requests p.table p.peers at i sound there;
+    returned = gone-items plain p.book p.records p.requests p.table p.peers at i sound there ∙ returned-agrees (state_of p) at.node (delete_at at.port);
     moves = λ n. ap (λ (cs : List Step). all_moves cs n) (sym steps-are) ∙ drops-moves i ss (endpoint_gone i at) n refl;
     stays = subst (λ (x : Parts). KeepsBut ss p.book x.book) all-done all.stays;
     ids = ap (λ (x : Parts). ids_in x.requests) (sym all-done) ∙ ids-all (waiters.Receives at) (complete.Ended EndpInvalid) p'.requests.standing ∙ ap ids_in all.requests ∙ sym (append-nil (ids_in p.requests));

@@ -11,7 +11,7 @@ use Rattle.board_model.specs.Lists.{without}
 use Rattle.board_model.specs.State as state
 use Rattle.board_model.specs.State.{DomainState, Request, request_at_place}
 use Rattle.board_model.specs.Answer.{refusal, result_by, result_of, unless_refused}
-use Rattle.board_model.specs.Effect.{held_by}
+use Rattle.board_model.specs.CallChanges.{held_by}
 use Rattle.board_model.proofs.ListsCounts.{count-cons}
 use Rattle.buffer_book.specs.Book.{Book, queued_at}
 use Rattle.request_set.specs.declared.ask.Ask.{Ask}

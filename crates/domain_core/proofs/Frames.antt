@@ -20,8 +20,8 @@ use Rattle.std.specs.Borrow.{Bor}
 use Rattle.board_model.specs.Lists.{changed}
 use Rattle.board_model.specs.State.{DomainState, Item, place_of_address, place_waiting_for}
 use Rattle.mc_base.specs.NameMap.{names_limit}
-use Rattle.board_model.specs.Dealing.{Row, row, rows, fault_row, first_row, row_for, is_announcement, is_known, known_from, announced_address, announced_name, tells_creation, with_created, with_destroyed, with_handed, with_item, left_by, fault_word, is_letter, item_of, queued_last, complete_with, priority_in, content_in, keeps_buffer}
-use Rattle.board_model.specs.Serial.{word_of}
+use Rattle.domain_core.specs.PlacedFrames.{Row, row, rows, fault_row, first_row, row_for, is_announcement, is_known, known_from, announced_address, announced_name, tells_creation, with_created, with_destroyed, with_handed, with_item, left_by, item_of, queued_last, complete_with, priority_in, content_in, word_of}
+use Rattle.board_model.specs.Dealing.{fault_word, is_letter, keeps_buffer}
 use Rattle.mc_base.specs.declared.name.Local.{Local}
 use Rattle.mc_base.specs.declared.request.RequestId.{RequestId}
 use Rattle.request_set.specs.declared.ask.Ask.TheVariants.{Message}

@@ -7,7 +7,8 @@ use Rattle.board_model.specs.DomainCall.{DomainCall, create_at, delete_at, looku
 use Rattle.board_model.specs.Journal.{Line, PlainAnswer}
 use Rattle.board_model.specs.State.{DomainState}
 use Rattle.board_model.specs.Answer.{refusal, unless_refused}
-use Rattle.board_model.specs.Effect.{effect, success_effect}
+use Rattle.board_model.specs.CallChanges.{call_changes, effect}
+use Rattle.board_model.proofs.DeedJoins.{changes-keep}
 use Rattle.board_model.proofs.WholeTurns.{turn_number}
 use Rattle.lane_end.specs.SendMoves.{SendMove}
 use Rattle.lane_end.specs.ReceiveMoves.{ReceiveMove}
@@ -34,24 +35,8 @@ use Rattle.domain_core.specs.declared.link.Link.{Link}
 
 -- ---- the number
 
-unless-number : (o : Option Refusal) (s s' : DomainState) → s'.number ≡ s.number → (unless_refused o s s').number ≡ s.number
-unless-number None s s' same = same
-unless-number (Some word) s s' same = refl
-
-success-number : (s : DomainState) (node : ℕ) (call : DomainCall) → (success_effect s node call).number ≡ s.number
-success-number s node (create_at port) = refl
-success-number s node (delete_at port) = refl
-success-number s node (lookup_of name) = refl
-success-number s node (send_from port to priority bytes) = refl
-success-number s node (receive_at port max) = refl
-success-number s node (request_at port max) = refl
-success-number s node (available_at port) = refl
-success-number s node (test_of request) = refl
-success-number s node (cancel_of request) = refl
-success-number s node turn_alone = refl
-
 effect-number : (s : DomainState) (node : ℕ) (call : DomainCall) → (effect s node call).number ≡ s.number
-effect-number s node call = unless-number (refusal s node call) s (success_effect s node call) (success-number s node call)
+effect-number s node call = changes-keep (λ t. t.number) (λ t c. refl) s (call_changes s node call)
 
 -- ---- the moves of a turn and of a call, as one list at each ends
 

@@ -5,8 +5,7 @@ use Rattle.mc_base.specs.Fault.{fault}
 use Rattle.mc_base.specs.Frame.{destination_of, payload_of}
 use Rattle.mc_base.specs.declared.fault.Fault.{Fault}
 use Rattle.board_model.specs.State.{DomainState, Item, place_of_address, place_waiting_for}
-use Rattle.board_model.specs.Dealing.{Row, row_for, left_by, after_frame, item_of}
-use Rattle.board_model.specs.Serial.{word_of}
+use Rattle.domain_core.specs.PlacedFrames.{Row, row_for, left_by, after_frame, item_of, word_of}
 use Rattle.domain_core.specs.Table.{Held, held_in, keeping}
 use Rattle.domain_core.specs.Dealt.{IsForEndpoint, word_at, held_after}
 use Rattle.domain_core.proofs.Frames.{row_by, row_is}

@@ -10,7 +10,8 @@ use Rattle.mc_base.specs.declared.request.Slot.{Slot}
 use Rattle.board_model.specs.Answer.{address_of}
 use Rattle.board_model.specs.Choice.{best}
 use Rattle.board_model.specs.DomainCall.{available_at, cancel_of, create_at, lookup_of, receive_at, request_at, send_from, test_of}
-use Rattle.board_model.specs.Effect.{best_queued, held_by, with_request}
+use Rattle.domain_core.specs.PlacedCalls.{best_queued, with_request}
+use Rattle.board_model.specs.CallChanges.{held_by}
 use Rattle.board_model.specs.Lists.{without}
 use Rattle.board_model.specs.State as state
 use Rattle.board_model.specs.State.{Item, Outcome, has_address, has_item, name_of, place_at, queue_in, request_at_place}
@@ -41,6 +42,8 @@ use Rattle.domain_core.specs.Steps.{Step, all_moves, done, done_all, message_end
 use Rattle.domain_core.specs.Stores.{KeepsBut}
 use Rattle.domain_core.specs.VisitMoves.{putting}
 use Rattle.domain_core.proofs.Asking.{asked-state}
+use Rattle.domain_core.proofs.CallsAgree.{create-agrees, receive-agrees, request-agrees, returned-agrees, send-agrees}
+use Rattle.domain_core.proofs.StateFits.{ends-of}
 use Rattle.board_model.proofs.MessageLists.{get-position}
 use Rattle.domain_core.proofs.Beginning.{last-ids}
 use Rattle.domain_core.proofs.Completing.{ids-all}
@@ -69,7 +72,7 @@ one-put d f false = refl
 
 pub send-means : (p : Parts) → Sound p → (node port : ℕ) (to : EndName) (priority : ℕ) (bytes : List ℕ) (i : ℕ) → Some i ≡ position (λ (x : Peer LaneSeen). x.number == to.domain) p.peers → Means p node (send_from port to priority bytes) None
 send-means p sound node port to priority bytes i there = record {
-  state = frame_put-is p to.domain _ sound i there;
+  state = frame_put-is p to.domain _ sound i there ∙ send-agrees (state_of p) node port to priority bytes;
   slots = [];
   returned = refl;
   moves = λ n. one-put to.domain _ (to.domain == n);
@@ -85,9 +88,9 @@ module _ (p : Parts) (sound : Sound p) (i : ℕ) (w : Waiting) (is : best (λ (x
   receive-means =
       let steps = sym (best_dropped-steps p sound i w is at there max) in
       record {
-        state = ap (λ (cs : List Step). state_of (done_all cs p)) (sym steps) ∙ best_dropped-is p sound i w is at (sym there);
+        state = ap (λ (cs : List Step). state_of (done_all cs p)) (sym steps) ∙ (best_dropped-is p sound i w is at (sym there) ∙ receive-agrees (state_of p) (ends-of plain p.book p.records p.requests p.table p.peers sound) at max);
         slots = w.slot ∷ [];
-        returned = ap (λ (y : Item). y ∷ []) (best-item plain p.book p.records p.requests p.table p.peers sound i w is) ∙ ap (λ (o : Option Item). option_to_list o) (sym (best-is plain p.book p.records p.requests p.table p.peers sound i w is at (sym there)));
+        returned = ap (λ (y : Item). y ∷ []) (best-item plain p.book p.records p.requests p.table p.peers sound i w is) ∙ ap (λ (o : Option Item). option_to_list o) (sym (best-is plain p.book p.records p.requests p.table p.peers sound i w is at (sym there))) ∙ returned-agrees (state_of p) at.node (receive_at at.port max);
         moves = λ n. ap (λ (cs : List Step). all_moves cs n) (sym steps) ∙ one-gave w.slot (w.slot.peer == n);
         stays = subst (λ (cs : List Step). KeepsBut (w.slot ∷ []) p.book (done_all cs p).book) steps (keeps-away p.book w.slot);
         ids = ap (λ (cs : List Step). ids_in (done_all cs p).requests) (sym steps) ∙ sym (append-nil (ids_in p.requests));
@@ -114,7 +117,7 @@ create-means p sound at =
     let who = waiters.Lookups (end_name p.table.domain at) in
     let how = complete.Address (1024 + p.table.given) in
     record {
-      state = ap (λ (ps : List (Peer LaneSeen)). state_in plain p.book (with_record p.records at) (with_all_complete p.requests who how) (created p.table at) ps) (quiet-peers p.peers) ∙ made-state plain p.book p.book p.records p.requests p.requests p.table p.peers p.peers sound.peers.rising sound.tied at;
+      state = ap (λ (ps : List (Peer LaneSeen)). state_in plain p.book (with_record p.records at) (with_all_complete p.requests who how) (created p.table at) ps) (quiet-peers p.peers) ∙ made-state plain p.book p.book p.records p.requests p.requests p.table p.peers p.peers sound.peers.rising sound.tied at ∙ create-agrees (state_of p) at;
       slots = [];
       returned = refl;
       moves = λ n. refl;
@@ -163,7 +166,8 @@ module _ (p : Parts) (sound : Sound p) (i : ℕ) (id : RequestId) (at : Local) (
       record {
         state = ap (λ (cs : List Step). state_of (done_all cs p)) (sym steps)
             ∙ ap (λ (ps : List (Peer LaneSeen)). state_in plain p.book (with_best_taken_at p.records i) (with_last p.requests id (ask.Message at max) how) p.table ps) (quiet-peers p.peers)
-            ∙ begun-state plain p.book p.records p.requests p.table p.peers i id at.node at.port max how (sym there) fresh.serial outcome;
+            ∙ begun-state plain p.book p.records p.requests p.table p.peers i id at.node at.port max how (sym there) fresh.serial outcome
+            ∙ request-agrees (state_of p) (ends-of plain p.book p.records p.requests p.table p.peers sound) at max i there;
         slots = [];
         returned = refl;
         moves = λ n. ap (λ (cs : List Step). all_moves cs n) (sym steps);
@@ -183,7 +187,8 @@ module _ (p : Parts) (sound : Sound p) (i : ℕ) (id : RequestId) (at : Local) (
         state = ap (λ (cs : List Step). state_of (done_all cs p)) (sym steps)
             ∙ ap (λ (ps : List (Peer LaneSeen)). state_in plain p.book p.records (with_last p.requests id (ask.Message at max) None) p.table ps) (quiet-peers p.peers)
             ∙ ap (λ (r : Records). state_in plain p.book r (with_last p.requests id (ask.Message at max) None) p.table p.peers) same
-            ∙ begun-state plain p.book p.records p.requests p.table p.peers i id at.node at.port max None (sym there) fresh.serial (ap (λ (o : Option Item). option_map has_item o) (sym nothing));
+            ∙ begun-state plain p.book p.records p.requests p.table p.peers i id at.node at.port max None (sym there) fresh.serial (ap (λ (o : Option Item). option_map has_item o) (sym nothing))
+            ∙ request-agrees (state_of p) (ends-of plain p.book p.records p.requests p.table p.peers sound) at max i there;
         slots = [];
         returned = refl;
         moves = λ n. ap (λ (cs : List Step). all_moves cs n) (sym steps);

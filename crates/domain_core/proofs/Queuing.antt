@@ -14,7 +14,7 @@ use Rattle.board_model.specs.Lists.{changed, changed_at}
 use Rattle.board_model.specs.State as state
 use Rattle.board_model.specs.State.{Item}
 use Rattle.board_model.specs.Choice.{best}
-use Rattle.board_model.specs.Dealing.{complete_with, item_of, queued_last}
+use Rattle.domain_core.specs.PlacedFrames.{complete_with, item_of, queued_last}
 use Rattle.board_model.specs.Journal.{taken}
 use Rattle.buffer_book.specs.Book.{AllDiffer, Book, IsAway, Kept, content, queued_at, queued_in, with_queued}
 use Rattle.message_queue.specs.Queue.{Waiting, waiting}

@@ -11,7 +11,7 @@ use Rattle.board_model.specs.State as state
 use Rattle.board_model.specs.State.{DomainState, Item, Outcome, has_item, message_at, place_at, queue_in, request_at_place}
 use Rattle.board_model.specs.Choice.{best}
 use Rattle.board_model.specs.Answer.{local}
-use Rattle.board_model.specs.Effect.{best_queued, received, with_received, with_request}
+use Rattle.domain_core.specs.PlacedCalls.{best_queued, received, with_received, with_request}
 use Rattle.buffer_book.specs.Book.{Book, IsQueued, Kept, content, if_queued, queued_at, with_away}
 use Rattle.buffer_book.specs.Book as book
 use Rattle.endpoint_table.specs.Table as endpoint_table

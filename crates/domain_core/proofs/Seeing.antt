@@ -6,7 +6,8 @@ use Rattle.mc_base.specs.declared.fate.Fate.{Fate}
 use Rattle.board_model.specs.Lists.{changed}
 use Rattle.board_model.specs.Journal.{Taken, taken}
 use Rattle.board_model.specs.State.{DomainState, Endpoint, Peer, Request, is_numbered, place_of_peer, peer_of}
-use Rattle.board_model.specs.Dealing.{after_frame, after_takes, HaveWords, knowing, names_of, with_known}
+use Rattle.domain_core.specs.PlacedFrames.{after_frame, after_takes, HaveWords, knowing, with_known}
+use Rattle.board_model.specs.TakenFrames.{names_of}
 use Rattle.board_model.proofs.MessageLists.{changed_first, changed-position, get-position}
 use Rattle.buffer_book.specs.Book.{Book}
 use Rattle.request_set.specs.Requests.{Requests}

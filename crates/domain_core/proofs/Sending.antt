@@ -5,7 +5,7 @@ use Rattle.std.specs.List.{AllByRecursion}
 use Rattle.board_model.specs.Lists.{changed}
 use Rattle.board_model.specs.State as state
 use Rattle.board_model.specs.State.{DomainState, Item}
-use Rattle.board_model.specs.Effect.{used_one, with_used}
+use Rattle.domain_core.specs.PlacedCalls.{used_one, with_used}
 use Rattle.buffer_book.specs.Book.{Book}
 use Rattle.endpoint_table.specs.Table as endpoint_table
 use Rattle.request_set.specs.Requests.{Requests}

@@ -10,7 +10,7 @@ use Rattle.domain_core.proofs.PeerPlaces.{no-peer-in, peer-at}
 use Rattle.domain_core.proofs.Sending.{outline, same-sound, state-sent}
 use Rattle.mc_base.specs.declared.name.Local.{Local}
 use Rattle.board_model.specs.State as state
-use Rattle.board_model.specs.State.{free_to, is_at, place_at, queue_at}
+use Rattle.board_model.specs.State.{free_to, is_at, place_at, queue_at, queue_in}
 use Rattle.board_model.specs.DomainCall.{receive_at}
 use Rattle.board_model.specs.Journal.{gives}
 use Rattle.board_model.specs.Answer.{given, success}
@@ -21,7 +21,7 @@ use Rattle.mc_base.specs.declared.request.Slot.{Slot}
 use Rattle.board_model.specs.Lists.{changed_at}
 use Rattle.domain_core.specs.declared.endpoints.Endpoint.{Endpoint}
 use Rattle.domain_core.proofs.Deleting.{gone-sound, oldest-out, oldest-queued, oldest-sound}
-use Rattle.board_model.specs.Effect.{best_queued, with_received, with_used}
+use Rattle.domain_core.specs.PlacedCalls.{best_queued, with_received, with_used}
 use Rattle.message_queue.specs.Queue.{Waiting}
 use Rattle.domain_core.specs.GivingBack.{GivesBack, IsOutAt}
 use Rattle.domain_core.specs.Records.{slots_at, waiting_in, with_best_taken_at, Records, with_oldest_taken, with_oldest_taken_at, without_record_at}
@@ -32,7 +32,6 @@ use Rattle.domain_core.proofs.Tables.{position-map}
 use Rattle.domain_core.proofs.Tying.{place-is}
 use Rattle.domain_core.proofs.Waits.{queue-there}
 use Rattle.std.specs.Prelude.{option_and_then}
-use Rattle.board_model.specs.State.{queue_in}
 use Rattle.board_model.proofs.ListsCounts.{position-tells}
 use Rattle.std.proofs.lemmas.Option.{slice_get_within}
 use Rattle.std.proofs.lemmas.List.{length-map}

@@ -13,7 +13,7 @@ use Rattle.endpoint_table.proofs.RecordLemmas.{all-weaken}
 use Rattle.board_model.specs.Lists.{with_rising, without}
 use Rattle.board_model.specs.State as state
 use Rattle.board_model.specs.State.{DomainState, is_owed_end, place_at}
-use Rattle.board_model.specs.Effect.{also_owed, ended_by_word, with_endpoint, without_endpoint}
+use Rattle.domain_core.specs.PlacedCalls.{also_owed, ended_by_word, with_endpoint, without_endpoint}
 use Rattle.board_model.proofs.WholeFinds.{find-kept, find-mapped}
 use Rattle.buffer_book.specs.Book.{Book}
 use Rattle.request_set.specs.Requests.{Requests}

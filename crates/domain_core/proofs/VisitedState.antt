@@ -13,11 +13,15 @@ use Rattle.board_model.specs.Lists.{changed}
 use Rattle.board_model.specs.Journal.{Line, Taken}
 use Rattle.board_model.specs.State as state
 use Rattle.board_model.specs.State.{DomainState, Announcement, is_numbered, is_owed_end, is_from, held_from, place_of_address, place_of_peer, peer_of}
-use Rattle.board_model.specs.Dealing.{item_of, queued_last, with_created, with_destroyed, announced_name, announced_address, knowing, names_of, row_for, after_frame, after_takes, HaveWords}
-use Rattle.board_model.specs.Serial.{word_of}
-use Rattle.board_model.specs.Turn.{looked_at, with_peers, after_visit, turn_limit, IsVisit}
-use Rattle.board_model.proofs.LanePeers.{peer_found, peer-own}
-use Rattle.board_model.proofs.LaneRows.{stays, learns, forgets, hands, queues, DealsWith, frame_deals}
+use Rattle.domain_core.specs.PlacedFrames.{item_of, queued_last, with_created, with_destroyed, announced_name, announced_address, knowing, row_for, after_frame, after_takes, HaveWords, word_of}
+use Rattle.board_model.specs.TakenFrames.{names_of}
+use Rattle.domain_core.specs.PlacedVisits.{looked_at, with_peers}
+use Rattle.board_model.specs.Turn.{due_frames, after_visit, turn_limit, IsVisit}
+use Rattle.board_model.proofs.LanePeers.{peer_found}
+use Rattle.board_model.proofs.VisitLooks.{visit-may}
+use Rattle.domain_core.proofs.VisitsAgree.{IsTold, peer-own, visit-agrees, words-agree}
+use Rattle.domain_core.proofs.StateFits.{told-of}
+use Rattle.domain_core.proofs.RowsDeal.{stays, learns, forgets, hands, queues, DealsWith, frame_deals}
 use Rattle.board_model.proofs.ListsCounts.{one_if, count-append, count-cons, map-changed}
 use Rattle.board_model.proofs.MessageAlls.{all-at, all-weaken}
 use Rattle.board_model.proofs.MessageLists.{changed_first, changed-position}
@@ -258,9 +262,16 @@ module _ {L : Type 0} (M : L → List LaneMove → L → Type 0) (v : L → Lane
   abbrev state_as : List ℕ → List state.Peer → ℕ → DomainState
   state_as ended peers given = record { number = x.table.domain; nodes = x.table.nodes; endpoints = endpoints_in b' r'.endpoints; ended = ended; peers = peers; requests = requests_in b' q'.standing; lent = []; endpoints_given = x.table.given; channels_given = 0; requests_given = given; packets_lent = 0 }
 
+  at-peer : peer_of before made.visit.peer ≡ Some (peer_in v x.table p)
+  at-peer = ap (peer_of before) made.peer_is ∙ peer_found before p.number ∙ find-place v x.table i x.peers p sound.peers.rising at
+
+  told : IsTold before
+  told = told-of v x.book x.records x.requests x.table x.peers sound
+
   pub state-after : after_visit before made.visit ≡ state_in v b' r' q' t' after
   state-after =
-      ap (λ (m : ℕ). after_takes (with_peers before (changed (looked_at made.visit) (place_of_peer before m) before.peers)) m made.visit.takes) made.peer_is
+      visit-agrees before made.visit told (peer_in v x.table p) at-peer
+      ∙ ap (λ (m : ℕ). after_takes (with_peers before (changed (looked_at made.visit) (place_of_peer before m) before.peers)) m made.visit.takes) made.peer_is
       ∙ made.seen.leaves seen holds
       ∙ ap (λ (z : List ℕ). state_as z (changed (knowing known) (place_of_peer seen p.number) looked) x.requests.given) ended-are
       ∙ ap (λ (z : List state.Peer). state_as (ended_in table.records) z x.requests.given) peers-are
@@ -274,15 +285,18 @@ module _ {L : Type 0} (M : L → List LaneMove → L → Type 0) (v : L → Lane
       let sized = all-at (IsSized v) x.peers i p sound.peers.sizes at in
       let held = held-out v x.book x.records x.requests x.table x.peers p.number (v p.ends).size_from (v p.ends).out (places-at v x i p sound at) in
       let held_now = ap (λ (m : ℕ). held_from m before) made.peer_is in
+      let due : made.visit.owed ≡ due_frames x.table.domain (peer_in v x.table p) made.visit.back
+      = made.puts_due ∙ ap (take (min turn_limit ((v p.ends).free + made.visit.back))) (sym (owed-same x.table.domain (owed_by (owing_to x.table p.number)))) in
+      let words = subst (λ (m : ℕ). HaveWords (with_peers before (changed (looked_at made.visit) (place_of_peer before m) before.peers)) m made.visit.takes) (sym made.peer_is) (made.seen.words seen holds) in
       record {
         at = peer_in v x.table p;
-        known = ap (peer_of before) made.peer_is ∙ peer_found before p.number ∙ find-place v x.table i x.peers p sound.peers.rising at;
+        known = at-peer;
         back_fits = let back = made.back_fits in let same = sized.same in omega (arith, back, same);
-        puts_due = made.puts_due ∙ ap (take (min turn_limit ((v p.ends).free + made.visit.back))) (sym (owed-same x.table.domain (owed_by (owing_to x.table p.number))));
+        puts_due = due;
         sees_shown = made.sees_shown;
         see_fits = let see = made.see_fits in omega (arith, see, held, held_now);
         takes_first = made.many;
-        words = subst (λ (m : ℕ). HaveWords (with_peers before (changed (looked_at made.visit) (place_of_peer before m) before.peers)) m made.visit.takes) (sym made.peer_is) (made.seen.words seen holds);
+        may = visit-may before made.visit (peer_in v x.table p) at-peer due (words-agree before made.visit told (peer_in v x.table p) at-peer words);
       }
 
   -- ---- the parts stay sound

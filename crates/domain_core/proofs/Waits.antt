@@ -8,8 +8,8 @@ use Rattle.board_model.specs.Lists.{changed_at}
 use Rattle.board_model.specs.State as state
 use Rattle.board_model.specs.State.{Item, is_from, queue_in}
 use Rattle.board_model.specs.Choice.{best, without_best}
-use Rattle.board_model.specs.Dealing.{queued_last}
-use Rattle.board_model.specs.Effect.{received}
+use Rattle.domain_core.specs.PlacedFrames.{queued_last}
+use Rattle.domain_core.specs.PlacedCalls.{received}
 use Rattle.board_model.proofs.ListsCounts.{count-append, count-cons, count-every}
 use Rattle.board_model.proofs.MessageVisitLines.{count-map}
 use Rattle.board_model.proofs.MessageBest.{best-map, count-best, without_best-map}

@@ -4,7 +4,8 @@ use Rattle.std.specs.Prelude.{◌≡◌, ℕ, false, List, Some, option_map}
 use Rattle.mc_base.specs.NameMap.{Names}
 use Rattle.mc_base.specs.declared.fate.Fate.{Fate}
 use Rattle.board_model.specs.State.{DomainState, Request}
-use Rattle.board_model.specs.Dealing.{row_for, after_frame, keeps_buffer, known_from, with_known}
+use Rattle.domain_core.specs.PlacedFrames.{row_for, after_frame, known_from, with_known}
+use Rattle.board_model.specs.Dealing.{keeps_buffer}
 use Rattle.buffer_book.specs.Book.{Book}
 use Rattle.request_set.specs.Requests.{Requests}
 use Rattle.domain_core.specs.InBook.{requests_in}

@@ -9,7 +9,8 @@ use Rattle.mc_base.specs.declared.request.Slot.{Slot}
 use Rattle.board_model.specs.Answer.{address_of, answer, local, refusal, success_puts}
 use Rattle.board_model.specs.Choice.{best}
 use Rattle.board_model.specs.DomainCall.{DomainCall, create_at, delete_at, lookup_of, send_from, receive_at, request_at, test_of, cancel_of}
-use Rattle.board_model.specs.Effect.{success_effect, success_returns}
+use Rattle.board_model.specs.Change.{changed_all}
+use Rattle.board_model.specs.CallChanges.{success_changes, success_returned}
 use Rattle.board_model.specs.Journal.{PlainAnswer}
 use Rattle.board_model.specs.Lists.{without}
 use Rattle.board_model.specs.State.{place_at}
@@ -68,12 +69,12 @@ call_steps p node (test_of place) given = ending place (slots_held p.requests pl
 call_steps p node (cancel_of place) given = request_ended place ∷ []
 call_steps p node other given = []
 
--- What the steps of a call's success mean: the state after them is that of its effect, the buffers that they give back held the items
+-- What the steps of a call's success mean: the state after them is the one to which its changes lead, the buffers that they give back held the items
 -- that it returns, and each other buffer stays
 pub record Means (p : Parts) (node : ℕ) (call : DomainCall) (given : Option RequestId) : Type 0 where
-  pub state : state_of (done_all (call_steps p node call given) p) ≡ success_effect (state_of p) node call
+  pub state : state_of (done_all (call_steps p node call given) p) ≡ changed_all (state_of p) (success_changes (state_of p) node call)
   pub slots : List Slot
-  pub returned : map (item_at p.book) slots ≡ success_returns (state_of p) node call
+  pub returned : map (item_at p.book) slots ≡ success_returned (state_of p) node call
   pub moves : (n : ℕ) → all_moves (call_steps p node call given) n ≡ moves_at (success_puts (state_of p) node call) slots n
   pub stays : KeepsBut slots p.book (done_all (call_steps p node call given) p).book
   pub ids : map (λ r. r.id) (done_all (call_steps p node call given) p).requests.standing ≡ without (success_ends call) (map (λ r. r.id) p.requests.standing) ++ option_to_list given

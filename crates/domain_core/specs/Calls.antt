@@ -15,7 +15,7 @@ use Rattle.board_model.specs.Journal.{Line, Visit, turned, noted_all, PlainResul
 use Rattle.board_model.specs.Lists.{without}
 use Rattle.board_model.specs.State.{DomainState}
 use Rattle.board_model.specs.Answer.{answer, puts, refusal, unless_refused}
-use Rattle.board_model.specs.Effect.{effect, returns}
+use Rattle.board_model.specs.CallChanges as changes
 use Rattle.board_model.specs.Serial.{put_entry}
 use Rattle.domain_core.specs.DomainView.{DomainView}
 use Rattle.domain_core.specs.LaneMoves.{LaneMove}
@@ -44,9 +44,9 @@ pub record IsFresh (ids : List RequestId) (s : DomainState) (id : RequestId) : T
 -- frames that it puts there, and then those of the buffers that it gives back there, which held the items that it returns
 pub record Does {L : Type 0} (Moved : L → List LaneMove → L → Type 0) (node : ℕ) (call : DomainCall) (old new : DomainView L) (answered : PlainAnswer) (given : Option RequestId) : Type 0 where
   pub answer : answered ≡ answer old.state node call
-  pub state : new.state ≡ effect old.state node call
+  pub state : new.state ≡ changes.effect old.state node call
   pub slots : List Slot
-  pub returned : map (item_at old.book) slots ≡ returns old.state node call
+  pub returned : map (item_at old.book) slots ≡ changes.returned old.state node call
   pub moved : AllMoved Moved old.ends (call_moves (puts old.state node call) slots (map (λ p. p.number) old.state.peers)) new.ends
   pub stays : KeepsBut slots old.book new.book
   pub ids : new.ids ≡ without (place_ended old.state node call) old.ids ++ option_to_list given

@@ -10,8 +10,8 @@ use Rattle.mc_base.specs.declared.request.RequestId.{RequestId}
 use Rattle.board_model.specs.Lists.{changed, changed_at}
 use Rattle.board_model.specs.Journal.{Line, Taken, taken, taken_line}
 use Rattle.board_model.specs.State.{Item}
-use Rattle.board_model.specs.Dealing.{is_letter, row_for, after_frame, item_of, keeps_buffer, queued_last, complete_with}
-use Rattle.board_model.specs.Serial.{word_of}
+use Rattle.board_model.specs.Dealing.{is_letter, keeps_buffer}
+use Rattle.domain_core.specs.PlacedFrames.{row_for, after_frame, item_of, queued_last, complete_with, word_of}
 use Rattle.domain_core.specs.declared.dealing.Verdict.{Verdict}
 use Rattle.domain_core.specs.declared.dealing.Verdict.TheVariants as verdict
 use Rattle.buffer_book.specs.Book.{Book}

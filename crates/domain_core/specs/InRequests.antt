@@ -11,7 +11,7 @@ use Rattle.request_set.specs.declared.ask.Ask.TheVariants as ask
 use Rattle.request_set.specs.declared.ask.Complete.{Complete}
 use Rattle.request_set.specs.declared.ask.Complete.TheVariants as complete
 use Rattle.request_set.specs.Requests.{Standing, Requests, keys, receives_at}
-use Rattle.board_model.specs.Dealing.{same_name}
+use Rattle.board_model.specs.Change.{same_name}
 use Rattle.domain_core.specs.declared.requests.Waiters.{Waiters}
 use Rattle.domain_core.specs.declared.requests.Waiters.TheVariants as waiters
 

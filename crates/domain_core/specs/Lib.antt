@@ -36,3 +36,6 @@ pub mod Carrying
 pub mod Carried
 pub mod Meets
 pub mod Going
+pub mod PlacedFrames
+pub mod PlacedVisits
+pub mod PlacedCalls

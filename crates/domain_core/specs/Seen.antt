@@ -4,7 +4,7 @@ use Rattle.std.specs.Prelude.{◌≡◌, ℕ, List, IsSome}
 use Rattle.mc_base.specs.NameMap.{Names}
 use Rattle.board_model.specs.Journal.{Taken}
 use Rattle.board_model.specs.State.{DomainState, peer_of}
-use Rattle.board_model.specs.Dealing.{after_takes, HaveWords, known_from, with_known}
+use Rattle.domain_core.specs.PlacedFrames.{after_takes, HaveWords, known_from, with_known}
 use Rattle.domain_core.specs.Table.{Held}
 
 -- the state has these endpoints and requests, and knows these names of the peer

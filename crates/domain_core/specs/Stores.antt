@@ -4,7 +4,8 @@ use Rattle.std.specs.Prelude.{◌≡◌, ℕ, true, List, [], ◌∷◌, Contain
 use Rattle.mc_base.specs.declared.request.Slot.{Slot}
 use Rattle.buffer_book.specs.Book.{Book, IsQueued, queued_at}
 use Rattle.board_model.specs.Journal.{Taken}
-use Rattle.board_model.specs.Dealing.{item_of, keeps_buffer}
+use Rattle.domain_core.specs.PlacedFrames.{item_of}
+use Rattle.board_model.specs.Dealing.{keeps_buffer}
 use Rattle.domain_core.specs.InBook.{item_at}
 use Rattle.domain_core.specs.InPlaces.{slot_at}
 

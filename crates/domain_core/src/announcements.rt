@@ -5,7 +5,7 @@ ghost use Rattle.mc_base.specs.Limits.{name_service_address};
 ghost use Rattle.mc_base.specs.Frame.{IsFrame};
 ghost use Rattle.mc_base.specs.FullName.{endpoint_named};
 ghost use Rattle.buffer_book.specs.Book.{Book};
-ghost use Rattle.board_model.specs.Dealing.{of_domain};
+ghost use Rattle.domain_core.specs.PlacedFrames.{of_domain};
 ghost use Rattle.domain_core.specs.Announced.{Hears};
 ghost use Rattle.domain_core.specs.InRequests.{AreReceives, handed_slots};
 

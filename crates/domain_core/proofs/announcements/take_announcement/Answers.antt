@@ -4,7 +4,7 @@ use Rattle.mc_base.specs.FullName.{endpoint_named}
 use Rattle.mc_base.specs.NameMap.{Names}
 use Rattle.mc_base.specs.declared.fault.Fault.TheVariants as fault_of
 use Rattle.mc_base.specs.declared.fate.Fate.TheVariants as fate
-use Rattle.board_model.specs.Dealing.{of_domain}
+use Rattle.domain_core.specs.PlacedFrames.{of_domain}
 use Rattle.request_set.specs.declared.ask.Complete.TheVariants as complete
 use Rattle.request_set.specs.Requests.{Requests, Standing}
 use Rattle.domain_core.specs.declared.requests.Waiters.TheVariants as waiters

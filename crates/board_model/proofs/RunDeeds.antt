@@ -19,74 +19,23 @@ use Rattle.board_model.specs.State.{Item, Endpoint, DomainState, new_peer, is_at
 use Rattle.board_model.specs.Choice.{least, best, without_best}
 use Rattle.board_model.specs.DomainCall.{DomainCall, send_from, receive_at}
 use Rattle.board_model.specs.Answer.{local, refusal, given, success, answer_by, answer, unless_refused, success_puts, puts}
-use Rattle.board_model.specs.Effect.{received, with_received, success_effect, effect}
+use Rattle.board_model.specs.Change.{changed_all}
+use Rattle.board_model.specs.CallChanges.{success_changes, effect}
 use Rattle.board_model.specs.Turn.{AreVisits, after_turn}
 use Rattle.board_model.specs.Step.{RunState, HasNoPuts, next_line, call_at, Allowed, effect_of_line, after}
 use Rattle.board_model.specs.Run as runs
 use Rattle.board_model.specs.Run.{start, after_all, left_by, IsDomainRun}
 use Rattle.board_model.specs.Traffic.{puts_in, takes_in, put_to, takes_from, taken_from}
 use Rattle.board_model.specs.Board.{DomainJournal}
-use Rattle.board_model.specs.Deeds.{Deed, after_deeds, along}
+use Rattle.board_model.specs.Deeds.{Deed, calls, after_deeds, along}
 use Rattle.board_model.specs.JournalDeeds.{named_deeds, call_deeds, entry_deeds, deeds_along, deeds_of, opened, left_in}
 use Rattle.board_model.proofs.DeedRuns.{count_taken, AreNamed, IsDeedRun, frames_if, frames_to, puts_by, takes_by, unnamed}
-use Rattle.board_model.proofs.MessageAlls.{none-passes}
-use Rattle.board_model.proofs.MessageLists.{best_is, without_best_is, changed-position}
 use Rattle.board_model.proofs.PlaceBoards.{neighbours_differ}
-use Rattle.board_model.proofs.BridgeLists.{changed-found, changed-nothing}
-use Rattle.board_model.proofs.BridgeReads.{at-live, answer-unnamed, puts-unnamed}
-use Rattle.board_model.proofs.BridgeSound.{Sound, numbers_in}
-use Rattle.board_model.proofs.BridgeDeeds.{call-left, deeds-sound, along-join}
-use Rattle.board_model.proofs.BridgeVisits.{Leads, leads-join, turn-leads}
-use Rattle.board_model.proofs.BridgeTraffic.{entry-take, run-takes, count-join, count-takes, named-join, turn-named, turn-put}
-
--- ---- a call that answers with a word
-
-none_without : {A : Type 0} (p : A → Bool) (xs : List A) → AllByRecursion (λ x. p x ≡ false) xs → without_first p xs ≡ xs
-none_without p [] all = refl
-none_without p (x ∷ xs) all = let other = all.0 in rw other (ap (λ ys. x ∷ ys) (none_without p xs all.1))
-
--- where there is no best, none is taken
-none_best : (q : List Item) → best (λ i. i.priority) q ≡ None → without_best (λ i. i.priority) q ≡ q
-none_best q none =
-    without_best_is (λ i. i.priority) q
-    ∙ none_without (λ i. i.priority == least (λ i. i.priority) q) q (none-passes (λ i. i.priority == least (λ i. i.priority) q) q (sym (best_is (λ i. i.priority) q) ∙ none))
-
-none_received : (u : DomainState) (at : Local) → best (λ i. i.priority) (queue_at u at) ≡ None → with_received u at ≡ u
-none_received u at none =
-    ap (λ es. record u { endpoints = es })
-    (changed-position (is_at at) received u.endpoints
-    ∙ (changed-found (is_at at) received (λ e. e) u.endpoints (λ e found. stays e found) ∙ changed-nothing (is_at at) u.endpoints))
-  where
-    stays : (e : Endpoint) → live_at u at ≡ Some e → received e ≡ e
-    stays e found = ap (λ q. record e { queue = q }) (none_best e.queue (ap (λ q. best (λ (i : Item). i.priority) q) (sym (ap queue_in (at-live u at ∙ found))) ∙ none))
-
-pub none-given : (max : ℕ) (word : Refusal) (o : Option Item) → refuses word ≡ given max o → o ≡ None
-none-given max word None is = refl
-none-given max word (Some i) is = absurd cc
-
-module _ (u : DomainState) (node : ℕ) (word : Refusal) where
-  success_stays : (call : DomainCall) → refuses word ≡ success u node call → success_effect u node call ≡ u
-  success_stays (receive_at port max) is = none_received u (local node port) (none-given max word (best (λ i. i.priority) (queue_at u (local node port))) is)
-  success_stays other is = absurd cc
-
-  success_silent : (call : DomainCall) → refuses word ≡ success u node call → success_puts u node call ≡ []
-  success_silent (send_from port to priority bytes) is = absurd cc
-  success_silent other is = refl
-
-  -- it changes nothing, and puts no frame
-  refused_stays : (call : DomainCall) → refuses word ≡ answer u node call → effect u node call ≡ u
-  refused_stays call is = go (refusal u node call) is
-    where
-      go : (o : Option Refusal) → refuses word ≡ answer_by o (success u node call) → unless_refused o u (success_effect u node call) ≡ u
-      go (Some other) told = refl
-      go None told = success_stays call told
-
-  refused_silent : (call : DomainCall) → refuses word ≡ answer u node call → puts u node call ≡ []
-  refused_silent call is = go (refusal u node call) is
-    where
-      go : (o : Option Refusal) → refuses word ≡ answer_by o (success u node call) → unless_refused o [] (success_puts u node call) ≡ []
-      go (Some other) told = refl
-      go None told = success_silent call told
+use Rattle.board_model.proofs.UnnamedCalls.{answer-unnamed, puts-unnamed, refused-is}
+use Rattle.board_model.proofs.StateEnds.{numbers_in}
+use Rattle.board_model.proofs.DeedJoins.{deeds-numbers, along-join}
+use Rattle.board_model.proofs.UnnamedDeeds.{deed-unnamed, Leads, leads-join, turn-leads}
+use Rattle.board_model.proofs.DeedTraffic.{entry-take, run-takes, count-join, count-takes, named-join, turn-named, turn-put}
 
 -- ---- an entry
 
@@ -100,22 +49,23 @@ allowed-all lines r to [] leads = tt
 allowed-all lines r to (e ∷ es) leads =
     (leads.1.allowed, allowed-all lines (after lines r e) to es (subst (λ (n : RunState). runs.Leads lines n es to) leads.1.leads leads.2))
 
-module _ (lines : List CallLine) (before : List PlainEntry) (r : RunState) (t : DomainState) (same : r.state ≡ unnamed t) (sound : Sound (unnamed t)) where
+module _ (lines : List CallLine) (before : List PlainEntry) (r : RunState) (t : DomainState) (same : r.state ≡ unnamed t) where
   call_leads : (line : CallLine) (a : PlainAnswer) → a ≡ answer r.state line.node (call_at r line) → Leads t (call_deeds (Some line) r a) (effect (unnamed t) line.node (call_at r line))
   call_leads line a told = record {
     may = (told ∙ (ap (λ s. answer s line.node (call_at r line)) same ∙ answer-unnamed t line.node (call_at r line)), tt);
-    leads = call-left t line.node (call_at r line) sound;
+    leads = deed-unnamed t (calls line.node (call_at r line) a);
   }
 
   entry_leads : (e : PlainEntry) → Allowed lines r e → Leads t (entry_deeds lines before r e) (after lines r e).state
   entry_leads (turned vs) allowed =
-      subst (λ s. Leads t (flat_map (named_deeds before) vs) (after_turn s vs)) (sym same) (turn-leads before vs t sound (subst (λ s. AreVisits s vs) same allowed.1.allowed))
+      subst (λ s. Leads t (flat_map (named_deeds before) vs) (after_turn s vs)) (sym same) (turn-leads before vs t (subst (λ s. AreVisits s vs) same allowed.1.allowed))
   entry_leads (put q frame) allowed = record { may = tt; leads = sym same }
   entry_leads (again word) allowed =
       let line : CallLine = allowed.0 in
       let told : refuses word ≡ answer (unnamed t) line.node (call_at r line) = allowed.2 ∙ ap (λ s. answer s line.node (call_at r line)) same in
+      let stays : effect (unnamed t) line.node (call_at r line) ≡ unnamed t = ap (λ o. changed_all (unnamed t) (unless_refused o [] (success_changes (unnamed t) line.node (call_at r line)))) (refused-is (unnamed t) line.node word (call_at r line) told) in
       subst (λ o. Leads t (call_deeds o r (refuses word)) r.state) (sym allowed.1)
-      (subst (λ s. Leads t (call_deeds (Some line) r (refuses word)) s) (refused_stays (unnamed t) line.node word (call_at r line) told ∙ sym same) (call_leads line (refuses word) allowed.2))
+      (subst (λ s. Leads t (call_deeds (Some line) r (refuses word)) s) (stays ∙ sym same) (call_leads line (refuses word) allowed.2))
   entry_leads (called k a) allowed =
       let line : CallLine = allowed.0 in
       subst (λ o. Leads t (call_deeds o r a) (effect_of_line o r)) (sym allowed.1)
@@ -126,30 +76,30 @@ module _ (lines : List CallLine) (before : List PlainEntry) (r : RunState) (t : 
   call_named bd (Some line) a = (tt, tt)
 
   -- frames are counted as they are taken
-  entry_named : (bd : List Deed) → ((p : ℕ) → length (taken_from p before) ≡ count_taken p bd) → (e : PlainEntry) → Allowed lines r e → AreNamed bd (entry_deeds lines before r e)
-  entry_named bd counts (turned vs) allowed =
-      turn-named before vs bd (subst Differ (sym (allowed.1.each_peer ∙ ap (λ (s : DomainState). numbers_in s.peers) same)) sound.numbers) (all_counted vs)
+  entry_named : Differ (numbers_in t.peers) → (bd : List Deed) → ((p : ℕ) → length (taken_from p before) ≡ count_taken p bd) → (e : PlainEntry) → Allowed lines r e → AreNamed bd (entry_deeds lines before r e)
+  entry_named differ bd counts (turned vs) allowed =
+      turn-named before vs bd (subst Differ (sym (allowed.1.each_peer ∙ ap (λ (s : DomainState). numbers_in s.peers) same)) differ) (all_counted vs)
     where
       all_counted : (ws : List Visit) → AllByRecursion (λ v. length (taken_from v.peer before) ≡ count_taken v.peer bd) ws
       all_counted [] = tt
       all_counted (w ∷ ws) = (counts w.peer, all_counted ws)
-  entry_named bd counts (put q frame) allowed = tt
-  entry_named bd counts (again word) allowed = call_named bd (next_line lines r) (refuses word)
-  entry_named bd counts (called k a) allowed = call_named bd (next_line lines r) a
+  entry_named differ bd counts (put q frame) allowed = tt
+  entry_named differ bd counts (again word) allowed = call_named bd (next_line lines r) (refuses word)
+  entry_named differ bd counts (called k a) allowed = call_named bd (next_line lines r) a
 
 -- ---- a run
 
 module _ (lines : List CallLine) where
-  pub left-leads : (before : List PlainEntry) (r : RunState) (t : DomainState) (e : PlainEntry) → r.state ≡ unnamed t → Sound (unnamed t) → Allowed lines r e → (after lines r e).state ≡ unnamed (after_deeds t (entry_deeds lines before r e))
-  left-leads before r t e same sound allowed = sym (entry_leads lines before r t same sound e allowed).leads
+  pub left-leads : (before : List PlainEntry) (r : RunState) (t : DomainState) (e : PlainEntry) → r.state ≡ unnamed t → Allowed lines r e → (after lines r e).state ≡ unnamed (after_deeds t (entry_deeds lines before r e))
+  left-leads before r t e same allowed = sym (entry_leads lines before r t same e allowed).leads
 
-  pub run-leads : (before : List PlainEntry) (r : RunState) (t : DomainState) (es : List PlainEntry) → r.state ≡ unnamed t → Sound (unnamed t) → AllAllowed lines r es → Leads t (deeds_along lines before r es) (after_all lines r es).state
-  run-leads before r t [] same sound allowed = record { may = tt; leads = sym same }
-  run-leads before r t (e ∷ es) same sound allowed =
+  pub run-leads : (before : List PlainEntry) (r : RunState) (t : DomainState) (es : List PlainEntry) → r.state ≡ unnamed t → AllAllowed lines r es → Leads t (deeds_along lines before r es) (after_all lines r es).state
+  run-leads before r t [] same allowed = record { may = tt; leads = sym same }
+  run-leads before r t (e ∷ es) same allowed =
       let ds : List Deed = entry_deeds lines before r e in
       leads-join t ds (deeds_along lines (before ++ e ∷ []) (after lines r e) es) (after lines r e).state (after_all lines (after lines r e) es).state
-      (entry_leads lines before r t same sound e allowed.0)
-      (run-leads (before ++ e ∷ []) (after lines r e) (after_deeds t ds) es (left-leads before r t e same sound allowed.0) (deeds-sound t ds sound) allowed.1)
+      (entry_leads lines before r t same e allowed.0)
+      (run-leads (before ++ e ∷ []) (after lines r e) (after_deeds t ds) es (left-leads before r t e same allowed.0) allowed.1)
 
   counted : (p : ℕ) (before : List PlainEntry) (bd : List Deed) (r : RunState) (e : PlainEntry) → length (taken_from p before) ≡ count_taken p bd → length (taken_from p (before ++ e ∷ [])) ≡ count_taken p (bd ++ entry_deeds lines before r e)
   counted p before bd r e same =
@@ -160,12 +110,12 @@ module _ (lines : List CallLine) where
       ∙ (ap₂ (λ a b. a + b) same (ap length (sym (entry-take p lines before r e)) ∙ sym (count-takes p (entry_deeds lines before r e)))
       ∙ sym (count-join p bd (entry_deeds lines before r e))))
 
-  pub run-named : (before : List PlainEntry) (bd : List Deed) (r : RunState) (t : DomainState) (es : List PlainEntry) → r.state ≡ unnamed t → Sound (unnamed t) → ((p : ℕ) → length (taken_from p before) ≡ count_taken p bd) → AllAllowed lines r es → AreNamed bd (deeds_along lines before r es)
-  run-named before bd r t [] same sound counts allowed = tt
-  run-named before bd r t (e ∷ es) same sound counts allowed =
+  pub run-named : (before : List PlainEntry) (bd : List Deed) (r : RunState) (t : DomainState) (es : List PlainEntry) → r.state ≡ unnamed t → Differ (numbers_in t.peers) → ((p : ℕ) → length (taken_from p before) ≡ count_taken p bd) → AllAllowed lines r es → AreNamed bd (deeds_along lines before r es)
+  run-named before bd r t [] same differ counts allowed = tt
+  run-named before bd r t (e ∷ es) same differ counts allowed =
       let ds : List Deed = entry_deeds lines before r e in
-      named-join bd ds (deeds_along lines (before ++ e ∷ []) (after lines r e) es) (entry_named lines before r t same sound bd counts e allowed.0)
-      (run-named (before ++ e ∷ []) (bd ++ ds) (after lines r e) (after_deeds t ds) es (left-leads before r t e same sound allowed.0) (deeds-sound t ds sound) (λ p. counted p before bd r e (counts p)) allowed.1)
+      named-join bd ds (deeds_along lines (before ++ e ∷ []) (after lines r e) es) (entry_named lines before r t same differ bd counts e allowed.0)
+      (run-named (before ++ e ∷ []) (bd ++ ds) (after lines r e) (after_deeds t ds) es (left-leads before r t e same allowed.0) (subst Differ (sym (deeds-numbers t ds)) differ) (λ p. counted p before bd r e (counts p)) allowed.1)
 
 -- ---- the frames that are put
 
@@ -194,7 +144,7 @@ module _ (lines : List CallLine) (p : ℕ) where
   entry_puts before r t (again word) same allowed =
       let line : CallLine = allowed.0 in
       let told : refuses word ≡ answer t line.node (call_at r line) = allowed.2 ∙ (ap (λ s. answer s line.node (call_at r line)) same ∙ answer-unnamed t line.node (call_at r line)) in
-      let silent : frames_to p (puts t line.node (call_at r line)) ≡ [] = ap (frames_to p) (refused_silent t line.node word (call_at r line) told) in
+      let silent : frames_to p (puts t line.node (call_at r line)) ≡ [] = ap (λ o. frames_to p (unless_refused o [] (success_puts t line.node (call_at r line)))) (refused-is t line.node word (call_at r line) told) in
       ap (λ o. pending p o ++ []) allowed.3
       ∙ (ap (λ x. (x ++ []) ++ []) (sym silent)
       ∙ ap (λ o. along (puts_by p) t (call_deeds o r (refuses word)) ++ []) (sym allowed.1))
@@ -206,17 +156,17 @@ module _ (lines : List CallLine) (p : ℕ) where
       ∙ (sym (append-nil (frames_to p (puts t line.node (call_at r line)) ++ []))
       ∙ ap (λ o. along (puts_by p) t (call_deeds o r a) ++ []) (sym allowed.1)))
 
-  pub run-puts : (before : List PlainEntry) (r : RunState) (t : DomainState) (es : List PlainEntry) → r.state ≡ unnamed t → Sound (unnamed t) → AllAllowed lines r es →
+  pub run-puts : (before : List PlainEntry) (r : RunState) (t : DomainState) (es : List PlainEntry) → r.state ≡ unnamed t → AllAllowed lines r es →
       pending p r.put_since_turn ++ put_to p es ≡ along (puts_by p) t (deeds_along lines before r es) ++ pending p (after_all lines r es).put_since_turn
-  run-puts before r t [] same sound allowed = append-nil (pending p r.put_since_turn)
-  run-puts before r t (e ∷ es) same sound allowed =
+  run-puts before r t [] same allowed = append-nil (pending p r.put_since_turn)
+  run-puts before r t (e ∷ es) same allowed =
       let ds : List Deed = entry_deeds lines before r e in
       let next : RunState = after lines r e in
       let rest : List Deed = deeds_along lines (before ++ e ∷ []) (after lines r e) es in
       sym (append_assoc (pending p r.put_since_turn) (puts_in p e) (put_to p es))
       ∙ (ap (λ x. x ++ put_to p es) (entry_puts before r t e same allowed.0)
       ∙ (append_assoc (along (puts_by p) t ds) (pending p (after lines r e).put_since_turn) (put_to p es)
-      ∙ (ap (λ x. along (puts_by p) t ds ++ x) (run-puts (before ++ e ∷ []) (after lines r e) (after_deeds t ds) es (left-leads lines before r t e same sound allowed.0) (deeds-sound t ds sound) allowed.1)
+      ∙ (ap (λ x. along (puts_by p) t ds ++ x) (run-puts (before ++ e ∷ []) (after lines r e) (after_deeds t ds) es (left-leads lines before r t e same allowed.0) allowed.1)
       ∙ (sym (append_assoc (along (puts_by p) t ds) (along (puts_by p) (after_deeds t ds) rest) (pending p (after_all lines (after lines r e) es).put_since_turn))
       ∙ ap (λ x. x ++ pending p (after_all lines (after lines r e) es).put_since_turn) (sym (along-join (puts_by p) t ds rest))))))
 
@@ -225,30 +175,26 @@ module _ (lines : List CallLine) (p : ℕ) where
 numbers_at_first : (s : Scenario) (d : DomainLine) → numbers_in (map new_peer (neighbours s d)) ≡ map (λ n. n.number) (neighbours s d)
 numbers_at_first s d = map-map (λ p. p.number) new_peer (neighbours s d)
 
--- the state at the opening
-pub opened-sound : (s : Scenario) (j : DomainJournal) → IsLinkedBoard s → Sound (opened s j)
-opened-sound s j board = record {
-  ends = record { apart = tt; below = tt };
-  told = refl;
-  numbers = subst Differ (sym (numbers_at_first s j.line)) (neighbours_differ s board j.line);
-}
+-- the peers at the opening have numbers of their own
+pub opened-differ : (s : Scenario) (j : DomainJournal) → IsLinkedBoard s → Differ (numbers_in (opened s j).peers)
+opened-differ s j board = subst Differ (sym (numbers_at_first s j.line)) (neighbours_differ s board j.line)
 
 module _ (s : Scenario) (j : DomainJournal) (board : IsLinkedBoard s) (run : IsDomainRun s j.line j.entries) where
   allowed : AllAllowed (script s j.line.domain) (start s j.line) j.entries
   allowed = allowed-all (script s j.line.domain) (start s j.line) (left_by s j.line j.entries) j.entries run.steps
 
   leads : Leads (opened s j) (deeds_of s j) (left_by s j.line j.entries).state
-  leads = run-leads (script s j.line.domain) [] (start s j.line) (opened s j) j.entries refl (opened-sound s j board) allowed
+  leads = run-leads (script s j.line.domain) [] (start s j.line) (opened s j) j.entries refl allowed
 
   pub deeds_run : IsDeedRun (opened s j) (deeds_of s j)
-  deeds_run = record { may = leads.may; named = run-named (script s j.line.domain) [] [] (start s j.line) (opened s j) j.entries refl (opened-sound s j board) (λ p. refl) allowed }
+  deeds_run = record { may = leads.may; named = run-named (script s j.line.domain) [] [] (start s j.line) (opened s j) j.entries refl (opened-differ s j board) (λ p. refl) allowed }
 
   pub state_is : (left_by s j.line j.entries).state ≡ unnamed (left_in s j)
   state_is = sym leads.leads
 
   pub puts_are : (peer : ℕ) → put_to peer j.entries ≡ along (puts_by peer) (opened s j) (deeds_of s j)
   puts_are peer =
-      run-puts (script s j.line.domain) peer [] (start s j.line) (opened s j) j.entries refl (opened-sound s j board) allowed
+      run-puts (script s j.line.domain) peer [] (start s j.line) (opened s j) j.entries refl allowed
       ∙ (ap (λ x. along (puts_by peer) (opened s j) (deeds_of s j) ++ x) (none_pending peer (left_by s j.line j.entries).put_since_turn run.settled)
       ∙ append-nil (along (puts_by peer) (opened s j) (deeds_of s j)))
 

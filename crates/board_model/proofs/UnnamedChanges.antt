@@ -10,7 +10,7 @@ use Rattle.board_model.specs.State.{Item, Endpoint, has_address, has_item, has_e
 use Rattle.board_model.specs.Choice.{without_best}
 use Rattle.board_model.specs.Change.{Change, endpoint_made, endpoint_gone, item_queued, best_gone, request_added, item_handed, waiting_ended, name_found, request_gone, end_announced, owed_put, buffers_back, frames_shown, frame_taken, names_known, buffer_used, endpoint_with, with_queue, asks_for, done_with, all_done, handed_in, ended_in, changed, changed_all}
 use Rattle.board_model.proofs.DeedRuns.{unnamed_item, unnamed_end, unnamed_outcome, unnamed_request, unnamed}
-use Rattle.board_model.proofs.BridgeLists.{is_none-map, find-mapped, position-mapped, filter-mapped, any-mapped, changed_first-mapped, without-mapped, map-alike, without_best-mapped}
+use Rattle.board_model.proofs.ListsMapped.{is_none-map, find-mapped, position-mapped, filter-mapped, any-mapped, changed_first-mapped, without-mapped, map-alike, without_best-mapped}
 
 -- ---- what is looked up
 

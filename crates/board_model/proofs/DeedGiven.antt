@@ -11,7 +11,6 @@ use Rattle.board_model.specs.Journal.{PlainEntry, turned, put, again, called, re
 use Rattle.board_model.specs.State.{DomainState, is_from}
 use Rattle.board_model.specs.Dealing.{keeps_buffer}
 use Rattle.board_model.specs.Answer.{answer}
-use Rattle.board_model.specs.Effect.{returns}
 use Rattle.board_model.specs.Step.{RunState, call_at, Allowed, after, next_line}
 use Rattle.board_model.specs.Run.{start, left_by, IsDomainRun}
 use Rattle.board_model.specs.Traffic.{visits_to, takes_in, taken_from, returned_by, given_in, given}
@@ -23,12 +22,11 @@ use Rattle.board_model.specs.JournalDeeds.{names_from, named_deeds, call_deeds, 
 use Rattle.board_model.specs.Given.{given_at_once, frames_from, names_given, places_given}
 use Rattle.board_model.proofs.DeedRuns.{unnamed}
 use Rattle.board_model.proofs.ListsCounts.{one_if, count-cons, count-append}
-use Rattle.board_model.proofs.BridgeReads.{answer-unnamed}
-use Rattle.board_model.proofs.BridgeSound.{Sound}
-use Rattle.board_model.proofs.BridgeDeeds.{along-join, deeds-sound}
-use Rattle.board_model.proofs.BridgeRuns.{AllAllowed, allowed-all, left-leads, opened-sound}
+use Rattle.board_model.proofs.UnnamedCalls.{answer-unnamed}
+use Rattle.board_model.proofs.DeedJoins.{along-join}
+use Rattle.board_model.proofs.RunDeeds.{AllAllowed, allowed-all, left-leads}
 use Rattle.board_model.proofs.MessageAlls.{all-append}
-use Rattle.board_model.proofs.BridgeHeld.{HasName, Held, deeds-held, returned-count, none-returned}
+use Rattle.board_model.proofs.DeedHeld.{HasName, Held, deeds-held, returned-count, none-returned}
 
 -- how many buffers of taken frames are given back at once
 abbrev at_once : List Taken → ℕ
@@ -128,21 +126,21 @@ module _ (p : ℕ) where
         ap (λ o. length (along (names_given p) t (call_deeds o r a))) allowed.1
         ∙ (ap length (append-nil (frames_from p (returned t line.node (call_at r line))))
         ∙ (returned-count p t line.node (call_at r line) held
-        ∙ (ap (λ s. count_by (is_from p) (returns s line.node (call_at r line))) (sym same)
+        ∙ (ap (λ s. count_by (is_from p) (returned s line.node (call_at r line))) (sym same)
         ∙ ap (λ o. count_by (is_from p) (returned_by o r)) (sym allowed.1))))
 
     -- ---- a run
 
-    pub run-given : (before : List PlainEntry) (r : RunState) (t : DomainState) (es : List PlainEntry) → r.state ≡ unnamed t → Sound (unnamed t) → Held t → AllAllowed lines r es →
+    pub run-given : (before : List PlainEntry) (r : RunState) (t : DomainState) (es : List PlainEntry) → r.state ≡ unnamed t → Held t → AllAllowed lines r es →
         length (along (names_given p) t (deeds_along lines before r es)) ≡ given lines r p es
-    run-given before r t [] same sound held allowed = refl
-    run-given before r t (e ∷ es) same sound held allowed =
+    run-given before r t [] same held allowed = refl
+    run-given before r t (e ∷ es) same held allowed =
         let ds : List Deed = entry_deeds lines before r e in
         let rest : List Deed = deeds_along lines (before ++ e ∷ []) (after lines r e) es in
         ap length (along-join (names_given p) t ds rest)
         ∙ (length-append (along (names_given p) t ds) (along (names_given p) (after_deeds t ds) rest)
         ∙ ap₂ (λ a b. a + b) (entry_given before r t e same held allowed.0)
-        (run-given (before ++ e ∷ []) (after lines r e) (after_deeds t ds) es (left-leads lines before r t e same sound allowed.0) (deeds-sound t ds sound) (deeds-held t ds (entry-names lines before r e) held) allowed.1))
+        (run-given (before ++ e ∷ []) (after lines r e) (after_deeds t ds) es (left-leads lines before r t e same allowed.0) (deeds-held t ds (entry-names lines before r e) held) allowed.1))
 
 -- the state at the opening holds nothing
 pub opened-held : (s : Scenario) (j : DomainJournal) → Held (opened s j)
@@ -150,5 +148,5 @@ opened-held s j = record { queued = tt; lent = tt }
 
 pub given_are : (s : Scenario) (j : DomainJournal) → IsLinkedBoard s → IsDomainRun s j.line j.entries → (peer : ℕ) → length (places_given s j peer) ≡ given (script s j.line.domain) (start s j.line) peer j.entries
 given_are s j board run peer =
-    run-given peer (script s j.line.domain) [] (start s j.line) (opened s j) j.entries refl (opened-sound s j board) (opened-held s j)
+    run-given peer (script s j.line.domain) [] (start s j.line) (opened s j) j.entries refl (opened-held s j)
     (allowed-all (script s j.line.domain) (start s j.line) (left_by s j.line j.entries) j.entries run.steps)

@@ -17,7 +17,7 @@ use Rattle.board_model.specs.JournalDeeds.{names_from, named_deeds, call_deeds, 
 use Rattle.board_model.proofs.DeedRuns.{taken_by, count_taken, AreNamed, frames_if, puts_by, takes_by}
 use Rattle.board_model.proofs.MessageAlls.{all-with}
 use Rattle.board_model.proofs.ListsApart.{all-unmap}
-use Rattle.board_model.proofs.BridgeDeeds.{along-join}
+use Rattle.board_model.proofs.DeedJoins.{along-join}
 
 frames_of : List Taken → List (List ℕ)
 frames_of ts = map (λ t. t.frame) ts

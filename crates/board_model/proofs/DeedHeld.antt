@@ -1,5 +1,5 @@
 -- Each item that a domain holds was brought by one frame, and a call gives back that frame's buffer alone.
-use Rattle.std.proofs.Common.{◌≡◌, ℕ, ◌+◌, Bool, true, false, not, ◌&&◌, cond, List, [], ◌∷◌, ◌++◌, map, length, Option, Some, None, refl, sym, ap, ap₂, ◌∙◌, arith, length-append}
+use Rattle.std.proofs.Common.{◌≡◌, ℕ, ◌+◌, Bool, true, false, not, ◌&&◌, cond, List, [], ◌∷◌, ◌++◌, map, length, Option, Some, None, refl, sym, ap, ap₂, ◌∙◌, subst, arith, length-append}
 use Rattle.std.specs.Prelude.{find, filter, count_by, is_none, slice_get, option_map, option_to_list, IsSome, ◌==◌}
 use Rattle.std.specs.List.{AllByRecursion, flat_map}
 use Rattle.std.proofs.lemmas.Bool.{cond_both}
@@ -11,13 +11,12 @@ use Rattle.mc_base.specs.declared.name.EndName.{EndName}
 use Rattle.mc_base.specs.declared.name.Local.{Local}
 use Rattle.mc_base.specs.declared.refusal.Refusal.{Refusal}
 use Rattle.mc_base.specs.declared.refusal.Refusal.TheVariants.{EndpInvalid}
-use Rattle.board_model.specs.State.{Item, Endpoint, message_at, Outcome, has_address, is_accepted, is_rejected, has_item, has_ended, item_in, Request, DomainState, is_at, has_address_of, live_at, endpoint_of, queue_in, queue_at, request_at_place, waits_at, peer_at, is_from}
+use Rattle.board_model.specs.State.{Item, Endpoint, message_at, Outcome, has_address, is_accepted, is_rejected, has_item, has_ended, item_in, Request, DomainState, is_at, has_address_of, live_at, endpoint_of, request_at_place, waits_at, peer_at, is_from}
 use Rattle.board_model.specs.Choice.{least, best, best_place, without_best}
-use Rattle.board_model.specs.Dealing.{names_of}
+use Rattle.board_model.specs.TakenFrames.{names_of}
 use Rattle.board_model.specs.DomainCall.{DomainCall, create_at, delete_at, lookup_of, send_from, receive_at, request_at, available_at, test_of, cancel_of, turn_alone}
 use Rattle.board_model.specs.Answer.{local, address_of, refusal, success, answer_by, answer, unless_refused}
 use Rattle.board_model.specs.Journal.{refuses}
-use Rattle.board_model.specs.Effect as effects
 use Rattle.board_model.specs.Change.{Change, endpoint_made, endpoint_gone, item_queued, best_gone, request_added, item_handed, waiting_ended, name_found, request_gone, end_announced, owed_put, buffers_back, frames_shown, frame_taken, names_known, buffer_used, asks_for, done_with, handed_in, ended_in, with_queue, endpoint_with, changed, changed_all}
 use Rattle.board_model.specs.TakenFrames.{Row, name_rows, letter_rows, first_row, row_of}
 use Rattle.board_model.specs.CallChanges.{at_live, best_item, success_changes, call_changes, held_by, success_returned, returned}
@@ -26,10 +25,10 @@ use Rattle.board_model.specs.Given.{frames_from}
 use Rattle.board_model.proofs.MessageAlls.{all-at, all-append, all-filter, all-found, all-changed-first, all-without}
 use Rattle.board_model.proofs.ListsCounts.{one_if, count-cons}
 use Rattle.board_model.proofs.MessageLists.{best_is}
-use Rattle.board_model.proofs.BridgeDeeds.{first-all}
-use Rattle.board_model.proofs.DeedRuns.{unnamed_item, unnamed_request, unnamed_outcome, unnamed}
-use Rattle.board_model.proofs.BridgeRuns.{none-given}
-use Rattle.board_model.proofs.BridgeReads.{at-live, refusal-unnamed, request-unnamed, queue-unnamed, best-unnamed}
+use Rattle.board_model.proofs.LaneRows.{Deals, stays, learns, forgets, hands, queues, row-deals}
+use Rattle.board_model.proofs.DeedRuns.{unnamed_item, unnamed_end, unnamed_request, unnamed_outcome, unnamed}
+use Rattle.board_model.proofs.UnnamedChanges.{live-unnamed}
+use Rattle.board_model.proofs.UnnamedCalls.{refusal-unnamed, request-unnamed, best-unnamed, refused-is}
 
 -- brought by one frame
 abbrev pub IsOne : Item → Type 0
@@ -96,21 +95,12 @@ held_all s (c ∷ cs) one held = held_all (changed s c) cs one.1 (held-changed s
 abbrev RowBringsOne : Row → Type 0
 RowBringsOne r = AllByRecursion BringsOne r.happens
 
-names_one : (peer : ℕ) (known : Names) (o : Option EndName) (address : ℕ) (there : Bool) → RowBringsOne (first_row (name_rows peer known o address there))
-names_one peer known None address there = tt
-names_one peer known (Some n) address true = first-all RowBringsOne (name_rows peer known (Some n) address true) tt (tt, (tt, ((tt, (tt, tt)), tt)))
-names_one peer known (Some n) address false = first-all RowBringsOne (name_rows peer known (Some n) address false) tt (tt, (tt, ((tt, tt), tt)))
-
-letters_one : (s : DomainState) (peer name source destination : ℕ) (o : Option Endpoint) (l : PlainLetter) → RowBringsOne (first_row (letter_rows s peer (Some name) source destination o l))
-letters_one s peer name source destination None l = tt
-letters_one s peer name source destination (Some e) (msg priority content) =
-    first-all RowBringsOne (letter_rows s peer (Some name) source destination (Some e) (msg priority content)) tt ((refl, tt), ((refl, tt), tt))
-letters_one s peer name source destination (Some e) other = tt
-
-rows_one : (s : DomainState) (peer name : ℕ) (r : Reading) → RowBringsOne (row_of s peer (Some name) r)
-rows_one s peer name (is_faulty f) = tt
-rows_one s peer name (announces text address there) = names_one peer (names_of (peer_at s peer)) (endpoint_named text) address there
-rows_one s peer name (says source destination l) = letters_one s peer name source destination (endpoint_of s destination) l
+row_one : (s : DomainState) (peer name : ℕ) (r : Row) → Deals s peer (Some name) r → RowBringsOne r
+row_one s peer name r (stays is gives) = subst (AllByRecursion BringsOne) (sym is) tt
+row_one s peer name r (learns n a names is gives) = subst (AllByRecursion BringsOne) (sym is) (tt, (tt, tt))
+row_one s peer name r (forgets names is gives) = subst (AllByRecursion BringsOne) (sym is) (tt, tt)
+row_one s peer name r (hands at source priority content e found waits is keeps) = subst (AllByRecursion BringsOne) (sym is) (refl, tt)
+row_one s peer name r (queues at source priority content e found is keeps) = subst (AllByRecursion BringsOne) (sym is) (refl, tt)
 
 -- ---- calls
 
@@ -196,7 +186,7 @@ deed-held t (looks_back peer count) named held = record { queued = held.queued; 
 deed-held t (puts_owed peer frame) named held = record { queued = held.queued; lent = held.lent }
 deed-held t (looks_ahead peer count) named held = record { queued = held.queued; lent = held.lent }
 deed-held t (takes peer None frame word) named held = absurd cc
-deed-held t (takes peer (Some name) frame word) named held = held_all (changed t (frame_taken peer)) (row_of t peer (Some name) (reading frame)).happens (rows_one t peer name (reading frame)) (record { queued = held.queued; lent = held.lent })
+deed-held t (takes peer (Some name) frame word) named held = held_all (changed t (frame_taken peer)) (row_of t peer (Some name) (reading frame)).happens (row_one t peer name (row_of t peer (Some name) (reading frame)) (row-deals t peer (Some name) (reading frame))) (record { queued = held.queued; lent = held.lent })
 deed-held t (calls node call a) named held = held_all t (call_changes t node call) (call_one t held node call) held
 
 pub deeds-held : (t : DomainState) (ds : List Deed) → AllByRecursion HasName ds → Held t → Held (after_deeds t ds)
@@ -216,13 +206,12 @@ names-count peer (i ∷ items) one =
     go false = omega arith
 
 -- what is given back is the same but for the names of frames
-live_queue : (o : Option Endpoint) → queue_in o ≡ at_live o (λ e. e.queue)
-live_queue None = refl
-live_queue (Some e) = refl
-
-live_best : (o : Option Endpoint) → option_to_list (best (λ (i : Item). i.priority) (queue_in o)) ≡ at_live o (λ e. option_to_list (best_item e))
-live_best None = refl
-live_best (Some e) = refl
+live_same : (t : DomainState) (at : Local) (f : Endpoint → List Item) → ((e : Endpoint) → f (unnamed_end e) ≡ map unnamed_item (f e)) → at_live (live_at (unnamed t) at) f ≡ map unnamed_item (at_live (live_at t at) f)
+live_same t at f same = ap (λ o. at_live o f) (live-unnamed t at) ∙ go (live_at t at)
+  where
+    go : (o : Option Endpoint) → at_live (option_map unnamed_end o) f ≡ map unnamed_item (at_live o f)
+    go None = refl
+    go (Some e) = same e
 
 same_best : (o : Option Item) → option_to_list (option_map unnamed_item o) ≡ map unnamed_item (option_to_list o)
 same_best None = refl
@@ -236,22 +225,18 @@ same_outcome (Some (is_rejected reason)) = refl
 same_outcome (Some (has_item i)) = refl
 same_outcome (Some (has_ended word)) = refl
 
-same_held : (o : Option Request) → effects.held_by (option_map unnamed_request o) ≡ map unnamed_item (held_by o)
+same_held : (o : Option Request) → held_by (option_map unnamed_request o) ≡ map unnamed_item (held_by o)
 same_held None = refl
 same_held (Some r) = same_outcome r.outcome
 
 module _ (t : DomainState) (node : ℕ) where
-  success_same : (call : DomainCall) → effects.success_returns (unnamed t) node call ≡ map unnamed_item (success_returned t node call)
-  success_same (delete_at port) = queue-unnamed t (local node port) ∙ ap (map unnamed_item) (ap queue_in (at-live t (local node port)) ∙ live_queue (live_at t (local node port)))
-  success_same (receive_at port max) =
-      ap (λ q. option_to_list (best (λ (i : Item). i.priority) q)) (queue-unnamed t (local node port))
-      ∙ (ap option_to_list (best-unnamed (queue_at t (local node port)))
-      ∙ (same_best (best (λ i. i.priority) (queue_at t (local node port)))
-      ∙ ap (map unnamed_item) (ap (λ o. option_to_list (best (λ (i : Item). i.priority) (queue_in o))) (at-live t (local node port)) ∙ live_best (live_at t (local node port)))))
-  success_same (test_of request) = ap effects.held_by (request-unnamed t request) ∙ same_held (request_at_place t request)
+  success_same : (call : DomainCall) → success_returned (unnamed t) node call ≡ map unnamed_item (success_returned t node call)
+  success_same (delete_at port) = live_same t (local node port) (λ e. e.queue) (λ e. refl)
+  success_same (receive_at port max) = live_same t (local node port) (λ e. option_to_list (best_item e)) (λ e. ap option_to_list (best-unnamed e.queue) ∙ same_best (best_item e))
+  success_same (test_of request) = ap held_by (request-unnamed t request) ∙ same_held (request_at_place t request)
   success_same other = refl
 
-  pub returned-same : (call : DomainCall) → effects.returns (unnamed t) node call ≡ map unnamed_item (returned t node call)
+  pub returned-same : (call : DomainCall) → returned (unnamed t) node call ≡ map unnamed_item (returned t node call)
   returned-same call = ap₂ (λ o items. unless_refused o [] items) (refusal-unnamed t node call) (success_same call) ∙ go (refusal t node call)
     where
       go : (o : Option Refusal) → unless_refused o [] (map unnamed_item (success_returned t node call)) ≡ map unnamed_item (unless_refused o [] (success_returned t node call))
@@ -259,20 +244,8 @@ module _ (t : DomainState) (node : ℕ) where
       go (Some word) = refl
 
   -- a call that answers with a word gives back nothing
-  none_success : (word : Refusal) (call : DomainCall) → refuses word ≡ success t node call → success_returned t node call ≡ []
-  none_success word (delete_at port) is = absurd cc
-  none_success word (test_of request) is = absurd cc
-  none_success word (receive_at port max) is =
-      let none : best (λ i. i.priority) (queue_at t (local node port)) ≡ None = none-given max word (best (λ i. i.priority) (queue_at t (local node port))) is in
-      sym (ap (λ o. option_to_list (best (λ (i : Item). i.priority) (queue_in o))) (at-live t (local node port)) ∙ live_best (live_at t (local node port))) ∙ ap option_to_list none
-  none_success word other is = refl
-
   pub none-returned : (word : Refusal) (call : DomainCall) → refuses word ≡ answer t node call → returned t node call ≡ []
-  none-returned word call is = go (refusal t node call) is
-    where
-      go : (o : Option Refusal) → refuses word ≡ answer_by o (success t node call) → unless_refused o [] (success_returned t node call) ≡ []
-      go (Some other) told = refl
-      go None told = none_success word call told
+  none-returned word call is = ap (λ o. unless_refused o [] (success_returned t node call)) (refused-is t node word call is)
 
 count_unnamed : (peer : ℕ) (items : List Item) → count_by (is_from peer) (map unnamed_item items) ≡ count_by (is_from peer) items
 count_unnamed peer [] = refl
@@ -280,7 +253,7 @@ count_unnamed peer (i ∷ items) =
     count-cons (is_from peer) (unnamed_item i) (map unnamed_item items) ∙ (ap (λ n. one_if (is_from peer i) + n) (count_unnamed peer items) ∙ sym (count-cons (is_from peer) i items))
 
 -- as many as a call gives back
-pub returned-count : (peer : ℕ) (t : DomainState) (node : ℕ) (call : DomainCall) → Held t → length (frames_from peer (returned t node call)) ≡ count_by (is_from peer) (effects.returns (unnamed t) node call)
+pub returned-count : (peer : ℕ) (t : DomainState) (node : ℕ) (call : DomainCall) → Held t → length (frames_from peer (returned t node call)) ≡ count_by (is_from peer) (returned (unnamed t) node call)
 returned-count peer t node call held =
     names-count peer (returned t node call) (returned-one t held node call)
     ∙ (sym (count_unnamed peer (returned t node call)) ∙ ap (count_by (is_from peer)) (sym (returned-same t node call)))

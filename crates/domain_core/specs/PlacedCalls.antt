@@ -1,4 +1,4 @@
--- What a call changes. A refused call changes nothing.
+-- What a call's success changes at once, by places. It is what the board's definitions say one change after the other (`CallsAgree`).
 -- Source: docs/PROFILE.md, "Calls".
 use Rattle.std.specs.Prelude.{ℕ, ◌+◌, ◌-◌, ◌%◌, ◌^◌, true, false, ◌==◌, List, [], ◌∷◌, ◌++◌, map, Option, None, Some, option_map, option_to_list, unwrap_or, if◌then◌else◌}
 use Rattle.mc_base.specs.Limits.{first_address}
@@ -8,11 +8,12 @@ use Rattle.mc_base.specs.declared.refusal.Refusal.{Refusal}
 use Rattle.mc_base.specs.declared.refusal.Refusal.TheVariants.{EndpInvalid}
 use Rattle.board_model.specs.DomainCall.{DomainCall, create_at, delete_at, lookup_of, send_from, receive_at, request_at, available_at, test_of, cancel_of, turn_alone}
 use Rattle.board_model.specs.Lists.{changed, without, with_rising}
-use Rattle.board_model.specs.State.{DomainState, Endpoint, Item, Announcement, Peer, Asked, name_of, message_at, Outcome, has_address, has_item, has_ended, Request, request_at_place, item_in, place_at, address_at, queue_at, place_of_peer, waits_at}
+use Rattle.board_model.specs.State.{DomainState, Endpoint, Item, Announcement, Peer, Asked, name_of, message_at, Outcome, has_address, has_item, has_ended, Request, request_at_place, place_at, address_at, queue_at, place_of_peer, waits_at}
 use Rattle.board_model.specs.Choice.{best, without_best}
-use Rattle.board_model.specs.Dealing.{with_found}
-use Rattle.board_model.specs.Turn.{with_peers}
-use Rattle.board_model.specs.Answer.{local, address_of, refusal, unless_refused}
+use Rattle.board_model.specs.Answer.{local, address_of}
+use Rattle.board_model.specs.CallChanges.{held_by}
+use Rattle.domain_core.specs.PlacedFrames.{with_found}
+use Rattle.domain_core.specs.PlacedVisits.{with_peers}
 
 -- a new endpoint. Its address is 1024 and the number of endpoints that were created before
 abbrev pub new_endpoint : DomainState → Local → Endpoint
@@ -71,21 +72,9 @@ success_effect s node (test_of request) = record s { requests = without request 
 success_effect s node (cancel_of request) = record s { requests = without request s.requests }
 success_effect s node turn_alone = s
 
--- the effect of a call
-abbrev pub effect : DomainState → ℕ → DomainCall → DomainState
-effect s node call = unless_refused (refusal s node call) s (success_effect s node call)
-
--- the item that a request holds
-abbrev pub held_by : Option Request → List Item
-held_by None = []
-held_by (Some r) = item_in r.outcome
-
 -- the items whose buffers success gives back, in that order
 abbrev pub success_returns : DomainState → ℕ → DomainCall → List Item
 success_returns s node (delete_at port) = queue_at s (local node port)
 success_returns s node (receive_at port max) = option_to_list (best_queued s (local node port))
 success_returns s node (test_of request) = held_by (request_at_place s request)
 success_returns s node other = []
-
-abbrev pub returns : DomainState → ℕ → DomainCall → List Item
-returns s node call = unless_refused (refusal s node call) [] (success_returns s node call)

@@ -1,5 +1,5 @@
 -- What a call answers, puts and does in a state but for the names of frames is as in the state.
-use Rattle.std.proofs.Common.{◌≡◌, ℕ, ◌+◌, false, not, cond, List, [], ◌∷◌, map, length, Option, Some, None, refl, sym, ap, ap₂, ◌∙◌}
+use Rattle.std.proofs.Common.{◌≡◌, ℕ, ◌+◌, true, false, not, cond, List, [], ◌∷◌, map, length, Option, Some, None, refl, sym, ap, ap₂, ◌∙◌}
 use Rattle.std.specs.Prelude.{nat_le, option_map, ◌==◌, is_some, unwrap_or}
 use Rattle.std.proofs.lemmas.List.{length-map}
 use Rattle.mc_base.specs.Limits.{record_limit, request_limit}
@@ -12,14 +12,16 @@ use Rattle.mc_base.specs.declared.refusal.Refusal.TheVariants.{ExistsAlready, En
 use Rattle.board_model.specs.State.{Item, Endpoint, Outcome, has_address, is_accepted, is_rejected, has_item, has_ended, Asked, name_of, message_at, Request, DomainState, is_at, live_at, endpoint_at, address_at, queue_in, queue_at, request_at_place, peer_of}
 use Rattle.board_model.specs.Choice.{best}
 use Rattle.board_model.specs.DomainCall.{DomainCall, create_at, delete_at, lookup_of, send_from, receive_at, request_at, available_at, test_of, cancel_of, turn_alone}
-use Rattle.board_model.specs.Journal.{tells, completes}
+use Rattle.board_model.specs.Journal.{refuses, tells, completes}
 use Rattle.board_model.specs.Answer.{local, here, known_address, address_of, has_channel, named, request_named, is_complete, success_puts, lacks_buffers, holds, words_of, refusal, given, result_by, result_of, success, answer_by, answer, unless_refused, puts}
 use Rattle.board_model.specs.Change.{Change, endpoint_gone, best_gone, request_added, waiting_ended, end_announced}
 use Rattle.board_model.specs.CallChanges.{at_live, best_item, success_changes, call_changes}
 use Rattle.board_model.proofs.DeedRuns.{unnamed_item, unnamed_end, unnamed_outcome, unnamed_request, unnamed}
+use Rattle.board_model.proofs.MessageAlls.{none-passes}
+use Rattle.board_model.proofs.MessageBest.{best-none}
 use Rattle.board_model.proofs.MessageLists.{get-position}
-use Rattle.board_model.proofs.BridgeLists.{is_some-map, option-map-map, get-mapped, find-alike, best-mapped}
-use Rattle.board_model.proofs.BridgeUnnamed.{live-unnamed, place-unnamed, unnamed_change}
+use Rattle.board_model.proofs.ListsMapped.{is_some-map, option-map-map, get-mapped, find-alike, best-mapped}
+use Rattle.board_model.proofs.UnnamedChanges.{live-unnamed, place-unnamed, unnamed_change}
 
 -- ---- endpoints
 
@@ -186,3 +188,33 @@ module _ (s : DomainState) (node : ℕ) where
       go : (o : Option Refusal) → map unnamed_change (unless_refused o [] (success_changes s node call)) ≡ unless_refused o [] (map unnamed_change (success_changes s node call))
       go None = refl
       go (Some word) = refl
+
+-- ---- a call that answers with a word is refused with it
+
+pub refused-is : (u : DomainState) (node : ℕ) (word : Refusal) (call : DomainCall) → refuses word ≡ answer u node call → refusal u node call ≡ Some word
+refused-is u node word call is = go (refusal u node call) refl is
+  where
+    gives_none : (max : ℕ) (o : Option Item) → refuses word ≡ given max o → o ≡ None
+    gives_none max None told = refl
+    gives_none max (Some i) told = absurd cc
+
+    -- a receive that is not refused finds something queued
+    never : (call : DomainCall) → refusal u node call ≡ None → refuses word ≡ success u node call → ⊥
+    never (receive_at port max) none told =
+        let q : List Item = queue_at u (local node port) in
+        let empty : q ≡ [] = best-none (λ (i : Item). i.priority) (queue_at u (local node port)) (gives_none max (best (λ i. i.priority) (queue_at u (local node port))) told) in
+        let some : (length (queue_at u (local node port)) == 0) ≡ false = (none-passes (holds u node (receive_at port max)) (words_of (receive_at port max)) none).1.1.0 in
+        absurd (let no_way : (length q == 0) ≡ true = ap (λ (xs : List Item). length xs == 0) empty in cc)
+    never (create_at port) none told = absurd cc
+    never (delete_at port) none told = absurd cc
+    never (lookup_of name) none told = absurd cc
+    never (send_from port to priority bytes) none told = absurd cc
+    never (request_at port max) none told = absurd cc
+    never (available_at port) none told = absurd cc
+    never (test_of request) none told = absurd cc
+    never (cancel_of request) none told = absurd cc
+    never turn_alone none told = absurd cc
+
+    go : (o : Option Refusal) → refusal u node call ≡ o → refuses word ≡ answer_by o (success u node call) → refusal u node call ≡ Some word
+    go (Some other) at told = at ∙ ap Some (let same : other ≡ word = cc in same)
+    go None at told = absurd (never call at told)

@@ -15,9 +15,9 @@ use Rattle.board_model.specs.Deeds.{Deed, after_deeds, along}
 use Rattle.board_model.specs.JournalDeeds.{entry_deeds, deeds_along, deeds_of, opened}
 use Rattle.board_model.specs.Given.{names_given}
 use Rattle.board_model.proofs.DeedRuns.{IsDeedRun, puts_by, takes_by, unnamed}
-use Rattle.board_model.proofs.BridgeRuns.{AllAllowed, allowed-all, opened-sound, run-leads, run-named, run-puts, pending}
-use Rattle.board_model.proofs.BridgeTraffic.{run-takes}
-use Rattle.board_model.proofs.BridgeGiven.{opened-held, run-given}
+use Rattle.board_model.proofs.RunDeeds.{AllAllowed, allowed-all, opened-differ, run-leads, run-named, run-puts, pending}
+use Rattle.board_model.proofs.DeedTraffic.{run-takes}
+use Rattle.board_model.proofs.DeedGiven.{opened-held, run-given}
 
 -- ---- entries that are joined
 
@@ -50,15 +50,14 @@ pub record Front (s : Scenario) (j : DomainJournal) (xs ys : List PlainEntry) : 
 pub front : (s : Scenario) (j : DomainJournal) → IsLinkedBoard s → IsDomainRun s j.line j.entries → (xs ys : List PlainEntry) → j.entries ≡ xs ++ ys → Front s j xs ys
 front s j board run xs ys split =
     let lines : List CallLine = script s j.line.domain in
-    let sound = opened-sound s j board in
     let all = subst (λ es. AllAllowed (script s j.line.domain) (start s j.line) es) split (allowed-all lines (start s j.line) (left_by s j.line j.entries) j.entries run.steps) in
     let allowed = allowed-front lines (start s j.line) xs ys all in
-    let leads = run-leads lines [] (start s j.line) (opened s j) xs refl sound allowed in
+    let leads = run-leads lines [] (start s j.line) (opened s j) xs refl allowed in
     record {
       begins = ap (λ es. deeds_along (script s j.line.domain) [] (start s j.line) es) split ∙ deeds-join lines [] (start s j.line) xs ys;
-      run = record { may = leads.may; named = run-named lines [] [] (start s j.line) (opened s j) xs refl sound (λ p. refl) allowed };
+      run = record { may = leads.may; named = run-named lines [] [] (start s j.line) (opened s j) xs refl (opened-differ s j board) (λ p. refl) allowed };
       state = sym leads.leads;
-      puts = λ peer. run-puts lines peer [] (start s j.line) (opened s j) xs refl sound allowed;
+      puts = λ peer. run-puts lines peer [] (start s j.line) (opened s j) xs refl allowed;
       takes = λ peer. sym (run-takes peer lines [] (start s j.line) xs);
-      gives = λ peer. run-given peer lines [] (start s j.line) (opened s j) xs refl sound (opened-held s j) allowed;
+      gives = λ peer. run-given peer lines [] (start s j.line) (opened s j) xs refl (opened-held s j) allowed;
     }

@@ -1,5 +1,4 @@
--- Frames: the row that a frame has by what it says is the row that it has by its bytes, and what happens leads to the state that the row
--- leaves.
+-- Frames: the row that a frame has by its bytes is the one that it has by what it says, and leaves the state to which its changes lead.
 use Rattle.std.proofs.Common.{◌≡◌, ℕ, Bool, true, false, not, ◌&&◌, cond, List, [], ◌∷◌, map, length, drop, Option, Some, None, refl, sym, ap, ◌∙◌, subst}
 use Rattle.std.specs.Prelude.{position, option_map, option_and_then, ◌==◌, nat_le, slice_index, is_some, is_none}
 use Rattle.mc_base.specs.Bytes.{number_at}
@@ -15,20 +14,18 @@ use Rattle.mc_base.specs.declared.fault.Fault.{Fault}
 use Rattle.mc_base.specs.declared.name.EndName.{EndName}
 use Rattle.mc_base.specs.declared.fate.Fate.TheVariants as fate
 use Rattle.board_model.specs.State.{Item, Endpoint, DomainState, has_address_of, endpoint_of, is_numbered, place_of_address, place_waiting_for, place_of_waiting, waits_at, one_waits}
-use Rattle.board_model.specs.Dealing.{item_of, with_item, with_handed, queued_last, complete_with, is_announcement, announced_name, announced_address, tells_creation, of_domain, names_of, known_from, is_known, knowing, with_known, with_found, with_created, with_destroyed, fault_row, row_for}
-use Rattle.board_model.specs.Dealing as dealing
+use Rattle.domain_core.specs.PlacedFrames.{item_of, with_item, with_handed, queued_last, complete_with, is_announcement, announced_name, announced_address, tells_creation, of_domain, known_from, is_known, knowing, with_known, with_found, with_created, with_destroyed, fault_row, found_for, row_for}
+use Rattle.domain_core.specs.PlacedFrames as dealing
 use Rattle.board_model.specs.Lists as lists
 use Rattle.board_model.specs.Change.{Change, item_queued, item_handed, name_found, names_known, handed_in, changed, changed_all}
-use Rattle.board_model.specs.TakenFrames.{Row, row, last_row, first_row, name_rows, message_item, letter_rows, row_of}
+use Rattle.board_model.specs.TakenFrames.{Row, row, last_row, first_row, names_of, name_rows, message_item, letter_rows, row_of}
 use Rattle.board_model.proofs.MessageLists.{get-position, changed-position, some-position}
-use Rattle.board_model.proofs.BridgeLists.{any-found}
-use Rattle.board_model.proofs.BridgeUnnamed.{unnamed_change}
-use Rattle.board_model.proofs.BridgeCalls.{found-same}
+use Rattle.board_model.proofs.ListsMapped.{any-found}
 
--- a row by bytes has the word of the other, and leaves what happens by the other
+-- a row by bytes has the word of the other, and leaves the state to which the other leads
 pub record Agrees (u : DomainState) (o : Option dealing.Row) (r : Row) : Type 0 where
   pub word : option_map (λ q. q.word) o ≡ Some r.word
-  pub leaves : dealing.left_by u o ≡ changed_all u (map unnamed_change r.happens)
+  pub leaves : dealing.left_by u o ≡ changed_all u r.happens
 
 -- ---- announcements
 
@@ -43,13 +40,13 @@ named_row u foreign creates known full created destroyed more =
     ∷ dealing.row true fate.Acted destroyed
     ∷ more)
 
-creation_agrees : (u created destroyed : DomainState) (known full : Bool) (more : List dealing.Row) (happens : List Change) → created ≡ changed_all u (map unnamed_change happens) →
+creation_agrees : (u created destroyed : DomainState) (known full : Bool) (more : List dealing.Row) (happens : List Change) → created ≡ changed_all u happens →
     Agrees u (named_row u false true known full created destroyed more) (first_row (row false fate.ForeignName [] ∷ row (not known && full) fate.NamesFull [] ∷ last_row fate.Acted happens))
 creation_agrees u created destroyed true full more happens leads = record { word = refl; leaves = leads }
 creation_agrees u created destroyed false true more happens leads = record { word = refl; leaves = refl }
 creation_agrees u created destroyed false false more happens leads = record { word = refl; leaves = leads }
 
-destruction_agrees : (u created destroyed : DomainState) (known full : Bool) (more : List dealing.Row) (happens : List Change) → destroyed ≡ changed_all u (map unnamed_change happens) →
+destruction_agrees : (u created destroyed : DomainState) (known full : Bool) (more : List dealing.Row) (happens : List Change) → destroyed ≡ changed_all u happens →
     Agrees u (named_row u false false known full created destroyed more) (first_row (row false fate.ForeignName [] ∷ row (not known) fate.UnknownName [] ∷ last_row fate.Acted happens))
 destruction_agrees u created destroyed true full more happens leads = record { word = refl; leaves = leads }
 destruction_agrees u created destroyed false full more happens leads = record { word = refl; leaves = refl }
@@ -61,7 +58,6 @@ module _ (u : DomainState) (peer address : ℕ) (more : List dealing.Row) where
   created_so : (n : EndName) → with_created u peer (Some n) address ≡ changed_all u (names_known peer (learned n address (known_from u peer)) ∷ name_found n address ∷ [])
   created_so n =
       ap (λ s. with_found s n address) (known_so (learned n address (known_from u peer)))
-      ∙ ap (λ rs. record (changed u (names_known peer (learned n address (known_from u peer)))) { requests = rs }) (found-same n address u.requests)
 
   -- whether the name is one of the peer
   abbrev own_row : Bool → Option EndName → Option dealing.Row
@@ -103,7 +99,7 @@ letter_row u there message waits handed queued =
     ∷ dealing.row true fate.State u
     ∷ [])
 
-message_agrees : (u : DomainState) (waits : Bool) (handed queued : DomainState) (hands queues : List Change) → handed ≡ changed_all u (map unnamed_change hands) → queued ≡ changed_all u (map unnamed_change queues) →
+message_agrees : (u : DomainState) (waits : Bool) (handed queued : DomainState) (hands queues : List Change) → handed ≡ changed_all u hands → queued ≡ changed_all u queues →
     Agrees u (letter_row u true true waits handed queued) (first_row (row waits fate.Handed hands ∷ last_row fate.Queued queues))
 message_agrees u true handed queued hands queues leads_handed leads_queued = record { word = refl; leaves = leads_handed }
 message_agrees u false handed queued hands queues leads_handed leads_queued = record { word = refl; leaves = leads_queued }
@@ -124,9 +120,9 @@ abbrev rest_of : Fields → PlainLetter
 rest_of f = letter_by f (f.kind == 2) (f.kind == 3) (f.kind == 4) (f.kind == 5) (f.kind == 6) (f.kind == 7) (f.kind == 8) (f.kind == 9)
 
 -- none of them is a message
-module _ (u : DomainState) (peer : ℕ) (name : Option ℕ) (source destination : ℕ) where
+module _ (u : DomainState) (peer source destination : ℕ) where
   abbrev IsRefused : Endpoint → PlainLetter → Type 0
-  IsRefused e l = letter_rows u peer name source destination (Some e) l ≡ last_row fate.State []
+  IsRefused e l = letter_rows u peer None source destination (Some e) l ≡ last_row fate.State []
 
   refused : (e : Endpoint) (f : Fields) (two three four five six seven eight nine : Bool) → IsRefused e (letter_by f two three four five six seven eight nine)
   refused e f true three four five six seven eight nine = refl
@@ -146,39 +142,39 @@ module _ (u : DomainState) (peer : ℕ) (name : Option ℕ) (source destination 
 waiting_so : (u : DomainState) (a : ℕ) (e : Endpoint) → endpoint_of u a ≡ Some e → place_waiting_for u a ≡ position (waits_at e.local) u.requests
 waiting_so u a e is = ap (λ (o : Option Endpoint). option_and_then (place_of_waiting u) (option_map (λ (d : Endpoint). d.local) o)) (get-position (has_address_of a) u.endpoints ∙ is)
 
-module _ (u : DomainState) (peer : ℕ) (name : Option ℕ) (frame : List ℕ) where
+module _ (u : DomainState) (peer : ℕ) (frame : List ℕ) where
   abbrev at : ℕ
   at = destination_of frame
 
   abbrev item : Item
-  item = message_item peer name (source_of frame) (fields_in (payload_of frame)).argument (fields_in (payload_of frame)).content
+  item = message_item peer None (source_of frame) (fields_in (payload_of frame)).argument (fields_in (payload_of frame)).content
 
-  handed_so : (e : Endpoint) → endpoint_of u at ≡ Some e → with_handed u at (item_of peer frame) ≡ changed_all u (map unnamed_change (item_handed at item ∷ []))
+  handed_so : (e : Endpoint) → endpoint_of u at ≡ Some e → with_handed u at (item_of peer frame) ≡ changed_all u (item_handed at item ∷ [])
   handed_so e is =
       ap (λ o. record u { requests = lists.changed (complete_with (item_of peer frame)) o u.requests }) (waiting_so u at e is)
       ∙ (ap (λ rs. record u { requests = rs }) (changed-position (waits_at e.local) (complete_with (item_of peer frame)) u.requests)
       ∙ ap (λ o. record u { requests = handed_in o (item_of peer frame) u.requests }) (sym is))
 
-  queued_so : with_item u at (item_of peer frame) ≡ changed_all u (map unnamed_change (item_queued at item ∷ []))
+  queued_so : with_item u at (item_of peer frame) ≡ changed_all u (item_queued at item ∷ [])
   queued_so = ap (λ es. record u { endpoints = es }) (changed-position (has_address_of at) (queued_last (item_of peer frame)) u.endpoints)
 
   kind_agrees : (b : Bool) (e : Endpoint) → endpoint_of u at ≡ Some e →
       Agrees u (letter_row u true b (one_waits u e.local) (with_handed u at (item_of peer frame)) (with_item u at (item_of peer frame)))
-      (first_row (letter_rows u peer name (source_of frame) at (Some e) (cond b (msg (fields_in (payload_of frame)).argument (fields_in (payload_of frame)).content) (rest_of (fields_in (payload_of frame))))))
+      (first_row (letter_rows u peer None (source_of frame) at (Some e) (cond b (msg (fields_in (payload_of frame)).argument (fields_in (payload_of frame)).content) (rest_of (fields_in (payload_of frame))))))
   kind_agrees true e is = message_agrees u (one_waits u e.local) (with_handed u at (item_of peer frame)) (with_item u at (item_of peer frame)) (item_handed at item ∷ []) (item_queued at item ∷ []) (handed_so e is) queued_so
-  kind_agrees false e is = subst (λ rs. Agrees u (Some (dealing.row true fate.State u)) (first_row rs)) (sym (rest_refused u peer name (source_of frame) at e (fields_in (payload_of frame)))) (record { word = refl; leaves = refl })
+  kind_agrees false e is = subst (λ rs. Agrees u (Some (dealing.row true fate.State u)) (first_row rs)) (sym (rest_refused u peer (source_of frame) at e (fields_in (payload_of frame)))) (record { word = refl; leaves = refl })
 
   letter_agrees : (o : Option Endpoint) → endpoint_of u at ≡ o →
       Agrees u (letter_row u (is_some (place_of_address u at)) (slice_index (payload_of frame) 2 == 1) (is_some (place_waiting_for u at)) (with_handed u at (item_of peer frame)) (with_item u at (item_of peer frame)))
-      (first_row (letter_rows u peer name (source_of frame) at o (letter_of (fields_in (payload_of frame)))))
+      (first_row (letter_rows u peer None (source_of frame) at o (letter_of (fields_in (payload_of frame)))))
   letter_agrees None is =
       let there : is_some (place_of_address u at) ≡ false = some-position (has_address_of at) u.endpoints ∙ ap is_some is in
       subst (λ b. Agrees u (letter_row u b (slice_index (payload_of frame) 2 == 1) (is_some (place_waiting_for u at)) (with_handed u at (item_of peer frame)) (with_item u at (item_of peer frame))) (row true fate.NoEndpoint [])) (sym there) (record { word = refl; leaves = refl })
   letter_agrees (Some e) is =
       let there : is_some (place_of_address u at) ≡ true = some-position (has_address_of at) u.endpoints ∙ ap is_some is in
       let waits : is_some (place_waiting_for u at) ≡ one_waits u e.local = ap is_some (waiting_so u at e is) ∙ (some-position (waits_at e.local) u.requests ∙ sym (any-found (waits_at e.local) u.requests)) in
-      subst (λ b. Agrees u (letter_row u b (slice_index (payload_of frame) 2 == 1) (is_some (place_waiting_for u at)) (with_handed u at (item_of peer frame)) (with_item u at (item_of peer frame))) (first_row (letter_rows u peer name (source_of frame) at (Some e) (letter_of (fields_in (payload_of frame)))))) (sym there)
-      (subst (λ b. Agrees u (letter_row u true (slice_index (payload_of frame) 2 == 1) b (with_handed u at (item_of peer frame)) (with_item u at (item_of peer frame))) (first_row (letter_rows u peer name (source_of frame) at (Some e) (letter_of (fields_in (payload_of frame)))))) (sym waits)
+      subst (λ b. Agrees u (letter_row u b (slice_index (payload_of frame) 2 == 1) (is_some (place_waiting_for u at)) (with_handed u at (item_of peer frame)) (with_item u at (item_of peer frame))) (first_row (letter_rows u peer None (source_of frame) at (Some e) (letter_of (fields_in (payload_of frame)))))) (sym there)
+      (subst (λ b. Agrees u (letter_row u true (slice_index (payload_of frame) 2 == 1) b (with_handed u at (item_of peer frame)) (with_item u at (item_of peer frame))) (first_row (letter_rows u peer None (source_of frame) at (Some e) (letter_of (fields_in (payload_of frame)))))) (sym waits)
       (kind_agrees (slice_index (payload_of frame) 2 == 1) e is))
 
   -- ---- all that a frame may say
@@ -207,16 +203,16 @@ module _ (u : DomainState) (peer : ℕ) (name : Option ℕ) (frame : List ℕ) w
       ∷ dealing.row false fate.State u
       ∷ []
 
-  sound_agrees : (names : Bool) → Agrees u (sound_row names) (row_of u peer name (cond names (announced_in (payload_of frame)) (says (source_of frame) at (letter_of (fields_in (payload_of frame))))))
+  sound_agrees : (names : Bool) → Agrees u (sound_row names) (row_of u peer None (cond names (announced_in (payload_of frame)) (says (source_of frame) at (letter_of (fields_in (payload_of frame))))))
   sound_agrees true =
       subst (λ known. Agrees u (sound_row true) (first_row (name_rows peer known (endpoint_named (name_in (payload_of frame))) (announced_address frame) (tells_creation frame)))) (ap names_of (get-position (is_numbered peer) u.peers))
       (announced_agrees u peer (announced_address frame) behind (tells_creation frame) (endpoint_named (name_in (payload_of frame))))
   sound_agrees false = letter_agrees (endpoint_of u at) refl
 
-  fault_agrees : (o : Option Fault) → Agrees u (dealing.first_row (fault_row u o ∷ drop 1 (dealing.rows u peer frame))) (row_of u peer name (reading_by o frame))
+  fault_agrees : (o : Option Fault) → Agrees u (dealing.first_row (fault_row u o ∷ drop 1 (dealing.rows u peer frame))) (row_of u peer None (reading_by o frame))
   fault_agrees (Some f) = record { word = refl; leaves = refl }
   fault_agrees None = sound_agrees (is_announcement frame)
 
-  pub frame-agrees : Agrees u (row_for u peer frame) (row_of u peer name (reading frame))
+  pub frame-agrees : Agrees u (row_for u peer frame) (row_of u peer None (reading frame))
   unfolding reading
   frame-agrees = fault_agrees (fault frame)
