@@ -9,13 +9,13 @@ use Rattle.board_model.specs.declared.scenario.Scenario.{Scenario}
 use Rattle.board_model.specs.LinkedBoard.{IsLinkedBoard}
 use Rattle.board_model.specs.Answer.{puts}
 use Rattle.board_model.specs.DomainCall.{DomainCall}
-use Rattle.board_model.specs.Effect.{returns}
+use Rattle.board_model.specs.CallChanges.{call_changes, returned}
 use Rattle.board_model.specs.Journal.{PlainAnswer}
 use Rattle.board_model.specs.Loads.{Load, loads_given}
 use Rattle.board_model.specs.Scenario.{Lane, lanes}
 use Rattle.board_model.specs.State.{DomainState}
 use Rattle.board_model.specs.SerialRun.{Running, loads_with_puts}
-use Rattle.board_model.proofs.LaneCalls.{call_keeps}
+use Rattle.board_model.proofs.DeedJoins.{changes-keep}
 use Rattle.board_model.proofs.MessageAlls.{all-weaken, all-with}
 use Rattle.board_model.proofs.WholePeers.{call_numbers}
 use Rattle.domain_core.specs.declared.ends.Ends.TheVariants.{Own, Linked}
@@ -52,16 +52,16 @@ own_put n (p ∷ ps) (Linked l ∷ es) matched = ap (λ (b : Bool). (cond b (nea
 -- the lanes hold what the call puts and gives back
 pub call_kept : (s : Scenario) → IsLinkedBoard s → (r : Running) (sts : List Station) → IsRun s r sts → (at : ℕ) (st new : Station) → slice_get sts at ≡ Some st →
     (node : ℕ) (call : DomainCall) (answered : PlainAnswer) (given : Option RequestId) → Does (EndsMoved Sends Receives) node call st.domain new.domain answered given →
-    LanesKept s st.domain new.domain (map (λ x. x.domain) (slice_set sts at new)) (loads_given st.domain.state.number (returns st.domain.state node call) (loads_with_puts st.domain.state.number (puts st.domain.state node call) r.loads))
+    LanesKept s st.domain new.domain (map (λ x. x.domain) (slice_set sts at new)) (loads_given st.domain.state.number (returned st.domain.state node call) (loads_with_puts st.domain.state.number (puts st.domain.state node call) r.loads))
 call_kept s board r sts run at st new is node call answered given does =
     let n = number_in st in
     let old = st.domain.state in
     let frames = puts old node call in
-    let items = returns old node call in
+    let items = returned old node call in
     let ps = peers_of st.domain in
     let matched = matched-at s board r sts run at st is in
     let differ = numbers-differ s board r sts run in
-    let number : number_in new ≡ n = ap (λ (x : DomainState). x.number) does.state ∙ call_keeps (λ x. x.number) old node call (λ t qs es gone k rs m. refl) in
+    let number : number_in new ≡ n = ap (λ (x : DomainState). x.number) does.state ∙ changes-keep (λ x. x.number) (λ x c. refl) old (call_changes old node call) in
     let peers : peers_of new.domain ≡ ps = ap (λ (x : DomainState). map (λ p. p.number) x.peers) does.state ∙ call_numbers old node call in
     let called = peer-called (item_at st.domain.book) (λ slot. refl) n frames does.slots items ps st.domain.ends new.domain.ends matched does.returned does.moved in
     let near_new : (q : ℕ) → near_among ps new.domain.ends q ≡ near_of new.domain q = λ q. ap (λ (xs : List ℕ). near_among xs new.domain.ends q) (sym peers) in

@@ -10,25 +10,25 @@ use Rattle.lane_end.specs.PlainSender.{Sends}
 use Rattle.lane_end.specs.PlainReceiver.{Receives}
 use Rattle.board_model.specs.declared.scenario.CallLine.{CallLine}
 use Rattle.board_model.specs.declared.scenario.Scenario.{Scenario}
-use Rattle.board_model.specs.Answer.{local, given, answer, answer_by, success, puts, refusal, unless_refused, success_puts}
-use Rattle.board_model.specs.Choice.{best}
-use Rattle.board_model.specs.DomainCall.{DomainCall, create_at, delete_at, lookup_of, send_from, receive_at, request_at, available_at, test_of, cancel_of, turn_alone}
-use Rattle.board_model.specs.Effect.{effect, success_effect, returns, success_returns, received, with_received, best_queued}
-use Rattle.board_model.specs.Journal.{Line, PlainEntry, again, called, PlainAnswer, noted, noted_all, joined, call_line, again_line}
+use Rattle.board_model.specs.Answer.{answer, puts, refusal, unless_refused, success_puts}
+use Rattle.board_model.specs.DomainCall.{DomainCall}
+use Rattle.board_model.specs.Change.{changed_all}
+use Rattle.board_model.specs.CallChanges.{call_changes, effect, returned, success_changes, success_returned}
+use Rattle.board_model.specs.Journal.{Line, PlainEntry, again, called, PlainAnswer, refuses, agrees, tells, gives, completes, noted, noted_all, joined, call_line, again_line}
 use Rattle.board_model.specs.Labels.{request_given, success_request, with_label}
-use Rattle.board_model.specs.Lists.{changed_at, changed, without}
+use Rattle.board_model.specs.Lists.{without}
 use Rattle.board_model.specs.Loads.{Load, loads_given, with_returned}
 use Rattle.board_model.specs.Scenario.{script, label_in}
 use Rattle.board_model.specs.Serial.{put_entry}
-use Rattle.board_model.specs.State.{DomainState, Endpoint, Item, place_at, queue_in, queue_at}
+use Rattle.board_model.specs.State.{DomainState, Item}
 use Rattle.board_model.specs.Step.{RunState, next_line, call_at, is_tried, effect_of_line, labels_of_line, after}
 use Rattle.board_model.specs.Run.{after_all}
 use Rattle.board_model.specs.SerialRun as run
 use Rattle.board_model.specs.SerialRun.{Running, with_entry, with_entries, word_in, called_by, loads_with_puts}
 use Rattle.board_model.specs.Tallies.{deleted_in, deletes_line, number_told}
-use Rattle.board_model.proofs.LaneCalls.{call_keeps}
+use Rattle.board_model.proofs.DeedJoins.{changes-keep}
+use Rattle.board_model.proofs.UnnamedCalls.{refused-is}
 use Rattle.board_model.proofs.ListsJoined.{entry_lines, JoinsWeighNothing, sum-joined}
-use Rattle.board_model.proofs.MessageBest.{without_best-none}
 use Rattle.board_model.proofs.WholeStations.{entered_all}
 use Rattle.board_model.proofs.WholeJournals.{call_entries, called_run}
 use Rattle.domain_core.specs.Calls.{Does, place_ended, success_ends}
@@ -161,83 +161,40 @@ module _ (s : Scenario) (t : run.Station) (line : CallLine) (st called_to new : 
     ids = ids_after;
     dropped = dropped_after;
     domain_number = notes.domain_number ∙ h.domain_number ∙ h.stands.domain_number;
-    own = ap (λ (r : RunState). r.state.number) leads ∙ call_keeps (λ (y : DomainState). y.number) t.run.state line.node (call_at t.run line) (λ y peers ends gone n rs m. refl) ∙ h.stands.own;
+    own = ap (λ (r : RunState). r.state.number) leads ∙ changes-keep (λ (y : DomainState). y.number) (λ y c. refl) t.run.state (call_changes t.run.state line.node (call_at t.run line)) ∙ h.stands.own;
     peers = ap peers_of notes.domain ∙ h.peers ∙ h.stands.peers;
     matched = subst (λ d. EndsMatch t.line.domain (peers_of d) d.ends) (sym notes.domain) (subst (λ n. EndsMatch n (peers_of called_to.domain) called_to.domain.ends) (ap (λ (x : DomainState). x.number) h.stands.state ∙ h.stands.own) h.matched);
   }
 
 -- ---- a call that is made again
 
--- what changes nothing at the item of a place changes nothing
-same_at : {A : Type 0} (f : A → A) (i : ℕ) (xs : List A) → ((x : A) → slice_get xs i ≡ Some x → f x ≡ x) → changed_at f i xs ≡ xs
-same_at f i [] same = refl
-same_at {A} f zero (x ∷ xs) same = ap (λ (y : A). y ∷ xs) (same x refl)
-same_at {A} f (suc i) (x ∷ xs) same = ap (λ (ys : List A). x ∷ ys) (same_at f i xs same)
-
-same_changed : {A : Type 0} (f : A → A) (o : Option ℕ) (xs : List A) → ((x : A) → option_and_then (λ i. slice_get xs i) o ≡ Some x → f x ≡ x) → changed f o xs ≡ xs
-same_changed f None xs same = refl
-same_changed f (Some i) xs same = same_at f i xs same
-
--- a receive without an item takes none
-nothing_received : (s : DomainState) (node port : ℕ) → best_queued s (local node port) ≡ None → with_received s (local node port) ≡ s
-nothing_received s node port none =
-    ap (λ (es : List Endpoint). record s { endpoints = es })
-    (same_changed received (place_at s (local node port)) s.endpoints (λ e at. ap (λ (q : List Item). record e { queue = q }) (without_best-none (λ (i : Item). i.priority) e.queue (ap (λ (o : Option Endpoint). best (λ (i : Item). i.priority) (queue_in o)) (sym at) ∙ none))))
-
 -- the call does nothing
 pub record DoesNothing (s : DomainState) (node : ℕ) (call : DomainCall) : Type 0 where
   pub effect_is : effect s node call ≡ s
   pub puts_none : puts s node call ≡ []
-  pub returns_none : returns s node call ≡ []
+  pub returns_none : returned s node call ≡ []
   pub gives_none : request_given s node call ≡ None
   pub ends_none : place_ended s node call ≡ None
 
-record SucceedsIdly (s : DomainState) (node : ℕ) (call : DomainCall) : Type 0 where
-  effect_is : success_effect s node call ≡ s
-  puts_none : success_puts s node call ≡ []
-  returns_none : success_returns s node call ≡ []
-  gives_none : success_request s call ≡ None
-  ends_none : success_ends call ≡ None
-
-given_none : (max : ℕ) (o : Option Item) → is_tried (given max o) ≡ true → o ≡ None
-given_none max None e = refl
-given_none max (Some i) e = absurd cc
-
-succeeds_idly : (s : DomainState) (node : ℕ) (call : DomainCall) → is_tried (success s node call) ≡ true → SucceedsIdly s node call
-succeeds_idly s node (create_at port) e = absurd cc
-succeeds_idly s node (delete_at port) e = absurd cc
-succeeds_idly s node (lookup_of name) e = absurd cc
-succeeds_idly s node (send_from port to priority bytes) e = absurd cc
-succeeds_idly s node (receive_at port max) e =
-    let none : best_queued s (local node port) ≡ None = given_none max (best (λ (i : Item). i.priority) (queue_at s (local node port))) e in
-    record { effect_is = nothing_received s node port none; puts_none = refl; returns_none = ap option_to_list none; gives_none = refl; ends_none = refl }
-succeeds_idly s node (request_at port max) e = absurd cc
-succeeds_idly s node (available_at port) e = absurd cc
-succeeds_idly s node (test_of p) e = absurd cc
-succeeds_idly s node (cancel_of p) e = absurd cc
-succeeds_idly s node turn_alone e = absurd cc
+tried_word : (a : PlainAnswer) → is_tried a ≡ true → (word : Refusal) × (refuses word ≡ a)
+tried_word (refuses word) e = (word, refl)
+tried_word agrees e = absurd cc
+tried_word (tells n) e = absurd cc
+tried_word (gives size bytes) e = absurd cc
+tried_word (completes how) e = absurd cc
 
 -- so does one whose word is one of those with which it is made again
 pub tried_nothing : (s : DomainState) (node : ℕ) (call : DomainCall) → is_tried (answer s node call) ≡ true → DoesNothing s node call
-tried_nothing s node call e = go (refusal s node call) refl
-  where
-    go : (o : Option Refusal) → refusal s node call ≡ o → DoesNothing s node call
-    go (Some word) is = record {
-      effect_is = ap (λ (o : Option Refusal). unless_refused o s (success_effect s node call)) is;
+tried_nothing s node call e =
+    let tried = tried_word (answer s node call) e in
+    let is = refused-is s node tried.0 call tried.1 in
+    record {
+      effect_is = ap (λ (o : Option Refusal). changed_all s (unless_refused o [] (success_changes s node call))) is;
       puts_none = ap (λ (o : Option Refusal). unless_refused o [] (success_puts s node call)) is;
-      returns_none = ap (λ (o : Option Refusal). unless_refused o [] (success_returns s node call)) is;
+      returns_none = ap (λ (o : Option Refusal). unless_refused o [] (success_returned s node call)) is;
       gives_none = ap (λ (o : Option Refusal). unless_refused o None (success_request s call)) is;
       ends_none = ap (λ (o : Option Refusal). unless_refused o None (success_ends call)) is;
     }
-    go None is =
-        let idle = succeeds_idly s node call (ap (λ (o : Option Refusal). is_tried (answer_by o (success s node call))) (sym is) ∙ e) in
-        record {
-          effect_is = ap (λ (o : Option Refusal). unless_refused o s (success_effect s node call)) is ∙ idle.effect_is;
-          puts_none = ap (λ (o : Option Refusal). unless_refused o [] (success_puts s node call)) is ∙ idle.puts_none;
-          returns_none = ap (λ (o : Option Refusal). unless_refused o [] (success_returns s node call)) is ∙ idle.returns_none;
-          gives_none = ap (λ (o : Option Refusal). unless_refused o None (success_request s call)) is ∙ idle.gives_none;
-          ends_none = ap (λ (o : Option Refusal). unless_refused o None (success_ends call)) is ∙ idle.ends_none;
-        }
 
 -- and so it leaves the lanes
 pub nothing_given : (d : ℕ) (loads : List Load) → loads_given d [] loads ≡ loads
@@ -296,7 +253,7 @@ module _ (s : Scenario) (t : run.Station) (line : CallLine) (st called_to new : 
   }
 
   -- nothing is put or given back
-  pub again_loads : (loads : List Load) → loads_given st.domain.state.number (returns st.domain.state line.node call) (loads_with_puts st.domain.state.number (puts st.domain.state line.node call) loads) ≡ loads
+  pub again_loads : (loads : List Load) → loads_given st.domain.state.number (returned st.domain.state line.node call) (loads_with_puts st.domain.state.number (puts st.domain.state line.node call) loads) ≡ loads
   again_loads loads =
       ap₂ (λ (items : List Item) (ps : List (ℕ × List ℕ)). loads_given st.domain.state.number items (loads_with_puts st.domain.state.number ps loads)) nothing.returns_none nothing.puts_none
       ∙ nothing_given st.domain.state.number loads

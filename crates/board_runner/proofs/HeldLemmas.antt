@@ -18,7 +18,7 @@ use Rattle.board_model.specs.DomainCall.{DomainCall, create_at, delete_at, looku
 use Rattle.board_model.specs.Lists.{without_at, without}
 use Rattle.board_model.specs.State.{DomainState, place_of_request}
 use Rattle.board_model.specs.Answer.{refusal, unless_refused}
-use Rattle.board_model.specs.Effect.{effect}
+use Rattle.board_model.specs.CallChanges.{effect}
 use Rattle.board_model.specs.Labels.{Labelled, serial_of, place_of_label, call_of, request_given, with_label}
 use Rattle.board_model.proofs.MessageAlls.{all-append, all-weaken, all-without}
 use Rattle.board_model.proofs.SerialRequests.{serials, call_serials, call_gives, given_is, request_ended, success_ended, keyed_place}

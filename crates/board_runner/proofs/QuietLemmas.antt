@@ -13,7 +13,7 @@ use Rattle.board_model.specs.declared.scenario.Call.TheVariants.{Create, Delete,
 use Rattle.board_model.specs.declared.scenario.CallLine.{CallLine}
 use Rattle.board_model.specs.Answer.{puts, refusal, unless_refused}
 use Rattle.board_model.specs.DomainCall.{turn_alone}
-use Rattle.board_model.specs.Effect.{returns}
+use Rattle.board_model.specs.CallChanges.{returned}
 use Rattle.board_model.specs.Journal.{Line, turn_line, back_line, put_line, see_line, looked, taken_line, visit_lines, Visit, Taken, is_idle, turned, noted, noted_idle, noted_all}
 use Rattle.board_model.specs.Serial.{put_entry}
 use Rattle.board_model.specs.State.{DomainState, Item}
@@ -195,10 +195,10 @@ nothing_refused : (o : Option Refusal) → unless_refused {A = List Item} o [] [
 nothing_refused None = refl
 nothing_refused (Some word) = refl
 
-turn_returns : (line : CallLine) (st : Station) (s : DomainState) → is_turn line.call ≡ true → returns s line.node (call_at_station line st) ≡ []
+turn_returns : (line : CallLine) (st : Station) (s : DomainState) → is_turn line.call ≡ true → returned s line.node (call_at_station line st) ≡ []
 turn_returns line st s e = go line.call e
   where
-    go : (c : Call) → is_turn c ≡ true → returns s line.node (call_by st.ids st.domain.ids c) ≡ []
+    go : (c : Call) → is_turn c ≡ true → returned s line.node (call_by st.ids st.domain.ids c) ≡ []
     go Turn e = nothing_refused (refusal s line.node turn_alone)
     go (Create port) e = absurd cc
     go (Delete port) e = absurd cc
@@ -222,9 +222,9 @@ quiet-call line old new m makes quiet ps p h =
     let call = call_at_station line old in
     let frames = puts s line.node call in
     let told = told_idle old.journal.lines c.visits frames (ap ends_idle (sym c.told) ∙ both.1) in
-    let none : returns s line.node call ≡ [] =
+    let none : returned s line.node call ≡ [] =
     either (is_turn line.call) (is_tried (plain_answer m.answer)) both.0 (turn_returns line old s) (λ tried. (tried_nothing s line.node call (ap is_tried (sym c.does.answer) ∙ tried)).returns_none) in
-    call_stays c.turned_to.ends frames (item_at c.turned_to.book) c.does.slots (returns s line.node call) (map (λ q. q.number) s.peers) new.domain.ends told.no_puts none c.does.returned c.does.moved ps p
+    call_stays c.turned_to.ends frames (item_at c.turned_to.book) c.does.slots (returned s line.node call) (map (λ q. q.number) s.peers) new.domain.ends told.no_puts none c.does.returned c.does.moved ps p
     (idle-stays old.domain.ends c.visits c.numbers c.turned_to.ends told.idle c.turns.moved ps p h)
 
 pub quiet-where : (line : CallLine) (old new : Station) (m : Made) (b : Bool) → MakesCall line old new m → b ≡ is_quiet line.call (plain_answer m.answer) new.journal.lines → StayCarriedWhere b old.domain.ends new.domain.ends

@@ -10,7 +10,7 @@ use Rattle.board_model.specs.declared.scenario.Scenario.{Scenario}
 use Rattle.board_model.specs.LinkedBoard.{IsLinkedBoard}
 use Rattle.board_model.specs.Answer.{answer, puts}
 use Rattle.board_model.specs.DomainCall.{DomainCall}
-use Rattle.board_model.specs.Effect.{returns}
+use Rattle.board_model.specs.CallChanges.{returned}
 use Rattle.board_model.specs.Journal.{turned, again, noted, PlainAnswer}
 use Rattle.board_model.specs.Labels.{call_of}
 use Rattle.board_model.specs.Loads.{Load, loads_given}
@@ -48,7 +48,7 @@ module _ (s : Scenario) (board : IsLinkedBoard s) (q : Running) (sts : List Stat
   number_is = own_number s t st h.stands ∙ own
 
   abbrev loads : List Load
-  loads = loads_given d (returns st.domain.state line.node call) (loads_with_puts d (puts st.domain.state line.node call) q.loads)
+  loads = loads_given d (returned st.domain.state line.node call) (loads_with_puts d (puts st.domain.state line.node call) q.loads)
 
   kept : LanesKept s st.domain new.domain (domains (set sts at new)) loads
   kept = call_kept s board q sts stands at st new is_at line.node call (plain_answer m.answer) m.given (subst (λ e. Does (EndsMoved Sends Receives) line.node call st.domain e (plain_answer m.answer) m.given) (sym same) h.does)
@@ -58,9 +58,9 @@ module _ (s : Scenario) (board : IsLinkedBoard s) (q : Running) (sts : List Stat
   is_called notes comes few =
       let is = called_station s t line st called_to new m call h notes comes few in
       let go = run_entered s board q sts at t (call_entries (puts t.run.state line.node (call_at t.run line)) (t.run.lines_called + 1) (answer t.run.state line.node (call_at t.run line))) loads new stands t_at is kept.holds kept.joins in
-      let same_loads : loads ≡ loads_given line.domain (returns t.run.state line.node (call_at t.run line)) (loads_with_puts line.domain (puts t.run.state line.node (call_at t.run line)) q.loads) =
-      ap (λ (n : ℕ). loads_given n (returns st.domain.state line.node call) (loads_with_puts n (puts st.domain.state line.node call) q.loads)) number_is
-      ∙ ap₂ (λ (x : DomainState) (c : DomainCall). loads_given line.domain (returns x line.node c) (loads_with_puts line.domain (puts x line.node c) q.loads)) h.stands.state h.call_is in
+      let same_loads : loads ≡ loads_given line.domain (returned t.run.state line.node (call_at t.run line)) (loads_with_puts line.domain (puts t.run.state line.node (call_at t.run line)) q.loads) =
+      ap (λ (n : ℕ). loads_given n (returned st.domain.state line.node call) (loads_with_puts n (puts st.domain.state line.node call) q.loads)) number_is
+      ∙ ap₂ (λ (x : DomainState) (c : DomainCall). loads_given line.domain (returned x line.node c) (loads_with_puts line.domain (puts x line.node c) q.loads)) h.stands.state h.call_is in
       subst (λ (ls : List Load). IsRun s (with_entries s line.domain (call_entries (puts t.run.state line.node (call_at t.run line)) (t.run.lines_called + 1) (answer t.run.state line.node (call_at t.run line))) (record q { loads = ls })) (set sts at new)) same_loads
       (subst (λ (n : ℕ). IsRun s (with_entries s n (call_entries (puts t.run.state line.node (call_at t.run line)) (t.run.lines_called + 1) (answer t.run.state line.node (call_at t.run line))) (record q { loads = loads })) (set sts at new)) own go)
 
