@@ -1,6 +1,6 @@
 -- The requests of a domain that stand: pending, or complete and not yet tested off.
 -- Source: docs/PROFILE.md, "Requests". They are told apart by key and serial; a key may be given again, with another serial.
-use Rattle.std.specs.Prelude.{◌≡◌, ℕ, ◌+◌, ◌%◌, ◌^◌, Bool, false, true, not, ◌&&◌, ◌==◌, List, [], ◌∷◌, ◌++◌, map, filter, find, slice_get, Option, None, Some, is_none, option_map, Result, Ok, Err, if◌then◌else◌}
+use Rattle.std.specs.Prelude.{◌≡◌, ℕ, ◌+◌, ◌%◌, ◌^◌, Bool, false, true, not, ◌&&◌, ◌==◌, List, [], ◌∷◌, ◌++◌, map, filter, find, position, slice_get, Option, None, Some, is_none, option_map, Result, Ok, Err, if◌then◌else◌}
 use Rattle.mc_base.specs.declared.name.Local.{Local}
 use Rattle.mc_base.specs.declared.request.RequestId.{RequestId}
 use Rattle.mc_base.specs.declared.refusal.Refusal.{Refusal}
@@ -41,6 +41,15 @@ keys rs = map (λ r. r.id.key) rs.standing
 -- how a request is complete, or none where it is pending; none at all where no request has the id
 abbrev pub progress_of : Requests → RequestId → Option (Option Complete)
 progress_of rs id = option_map (λ r. r.complete) (request_of rs id)
+
+-- the request stands and is complete
+abbrev pub is_done : Option (Option Complete) → Bool
+is_done (Some (Some how)) = true
+is_done other = false
+
+-- the first place in the list, counted from 0, whose request is complete
+abbrev pub first_done : Requests → List RequestId → Option ℕ
+first_done rs ids = position (λ id. is_done (progress_of rs id)) ids
 
 -- the request at a place, counted from 0 in the order in which they were given
 abbrev pub listed : Requests → ℕ → Option (RequestId × Ask × Option Complete)

@@ -3,7 +3,7 @@
 ghost use Rattle.std.specs.Prelude.{◌≡◌, ◌≢◌, ◌≤◌, ◌+◌, ◌↔◌, ◌&&◌, ◌==◌, IsErr, IsSome, IfOk, IfSome, OnOk, OnErr, Some, is_none, length, find, position, option_map};
 ghost use Rattle.std.specs.List.{AllByRecursion};
 ghost use Rattle.mc_base.specs.Limits.{request_limit, no_key};
-ghost use Rattle.request_set.specs.Requests.{Requests, no_requests, keys, request_of, IsPending, with_request, without_request, with_complete, receives_at, waits_at, oldest_waiting, listed, tested, cancelled, progress_of};
+ghost use Rattle.request_set.specs.Requests.{Requests, no_requests, keys, request_of, IsPending, with_request, without_request, with_complete, receives_at, waits_at, oldest_waiting, listed, tested, cancelled, progress_of, is_done, first_done};
 ghost use Rattle.slab.specs.Slab.{get};
 ghost use Rattle.request_set.specs.InSet.{standing_of, standing_in};
 
@@ -182,6 +182,23 @@ impl RequestSet {
             serial: request.serial,
         };
         Some((id, request.ask, request.complete))
+    }
+
+    /// Returns the first place in the list whose request is complete, or `None` where there is none.
+    pub fn first_done(&self, ids: &[RequestId]) -> Option<usize>
+        ensures { result ≡ first_done self.now ids.now }
+    {
+        ids.iter().position(|id| self.is_done(*id))
+    }
+
+    /// Whether the request with this id exists and is complete.
+    fn is_done(&self, id: RequestId) -> bool
+        ensures { result ≡ is_done (progress_of self.now id) }
+    {
+        match self.kept(id) {
+            Some(request) => request.complete.is_some(),
+            None => false,
+        }
     }
 
     /// What is kept of the request with this id.

@@ -209,3 +209,36 @@ fn a_place_tells_what_was_asked_and_how_it_is_complete(rt: HostRuntime) -> Resul
     assert!(rt; tells_all(&mut set)?);
     Ok(())
 }
+
+/// A request that is complete, one that is pending, another that is complete, and one that ended.
+fn four_requests(set: &mut RequestSet) -> Result<[RequestId; 4], RequestLimit> {
+    let done = set.add(Ask::Packet(HERE))?;
+    set.complete(done, Complete::Packet(SLOT));
+    let pending = set.add(Ask::Connect(1))?;
+    let next = set.add(Ask::Lookup(NAME))?;
+    set.complete(next, ADDRESS);
+    let ended = set.add(Ask::Connect(2))?;
+    let _done = set.cancel(ended);
+    Ok([done, pending, next, ended])
+}
+
+/// Whether the first place whose request is complete is the due one, and nothing changes.
+fn first_places_are_due(set: &RequestSet, [done, pending, next, ended]: [RequestId; 4]) -> bool {
+    set.first_done(&[]).is_none()
+        && set.first_done(&[pending, ended]).is_none()
+        && set.first_done(&[done]) == Some(0)
+        && set.first_done(&[next, done]) == Some(0)
+        && set.first_done(&[pending, ended, next, done]) == Some(2)
+        && set.first_done(&[
+            ended, pending, pending, pending, pending, pending, pending, done,
+        ]) == Some(7)
+        && stand(set, &[0, 1, 2])
+}
+
+#[test]
+fn the_first_place_that_is_complete_is_found(rt: HostRuntime) -> Result<(), Fail> {
+    let mut set = RequestSet::new(rt.alloc())?;
+    let ids = four_requests(&mut set)?;
+    assert!(rt; first_places_are_due(&set, ids));
+    Ok(())
+}
