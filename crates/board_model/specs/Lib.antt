@@ -17,6 +17,7 @@ pub mod Answer
 pub mod Change
 pub mod TakenFrames
 pub mod ChannelEnds
+pub mod RingImage
 pub mod CallChanges
 pub mod Deeds
 pub mod Turn

@@ -1,0 +1,4 @@
+pub mod Firsts
+pub mod FieldBytes
+pub mod Pieces
+pub mod HexPieces

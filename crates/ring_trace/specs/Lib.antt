@@ -1,0 +1,3 @@
+pub mod ImageFaults
+pub mod WordImage
+pub mod Writes
