@@ -97,3 +97,6 @@ pub mod WholeTakes
 pub mod WholeTurns
 pub mod WholeVisits
 pub mod VisitLooks
+pub mod WordDecimals
+pub mod WordDigits
+pub mod WordHex

@@ -2,6 +2,7 @@ pub mod Lists
 pub mod Scenario
 pub mod FileLines
 pub mod FileWords
+pub mod Numerals
 pub mod Forms
 pub mod Grammar
 pub mod LineReasons

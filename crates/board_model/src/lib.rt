@@ -1,7 +1,8 @@
 //! What a board is and does: scenarios as plain types, and in `specs/` the definitions that everything is proved
-//! against. It has no code of its own beyond the types and the laws.
+//! against. It has no code of its own beyond the types, the laws
+//! and the readers of a word.
 //!
-//! `specs/` is to be read in this order: Lists, Scenario, FileLines, FileWords, Forms, Grammar, LineReasons, Language,
+//! `specs/` is to be read in this order: Lists, Scenario, FileLines, FileWords, Numerals, Forms, Grammar, LineReasons, Language,
 //! LinkedBoard, Words, Journal, State, Choice, Post, Change, Dealing, Turn, DomainCall, Answer, Effect, TakenFrames,
 //! ChannelEnds, CallChanges, Deeds, Labels, Step, Run, Traffic, Board, JournalDeeds, Given, Channels, Messages, Takings, Drops,
 //! MessageOrder, Totals, Tallies, Places, Serial, Loads, SerialRun, Report, Headline, Laws, MessageLaws, Honesty,
@@ -10,12 +11,14 @@
 
 mod form;
 pub mod laws;
+mod numeral;
 mod reason;
 mod scenario;
 mod seq;
 mod totals;
 
 pub use form::{ArgumentKind, Callee};
+pub use numeral::{decode_pairs, hex_digit, is_dash, number_to};
 pub use reason::LineReason;
 pub use scenario::{Call, CallLine, DomainLine, Label, LinkLine, Scenario};
 pub use seq::Seq;

@@ -5,7 +5,7 @@ ghost use Rattle.scenario_cli.specs.Hex.{bytes_spelled, hex_fault, is_blank as i
 ghost use Rattle.scenario_cli.specs.declared.hex.HexFault.TheVariants.{NoMemory as no_memory};
 ghost use Rattle.scenario_cli.specs.HexFault.{IsHexFault, TakesDigit};
 
-use scenario_lang::hex_digit;
+use board_model::hex_digit;
 use std::alloc::Global;
 
 /// Why a text is not read as bytes.

@@ -1,67 +1,42 @@
 -- Bytes in hexadecimal as a word of a canonical line, which is read as those bytes.
-use Rattle.std.proofs.Common.{◌≡◌, ℕ, ◌+◌, ◌-◌, ◌*◌, ◌/◌, ◌%◌, ◌<◌, ◌≤◌, true, false, ◌&&◌, List, [], ◌∷◌, length, Option, Some, refl, ap, ◌∙◌, arith, inl, inr}
+use Rattle.std.proofs.Common.{◌≡◌, ℕ, ◌+◌, ◌*◌, ◌/◌, ◌%◌, ◌<◌, ◌≤◌, true, false, ◌&&◌, List, [], ◌∷◌, length, Option, refl, ap, ◌∙◌, arith, inl, inr}
 use Rattle.std.specs.Prelude.{nat_le, nat_lt, ◌==◌, unwrap_or}
 use Rattle.std.specs.List.{list_all, flat_map, AllByRecursion}
 use Rattle.std.proofs.lemmas.Bool.{and_from, le-leb, cases_lt}
 use Rattle.std.proofs.lemmas.Bool.Decides.{nat_tests}
 use Rattle.mc_base.specs.Limits.{asked_limit}
 use Rattle.mc_base.specs.Text.{hex_digit, hex_byte, hex_text}
-use Rattle.board_model.specs.FileWords.{digit_value, byte_and, pairs_of, bytes_of, content, are_within, are_bytes, bytes}
+use Rattle.board_model.specs.FileWords.{content, are_within, are_bytes, bytes}
+use Rattle.board_model.proofs.WordHex.{bytes_of-hex}
 use Rattle.scenario_lang.proofs.SpacedLemmas.{is_seen}
 use Rattle.scenario_lang.proofs.PlainLemmas.{IsPlain, first_no_sign}
 
-low_digit : (d : ℕ) → d < 10 → (digit_value (48 + d) ≡ Some d) × (is_seen (48 + d) ≡ true) × ((48 + d == 45) ≡ false) × ((48 + d == 61) ≡ false)
-low_digit d lt =
-    let a : nat_le 48 (48 + d) ≡ true = grind arith in
-    let b : nat_le (48 + d) 57 ≡ true = grind arith in
-    let c : (48 + d) - 48 ≡ d = omega arith in
-    (rw (a, b, c) refl, grind (arith, nat_tests), grind (arith, nat_tests), grind (arith, nat_tests))
+low_digit : (d : ℕ) → d < 10 → (is_seen (48 + d) ≡ true) × ((48 + d == 61) ≡ false)
+low_digit d lt = (grind (arith, nat_tests), grind (arith, nat_tests))
 
-high_digit : (d : ℕ) → 10 ≤ d → d < 16 → (digit_value (87 + d) ≡ Some d) × (is_seen (87 + d) ≡ true) × ((87 + d == 45) ≡ false) × ((87 + d == 61) ≡ false)
-high_digit d le lt =
-    let a : nat_le 48 (87 + d) ≡ true = grind arith in
-    let b : nat_le (87 + d) 57 ≡ false = grind arith in
-    let e : nat_le 97 (87 + d) ≡ true = grind arith in
-    let f : nat_le (87 + d) 102 ≡ true = grind arith in
-    let c : (87 + d) - 87 ≡ d = omega arith in
-    (rw (a, b, e, f, c) refl, grind (arith, nat_tests), grind (arith, nat_tests), grind (arith, nat_tests))
+high_digit : (d : ℕ) → 10 ≤ d → d < 16 → (is_seen (87 + d) ≡ true) × ((87 + d == 61) ≡ false)
+high_digit d le lt = (grind (arith, nat_tests), grind (arith, nat_tests))
 
-abbrev IsHex : ℕ → ℕ → Type 0
-IsHex d b = (digit_value b ≡ Some d) × (is_seen b ≡ true) × ((b == 45) ≡ false) × ((b == 61) ≡ false)
+abbrev IsHex : ℕ → Type 0
+IsHex b = (is_seen b ≡ true) × ((b == 61) ≡ false)
 
-hex_digit-is : (d : ℕ) → d < 16 → IsHex d (hex_digit d)
+hex_digit-is : (d : ℕ) → d < 16 → IsHex (hex_digit d)
 hex_digit-is d lt = elim (cases_lt d 10) [
   | inl low ↦ let test : nat_lt d 10 ≡ true = grind arith in rw test (low_digit d low)
   | inr high ↦ let test : nat_lt d 10 ≡ false = grind arith in rw test (high_digit d high lt)
 ]
 
-pairs_of-hex : (bs : List ℕ) → AllByRecursion (λ b. b < 256) bs → pairs_of (flat_map hex_byte bs) ≡ Some bs
-pairs_of-hex [] small = refl
-pairs_of-hex (b ∷ bs) small =
-    let below : b < 256 = small.0 in
-    let whole : (b / 16) * 16 + b % 16 ≡ b = omega arith in
-    let high = (hex_digit-is (b / 16) (omega arith)).0 in
-    let low = (hex_digit-is (b % 16) (omega arith)).0 in
-    ap (λ (o : Option (List ℕ)). byte_and (digit_value (hex_digit (b / 16))) (digit_value (hex_digit (b % 16))) o) (pairs_of-hex bs small.1)
-    ∙ ap (λ (o : Option ℕ). byte_and o (digit_value (hex_digit (b % 16))) (Some bs)) high
-    ∙ ap (λ (o : Option ℕ). byte_and (Some (b / 16)) o (Some bs)) low
-    ∙ ap (λ (v : ℕ). Some (v ∷ bs)) whole
-
 hex_seen : (bs : List ℕ) → AllByRecursion (λ b. b < 256) bs → list_all is_seen (flat_map hex_byte bs) ≡ true
 hex_seen [] small = refl
 hex_seen (b ∷ bs) small =
     let below : b < 256 = small.0 in
-    let high = (hex_digit-is (b / 16) (omega arith)).1 in
-    let low = (hex_digit-is (b % 16) (omega arith)).1 in
+    let high = (hex_digit-is (b / 16) (omega arith)).0 in
+    let low = (hex_digit-is (b % 16) (omega arith)).0 in
     and_from (is_seen (hex_digit (b / 16))) (is_seen (hex_digit (b % 16)) && list_all is_seen (flat_map hex_byte bs)) high (and_from (is_seen (hex_digit (b % 16))) (list_all is_seen (flat_map hex_byte bs)) low (hex_seen bs small.1))
 
 hex_length : (bs : List ℕ) → length (flat_map hex_byte bs) ≡ 2 * length bs
 hex_length [] = refl
 hex_length (b ∷ bs) = omega (arith, hex_length bs)
-
-pub bytes_of-hex : (bs : List ℕ) → AllByRecursion (λ b. b < 256) bs → bytes_of (hex_text bs) ≡ Some bs
-bytes_of-hex [] small = refl
-bytes_of-hex (b ∷ bs) small = pairs_of-hex (b ∷ bs) small
 
 pub are_bytes-hex : (bs : List ℕ) → AllByRecursion (λ b. b < 256) bs → length bs ≤ asked_limit → are_bytes (content 0 asked_limit (hex_text bs)) ≡ true
 are_bytes-hex bs small few =
@@ -77,6 +52,6 @@ hex-plain (b ∷ bs) small few =
     let rest : List ℕ = hex_digit (b % 16) ∷ flat_map hex_byte bs in
     record {
       is = hex_seen (b ∷ bs) small;
-      no_sign = first_no_sign (hex_digit (b / 16)) rest (hex_digit-is (b / 16) (omega arith)).3;
+      no_sign = first_no_sign (hex_digit (b / 16)) rest (hex_digit-is (b / 16) (omega arith)).1;
       few = omega (arith, hex_length (b ∷ bs), few);
     }

@@ -19,7 +19,7 @@ use Rattle.board_model.specs.LineReasons.{is_domain, has_wrong_domain, tells_wro
 use Rattle.board_model.proofs.LawfulForms.{AreFit, call_with}
 use Rattle.board_model.proofs.LawfulTelling.{HoldNot}
 use Rattle.board_model.proofs.LawfulRanges.{TriesFit}
-use Rattle.scenario_lang.proofs.DecimalLemmas.{Begins, decimal-begins, number-decimal, is_number-decimal}
+use Rattle.board_model.proofs.WordDecimals.{Begins, decimal-begins, number-decimal, is_number-decimal}
 use Rattle.scenario_lang.proofs.SpacedLemmas.{is_word, all-pass, room, room-append}
 use Rattle.scenario_lang.proofs.PlainLemmas.{IsPlain, begun_plain, decimal-plain, decimal-few, label-plain}
 use Rattle.scenario_lang.proofs.NameWordLemmas.{two_parts, joined-seen}

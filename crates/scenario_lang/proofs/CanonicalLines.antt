@@ -12,7 +12,7 @@ use Rattle.board_model.specs.FileWords.{is_number, number}
 use Rattle.board_model.specs.Forms.{LineParts, domain_parts, link_parts, parts_of, numerals, says_domain, says_link, statement}
 use Rattle.board_model.specs.LineReasons.{is_late, has_wrong_domain, has_wrong_link, LineTest, word_reasons, reasons, first_reason, line_reason, with_statement, with_parts}
 use Rattle.board_model.proofs.LawfulTelling.{HoldNot}
-use Rattle.scenario_lang.proofs.DecimalLemmas.{number-decimal, is_number-decimal}
+use Rattle.board_model.proofs.WordDecimals.{number-decimal, is_number-decimal}
 use Rattle.scenario_lang.proofs.SpacedLemmas.{is_word, words_of-spaced, IsText, text-spaced, all-pass, room, length-spaced}
 use Rattle.scenario_lang.proofs.PlainLemmas.{decimal-plain}
 

@@ -1,7 +1,6 @@
 mod Options
 pub mod CanonicalLemmas
 pub mod FrontLemmas
-pub mod NumeralLemmas
 pub mod LabelLemmas
 pub mod ShapeLemmas
 pub mod TableLemmas
@@ -9,7 +8,6 @@ pub mod CallLemmas
 pub mod LabelledLines
 pub mod TellingLemmas
 pub mod FewCalls
-pub mod DecimalLemmas
 pub mod SpacedLemmas
 pub mod PlainLemmas
 pub mod NameWordLemmas

@@ -11,7 +11,7 @@ use Rattle.board_model.specs.FileLines.{onto_first, parts_at}
 use Rattle.board_model.specs.FileWords.{is_digit, numeral, is_number}
 use Rattle.board_model.specs.Forms.{name_from, name_in, name_numerals}
 use Rattle.scenario_lang.proofs.Options.{cases_bool}
-use Rattle.scenario_lang.proofs.DecimalLemmas.{decimal-begins, decimal-digits, number-decimal, is_number-decimal}
+use Rattle.board_model.proofs.WordDecimals.{decimal-begins, decimal-digits, number-decimal, is_number-decimal}
 use Rattle.scenario_lang.proofs.SpacedLemmas.{is_seen}
 use Rattle.scenario_lang.proofs.PlainLemmas.{IsPlain, begun_plain, decimal-seen, decimal-few}
 

@@ -8,7 +8,7 @@ use Rattle.std.proofs.lemmas.List.{append-nil}
 use Rattle.std.proofs.lemmas.Fmt.{length-decimal-le}
 use Rattle.board_model.specs.FileWords.{is_digit, is_letter_byte, is_label_byte, is_label}
 use Rattle.scenario_lang.proofs.Options.{cases_bool}
-use Rattle.scenario_lang.proofs.DecimalLemmas.{Begins, decimal-begins, decimal-digits}
+use Rattle.board_model.proofs.WordDecimals.{Begins, decimal-begins, decimal-digits}
 use Rattle.scenario_lang.proofs.SpacedLemmas.{is_seen, is_word}
 
 -- a word that is no sign, of at most so many bytes

@@ -17,7 +17,7 @@ use Rattle.board_model.specs.LineReasons.{is_empty}
 use Rattle.board_model.proofs.LawfulForms.{IsFit, AreFit}
 use Rattle.scenario_lang.specs.Reading.{seen}
 use Rattle.scenario_lang.proofs.Options.{both_hold}
-use Rattle.scenario_lang.proofs.DecimalLemmas.{number-decimal, is_number-decimal}
+use Rattle.board_model.proofs.WordDecimals.{number-decimal, is_number-decimal}
 use Rattle.scenario_lang.proofs.SpacedLemmas.{is_word, room}
 use Rattle.scenario_lang.proofs.PlainLemmas.{IsPlain, decimal-plain, label-plain}
 use Rattle.scenario_lang.proofs.NameWordLemmas.{name-plain, name-parts, name-read, name-numbers}

@@ -1,6 +1,6 @@
 -- What the readers of the whole language give: a value, or the first reason of refusal of what they are handed.
 -- Source: docs/FORMATS.md, "Scenario files"; `board_model` has the definitions.
-use Rattle.std.specs.Prelude.{◌≡◌, ℕ, ◌+◌, ◌*◌, ◌++◌, not, List, [], ◌∷◌, map, length, codes, bytes_eq, Option, None, Some, Result, Ok, Err, nat_le, if◌then◌else◌}
+use Rattle.std.specs.Prelude.{◌≡◌, ℕ, not, List, [], ◌∷◌, map, length, codes, bytes_eq, Option, None, Some, Result, Ok, Err, if◌then◌else◌}
 use Rattle.std.specs.List.{list_all}
 use Rattle.std.specs.Borrow.{Bor}
 use Rattle.arrayvec.specs.ArrayVec.{ArrayVec}
@@ -44,10 +44,6 @@ abbrev pub or_form : {A : Type 0} → Option A → Result A LineReason
 or_form None = Err Form
 or_form (Some x) = Ok x
 
-abbrev pub at_most : ℕ → Option ℕ → Option ℕ
-at_most most None = None
-at_most most (Some n) = if nat_le n most then Some n else None
-
 abbrev pub number_in : Numeral → Result ℕ LineReason
 number_in n = if is_number n then Ok (number n.word) else Err Number
 
@@ -56,22 +52,12 @@ abbrev pub Reads : {X Y : Type 0} → (X → Y) → Result X LineReason → Resu
 Reads view (Ok x) told = told ≡ Ok (view x)
 Reads view (Err reason) told = told ≡ Err reason
 
--- the byte of two digits
-abbrev pub byte_of : Option ℕ → Option ℕ → Option ℕ
-byte_of (Some high) (Some low) = Some (high * 16 + low)
-byte_of high low = None
-
 abbrev pub some_bytes : Option (List ℕ) → Result (List ℕ) LineReason
 some_bytes None = Err Bytes
 some_bytes (Some bytes) = Ok bytes
 
 abbrev pub pairs_in : List ℕ → Result (List ℕ) LineReason
 pairs_in word = some_bytes (pairs_of word)
-
--- bytes before those that follow
-abbrev pub after_bytes : List ℕ → Option (List ℕ) → Option (List ℕ)
-after_bytes front None = None
-after_bytes front (Some bytes) = Some (front ++ bytes)
 
 abbrev pub few_bytes : ℕ → ℕ → List ℕ → Result (List ℕ) LineReason
 few_bytes least most bytes = if is_within least most (length bytes) then Ok bytes else Err Bytes

@@ -21,6 +21,5 @@ mod writing;
 pub use board_model::{Call, CallLine, DomainLine, LineReason, LinkLine, Scenario};
 pub use canonical::put_scenario;
 pub use fault::ScenarioFault;
-pub use numerals::hex_digit;
 pub use reading::{canonical_text_is_read_back, read_scenario};
 pub use writing::write_scenario;

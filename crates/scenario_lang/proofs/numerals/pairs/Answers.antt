@@ -1,7 +1,7 @@
 use Rattle.std.proofs.Common.{ap, ◌≡◌, ◌%◌, length, arith}
 use Rattle.std.proofs.lemmas.Bool.Decides.{nat_tests}
 use Rattle.scenario_lang.specs.Reading.{some_bytes}
-use Rattle.scenario_lang.proofs.NumeralLemmas.{odd_pairs}
+use Rattle.board_model.proofs.WordDigits.{odd_pairs}
 use Rattle.scenario_lang.proofs.numerals.pairs.Goals as goal
 
 pub returns-then-word-ne0 : goal.returns-then-word-ne0

@@ -1,6 +1,6 @@
 use Rattle.std.proofs.Common.{◌≡◌, ◌≤◌, length}
 use Rattle.board_model.specs.FileWords.{number_from}
-use Rattle.scenario_lang.proofs.numerals.digits.Given as goal
+use Rattle.board_model.proofs.numeral.digits.Given as goal
 
 abbrev pub invariant-loop-rest : goal.invariant-loop-rest
 invariant-loop-rest l = record {

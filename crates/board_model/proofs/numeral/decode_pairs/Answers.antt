@@ -1,7 +1,7 @@
 use Rattle.std.proofs.Common.{arith, rules}
 use Rattle.board_model.specs.FileWords.{pairs_of}
-use Rattle.scenario_lang.proofs.NumeralLemmas.{decoded_step, nothing_before}
-use Rattle.scenario_lang.proofs.numerals.decode.Goals as goal
+use Rattle.board_model.proofs.WordDigits.{decoded_step, nothing_before}
+use Rattle.board_model.proofs.numeral.decode_pairs.Goals as goal
 
 pub loop-i-init : goal.loop-i-init
 loop-i-init c = record {

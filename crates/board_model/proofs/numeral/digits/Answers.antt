@@ -1,8 +1,8 @@
 use Rattle.std.proofs.Common.{◌≡◌, ◌<◌, ◌+◌, ◌-◌, ◌*◌, get_or, true, arith}
 use Rattle.std.proofs.lemmas.Bool.Decides.{nat_tests}
 use Rattle.board_model.specs.FileWords.{is_digit}
-use Rattle.scenario_lang.proofs.NumeralLemmas.{too_large}
-use Rattle.scenario_lang.proofs.numerals.digits.Goals as goal
+use Rattle.board_model.proofs.WordDigits.{too_large}
+use Rattle.board_model.proofs.numeral.digits.Goals as goal
 
 pub returns-then-digit-most : goal.returns-then-digit-most
 returns-then-digit-most c =

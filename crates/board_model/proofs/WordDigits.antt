@@ -5,8 +5,22 @@ use Rattle.std.proofs.lemmas.Bool.Decides.{nat_tests}
 use Rattle.std.proofs.lemmas.List.{length-drop, get_or-drop, drop-drop}
 use Rattle.std.proofs.lemmas.Grind.{take-set_at}
 use Rattle.board_model.specs.FileWords.{is_digit, number_from, digit_value, byte_and, pairs_of}
-use Rattle.scenario_lang.specs.Reading.{at_most, byte_of, after_bytes}
-use Rattle.scenario_lang.proofs.Options.{cases_bool, both_hold}
+use Rattle.std.proofs.lemmas.Bool.{and_parts}
+use Rattle.board_model.specs.Numerals.{at_most}
+
+-- the byte of two digits
+abbrev pub byte_of : Option ℕ → Option ℕ → Option ℕ
+byte_of (Some high) (Some low) = Some (high * 16 + low)
+byte_of high low = None
+
+-- bytes before those that follow
+abbrev pub after_bytes : List ℕ → Option (List ℕ) → Option (List ℕ)
+after_bytes front None = None
+after_bytes front (Some bytes) = Some (front ++ bytes)
+
+cases_bool : (t : Bool) → (t ≡ true) ⊎ (t ≡ false)
+cases_bool true = inl refl
+cases_bool false = inr refl
 
 -- a number that is too large stays so, whatever digits follow
 grows : (most n : ℕ) (rest : List ℕ) → most < n → at_most most (number_from n rest) ≡ None
@@ -86,7 +100,7 @@ same_byte high low p q =
 
 pair_is : (a b : Option ℕ) (high low : ℕ) → a ≡ (if nat_lt high 16 then Some high else None) → b ≡ (if nat_lt low 16 then Some low else None) → (nat_lt high 16 && nat_lt low 16) ≡ true → byte_of a b ≡ Some (high % 16 * 16 + low % 16)
 pair_is a b high low p q small =
-    let k = both_hold (nat_lt high 16) (nat_lt low 16) small in
+    let k = and_parts (nat_lt high 16) (nat_lt low 16) small in
     rw (is_value a high p k.0, is_value b low q k.1) (ap (λ (v : ℕ). Some v) (same_byte high low k.0 k.1))
 
 pair_none_at : (t u : Bool) (a b : Option ℕ) (high low : ℕ) → nat_lt high 16 ≡ t → nat_lt low 16 ≡ u → a ≡ (if nat_lt high 16 then Some high else None) → b ≡ (if nat_lt low 16 then Some low else None) → (t && u) ≡ false → byte_of a b ≡ None
@@ -122,7 +136,7 @@ module _ (word out : List ℕ) (i high low : ℕ) (size : length word ≡ 2 * le
 
   pub decoded_step : (all : Bool) → (all ≡ true → after_bytes (take i out) (pairs_of (drop (2 * i) word)) ≡ pairs_of word) → (all ≡ false → pairs_of word ≡ None) → ((all && (nat_lt high 16 && nat_lt low 16)) ≡ true → after_bytes (take (i + 1) (slice_set out i (high % 16 * 16 + low % 16))) (pairs_of (drop (2 * (i + 1)) word)) ≡ pairs_of word) × ((all && (nat_lt high 16 && nat_lt low 16)) ≡ false → pairs_of word ≡ None)
   decoded_step all good bad = (
-    λ h. let k = both_hold all (nat_lt high 16 && nat_lt low 16) h in decoded_more (good k.0) k.1,
+    λ h. let k = and_parts all (nat_lt high 16 && nat_lt low 16) h in decoded_more (good k.0) k.1,
     λ h. elim (and_cases all (nat_lt high 16 && nat_lt low 16) h) [
       | inl was ↦ bad was
       | inr now ↦ decoded_none (good now.0) now.1

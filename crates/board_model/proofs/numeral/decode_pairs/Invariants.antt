@@ -1,7 +1,7 @@
 use Rattle.std.proofs.Common.{◌≡◌, ◌*◌, true, false, length, take, drop, None}
 use Rattle.board_model.specs.FileWords.{pairs_of}
-use Rattle.scenario_lang.specs.Reading.{after_bytes}
-use Rattle.scenario_lang.proofs.numerals.decode.Given as goal
+use Rattle.board_model.proofs.WordDigits.{after_bytes}
+use Rattle.board_model.proofs.numeral.decode_pairs.Given as goal
 
 abbrev pub invariant-loop-i : goal.invariant-loop-i
 invariant-loop-i l = record {

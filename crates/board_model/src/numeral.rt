@@ -1,0 +1,101 @@
+//! What a word of a file says: a number, or bytes.
+
+ghost use Rattle.std.specs.Prelude.{◌≡◌, ◌≤◌, ◌<◌, ◌*◌, Some, None, true, false, nat_lt, if◌then◌else◌, length, IfSome};
+ghost use Rattle.board_model.specs.FileWords.{number_from, number_of, digit_value, pairs_of};
+ghost use Rattle.board_model.specs.FileWords.{is_digit as is_a_digit};
+ghost use Rattle.board_model.specs.FileWords.{is_dash as spells_none};
+ghost use Rattle.board_model.specs.Numerals.{at_most};
+
+fn is_digit(byte: u8) -> bool
+    ensures { result ≡ is_a_digit byte }
+{
+    matches!(byte, b'0'..=b'9')
+}
+
+/// Returns the number that digits write, if it is at most this large.
+fn digits(most: u64, word: &[u8]) -> Option<u64>
+    ensures { result ≡ at_most most (number_from 0 word.now) }
+{
+    let mut value = 0u64;
+    let mut rest = word;
+    while let [byte, after @ ..] = rest {
+        if !is_digit(*byte) {
+            return None;
+        }
+        let digit = u64::from(*byte - b'0');
+        if digit > most {
+            return None;
+        }
+        if value > (most - digit) / 10 {
+            return None;
+        }
+        value = value * 10 + digit;
+        rest = after;
+    }
+    Some(value)
+}
+
+/// Returns the number that a word writes, if it is at most this large.
+pub fn number_to(most: u64, word: &[u8]) -> Option<u64>
+    ensures value { result ≡ at_most most (number_of word.now) }
+    ensures small { IfSome result (λ n. n ≤ most) }
+{
+    match word {
+        [] => None,
+        [b'0'] => Some(0),
+        [b'0', ..] => None,
+        _ => digits(most, word),
+    }
+}
+
+/// What `digit_or_none` returns for a byte that is no digit.
+const NO_DIGIT: u8 = 255;
+
+/// Returns the value of a hexadecimal digit of either case, or `NO_DIGIT`.
+#[inline(always)]
+fn digit_or_none(byte: u8) -> u8
+    ensures { digit_value byte ≡ (if nat_lt result 16 then Some result else None) }
+{
+    match byte {
+        b'0'..=b'9' => byte - b'0',
+        b'a'..=b'f' => byte - b'a' + 10,
+        b'A'..=b'F' => byte - b'A' + 10,
+        _ => NO_DIGIT,
+    }
+}
+
+/// Returns the value of a hexadecimal digit of either case, or `None` where the byte is no digit.
+pub fn hex_digit(byte: u8) -> Option<u8>
+    ensures value { result ≡ digit_value byte }
+    ensures small { IfSome result (λ v. v < 16) }
+{
+    let value = digit_or_none(byte);
+    if value < 16 { Some(value) } else { None }
+}
+
+/// Writes the bytes that pairs of hexadecimal digits spell, and returns whether all are digits. The loop ends nowhere
+/// early, so that it is compiled to vectors.
+pub fn decode_pairs(word: &[u8], out: &mut [u8]) -> bool
+    requires { length word.now ≡ 2 * length out.old }
+    ensures bytes { result ≡ true → pairs_of word.now ≡ Some out.new }
+    ensures none { result ≡ false → pairs_of word.now ≡ None }
+{
+    let mut all = true;
+    for i in 0..out.len() {
+        let high = digit_or_none(word[2 * i]);
+        let low = digit_or_none(word[2 * i + 1]);
+        all &= (high < 16) & (low < 16);
+        out[i] = (high % 16) * 16 + low % 16;
+    }
+    all
+}
+
+/// Whether a word spells no bytes: a dash.
+pub fn is_dash(word: &[u8]) -> bool
+    ensures { result ≡ spells_none word.now }
+{
+    match word {
+        [byte] => *byte == b'-',
+        _ => false,
+    }
+}
