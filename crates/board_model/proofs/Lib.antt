@@ -100,3 +100,4 @@ pub mod VisitLooks
 pub mod WordDecimals
 pub mod WordDigits
 pub mod WordHex
+pub mod WordsRead

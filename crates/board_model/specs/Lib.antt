@@ -8,6 +8,7 @@ pub mod Grammar
 pub mod LineReasons
 pub mod Language
 pub mod Words
+pub mod WordTables
 pub mod LinkedBoard
 pub mod Journal
 pub mod State

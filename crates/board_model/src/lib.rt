@@ -6,7 +6,7 @@
 //! LinkedBoard, Words, Journal, State, Choice, Post, Change, Dealing, Turn, DomainCall, Answer, Effect, TakenFrames,
 //! ChannelEnds, CallChanges, Deeds, Labels, Step, Run, Traffic, Board, JournalDeeds, Given, Channels, Messages, Takings, Drops,
 //! MessageOrder, Totals, Tallies, Places, Serial, Loads, SerialRun, Report, Headline, Laws, MessageLaws, Honesty,
-//! ReadBack, SerialLaws, LanguageLaws, RingImage.
+//! ReadBack, SerialLaws, LanguageLaws, WordTables, RingImage.
 #![tactic(auto)]
 
 mod form;

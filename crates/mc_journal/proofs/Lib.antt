@@ -1,4 +1,10 @@
 pub mod AnswerText
+pub mod AnswersRead
+pub mod BytesRead
+pub mod Cuts
 pub mod Journals
+pub mod LinesRead
+pub mod PartsRead
+pub mod RefusalsAlone
 pub mod SameWords
 pub mod Standing

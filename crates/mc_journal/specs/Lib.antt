@@ -1,3 +1,6 @@
 pub mod Written
 pub mod Kept
 pub mod Entry
+pub mod EntryText
+pub mod Readers
+pub mod LineForms

@@ -3,16 +3,26 @@
 //! A journal takes memory where room is reserved in it, and in no other call.
 #![tactic(auto)]
 
+mod answers;
 mod entry;
+mod entry_text;
+mod forms;
 mod journal;
 mod kept;
+mod laws;
+mod pieces;
+mod reading;
+mod tables;
 mod room;
 mod text;
 mod threads;
 mod words;
 
 pub use entry::{Answer, Entry, Told};
+pub use entry_text::write_entry;
 pub use journal::Journal;
+pub use laws::entries_have_entry_lines;
+pub use reading::{NotAnEntry, read_entry};
 pub use text::put_entries;
 pub use threads::may_cross_threads;
 pub use words::{fate_word, reason_word};

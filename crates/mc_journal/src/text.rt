@@ -8,8 +8,10 @@ ghost use Rattle.board_model.specs.Journal.{brought};
 ghost use Rattle.board_model.specs.Report.{line_text, lines_text, answer_words, result_words};
 ghost use Rattle.board_model.specs.Words.{reason_text, fate_text, refusal_text};
 ghost use Rattle.mc_journal.specs.Entry.{line_of_entry, plain_answer, result_of_told};
+ghost use Rattle.mc_journal.specs.LineForms.{form_text};
 
 use crate::entry::{Answer, Entry, Told};
+use crate::forms::{Form, form_word};
 use crate::journal::Journal;
 use crate::words::{fate_word, reason_word, refusal_word};
 use mc_base::{Fate, Reason, Refusal};
@@ -25,14 +27,15 @@ pub fn put_entries<K: Sink>(out: &mut Writer<'_, K>, journal: &Journal)
     }
 }
 
-fn put_entry<K: Sink>(out: &mut Writer<'_, K>, entry: Entry<'_>)
+/// Puts the line of an entry, with its newline.
+pub fn put_entry<K: Sink>(out: &mut Writer<'_, K>, entry: Entry<'_>)
     ensures { Puts K.Sink out.old out.new (line_text (line_of_entry entry.entry)) }
 {
     match entry {
-        Entry::Turn => out.put(b"turn\n"),
-        Entry::Back { peer, count } => put_look(out, b"back ", peer, count),
+        Entry::Turn => put_turn(out),
+        Entry::Back { peer, count } => put_look(out, Form::Back, peer, count),
         Entry::Put { peer, frame } => put_frame(out, peer, frame),
-        Entry::See { peer, count } => put_look(out, b"see ", peer, count),
+        Entry::See { peer, count } => put_look(out, Form::See, peer, count),
         Entry::Take { peer, frame, fate } => put_take(out, peer, frame, fate),
         Entry::Idle { turns } => put_idle(out, turns),
         Entry::Again { word } => put_again(out, word),
@@ -41,10 +44,26 @@ fn put_entry<K: Sink>(out: &mut Writer<'_, K>, entry: Entry<'_>)
     }
 }
 
+/// Puts the word of a form, and a blank.
+#[inline(always)]
+fn put_head<K: Sink>(out: &mut Writer<'_, K>, form: Form)
+    ensures { Puts K.Sink out.old out.new (form_text form ++ 32 ∷ []) }
+{
+    out.put(form_word(form));
+    out.put(b" ");
+}
+
+fn put_turn<K: Sink>(out: &mut Writer<'_, K>)
+    ensures { Puts K.Sink out.old out.new (line_of (codes "turn" ∷ [])) }
+{
+    out.put(form_word(Form::Turn));
+    out.put(b"\n");
+}
+
 fn put_idle<K: Sink>(out: &mut Writer<'_, K>, turns: u64)
     ensures { Puts K.Sink out.old out.new (line_of (codes "idle" ∷ decimal turns ∷ [])) }
 {
-    out.put(b"idle ");
+    put_head(out, Form::Idle);
     out.put_number(turns);
     out.put(b"\n");
 }
@@ -52,7 +71,7 @@ fn put_idle<K: Sink>(out: &mut Writer<'_, K>, turns: u64)
 fn put_again<K: Sink>(out: &mut Writer<'_, K>, word: Refusal)
     ensures { Puts K.Sink out.old out.new (line_of (codes "again" ∷ refusal_text word ∷ [])) }
 {
-    out.put(b"again ");
+    put_head(out, Form::Again);
     out.put(refusal_word(word));
     out.put(b"\n");
 }
@@ -60,18 +79,18 @@ fn put_again<K: Sink>(out: &mut Writer<'_, K>, word: Refusal)
 fn put_spin<K: Sink>(out: &mut Writer<'_, K>, times: u64, word: Refusal)
     ensures { Puts K.Sink out.old out.new (line_of (codes "spin" ∷ decimal times ∷ refusal_text word ∷ [])) }
 {
-    out.put(b"spin ");
+    put_head(out, Form::Spin);
     out.put_number(times);
     out.put(b" ");
     out.put(refusal_word(word));
     out.put(b"\n");
 }
 
-/// A line of a look: its word with a blank, the peer and what was shown.
-fn put_look<K: Sink>(out: &mut Writer<'_, K>, word: &[u8], peer: u8, count: u32)
-    ensures { Puts K.Sink out.old out.new (word.now ++ (decimal peer ++ (32 ∷ (decimal count ++ (10 ∷ []))))) }
+/// Puts the line of a look: its form, the peer and what was shown.
+fn put_look<K: Sink>(out: &mut Writer<'_, K>, form: Form, peer: u8, count: u32)
+    ensures { Puts K.Sink out.old out.new ((form_text form ++ 32 ∷ []) ++ (decimal peer ++ (32 ∷ (decimal count ++ (10 ∷ []))))) }
 {
-    out.put(word);
+    put_head(out, form);
     out.put_number(peer as u64);
     out.put(b" ");
     out.put_number(count as u64);
@@ -81,7 +100,7 @@ fn put_look<K: Sink>(out: &mut Writer<'_, K>, word: &[u8], peer: u8, count: u32)
 fn put_frame<K: Sink>(out: &mut Writer<'_, K>, peer: u8, frame: &[u8])
     ensures { Puts K.Sink out.old out.new (line_of (codes "put" ∷ decimal peer ∷ hex_text frame.now ∷ [])) }
 {
-    out.put(b"put ");
+    put_head(out, Form::Put);
     out.put_number(peer as u64);
     out.put(b" ");
     out.put_hex(frame);
@@ -91,7 +110,7 @@ fn put_frame<K: Sink>(out: &mut Writer<'_, K>, peer: u8, frame: &[u8])
 fn put_take<K: Sink>(out: &mut Writer<'_, K>, peer: u8, frame: &[u8], fate: Fate)
     ensures { Puts K.Sink out.old out.new (line_of (codes "take" ∷ decimal peer ∷ hex_text frame.now ∷ fate_text fate ∷ [])) }
 {
-    out.put(b"take ");
+    put_head(out, Form::Take);
     out.put_number(peer as u64);
     out.put(b" ");
     out.put_hex(frame);
@@ -103,7 +122,7 @@ fn put_take<K: Sink>(out: &mut Writer<'_, K>, peer: u8, frame: &[u8], fate: Fate
 fn put_call<K: Sink>(out: &mut Writer<'_, K>, number: u32, answer: Answer<'_>)
     ensures { Puts K.Sink out.old out.new (line_of (codes "call" ∷ decimal number ∷ answer_words (plain_answer answer.entry))) }
 {
-    out.put(b"call ");
+    put_head(out, Form::Call);
     out.put_number(number as u64);
     out.put(b" ");
     put_answer(out, answer);

@@ -4,5 +4,5 @@ use Rattle.mc_journal.proofs.text.put_again.Goals as goal
 
 pub returns : goal.returns
 returns g c =
-    let word = rw c.refusal_word.ensures at c.put-2.ensures in
-    simp append_assoc (puts_then _ _ _ _ _ _ c.put.ensures (puts_then _ _ _ _ _ _ word c.put-3.ensures))
+    let word = rw c.refusal_word.ensures at c.put.ensures in
+    simp append_assoc (puts_then _ _ _ _ _ _ c.put_head.ensures (puts_then _ _ _ _ _ _ word c.put-2.ensures))

@@ -4,4 +4,4 @@ use Rattle.mc_journal.proofs.text.put_idle.Goals as goal
 
 pub returns : goal.returns
 returns g c =
-    simp append_assoc (puts_then _ _ _ _ _ _ c.put.ensures (puts_then _ _ _ _ _ _ c.put_number.ensures c.put-2.ensures))
+    simp append_assoc (puts_then _ _ _ _ _ _ c.put_head.ensures (puts_then _ _ _ _ _ _ c.put_number.ensures c.put.ensures))

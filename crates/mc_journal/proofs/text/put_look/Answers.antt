@@ -3,4 +3,4 @@ use Rattle.mc_journal.proofs.text.put_look.Goals as goal
 
 pub returns : goal.returns
 returns g c =
-    puts_then _ _ _ _ _ _ c.put.ensures (puts_then _ _ _ _ _ _ c.put_number.ensures (puts_then _ _ _ _ _ _ c.put-2.ensures (puts_then _ _ _ _ _ _ c.put_number-2.ensures c.put-3.ensures)))
+    puts_then _ _ _ _ _ _ c.put_head.ensures (puts_then _ _ _ _ _ _ c.put_number.ensures (puts_then _ _ _ _ _ _ c.put.ensures (puts_then _ _ _ _ _ _ c.put_number-2.ensures c.put-2.ensures)))
