@@ -101,3 +101,10 @@ pub mod WordDecimals
 pub mod WordDigits
 pub mod WordHex
 pub mod WordsRead
+pub mod JournalReading
+pub mod JournalVisits
+pub mod JournalJoins
+pub mod JournalFollows
+pub mod JournalPartsJoined
+pub mod JournalHaveParts
+pub mod JournalReadBack

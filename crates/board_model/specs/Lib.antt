@@ -49,3 +49,7 @@ pub mod Laws
 pub mod MessageLaws
 pub mod SerialLaws
 pub mod LanguageLaws
+pub mod Unjoined
+pub mod JournalForm
+pub mod JournalParts
+pub mod JournalLaws

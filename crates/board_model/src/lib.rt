@@ -6,10 +6,11 @@
 //! LinkedBoard, Words, Journal, State, Choice, Post, Change, Dealing, Turn, DomainCall, Answer, Effect, TakenFrames,
 //! ChannelEnds, CallChanges, Deeds, Labels, Step, Run, Traffic, Board, JournalDeeds, Given, Channels, Messages, Takings, Drops,
 //! MessageOrder, Totals, Tallies, Places, Serial, Loads, SerialRun, Report, Headline, Laws, MessageLaws, Honesty,
-//! ReadBack, SerialLaws, LanguageLaws, WordTables, RingImage.
+//! ReadBack, SerialLaws, LanguageLaws, WordTables, Unjoined, JournalForm, JournalParts, JournalLaws, RingImage.
 #![tactic(auto)]
 
 mod form;
+pub mod journal_laws;
 pub mod laws;
 mod numeral;
 mod reason;

@@ -1,0 +1,18 @@
+//! Laws of the lines of journals: functions without code, whose contracts are the laws.
+
+ghost use Rattle.board_model.specs.JournalLaws.{JoinedIsReadBack, JournalsHaveParts, PartsAreJoined};
+
+/// The joined lines of a domain's plain journal are read back as that journal.
+pub fn joined_is_read_back()
+    ensures { JoinedIsReadBack }
+{}
+
+/// Parts that stand behind each other unjoined are the joined lines of their entries.
+pub fn parts_are_joined()
+    ensures { PartsAreJoined }
+{}
+
+/// Every plain journal is written by parts that stand so.
+pub fn journals_have_parts()
+    ensures { JournalsHaveParts }
+{}
