@@ -83,7 +83,7 @@ module _ (peers : List ℕ) (script : List CallLine) where
   abbrev E : List Line → List PlainEntry
   E ls = entries_in peers script ls
 
-  -- one more of what a line tells many times
+  -- one more of what a line says many times
   once_more : (front : List Line) (n : ℕ) (xs : List PlainEntry) (old new : Line)
       → read_onto peers script (old ∷ []) (tail 0 [] []) ≡ tail 0 [] (times n xs ++ [])
       → read_onto peers script (new ∷ []) (tail 0 [] []) ≡ tail 0 [] (times (n + 1) xs ++ [])

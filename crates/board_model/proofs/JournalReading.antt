@@ -4,7 +4,7 @@ use Rattle.std.specs.Prelude.{nat_lt}
 use Rattle.std.specs.List.{AllByRecursion}
 use Rattle.board_model.specs.declared.scenario.CallLine.{CallLine}
 use Rattle.board_model.specs.Journal.{PlainEntry, put, again, called, Line, idle_line, again_line, spin_line, turn_line, back_line, put_line, see_line, take_line, call_line}
-use Rattle.board_model.specs.Unjoined.{times, Tail, tail, with_line, read_onto, entries_in, idle_turn, turn_in, puts_told, line_numbered}
+use Rattle.board_model.specs.Unjoined.{times, Tail, tail, with_line, read_onto, entries_in, idle_turn, turn_in, puts_of, line_numbered}
 
 -- n + 1 times
 times-suc : {A : Type 0} (n : ℕ) (xs : List A) → times (suc n) xs ≡ times n xs ++ xs
@@ -57,7 +57,7 @@ module _ (peers : List ℕ) (lines : List CallLine) where
   read-more [] t es = refl
   read-more (x ∷ xs) t es = ap (with_line peers lines x) (read-more xs t es) ∙ with_line-more x (read_onto peers lines xs t) es
 
-  -- lines that leave nothing open tell their entries behind those of the lines in front
+  -- where lines leave nothing open, their entries stand behind those of the lines in front
   pub entries-more : (xs ys : List Line) (es : List PlainEntry) → read_onto peers lines ys (tail 0 [] []) ≡ tail 0 [] es → entries_in peers lines (xs ++ ys) ≡ entries_in peers lines xs ++ es
   entries-more xs ys es e = ap (λ (t : Tail). t.entries) (read-append xs ys (tail 0 [] []) ∙ ap (read_onto peers lines xs) e ∙ read-more xs (tail 0 [] []) es)
 
@@ -72,9 +72,9 @@ module _ (peers : List ℕ) (lines : List CallLine) where
       ∙ ap (with_line peers lines (put_line p.0 p.1)) (read-puts ps (suc k) es)
       ∙ rw (some, less) refl
 
-  pub read-called : (ps : List (ℕ × List ℕ)) (k : ℕ) (a : _) → length ps ≡ puts_told (line_numbered lines k) a → read_onto peers lines (put_lines ps ++ call_line k a ∷ []) (tail 0 [] []) ≡ tail 0 [] (put_entries ps ++ called k a ∷ [])
+  pub read-called : (ps : List (ℕ × List ℕ)) (k : ℕ) (a : _) → length ps ≡ puts_of (line_numbered lines k) a → read_onto peers lines (put_lines ps ++ call_line k a ∷ []) (tail 0 [] []) ≡ tail 0 [] (put_entries ps ++ called k a ∷ [])
   read-called ps k a e =
-      let due : puts_told (line_numbered lines k) a ≡ 0 + length ps = sym e ∙ omega arith in
+      let due : puts_of (line_numbered lines k) a ≡ 0 + length ps = sym e ∙ omega arith in
       read-append (put_lines ps) (call_line k a ∷ []) (tail 0 [] [])
       ∙ ap (λ n. read_onto peers lines (put_lines ps) (tail n [] (called k a ∷ []))) due
       ∙ read-puts ps 0 (called k a ∷ [])

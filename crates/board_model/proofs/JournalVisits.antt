@@ -1,4 +1,4 @@
--- The lines of a turn tell its visits.
+-- The visits of a turn are read back from its lines.
 use Rattle.std.proofs.Common.{◌≡◌, ℕ, ◌+◌, Bool, true, false, ◌&&◌, cond, List, [], ◌∷◌, ◌++◌, length, map, sum_by, refl, sym, ap, ap₂, ◌∙◌, arith, append_assoc, append-nil, eqb-true, eq-eqb, ne_eqb}
 use Rattle.std.specs.Prelude.{◌==◌}
 use Rattle.std.specs.List.{AllByRecursion, flat_map, list_all}
@@ -40,7 +40,7 @@ pub visits_all : (vs : List Visit) → AllByRecursion IsOfTurn (flat_map visit_l
 visits_all [] = tt
 visits_all (v ∷ vs) = all-append (visit_lines v) (flat_map visit_lines vs) (visit_all v) (visits_all vs)
 
--- ---- what lines in front and lines behind tell together
+-- ---- the visit of lines in front and lines behind
 
 abbrev both : Visit → Visit → Visit
 both v w = record { peer = v.peer; back = v.back + w.back; owed = v.owed ++ w.owed; see = v.see + w.see; takes = v.takes ++ w.takes }

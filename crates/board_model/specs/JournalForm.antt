@@ -4,7 +4,7 @@
 use Rattle.std.specs.Prelude.{◌≡◌, ℕ, ◌+◌, List, [], ◌∷◌, map}
 use Rattle.board_model.specs.declared.scenario.CallLine.{CallLine}
 use Rattle.board_model.specs.Journal.{PlainEntry, turned, put, again, called}
-use Rattle.board_model.specs.Unjoined.{puts_told, line_numbered}
+use Rattle.board_model.specs.Unjoined.{puts_of, line_numbered}
 
 -- the entries from one on, where so many puts stand directly before
 abbrev pub IsFrom : List ℕ → List CallLine → ℕ → List PlainEntry → Type 0
@@ -12,7 +12,7 @@ IsFrom peers script n [] = n ≡ 0
 IsFrom peers script n (turned vs ∷ es) = (n ≡ 0) × (map (λ v. v.peer) vs ≡ peers) × IsFrom peers script 0 es
 IsFrom peers script n (put p frame ∷ es) = IsFrom peers script (n + 1) es
 IsFrom peers script n (again word ∷ es) = (n ≡ 0) × IsFrom peers script 0 es
-IsFrom peers script n (called k a ∷ es) = (n ≡ puts_told (line_numbered script k) a) × IsFrom peers script 0 es
+IsFrom peers script n (called k a ∷ es) = (n ≡ puts_of (line_numbered script k) a) × IsFrom peers script 0 es
 
 abbrev pub IsJournal : List ℕ → List CallLine → List PlainEntry → Type 0
 IsJournal peers script es = IsFrom peers script 0 es

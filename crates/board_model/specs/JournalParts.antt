@@ -1,5 +1,5 @@
--- The parts of a journal's text: what one line tells, or the lines of one turn, or those of one call. Idle turns in a row, and
--- tries in a row, are one part.
+-- The parts of a written journal: idle turns in a row, tries in a row that each followed one idle turn, another try, a turn with its
+-- lines, or a call with its puts.
 -- Source: docs/FORMATS.md, "Journal text".
 use Rattle.std.specs.Prelude.{◌≡◌, ℕ, ◌-◌, ◌^◌, ◌≤◌, false, List, [], ◌∷◌, ◌++◌, length, map, Option, None, slice_get}
 use Rattle.std.specs.List.{flat_map, list_all}

@@ -1,6 +1,6 @@
--- The lines of a journal read back: which plain entries they tell. No state of the domain is needed, only its peers and its script.
--- Source: docs/FORMATS.md, "Journal text". Read from the last line to the first: a turn has the lines that follow it, but for the
--- last put lines before a call that succeeds in putting frames, which are the call's, as many as it puts.
+-- The plain entries of a journal's lines. They need no state of the domain, only its peers and its script.
+-- Source: docs/FORMATS.md, "Journal text". The last put lines before a call that succeeds in putting frames are the call's, as many
+-- as it puts; a turn has the other lines that follow it. So the lines are read from the last to the first.
 use Rattle.std.specs.Prelude.{ℕ, zero, suc, ◌-◌, nat_lt, List, [], ◌∷◌, ◌++◌, ◌==◌, if◌then◌else◌, map, sum_by, Option, Some, None, slice_get}
 use Rattle.std.specs.List.{flat_map}
 use Rattle.board_model.specs.declared.scenario.Call.{Call}
@@ -13,7 +13,7 @@ use Rattle.board_model.specs.Journal.{PlainAnswer, refuses, Taken, taken, Visit,
 
 -- ---- the puts of a call
 
--- how many frames success of a call puts
+-- how many frames a call puts where it succeeds
 abbrev pub frames_put : Call → ℕ
 frames_put (MsgSend port to priority bytes) = 1
 frames_put other = 0
@@ -23,18 +23,18 @@ abbrev pub line_numbered : List CallLine → ℕ → Option CallLine
 line_numbered lines zero = None
 line_numbered lines (suc i) = slice_get lines i
 
--- those that an answer tells
+-- and by its answer
 abbrev pub puts_by : Call → PlainAnswer → ℕ
 puts_by call (refuses word) = 0
 puts_by call other = frames_put call
 
-abbrev pub puts_told : Option CallLine → PlainAnswer → ℕ
-puts_told None a = 0
-puts_told (Some line) a = puts_by line.call a
+abbrev pub puts_of : Option CallLine → PlainAnswer → ℕ
+puts_of None a = 0
+puts_of (Some line) a = puts_by line.call a
 
 -- ---- the lines of a turn
 
--- what a line tells of a peer
+-- what a line says of a peer
 abbrev pub back_in : ℕ → Line → ℕ
 back_in p (back_line peer n) = if peer == p then n else 0
 back_in p other = 0
@@ -51,7 +51,7 @@ abbrev pub takes_in : ℕ → Line → List Taken
 takes_in p (take_line peer frame fate) = if peer == p then taken frame fate ∷ [] else []
 takes_in p other = []
 
--- what the lines of a turn tell of its visit to a peer. A look without a line showed nothing
+-- the visit to a peer, by the lines of its turn. A look without a line showed nothing
 abbrev pub visit_in : List Line → ℕ → Visit
 visit_in lines p = record { peer = p; back = sum_by (back_in p) lines; owed = flat_map (owed_in p) lines; see = sum_by (see_in p) lines; takes = flat_map (takes_in p) lines }
 
@@ -67,8 +67,7 @@ abbrev pub times : {A : Type 0} → ℕ → List A → List A
 times zero xs = []
 times (suc n) xs = xs ++ times n xs
 
--- what the lines from one on tell: put lines that a call among them has yet to find, lines whose turn has yet to be found, and
--- the entries
+-- the lines from one on: how many put lines in front are still a call's, the lines that are still a turn's, and the entries
 pub record Tail : Type 0 where
   pub due : ℕ
   pub behind : List Line
@@ -77,28 +76,28 @@ pub record Tail : Type 0 where
 abbrev pub tail : ℕ → List Line → List PlainEntry → Tail
 tail due behind entries = record { due = due; behind = behind; entries = entries }
 
--- with one line more in front
+-- one line more in front
 abbrev pub with_line : List ℕ → List CallLine → Line → Tail → Tail
-with_line peers lines (idle_line n) t = tail 0 [] (times n (idle_turn peers ∷ []) ++ t.entries)
-with_line peers lines (again_line word) t = tail 0 [] (again word ∷ t.entries)
-with_line peers lines (spin_line n word) t = tail 0 [] (times n (idle_turn peers ∷ again word ∷ []) ++ t.entries)
-with_line peers lines turn_line t = tail 0 [] (turn_in peers t.behind ∷ t.entries)
-with_line peers lines (back_line p n) t = tail 0 (back_line p n ∷ t.behind) t.entries
-with_line peers lines (put_line p frame) t = if nat_lt 0 t.due then tail (t.due - 1) t.behind (put p frame ∷ t.entries) else tail 0 (put_line p frame ∷ t.behind) t.entries
-with_line peers lines (see_line p n) t = tail 0 (see_line p n ∷ t.behind) t.entries
-with_line peers lines (take_line p frame fate) t = tail 0 (take_line p frame fate ∷ t.behind) t.entries
-with_line peers lines (call_line k a) t = tail (puts_told (line_numbered lines k) a) [] (called k a ∷ t.entries)
+with_line peers script (idle_line n) t = tail 0 [] (times n (idle_turn peers ∷ []) ++ t.entries)
+with_line peers script (again_line word) t = tail 0 [] (again word ∷ t.entries)
+with_line peers script (spin_line n word) t = tail 0 [] (times n (idle_turn peers ∷ again word ∷ []) ++ t.entries)
+with_line peers script turn_line t = tail 0 [] (turn_in peers t.behind ∷ t.entries)
+with_line peers script (back_line p n) t = tail 0 (back_line p n ∷ t.behind) t.entries
+with_line peers script (put_line p frame) t = if nat_lt 0 t.due then tail (t.due - 1) t.behind (put p frame ∷ t.entries) else tail 0 (put_line p frame ∷ t.behind) t.entries
+with_line peers script (see_line p n) t = tail 0 (see_line p n ∷ t.behind) t.entries
+with_line peers script (take_line p frame fate) t = tail 0 (take_line p frame fate ∷ t.behind) t.entries
+with_line peers script (call_line k a) t = tail (puts_of (line_numbered script k) a) [] (called k a ∷ t.entries)
 
 abbrev pub read_onto : List ℕ → List CallLine → List Line → Tail → Tail
-read_onto peers lines [] t = t
-read_onto peers lines (l ∷ ls) t = with_line peers lines l (read_onto peers lines ls t)
+read_onto peers script [] t = t
+read_onto peers script (l ∷ ls) t = with_line peers script l (read_onto peers script ls t)
 
 abbrev pub entries_in : List ℕ → List CallLine → List Line → List PlainEntry
-entries_in peers lines ls = (read_onto peers lines ls (tail 0 [] [])).entries
+entries_in peers script ls = (read_onto peers script ls (tail 0 [] [])).entries
 
 abbrev pub peers_of : Scenario → DomainLine → List ℕ
 peers_of s d = map (λ n. n.number) (neighbours s d)
 
--- the plain entries that the lines of a domain's journal tell
+-- the plain entries of the lines of a domain's journal
 abbrev pub unjoined : Scenario → DomainLine → List Line → List PlainEntry
 unjoined s d ls = entries_in (peers_of s d) (script s d.domain) ls
