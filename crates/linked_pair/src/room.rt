@@ -1,0 +1,21 @@
+ghost use Rattle.std.specs.Prelude.{◌≡◌, ◌≤◌, OnOk};
+ghost use Rattle.domain_core.specs.Room.{call_bytes, call_entries};
+
+use domain_core::{CALL_BYTES, CALL_ENTRIES};
+use mc_base::NoMemory;
+use mc_journal::Journal;
+
+/// Makes room in a journal for one call of a domain: for 160 entries of 67,584 bytes together.
+///
+/// # Errors
+///
+/// `NoMemory` where an allocation fails. The entries stay.
+pub fn reserve_call(journal: &mut Journal) -> Result<(), NoMemory>
+    ensures lines { journal.new.lines ≡ journal.old.lines }
+    ensures entry_room { OnOk result (call_entries ≤ journal.new.entry_room) }
+    ensures byte_room { OnOk result (call_bytes ≤ journal.new.byte_room) }
+    ensures entry_room_stays { journal.old.entry_room ≤ journal.new.entry_room }
+    ensures byte_room_stays { journal.old.byte_room ≤ journal.new.byte_room }
+{
+    journal.reserve(CALL_ENTRIES, CALL_BYTES)
+}
