@@ -22,7 +22,7 @@ pub fn message(argument: u8, channel: u32, content: &[u8]) -> Result<Letter<'_>,
     Ok(Letter::Msg { priority, bytes })
 }
 
-/// A connect: the argument tells what the channel carries.
+/// A connect: the argument is what the channel carries.
 pub fn connect(argument: u8, channel: u32, content: &[u8]) -> Result<Letter<'static>, LetterFault>
     ensures { IsReading (version_1 2 argument channel content.now) result }
 {
@@ -35,7 +35,7 @@ pub fn connect(argument: u8, channel: u32, content: &[u8]) -> Result<Letter<'sta
     Ok(Letter::Connect { channel, kind })
 }
 
-/// A reject: the argument tells the reason.
+/// A reject: the argument is the reason.
 pub fn reject(argument: u8, channel: u32, content: &[u8]) -> Result<Letter<'static>, LetterFault>
     ensures { IsReading (version_1 4 argument channel content.now) result }
 {
@@ -59,7 +59,7 @@ pub fn packet(argument: u8, channel: u32, content: &[u8]) -> Result<Letter<'_>, 
     Ok(Letter::Packet { channel, bytes })
 }
 
-/// A scalar: the argument tells how many bytes it has.
+/// A scalar: the argument is how many bytes it has.
 pub fn scalar(argument: u8, channel: u32, content: &[u8]) -> Result<Letter<'static>, LetterFault>
     ensures { IsReading (version_1 8 argument channel content.now) result }
 {

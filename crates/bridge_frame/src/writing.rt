@@ -55,7 +55,7 @@ fn write_header(kind: u8, argument: u8, channel: u32, out: &mut [u8])
     LittleEndian::write_u32(&mut out[4..], channel);
 }
 
-/// Writes a letter of these fields, and answers its length. The rest of `out` stays.
+/// Writes a letter of these fields, and returns its length. The rest of `out` stays.
 fn write_fields(kind: u8, argument: u8, channel: u32, content: &[u8], out: &mut [u8]) -> usize
     requires { 8 + length content.now ≤ length out.old }
     ensures written { let text = spelled (version_1 kind argument channel content.now) in
@@ -68,7 +68,7 @@ fn write_fields(kind: u8, argument: u8, channel: u32, content: &[u8], out: &mut 
     end
 }
 
-/// Writes a scalar, and answers the length of the letter. The rest of `out` stays.
+/// Writes a scalar, and returns the length of the letter. The rest of `out` stays.
 fn write_scalar(channel: u32, bits: Bits, value: u64, out: &mut [u8]) -> usize
     requires fits { value < 256 ^ bytes_of_bits bits }
     requires room { 16 ≤ length out.old }

@@ -43,7 +43,8 @@ impl BufferBook {
         Ok(BufferBook { shelves, lends: 0 })
     }
 
-    /// Keeps a buffer that was taken from a peer, in a queue from now on. Its content is `size` bytes from `start` on.
+    /// Keeps a buffer that was taken from a peer, in a queue from now on. Its content is `size` bytes from byte `start` on, all
+    /// within the buffer's 512.
     pub fn enqueue(&mut self, peer: u8, buffer: Buffer, start: u32, size: u32) -> Slot
         requires away { IsAway self.old (record { peer = peer; buffer = buffer.number }) }
         requires inside { start + size ≤ buffer_size }

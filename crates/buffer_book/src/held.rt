@@ -7,10 +7,11 @@ ghost use Rattle.buffer_book.specs.Shelves.{lent_under};
 use mc_base::Buffer;
 use std::marker::Model;
 
-/// A buffer, where its content lies, and the serial under which it is lent, or `None` where it stands in a queue.
+/// A buffer, where its content lies, and the serial under which it is lent, or `None` where it is in a queue.
 #[derive(Debug, Drop)]
 pub struct HeldBuffer {
     buffer: Buffer,
+    // The content: `size` bytes from byte `start` on. Both are 0 to 512.
     start: u32,
     size: u32,
     lent: Option<u64>,

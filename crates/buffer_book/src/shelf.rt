@@ -82,7 +82,7 @@ impl PeerShelf {
         self.places[number as usize].take()
     }
 
-    /// How many of the buffers stand in queues, and how many are lent.
+    /// Counts the buffers that are in queues, and those that are lent.
     pub fn count(&self) -> Places
         ensures queue { result.queue ≡ counted stands_in_queue self.now.places }
         ensures lent { result.lent ≡ counted is_lent self.now.places }

@@ -61,7 +61,7 @@ pub fn lent_as(shelves: &[PeerShelf], id: PacketId) -> Option<&HeldBuffer>
     }
 }
 
-/// How many buffers of a peer stand in queues, and how many are lent.
+/// Counts the buffers of a peer that are in queues, and those that are lent.
 pub fn count(shelves: &[PeerShelf], peer: u8) -> Places
     ensures queue { result.queue ≡ counted_in stands_in_queue shelves.now peer }
     ensures lent { result.lent ≡ counted_in is_lent shelves.now peer }

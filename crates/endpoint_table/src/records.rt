@@ -19,7 +19,7 @@ pub fn with_address(records: &[Record], address: u32) -> Option<Record>
     }
 }
 
-/// The place of the record of this address, by binary search, or else where it would stand.
+/// Returns the place of the record of this address, by binary search, or else where it would be inserted.
 fn place_of(records: &[Record], address: u32) -> Result<usize, usize>
     requires { IsRising records.now }
     ensures found { IfOk result (IsPlace records.now address) }

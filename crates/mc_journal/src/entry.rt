@@ -11,9 +11,9 @@ pub enum Told<'a> {
     Accepted,
     /// The connection was rejected.
     Rejected(Reason),
-    /// The size of a message or packet, and those of its bytes that were given.
+    /// The size of a message or packet in bytes, and those of its bytes that the caller got.
     Bytes { size: u32, bytes: &'a [u8] },
-    /// The request ended with a word.
+    /// The request ended with a refusal.
     Ended(Refusal),
 }
 
@@ -24,13 +24,13 @@ pub enum Answer<'a> {
     Ok,
     /// `Ok` with one number.
     Number(u64),
-    /// The size of a message, and those of its bytes that were given.
+    /// The size of a message in bytes, and those of its bytes that the caller got.
     Bytes { size: u32, bytes: &'a [u8] },
     /// A request ended.
     Done(Told<'a>),
 }
 
-/// A line of a journal. A peer is told by its domain's number.
+/// An entry of a journal. A peer is named by its domain's number, 0 to 7.
 #[derive(Clone, Copy, Debug)]
 pub enum Entry<'a> {
     /// A turn that was not idle. What it did follows.

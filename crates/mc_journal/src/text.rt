@@ -17,7 +17,7 @@ use crate::words::{fate_word, reason_word, refusal_word};
 use mc_base::{Fate, Reason, Refusal};
 use outer_io::{Sink, Writer};
 
-/// Puts the lines of a journal, each with its newline. It takes no memory. Where a write failed, the writer tells it at its end.
+/// Puts the lines of a journal, each with its newline. It takes no memory. A write that failed is reported by the writer's `finish`.
 pub fn put_entries<K: Sink>(out: &mut Writer<'_, K>, journal: &Journal)
     ensures { Puts K.Sink out.old out.new (lines_text journal.now.lines) }
 {
@@ -141,7 +141,7 @@ fn put_answer<K: Sink>(out: &mut Writer<'_, K>, answer: Answer<'_>)
     }
 }
 
-/// How a request was complete.
+/// Puts how a request ended.
 fn put_done<K: Sink>(out: &mut Writer<'_, K>, told: Told<'_>)
     ensures { Puts K.Sink out.old out.new (spaced (codes "done" ∷ result_words (result_of_told told.entry))) }
 {

@@ -5,7 +5,7 @@ ghost use Rattle.board_model.specs.Words.{refusal_text, fate_text, reason_text};
 
 use mc_base::{Fate, Reason, Refusal};
 
-/// The word of a refusal.
+/// Returns the word of a refusal.
 pub fn refusal_word(word: Refusal) -> &'static [u8]
     ensures { result.now ≡ refusal_text word }
 {
@@ -42,7 +42,7 @@ pub fn refusal_word(word: Refusal) -> &'static [u8]
     }
 }
 
-/// The word for why a connection was rejected.
+/// Returns the word for why a connection was rejected.
 pub fn reason_word(reason: Reason) -> &'static [u8]
     ensures { result.now ≡ reason_text reason }
 {
@@ -53,7 +53,7 @@ pub fn reason_word(reason: Reason) -> &'static [u8]
     }
 }
 
-/// The word of a take line.
+/// Returns the last word of a `take` line: what became of the frame.
 pub fn fate_word(fate: Fate) -> &'static [u8]
     ensures { result.now ≡ fate_text fate }
 {

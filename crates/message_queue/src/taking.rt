@@ -9,7 +9,7 @@ ghost use Rattle.message_queue.specs.InQueue.{waiting_of, waiting_in};
 use crate::entry::Entry;
 use std::collections::VecDeque;
 
-/// Takes the oldest entry of the best priority, or answers `None` where there is none.
+/// Takes the oldest entry of the best priority, or returns `None` where there is none.
 pub fn take_best(entries: &mut VecDeque<Entry>) -> Option<Entry>
     ensures none { IsNone result ↔ (deque_len entries.old ≡ 0) }
     ensures best { IfSome result (λ e. best (λ w. w.priority) (waiting_in entries.old.items) ≡ Some (waiting_of e)) }

@@ -20,7 +20,7 @@ pub fn endpoint_named(name: &[u8]) -> Option<EndName>
     })
 }
 
-/// What stands behind `mcapi:`, between the next two colons, and behind them.
+/// Returns what is behind `mcapi:`, between the next two colons, and behind them.
 fn parts(name: &[u8]) -> Option<(&[u8], &[u8], &[u8])>
     // The name is made of these parts.
     ensures made { IfSome result (λ x. name.now ≡ codes "mcapi:" ++ (x.0.now ++ (colon ∷ (x.1.now ++ (colon ∷ x.2.now))))) }
@@ -35,7 +35,7 @@ fn parts(name: &[u8]) -> Option<(&[u8], &[u8], &[u8])>
     Some((domain, node, port))
 }
 
-/// What stands in front of the first colon, and behind it.
+/// Returns what is in front of the first colon, and behind it.
 fn at_colon(text: &[u8]) -> Option<(&[u8], &[u8])>
     ensures made { IfSome result (λ x. text.now ≡ x.0.now ++ (colon ∷ x.1.now)) }
     ensures first { IfSome result (λ x. list_any is_colon x.0.now ≡ false) }
@@ -60,7 +60,7 @@ fn number(text: &[u8], most: u16) -> Option<u16>
     value(text, most)
 }
 
-/// Whether a zero stands in front of others.
+/// Whether the first of several digits is a zero.
 fn has_leading_zero(text: &[u8]) -> bool
     ensures { result ≡ (nat_lt 1 (length text.now) && slice_index text.now 0 == 48) }
 {

@@ -103,7 +103,7 @@ impl KnownNames {
     }
 }
 
-/// Where a name stands in the list, or else where it would stand.
+/// Returns the place of a name in the list, or else where it would be inserted.
 fn place_of(list: &[Known], name: EndName) -> Result<usize, usize>
     requires { IsRising (names_in list.now) }
     ensures found { IfOk result (IsPlace (names_in list.now) name) }
@@ -112,7 +112,7 @@ fn place_of(list: &[Known], name: EndName) -> Result<usize, usize>
     list.binary_search_by(|known| in_order(known.name, name))
 }
 
-/// How two names stand in the order: by domain, then node, then port.
+/// Compares two names: by domain, then node, then port.
 fn in_order(name: EndName, other: EndName) -> Ordering
     ensures { result ≡ nat_cmp (rank name) (rank other) }
 {

@@ -5,7 +5,7 @@ ghost use Rattle.byteorder.specs.Endian.{little_bytes};
 use byteorder::{ByteOrder, LittleEndian};
 use mc_base::Ns;
 
-/// How many bytes the name's field has. One more than the longest name: a NUL stands behind it.
+/// How many bytes the name's field has: one more than the longest name, since a NUL follows it.
 const NAME_FIELD: usize = 32;
 
 /// Writes the 40 bytes of an announcement. The rest of `out` stays.

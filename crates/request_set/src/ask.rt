@@ -12,7 +12,7 @@ pub enum Ask {
     Lookup(EndName),
     /// The answer to the connect of this channel number.
     Connect(u32),
-    /// A message to this endpoint, of which the caller gets at most so many bytes.
+    /// A message to this endpoint, of which the caller gets at most so many bytes, 0 to 4,294,967,295.
     Message(Local, u32),
     /// A packet to this endpoint.
     Packet(Local),
@@ -31,7 +31,7 @@ pub enum Complete {
     Message(Slot, u32),
     /// A packet came in this buffer.
     Packet(Slot),
-    /// The request ended with a word.
+    /// The request ended with a refusal.
     Ended(Refusal),
 }
 

@@ -21,7 +21,7 @@ use outer_io::Sink;
 use std::alloc::Global;
 use words::{write_right, write_wrong};
 
-/// Writes what the frame says that the text spells, or what is wrong with the text or the frame and where.
+/// Writes what the frame of a text says, or what is wrong with the text or the frame and where. Returns the status.
 pub fn tell_frame<K: Sink>(alloc: Global, text: &[u8], output: &mut K) -> u8
     ensures status { IsOneOf (0 ∷ 1 ∷ 5 ∷ 6 ∷ []) result }
     ensures right { result ≡ 0 → (due : List ℕ) × TellsRight text.now due × Appends (K.written output.old) (K.written output.new) due }

@@ -11,14 +11,18 @@ use std::alloc::Global;
 /// Why a text is not read as bytes.
 #[derive(Clone, Copy)]
 pub enum HexFault {
-    /// The byte at this place is neither a digit nor a blank. Where there is none, the digits are odd in number, and the
-    /// place is the text's length.
+    /// The byte at this place is neither a digit nor a blank. Where there is no such byte, the number of digits is odd, and
+    /// the place is the text's length.
     At { place: usize },
-    /// Want of memory. It may come at any time.
+    /// An allocation failed, which may happen at any time.
     NoMemory,
 }
 
-/// The bytes that a text spells. Memory is taken once, for half as many bytes as the text has.
+/// Reads the bytes that a text spells. Memory is taken once, for half as many bytes as the text has.
+///
+/// # Errors
+///
+/// `At` where the text spells no bytes, `NoMemory` where an allocation fails.
 pub fn read_hex(alloc: Global, text: &[u8]) -> Result<Vec<u8>, HexFault>
     ensures sound { IfOk result (λ bytes. hex_fault text.now ≡ None) }
     ensures bytes { IfOk result (λ bytes. bytes.items ≡ bytes_spelled text.now) }

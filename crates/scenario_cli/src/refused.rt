@@ -9,7 +9,11 @@ ghost use Rattle.scenario_cli.specs.RefusedText.{line_reason_text, refused_text}
 use board_model::LineReason;
 use outer_io::{Failed, Sink, Writer};
 
-/// Writes the line, counted from 1, and the reason for which it is refused. `Failed` comes where a write failed.
+/// Writes the line, counted from 1, and the reason for which it is refused.
+///
+/// # Errors
+///
+/// `Failed` where a write failed.
 pub fn write_refusal<K: Sink>(line: u32, reason: LineReason, output: &mut K) -> Result<(), Failed>
     ensures bytes { Writes (K.written output.old) (K.written output.new) result (refused_text line reason) }
     ensures cause { HasCause (K.faults output.old) (K.faults output.new) result }
@@ -30,7 +34,7 @@ fn put_refusal<K: Sink>(out: &mut Writer<'_, K>, line: u32, reason: LineReason)
     out.put(b"\n");
 }
 
-/// The word for a reason.
+/// Returns the word for a reason.
 fn reason_word(reason: LineReason) -> &'static [u8]
     ensures { result.now ≡ line_reason_text reason }
 {

@@ -19,7 +19,7 @@ use outer_io::Sink;
 use scenario_lang::{ScenarioFault, read_scenario};
 use std::alloc::Global;
 
-/// Runs the scenario that the text tells, and writes the report, or the refusal where it tells none.
+/// Runs the scenario of a text and writes its report, or the refusal where the text is no scenario. Returns the status.
 pub fn run_text<K: Sink>(alloc: Global, text: &[u8], output: &mut K) -> u8
     requires { length text.now ≤ input_limit }
     ensures status { IsOneOf (0 ∷ 3 ∷ 5 ∷ 6 ∷ []) result }

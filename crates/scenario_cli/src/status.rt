@@ -7,7 +7,7 @@ use outer_io::Failed;
 /// The input was read to its end, and the output is written whole.
 pub const DONE: u8 = 0;
 
-/// What came is no sound frame.
+/// The input is not a sound frame.
 pub const WRONG: u8 = 1;
 
 /// The words are none of the forms.
@@ -22,13 +22,13 @@ pub const READ_FAILED: u8 = 4;
 /// The sink failed.
 pub const WRITE_FAILED: u8 = 5;
 
-/// Want of memory.
+/// Out of memory.
 pub const NO_MEMORY: u8 = 6;
 
 /// More bytes came than the limit.
 pub const TOO_LONG: u8 = 7;
 
-/// The status after a write that would have come with this one.
+/// Returns this status after a write that went through, and that of a failed write after one that failed.
 pub fn after_write(written: Result<(), Failed>, status: u8) -> u8
     ensures whole { OnOk written (result ≡ status) }
     ensures failed { OnErr written (result ≡ 5) }

@@ -21,15 +21,15 @@ const USAGE: &[u8] = b"usage: mcrun run | run --serial | check | frame | ring | 
 /// The most bytes of an input.
 const INPUT_LIMIT: usize = 8_388_608;
 
-/// Does what the words say with the input, writes the output, and answers the status to end with.
+/// Does what the words say with the input, writes the output, and returns the status to end with.
 ///
-/// The form `run --serial` takes a scenario in, and the report of its serial run goes out. The form `frame` takes the
-/// hexadecimal text of a frame in, and what the frame says goes out, or its first fault and the place of it.
+/// The form `run --serial` reads a scenario and writes the report of its serial run. The form `frame` reads the hexadecimal
+/// text of a frame and writes what the frame says, or its first fault and the place of it.
 ///
-/// The statuses are 0 where the report was written or the frame is sound, 1 where the input is no sound frame, 2 where the
-/// words are none of the forms and the usage was written, 3 where the input is no scenario and the refusal was written,
-/// 4 where a read failed, 5 where a write failed, 6 at want of memory, and 7 where more than 8,388,608 bytes came.
-/// Words come first, then reading, the grammar or the frame, running, and writing.
+/// The statuses are 0 where the report was written or the frame is sound, 1 where the input is not a sound frame, 2 where
+/// the words are none of the forms and the usage was written, 3 where the input is not a scenario and the refusal was
+/// written, 4 where a read failed, 5 where a write failed, 6 where an allocation failed, and 7 where the input has more than
+/// 8,388,608 bytes. Words come first, then reading, the grammar or the frame, running, and writing.
 pub fn mcrun<T: Threads + Sync, S: Source, K: Sink>(
     _rt: &T,
     alloc: Global,

@@ -1,4 +1,4 @@
-//! What the lines of a file have told so far, and what one more line tells.
+//! What the lines of a file have declared so far, and what one more line adds.
 
 ghost use Rattle.std.specs.Prelude.{◌≡◌, true, OnOk, IfErr, IfSome, option_map};
 ghost use Rattle.std.specs.List.{list_any, list_all};
@@ -24,7 +24,7 @@ use std::alloc::Global;
 /// The most bytes of a line.
 const LONGEST_LINE: usize = 20_000;
 
-/// What was told so far.
+/// What the lines so far have declared.
 #[derive(Drop)]
 pub(crate) struct Above<'a> {
     pub told: Scenario,
@@ -96,7 +96,7 @@ impl<'a> Above<'a> {
         }
     }
 
-    /// Whether a label stands before a call that has none, or was told before in its domain.
+    /// Whether a label is set before a call that has none, or was set before in its domain.
     fn is_told_wrong(&self, labelled: bool, domain: u8, told: Option<&'a [u8]>) -> bool
         requires { Keeps self.now.labels.told.keys self.now.told }
         ensures { result ≡ tells_wrong_label self.now.told labelled domain (option_map (λ w. w.now) told.entry) }
@@ -107,7 +107,7 @@ impl<'a> Above<'a> {
         }
     }
 
-    /// Whether an argument names a label that its domain has not told.
+    /// Whether an argument names a label that its domain has not set.
     fn is_named_wrong(&self, domain: u8, kind: ArgumentKind, word: &'a [u8]) -> bool
         requires { Keeps self.now.labels.told.keys self.now.told }
         ensures { result ≡ names_wrong_label self.now.told domain (argument_labels kind word.now) }
@@ -132,7 +132,7 @@ impl<'a> Above<'a> {
         self.is_named_wrong(domain, *kind, word) || self.are_named_wrong(domain, kinds, words)
     }
 
-    /// Tells the line of a domain, by its words after the first.
+    /// Adds the line of a domain, by its words after the first.
     #[tactic(auto, unfolding(crate::specs::Telling::domain_told))]
     fn tell_domain(&mut self, words: &[&[u8]]) -> Result<(), LineFault>
         ensures told { Answers (λ _. self.new.told) result (domain_told self.old.told (seen words.now)) }
@@ -152,7 +152,7 @@ impl<'a> Above<'a> {
         Ok(())
     }
 
-    /// Tells the line of a link, by its words after the first.
+    /// Adds the line of a link, by its words after the first.
     #[tactic(auto, unfolding(crate::specs::Telling::link_told))]
     fn tell_link(&mut self, words: &[&[u8]]) -> Result<(), LineFault>
         ensures told { Answers (λ _. self.new.told) result (link_told self.old.told (seen words.now)) }
@@ -180,7 +180,7 @@ impl<'a> Above<'a> {
         Ok(())
     }
 
-    /// Tells the line of a call, by its first word and the others.
+    /// Adds the line of a call, by its first word and the others.
     #[tactic(auto, unfolding(crate::specs::Telling::call_told))]
     fn tell_call(
         &mut self,
@@ -233,7 +233,7 @@ impl<'a> Above<'a> {
         }
     }
 
-    /// Tells a line by its words.
+    /// Adds a line by its words.
     fn tell_words(&mut self, alloc: Global, words: &[&'a [u8]]) -> Result<(), LineFault>
         requires { Keeps self.old.labels.told.keys self.old.told }
         ensures told { Answers (λ _. self.new.told) result (words_told self.old.told (seen words.now)) }
@@ -254,7 +254,7 @@ impl<'a> Above<'a> {
         self.tell_call(alloc, first, rest)
     }
 
-    /// Tells a line. `words` is room for its words, whatever it holds.
+    /// Adds a line. `words` is room for its words, whatever it holds.
     pub fn tell_line(
         &mut self,
         alloc: Global,
@@ -275,7 +275,7 @@ impl<'a> Above<'a> {
         self.tell_words(alloc, words)
     }
 
-    /// All that was told.
+    /// Returns the scenario of all lines.
     pub fn into_scenario(self) -> Scenario
         ensures { result ≡ self.entry.told }
     {

@@ -45,7 +45,7 @@ fn tries<'w, 'a>(words: &'w [&'a [u8]]) -> (Option<&'a [u8]>, &'w [&'a [u8]])
     }
 }
 
-/// Whether a label stands where the call needs one, and no other word in its place.
+/// Whether there is a label where the call needs one, and no other word in its place.
 fn is_told_right(labelled: bool, told: Option<&[u8]>) -> bool
     ensures { result ≡ told_fits labelled (option_map (λ w. w.now) told.entry) }
 {

@@ -100,7 +100,7 @@ fn put_label<K: Sink>(out: &mut Writer<'_, K>, line: &CallLine)
     }
 }
 
-/// Puts how often the call of a line is made at most, where the line tells it.
+/// Puts how often the call of a line is made at most, where the line says it.
 fn put_tries<K: Sink>(out: &mut Writer<'_, K>, tries: Option<u32>)
     ensures { Puts K.Sink out.old out.new (tries_front tries) }
 {

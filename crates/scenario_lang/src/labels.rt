@@ -1,4 +1,4 @@
-//! The labels that were told, each in its domain.
+//! The labels that were set, each in its domain.
 
 ghost use Rattle.std.specs.Prelude.{◌≡◌, false, ◌==◌, ◌&&◌, ◌||◌, ℕ, List, IfErr, OnOk, bytes_eq};
 ghost use Rattle.scenario_lang.specs.declared.fault.LineFault.TheVariants.{NoMemory as no_memory};
@@ -23,14 +23,14 @@ impl<'a> Labels<'a> {
         }
     }
 
-    /// Whether a domain has told a label.
+    /// Returns whether a domain has set a label.
     pub fn has(&self, domain: u8, label: &'a [u8]) -> bool
         ensures { result ≡ has_label self.now.told.keys domain label.now }
     {
         self.told.contains(&(domain, label))
     }
 
-    /// Tells a label.
+    /// Sets a label.
     pub fn tell(&mut self, domain: u8, label: &'a [u8]) -> Result<(), LineFault>
         ensures told { OnOk result ((d : ℕ) (l : List ℕ) → has_label self.new.told.keys d l ≡ (has_label self.old.told.keys d l || ((domain == d) && bytes_eq l label.now))) }
         ensures memory { IfErr result (λ e. e ≡ no_memory) }

@@ -1,6 +1,6 @@
-//! Scenario files: a text is read as the scenario that it tells, and a scenario is written as its text.
+//! Scenario files: a text is read as a scenario, and a scenario is written as its canonical text.
 //!
-//! What the grammar is stands in `board_model`: `told_by` says what a text tells, and `canonical` is the
+//! The grammar is defined in `board_model`: `told_by` says which scenario a text is, and `canonical` is the
 //! text of a scenario. `specs/` here says how the readers go over a text. That they find exactly the scenarios of the
 //! grammar is proved, and the contract of `read_scenario` says so without them.
 #![tactic(auto)]

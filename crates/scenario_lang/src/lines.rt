@@ -24,7 +24,7 @@ fn length_before(stop: u8, text: &[u8]) -> usize
     count
 }
 
-/// A line without the carriage return that stands before its newline.
+/// Returns a line without the carriage return before its newline.
 fn without_return(line: &[u8]) -> &[u8]
     ensures { result.now ≡ unreturned line.now }
 {
@@ -47,7 +47,7 @@ fn line_length(text: &[u8]) -> usize
     }
 }
 
-/// The first line of a text, and what follows it.
+/// Returns the first line of a text, and what follows it.
 pub fn first_line(text: &[u8]) -> (&[u8], &[u8])
     requires { 1 ≤ length text.now }
     ensures line { lines_of text.now ≡ result.0.now ∷ lines_of result.1.now }
@@ -119,7 +119,7 @@ pub fn find_words<'a>(words: &mut Vec<&'a [u8]>, line: &'a [u8]) -> Result<(), L
     Ok(())
 }
 
-/// What stands before a separator in a word, and after it.
+/// Returns what is before a separator in a word, and after it.
 fn cut(separator: u8, word: &[u8]) -> Option<(&[u8], &[u8])>
     ensures { Cuts separator word.now result }
 {
@@ -130,7 +130,7 @@ fn cut(separator: u8, word: &[u8]) -> Option<(&[u8], &[u8])>
     }
 }
 
-/// The two parts of a word with one dot.
+/// Returns the two parts of a word with one dot.
 pub fn caller(word: &[u8]) -> Option<(&[u8], &[u8])>
     ensures { two_parts (parts_at 46 word.now) ≡ option_map (λ x. (x.0.now, x.1.now)) result }
 {
@@ -141,7 +141,7 @@ pub fn caller(word: &[u8]) -> Option<(&[u8], &[u8])>
     }
 }
 
-/// The three parts of a word with two colons.
+/// Returns the three parts of a word with two colons.
 pub fn name_parts(word: &[u8]) -> Option<(&[u8], &[u8], &[u8])>
     ensures { three_parts (parts_at 58 word.now) ≡ option_map (λ x. (x.0.now, x.1.now, x.2.now)) result }
 {

@@ -12,12 +12,16 @@ use crate::lines::first_line;
 use board_model::{LineReason, Scenario};
 use std::alloc::Global;
 
-/// Reads a scenario file. A text that tells no scenario is refused at the first line that has a reason,
-/// counted from 1, with the first reason of that line, in the order of `LineReason`. A file that tells no domain is refused
-/// as `Domain` at the line after its last.
+/// Reads a scenario file (docs/FORMATS.md, "Scenario files").
 ///
-/// It takes time in proportion to the size of the text, and the logarithm of the number of labels. Want of memory may come
-/// at any time. The text has fewer than 4,294,967,295 bytes, so that its lines can be numbered in a `u32`.
+/// It takes time in proportion to the size of the text, and the logarithm of the number of labels. The text must have fewer
+/// than 4,294,967,295 bytes, since its lines are numbered in a `u32`.
+///
+/// # Errors
+///
+/// `Refused` where the text is no scenario, with the first line that has a reason, counted from 1, and the first reason of
+/// that line, in the order of `LineReason`. A file without a domain is refused as `Domain` at the line after its last.
+/// `NoMemory` where an allocation fails, which may happen at any time.
 pub fn read_scenario(alloc: Global, text: &[u8]) -> Result<Scenario, ScenarioFault>
     requires { length text.now < 4_294_967_295 }
     ensures told { IfOk result (λ s. told_by text.now ≡ Ok s) }
@@ -27,13 +31,13 @@ pub fn read_scenario(alloc: Global, text: &[u8]) -> Result<Scenario, ScenarioFau
     lines_told(alloc, text)
 }
 
-/// What `write_scenario` gives of a lawful scenario is read back as the same scenario. The function has no code: its
+/// What `write_scenario` makes of a lawful scenario is read back as the same scenario. The function has no code: its
 /// contract is the law.
 pub fn canonical_text_is_read_back()
     ensures { CanonicalIsReadBack }
 {}
 
-/// The scenario that the lines of a text tell one after the other.
+/// Reads the scenario of the lines of a text, one after the other.
 fn lines_told(alloc: Global, text: &[u8]) -> Result<Scenario, ScenarioFault>
     requires { length text.now < 4_294_967_295 }
     ensures told { IfOk result (λ s. told_by text.now ≡ Ok s) }

@@ -9,7 +9,7 @@ use mc_base::NoMemory;
 use outer_io::{Failed, Sink, Writer};
 use std::alloc::Global;
 
-/// A text in memory. A write fails only at want of memory.
+/// A text in memory. A write fails only where an allocation fails.
 #[derive(Drop)]
 struct TextSink {
     text: Vec<u8>,
@@ -32,8 +32,12 @@ impl Sink for TextSink {
     }
 }
 
-/// The canonical text of a scenario. For a scenario that a text tells, it is read back as the same scenario:
-/// `canonical_text_is_read_back`. Want of memory is the only refusal.
+/// Writes the canonical text of a scenario. Where the scenario was read from some text, it is read back as the same scenario:
+/// `canonical_text_is_read_back`.
+///
+/// # Errors
+///
+/// `NoMemory` where an allocation fails.
 pub fn write_scenario(alloc: Global, scenario: &Scenario) -> Result<Vec<u8>, NoMemory>
     ensures { IfOk result (λ v. v.items ≡ canonical scenario.now) }
 {

@@ -18,7 +18,7 @@ use std::alloc::Global;
 pub struct ClosedTable {
     /// Its words, in their order.
     pub words: Vec<u64>,
-    /// Under each number that stands in the ring its buffer. Under any other `None`, which no clause says: the buffer is with
+    /// For each number whose buffer is in the ring, that buffer. For any other `None`, which no clause says: the buffer is with
     /// whoever holds it.
     pub home: Vec<Option<Buffer>>,
 }

@@ -1,4 +1,4 @@
-//! The kinds of step, by what each tells the half that makes it.
+//! The kinds of step, by what each shows the half that makes it.
 use crate::view::View;
 use atomic_table::{Join, Play, Split};
 use mc_base::Buffer;

@@ -3,7 +3,7 @@ use crate::rule::Board;
 use mc_base::Buffer;
 use std::marker::Model;
 
-/// One split virtqueue: its fields as atomic words, and a slot for each buffer that stands in it.
+/// One split virtqueue: its fields as atomic words, and a slot for each buffer that is in it.
 ///
 /// Two halves step on it, each from one thread at a time. Each call but `tell` and `close` makes exactly one atomic step,
 /// which the half's view counts. No call waits for anybody, and none can fail.

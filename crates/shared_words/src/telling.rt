@@ -1,4 +1,4 @@
-//! How one half tells the other what it knows.
+//! How one half passes on what it knows to the other.
 ghost use Rattle.std.specs.Prelude.{◌≡◌};
 ghost use Rattle.shared_words.specs.Way.{other};
 ghost use Rattle.shared_words.specs.Shown.{size_of, with_view};

@@ -43,7 +43,8 @@ impl fmt::Debug for Device {
 }
 
 impl Device {
-    /// Gives back a buffer that the device holds, with a length of at most 512. It is last of those returned.
+    /// Gives back a buffer that the device holds, with a length of 0 to 512. Stores `used.ring[idx % size]`, its number and its
+    /// length, then `used.idx` (VIRTIO 1.2, section 2.7.8).
     #[inline(always)]
     pub fn give(&mut self, on: &Ring, buffer: Buffer, len: u32)
         requires ring { self.old.ring ≡ on.now.ring }
@@ -59,7 +60,7 @@ impl Device {
         on.table.publish_used(&mut self.half, buffer);
     }
 
-    /// Looks once at the available index: how many offered buffers are not yet fetched.
+    /// Looks once at `avail.idx`, and returns how many offered buffers are not yet fetched.
     pub fn look(&mut self, on: &Ring) -> u32
         requires ring { self.old.ring ≡ on.now.ring }
         ensures looked { self.new ≡ looks_at result self.old }
@@ -72,8 +73,8 @@ impl Device {
         shown
     }
 
-    /// The oldest offered buffer that a look or a meeting showed, with its length. Where none is left it looks once, and answers
-    /// `None` exactly where that look showed none.
+    /// Fetches the oldest offered buffer that a look or a meeting showed, and returns it with its length. Where none is left it
+    /// looks once, and returns `None` exactly where that look showed none.
     #[inline(always)]
     pub fn fetch(&mut self, on: &Ring) -> Option<(Buffer, u32)>
         requires ring { self.old.ring ≡ on.now.ring }

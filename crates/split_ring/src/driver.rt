@@ -43,7 +43,8 @@ impl fmt::Debug for Driver {
 }
 
 impl Driver {
-    /// Offers a buffer that the driver holds, with a length of at most 512. It is last of those offered.
+    /// Offers a buffer that the driver holds, with a length of 0 to 512. Stores the length in the buffer's descriptor and the
+    /// number in `avail.ring[idx % size]`, then `avail.idx` (VIRTIO 1.2, section 2.7.13).
     #[inline(always)]
     pub fn offer(&mut self, on: &Ring, buffer: Buffer, len: u32)
         requires ring { self.old.ring ≡ on.now.ring }
@@ -59,7 +60,7 @@ impl Driver {
         on.table.publish_avail(&mut self.half, buffer);
     }
 
-    /// Looks once at the used index: how many returned buffers are not yet reclaimed.
+    /// Looks once at `used.idx`, and returns how many returned buffers are not yet reclaimed.
     pub fn look(&mut self, on: &Ring) -> u32
         requires ring { self.old.ring ≡ on.now.ring }
         ensures looked { self.new ≡ looks_at result self.old }
@@ -72,8 +73,8 @@ impl Driver {
         shown
     }
 
-    /// The oldest returned buffer that a look or a meeting showed, with its length. Where none is left it looks once, and answers
-    /// `None` exactly where that look showed none.
+    /// Reclaims the oldest returned buffer that a look or a meeting showed, and returns it with its length. Where none is left
+    /// it looks once, and returns `None` exactly where that look showed none.
     #[inline(always)]
     pub fn reclaim(&mut self, on: &Ring) -> Option<(Buffer, u32)>
         requires ring { self.old.ring ≡ on.now.ring }

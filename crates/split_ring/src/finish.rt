@@ -80,7 +80,7 @@ fn numbers_held(held: &[bool], mut out: Vec<u16>) -> Vec<u16>
 }
 
 impl Ring {
-    /// Ends the ring. Both halves are of this ring. It takes no memory.
+    /// Ends the ring, and returns what is left of it. Both halves are of this ring. It takes no memory.
     pub fn finish(self, driver: Driver, device: Device) -> Closed
         requires driver { driver.ring ≡ self.ring }
         requires device { device.ring ≡ self.ring }

@@ -50,9 +50,12 @@ impl fmt::Debug for Ring {
 }
 
 impl Ring {
-    /// A ring with its two halves and its buffers, 0 to `size` less 1 and all zeros, which the driver holds.
+    /// Makes a ring with its two halves and its buffers, numbered from 0 to `size` less 1 and all zeros, which the driver holds.
     ///
-    /// Refused: `Queue` where the queue is over 1, and then `Size` where the size is no power of two from 2 to 256.
+    /// # Errors
+    ///
+    /// `Queue` where the queue is neither 0 nor 1, and else `Size` where the size is not a power of two from 2 to 256.
+    /// `NoMemory` where an allocation fails.
     pub fn new(
         alloc: Global,
         queue: u8,
