@@ -100,6 +100,7 @@ pub mod VisitLooks
 pub mod WordDecimals
 pub mod WordDigits
 pub mod WordHex
+pub mod WordSearch
 pub mod WordsRead
 pub mod JournalReading
 pub mod JournalVisits

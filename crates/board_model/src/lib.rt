@@ -19,7 +19,7 @@ mod seq;
 mod totals;
 
 pub use form::{ArgumentKind, Callee};
-pub use numeral::{decode_pairs, hex_digit, is_dash, number_to};
+pub use numeral::{decode_pairs, hex_digit, is_dash, length_before, number_to};
 pub use reason::LineReason;
 pub use scenario::{Call, CallLine, DomainLine, Label, LinkLine, Scenario};
 pub use seq::Seq;

@@ -1,10 +1,13 @@
-//! What a word of a file says: a number, or bytes.
+//! What a word of a file says: a number, or bytes; and where it ends.
 
-ghost use Rattle.std.specs.Prelude.{◌≡◌, ◌≤◌, ◌<◌, ◌*◌, Some, None, true, false, nat_lt, if◌then◌else◌, length, IfSome};
+ghost use Rattle.std.specs.Prelude.{◌≡◌, ◌≤◌, ◌<◌, ◌*◌, Some, None, true, false, nat_lt, if◌then◌else◌, length, take, drop, IfSome};
 ghost use Rattle.board_model.specs.FileWords.{number_from, number_of, digit_value, pairs_of};
 ghost use Rattle.board_model.specs.FileWords.{is_digit as is_a_digit};
 ghost use Rattle.board_model.specs.FileWords.{is_dash as spells_none};
-ghost use Rattle.board_model.specs.Numerals.{at_most};
+ghost use Rattle.board_model.specs.Numerals.{at_most, ends_at, is_other};
+ghost use Rattle.std.specs.List.{list_all};
+
+use memchr::memchr;
 
 fn is_digit(byte: u8) -> bool
     ensures { result ≡ is_a_digit byte }
@@ -98,4 +101,36 @@ pub fn is_dash(word: &[u8]) -> bool
         [byte] => *byte == b'-',
         _ => false,
     }
+}
+
+/// Counts the bytes before the first that is `stop`, by vectors. It pays on long texts alone.
+fn place_of(stop: u8, text: &[u8]) -> usize
+    ensures front { list_all (is_other stop) (take result text.now) ≡ true }
+    ensures end { ends_at stop (drop result text.now) ≡ true }
+    ensures within { result ≤ length text.now }
+{
+    match memchr(stop, text) {
+        Some(at) => at,
+        None => text.len(),
+    }
+}
+
+/// The bytes of a text that are looked at one by one. Most words have fewer.
+const SHORT_WORD: usize = 12;
+
+/// Counts the bytes before the first that is `stop`.
+pub fn length_before(stop: u8, text: &[u8]) -> usize
+    ensures front { list_all (is_other stop) (take result text.now) ≡ true }
+    ensures end { ends_at stop (drop result text.now) ≡ true }
+    ensures within { result ≤ length text.now }
+{
+    let mut count = 0;
+    while count < text.len() && text[count] != stop {
+        if count == SHORT_WORD {
+            let (_, rest) = text.split_at(count);
+            return count + place_of(stop, rest);
+        }
+        count += 1;
+    }
+    count
 }

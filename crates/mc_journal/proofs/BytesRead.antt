@@ -8,7 +8,8 @@ use Rattle.mc_base.specs.Text.{hex_digit, hex_byte, hex_text}
 use Rattle.board_model.specs.FileWords.{digit_value, byte_and, pairs_of, is_dash}
 use Rattle.board_model.proofs.WordHex.{pairs_of-hex}
 use Rattle.mc_journal.specs.EntryText.{AreBytes}
-use Rattle.mc_journal.specs.Readers.{is_other, is_small, bytes_in}
+use Rattle.board_model.specs.Numerals.{is_other}
+use Rattle.mc_journal.specs.Readers.{is_small, bytes_in}
 
 -- ---- a digit
 

@@ -5,7 +5,8 @@ use Rattle.std.specs.Prelude.{◌==◌}
 use Rattle.std.specs.List.{list_all}
 use Rattle.std.proofs.lemmas.Bool.{and_parts}
 use Rattle.std.proofs.lemmas.List.{take-append-drop, take_rest}
-use Rattle.mc_journal.specs.Readers.{is_other, ends_at, onto_first, cut_at}
+use Rattle.board_model.specs.Numerals.{is_other, ends_at}
+use Rattle.mc_journal.specs.Readers.{onto_first, cut_at}
 
 not_true : (t : _) → not t ≡ true → t ≡ false
 not_true true h = absurd cc

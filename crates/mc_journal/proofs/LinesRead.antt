@@ -14,7 +14,8 @@ use Rattle.mc_journal.specs.declared.forms.Form.{Form}
 use Rattle.mc_journal.specs.declared.forms.Form.TheVariants as form
 use Rattle.mc_journal.specs.EntryText.{AreBytes, IsEntryLine}
 use Rattle.board_model.specs.WordTables.{fates, refusal_in, fate_in}
-use Rattle.mc_journal.specs.Readers.{is_other, cut_at, peer_in, count_in, long_in, bytes_in, answer_in, taken_in, takes, rest_in}
+use Rattle.board_model.specs.Numerals.{is_other}
+use Rattle.mc_journal.specs.Readers.{cut_at, peer_in, count_in, long_in, bytes_in, answer_in, taken_in, takes, rest_in}
 use Rattle.mc_journal.specs.LineForms.{form_text, forms, form_in, by_form, line_by, line_in}
 use Rattle.board_model.proofs.WordsRead.{found-is, refusal-read, fate-read}
 use Rattle.mc_journal.proofs.BytesRead.{bytes-are, bytes-read, bytes-alone}

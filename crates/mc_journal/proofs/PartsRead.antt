@@ -7,7 +7,8 @@ use Rattle.std.proofs.lemmas.Bool.Decides.{nat_tests}
 use Rattle.std.proofs.lemmas.Slice.Eq.{bytes_eq-Decides}
 use Rattle.board_model.specs.FileWords.{is_digit, number_of}
 use Rattle.board_model.proofs.WordDecimals.{number_of-decimal, decimal-digits}
-use Rattle.mc_journal.specs.Readers.{is_other, onto_first, cut_at, both, only, pair_by, pair_in}
+use Rattle.board_model.specs.Numerals.{is_other}
+use Rattle.mc_journal.specs.Readers.{onto_first, cut_at, both, only, pair_by, pair_in}
 use Rattle.mc_journal.proofs.Cuts.{cut-found, cut-not}
 
 -- ---- what was read

@@ -1,6 +1,6 @@
 -- How the readers find what a line says, part by part. Contracts of public calls name the text of an entry instead.
 -- Source: docs/FORMATS.md, "Journal text".
-use Rattle.std.specs.Prelude.{ℕ, Bool, true, not, ◌&&◌, List, [], ◌∷◌, length, codes, nat_le, nat_lt, ◌==◌, Option, None, Some, option_map, if◌then◌else◌}
+use Rattle.std.specs.Prelude.{ℕ, Bool, not, ◌&&◌, List, [], ◌∷◌, length, codes, nat_le, nat_lt, ◌==◌, Option, None, Some, option_map, if◌then◌else◌}
 use Rattle.std.specs.List.{list_all}
 use Rattle.std.specs.Str.{bytes_eq}
 use Rattle.board_model.specs.FileWords.{number_of, pairs_of, is_dash}
@@ -11,14 +11,6 @@ use Rattle.mc_journal.specs.declared.forms.Form.TheVariants as form
 use Rattle.board_model.specs.WordTables.{refusal_in, fate_in, reason_in}
 
 -- ---- words
-
--- any byte but this one
-abbrev pub is_other : ℕ → ℕ → Bool
-is_other stop b = not (b == stop)
-
-abbrev pub ends_at : ℕ → List ℕ → Bool
-ends_at stop [] = true
-ends_at stop (b ∷ bs) = b == stop
 
 abbrev pub onto_first : ℕ → Option (List ℕ × List ℕ) → Option (List ℕ × List ℕ)
 onto_first b None = None

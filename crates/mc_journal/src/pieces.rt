@@ -3,22 +3,9 @@
 ghost use Rattle.std.specs.Prelude.{◌≡◌, ◌≤◌, true, IfSome, option_map, length, take, drop};
 ghost use Rattle.std.specs.List.{list_all};
 ghost use Rattle.board_model.specs.FileWords.{pairs_of};
-ghost use Rattle.mc_journal.specs.Readers.{bytes_in, cut_at, ends_at, is_other, is_small};
+ghost use Rattle.mc_journal.specs.Readers.{bytes_in, cut_at, is_small};
 
-use board_model::{decode_pairs, is_dash};
-
-/// Returns how many bytes stand before the first that is this one.
-fn length_before(stop: u8, text: &[u8]) -> usize
-    ensures front { list_all (is_other stop) (take result text.now) ≡ true }
-    ensures end { ends_at stop (drop result text.now) ≡ true }
-    ensures within { result ≤ length text.now }
-{
-    let mut count = 0;
-    while count < text.len() && text[count] != stop {
-        count += 1;
-    }
-    count
-}
+use board_model::{decode_pairs, is_dash, length_before};
 
 /// Returns what stands before the first blank, and after it.
 pub fn cut(text: &[u8]) -> Option<(&[u8], &[u8])>
@@ -40,10 +27,15 @@ fn is_small_digit(byte: u8) -> bool
     !matches!(byte, b'A'..=b'F')
 }
 
+/// Whether no byte is a capital digit. The loop ends nowhere early, so that it is compiled to vectors.
 fn are_small_digits(word: &[u8]) -> bool
     ensures { result ≡ list_all is_small word.now }
 {
-    word.iter().all(|byte| is_small_digit(*byte))
+    let mut all = true;
+    for i in 0..word.len() {
+        all &= is_small_digit(word[i]);
+    }
+    all
 }
 
 /// Writes the bytes that pairs of digits spell to the front of the room, and returns them.

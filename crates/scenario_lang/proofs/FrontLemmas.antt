@@ -5,7 +5,8 @@ use Rattle.std.specs.Prelude.{◌==◌}
 use Rattle.std.specs.List.{list_all}
 use Rattle.std.proofs.lemmas.List.{take-append-drop, take_rest, map-append}
 use Rattle.board_model.specs.FileLines.{onto_first, begins_with, lines_of, is_blank, ends_word, words_of, parts_at}
-use Rattle.scenario_lang.specs.Fronts.{is_other, ends_at, unreturned, two_parts, three_parts}
+use Rattle.board_model.specs.Numerals.{is_other, ends_at}
+use Rattle.scenario_lang.specs.Fronts.{unreturned, two_parts, three_parts}
 use Rattle.scenario_lang.specs.Reading.{seen}
 use Rattle.scenario_lang.proofs.Options.{cases_bool, both_hold}
 

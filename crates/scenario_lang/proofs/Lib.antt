@@ -16,4 +16,3 @@ pub mod CanonicalLines
 pub mod CanonicalCallLines
 pub mod LinesTold
 pub mod ReadBack
-mod SearchLemmas

@@ -1,17 +1,9 @@
 -- Fronts of a text: what stands before the first byte of a kind, and what follows.
 -- Source: docs/FORMATS.md, "Scenario files": lines, words, and the parts of a word.
-use Rattle.std.specs.Prelude.{◌≡◌, ℕ, Bool, true, not, ◌&&◌, List, [], ◌∷◌, ◌==◌, Option, None, Some, if◌then◌else◌}
+use Rattle.std.specs.Prelude.{◌≡◌, ℕ, ◌&&◌, List, [], ◌∷◌, ◌==◌, Option, None, Some, if◌then◌else◌}
 use Rattle.std.specs.Borrow.{Bor}
 use Rattle.board_model.specs.FileLines.{parts_at}
 use Rattle.board_model.specs.LineReasons.{is_empty}
-
-abbrev pub is_other : ℕ → ℕ → Bool
-is_other stop b = not (b == stop)
-
--- nothing, or the byte itself
-abbrev pub ends_at : ℕ → List ℕ → Bool
-ends_at stop [] = true
-ends_at stop (b ∷ bs) = b == stop
 
 -- a line without the carriage return at its end
 abbrev pub unreturned : List ℕ → List ℕ

@@ -6,23 +6,11 @@ ghost use Rattle.board_model.specs.FileLines.{lines_of, words_of, parts_at, ends
 ghost use Rattle.board_model.specs.FileLines.{is_blank as is_a_blank};
 ghost use Rattle.scenario_lang.specs.declared.fault.LineFault.TheVariants.{NoMemory as no_memory};
 ghost use Rattle.scenario_lang.specs.Reading.{seen};
-ghost use Rattle.scenario_lang.specs.Fronts.{is_other, ends_at, unreturned, Cuts, two_parts, three_parts};
+ghost use Rattle.scenario_lang.specs.Fronts.{unreturned, Cuts, two_parts, three_parts};
 
 use crate::fault::LineFault;
-use memchr::{memchr, memchr2};
-
-/// Counts the bytes before the first that is `stop`.
-fn length_before(stop: u8, text: &[u8]) -> usize
-    ensures front { list_all (is_other stop) (take result text.now) ≡ true }
-    ensures end { ends_at stop (drop result text.now) ≡ true }
-    ensures within { result ≤ length text.now }
-{
-    let mut count = 0;
-    while count < text.len() && text[count] != stop {
-        count += 1;
-    }
-    count
-}
+use board_model::length_before;
+use memchr::memchr2;
 
 /// Returns a line without the carriage return before its newline.
 fn without_return(line: &[u8]) -> &[u8]
@@ -35,25 +23,13 @@ fn without_return(line: &[u8]) -> &[u8]
     if last[0] == b'\r' { front } else { line }
 }
 
-/// Counts the bytes before the first newline.
-fn line_length(text: &[u8]) -> usize
-    ensures front { list_all (is_other 10) (take result text.now) ≡ true }
-    ensures end { ends_at 10 (drop result text.now) ≡ true }
-    ensures within { result ≤ length text.now }
-{
-    match memchr(b'\n', text) {
-        Some(at) => at,
-        None => text.len(),
-    }
-}
-
 /// Returns the first line of a text, and what follows it.
 pub fn first_line(text: &[u8]) -> (&[u8], &[u8])
     requires { 1 ≤ length text.now }
     ensures line { lines_of text.now ≡ result.0.now ∷ lines_of result.1.now }
     ensures shorter { length result.1.now < length text.now }
 {
-    let (front, after) = text.split_at(line_length(text));
+    let (front, after) = text.split_at(length_before(b'\n', text));
     match after {
         [_, rest @ ..] => (without_return(front), rest),
         [] => (front, after),

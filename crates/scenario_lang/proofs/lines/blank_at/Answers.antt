@@ -1,6 +1,6 @@
 use Rattle.std.proofs.Common.{arith}
 use Rattle.memchr.specs.Find.{is_byte2}
-use Rattle.scenario_lang.proofs.SearchLemmas.{none_passes}
+use Rattle.board_model.proofs.WordSearch.{none_passes}
 use Rattle.scenario_lang.proofs.lines.blank_at.Goals as goal
 
 pub returns-in-Some-clause-front : goal.returns-in-Some-clause-front

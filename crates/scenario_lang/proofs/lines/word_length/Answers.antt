@@ -1,6 +1,6 @@
 use Rattle.std.proofs.Common.{not}
 use Rattle.board_model.specs.FileLines.{is_blank}
-use Rattle.scenario_lang.proofs.SearchLemmas.{none_in_both}
+use Rattle.board_model.proofs.WordSearch.{none_in_both}
 use Rattle.scenario_lang.proofs.lines.word_length.Goals as goal
 
 pub returns-then-count-eq-SHORT_WORD-clause-front : goal.returns-then-count-eq-SHORT_WORD-clause-front

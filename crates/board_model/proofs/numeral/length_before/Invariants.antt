@@ -1,7 +1,7 @@
 use Rattle.std.proofs.Common.{◌≡◌, ◌≤◌, ◌-◌, true, length, take}
 use Rattle.std.specs.List.{list_all}
-use Rattle.scenario_lang.specs.Fronts.{is_other}
-use Rattle.scenario_lang.proofs.lines.length_before.Given as goal
+use Rattle.board_model.specs.Numerals.{is_other}
+use Rattle.board_model.proofs.numeral.length_before.Given as goal
 
 abbrev pub invariant-loop-count : goal.invariant-loop-count
 invariant-loop-count l = record {

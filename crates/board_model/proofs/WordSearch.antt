@@ -2,7 +2,7 @@
 use Rattle.std.proofs.Common.{◌≡◌, ℕ, zero, suc, ◌+◌, ◌≤◌, length, take, drop, Bool, true, false, not, List, [], ◌∷◌, refl, arith}
 use Rattle.std.specs.Prelude.{◌&&◌}
 use Rattle.std.specs.List.{list_all}
-use Rattle.scenario_lang.proofs.Options.{both_hold}
+use Rattle.std.proofs.lemmas.Bool.{and_parts}
 use Rattle.memchr.specs.Find.{Nowhere, Passes}
 
 both : (a b : Bool) → a ≡ true → b ≡ true → (a && b) ≡ true
@@ -35,6 +35,6 @@ none_in_both test [] (suc m) n p q =
     let next : suc m + n ≡ suc (m + n) = omega arith in
     rw next refl
 none_in_both test (x ∷ xs) (suc m) n p q =
-    let k = both_hold (test x) (list_all test (take m xs)) p in
+    let k = and_parts (test x) (list_all test (take m xs)) p in
     let next : suc m + n ≡ suc (m + n) = omega arith in
     rw next (both (test x) (list_all test (take (m + n) xs)) k.0 (none_in_both test xs m n k.1 q))
