@@ -1,7 +1,8 @@
 ghost use Rattle.std.specs.Prelude.{◌≡◌, IfOk, length};
 
+use board_model::journal_laws;
 use mc_base::NoMemory;
-use mc_journal::{NotAnEntry, read_entry, write_entry};
+use mc_journal::{NotAnEntry, entries_have_entry_lines, read_entry, write_entry};
 use outer_io::{Failed, MemSink};
 use std::alloc::{AllocError, Global};
 use std::process::Abort;
@@ -159,6 +160,7 @@ fn is_written_back(alloc: Global, line: &[u8]) -> Result<bool, AllocError> {
     let Ok(mut sink) = MemSink::new(alloc, Vec::new(alloc), 3, 200) else {
         return Ok(false);
     };
+    entries_have_entry_lines(entry);
     let written = write_entry(&entry, &mut sink) == Ok(());
     Ok(written && sink.written().split_last() == Some((&b'\n', line)))
 }
@@ -392,4 +394,11 @@ fn a_failed_write_is_reported(rt: HostRuntime) {
             "{failing} {room}"
         );
     }
+}
+
+#[test]
+fn laws_of_lines_hold() {
+    journal_laws::joined_is_read_back();
+    journal_laws::parts_are_joined();
+    journal_laws::journals_have_parts();
 }
