@@ -189,7 +189,7 @@ module _ (r : ℕ) (test : Message → Bool) where
     receives_is node port max (refuses w) = refl
     receives_is node port max agrees = refl
     receives_is node port max (tells n) = refl
-    receives_is node port max (completes res) = refl
+    receives_is node port max (completes place res) = refl
 
     best_taken : (e : Endpoint) (max : ℕ) (o : Option Item) → best_item e ≡ o → took r test (receives (Some e) (given max o)) ≡ best_weight r test (Some e)
     best_taken e max None is = sym (ap (λ x. count_by test (map (message_of r e.address) (option_to_list x))) is)

@@ -39,7 +39,7 @@ send_few d s node port to priority bytes agrees = one_message (live_at s (local 
 send_few d s node port to priority bytes (refuses w) = omega arith
 send_few d s node port to priority bytes (tells n) = omega arith
 send_few d s node port to priority bytes (gives size got) = omega arith
-send_few d s node port to priority bytes (completes x) = omega arith
+send_few d s node port to priority bytes (completes place x) = omega arith
 
 deed_few : (d : ℕ) (s : DomainState) (e : Deed) → length (accepted_by d s e) ≤ succeeds e
 deed_few d s (calls node (send_from port to priority bytes) a) = send_few d s node port to priority bytes a

@@ -173,7 +173,7 @@ told_or_none node port (tells n) = refl
 told_or_none node port (refuses w) = refl
 told_or_none node port agrees = refl
 told_or_none node port (gives size bytes) = refl
-told_or_none node port (completes x) = refl
+told_or_none node port (completes place x) = refl
 
 line_lost : (labels : List Labelled) (s : DomainState) (node : ℕ) (call : Call) (a : PlainAnswer) → lost_deed (calls node (call_of labels s call) a) ≡ cond (is_delete call) (number_told a) 0
 line_lost labels s node (Delete port) a = told_or_none node port a

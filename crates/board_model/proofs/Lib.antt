@@ -109,3 +109,4 @@ pub mod JournalFollows
 pub mod JournalPartsJoined
 pub mod JournalHaveParts
 pub mod JournalReadBack
+pub mod TurnChanges

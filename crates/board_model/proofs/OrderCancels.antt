@@ -98,7 +98,7 @@ module _ (start : DomainState) (before : List Deed) (s : DomainState) (differ : 
 
   -- ---- tests
 
-  tells_held : (asked : Asked) (o : Outcome) (k : ℕ) → FitsAsked asked (Some o) → taken_for start before k ≡ item_held (Some o) → TellsAsked asked (taken_for start before k) (completes (result_by asked (Some o)))
+  tells_held : (asked : Asked) (o : Outcome) (k : ℕ) → FitsAsked asked (Some o) → taken_for start before k ≡ item_held (Some o) → TellsAsked asked (taken_for start before k) (completes None (result_by asked (Some o)))
   tells_held (message_at at max) (has_item i) k fits is = record { item = i; taken = is; gives = record { whole = refl; first = refl } }
   tells_held (message_at at max) (has_ended w) k fits is = is
   tells_held (name_of n) (has_address a) k fits is = is
@@ -111,14 +111,14 @@ module _ (start : DomainState) (before : List Deed) (s : DomainState) (differ : 
   tells_pending (packet_at at) k is = is
 
   tells_of : (o : Option Request) → ((r : Request) → o ≡ Some r → Holds (taken_for start before) r) →
-      TellsOf start before o (answer_by (cond (not (is_some o)) (Some RequestInvalid) (cond (not (is_complete o)) (Some Pending) None)) (completes (result_of o)))
+      TellsOf start before o (answer_by (cond (not (is_some o)) (Some RequestInvalid) (cond (not (is_complete o)) (Some Pending) None)) (completes None (result_of o)))
   tells_of None holds = tt
   tells_of (Some r) holds = go r.asked r.outcome (holds r refl)
     where
-      go : (asked : Asked) (o : Option Outcome) → Holds (taken_for start before) r → TellsAsked r.asked (taken_for start before r.serial) (answer_by (cond (not (is_some r.outcome)) (Some Pending) None) (completes (result_by r.asked r.outcome)))
+      go : (asked : Asked) (o : Option Outcome) → Holds (taken_for start before) r → TellsAsked r.asked (taken_for start before r.serial) (answer_by (cond (not (is_some r.outcome)) (Some Pending) None) (completes None (result_by r.asked r.outcome)))
       go asked o h = at r.outcome h.items h.fits
         where
-          at : (o : Option Outcome) → taken_for start before r.serial ≡ item_held o → FitsAsked r.asked o → TellsAsked r.asked (taken_for start before r.serial) (answer_by (cond (not (is_some o)) (Some Pending) None) (completes (result_by r.asked o)))
+          at : (o : Option Outcome) → taken_for start before r.serial ≡ item_held o → FitsAsked r.asked o → TellsAsked r.asked (taken_for start before r.serial) (answer_by (cond (not (is_some o)) (Some Pending) None) (completes None (result_by r.asked o)))
           at None items fits = tells_pending r.asked r.serial items
           at (Some x) items fits = tells_held r.asked x r.serial fits items
 

@@ -48,7 +48,7 @@ one_call (Some line) r (refuses w) = omega arith
 one_call (Some line) r agrees = omega arith
 one_call (Some line) r (tells n) = omega arith
 one_call (Some line) r (gives n bytes) = omega arith
-one_call (Some line) r (completes how) = omega arith
+one_call (Some line) r (completes place how) = omega arith
 
 no_call : (o : Option CallLine) (r : RunState) (word : _) → all_succeed (call_deeds o r (refuses word)) ≡ 0
 no_call None r word = refl

@@ -6,26 +6,22 @@ use Rattle.std.specs.List.{position_from, AllByRecursion}
 use Rattle.std.proofs.lemmas.Iterator.Adapters.{position_from-zero}
 use Rattle.std.proofs.lemmas.List.{map-append}
 use Rattle.mc_base.specs.FullName.{end_name}
-use Rattle.mc_base.specs.Reading.{reading}
 use Rattle.mc_base.specs.declared.name.EndName.{EndName}
 use Rattle.mc_base.specs.declared.refusal.Refusal.{Refusal}
 use Rattle.mc_base.specs.declared.refusal.Refusal.TheVariants.{EndpInvalid}
 use Rattle.board_model.specs.DomainCall.{DomainCall, create_at, delete_at, lookup_of, send_from, receive_at, request_at, available_at, test_of, cancel_of, turn_alone}
 use Rattle.board_model.specs.Lists.{without_at, without}
-use Rattle.board_model.specs.Journal.{Visit, Taken}
+use Rattle.board_model.specs.Journal.{Visit}
 use Rattle.board_model.specs.State.{DomainState, Endpoint, Item, Request, Outcome, message_at, has_address, has_item, has_ended, has_serial, endpoint_of, live_at, place_of_request, waits_at}
 use Rattle.board_model.specs.Change.{Change, endpoint_gone, best_gone, item_queued, item_handed, waiting_ended, name_found, request_added, request_gone, end_announced, owed_put, buffers_back, frames_shown, frame_taken, names_known, asks_for, all_done, done_with, handed_in, ended_in, changed, changed_all}
-use Rattle.board_model.specs.TakenFrames.{Row, message_item, row_of}
 use Rattle.board_model.specs.CallChanges.{at_live, best_item, success_changes, effect}
-use Rattle.board_model.specs.Deeds.{takes, after_deed}
-use Rattle.board_model.specs.Turn.{after_visit, after_turn}
+use Rattle.board_model.specs.Turn.{after_turn}
 use Rattle.board_model.specs.Answer.{local, holds, words_of, refusal, unless_refused}
 use Rattle.board_model.specs.Labels.{Labelled, serial_of, place_of_label, success_request, request_given}
 use Rattle.board_model.proofs.MessageAlls.{none-passes}
 use Rattle.board_model.proofs.ListsMapped.{map-changed_first}
 use Rattle.board_model.proofs.StateEnds.{there_is}
-use Rattle.board_model.proofs.LaneRows.{Deals, stays, learns, forgets, hands, queues, row-deals}
-use Rattle.board_model.proofs.VisitLooks.{after_looks, after_takes, visit-after, looks-keep}
+use Rattle.board_model.proofs.TurnChanges.{IsOfTurn, turn-keeps}
 
 -- the serials of the requests that stand, in their order
 abbrev pub serials : DomainState → List ℕ
@@ -37,12 +33,6 @@ serials s = map (λ r. r.serial) s.requests
 map-kept : {A B : Type 0} (g : A → B) (f : A → A) → ((x : A) → g (f x) ≡ g x) → (xs : List A) → map g (map f xs) ≡ map g xs
 map-kept g f same [] = refl
 map-kept {A} {B} g f same (x ∷ xs) = ap₂ (λ (y : B) (ys : List B). y ∷ ys) (same x) (map-kept g f same xs)
-
--- no request is given or ended by what frames and looks do
-abbrev KeepsRequests : Change → Type 0
-KeepsRequests (request_added asked o) = ⊥
-KeepsRequests (request_gone place) = ⊥
-KeepsRequests other = Unit {0}
 
 done_serial : (b : Bool) (o : Outcome) (r : Request) → (cond b (done_with o r) r).serial ≡ r.serial
 done_serial true o r = refl
@@ -59,51 +49,24 @@ ended_serials (Some e) w rs = map-kept (λ r. r.serial) (λ r. cond (waits_at e.
 found_serials : (n : EndName) (a : ℕ) (rs : List Request) → map (λ r. r.serial) (map (all_done (asks_for n) (has_address a)) rs) ≡ map (λ r. r.serial) rs
 found_serials n a rs = map-kept (λ r. r.serial) (all_done (asks_for n) (has_address a)) (λ r. done_serial (is_none r.outcome && asks_for n r.asked) (has_address a) r) rs
 
-change_serials : (s : DomainState) (c : Change) → KeepsRequests c → serials (changed s c) ≡ serials s
-change_serials s (item_handed a i) keeps = handed_serials (endpoint_of s a) i s.requests
-change_serials s (waiting_ended a w) keeps = ended_serials (endpoint_of s a) w s.requests
-change_serials s (name_found n a) keeps = found_serials n a s.requests
-change_serials s (request_added asked o) keeps = absurd keeps
-change_serials s (request_gone place) keeps = absurd keeps
-change_serials s other keeps = refl
+-- no request is given or ended by a change of a turn
+change_serials : (s : DomainState) (c : Change) → IsOfTurn c → serials (changed s c) ≡ serials s
+change_serials s (item_handed a i) is = handed_serials (endpoint_of s a) i s.requests
+change_serials s (name_found n a) is = found_serials n a s.requests
+change_serials s (waiting_ended a w) is = absurd is
+change_serials s (request_added asked o) is = absurd is
+change_serials s (request_gone place) is = absurd is
+change_serials s other is = refl
 
-change_gives : (s : DomainState) (c : Change) → KeepsRequests c → (changed s c).requests_given ≡ s.requests_given
-change_gives s (request_added asked o) keeps = absurd keeps
-change_gives s other keeps = refl
-
-module _ {X : Type 0} (f : DomainState → X) (same : (s : DomainState) (c : Change) → KeepsRequests c → f (changed s c) ≡ f s) where
-  changes_same : (s : DomainState) (cs : List Change) → AllByRecursion KeepsRequests cs → f (changed_all s cs) ≡ f s
-  changes_same s [] keep = refl
-  changes_same s (c ∷ cs) keep = changes_same (changed s c) cs keep.1 ∙ same s c keep.0
-
-  row_same : (s t : DomainState) (peer : ℕ) (r : Row) → Deals s peer None r → f (changed_all t r.happens) ≡ f t
-  row_same s t peer r (stays is gives) = ap (λ cs. f (changed_all t cs)) is
-  row_same s t peer r (learns n a names is gives) = ap (λ cs. f (changed_all t cs)) is ∙ changes_same t (names_known peer names ∷ name_found n a ∷ []) (tt, (tt, tt))
-  row_same s t peer r (forgets names is gives) = ap (λ cs. f (changed_all t cs)) is ∙ changes_same t (names_known peer names ∷ []) (tt, tt)
-  row_same s t peer r (hands at source priority content e found waits is keeps) =
-      ap (λ cs. f (changed_all t cs)) is ∙ changes_same t (item_handed at (message_item peer None source priority content) ∷ []) (tt, tt)
-  row_same s t peer r (queues at source priority content e found is keeps) =
-      ap (λ cs. f (changed_all t cs)) is ∙ changes_same t (item_queued at (message_item peer None source priority content) ∷ []) (tt, tt)
-
-  takes_same : (s : DomainState) (peer : ℕ) (ts : List Taken) → f (after_takes s peer ts) ≡ f s
-  takes_same s peer [] = refl
-  takes_same s peer (t ∷ ts) =
-      takes_same (after_deed s (takes peer None t.frame t.fate)) peer ts
-      ∙ (row_same s (changed s (frame_taken peer)) peer (row_of s peer None (reading t.frame)) (row-deals s peer None (reading t.frame)) ∙ same s (frame_taken peer) tt)
-
-  turn_same : (s : DomainState) (vs : List Visit) → f (after_turn s vs) ≡ f s
-  turn_same s [] = refl
-  turn_same s (v ∷ vs) =
-      turn_same (after_visit s v) vs
-      ∙ (ap f (visit-after s v)
-      ∙ (takes_same (after_looks s v) v.peer v.takes
-      ∙ looks-keep f (λ t p n. same t (buffers_back p n) tt) (λ t p. same t (owed_put p) tt) (λ t p n. same t (frames_shown p n) tt) s v))
+change_gives : (s : DomainState) (c : Change) → IsOfTurn c → (changed s c).requests_given ≡ s.requests_given
+change_gives s (request_added asked o) is = absurd is
+change_gives s other is = refl
 
 pub turn_serials : (s : DomainState) (vs : List Visit) → serials (after_turn s vs) ≡ serials s
-turn_serials s vs = turn_same serials change_serials s vs
+turn_serials s vs = turn-keeps serials change_serials s vs
 
 pub turn_gives : (s : DomainState) (vs : List Visit) → (after_turn s vs).requests_given ≡ s.requests_given
-turn_gives s vs = turn_same (λ t. t.requests_given) change_gives s vs
+turn_gives s vs = turn-keeps (λ t. t.requests_given) change_gives s vs
 
 -- ---- calls
 

@@ -142,7 +142,7 @@ module _ (s : DomainState) (node : ℕ) where
       ∙ (ap (given max) (best-unnamed (queue_at s (local node port))) ∙ given_unnamed max (best (λ i. i.priority) (queue_at s (local node port))))
   success_unnamed (request_at port max) = refl
   success_unnamed (available_at port) = ap tells (queue_length s (local node port))
-  success_unnamed (test_of request) = ap (λ o. completes (result_of o)) (request-unnamed s request) ∙ ap completes (result_of_unnamed (request_at_place s request))
+  success_unnamed (test_of request) = ap (λ o. completes None (result_of o)) (request-unnamed s request) ∙ ap (completes None) (result_of_unnamed (request_at_place s request))
   success_unnamed (cancel_of request) = refl
   success_unnamed turn_alone = refl
 

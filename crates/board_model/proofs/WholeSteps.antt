@@ -108,7 +108,7 @@ tried_word (refuses word) e = refl
 tried_word agrees e = absurd cc
 tried_word (tells n) e = absurd cc
 tried_word (gives n bytes) e = absurd cc
-tried_word (completes result) e = absurd cc
+tried_word (completes place result) e = absurd cc
 
 -- so many calls are made of the next line of one domain, and none of the others
 abbrev pub made_of : ℕ → ℕ → ℕ → ℕ

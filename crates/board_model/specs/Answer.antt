@@ -144,7 +144,7 @@ success s node (send_from port to priority bytes) = agrees
 success s node (receive_at port max) = given max (best (λ i. i.priority) (queue_at s (local node port)))
 success s node (request_at port max) = tells s.requests_given
 success s node (available_at port) = tells (length (queue_at s (local node port)))
-success s node (test_of request) = completes (result_of (request_at_place s request))
+success s node (test_of request) = completes None (result_of (request_at_place s request))
 success s node (cancel_of request) = agrees
 success s node turn_alone = agrees
 

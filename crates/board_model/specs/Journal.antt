@@ -18,13 +18,13 @@ pub data PlainResult : Type 0 where
   ended_by : Refusal → PlainResult
 
 -- the answer of a call: a word of refusal; ok; ok with a number; ok with a size and the bytes that were given; or done, with
--- how the request was complete
+-- the place of the request among those that were named, or none where one alone was, and how it was complete
 pub data PlainAnswer : Type 0 where
   refuses : Refusal → PlainAnswer
   agrees : PlainAnswer
   tells : ℕ → PlainAnswer
   gives : ℕ → List ℕ → PlainAnswer
-  completes : PlainResult → PlainAnswer
+  completes : Option ℕ → PlainResult → PlainAnswer
 
 -- a frame that was taken, with the word for what became of it
 pub record Taken : Type 0 where

@@ -108,14 +108,14 @@ pub record TellsTaken (max : ℕ) (took : List Item) (size : ℕ) (bytes : List 
 
 -- of a request for a message: the message that it took, and no other; or, by a word, that it took none
 abbrev pub TellsMessage : ℕ → List Item → PlainAnswer → Type 0
-TellsMessage max took (completes (brought size bytes)) = TellsTaken max took size bytes
-TellsMessage max took (completes (ended_by word)) = took ≡ []
+TellsMessage max took (completes None (brought size bytes)) = TellsTaken max took size bytes
+TellsMessage max took (completes None (ended_by word)) = took ≡ []
 TellsMessage max took (refuses word) = took ≡ []
 TellsMessage max took other = ⊥
 
 -- of a lookup: an address, or a word; it took nothing
 abbrev pub TellsAddress : List Item → PlainAnswer → Type 0
-TellsAddress took (completes (found_at address)) = took ≡ []
+TellsAddress took (completes None (found_at address)) = took ≡ []
 TellsAddress took (refuses word) = took ≡ []
 TellsAddress took other = ⊥
 

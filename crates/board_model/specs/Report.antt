@@ -1,6 +1,6 @@
 -- The text of a report.
 -- Source: docs/FORMATS.md, "Report".
-use Rattle.std.specs.Prelude.{ℕ, List, [], ◌∷◌, ◌++◌, map, length, codes, decimal, nat_lt, if◌then◌else◌}
+use Rattle.std.specs.Prelude.{ℕ, List, [], ◌∷◌, ◌++◌, map, option_to_list, length, codes, decimal, nat_lt, if◌then◌else◌}
 use Rattle.std.specs.List.{flat_map}
 use Rattle.mc_base.specs.Text.{hex_text}
 use Rattle.board_model.specs.declared.totals.Totals.{Totals}
@@ -29,7 +29,7 @@ answer_words (refuses word) = refusal_text word ∷ []
 answer_words agrees = codes "ok" ∷ []
 answer_words (tells n) = codes "ok" ∷ decimal n ∷ []
 answer_words (gives size bytes) = (if nat_lt (length bytes) size then codes "truncated" else codes "ok") ∷ decimal size ∷ hex_text bytes ∷ []
-answer_words (completes result) = codes "done" ∷ result_words result
+answer_words (completes place result) = codes "done" ∷ (map decimal (option_to_list place) ++ result_words result)
 
 -- the words of a line of a journal
 abbrev pub line_words : Line → List (List ℕ)
@@ -61,25 +61,43 @@ journals_text (d ∷ ds) (lines ∷ journals) = journal_text d lines ++ journals
 abbrev pub totals_words : Totals → List (List ℕ)
 totals_words t = codes "accepted" ∷ decimal t.accepted ∷ codes "taken" ∷ decimal t.taken ∷ codes "dropped" ∷ decimal t.dropped ∷ codes "queued" ∷ decimal t.queued ∷ codes "ring" ∷ decimal t.ring ∷ []
 
+-- what became of the items of a channel, by its owner and its number there
+pub record ChannelTotals : Type 0 where
+  pub owner : ℕ
+  pub number : ℕ
+  pub items : Totals
+
 abbrev pub messages_text : Totals → List ℕ
 messages_text t = line_of (codes "messages" ∷ totals_words t)
 
 abbrev pub places_text : LanePlaces → List ℕ
 places_text p = line_of (codes "lane" ∷ decimal p.from ∷ decimal p.to ∷ codes "free" ∷ decimal p.free ∷ codes "ring" ∷ decimal p.ring ∷ codes "queue" ∷ decimal p.queue ∷ codes "lent" ∷ decimal p.lent ∷ [])
 
-abbrev pub heading : List ℕ
-heading = codes "mcapi-report 1 serial\n"
+-- the line of a channel, by its owner and its number there
+abbrev pub channel_text : ChannelTotals → List ℕ
+channel_text c = line_of (codes "channel" ∷ decimal c.owner ∷ decimal c.number ∷ totals_words c.items)
+
+-- how the board was run: its domains by turns on one thread, or each on its own
+pub data Mode : Type 0 where
+  serial : Mode
+  threads : Mode
+
+abbrev pub heading : Mode → List ℕ
+heading serial = codes "mcapi-report 1 serial\n"
+heading threads = codes "mcapi-report 1 threads\n"
 
 abbrev pub ending : List ℕ
 ending = codes "end\n"
 
--- the report of a scenario with these journals, one for each domain in rising number, and these numbers
-unfoldable pub report_of : Scenario → List (List Line) → Totals → List LanePlaces → List ℕ
-report_of s journals messages places = heading ++ (canonical s ++ (journals_text (rising s) journals ++ (messages_text messages ++ (flat_map places_text places ++ ending))))
+-- the report of a scenario with these journals, one for each domain in rising number, these channels, these numbers, and the lines of
+-- these rings
+unfoldable pub report_of : Mode → Scenario → List (List Line) → List ChannelTotals → Totals → List LanePlaces → List (List ℕ) → List ℕ
+report_of mode s journals channels messages places rings =
+    heading mode ++ (canonical s ++ (journals_text (rising s) journals ++ (flat_map channel_text channels ++ (messages_text messages ++ (flat_map places_text places ++ (flat_map (λ r. r) rings ++ ending))))))
 
 abbrev pub lines_of : DomainJournal → List Line
 lines_of j = joined j.entries
 
--- the report of a board run of a scenario
+-- the report of a serial run of a scenario. No call of the present profile makes a channel, and a serial run has no ring lines
 unfoldable pub report : Scenario → List DomainJournal → List ℕ
-report s js = report_of s (map lines_of js) (totals s js) (map (places_of s js) (lanes s))
+report s js = report_of serial s (map lines_of js) [] (totals s js) (map (places_of s js) (lanes s)) []

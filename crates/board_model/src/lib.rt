@@ -1,12 +1,11 @@
 //! What a board is and does: scenarios as plain types, and in `specs/` the definitions that everything is proved
-//! against. It has no code of its own beyond the types, the laws
-//! and the readers of a word.
+//! against. It has no code of its own beyond the types, the laws and the readers of a word.
 //!
 //! `specs/` is to be read in this order: Lists, Scenario, FileLines, FileWords, Numerals, Forms, Grammar, LineReasons, Language,
-//! LinkedBoard, Words, Journal, State, Choice, Post, Change, Dealing, Turn, DomainCall, Answer, Effect, TakenFrames,
-//! ChannelEnds, CallChanges, Deeds, Labels, Step, Run, Traffic, Board, JournalDeeds, Given, Channels, Messages, Takings, Drops,
-//! MessageOrder, Totals, Tallies, Places, Serial, Loads, SerialRun, Report, Headline, Laws, MessageLaws, Honesty,
-//! ReadBack, SerialLaws, LanguageLaws, WordTables, Unjoined, JournalForm, JournalParts, JournalLaws, RingImage.
+//! LinkedBoard, Words, Journal, State, Choice, DomainCall, Answer, Change, Dealing, TakenFrames, ChannelEnds, CallChanges, Deeds,
+//! Turn, Labels, Step, Run, Traffic, Board, JournalDeeds, Given, Channels, Messages, Takings, Drops, MessageOrder, Totals, Tallies,
+//! Places, Serial, Loads, SerialRun, Report, Headline, Laws, MessageLaws, Honesty, ReadBack, SerialLaws, LanguageLaws, WordTables,
+//! Unjoined, JournalForm, JournalParts, JournalLaws, RingImage.
 #![tactic(auto)]
 
 mod form;

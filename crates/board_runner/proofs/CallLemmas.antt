@@ -181,7 +181,7 @@ tried_word (refuses word) e = (word, refl)
 tried_word agrees e = absurd cc
 tried_word (tells n) e = absurd cc
 tried_word (gives size bytes) e = absurd cc
-tried_word (completes how) e = absurd cc
+tried_word (completes place how) e = absurd cc
 
 -- so does one whose word is one of those with which it is made again
 pub tried_nothing : (s : DomainState) (node : ℕ) (call : DomainCall) → is_tried (answer s node call) ≡ true → DoesNothing s node call

@@ -7,7 +7,7 @@ ghost use Rattle.outer_io.specs.Writes.{Writes};
 ghost use Rattle.outer_io.specs.Puts.{Puts};
 ghost use Rattle.board_model.specs.Scenario.{rising};
 ghost use Rattle.board_model.specs.Grammar.{line_of};
-ghost use Rattle.board_model.specs.Report.{report_of, journals_text, lines_text, messages_text, places_text};
+ghost use Rattle.board_model.specs.Report.{report_of, serial, journals_text, lines_text, messages_text, places_text};
 ghost use Rattle.board_runner.specs.Outcome.{lines_in};
 ghost use Rattle.board_runner.specs.Told.{IsToldByText};
 
@@ -29,9 +29,9 @@ pub fn write_report<K: Sink>(
 ) -> Result<(), Failed>
     requires told { IsToldByText scenario.now }
     requires one_each { length outcome.now.journals ≡ length scenario.now.domains }
-    ensures bytes { Writes (K.written sink.old) (K.written sink.new) result (report_of scenario.now (lines_in outcome.now.journals) outcome.now.messages outcome.now.places) }
+    ensures bytes { Writes (K.written sink.old) (K.written sink.new) result (report_of serial scenario.now (lines_in outcome.now.journals) [] outcome.now.messages outcome.now.places []) }
     ensures cause { HasCause (K.faults sink.old) (K.faults sink.new) result }
-    ensures room { (n : ℕ) → K.takes sink.old n → length (report_of scenario.now (lines_in outcome.now.journals) outcome.now.messages outcome.now.places) ≤ n → IsOk result }
+    ensures room { (n : ℕ) → K.takes sink.old n → length (report_of serial scenario.now (lines_in outcome.now.journals) [] outcome.now.messages outcome.now.places []) ≤ n → IsOk result }
 {
     let mut out = Writer::new(sink);
     put_report(&mut out, scenario, outcome);
@@ -41,7 +41,7 @@ pub fn write_report<K: Sink>(
 fn put_report<K: Sink>(out: &mut Writer<'_, K>, scenario: &Scenario, outcome: &Outcome)
     requires told { IsToldByText scenario.now }
     requires one_each { length outcome.now.journals ≡ length scenario.now.domains }
-    ensures { Puts K.Sink out.old out.new (report_of scenario.now (lines_in outcome.now.journals) outcome.now.messages outcome.now.places) }
+    ensures { Puts K.Sink out.old out.new (report_of serial scenario.now (lines_in outcome.now.journals) [] outcome.now.messages outcome.now.places []) }
 {
     out.put(b"mcapi-report 1 serial\n");
     put_scenario(out, scenario);

@@ -51,7 +51,6 @@ pub mod Stepping
 pub mod Steps
 pub mod Meaning
 pub mod Dropping
-pub mod RowsDeal
 pub mod FramesAgree
 pub mod CallsAgree
 pub mod VisitsAgree

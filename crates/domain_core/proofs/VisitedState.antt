@@ -12,8 +12,8 @@ use Rattle.lane_end.proofs.CountLemmas.{length-apart}
 use Rattle.board_model.specs.Lists.{changed}
 use Rattle.board_model.specs.Journal.{Line, Taken}
 use Rattle.board_model.specs.State as state
-use Rattle.board_model.specs.State.{DomainState, Announcement, is_numbered, is_owed_end, is_from, held_from, place_of_address, place_of_peer, peer_of}
-use Rattle.domain_core.specs.PlacedFrames.{item_of, queued_last, with_created, with_destroyed, announced_name, announced_address, knowing, row_for, after_frame, after_takes, HaveWords, word_of}
+use Rattle.board_model.specs.State.{DomainState, Announcement, is_numbered, is_owed_end, has_address_of, is_from, held_from, place_of_address, place_of_peer, peer_of}
+use Rattle.domain_core.specs.PlacedFrames.{knowing, after_takes, HaveWords}
 use Rattle.board_model.specs.TakenFrames.{names_of}
 use Rattle.domain_core.specs.PlacedVisits.{looked_at, with_peers}
 use Rattle.board_model.specs.Turn.{due_frames, after_visit, turn_limit, IsVisit}
@@ -21,7 +21,10 @@ use Rattle.board_model.proofs.LanePeers.{peer_found}
 use Rattle.board_model.proofs.VisitLooks.{visit-may}
 use Rattle.domain_core.proofs.VisitsAgree.{IsTold, peer-own, visit-agrees, words-agree}
 use Rattle.domain_core.proofs.StateFits.{told-of}
-use Rattle.domain_core.proofs.RowsDeal.{stays, learns, forgets, hands, queues, DealsWith, frame_deals}
+use Rattle.board_model.specs.Change.{Change, endpoint_made, endpoint_gone, item_queued, best_gone, with_queue}
+use Rattle.board_model.specs.Change as change
+use Rattle.board_model.proofs.ListsMapped.{map-changed_first}
+use Rattle.board_model.proofs.TurnChanges.{IsOfTurn, visit-keeps}
 use Rattle.board_model.proofs.ListsCounts.{one_if, count-append, count-cons, map-changed}
 use Rattle.board_model.proofs.MessageAlls.{all-at, all-weaken}
 use Rattle.board_model.proofs.MessageLists.{changed_first, changed-position}
@@ -122,27 +125,12 @@ named_in e = record { local = e.local; address = e.address; live = true }
 abbrev names_in : DomainState → List Record
 names_in s = map named_in s.endpoints
 
-created-names : (s : DomainState) (peer : ℕ) (o : Option EndName) (address : ℕ) → names_in (with_created s peer o address) ≡ names_in s
-created-names s peer None address = refl
-created-names s peer (Some n) address = refl
-
-destroyed-names : (s : DomainState) (peer : ℕ) (o : Option EndName) → names_in (with_destroyed s peer o) ≡ names_in s
-destroyed-names s peer None = refl
-destroyed-names s peer (Some n) = refl
-
-frame-names : (s : DomainState) (peer : ℕ) (frame : List ℕ) → names_in (after_frame s peer frame) ≡ names_in s
-frame-names s peer frame = go (word_of (row_for s peer frame)) (after_frame s peer frame) (frame_deals s peer frame)
-  where
-    go : (w : Fate) (after : DomainState) → DealsWith s peer frame w after → names_in after ≡ names_in s
-    go w after (stays is gives) = ap names_in is
-    go w after (learns is word) = ap names_in is ∙ created-names s peer (announced_name peer frame) (announced_address frame)
-    go w after (forgets is word) = ap names_in is ∙ destroyed-names s peer (announced_name peer frame)
-    go w after (hands is word waits) = ap names_in is
-    go w after (queues is word there) = ap names_in is ∙ map-changed named_in (queued_last (item_of peer frame)) (λ e. refl) (place_of_address s (destination_of frame)) s.endpoints
-
-takes-names : (s : DomainState) (peer : ℕ) (ts : List Taken) → names_in (after_takes s peer ts) ≡ names_in s
-takes-names s peer [] = refl
-takes-names s peer (t ∷ ts) = takes-names (after_frame s peer t.frame) peer ts ∙ frame-names s peer t.frame
+change-names : (s : DomainState) (c : Change) → IsOfTurn c → names_in (change.changed s c) ≡ names_in s
+change-names s (item_queued a i) is = map-changed_first named_in (has_address_of a) (with_queue (λ q. q ++ i ∷ [])) (λ e. refl) s.endpoints
+change-names s (endpoint_made at) is = absurd is
+change-names s (endpoint_gone a) is = absurd is
+change-names s (best_gone a) is = absurd is
+change-names s other is = refl
 
 named-in : (b : Book) (es : List Endpoint) → map named_in (endpoints_in b es) ≡ map live_record es
 named-in b [] = refl
@@ -304,8 +292,8 @@ module _ {L : Type 0} (M : L → List LaneMove → L → Type 0) (v : L → Lane
   names-are : map live_record r'.endpoints ≡ map live_record x.records.endpoints
   names-are =
       sym (named-in b' r'.endpoints)
-      ∙ ap names_in (sym (made.seen.leaves seen holds))
-      ∙ takes-names seen p.number made.visit.takes
+      ∙ ap names_in (sym state-after)
+      ∙ visit-keeps names_in change-names before made.visit
       ∙ named-in x.book x.records.endpoints
 
   number-is : r'.number ≡ x.records.number

@@ -109,7 +109,7 @@ GivesTo (done.Packet id) old new = ⊥
 GivesTo other old new = new ≡ old
 
 abbrev pub tested : Result Done Refusal → List ℕ → PlainAnswer
-tested (Ok how) out = completes (result_of_done how out)
+tested (Ok how) out = completes None (result_of_done how out)
 tested (Err word) out = refuses word
 
 abbrev pub cancelled : Result (Unit {0}) Refusal → PlainAnswer

@@ -12,7 +12,7 @@ line_of-answer number (refuses word) = simp append_assoc
 line_of-answer number agrees = simp append_assoc
 line_of-answer number (tells n) = simp append_assoc
 line_of-answer number (gives size bytes) = simp append_assoc
-line_of-answer number (completes result) = simp append_assoc
+line_of-answer number (completes place result) = simp append_assoc
 
 -- the words of a size and bytes
 abbrev pub sized : Bool → ℕ → List ℕ → List (List ℕ)

@@ -43,7 +43,7 @@ kept_line-append bytes more (kept.Refused k word) within = refl
 kept_line-append bytes more (kept.Agreed k) within = refl
 kept_line-append bytes more (kept.Number k n) within = refl
 kept_line-append bytes more (kept.Bytes k size p) within = ap (λ (xs : List ℕ). call_line k (gives size xs)) (piece_of-append bytes more p within)
-kept_line-append bytes more (kept.Done k how) within = ap (λ (r : PlainResult). call_line k (completes r)) (kept_result-append bytes more how within)
+kept_line-append bytes more (kept.Done k how) within = ap (λ (r : PlainResult). call_line k (completes None r)) (kept_result-append bytes more how within)
 
 lines-append : (bytes more : List ℕ) (ks : List Kept) → AreWithin bytes ks → map (kept_line (bytes ++ more)) ks ≡ map (kept_line bytes) ks
 lines-append bytes more [] within = refl

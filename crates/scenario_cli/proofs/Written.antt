@@ -1,5 +1,5 @@
 -- The status after a write, and what the write left.
-use Rattle.std.proofs.Common.{◌≡◌, ◌≢◌, ℕ, List, length, Option, Result, Ok, Err, sym, ap, ◌∙◌, arith}
+use Rattle.std.proofs.Common.{◌≡◌, ◌≢◌, ℕ, List, [], length, Option, Result, Ok, Err, sym, ap, ◌∙◌, arith}
 use Rattle.std.proofs.lemmas.List.{length-map}
 use Rattle.std.specs.Prelude.{OnOk, OnErr, IsOk}
 use Rattle.std.specs.Io.KnownBytes.{Appends}
@@ -7,7 +7,7 @@ use Rattle.outer_io.specs.declared.Failed.{Failed}
 use Rattle.outer_io.specs.Writes.{Writes, AppendsPart}
 use Rattle.board_model.specs.declared.scenario.Scenario.{Scenario}
 use Rattle.board_model.specs.SerialRun.{serial_run}
-use Rattle.board_model.specs.Report.{report, report_of, lines_of}
+use Rattle.board_model.specs.Report.{report, report_of, serial, lines_of}
 use Rattle.board_model.specs.Board.{DomainJournal}
 use Rattle.board_model.specs.Language.{IsLawfulBoard}
 use Rattle.board_model.proofs.BoardsNeighbours.{rising-length}
@@ -37,7 +37,7 @@ no_other (Ok x) status n m whole failed ne other is = ne (sym whole ∙ is)
 no_other (Err e) status n m whole failed ne other is = other (sym failed ∙ is)
 
 -- the outcome of the serial run has its report
-pub report_of-outcome : (s : Scenario) (o : Outcome) → IsOutcome s o (serial_run s) → report_of s (lines_in o.journals) o.messages o.places ≡ report s (serial_run s)
+pub report_of-outcome : (s : Scenario) (o : Outcome) → IsOutcome s o (serial_run s) → report_of serial s (lines_in o.journals) [] o.messages o.places [] ≡ report s (serial_run s)
 unfolding report
 report_of-outcome s o is = rw (is.journals, is.messages, is.places) (cc)
 

@@ -107,8 +107,8 @@ returns-in_default g c =
     let how = c.in_ok-how.how in
     let receives = c.self.invariant.receives in
     let other = c.in_default.not-Message in
-    let told : PlainAnswer = completes (result_of_done c.told.result out) in
-    let answer : told ≡ completes (result_of (request_at_place s place)) = ap (λ (r : PlainResult). completes r) (quiet-result d.book d.requests s refl id receives how (now-held g c) other (result_of_done c.told.result out) (λ asked. c.told.ensures.result d.book asked out)) in
+    let told : PlainAnswer = completes None (result_of_done c.told.result out) in
+    let answer : told ≡ completes None (result_of (request_at_place s place)) = ap (λ (r : PlainResult). completes None r) (quiet-result d.book d.requests s refl id receives how (now-held g c) other (result_of_done c.told.result out) (λ asked. c.told.ensures.result d.book asked out)) in
     let old = holding_in (v g) d.book d.endpoints d.requests d.table d.peers.items in
     let new = holding_in (v g) d.book d.endpoints c.test.new.self d.table d.peers.items in
     let did : Did M (request_ended place ∷ []) old new = record { parts = after-quiet g c; moved = quiet-moved M g.met.P.PeerLane.none (v g) d.peers.items } in
@@ -196,13 +196,13 @@ returns-clause-acts g c =
     let slot = c.in-Message.slot in
     let max = c.in-Message.max in
     let receives = c.self.invariant.receives in
-    let told : PlainAnswer = completes (brought c.give_at_most-got.result.size (take c.give_at_most-got.result.given c.give_at_most-got.new.out)) in
+    let told : PlainAnswer = completes None (brought c.give_at_most-got.result.size (take c.give_at_most-got.result.given c.give_at_most-got.new.out)) in
     let content-is : content_in (queued_at b slot) ≡ c.bytes.result.now = content-of (queued_at b slot) c.bytes.result.now c.bytes.ensures in
-    let answer : told ≡ completes (result_of (request_at_place s place))
-    = ap (λ (k : ℕ). completes (brought k (take c.give_at_most-got.result.given c.give_at_most-got.new.out))) c.give_at_most-got.ensures.size
-    ∙ ap (λ (bs : List ℕ). completes (brought (length c.bytes.result.now) bs)) c.give_at_most-got.ensures.bytes
-    ∙ ap (λ (bs : List ℕ). completes (brought (length bs) (take max bs))) (sym content-is)
-    ∙ ap (λ (r : PlainResult). completes r) (sym (tested-result b d.requests s refl id receives slot max (held g c))) in
+    let answer : told ≡ completes None (result_of (request_at_place s place))
+    = ap (λ (k : ℕ). completes None (brought k (take c.give_at_most-got.result.given c.give_at_most-got.new.out))) c.give_at_most-got.ensures.size
+    ∙ ap (λ (bs : List ℕ). completes None (brought (length c.bytes.result.now) bs)) c.give_at_most-got.ensures.bytes
+    ∙ ap (λ (bs : List ℕ). completes None (brought (length bs) (take max bs))) (sym content-is)
+    ∙ ap (λ (r : PlainResult). completes None r) (sym (tested-result b d.requests s refl id receives slot max (held g c))) in
     let slots : slots_held d.requests place ≡ slot ∷ [] = held-there d.requests id (Some (complete.Message slot max)) (held g c) in
     let more = subst (λ (q : Requests). HasMore slot (handed_slots q.standing) (handed_slots d.requests.standing)) (gone-there d.requests id receives) (fewer g c) in
     let old = holding_in (v g) d.book d.endpoints d.requests d.table d.peers.items in

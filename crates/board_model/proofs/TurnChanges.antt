@@ -1,0 +1,54 @@
+-- What a turn may change: items come, names are known and found, frames are shown and taken, and buffers are used and come back.
+use Rattle.std.proofs.Common.{◌≡◌, ℕ, List, [], ◌∷◌, None, refl, ap, ◌∙◌}
+use Rattle.std.specs.List.{AllByRecursion}
+use Rattle.mc_base.specs.Reading.{reading}
+use Rattle.board_model.specs.Journal.{Visit, Taken}
+use Rattle.board_model.specs.State.{DomainState}
+use Rattle.board_model.specs.Change.{Change, item_queued, item_handed, name_found, owed_put, buffers_back, frames_shown, frame_taken, names_known, changed, changed_all}
+use Rattle.board_model.specs.TakenFrames.{Row, message_item, row_of}
+use Rattle.board_model.specs.Deeds.{takes, after_deed}
+use Rattle.board_model.specs.Turn.{after_visit, after_turn}
+use Rattle.board_model.proofs.LaneRows.{Deals, stays, learns, forgets, hands, queues, row-deals}
+use Rattle.board_model.proofs.VisitLooks.{after_looks, after_takes, visit-after, looks-keep}
+
+abbrev pub IsOfTurn : Change → Type 0
+IsOfTurn (item_queued a i) = Unit {0}
+IsOfTurn (item_handed a i) = Unit {0}
+IsOfTurn (name_found n a) = Unit {0}
+IsOfTurn (owed_put n) = Unit {0}
+IsOfTurn (buffers_back n count) = Unit {0}
+IsOfTurn (frames_shown n count) = Unit {0}
+IsOfTurn (frame_taken n) = Unit {0}
+IsOfTurn (names_known n names) = Unit {0}
+IsOfTurn other = ⊥
+
+-- what each of these keeps, a turn keeps
+module _ {X : Type 0} (f : DomainState → X) (same : (s : DomainState) (c : Change) → IsOfTurn c → f (changed s c) ≡ f s) where
+  changes_same : (s : DomainState) (cs : List Change) → AllByRecursion IsOfTurn cs → f (changed_all s cs) ≡ f s
+  changes_same s [] are = refl
+  changes_same s (c ∷ cs) are = changes_same (changed s c) cs are.1 ∙ same s c are.0
+
+  row_same : (s t : DomainState) (peer : ℕ) (r : Row) → Deals s peer None r → f (changed_all t r.happens) ≡ f t
+  row_same s t peer r (stays is gives) = ap (λ cs. f (changed_all t cs)) is
+  row_same s t peer r (learns n a names is gives) = ap (λ cs. f (changed_all t cs)) is ∙ changes_same t (names_known peer names ∷ name_found n a ∷ []) (tt, (tt, tt))
+  row_same s t peer r (forgets names is gives) = ap (λ cs. f (changed_all t cs)) is ∙ changes_same t (names_known peer names ∷ []) (tt, tt)
+  row_same s t peer r (hands at source priority content e found waits is keeps) =
+      ap (λ cs. f (changed_all t cs)) is ∙ changes_same t (item_handed at (message_item peer None source priority content) ∷ []) (tt, tt)
+  row_same s t peer r (queues at source priority content e found is keeps) =
+      ap (λ cs. f (changed_all t cs)) is ∙ changes_same t (item_queued at (message_item peer None source priority content) ∷ []) (tt, tt)
+
+  takes_same : (s : DomainState) (peer : ℕ) (ts : List Taken) → f (after_takes s peer ts) ≡ f s
+  takes_same s peer [] = refl
+  takes_same s peer (t ∷ ts) =
+      takes_same (after_deed s (takes peer None t.frame t.fate)) peer ts
+      ∙ (row_same s (changed s (frame_taken peer)) peer (row_of s peer None (reading t.frame)) (row-deals s peer None (reading t.frame)) ∙ same s (frame_taken peer) tt)
+
+  pub visit-keeps : (s : DomainState) (v : Visit) → f (after_visit s v) ≡ f s
+  visit-keeps s v =
+      ap f (visit-after s v)
+      ∙ (takes_same (after_looks s v) v.peer v.takes
+      ∙ looks-keep f (λ t p n. same t (buffers_back p n) tt) (λ t p. same t (owed_put p) tt) (λ t p n. same t (frames_shown p n) tt) s v)
+
+  pub turn-keeps : (s : DomainState) (vs : List Visit) → f (after_turn s vs) ≡ f s
+  turn-keeps s [] = refl
+  turn-keeps s (v ∷ vs) = turn-keeps (after_visit s v) vs ∙ visit-keeps s v
