@@ -6,7 +6,7 @@ use Rattle.std.proofs.lemmas.List.FromFn.{length-range_with_len}
 use Rattle.mc_base.specs.declared.request.RequestId.{RequestId}
 use Rattle.lane_end.specs.PlainSender.{Sender, Sends}
 use Rattle.lane_end.specs.PlainReceiver.{Receiver, Receives}
-use Rattle.lane_end.specs.PlainLane.{new_receiver, new_sender}
+use Rattle.lane_end.specs.PlainLane.{AreOneLane, new_receiver, new_sender}
 use Rattle.lane_end.specs.Loop.{Loop, new_loop}
 use Rattle.lane_end.specs.Numbers.{IsLaneSize}
 use Rattle.lane_end.proofs.SoundLemmas.{new-one-lane}
@@ -17,7 +17,7 @@ use Rattle.domain_core.specs.Ends.{EndsMoved}
 use Rattle.domain_core.specs.Calls.{Calls}
 use Rattle.domain_core.specs.Opening.{ends_opened, links_in}
 use Rattle.domain_core.specs.Carrying.{PlainLink, link_to}
-use Rattle.domain_core.specs.Going.{AreLinkedDomains, CallsGo, PlainDomain, StayLinked}
+use Rattle.domain_core.specs.Going.{AreLinkedDomains, CallsGoBy, PlainDomain, StayLinkedBy}
 use Rattle.linked_pair.specs.Links.{IsOpen, new_link}
 use Rattle.linked_pair.specs.Pair.{IsOpened}
 use Rattle.linked_pair.specs.declared.member.Member.{Member}
@@ -57,7 +57,7 @@ opened-linked one two size d e first second =
 
 -- ---- calls
 
-module _ (node : ℕ) (call : DomainCall) (old new other : PlainDomain) (lines lines' : List Line) (answered : PlainAnswer) (given : Option RequestId) (go : CallsGo) (stay : StayLinked) (calls : Calls (EndsMoved Sends Receives) node call old new lines lines' answered given) where
+module _ (node : ℕ) (call : DomainCall) (old new other : PlainDomain) (lines lines' : List Line) (answered : PlainAnswer) (given : Option RequestId) (go : CallsGoBy Sends Receives) (stay : StayLinkedBy Sends Receives AreOneLane) (calls : Calls (EndsMoved Sends Receives) node call old new lines lines' answered given) where
   pub first-calls : AreLinkedDomains old other → AreLinkedDomains new other
   first-calls linked = (stay old new other (go node call old new lines lines' answered given calls)).0 linked
 

@@ -1,5 +1,6 @@
 ghost use Rattle.std.specs.Prelude.{◌≡◌, ◌↔◌, IfOk, IsErrOf};
 ghost use Rattle.lane_end.specs.Numbers.{IsLaneSize};
+ghost use Rattle.lane_end.specs.PlainLane.{AreOneLane};
 ghost use Rattle.domain_core.specs.Carrying.{AreJoined};
 ghost use Rattle.linked_pair.specs.Links.{IsOpen, new_link};
 
@@ -26,7 +27,7 @@ pub fn plain_link(
     ensures one { IfOk result (λ r. r.0 ≡ new_link two size) }
     ensures two { IfOk result (λ r. r.1 ≡ new_link one size) }
     ensures open { IfOk result (λ r. IsOpen r.0 × IsOpen r.1) }
-    ensures joined { IfOk result (λ r. AreJoined r.0 r.1) }
+    ensures joined { IfOk result (λ r. AreJoined AreOneLane r.0 r.1) }
 {
     let (sent, arriving) = plain_lane(alloc, size)?;
     let (answered, returning) = plain_lane(alloc, size)?;

@@ -1,12 +1,11 @@
-ghost use Rattle.std.specs.Prelude.{◌≡◌, ◌≢◌, ◌≤◌, ◌+◌, ◌↔◌, ◌∷◌, [], IfOk, IfSome, IsErrOf, OnErr, None, ℕ, drop, length};
+ghost use Rattle.std.specs.Prelude.{◌≡◌, ◌≢◌, ◌≤◌, ◌+◌, ◌↔◌, ◌∷◌, [], IfOk, IsErrOf, OnErr, None, ℕ, drop, length};
 ghost use Rattle.lane_end.specs.Numbers.{IsLaneSize};
 ghost use Rattle.board_model.specs.DomainCall.{create_at, delete_at, lookup_of, turn_alone, send_from, receive_at, request_at, available_at, test_of, cancel_of};
 ghost use Rattle.board_model.specs.Journal.{agrees};
 ghost use Rattle.domain_core.specs.Room.{call_entries, call_bytes};
 ghost use Rattle.domain_core.specs.DomainView.{place_of_id};
 ghost use Rattle.domain_core.specs.Calls.{GivesTo, created, deleted, sent, received, requested, given, available, tested, cancelled};
-ghost use Rattle.domain_core.specs.Carrying.{AreLinked, link_to, with_carried};
-ghost use Rattle.domain_core.specs.Opening.{AreLinksOf};
+ghost use Rattle.domain_core.specs.Carrying.{Carries, HasShuttled};
 ghost use Rattle.linked_pair.specs.Links.{IsOpen, new_link};
 ghost use Rattle.linked_pair.specs.Pair.{CallsAt, IsMember, IsOpened, domain_of};
 
@@ -74,8 +73,9 @@ impl LinkedPair {
     /// Carries both lanes of the link: what each domain put comes to the other, and the buffers that each gave back come
     /// back. The next turns of the two see it.
     pub fn carry(&mut self)
-        ensures one { IfSome (link_to self.old.one.state.number self.old.two.ends) (λ b. self.new.one ≡ record self.old.one { ends = with_carried self.old.two.state.number b self.old.one.ends }) }
-        ensures two { IfSome (link_to self.old.two.state.number self.old.one.ends) (λ a. self.new.two ≡ record self.old.two { ends = with_carried self.old.one.state.number a self.old.two.ends }) }
+        ensures carries { Carries HasShuttled self.old.one.state.number self.old.two.state.number self.old.one.ends self.old.two.ends self.new.one.ends self.new.two.ends }
+        ensures one { self.new.one ≡ record self.old.one { ends = self.new.one.ends } }
+        ensures two { self.new.two ≡ record self.old.two { ends = self.new.two.ends } }
     {
         carry(&mut self.one, &mut self.two);
     }
