@@ -1,7 +1,7 @@
 //! The image of a ring that has not begun.
 
-ghost use Rattle.std.specs.Prelude.{◌≡◌, ◌<◌, ◌++◌, OnOk, IfOk};
-ghost use Rattle.board_model.specs.RingImage.{start_image, start_values, for_each, descriptor, offered_entry, used_element};
+ghost use Rattle.std.specs.Prelude.{◌≡◌, ◌<◌, ◌++◌, OnOk, IfOk, length};
+ghost use Rattle.board_model.specs.RingImage.{image_length, start_image, start_values, for_each, descriptor, offered_entry, used_element};
 
 use crate::constants::{address_of, flags_of};
 use crate::image::push_field;
@@ -13,10 +13,12 @@ use std::alloc::{AllocError, Global};
 /// # Errors
 ///
 /// `NoMemory` where an allocation fails.
+#[tactic(auto, using(crate::proofs::Tables::image_has_length))]
 pub fn start_image(alloc: Global, size: u32, queue: u8) -> Result<Vec<u8>, NoMemory>
     requires size { size < 257 }
     requires queue { queue < 2 }
-    ensures { IfOk result (λ v. v.items ≡ start_image size queue) }
+    ensures image { IfOk result (λ v. v.items ≡ start_image size queue) }
+    ensures len { IfOk result (λ v. length v.items ≡ image_length size) }
 {
     let mut out = Vec::new(alloc);
     match push_start(&mut out, size, queue) {
