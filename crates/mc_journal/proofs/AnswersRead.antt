@@ -118,7 +118,7 @@ answer_after-is head rest = if_gives (bytes_eq head (codes "ok")) _ _ (λ (a : P
     (λ is. map_gives give (cut_in rest) (λ (a : PlainAnswer). spaced (answer_words a) ≡ head ++ 32 ∷ rest)
     (λ x h. let b = cut-bytes rest x h in given_text true x b.0 ∙ ap₂ (λ (p q : List ℕ). p ++ 32 ∷ q) (sym ((bytes_eq-Decides head (codes "truncated")).0 is)) b.1))
     (λ _. if_gives (bytes_eq head (codes "done")) _ _ (λ (a : PlainAnswer). spaced (answer_words a) ≡ head ++ 32 ∷ rest)
-    (λ is. map_gives completes (result_in rest) (λ (a : PlainAnswer). spaced (answer_words a) ≡ head ++ 32 ∷ rest)
+    (λ is. map_gives (completes None) (result_in rest) (λ (a : PlainAnswer). spaced (answer_words a) ≡ head ++ 32 ∷ rest)
     (λ r h. spaced-done r ∙ ap₂ (λ (p q : List ℕ). p ++ 32 ∷ q) (sym ((bytes_eq-Decides head (codes "done")).0 is)) (result-is rest r h)))
     (λ _ a h. absurd cc)))
 
@@ -191,4 +191,5 @@ answer-read (gives size bytes) fits = go (nat_lt (length bytes) size) refl
     go false is =
         ap (ok_by (decimal size ++ 32 ∷ hex_text bytes)) (cut-found 32 (decimal size) (hex_text bytes) (decimal-alone size (omega (arith, fits.0))))
         ∙ ap (option_map give) (whole_in-read size bytes fits.0 fits.1 is)
-answer-read (completes result) fits = ap answer_in (spaced-done result) ∙ ap (option_map completes) (result-read result fits)
+answer-read (completes None result) fits = ap answer_in (spaced-done result) ∙ ap (option_map (completes None)) (result-read result fits)
+answer-read (completes (Some place) result) fits = absurd fits

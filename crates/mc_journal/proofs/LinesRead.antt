@@ -37,7 +37,7 @@ call_spaced k (refuses word) = refl
 call_spaced k agrees = refl
 call_spaced k (tells n) = refl
 call_spaced k (gives size bytes) = refl
-call_spaced k (completes result) = refl
+call_spaced k (completes place result) = refl
 
 -- ---- what is read is written so
 

@@ -1,7 +1,7 @@
 -- The text of an entry, and which lines entries have.
 -- Source: docs/FORMATS.md, "Journal text". A peer is a u8; a count of buffers or frames, the number of a line, a size and an
 -- address are a u32; idle turns, tries and the number of an answer are a u64.
-use Rattle.std.specs.Prelude.{ℕ, ◌<◌, ◌^◌, List}
+use Rattle.std.specs.Prelude.{ℕ, ◌<◌, ◌^◌, List, None, Some}
 use Rattle.std.specs.List.{AllByRecursion}
 use Rattle.board_model.specs.Journal.{Line, PlainResult, found_at, was_accepted, was_rejected, brought, ended_by, PlainAnswer, refuses, agrees, tells, gives, completes, idle_line, again_line, spin_line, turn_line, back_line, put_line, see_line, take_line, call_line}
 use Rattle.board_model.specs.Report.{line_text}
@@ -22,12 +22,14 @@ FitsResult (was_rejected reason) = Unit {0}
 FitsResult (brought size bytes) = (size < 2 ^ 32) × AreBytes bytes
 FitsResult (ended_by word) = Unit {0}
 
+-- no answer of an entry has a place yet
 abbrev pub FitsAnswer : PlainAnswer → Type 0
 FitsAnswer (refuses word) = Unit {0}
 FitsAnswer agrees = Unit {0}
 FitsAnswer (tells n) = n < 2 ^ 64
 FitsAnswer (gives size bytes) = (size < 2 ^ 32) × AreBytes bytes
-FitsAnswer (completes result) = FitsResult result
+FitsAnswer (completes None result) = FitsResult result
+FitsAnswer (completes (Some place) result) = ⊥
 
 -- the lines that entries have
 abbrev pub IsEntryLine : Line → Type 0

@@ -114,7 +114,7 @@ abbrev pub answer_word : List ℕ → Option PlainAnswer
 answer_word word = if bytes_eq word (codes "ok") then Some agrees else option_map refuses (refusal_in word)
 
 abbrev pub answer_after : List ℕ → List ℕ → Option PlainAnswer
-answer_after head rest = if bytes_eq head (codes "ok") then ok_in rest else if bytes_eq head (codes "truncated") then option_map give (cut_in rest) else if bytes_eq head (codes "done") then option_map completes (result_in rest) else None
+answer_after head rest = if bytes_eq head (codes "ok") then ok_in rest else if bytes_eq head (codes "truncated") then option_map give (cut_in rest) else if bytes_eq head (codes "done") then option_map (completes None) (result_in rest) else None
 
 abbrev pub answer_by : List ℕ → Option (List ℕ × List ℕ) → Option PlainAnswer
 answer_by text None = answer_word text
