@@ -3,22 +3,17 @@ use Rattle.std.proofs.Common.{◌≡◌, ℕ, ◌+◌, Bool, true, false, not, �
 use Rattle.std.specs.Prelude.{find, filter, count_by, is_none, slice_get, option_map, option_to_list, IsSome, ◌==◌}
 use Rattle.std.specs.List.{AllByRecursion, flat_map}
 use Rattle.std.proofs.lemmas.Bool.{cond_both}
-use Rattle.mc_base.specs.FullName.{endpoint_named}
-use Rattle.mc_base.specs.NameMap.{Names}
-use Rattle.mc_base.specs.Letter.{PlainLetter, msg}
-use Rattle.mc_base.specs.Reading.{Reading, is_faulty, announces, says, reading}
-use Rattle.mc_base.specs.declared.name.EndName.{EndName}
+use Rattle.mc_base.specs.Reading.{reading}
 use Rattle.mc_base.specs.declared.name.Local.{Local}
 use Rattle.mc_base.specs.declared.refusal.Refusal.{Refusal}
 use Rattle.mc_base.specs.declared.refusal.Refusal.TheVariants.{EndpInvalid}
-use Rattle.board_model.specs.State.{Item, Endpoint, message_at, Outcome, has_address, is_accepted, is_rejected, has_item, has_ended, item_in, Request, DomainState, is_at, has_address_of, live_at, endpoint_of, request_at_place, waits_at, peer_at, is_from}
+use Rattle.board_model.specs.State.{Item, Endpoint, message_at, Outcome, has_address, is_accepted, is_rejected, has_item, has_ended, item_in, Request, DomainState, is_at, has_address_of, live_at, endpoint_of, request_at_place, waits_at, is_from}
 use Rattle.board_model.specs.Choice.{least, best, best_place, without_best}
-use Rattle.board_model.specs.TakenFrames.{names_of}
 use Rattle.board_model.specs.DomainCall.{DomainCall, create_at, delete_at, lookup_of, send_from, receive_at, request_at, available_at, test_of, cancel_of, turn_alone}
-use Rattle.board_model.specs.Answer.{local, address_of, refusal, success, answer_by, answer, unless_refused}
+use Rattle.board_model.specs.Answer.{local, address_of, refusal, answer, unless_refused}
 use Rattle.board_model.specs.Journal.{refuses}
 use Rattle.board_model.specs.Change.{Change, endpoint_made, endpoint_gone, item_queued, best_gone, request_added, item_handed, waiting_ended, name_found, request_gone, end_announced, owed_put, buffers_back, frames_shown, frame_taken, names_known, buffer_used, asks_for, done_with, handed_in, ended_in, with_queue, endpoint_with, changed, changed_all}
-use Rattle.board_model.specs.TakenFrames.{Row, name_rows, letter_rows, first_row, row_of}
+use Rattle.board_model.specs.TakenFrames.{Row, row_of}
 use Rattle.board_model.specs.CallChanges.{at_live, best_item, success_changes, call_changes, held_by, success_returned, returned}
 use Rattle.board_model.specs.Deeds.{Deed, looks_back, puts_owed, looks_ahead, takes, calls, after_deed, after_deeds}
 use Rattle.board_model.specs.Given.{frames_from}

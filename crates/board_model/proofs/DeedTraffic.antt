@@ -141,13 +141,12 @@ count_here q name t = let itself : (q == q) ≡ true = eq-eqb q q refl in rw its
 
 takes_are_named : (q m : ℕ) (name : ℕ → Option ℕ) (ts : List Taken) (before : List Deed) → ((k : ℕ) → name k ≡ Some (m + k)) → m ≡ count_taken q before → AreNamed before (takes_named name q ts)
 takes_are_named q m name [] before so is = tt
-takes_are_named q m name (t ∷ ts) before so is =
-    (
-      so 0 ∙ ap Some (let here : m + 0 ≡ count_taken q before = omega (arith, is) in here),
-      takes_are_named q (m + 1) (λ k. name (k + 1)) ts (before ++ takes q (name 0) t.frame t.fate ∷ [])
-          (λ k. so (k + 1) ∙ ap Some (let same : m + (k + 1) ≡ m + 1 + k = omega arith in same))
-          (omega (arith, is, count-join q before (takes q (name 0) t.frame t.fate ∷ []), count_here q (name 0) t)),
-    )
+takes_are_named q m name (t ∷ ts) before so is = (
+  so 0 ∙ ap Some (let here : m + 0 ≡ count_taken q before = omega (arith, is) in here),
+  takes_are_named q (m + 1) (λ k. name (k + 1)) ts (before ++ takes q (name 0) t.frame t.fate ∷ [])
+      (λ k. so (k + 1) ∙ ap Some (let same : m + (k + 1) ≡ m + 1 + k = omega arith in same))
+      (omega (arith, is, count-join q before (takes q (name 0) t.frame t.fate ∷ []), count_here q (name 0) t)),
+)
 
 count_put : (q p : ℕ) (fs : List (List ℕ)) → count_taken q (map (puts_owed p) fs) ≡ 0
 count_put q p [] = refl

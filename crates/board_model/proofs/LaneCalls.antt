@@ -1,6 +1,5 @@
 -- Calls of a domain: what they take of the items that are held.
-use Rattle.std.proofs.Common.{◌≡◌, ℕ, zero, suc, ◌+◌, Bool, true, false, not, cond, List, [], ◌∷◌, ◌++◌, map, find, filter, Option, Some, None, count_by, flat_map, slice_get, option_map, option_and_then, option_to_list, refl, sym, ap, ◌∙◌, subst, arith}
-use Rattle.std.specs.Prelude.{is_none}
+use Rattle.std.proofs.Common.{◌≡◌, ℕ, zero, suc, ◌+◌, Bool, true, false, not, cond, List, [], ◌∷◌, ◌++◌, find, Option, Some, None, count_by, flat_map, slice_get, option_map, option_and_then, option_to_list, refl, sym, ap, ◌∙◌, arith}
 use Rattle.std.proofs.lemmas.List.Concat.{flat_map-append}
 use Rattle.mc_base.specs.Limits.{first_address}
 use Rattle.mc_base.specs.FullName.{end_name}
@@ -8,12 +7,12 @@ use Rattle.mc_base.specs.declared.name.Local.{Local}
 use Rattle.mc_base.specs.declared.refusal.Refusal.{Refusal}
 use Rattle.mc_base.specs.declared.refusal.Refusal.TheVariants as word
 use Rattle.board_model.specs.DomainCall.{DomainCall, create_at, delete_at, lookup_of, send_from, receive_at, request_at, available_at, test_of, cancel_of, turn_alone}
-use Rattle.board_model.specs.Lists.{changed_first, without_first, without}
+use Rattle.board_model.specs.Lists.{without_first, without}
 use Rattle.board_model.specs.State.{DomainState, Endpoint, Item, Request, name_of, message_at, has_address, has_item, has_ended, item_in, request_at_place, is_at, has_address_of, live_at, endpoint_of, waits_at}
-use Rattle.board_model.specs.Choice.{best, without_best}
+use Rattle.board_model.specs.Choice.{without_best}
 use Rattle.board_model.specs.Answer.{local, holds, words_of, is_complete, refusal, unless_refused, address_of}
 use Rattle.board_model.specs.Change.{Change, endpoint_gone, best_gone, request_added, waiting_ended, end_announced, endpoint_with, with_queue, done_with, ended_in, changed, changed_all}
-use Rattle.board_model.specs.CallChanges.{at_live, best_item, success_changes, call_changes, effect, held_by, success_returned, returned}
+use Rattle.board_model.specs.CallChanges.{at_live, best_item, success_changes, effect, held_by, success_returned, returned}
 use Rattle.board_model.proofs.ListsCounts.{count-append, find-none}
 use Rattle.board_model.proofs.MessageBest.{count-best}
 use Rattle.board_model.proofs.StateEnds.{Ends, by_address}

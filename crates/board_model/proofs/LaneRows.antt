@@ -1,9 +1,7 @@
 -- What a domain does with a frame: its row does one of five things.
-use Rattle.std.proofs.Common.{◌≡◌, ℕ, Bool, true, false, not, cond, List, [], ◌∷◌, length, Option, Some, None, is_some, refl, sym}
-use Rattle.std.specs.Prelude.{◌==◌, ◌&&◌, nat_le}
-use Rattle.std.specs.List.{AllByRecursion}
+use Rattle.std.proofs.Common.{◌≡◌, ℕ, Bool, true, false, cond, List, [], ◌∷◌, Option, Some, None, refl}
 use Rattle.mc_base.specs.FullName.{endpoint_named}
-use Rattle.mc_base.specs.NameMap.{names_limit, Names, learned, forgotten, address_in}
+use Rattle.mc_base.specs.NameMap.{Names, learned, forgotten}
 use Rattle.mc_base.specs.Letter.{PlainLetter, msg}
 use Rattle.mc_base.specs.Reading.{Reading, is_faulty, announces, says}
 use Rattle.mc_base.specs.declared.fault.Fault.{Fault}
@@ -15,11 +13,10 @@ use Rattle.mc_base.specs.declared.fault.LetterFault.TheVariants as letter_fault
 use Rattle.mc_base.specs.declared.fault.NsFault.{NsFault}
 use Rattle.mc_base.specs.declared.fault.NsFault.TheVariants as ns_fault
 use Rattle.mc_base.specs.declared.name.EndName.{EndName}
-use Rattle.mc_base.specs.declared.fate.Fate.TheVariants as fate
-use Rattle.board_model.specs.State.{Item, Endpoint, DomainState, endpoint_of, one_waits, peer_at}
-use Rattle.board_model.specs.Change.{Change, item_queued, item_handed, name_found, names_known}
+use Rattle.board_model.specs.State.{Endpoint, DomainState, endpoint_of, one_waits, peer_at}
+use Rattle.board_model.specs.Change.{item_queued, item_handed, name_found, names_known}
 use Rattle.board_model.specs.Dealing.{fault_word, frame_word, letter_word, ns_word, keeps_buffer}
-use Rattle.board_model.specs.TakenFrames.{Row, row, last_row, first_row, names_of, name_rows, message_item, letter_rows, row_of}
+use Rattle.board_model.specs.TakenFrames.{Row, first_row, names_of, name_rows, message_item, letter_rows, row_of}
 
 -- a fault's word keeps no buffer
 frame_word_gives : (f : FrameFault) → keeps_buffer (frame_word f) ≡ false

@@ -1,6 +1,6 @@
 -- Runs of a domain, at any peer: the free buffers of the lane to it by what was put and came back, and the items that are held
 -- from it by what was taken and given back.
-use Rattle.std.proofs.Common.{◌≡◌, ℕ, ◌+◌, ◌-◌, ◌≤◌, min, Bool, true, false, not, cond, List, [], ◌∷◌, ◌++◌, length, map, sum, Option, Some, None, is_some, count_by, flat_map, option_map, refl, sym, ap, ◌∙◌, subst, inl, inr, arith, length-append, length-take, eq-eqb}
+use Rattle.std.proofs.Common.{◌≡◌, ℕ, ◌+◌, ◌≤◌, min, Bool, true, false, not, cond, List, [], ◌∷◌, ◌++◌, length, map, sum, Option, Some, None, is_some, count_by, flat_map, option_map, refl, sym, ap, ◌∙◌, subst, inl, inr, arith, length-append, length-take, eq-eqb}
 use Rattle.std.specs.Prelude.{◌==◌, unwrap_or}
 use Rattle.std.proofs.lemmas.Bool.{ne_eqb}
 use Rattle.std.proofs.lemmas.Bool.Decides.{eqb_tells}

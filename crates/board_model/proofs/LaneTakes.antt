@@ -3,7 +3,7 @@
 use Rattle.std.proofs.Common.{◌≡◌, ℕ, ◌+◌, ◌-◌, Bool, true, false, not, cond, List, [], ◌∷◌, ◌++◌, length, map, find, Option, Some, None, count_by, flat_map, option_map, is_some, refl, sym, ap, ap₂, ◌∙◌, subst, arith}
 use Rattle.std.specs.Prelude.{is_none, unwrap_or, ◌==◌, ◌&&◌}
 use Rattle.std.specs.List.{AllByRecursion}
-use Rattle.std.proofs.lemmas.Bool.{and_parts, eq-eqb}
+use Rattle.std.proofs.lemmas.Bool.{and_parts}
 use Rattle.mc_base.specs.Reading.{reading}
 use Rattle.mc_base.specs.declared.name.Local.{Local}
 use Rattle.mc_base.specs.declared.name.EndName.{EndName}
@@ -11,7 +11,7 @@ use Rattle.mc_base.specs.declared.fate.Fate.{Fate}
 use Rattle.board_model.specs.Lists.{changed_first}
 use Rattle.board_model.specs.Journal.{Taken}
 use Rattle.board_model.specs.State.{DomainState, Endpoint, Item, Peer, Request, Outcome, has_address, has_item, item_in, queued_items, lent_items, has_address_of, endpoint_of, receives_at, waits_at, one_waits, peer_at}
-use Rattle.board_model.specs.Change.{Change, item_queued, item_handed, name_found, names_known, frame_taken, with_queue, asks_for, done_with, all_done, handed_in, changed, changed_all}
+use Rattle.board_model.specs.Change.{item_queued, item_handed, name_found, names_known, frame_taken, with_queue, asks_for, done_with, all_done, handed_in, changed, changed_all}
 use Rattle.board_model.specs.Dealing.{keeps_buffer}
 use Rattle.board_model.specs.TakenFrames.{Row, message_item, row_of}
 use Rattle.board_model.specs.Deeds.{takes, after_deed}

@@ -8,7 +8,7 @@ use Rattle.std.proofs.lemmas.List.Elements.{Contains-append_cases, Contains-push
 use Rattle.mc_base.specs.declared.refusal.Refusal.{Refusal}
 use Rattle.board_model.specs.Choice.{best}
 use Rattle.board_model.specs.DomainCall.{delete_at, receive_at, test_of}
-use Rattle.board_model.specs.Journal.{PlainAnswer, refuses, agrees, tells, gives, completes}
+use Rattle.board_model.specs.Journal.{tells, gives}
 use Rattle.board_model.specs.Scenario.{Neighbour}
 use Rattle.board_model.specs.State.{Item, Endpoint, DomainState, opening, live_at, queue_at, queue_in}
 use Rattle.board_model.specs.Answer.{local, refusal, success, answer, answer_by, unless_refused, given}

@@ -1,24 +1,19 @@
 -- Runs: the deeds that the journal of a run tells of are a run of deeds, which leaves the same state but for the names of frames, and
 -- puts and takes the same frames.
-use Rattle.std.proofs.Common.{◌≡◌, ℕ, ◌+◌, Bool, false, List, [], ◌∷◌, ◌++◌, map, length, Option, Some, None, refl, sym, ap, ap₂, ◌∙◌, subst, length-append}
+use Rattle.std.proofs.Common.{◌≡◌, ℕ, ◌+◌, List, [], ◌∷◌, ◌++◌, map, length, Option, Some, None, refl, sym, ap, ap₂, ◌∙◌, subst, length-append}
 use Rattle.std.specs.Prelude.{option_map, ◌==◌, IsSome}
 use Rattle.std.specs.List.{AllByRecursion, flat_map}
 use Rattle.std.proofs.lemmas.List.{append_assoc, append-nil, map-append}
 use Rattle.std.proofs.lemmas.Simd.{map-map}
 use Rattle.std.proofs.lemmas.List.Concat.{flat_map-append}
-use Rattle.mc_base.specs.declared.name.Local.{Local}
-use Rattle.mc_base.specs.declared.refusal.Refusal.{Refusal}
 use Rattle.board_model.specs.declared.scenario.CallLine.{CallLine}
 use Rattle.board_model.specs.declared.scenario.DomainLine.{DomainLine}
 use Rattle.board_model.specs.declared.scenario.Scenario.{Scenario}
-use Rattle.board_model.specs.Lists.{without_first}
 use Rattle.board_model.specs.Scenario.{script, neighbours}
 use Rattle.board_model.specs.LinkedBoard.{Differ, IsLinkedBoard}
 use Rattle.board_model.specs.Journal.{PlainEntry, turned, put, again, called, PlainAnswer, refuses, Visit}
-use Rattle.board_model.specs.State.{Item, Endpoint, DomainState, new_peer, is_at, live_at, queue_in, queue_at}
-use Rattle.board_model.specs.Choice.{least, best, without_best}
-use Rattle.board_model.specs.DomainCall.{DomainCall, send_from, receive_at}
-use Rattle.board_model.specs.Answer.{local, refusal, given, success, answer_by, answer, unless_refused, success_puts, puts}
+use Rattle.board_model.specs.State.{DomainState, new_peer}
+use Rattle.board_model.specs.Answer.{answer, unless_refused, success_puts, puts}
 use Rattle.board_model.specs.Change.{changed_all}
 use Rattle.board_model.specs.CallChanges.{success_changes, effect}
 use Rattle.board_model.specs.Turn.{AreVisits, after_turn}

@@ -13,7 +13,7 @@ use Rattle.board_model.specs.DomainCall.{DomainCall, create_at, delete_at, looku
 use Rattle.board_model.specs.Lists.{without_at, without}
 use Rattle.board_model.specs.Journal.{Visit}
 use Rattle.board_model.specs.State.{DomainState, Endpoint, Item, Request, Outcome, message_at, has_address, has_item, has_ended, has_serial, endpoint_of, live_at, place_of_request, waits_at}
-use Rattle.board_model.specs.Change.{Change, endpoint_gone, best_gone, item_queued, item_handed, waiting_ended, name_found, request_added, request_gone, end_announced, owed_put, buffers_back, frames_shown, frame_taken, names_known, asks_for, all_done, done_with, handed_in, ended_in, changed, changed_all}
+use Rattle.board_model.specs.Change.{Change, endpoint_gone, best_gone, item_handed, waiting_ended, name_found, request_added, request_gone, end_announced, asks_for, all_done, done_with, handed_in, ended_in, changed, changed_all}
 use Rattle.board_model.specs.CallChanges.{at_live, best_item, success_changes, effect}
 use Rattle.board_model.specs.Turn.{after_turn}
 use Rattle.board_model.specs.Answer.{local, holds, words_of, refusal, unless_refused}

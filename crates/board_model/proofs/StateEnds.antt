@@ -1,16 +1,15 @@
 -- What holds of every state of a run: endpoints have addresses of their own, and peers keep their numbers.
-use Rattle.std.proofs.Common.{Option, Some, true, cond, ap₂, ◌≡◌, ℕ, ◌+◌, ◌-◌, ◌<◌, Bool, false, not, ◌||◌, List, [], ◌∷◌, ◌++◌, map, drop, length, None, refl, sym, ap, ◌∙◌, subst, arith}
-use Rattle.std.specs.Prelude.{filter, find, ◌==◌, ◌&&◌, is_some}
-use Rattle.std.specs.List.{AllByRecursion, list_any}
+use Rattle.std.proofs.Common.{Option, Some, true, cond, ap₂, ◌≡◌, ℕ, ◌+◌, ◌-◌, ◌<◌, Bool, false, not, List, [], ◌∷◌, ◌++◌, map, drop, length, None, refl, sym, ap, ◌∙◌, subst, arith}
+use Rattle.std.specs.Prelude.{filter, find, ◌==◌, is_some}
+use Rattle.std.specs.List.{AllByRecursion}
 use Rattle.std.proofs.lemmas.Bool.{and_parts, cond_both, eqb-true, eq-eqb, ne_eqb}
 use Rattle.mc_base.specs.Limits.{first_address}
 use Rattle.mc_base.specs.declared.name.Local.{Local}
 use Rattle.board_model.specs.Lists.{changed_first, without_first}
-use Rattle.board_model.specs.LinkedBoard.{Differ}
 use Rattle.board_model.specs.State.{Item, Endpoint, Announcement, Peer, DomainState, is_at, has_address_of, is_numbered, place_at, live_at}
 use Rattle.board_model.specs.Change.{Change, endpoint_made, endpoint_gone, item_queued, best_gone, request_added, item_handed, waiting_ended, name_found, request_gone, end_announced, owed_put, buffers_back, frames_shown, frame_taken, names_known, buffer_used, endpoint_with, with_queue, also_owed, first_put, peers_after, changed, changed_all}
 use Rattle.board_model.specs.Choice.{without_best}
-use Rattle.board_model.proofs.MessageAlls.{all-append, all-changed-first, all-filter, all-found, all-weaken, none-passes}
+use Rattle.board_model.proofs.MessageAlls.{all-append, all-changed-first, all-filter, all-found, all-weaken}
 use Rattle.board_model.proofs.MessageLists.{some-position}
 use Rattle.board_model.proofs.ListsMapped.{map-changed_first}
 
@@ -186,4 +185,3 @@ not_there u at none = go (live_at u at) (sym (some-position (is_at at) u.endpoin
     go : (o : Option Endpoint) → is_some o ≡ is_some (place_at u at) → o ≡ None
     go None same = refl
     go (Some e) same = absurd cc
-

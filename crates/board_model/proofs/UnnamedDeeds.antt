@@ -10,7 +10,7 @@ use Rattle.mc_base.specs.Reading.{Reading, is_faulty, announces, says, reading}
 use Rattle.mc_base.specs.declared.name.EndName.{EndName}
 use Rattle.mc_base.specs.declared.fate.Fate.TheVariants as fate
 use Rattle.board_model.specs.Journal.{PlainEntry, Visit, Taken}
-use Rattle.board_model.specs.State.{Endpoint, DomainState, endpoint_of, one_waits, peer_at}
+use Rattle.board_model.specs.State.{Endpoint, DomainState, endpoint_of, peer_at}
 use Rattle.board_model.specs.Change.{buffers_back, owed_put, frames_shown, frame_taken, changed_all, item_handed, item_queued}
 use Rattle.board_model.specs.TakenFrames.{Row, row, last_row, first_row, names_of, name_rows, message_item, letter_rows, row_of}
 use Rattle.board_model.specs.CallChanges.{call_changes}

@@ -1,12 +1,12 @@
 -- A visit: its looks and owed frames, then the frames that it takes.
-use Rattle.std.proofs.Common.{◌≡◌, ℕ, ◌+◌, ◌-◌, ◌≤◌, min, Bool, true, false, cond, List, [], ◌∷◌, ◌++◌, map, drop, length, Option, Some, None, refl, sym, ap, ◌∙◌, subst, arith, take-append-drop}
+use Rattle.std.proofs.Common.{◌≡◌, ℕ, ◌+◌, ◌-◌, min, Bool, true, false, cond, List, [], ◌∷◌, ◌++◌, map, drop, length, Option, Some, None, refl, sym, ap, ◌∙◌, subst, arith, take-append-drop}
 use Rattle.std.specs.Prelude.{option_map, ◌==◌}
 use Rattle.std.proofs.lemmas.Bool.{ne_eqb, eq-eqb}
 use Rattle.std.proofs.lemmas.List.{append_assoc}
 use Rattle.board_model.specs.Journal.{Visit, Taken}
 use Rattle.board_model.specs.State.{Announcement, Peer, DomainState, peer_at, peer_of, owed_to}
 use Rattle.board_model.specs.Change.{first_put, owed_put, buffers_back, frames_shown, changed}
-use Rattle.board_model.specs.Deeds.{Deed, looks_back, puts_owed, looks_ahead, after_deeds, AllMayDo}
+use Rattle.board_model.specs.Deeds.{looks_back, puts_owed, looks_ahead, after_deeds, AllMayDo}
 use Rattle.board_model.specs.Turn.{turn_limit, due_frames, nameless, takes_named, visit_deeds, after_visit}
 use Rattle.board_model.specs.Serial.{looks_deeds}
 use Rattle.board_model.proofs.LanePeers.{peer_found, peer-changed, first-free}
@@ -109,7 +109,6 @@ puts_may n (f ∷ fs) rest s p is owed = (
       (peer-changed s (owed_put n) n ∙ (ap (option_map (λ q. cond (n == n) (first_put q) q)) is ∙ ap (λ b. Some (cond b (first_put p) p)) (eq-eqb n n refl)))
       (put_owed s.number p p.announcements ∙ ap (drop 1) owed),
 )
-
 
 -- a visit that puts what is due, and whose frames have the words of their rows, may be done
 pub visit-may : (s : DomainState) (v : Visit) (at : Peer) → peer_of s v.peer ≡ Some at → v.owed ≡ due_frames s.number at v.back → HaveWords (after_looks s v) v.peer v.takes → AllMayDo s (visit_deeds nameless v)

@@ -1,6 +1,6 @@
 -- A call of the serial run leaves each lane well: the frames that it puts are on their lanes, and what it gives back is returned.
 use Rattle.std.proofs.Common.{◌≡◌, ℕ, ◌+◌, Bool, true, false, ◌&&◌, cond, List, [], ◌∷◌, ◌++◌, length, count_by, Option, Some, refl, sym, ap, ◌∙◌, arith, length-append, append_assoc, append-nil}
-use Rattle.std.specs.Prelude.{◌==◌, unwrap_or}
+use Rattle.std.specs.Prelude.{◌==◌}
 use Rattle.board_model.specs.State.{DomainState, Item, is_from, free_to, held_from}
 use Rattle.board_model.specs.DomainCall.{DomainCall}
 use Rattle.board_model.specs.Answer.{puts}

@@ -9,13 +9,12 @@ use Rattle.board_model.specs.Journal.{Visit, Taken}
 use Rattle.board_model.specs.State.{DomainState, Endpoint, Peer, message_at, has_item, live_at, peer_at, peer_of, free_to}
 use Rattle.board_model.specs.DomainCall.{DomainCall, create_at, delete_at, lookup_of, send_from, receive_at, request_at, available_at, test_of, cancel_of, turn_alone}
 use Rattle.board_model.specs.Answer.{local, refusal, unless_refused}
-use Rattle.board_model.specs.Change.{Change, endpoint_gone, best_gone, request_added, waiting_ended, end_announced, changed_all}
+use Rattle.board_model.specs.Change.{Change, endpoint_gone, best_gone, request_added, waiting_ended, end_announced}
 use Rattle.board_model.specs.CallChanges.{at_live, best_item, success_changes, call_changes, effect}
 use Rattle.board_model.specs.Deeds.{Deed, happens_by, after_deed, after_deeds}
 use Rattle.board_model.specs.Serial.{looks_deeds}
 use Rattle.board_model.specs.Turn.{nameless, takes_named}
 use Rattle.board_model.proofs.StateEnds.{numbers-all}
-use Rattle.board_model.proofs.DeedJoins.{deeds-numbers}
 use Rattle.board_model.proofs.LanePeers.{peer_found, read_of, Keeps, read-all, size-all, cond-keeps, owed-shown, free-at}
 use Rattle.board_model.proofs.VisitLooks.{after_looks, after_takes, looked, looks-peer}
 use Rattle.board_model.proofs.LaneTakes.{takes-free, shown_in, takes-shown}
@@ -43,9 +42,6 @@ deeds_size s (d ∷ ds) n = deeds_size (after_deed s d) ds n ∙ size-all s (hap
 
 pub takes_size : (s : DomainState) (peer : ℕ) (ts : List Taken) (n : ℕ) → size_at (after_takes s peer ts) n ≡ size_at s n
 takes_size s peer ts n = size_read (after_takes s peer ts) n ∙ (deeds_size s (takes_named nameless peer ts) n ∙ sym (size_read s n))
-
-pub takes_numbers : (s : DomainState) (peer : ℕ) (ts : List Taken) → numbers (after_takes s peer ts) ≡ numbers s
-takes_numbers s peer ts = deeds-numbers s (takes_named nameless peer ts)
 
 pub takes_free : (s : DomainState) (peer : ℕ) (ts : List Taken) (n : ℕ) → free_to (after_takes s peer ts) n ≡ free_to s n
 takes_free s peer ts n = free-at (after_takes s peer ts) n ∙ (ap (λ o. unwrap_or o 0) (takes-free s peer ts n) ∙ sym (free-at s n))
@@ -98,9 +94,6 @@ module _ (s : DomainState) (node n : ℕ) where
       ∙ (ap (λ o. unwrap_or o 0) (read-all (λ p. p.shown) s (call_changes s node call) n (keep_shown call)) ∙ sym (shown_read s n))
 
 -- ---- looks
-
-pub looks_numbers : (s : DomainState) (v : Visit) → numbers (after_looks s v) ≡ numbers s
-looks_numbers s v = deeds-numbers s (looks_deeds v.peer v.back v.owed v.see)
 
 pub looks_size : (s : DomainState) (v : Visit) (n : ℕ) → size_at (after_looks s v) n ≡ size_at s n
 looks_size s v n = size_read (after_looks s v) n ∙ (deeds_size s (looks_deeds v.peer v.back v.owed v.see) n ∙ sym (size_read s n))

@@ -1,7 +1,6 @@
 -- A visit of the serial run: it is one that the lanes allow, and it leaves each lane well.
-use Rattle.std.proofs.Common.{◌≡◌, ℕ, ◌+◌, ◌-◌, ◌≤◌, min, ◌&&◌, List, length, map, take, drop, Option, Some, None, option_map, refl, sym, ap, ◌∙◌, subst, arith, length-take, length-append, eq-eqb}
+use Rattle.std.proofs.Common.{◌≡◌, ℕ, ◌+◌, ◌≤◌, min, ◌&&◌, List, length, take, Option, Some, None, option_map, refl, sym, ap, ◌∙◌, subst, arith, length-take, length-append, eq-eqb}
 use Rattle.std.specs.Prelude.{◌==◌, unwrap_or}
-use Rattle.std.proofs.lemmas.List.{length-map}
 use Rattle.board_model.specs.Journal.{Visit}
 use Rattle.board_model.specs.State.{DomainState, Peer, peer_of, free_to, held_from, owed_to}
 use Rattle.board_model.specs.Deeds.{after_deeds}
