@@ -1,8 +1,6 @@
 -- Calls: what a success changes at once is the state to which its changes lead, and the items that it returns are the same.
-use Rattle.std.proofs.Common.{◌≡◌, ℕ, ◌+◌, Bool, false, List, [], ◌∷◌, map, Option, Some, None, refl, sym, ap, ap₂, ◌∙◌}
-use Rattle.std.specs.Prelude.{find, filter, position, option_map, option_to_list, ◌==◌, is_some, unwrap_or}
-use Rattle.mc_base.specs.Limits.{first_address}
-use Rattle.mc_base.specs.FullName.{end_name}
+use Rattle.std.proofs.Common.{◌≡◌, ℕ, Bool, false, List, [], ◌∷◌, map, Option, Some, None, refl, sym, ap, ap₂, ◌∙◌}
+use Rattle.std.specs.Prelude.{find, option_map, option_to_list, is_some, unwrap_or}
 use Rattle.mc_base.specs.declared.name.Local.{Local}
 use Rattle.mc_base.specs.declared.name.EndName.{EndName}
 use Rattle.mc_base.specs.declared.refusal.Refusal.TheVariants.{EndpInvalid}
@@ -12,7 +10,7 @@ use Rattle.board_model.specs.State.{Item, Endpoint, message_at, has_item, Domain
 use Rattle.board_model.specs.Choice.{best}
 use Rattle.board_model.specs.DomainCall.{DomainCall, create_at, delete_at, send_from, receive_at, request_at, test_of}
 use Rattle.board_model.specs.Answer.{local}
-use Rattle.board_model.specs.Change.{Change, endpoint_gone, best_gone, request_added, waiting_ended, end_announced, ended_in, changed, changed_all}
+use Rattle.board_model.specs.Change.{endpoint_gone, best_gone, request_added, waiting_ended, end_announced, ended_in, changed, changed_all}
 use Rattle.board_model.specs.CallChanges.{at_live, best_item, success_changes, success_returned}
 use Rattle.board_model.proofs.MessageAlls.{found-passes}
 use Rattle.board_model.proofs.MessageLists.{changed-position, without-position, get-position, some-position}

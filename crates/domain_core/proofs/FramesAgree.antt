@@ -1,5 +1,5 @@
 -- Frames: the row that a frame has by its bytes is the one that it has by what it says, and leaves the state to which its changes lead.
-use Rattle.std.proofs.Common.{◌≡◌, ℕ, Bool, true, false, not, ◌&&◌, cond, List, [], ◌∷◌, map, length, drop, Option, Some, None, refl, sym, ap, ◌∙◌, subst}
+use Rattle.std.proofs.Common.{◌≡◌, ℕ, Bool, true, false, not, ◌&&◌, cond, List, [], ◌∷◌, length, drop, Option, Some, None, refl, sym, ap, ◌∙◌, subst}
 use Rattle.std.specs.Prelude.{position, option_map, option_and_then, ◌==◌, nat_le, slice_index, is_some, is_none}
 use Rattle.mc_base.specs.Bytes.{number_at}
 use Rattle.mc_base.specs.Frame.{source_of, destination_of, payload_of}

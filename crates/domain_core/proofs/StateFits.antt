@@ -1,14 +1,12 @@
 -- The state of a sound domain: endpoints have addresses of their own, and an address that is ended is one of which a peer is still to be
 -- told.
-use Rattle.std.proofs.Common.{◌≡◌, ℕ, ◌+◌, ◌<◌, Bool, false, List, [], ◌∷◌, map, refl, sym, ap, ◌∙◌, subst, arith}
-use Rattle.std.specs.Prelude.{filter, ◌==◌}
+use Rattle.std.proofs.Common.{◌≡◌, ℕ, ◌+◌, ◌<◌, false, List, [], ◌∷◌, map, sym, ap, ◌∙◌, subst, arith}
 use Rattle.std.specs.List.{AllByRecursion, list_any}
 use Rattle.std.proofs.lemmas.Bool.{ne_eqb}
 use Rattle.mc_base.specs.Limits.{first_address}
 use Rattle.board_model.specs.State as state
 use Rattle.board_model.specs.State.{is_owed_end}
 use Rattle.board_model.proofs.MessageAlls.{all-filter}
-use Rattle.board_model.proofs.ListsApart.{all-unmap}
 use Rattle.board_model.proofs.StateEnds.{EndsApart, Ends}
 use Rattle.buffer_book.specs.Book.{Book}
 use Rattle.endpoint_table.specs.InTable.{IsRising}
@@ -25,7 +23,7 @@ use Rattle.domain_core.specs.Records.{Records}
 use Rattle.domain_core.specs.Sound.{AreSound}
 use Rattle.domain_core.specs.Tied.{live_record}
 use Rattle.domain_core.proofs.PaidTables.{ended-left, filter-every, filter-same}
-use Rattle.domain_core.proofs.PeersAt.{any-owed, ends_at, owed-ends}
+use Rattle.domain_core.proofs.PeersAt.{any-owed, owed-ends}
 use Rattle.endpoint_table.proofs.RecordLemmas.{rising-filter}
 use Rattle.domain_core.proofs.VisitsAgree.{IsTold}
 

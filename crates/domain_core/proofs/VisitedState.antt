@@ -5,12 +5,9 @@ use Rattle.std.specs.List.{AllByRecursion, list_any}
 use Rattle.std.proofs.Math.Seq.{drop-nil}
 use Rattle.std.proofs.lemmas.List.{append-nil, drop-map, map-append}
 use Rattle.mc_base.specs.NameMap.{Names}
-use Rattle.mc_base.specs.declared.fate.Fate.{Fate}
-use Rattle.mc_base.specs.declared.name.EndName.{EndName}
-use Rattle.mc_base.specs.Frame.{destination_of}
 use Rattle.lane_end.proofs.CountLemmas.{length-apart}
 use Rattle.board_model.specs.Lists.{changed}
-use Rattle.board_model.specs.Journal.{Line, Taken}
+use Rattle.board_model.specs.Journal.{Line}
 use Rattle.board_model.specs.State as state
 use Rattle.board_model.specs.State.{DomainState, Announcement, is_numbered, is_owed_end, has_address_of, is_from, held_from, place_of_address, place_of_peer, peer_of}
 use Rattle.domain_core.specs.PlacedFrames.{knowing, after_takes, HaveWords}
@@ -25,7 +22,7 @@ use Rattle.board_model.specs.Change.{Change, endpoint_made, endpoint_gone, item_
 use Rattle.board_model.specs.Change as change
 use Rattle.board_model.proofs.ListsMapped.{map-changed_first}
 use Rattle.board_model.proofs.TurnChanges.{IsOfTurn, visit-keeps}
-use Rattle.board_model.proofs.ListsCounts.{one_if, count-append, count-cons, map-changed}
+use Rattle.board_model.proofs.ListsCounts.{one_if, count-append, count-cons}
 use Rattle.board_model.proofs.MessageAlls.{all-at, all-weaken}
 use Rattle.board_model.proofs.MessageLists.{changed_first, changed-position}
 use Rattle.buffer_book.specs.Book.{Book}

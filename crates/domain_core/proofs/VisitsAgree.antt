@@ -1,11 +1,10 @@
 -- Visits: the looks and the owed frames at once, and then the frames by their bytes, lead where the deeds of the visit do.
-use Rattle.std.proofs.Common.{◌≡◌, ℕ, zero, suc, ◌+◌, ◌-◌, Bool, true, false, ◌||◌, cond, List, [], ◌∷◌, ◌++◌, map, drop, length, Option, Some, None, refl, sym, ap, ap₂, ◌∙◌, subst, arith}
+use Rattle.std.proofs.Common.{◌≡◌, ℕ, zero, suc, ◌+◌, ◌-◌, Bool, true, false, ◌||◌, cond, List, [], ◌∷◌, map, drop, length, Option, Some, None, refl, sym, ap, ap₂, ◌∙◌, subst, arith}
 use Rattle.std.specs.Prelude.{find, filter, position, option_map, unwrap_or, ◌==◌}
 use Rattle.std.specs.List.{AllByRecursion, list_any}
 use Rattle.std.proofs.lemmas.Bool.{cond_both, ne_eqb, eq-eqb}
 use Rattle.std.proofs.lemmas.List.{length-drop, drop-drop}
 use Rattle.mc_base.specs.FullName.{endpoint_named}
-use Rattle.mc_base.specs.NameMap.{Names}
 use Rattle.mc_base.specs.Reading.{Reading, is_faulty, announces, says, reading}
 use Rattle.mc_base.specs.declared.fate.Fate.{Fate}
 use Rattle.board_model.specs.Lists.{changed_first}
@@ -13,10 +12,10 @@ use Rattle.board_model.specs.Lists as lists
 use Rattle.board_model.specs.Journal.{Visit, Taken}
 use Rattle.board_model.specs.State.{Announcement, Peer, DomainState, is_numbered, peer_at, peer_of, tells_gone, is_owed_end}
 use Rattle.board_model.specs.Change.{Change, item_queued, item_handed, name_found, names_known, first_put, owed_put, buffers_back, frames_shown, frame_taken, changed, changed_all}
-use Rattle.board_model.specs.TakenFrames.{Row, names_of, message_item, name_rows, letter_rows, first_row, rows, row_of}
+use Rattle.board_model.specs.TakenFrames.{Row, names_of, name_rows, first_row, rows, row_of}
 use Rattle.board_model.specs.Deeds.{puts_owed, takes, after_deed, after_deeds}
-use Rattle.board_model.specs.Turn.{nameless, takes_named, after_visit}
-use Rattle.board_model.proofs.MessageLists.{changed-position, get-position}
+use Rattle.board_model.specs.Turn.{after_visit}
+use Rattle.board_model.proofs.MessageLists.{changed-position}
 use Rattle.board_model.proofs.ListsMapped.{changed-twice, changed-found, changed-nothing, found-changed, filter-filter, filter-alike}
 use Rattle.board_model.proofs.LanePeers.{own_first, first-number, peer_found}
 use Rattle.board_model.proofs.LaneRows.{Deals, stays, learns, forgets, hands, queues, row-deals}

@@ -1,6 +1,6 @@
 -- The looks of a visit at once, by places. It is what the board's definitions say one deed after the other (`VisitsAgree`).
 -- Source: docs/PROFILE.md, "A turn".
-use Rattle.std.specs.Prelude.{ℕ, ◌+◌, ◌-◌, List, length, drop, filter}
+use Rattle.std.specs.Prelude.{◌+◌, ◌-◌, List, length, drop, filter}
 use Rattle.board_model.specs.Lists.{changed}
 use Rattle.board_model.specs.Journal.{Visit}
 use Rattle.board_model.specs.State.{DomainState, Peer, place_of_peer, is_owed_end}
