@@ -1,12 +1,10 @@
 -- What a domain keeps through any of its calls: its number, and that the ends of a link to another still fit together.
 use Rattle.std.proofs.Common.{◌≡◌, ℕ, Bool, true, false, cond, List, [], ◌∷◌, ◌++◌, Option, Some, None, refl, sym, ap, ◌∙◌, subst}
 use Rattle.std.specs.Prelude.{◌==◌}
-use Rattle.mc_base.specs.declared.refusal.Refusal.{Refusal}
 use Rattle.mc_base.specs.declared.request.RequestId.{RequestId}
-use Rattle.board_model.specs.DomainCall.{DomainCall, create_at, delete_at, lookup_of, send_from, receive_at, request_at, available_at, test_of, cancel_of, turn_alone}
+use Rattle.board_model.specs.DomainCall.{DomainCall}
 use Rattle.board_model.specs.Journal.{Line, PlainAnswer}
 use Rattle.board_model.specs.State.{DomainState}
-use Rattle.board_model.specs.Answer.{refusal, unless_refused}
 use Rattle.board_model.specs.CallChanges.{call_changes, effect}
 use Rattle.board_model.proofs.DeedJoins.{changes-keep}
 use Rattle.board_model.proofs.WholeTurns.{turn_number}

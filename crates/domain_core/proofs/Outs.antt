@@ -57,9 +57,6 @@ placed-taken number r q b o n numbers taken apart e =
     }
 
 -- no more are out than the lane has
-pub out-fits : (number : ℕ) (r : Records) (q : Requests) (b : Book) (o : Out) (n : ℕ) → AreInPlacesBut n number r q b o → length o.numbers ≤ o.size
-out-fits number r q b o n e = length-apart o.size o.numbers e.each.apart
-
 pub outs-fit : (number : ℕ) (r : Records) (q : Requests) (b : Book) (o : Out) → AreInPlaces number r q b o → length o.numbers ≤ o.size
 outs-fit number r q b o e = length-apart o.size o.numbers e.each.apart
 

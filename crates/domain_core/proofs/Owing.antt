@@ -1,7 +1,7 @@
 -- Announcements that are owed and put.
 use Rattle.std.proofs.Common.{◌≡◌, ℕ, zero, suc, ◌+◌, ◌-◌, ◌≤◌, Bool, true, false, cond, List, [], ◌∷◌, ◌++◌, length, map, take, drop, Option, None, Some, refl, sym, ap, ◌∙◌, subst, arith, min, append_assoc}
 use Rattle.std.specs.Prelude.{◌==◌, not, ◌||◌, find, option_map, option_and_then, slice_get}
-use Rattle.std.proofs.lemmas.List.{drop-drop, length-drop, length-take, length_push, map-append}
+use Rattle.std.proofs.lemmas.List.{append-nil, drop-drop, length-drop, length-take, length_push, map-append}
 use Rattle.board_model.specs.Journal.{Line, put_line, turn_line}
 use Rattle.lane_end.specs.SendMoves.{Sent}
 use Rattle.domain_core.specs.LaneMoves.{LaneMove, sender}
@@ -9,8 +9,19 @@ use Rattle.domain_core.specs.VisitMoves.{putting}
 use Rattle.mc_base.specs.Limits.{name_service_address}
 use Rattle.mc_base.specs.Frame.{made}
 use Rattle.mc_base.specs.Announcement.{announcement}
-use Rattle.endpoint_table.specs.Table.{Owing, Table, announcement_of, paid_to, told_oldest}
-use Rattle.domain_core.specs.Owed.{PutsOwed, frame_of, owed_by, owed_frames, paid_times, put_lines, room_for}
+use Rattle.endpoint_table.specs.Table.{Owing, Table, announcement_of, owing_to, paid_to, told_oldest}
+use Rattle.board_model.specs.Deeds.{Deed, MayDo, puts_owed}
+use Rattle.board_model.specs.State as state
+use Rattle.domain_core.specs.declared.peer.Peer.{Peer}
+use Rattle.domain_core.specs.CallSteps.{Rests}
+use Rattle.domain_core.specs.Doing.{Doing, Puts}
+use Rattle.domain_core.specs.LaneSeen.{LaneSeen, after_moves}
+use Rattle.domain_core.specs.Owed.{frame_of, owed_by, owed_frames, paid_times, put_lines, room_for}
+use Rattle.domain_core.specs.Parts.{Holding, Parts, Sound, peer_at, plain, state_of}
+use Rattle.domain_core.specs.Peers.{announcement_in, peer_in}
+use Rattle.domain_core.proofs.PeersAt.{find-place}
+use Rattle.domain_core.proofs.Turning.{did-numbers, doing-none, doing-then, same-number}
+use Rattle.endpoint_table.specs.declared.announced.Announced.{Announced}
 
 -- the oldest that is owed is the first of the frames
 pub oldest-frame : (o : Option Owing) (domain address : ℕ) (name : List ℕ) (create : Bool) → Some (name, address, create) ≡ option_map (announcement_of domain) (option_and_then (λ (x : Owing). slice_get x.owed 0) o)
@@ -77,18 +88,53 @@ lines-push false peer (g ∷ fs) f =
     ap (λ (ls : List Line). turn_line ∷ ls) (map-append (put_line peer) (g ∷ fs) (f ∷ []))
     ∙ ap (λ (b : Bool). put_lines false peer (g ∷ fs) ++ put_lines (not b) peer (f ∷ [])) (sym (some-frames (length fs)))
 
+-- ---- a frame that is owed may be put
+
+owed_same : (domain : ℕ) (xs : List Announced) → map (state.announcing domain) (map announcement_in xs) ++ [] ≡ map (frame_of domain) xs
+owed_same domain xs = append-nil (map (state.announcing domain) (map announcement_in xs)) ∙ go xs
+  where
+    go : (ys : List Announced) → map (state.announcing domain) (map announcement_in ys) ≡ map (frame_of domain) ys
+    go [] = refl
+    go (y ∷ ys) = ap (λ (fs : List (List ℕ)). frame_of domain y ∷ fs) (go ys)
+
+pub owed-frames-are : (p : Parts) (x : Peer LaneSeen) → state.owed_to p.table.domain (peer_in plain p.table x) ≡ owed_frames p.table x.number
+owed-frames-are p x = owed_same p.table.domain (owed_by (owing_to p.table x.number))
+
+first_of : {X : Type 0} (x : X) (xs : List X) → x ∷ [] ≡ take 1 xs → xs ≡ x ∷ drop 1 xs
+first_of x [] e = absurd cc
+first_of {X} x (y ∷ xs) e = let same : x ≡ y = cc in ap (λ (z : X). z ∷ xs) (sym same)
+
+pub may-put : (p : Parts) (sound : Sound p) (i : ℕ) (x : Peer LaneSeen) → slice_get p.peers i ≡ Some x → (frame : List ℕ) → frame ∷ [] ≡ take 1 (owed_frames p.table x.number) → MayDo (state_of p) (puts_owed x.number frame)
+may-put p sound i x there frame first = (peer_in plain p.table x, drop 1 (owed_frames p.table x.number), find-place plain p.table i p.peers x sound.peers.rising there, owed-frames-are p x ∙ first_of frame (owed_frames p.table x.number) first)
+
+-- ---- what is free after it
+
+pub free-put : (fs : List (List ℕ)) (l : LaneSeen) → after_moves (putting fs) l ≡ record l { free = l.free - length fs }
+free-put [] l = let same : l.free ≡ l.free - 0 = omega arith in ap (λ (n : ℕ). record l { free = n }) same
+free-put (f ∷ fs) l = let less : l.free - 1 - length fs ≡ l.free - length (f ∷ fs) = omega arith in free-put fs (record l { free = l.free - 1 }) ∙ ap (λ (n : ℕ). record l { free = n }) less
+
+pub puts-none : {L : Type 0} (M : L → List LaneMove → L → Type 0) (i : ℕ) (begun : Bool) (h : Holding L) (lines : List Line) → Rests M h → Puts M i begun [] h h lines lines
+puts-none M i begun h lines rests = record { first = refl; doing = doing-none M (peer_at h.parts i).number h rests; table = refl; told = sym (append-nil lines) }
+
 module _ {L : Type 0} (M : L → List LaneMove → L → Type 0) (m-both : (a b c : L) (xs ys : List LaneMove) → M a xs b → M b ys c → M a (xs ++ ys) c) where
-  pub PutsOwed-more : (peer : ℕ) (begun begun' : Bool) (fs : List (List ℕ)) (f : List ℕ) (a b c : Table) (ls ls' ls'' : List Line) (x y z : L) → begun' ≡ (begun || not (length fs == 0)) → PutsOwed M peer begun fs a b ls ls' x y → PutsOwed M peer begun' (f ∷ []) b c ls' ls'' y z → PutsOwed M peer begun (fs ++ f ∷ []) a c ls ls'' x z
-  PutsOwed-more peer begun begun' fs f a b c ls ls' ls'' x y z begins so_far one =
+  pub Puts-more : (i : ℕ) (begun begun' : Bool) (fs : List (List ℕ)) (f : List ℕ) (a b c : Holding L) (ls ls' ls'' : List Line) → begun' ≡ (begun || not (length fs == 0)) → Puts M i begun fs a b ls ls' → Puts M i begun' (f ∷ []) b c ls' ls'' → Puts M i begun (fs ++ f ∷ []) a c ls ls''
+  Puts-more i begun begun' fs f a b c ls ls' ls'' begins so_far one =
+      let peer = (peer_at a.parts i).number in
+      let same : (peer_at b.parts i).number ≡ peer = same-number a.parts b.parts i (did-numbers M so_far.doing.steps a b so_far.doing.did) in
       let long : length (fs ++ f ∷ []) ≡ suc (length fs) = length_push fs f ∙ omega arith in
+      let first = one.first ∙ ap (λ (n : ℕ). take 1 (owed_frames b.parts.table n)) same in
+      let table = one.table ∙ ap (λ (n : ℕ). paid_to b.parts.table n) same in
+      let told = one.told ∙ ap (λ (n : ℕ). ls' ++ put_lines begun' n (f ∷ [])) same in
+      let doing : Doing M peer (puts_owed peer f ∷ []) (putting (f ∷ [])) b c = subst (λ (n : ℕ). Doing M n (puts_owed n f ∷ []) (putting (f ∷ [])) b c) same one.doing in
+      let both = doing-then M m-both peer (map (puts_owed peer) fs) (puts_owed peer f ∷ []) (putting fs) (putting (f ∷ [])) a b c so_far.doing doing in
       record {
         first = ap (λ (xs : List (List ℕ)). xs ++ f ∷ []) so_far.first
-            ∙ ap (λ (xs : List (List ℕ)). take (length fs) (owed_frames a peer) ++ xs) (one.first ∙ ap (λ (t : Table). take 1 (owed_frames t peer)) so_far.table ∙ ap (take 1) (owed-left (length fs) a peer))
-            ∙ take-last (length fs) (owed_frames a peer)
-            ∙ ap (λ (k : ℕ). take k (owed_frames a peer)) (sym long);
-        moved = subst (λ (ms : List LaneMove). M x ms z) (sym (putting-push fs f)) (m-both x y z (putting fs) (putting (f ∷ [])) so_far.moved one.moved);
-        table = one.table ∙ ap (λ (t : Table). paid_to t peer) so_far.table ∙ paid-last (length fs) a peer ∙ ap (λ (k : ℕ). paid_times k a peer) (sym long);
-        told = one.told
+            ∙ ap (λ (xs : List (List ℕ)). take (length fs) (owed_frames a.parts.table peer) ++ xs) (first ∙ ap (λ (t : Table). take 1 (owed_frames t peer)) so_far.table ∙ ap (take 1) (owed-left (length fs) a.parts.table peer))
+            ∙ take-last (length fs) (owed_frames a.parts.table peer)
+            ∙ ap (λ (k : ℕ). take k (owed_frames a.parts.table peer)) (sym long);
+        doing = subst (λ (ds : List Deed). Doing M peer ds (putting (fs ++ f ∷ [])) a c) (sym (map-append (puts_owed peer) fs (f ∷ []))) (subst (λ (ms : List LaneMove). Doing M peer (map (puts_owed peer) fs ++ puts_owed peer f ∷ []) ms a c) (sym (putting-push fs f)) both);
+        table = table ∙ ap (λ (t : Table). paid_to t peer) so_far.table ∙ paid-last (length fs) a.parts.table peer ∙ ap (λ (k : ℕ). paid_times k a.parts.table peer) (sym long);
+        told = told
             ∙ ap (λ (xs : List Line). xs ++ put_lines begun' peer (f ∷ [])) so_far.told
             ∙ append_assoc ls (put_lines begun peer fs) (put_lines begun' peer (f ∷ []))
             ∙ ap (λ (g : Bool). ls ++ (put_lines begun peer fs ++ put_lines g peer (f ∷ []))) begins
@@ -112,7 +158,3 @@ room-range false = (omega arith, omega arith)
 pub some-put : (b : Bool) (k : ℕ) → true ≡ (b || not (k + 1 == 0))
 some-put true k = refl
 some-put false k = let e : (k + 1 == 0) ≡ false = grind arith in ap not (sym e)
-
-pub puts-same : {L : Type 0} (M : L → List LaneMove → L → Type 0) (peer : ℕ) (begun : Bool) (fs : List (List ℕ)) (a b c : Table) (ls ls' ls'' : List Line) (x y z : L) → c ≡ b → ls'' ≡ ls' → z ≡ y → PutsOwed M peer begun fs a b ls ls' x y → PutsOwed M peer begun fs a c ls ls'' x z
-puts-same {L} M peer begun fs a b c ls ls' ls'' x y z table lines lane so_far =
-    subst (λ (t : Table). PutsOwed M peer begun fs a t ls ls'' x z) (sym table) (subst (λ (k : List Line). PutsOwed M peer begun fs a b ls k x z) (sym lines) (subst (λ (l : L). PutsOwed M peer begun fs a b ls ls' x l) (sym lane) so_far))

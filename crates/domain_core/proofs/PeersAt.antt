@@ -2,7 +2,6 @@
 use Rattle.std.proofs.Common.{◌≡◌, ℕ, zero, suc, ◌+◌, ◌<◌, ◌≤◌, Bool, true, false, not, cond, ◌||◌, List, [], ◌∷◌, length, map, Option, None, Some, slice_get, refl, sym, ap, ◌∙◌, subst, arith, ne_eqb, eq-eqb}
 use Rattle.std.specs.Prelude.{◌==◌, find, slice_set}
 use Rattle.std.specs.List.{AllByRecursion, list_any}
-use Rattle.board_model.specs.Lists.{changed_at, changed}
 use Rattle.board_model.specs.State as state
 use Rattle.board_model.specs.State.{is_numbered, is_owed_end}
 use Rattle.board_model.proofs.ListsApart.{all-unmap}
@@ -104,15 +103,6 @@ changed-twice n f g number (x ∷ xs) = go (x.number == n) refl (changed-twice n
         ∙ ap (λ (b : Bool). cond b (f x ∷ changed_first (is_numbered n) g xs) (x ∷ changed_first (is_numbered n) f (changed_first (is_numbered n) g xs))) e
         ∙ ap (λ (ys : List state.Peer). x ∷ ys) rest
         ∙ sym (ap (λ (b : Bool). cond b (f (g x) ∷ xs) (x ∷ changed_first (is_numbered n) (λ y. f (g y)) xs)) e)
-
-any_at : {X : Type 0} (test : X → Bool) (f : X → X) → ((x : X) → test (f x) ≡ test x) → (i : ℕ) (xs : List X) → list_any test (changed_at f i xs) ≡ list_any test xs
-any_at test f same i [] = refl
-any_at test f same zero (x ∷ xs) = ap (λ (b : Bool). b || list_any test xs) (same x)
-any_at test f same (suc i) (x ∷ xs) = ap (λ (b : Bool). test x || b) (any_at test f same i xs)
-
-pub any-changed : {X : Type 0} (test : X → Bool) (f : X → X) → ((x : X) → test (f x) ≡ test x) → (o : Option ℕ) (xs : List X) → list_any test (changed f o xs) ≡ list_any test xs
-any-changed test f same None xs = refl
-any-changed test f same (Some i) xs = any_at test f same i xs
 
 module _ {L : Type 0} (v : L → LaneSeen) (t : Table) where
   -- the first of the number is the one at the place

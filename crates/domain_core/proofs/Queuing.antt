@@ -30,7 +30,7 @@ use Rattle.domain_core.specs.InBook.{content_in, endpoints_in, held_by, item_at,
 use Rattle.domain_core.specs.InRequests.{AreReceives, handed_slots}
 use Rattle.domain_core.specs.InPlaces.{AreInPlaces, AreInPlacesBut, EachInPlace, KeepOthers, is_misplaced, one_if, slot_at, slots_of, times_in, times_waiting}
 use Rattle.domain_core.specs.Stores.{Stores}
-use Rattle.domain_core.specs.Dealt.{message, message_in}
+use Rattle.domain_core.specs.Verdicts.{message, message_in}
 use Rattle.domain_core.proofs.Handed.{requests-stay}
 use Rattle.domain_core.proofs.Placed.{HasMore, enqueued, enqueued-other, is-away, none-waits, queued-here}
 use Rattle.domain_core.proofs.Receives.{complete-at, complete_now, each-complete, handed-more, ids-stay, keys-stay, length-stays, map-changed}

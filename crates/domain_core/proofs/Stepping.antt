@@ -3,6 +3,7 @@ use Rattle.std.proofs.Common.{◌≡◌, ℕ, zero, suc, ◌<◌, Bool, true, fa
 use Rattle.std.specs.Prelude.{Contains, slice_get, slice_set, option_map, ◌==◌}
 use Rattle.std.specs.List.{AllByRecursion}
 use Rattle.std.proofs.lemmas.Option.{slice_get-map}
+use Rattle.mc_base.specs.NameMap.{Names}
 use Rattle.mc_base.specs.declared.request.Slot.{Slot}
 use Rattle.mc_base.specs.declared.refusal.Refusal.{Refusal}
 use Rattle.mc_base.specs.declared.request.RequestId.{RequestId}
@@ -23,11 +24,10 @@ use Rattle.domain_core.specs.Records.{Records}
 use Rattle.domain_core.specs.Peers.{peer_in, peers_in, state_in}
 use Rattle.domain_core.specs.Sound.{AreRising, AreSound}
 use Rattle.domain_core.specs.CallSteps.{Acted, Acts, Succeeds}
-use Rattle.domain_core.specs.Parts.{Holding, Parts, Sound, holding_in, parts_in, peer_seen, peers_seen, plain, shown, state_of}
-use Rattle.domain_core.specs.Steps.{Did, Step, all_moves, at_peer, book_after, done, done_all, moved_peer, records_after, requests_after, step_moves, table_after}
+use Rattle.domain_core.specs.Parts.{Holding, Parts, Sound, holding_in, parts_in, peer_seen, peers_seen, plain, state_of}
+use Rattle.domain_core.specs.Steps.{Did, Step, all_moves, at_peer, book_after, done, done_all, moved_peer, names_told, peers_after, records_after, requests_after, step_moves, table_after, told_peer}
 use Rattle.std.proofs.lemmas.List.{append-nil, append_assoc}
 use Rattle.domain_core.proofs.Calling.{answer-done, answer-refused}
-use Rattle.domain_core.specs.DomainView.{domain_in}
 use Rattle.domain_core.proofs.PeerPlaces.{peer-at}
 use Rattle.domain_core.proofs.Sending.{Outline, outline, same-sound}
 use Rattle.domain_core.proofs.Tables.{position-map}
@@ -80,7 +80,7 @@ set-is-map d ms (x ∷ ps) (suc i) p rising there is =
     cc
 
 module _ {L : Type 0} (v : L → LaneSeen) where
-  seen-set : (ps : List (Peer L)) (i : ℕ) (q : Peer L) → peers_seen v (slice_set ps i q) ≡ slice_set (peers_seen v ps) i (peer_seen v q)
+  pub seen-set : (ps : List (Peer L)) (i : ℕ) (q : Peer L) → peers_seen v (slice_set ps i q) ≡ slice_set (peers_seen v ps) i (peer_seen v q)
   seen-set [] i q = refl
   seen-set (p ∷ ps) zero q = refl
   seen-set (p ∷ ps) (suc i) q = ap (λ xs. peer_seen v p ∷ xs) (seen-set ps i q)
@@ -107,10 +107,6 @@ module _ {L : Type 0} (v : L → LaneSeen) where
 
   pub sound-unseen : (b : Book) (r : Records) (q : Requests) (t : endpoint_table.Table) (ps : List (Peer L)) → Sound (parts_in v b r q t ps) → AreSound v b r q t ps
   sound-unseen b r q t ps = same-sound plain v b r q t (peers_seen v ps) ps (sym (outlines ps))
-
-  -- so is the view
-  pub view-seen : (b : Book) (r : Records) (q : Requests) (t : endpoint_table.Table) (ps : List (Peer L)) → domain_in v b r q t ps ≡ shown (holding_in v b r q t ps)
-  view-seen b r q t ps = ap (λ (x : state.DomainState). record (domain_in v b r q t ps) { state = x }) (state-seen b r q t ps)
 
   -- what is out where it is seen is out
   pub out-unseen : (s : Slot) (ps : List (Peer L)) → IsOutAt plain s (peers_seen v ps) → IsOutAt v s ps
@@ -157,9 +153,9 @@ module _ {L : Type 0} (v : L → LaneSeen) where
     given-moved = subst (λ (xs : List (Peer L)). AllMoved M (ends_of ps) (map (at_peer s.peer back) (numbers_of (peers_seen v ps))) (ends_of xs)) (sym gives.after) (one-moved M m-none s.peer back ps gives.place gives.peer gives.ends rising gives.there gives.is gives.moved)
 
     -- a step that took its slot out of the book and the records
-    module _ (b b' : Book) (r r' : Records) (q : Requests) (t : endpoint_table.Table) (c : Step) (books : b' ≡ book_after c b) (records : r' ≡ records_after c r) (requests : q ≡ requests_after c q) (table : t ≡ table_after c t) (moves : step_moves c ≡ at_peer s.peer back) where
+    module _ (b b' : Book) (r r' : Records) (q : Requests) (t : endpoint_table.Table) (c : Step) (books : b' ≡ book_after c b) (records : r' ≡ records_after c r) (requests : q ≡ requests_after c q) (table : t ≡ table_after c t) (moves : step_moves c ≡ at_peer s.peer back) (moved : (xs : List (Peer LaneSeen)) → peers_after c xs ≡ map (moved_peer (step_moves c)) xs) where
       pub dropped-parts : parts_in v b' r' q t ps' ≡ done c (parts_in v b r q t ps)
-      dropped-parts = let peers = given-seen ∙ ap (λ (m : ℕ → List LaneMove). map (moved_peer m) (peers_seen v ps)) (sym moves) in cc
+      dropped-parts = let peers = given-seen ∙ ap (λ (m : ℕ → List LaneMove). map (moved_peer m) (peers_seen v ps)) (sym moves) ∙ sym (moved (peers_seen v ps)) in cc
 
       pub dropped-did : Did M (c ∷ []) (holding_in v b r q t ps) (holding_in v b' r' q t ps')
       dropped-did = record { parts = dropped-parts; moved = subst (λ (m : ℕ → List LaneMove). AllMoved M (ends_of ps) (map m (numbers_of (peers_seen v ps))) (ends_of ps')) (sym moves) given-moved }
@@ -177,7 +173,7 @@ moved-then M both f g h is (n ∷ ns) (a ∷ xs) [] cs first then = absurd first
 moved-then M both f g h is (n ∷ ns) (a ∷ xs) (b ∷ bs) [] first then = absurd then
 moved-then M both f g h is (n ∷ ns) (a ∷ xs) (b ∷ bs) (c ∷ cs) first then = (subst (λ (ms : List LaneMove). M a ms c) (sym (is n)) (both a b c (f n) (g n) first.0 then.0), moved-then M both f g h is ns xs bs cs first.1 then.1)
 
-moves-append : (xs ys : List Step) (n : ℕ) → all_moves (xs ++ ys) n ≡ all_moves xs n ++ all_moves ys n
+pub moves-append : (xs ys : List Step) (n : ℕ) → all_moves (xs ++ ys) n ≡ all_moves xs n ++ all_moves ys n
 moves-append [] ys n = refl
 moves-append (c ∷ []) [] n = sym (append-nil (step_moves c n))
 moves-append (c ∷ []) (d ∷ ys) n = refl
@@ -191,9 +187,17 @@ pub moved-numbers : (moves : ℕ → List LaneMove) (ps : List (Peer LaneSeen)) 
 moved-numbers moves [] = refl
 moved-numbers moves (p ∷ ps) = ap (λ ns. p.number ∷ ns) (moved-numbers moves ps)
 
-done-numbers : (cs : List Step) (p : Parts) → numbers_of (done_all cs p).peers ≡ numbers_of p.peers
+told-numbers : (peer : ℕ) (names : Names) (ps : List (Peer LaneSeen)) → numbers_of (map (told_peer peer names) ps) ≡ numbers_of ps
+told-numbers peer names [] = refl
+told-numbers peer names (p ∷ ps) = ap (λ ns. p.number ∷ ns) (told-numbers peer names ps)
+
+pub step-numbers : (c : Step) (ps : List (Peer LaneSeen)) → numbers_of (peers_after c ps) ≡ numbers_of ps
+step-numbers (names_told peer names) ps = told-numbers peer names ps
+step-numbers other ps = moved-numbers (step_moves other) ps
+
+pub done-numbers : (cs : List Step) (p : Parts) → numbers_of (done_all cs p).peers ≡ numbers_of p.peers
 done-numbers [] p = refl
-done-numbers (c ∷ cs) p = done-numbers cs (done c p) ∙ moved-numbers (step_moves c) p.peers
+done-numbers (c ∷ cs) p = done-numbers cs (done c p) ∙ step-numbers c p.peers
 
 module _ {L : Type 0} (M : L → List LaneMove → L → Type 0) where
   pub did-then : ((a b c : L) (xs ys : List LaneMove) → M a xs b → M b ys c → M a (xs ++ ys) c) → (xs ys : List Step) (a b c : Holding L) → Did M xs a b → Did M ys b c → Did M (xs ++ ys) a c

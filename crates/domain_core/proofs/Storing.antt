@@ -46,9 +46,6 @@ stay-stored peer (n ∷ ns) (t ∷ ts) b b' keeps stored = (λ kept. stays-store
 
 -- ---- frames that are taken
 
-pub Stores-none : (peer : ℕ) (b : Book) → Stores peer [] [] b b
-Stores-none peer b = record { stays = keeps-none b; stored = tt }
-
 -- a buffer that is given back
 pub Stores-returned : (peer n : ℕ) (frame : List ℕ) (fate : Fate) (b : Book) → keeps_buffer fate ≡ false → Stores peer (n ∷ []) (taken frame fate ∷ []) b b
 Stores-returned peer n frame fate b back = record { stays = keeps-none b; stored = (λ keeps. absurd (not-both (keeps_buffer fate) back keeps), tt) }

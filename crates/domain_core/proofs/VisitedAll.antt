@@ -1,37 +1,30 @@
 -- Visits to the peers of a domain, one after the other, and the turn that they make.
-use Rattle.std.proofs.Common.{◌≡◌, ℕ, zero, suc, ◌+◌, ◌<◌, ◌≤◌, Bool, true, false, not, cond, List, [], ◌∷◌, ◌++◌, length, map, take, drop, Option, Some, None, is_some, slice_get, refl, sym, ap, ◌∙◌, subst, arith, append_assoc}
-use Rattle.std.specs.Prelude.{slice_set}
+use Rattle.std.proofs.Common.{◌≡◌, ℕ, zero, suc, ◌+◌, ◌<◌, ◌≤◌, Bool, true, false, not, cond, List, [], ◌∷◌, ◌++◌, length, map, take, Some, slice_get, refl, sym, ap, ◌∙◌, subst, arith, append_assoc, eq-eqb, ne_eqb}
+use Rattle.std.specs.Prelude.{slice_index_or}
 use Rattle.std.specs.List.{AllByRecursion, flat_map, list_all}
-use Rattle.std.proofs.lemmas.List.{append-nil, drop-drop, drop-set-lt, length-map, map_push, take_all, take_more_set}
-use Rattle.mc_base.specs.NameMap.{Names}
-use Rattle.board_model.specs.Journal.{Line, Visit, Taken, turn_line, visit_lines, is_idle, noted, noted_idle, turned}
-use Rattle.board_model.specs.State as state
-use Rattle.board_model.specs.State.{DomainState, Item}
+use Rattle.std.proofs.lemmas.List.{append-nil, length-map, map_push, take_all}
+use Rattle.std.proofs.lemmas.Option.{slice_get-get_or}
+use Rattle.board_model.specs.Journal.{Line, Visit, turn_line, visit_lines, is_idle, noted, noted_idle, turned}
+use Rattle.board_model.specs.State.{DomainState}
 use Rattle.board_model.specs.Turn.{IsVisit, AreVisits, after_visit, after_turn}
-use Rattle.board_model.proofs.MessageAlls.{all-weaken}
-use Rattle.buffer_book.specs.Book.{Book, Kept, queued_at}
-use Rattle.endpoint_table.specs.Table.{Table}
-use Rattle.request_set.specs.Requests.{Requests}
-use Rattle.domain_core.specs.LaneSeen.{LaneSeen}
-use Rattle.domain_core.specs.declared.peer.Peer.{Peer}
+use Rattle.buffer_book.specs.Book.{Book}
+use Rattle.domain_core.specs.AllMoved.{AllMoved, numbers_of, turn_moves}
 use Rattle.domain_core.specs.Beginning.{told_of, told_of_all, has_begun, has_begun_after}
+use Rattle.domain_core.specs.CallSteps.{Rests}
+use Rattle.domain_core.specs.Doing.{Visits, ids_in}
+use Rattle.domain_core.specs.DomainView.{DomainView}
 use Rattle.domain_core.specs.LaneMoves.{LaneMove}
+use Rattle.domain_core.specs.Parts.{Holding, Sound, plain, shown, state_of}
+use Rattle.domain_core.specs.Sound.{AreRising}
+use Rattle.domain_core.specs.Steps.{Did, Step, all_moves, at_peer}
+use Rattle.domain_core.specs.Stores.{AreStored, KeepsQueued}
+use Rattle.domain_core.specs.Turned.{AllStored, HaveNumbers, VisitsAll, MakesTurn}
 use Rattle.domain_core.specs.VisitMoves.{visit_moves}
-use Rattle.domain_core.specs.Out.{out_of}
-use Rattle.domain_core.specs.Records.{Records}
-use Rattle.domain_core.specs.InBook.{source_in, content_in, priority_in, table_in}
-use Rattle.domain_core.specs.InRequests.{AreReceives}
-use Rattle.domain_core.specs.InPlaces.{AreInPlaces, KeepOthers, slot_at, slots_of}
-use Rattle.domain_core.specs.Stores.{IsStored, AreStored, KeepsQueued}
-use Rattle.domain_core.specs.Dealt.{scene}
-use Rattle.domain_core.specs.Peers.{peers_in}
-use Rattle.domain_core.specs.AllMoved.{AllMoved, ends_of, numbers_of, turn_moves}
-use Rattle.domain_core.specs.Sound.{AreRising, ArePeers}
-use Rattle.domain_core.specs.DomainView.{DomainView, domain_in}
-use Rattle.domain_core.specs.Turned.{Visits, standing, AllStored, HaveNumbers, VisitsAll, MakesTurn}
+use Rattle.domain_core.proofs.PeerPlaces.{numbers-in}
+use Rattle.domain_core.proofs.Stepping.{did-then, moves-append}
+use Rattle.domain_core.proofs.Storing.{keeps-both, keeps-none, stay-stored}
 use Rattle.domain_core.proofs.ToldTurns.{told-last, begun-last, turn-told, turn-begun}
-use Rattle.domain_core.proofs.PeersAt.{numbers-set}
-use Rattle.domain_core.proofs.VisitedState.{Parts, parts, state_of, IsSound, visited, state-after, is-visit, sound-after}
+use Rattle.domain_core.proofs.Turning.{did-numbers, did-rests, number-in}
 
 -- ---- one visit more
 
@@ -49,52 +42,56 @@ have-last (u ∷ vs) (ms ∷ nss) w ns all one = (all.0, have-last vs nss w ns a
 have-last [] (ms ∷ nss) w ns all one = absurd all
 have-last (u ∷ vs) [] w ns all one = absurd all
 
-moves-last : (vs : List Visit) (nss : List (List ℕ)) (w : Visit) (ns : List ℕ) → HaveNumbers vs nss → turn_moves (vs ++ w ∷ []) (nss ++ ns ∷ []) ≡ turn_moves vs nss ++ visit_moves w ns ∷ []
-moves-last [] [] w ns all = refl
-moves-last (u ∷ vs) (ms ∷ nss) w ns all = ap (λ (xs : List (List LaneMove)). visit_moves u ms ∷ xs) (moves-last vs nss w ns all.1)
-moves-last [] (ms ∷ nss) w ns all = absurd all
-moves-last (u ∷ vs) [] w ns all = absurd all
-
-moved-last : {L : Type 0} (M : L → List LaneMove → L → Type 0) (olds news : List L) (moves : List (List LaneMove)) (a : L) (ms : List LaneMove) (b : L) → AllMoved M olds moves news → M a ms b → AllMoved M (olds ++ a ∷ []) (moves ++ ms ∷ []) (news ++ b ∷ [])
-moved-last M [] [] [] a ms b all one = (one, tt)
-moved-last M (x ∷ olds) (y ∷ news) (ns ∷ moves) a ms b all one = (all.0, moved-last M olds news moves a ms b all.1 one)
-moved-last M [] [] (ns ∷ moves) a ms b all one = absurd all
-moved-last M [] (y ∷ news) [] a ms b all one = absurd all
-moved-last M [] (y ∷ news) (ns ∷ moves) a ms b all one = absurd all
-moved-last M (x ∷ olds) [] [] a ms b all one = absurd all
-moved-last M (x ∷ olds) [] (ns ∷ moves) a ms b all one = absurd all
-moved-last M (x ∷ olds) (y ∷ news) [] a ms b all one = absurd all
-
--- ---- what was stored stays
-
-abbrev item_of_kept : ℕ → Option Kept → Item
-item_of_kept peer o = record { peer = peer; source = source_in o; priority = priority_in o; channel = None; content = content_in o; frames = [] }
-
-still-stored : (b b' : Book) (peer number : ℕ) (frame : List ℕ) → KeepsQueued b b' → IsStored peer number frame b → IsStored peer number frame b'
-still-stored b b' peer number frame keeps stored =
-    let same : queued_at b' (slot_at peer number) ≡ queued_at b (slot_at peer number) = keeps (slot_at peer number) stored.queued in
-    record {
-      queued = ap (λ (o : Option Kept). is_some o) same ∙ stored.queued;
-      item = ap (item_of_kept peer) same ∙ stored.item;
-    }
-
-still-all : (b b' : Book) (peer : ℕ) (ns : List ℕ) (ts : List Taken) → KeepsQueued b b' → AreStored peer ns ts b → AreStored peer ns ts b'
-still-all b b' peer [] ts keeps all = tt
-still-all b b' peer (n ∷ ns) [] keeps all = tt
-still-all b b' peer (n ∷ ns) (t ∷ ts) keeps all = (λ kept. still-stored b b' peer n t.frame keeps (all.0 kept), still-all b b' peer ns ts keeps all.1)
-
 stored-last : (b b' : Book) (vs : List Visit) (nss : List (List ℕ)) (w : Visit) (ns : List ℕ) → KeepsQueued b b' → HaveNumbers vs nss → AllStored vs nss b → AreStored w.peer ns w.takes b' → AllStored (vs ++ w ∷ []) (nss ++ ns ∷ []) b'
 stored-last b b' [] [] w ns keeps have all one = (one, tt)
-stored-last b b' (u ∷ vs) (ms ∷ nss) w ns keeps have all one = (still-all b b' u.peer ms u.takes keeps all.0, stored-last b b' vs nss w ns keeps have.1 all.1 one)
+stored-last b b' (u ∷ vs) (ms ∷ nss) w ns keeps have all one = (stay-stored u.peer ms u.takes b b' keeps all.0, stored-last b b' vs nss w ns keeps have.1 all.1 one)
 stored-last b b' [] (ms ∷ nss) w ns keeps have all one = absurd have
 stored-last b b' (u ∷ vs) [] w ns keeps have all one = absurd have
 
-keeps-both : (a b c : Book) → KeepsQueued a b → KeepsQueued b c → KeepsQueued a c
-keeps-both a b c first then = λ s queued.
-    let same : queued_at b s ≡ queued_at a s = first s queued in
-    then s (ap (λ (o : Option Kept). is_some o) same ∙ queued) ∙ same
+-- ---- the moves of visits at the peer of a number
 
--- ---- lists of peers
+abbrev moves_in : List Visit → List (List ℕ) → ℕ → List LaneMove
+moves_in [] nss n = []
+moves_in (v ∷ vs) [] n = []
+moves_in (v ∷ vs) (ns ∷ nss) n = at_peer v.peer (visit_moves v ns) n ++ moves_in vs nss n
+
+moves-last : (vs : List Visit) (nss : List (List ℕ)) (w : Visit) (ns : List ℕ) (n : ℕ) → HaveNumbers vs nss → moves_in (vs ++ w ∷ []) (nss ++ ns ∷ []) n ≡ moves_in vs nss n ++ at_peer w.peer (visit_moves w ns) n
+moves-last [] [] w ns n all = append-nil (at_peer w.peer (visit_moves w ns) n)
+moves-last (u ∷ vs) (ms ∷ nss) w ns n all = ap (λ zs. at_peer u.peer (visit_moves u ms) n ++ zs) (moves-last vs nss w ns n all.1) ∙ sym (append_assoc (at_peer u.peer (visit_moves u ms) n) (moves_in vs nss n) (at_peer w.peer (visit_moves w ns) n))
+moves-last [] (ms ∷ nss) w ns n all = absurd all
+moves-last (u ∷ vs) [] w ns n all = absurd all
+
+moves-none : (vs : List Visit) (nss : List (List ℕ)) (n : ℕ) → AllByRecursion (λ m. n < m) (map (λ (v : Visit). v.peer) vs) → moves_in vs nss n ≡ []
+moves-none [] nss n above = refl
+moves-none (v ∷ vs) [] n above = refl
+moves-none (v ∷ vs) (ns ∷ nss) n above =
+    ap (λ (b : Bool). cond b (visit_moves v ns) [] ++ moves_in vs nss n) (ne_eqb v.peer n (λ e. let lt = above.0 in omega (arith, lt, e)))
+    ∙ moves-none vs nss n above.1
+
+maps-above : (k : ℕ) (ms : List LaneMove) (f : ℕ → List LaneMove) (ns : List ℕ) → AllByRecursion (λ m. k < m) ns → map (λ n. at_peer k ms n ++ f n) ns ≡ map f ns
+maps-above k ms f [] above = refl
+maps-above k ms f (n ∷ ns) above =
+    ap (λ (b : Bool). (cond b ms [] ++ f n) ∷ map (λ m. at_peer k ms m ++ f m) ns) (ne_eqb k n (λ e. let lt = above.0 in omega (arith, lt, e)))
+    ∙ ap (λ (zs : List (List LaneMove)). f n ∷ zs) (maps-above k ms f ns above.1)
+
+-- each peer is visited once
+turn-moves-are : (vs : List Visit) (nss : List (List ℕ)) (ns : List ℕ) → HaveNumbers vs nss → map (λ (v : Visit). v.peer) vs ≡ ns → AreRising ns → map (moves_in vs nss) ns ≡ turn_moves vs nss
+turn-moves-are [] [] [] have each rising = refl
+turn-moves-are [] [] (n ∷ ns) have each rising = absurd cc
+turn-moves-are [] (ms ∷ nss) ns have each rising = absurd have
+turn-moves-are (v ∷ vs) [] ns have each rising = absurd have
+turn-moves-are (v ∷ vs) (ms ∷ nss) [] have each rising = absurd cc
+turn-moves-are (v ∷ vs) (ms ∷ nss) (n ∷ ns) have each rising =
+    let peer : v.peer ≡ n = cc in
+    let rest : map (λ (w : Visit). w.peer) vs ≡ ns = cc in
+    let none : moves_in vs nss n ≡ [] = moves-none vs nss n (subst (AllByRecursion (λ m. n < m)) (sym rest) rising.0) in
+    let here : at_peer v.peer (visit_moves v ms) n ++ moves_in vs nss n ≡ visit_moves v ms =
+    ap (λ (b : Bool). cond b (visit_moves v ms) [] ++ moves_in vs nss n) (eq-eqb v.peer n peer) ∙ ap (λ (zs : List LaneMove). visit_moves v ms ++ zs) none ∙ append-nil (visit_moves v ms) in
+    let later : map (moves_in (v ∷ vs) (ms ∷ nss)) ns ≡ map (moves_in vs nss) ns = maps-above v.peer (visit_moves v ms) (moves_in vs nss) ns (subst (λ (k : ℕ). AllByRecursion (λ m. k < m) ns) (sym peer) rising.0) in
+    ap (λ (z : List LaneMove). z ∷ map (moves_in (v ∷ vs) (ms ∷ nss)) ns) here
+    ∙ ap (λ (zs : List (List LaneMove)). visit_moves v ms ∷ zs) (later ∙ turn-moves-are vs nss ns have.1 rest rising.1)
+
+-- ---- the first peers were visited
 
 take-at : {X : Type 0} (xs : List X) (i : ℕ) (x : X) → slice_get xs i ≡ Some x → take (i + 1) xs ≡ take i xs ++ x ∷ []
 take-at {X} xs i x at = ap (λ (n : ℕ). take n xs) next ∙ go xs i at
@@ -107,167 +104,100 @@ take-at {X} xs i x at = ap (λ (n : ℕ). take n xs) next ∙ go xs i at
     go (y ∷ ys) zero e = let same : y ≡ x = cc in ap (λ (z : X). z ∷ []) same
     go (y ∷ ys) (suc j) e = ap (λ (zs : List X). y ∷ zs) (go ys j e)
 
-get-drop : {X : Type 0} (xs : List X) (i : ℕ) → slice_get (drop i xs) 0 ≡ slice_get xs i
-get-drop [] zero = refl
-get-drop [] (suc i) = refl
-get-drop (x ∷ xs) zero = refl
-get-drop (x ∷ xs) (suc i) = get-drop xs i
-
-at-rest : {X : Type 0} (xs ys : List X) (i : ℕ) (x : X) → drop i ys ≡ drop i xs → slice_get ys i ≡ Some x → slice_get xs i ≡ Some x
-at-rest {X} xs ys i x rest at = sym (get-drop xs i) ∙ ap (λ (zs : List X). slice_get zs 0) (sym rest) ∙ get-drop ys i ∙ at
-
-within : {X : Type 0} (xs : List X) (i : ℕ) (x : X) → slice_get xs i ≡ Some x → i < length xs
-within [] i x at = absurd cc
-within (y ∷ xs) zero x at = omega arith
-within (y ∷ xs) (suc i) x at = omega (arith, within xs i x at)
-
-rest-more : {X : Type 0} (olds news : List X) (i : ℕ) (b : X) → drop i news ≡ drop i olds → drop (i + 1) (slice_set news i b) ≡ drop (i + 1) olds
-rest-more olds news i b rest =
-    let lt : i < i + 1 = omega arith in
-    drop-set-lt (i + 1) news i b lt ∙ sym (drop-drop 1 i news) ∙ ap (drop 1) rest ∙ drop-drop 1 i olds
-
--- numbers that rise and are at most 7 are 8 at most
-few-rising : (k : ℕ) (ns : List ℕ) → k ≤ 8 → AllByRecursion (λ n. n ≤ 7) ns → AllByRecursion (λ n. k ≤ n) ns → AreRising ns → k + length ns ≤ 8
-few-rising k [] le few above rising = omega arith
-few-rising k (n ∷ ns) le few above rising =
-    let most : n ≤ 7 = few.0 in
-    let least : k ≤ n = above.0 in
-    let rest = few-rising (suc n) ns (omega arith) few.1 (all-weaken (λ m. n < m) (λ m. suc n ≤ m) (λ m lt. omega (arith, lt)) ns rising.0) rising.1 in
-    omega (arith, most, least, rest)
-
-all-least : (ns : List ℕ) → AllByRecursion (λ n. 0 ≤ n) ns
-all-least [] = tt
-all-least (n ∷ ns) = (omega arith, all-least ns)
-
-pub peers-few : {L : Type 0} (v : L → LaneSeen) (number : ℕ) (ps : List (Peer L)) → ArePeers v number ps → length ps ≤ 8
-peers-few {L} v number ps are =
-    let few = few-rising 0 (numbers_of ps) (omega arith) are.few (all-least (numbers_of ps)) are.rising in
-    omega (arith, few, length-map ps (λ (p : Peer L). p.number))
-
--- ---- the first peers were visited
-
-pub record SoFar {L : Type 0} (M : L → List LaneMove → L → Type 0) (v : L → LaneSeen) (old now : Parts L) (lines lines' : List Line) (i : ℕ) (begun : Bool) : Type 0 where
+pub record SoFar {L : Type 0} (M : L → List LaneMove → L → Type 0) (old now : Holding L) (lines lines' : List Line) (i : ℕ) (begun : Bool) : Type 0 where
   pub visits : List Visit
   pub numbers : List (List ℕ)
-  pub each_peer : map (λ (w : Visit). w.peer) visits ≡ numbers_of (take i old.peers)
-  pub allowed : AreVisits (state_of v old) visits
-  pub state : after_turn (state_of v old) visits ≡ state_of v now
+  pub each_peer : map (λ (w : Visit). w.peer) visits ≡ take i (numbers_of old.parts.peers)
+  pub allowed : AreVisits (state_of old.parts) visits
+  pub state : after_turn (state_of old.parts) visits ≡ state_of now.parts
   pub each : HaveNumbers visits numbers
-  pub moved : AllMoved M (ends_of (take i old.peers)) (turn_moves visits numbers) (ends_of (take i now.peers))
-  pub rest : drop i now.peers ≡ drop i old.peers
-  pub same : numbers_of now.peers ≡ numbers_of old.peers
-  pub stays : KeepsQueued old.book now.book
-  pub stored : AllStored visits numbers now.book
-  pub ids : map (λ r. r.id) now.requests.standing ≡ map (λ r. r.id) old.requests.standing
+  pub steps : List Step
+  pub did : Did M steps old now
+  pub moves_are : (n : ℕ) → all_moves steps n ≡ moves_in visits numbers n
+  pub stays : KeepsQueued old.parts.book now.parts.book
+  pub stored : AllStored visits numbers now.parts.book
+  pub ids : ids_in now.parts ≡ ids_in old.parts
   pub told : lines' ≡ lines ++ told_of_all false visits
   pub begins : begun ≡ has_begun_after false visits
-  pub sound : IsSound v now
+  pub rests : Rests M now
 
-pub so-far-none : {L : Type 0} (M : L → List LaneMove → L → Type 0) (v : L → LaneSeen) (old : Parts L) (lines : List Line) → IsSound v old → SoFar M v old old lines lines 0 false
-so-far-none M v old lines sound = record {
+pub so-far-none : {L : Type 0} (M : L → List LaneMove → L → Type 0) (h : Holding L) (lines : List Line) → Rests M h → SoFar M h h lines lines 0 false
+so-far-none M h lines rests = record {
   visits = [];
   numbers = [];
   each_peer = refl;
   allowed = tt;
   state = refl;
   each = tt;
-  moved = tt;
-  rest = refl;
-  same = refl;
-  stays = λ s queued. refl;
+  steps = [];
+  did = record { parts = refl; moved = rests };
+  moves_are = λ n. refl;
+  stays = keeps-none h.parts.book;
   stored = tt;
   ids = refl;
   told = sym (append-nil lines);
   begins = refl;
-  sound = sound;
+  rests = rests;
 }
 
-pub so-far-more : {L : Type 0} (M : L → List LaneMove → L → Type 0) (v : L → LaneSeen) (old now : Parts L) (lines lines' lines'' : List Line) (i : ℕ) (p : Peer L) (b' : Book) (r' : Records) (q' : Requests) (t' : Table) (ends : L) (known : Names) (begun begun' : Bool)
-    → SoFar M v old now lines lines' i begun
-    → slice_get now.peers i ≡ Some p
-    → Visits M p.number begun begun' (standing v p.ends) (standing v ends) (scene (table_in now.book now.records now.requests) lines') (scene (table_in b' r' q') lines'') now.table t' p.known known now.book b' p.ends ends
-    → AreReceives q'
-    → map (λ r. r.id) q'.standing ≡ map (λ r. r.id) now.requests.standing
-    → AreInPlaces p.number r' q' b' (out_of (v ends).size_from (v ends).out)
-    → KeepOthers p.number now.records now.requests now.book r' q' b'
-    → length (slots_of r' q') + length (v p.ends).out ≡ length (slots_of now.records now.requests) + length (v ends).out
-    → SoFar M v old (parts b' r' q' t' (slice_set now.peers i (visited p ends known))) lines lines'' (i + 1) begun'
-so-far-more {L} M v old now lines lines' lines'' i p b' r' q' t' ends known begun begun' so_far at made receives ids here others total =
-    let p' = visited p ends known in
-    let vs = so_far.visits in
-    let w = made.visit in
-    let s = state_of v old in
-    let visit = is-visit M v now i p b' r' q' t' ends known begun begun' lines' lines'' so_far.sound at made in
-    let after = state-after M v now i p b' r' q' t' ends known begun begun' lines' lines'' so_far.sound at made in
-    let old_more = take-at old.peers i p (at-rest old.peers now.peers i p so_far.rest at) in
-    let now_more = take_more_set now.peers i p' (within now.peers i p at) in
-    let old_ends : ends_of (take (i + 1) old.peers) ≡ ends_of (take i old.peers) ++ p.ends ∷ [] = ap (λ (ps : List (Peer L)). ends_of ps) old_more ∙ map_push (λ (x : Peer L). x.ends) (take i old.peers) p in
-    let now_ends : ends_of (take (i + 1) (slice_set now.peers i p')) ≡ ends_of (take i now.peers) ++ ends ∷ [] = ap (λ (ps : List (Peer L)). ends_of ps) now_more ∙ map_push (λ (x : Peer L). x.ends) (take i now.peers) p' in
-    let one = moved-last M (ends_of (take i old.peers)) (ends_of (take i now.peers)) (turn_moves vs so_far.numbers) p.ends (visit_moves w made.numbers) ends so_far.moved made.moved in
-    record {
-      visits = vs ++ w ∷ [];
-      numbers = so_far.numbers ++ made.numbers ∷ [];
-      each_peer =
-          map_push (λ (x : Visit). x.peer) vs w
-          ∙ ap (λ (ns : List ℕ). ns ++ w.peer ∷ []) so_far.each_peer
-          ∙ ap (λ (n : ℕ). numbers_of (take i old.peers) ++ n ∷ []) made.peer_is
-          ∙ sym (map_push (λ (x : Peer L). x.number) (take i old.peers) p)
-          ∙ ap (λ (ps : List (Peer L)). numbers_of ps) (sym old_more);
-      allowed = visits-last s vs w so_far.allowed (subst (λ (x : DomainState). IsVisit x w) (sym so_far.state) visit);
-      state = turn-last s vs w ∙ ap (λ (x : DomainState). after_visit x w) so_far.state ∙ after;
-      each = have-last vs so_far.numbers w made.numbers so_far.each made.each;
-      moved =
-          subst (λ (xs : List L). AllMoved M xs (turn_moves (vs ++ w ∷ []) (so_far.numbers ++ made.numbers ∷ [])) (ends_of (take (i + 1) (slice_set now.peers i p')))) (sym old_ends)
-          (subst (λ (xs : List L). AllMoved M (ends_of (take i old.peers) ++ p.ends ∷ []) (turn_moves (vs ++ w ∷ []) (so_far.numbers ++ made.numbers ∷ [])) xs) (sym now_ends)
-          (subst (λ (ms : List (List LaneMove)). AllMoved M (ends_of (take i old.peers) ++ p.ends ∷ []) ms (ends_of (take i now.peers) ++ ends ∷ [])) (sym (moves-last vs so_far.numbers w made.numbers so_far.each)) one));
-      rest = rest-more old.peers now.peers i p' so_far.rest;
-      same = numbers-set i now.peers p p' at refl ∙ so_far.same;
-      stays = keeps-both old.book now.book b' so_far.stays made.stored.stays;
-      stored = stored-last now.book b' vs so_far.numbers w made.numbers made.stored.stays so_far.each so_far.stored (subst (λ (n : ℕ). AreStored n made.numbers w.takes b') (sym made.peer_is) made.stored.stored);
-      ids = ids ∙ so_far.ids;
-      told =
-          made.told
-          ∙ ap (λ (ls : List Line). ls ++ told_of begun w) so_far.told
-          ∙ append_assoc lines (told_of_all false vs) (told_of begun w)
-          ∙ ap (λ (b : Bool). lines ++ (told_of_all false vs ++ told_of b w)) so_far.begins
-          ∙ ap (λ (ls : List Line). lines ++ ls) (sym (told-last false vs w));
-      begins = made.begins ∙ ap (λ (b : Bool). has_begun b w) so_far.begins ∙ sym (begun-last false vs w);
-      sound = sound-after M v now i p b' r' q' t' ends known begun begun' lines' lines'' so_far.sound at made receives here others total;
-    }
+module _ {L : Type 0} (M : L → List LaneMove → L → Type 0) (m-none : (l : L) → M l [] l) (m-both : (a b c : L) (xs ys : List LaneMove) → M a xs b → M b ys c → M a (xs ++ ys) c) where
+  pub so-far-more : (old now new : Holding L) (lines lines' lines'' : List Line) (i : ℕ) (begun begun' : Bool) → SoFar M old now lines lines' i begun → i < length now.parts.peers → Visits M i begun begun' now new lines' lines'' → SoFar M old new lines lines'' (i + 1) begun'
+  so-far-more old now new lines lines' lines'' i begun begun' so_far within made =
+      let vs = so_far.visits in
+      let w = made.visit in
+      let s = state_of old.parts in
+      let ns = numbers_of old.parts.peers in
+      let same : numbers_of now.parts.peers ≡ ns = did-numbers M so_far.steps old now so_far.did in
+      let peer : w.peer ≡ slice_index_or ns i 0 = made.peer_is ∙ number-in now.parts.peers i ∙ ap (λ (zs : List ℕ). slice_index_or zs i 0) same in
+      let long : i < length ns = (let many = length-map now.parts.peers (λ x. x.number) in let as_many = ap length same in omega (arith, within, many, as_many)) in
+      let more : take (i + 1) ns ≡ take i ns ++ w.peer ∷ [] = take-at ns i (slice_index_or ns i 0) (slice_get-get_or ns i 0 long) ∙ ap (λ (n : ℕ). take i ns ++ n ∷ []) (sym peer) in
+      record {
+        visits = vs ++ w ∷ [];
+        numbers = so_far.numbers ++ made.numbers ∷ [];
+        each_peer = map_push (λ (x : Visit). x.peer) vs w ∙ ap (λ (zs : List ℕ). zs ++ w.peer ∷ []) so_far.each_peer ∙ sym more;
+        allowed = visits-last s vs w so_far.allowed (subst (λ (x : DomainState). IsVisit x w) (sym so_far.state) made.allowed);
+        state = turn-last s vs w ∙ ap (λ (x : DomainState). after_visit x w) so_far.state ∙ sym made.doing.state;
+        each = have-last vs so_far.numbers w made.numbers so_far.each made.each;
+        steps = so_far.steps ++ made.doing.steps;
+        did = did-then M m-both so_far.steps made.doing.steps old now new so_far.did made.doing.did;
+        moves_are = λ n. moves-append so_far.steps made.doing.steps n ∙ ap (λ zs. zs ++ all_moves made.doing.steps n) (so_far.moves_are n) ∙ ap (λ zs. moves_in vs so_far.numbers n ++ zs) (made.doing.moves_are n) ∙ sym (moves-last vs so_far.numbers w made.numbers n so_far.each);
+        stays = keeps-both old.parts.book now.parts.book new.parts.book so_far.stays made.doing.stays;
+        stored = stored-last now.parts.book new.parts.book vs so_far.numbers w made.numbers made.doing.stays so_far.each so_far.stored made.stored;
+        ids = made.doing.ids ∙ so_far.ids;
+        told =
+            made.told
+            ∙ ap (λ (ls : List Line). ls ++ told_of begun w) so_far.told
+            ∙ append_assoc lines (told_of_all false vs) (told_of begun w)
+            ∙ ap (λ (b : Bool). lines ++ (told_of_all false vs ++ told_of b w)) so_far.begins
+            ∙ ap (λ (ls : List Line). lines ++ ls) (sym (told-last false vs w));
+        begins = made.begins ∙ ap (λ (b : Bool). has_begun b w) so_far.begins ∙ sym (begun-last false vs w);
+        rests = did-rests M m-none made.doing.steps now new made.doing.did;
+      }
 
-numbers-seen : {L : Type 0} (v : L → LaneSeen) (t : Table) (ps : List (Peer L)) → map (λ (x : state.Peer). x.number) (peers_in v t ps) ≡ numbers_of ps
-numbers-seen v t [] = refl
-numbers-seen v t (p ∷ ps) = ap (λ (ns : List ℕ). p.number ∷ ns) (numbers-seen v t ps)
+  same_maps : (f g : ℕ → List LaneMove) → ((n : ℕ) → f n ≡ g n) → (ns : List ℕ) → map f ns ≡ map g ns
+  same_maps f g same [] = refl
+  same_maps f g same (n ∷ ns) = ap (λ z. z ∷ map f ns) (same n) ∙ ap (λ zs. g n ∷ zs) (same_maps f g same ns)
 
-abbrev pub view_of : {L : Type 0} → (L → LaneSeen) → Parts L → DomainView L
-view_of v x = domain_in v x.book x.records x.requests x.table x.peers
-
--- all were visited
-pub so-far-all : {L : Type 0} (M : L → List LaneMove → L → Type 0) (v : L → LaneSeen) (old now : Parts L) (lines lines' : List Line) (i : ℕ) (begun : Bool) → SoFar M v old now lines lines' i begun → length old.peers ≤ i → VisitsAll M (view_of v old) (view_of v now) lines lines' begun
-so-far-all {L} M v old now lines lines' i begun so_far le =
-    let as_many : length now.peers ≡ length old.peers = sym (length-map now.peers (λ (p : Peer L). p.number)) ∙ ap (λ (ns : List ℕ). length ns) so_far.same ∙ length-map old.peers (λ (p : Peer L). p.number) in
-    let le' : length now.peers ≤ i = omega (arith, as_many, le) in
-    let olds = take_all i old.peers le in
-    let news = take_all i now.peers le' in
-    record {
-      visits = so_far.visits;
-      numbers = so_far.numbers;
-      turns = record {
-        allowed = record {
-          each_peer = so_far.each_peer ∙ ap (λ (ps : List (Peer L)). numbers_of ps) olds ∙ sym (numbers-seen v old.table old.peers);
-          allowed = so_far.allowed;
+  -- all were visited
+  pub so-far-all : (old now : Holding L) (lines lines' : List Line) (i : ℕ) (begun : Bool) → Sound old.parts → SoFar M old now lines lines' i begun → length old.parts.peers ≤ i → VisitsAll M (shown old) (shown now) lines lines' begun
+  so-far-all old now lines lines' i begun sound so_far le =
+      let ns = numbers_of old.parts.peers in
+      let each : map (λ (w : Visit). w.peer) so_far.visits ≡ ns = so_far.each_peer ∙ take_all i ns (let many = length-map old.parts.peers (λ x. x.number) in omega (arith, le, many)) in
+      record {
+        visits = so_far.visits;
+        numbers = so_far.numbers;
+        turns = record {
+          allowed = record { each_peer = each ∙ sym (numbers-in plain old.parts.table old.parts.peers); allowed = so_far.allowed };
+          state = sym so_far.state;
+          each = so_far.each;
+          moved = subst (λ zs. AllMoved M old.ends zs now.ends) (same_maps (all_moves so_far.steps) (moves_in so_far.visits so_far.numbers) so_far.moves_are ns ∙ turn-moves-are so_far.visits so_far.numbers ns so_far.each each sound.peers.rising) so_far.did.moved;
+          stays = so_far.stays;
+          stored = so_far.stored;
+          ids = so_far.ids;
         };
-        state = sym so_far.state;
-        each = so_far.each;
-        moved = subst (λ (ps : List (Peer L)). AllMoved M (ends_of old.peers) (turn_moves so_far.visits so_far.numbers) (ends_of ps)) news
-            (subst (λ (ps : List (Peer L)). AllMoved M (ends_of ps) (turn_moves so_far.visits so_far.numbers) (ends_of (take i now.peers))) olds so_far.moved);
-        stays = so_far.stays;
-        stored = so_far.stored;
-        ids = so_far.ids;
-      };
-      told = so_far.told;
-      begins = so_far.begins;
-    }
+        told = so_far.told;
+        begins = so_far.begins;
+      }
 
 -- ---- the turn with its line
 

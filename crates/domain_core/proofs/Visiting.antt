@@ -1,21 +1,115 @@
--- A visit by its parts.
-use Rattle.std.proofs.Common.{◌≡◌, ℕ, ◌+◌, ◌≤◌, Bool, true, false, List, [], ◌∷◌, ◌++◌, length, map, take, refl, sym, ap, ◌∙◌, arith, append_assoc, min}
-use Rattle.std.specs.Prelude.{not, ◌&&◌, ◌||◌, ◌==◌, if◌then◌else◌}
+-- Frames that are taken one after the other, and a visit by its parts.
+use Rattle.std.proofs.Common.{◌≡◌, ℕ, ◌+◌, ◌-◌, ◌<◌, ◌≤◌, Bool, true, false, List, [], ◌∷◌, ◌++◌, length, map, take, Some, None, refl, sym, ap, ◌∙◌, subst, arith, append_assoc, min}
+use Rattle.std.specs.Prelude.{not, ◌&&◌, ◌||◌, ◌==◌, if◌then◌else◌, slice_get}
 use Rattle.std.proofs.lemmas.Bool.{and_parts, eqb-true, true≢false}
-use Rattle.std.proofs.lemmas.List.{append-nil, take_min}
+use Rattle.std.proofs.lemmas.List.{append-nil, length_push, map-append, take_min}
+use Rattle.std.proofs.lemmas.Option.{slice_get-get_or}
+use Rattle.mc_base.specs.declared.fate.Fate.{Fate}
 use Rattle.lane_end.specs.SendMoves.{Looked}
+use Rattle.lane_end.specs.ReceiveMoves.{Gave, Took}
 use Rattle.lane_end.specs.ReceiveMoves as receiving
-use Rattle.buffer_book.specs.Book.{Book}
-use Rattle.endpoint_table.specs.Table as endpoint_table
-use Rattle.mc_base.specs.NameMap.{Names}
+use Rattle.board_model.specs.Dealing.{keeps_buffer}
+use Rattle.board_model.specs.Deeds.{Deed, after_deed, after_deeds, looks_ahead, looks_back, puts_owed, takes}
 use Rattle.board_model.specs.Journal.{Line, Visit, Taken, back_line, put_line, see_line, taken_line}
-use Rattle.domain_core.specs.LaneMoves.{LaneMove, sender, receiver}
-use Rattle.domain_core.specs.VisitMoves.{putting, taking}
+use Rattle.board_model.specs.State.{DomainState, held_from, is_numbered}
+use Rattle.board_model.specs.Turn.{nameless, takes_named}
+use Rattle.board_model.proofs.MessageLists.{get-position}
 use Rattle.domain_core.specs.Beginning.{beginning, look_lines}
-use Rattle.domain_core.specs.Dealt.{Scene, scene, Takes}
-use Rattle.domain_core.specs.Owed.{PutsDue, owed_frames, put_lines}
-use Rattle.domain_core.specs.Turned.{Standing, Visits}
+use Rattle.domain_core.specs.CallSteps.{Rests}
+use Rattle.domain_core.specs.Doing.{Doing, PutsDue, Takes, Visits}
+use Rattle.domain_core.specs.LaneMoves.{LaneMove, sender, receiver}
+use Rattle.domain_core.specs.LaneSeen.{LaneSeen, after_moves}
+use Rattle.domain_core.specs.Owed.{owed_frames, put_lines}
+use Rattle.domain_core.specs.Parts.{Holding, Sound, nobody, peer_at, plain, state_of}
+use Rattle.domain_core.specs.Peers.{peer_in}
+use Rattle.domain_core.specs.Sound.{IsSized}
+use Rattle.domain_core.specs.Stores.{AreStored, Stores}
+use Rattle.domain_core.specs.VisitMoves.{giving_back, putting, taking}
+use Rattle.domain_core.proofs.Owing.{free-put, owed-frames-are}
+use Rattle.domain_core.proofs.PeerPlaces.{All-at}
+use Rattle.domain_core.proofs.PeersAt.{find-place}
+use Rattle.domain_core.proofs.Storing.{Stores-more}
 use Rattle.domain_core.proofs.ToldTurns.{none-in}
+use Rattle.domain_core.proofs.Turning.{did-numbers, doing-ends, doing-none, doing-then, same-length, same-number, seen-then}
+
+-- ---- frames, and one more
+
+taking_push : (ns : List ℕ) (ts : List Taken) (n : ℕ) (t : Taken) → length ns ≡ length ts → taking (ns ++ n ∷ []) (ts ++ t ∷ []) ≡ taking ns ts ++ taking (n ∷ []) (t ∷ [])
+taking_push [] [] n t same = refl
+taking_push [] (u ∷ ts) n t same = absurd (omega (arith, same))
+taking_push (m ∷ ns) [] n t same = absurd (omega (arith, same))
+taking_push (m ∷ ns) (u ∷ ts) n t same =
+    ap (λ (xs : List LaneMove). receiver (Took m u.frame) ∷ (giving_back m u.fate ++ xs)) (taking_push ns ts n t (omega (arith, same)))
+    ∙ ap (λ (xs : List LaneMove). receiver (Took m u.frame) ∷ xs) (sym (append_assoc (giving_back m u.fate) (taking ns ts) (taking (n ∷ []) (t ∷ []))))
+
+named_push : (peer : ℕ) (ts us : List Taken) → takes_named nameless peer (ts ++ us) ≡ takes_named nameless peer ts ++ takes_named nameless peer us
+named_push peer [] us = refl
+named_push peer (t ∷ ts) us = ap (λ (ds : List Deed). takes peer None t.frame t.fate ∷ ds) (named_push peer ts us)
+
+one_only : {X : Type 0} (xs : List X) → length xs ≡ 1 → (x : X) × (xs ≡ x ∷ [])
+one_only [] e = absurd (omega (arith, e))
+one_only (x ∷ []) e = (x, refl)
+one_only (x ∷ y ∷ xs) e = absurd (omega (arith, e))
+
+-- as many fewer are shown
+given_shown : (n : ℕ) (fate : Fate) (l : LaneSeen) → (after_moves (giving_back n fate) l).shown ≡ l.shown
+given_shown n fate l = go (keeps_buffer fate)
+  where
+    go : (b : Bool) → (after_moves (if b then [] else receiver (Gave n) ∷ []) l).shown ≡ l.shown
+    go true = refl
+    go false = refl
+
+pub taken-shown : (ns : List ℕ) (ts : List Taken) (l : LaneSeen) → length ns ≡ length ts → (after_moves (taking ns ts) l).shown ≡ l.shown - length ts
+taken-shown [] [] l same = omega arith
+taken-shown [] (t ∷ ts) l same = absurd (omega (arith, same))
+taken-shown (n ∷ ns) [] l same = absurd (omega (arith, same))
+taken-shown (n ∷ ns) (t ∷ ts) l same =
+    let took = record l { shown = l.shown - 1; out = l.out ++ n ∷ [] } in
+    let rest = taken-shown ns ts (after_moves (giving_back n t.fate) took) (omega (arith, same)) in
+    let split = ap (λ (x : LaneSeen). x.shown) (seen-then (giving_back n t.fate) (taking ns ts) took) in
+    let given = given_shown n t.fate took in
+    omega (arith, rest, split, given)
+
+module _ {L : Type 0} (M : L → List LaneMove → L → Type 0) where
+  pub Takes-none : (i : ℕ) (h : Holding L) (lines : List Line) → Rests M h → Takes M i 0 h h lines lines
+  Takes-none i h lines rests = record { takes = []; numbers = []; many = refl; each = refl; doing = doing-none M (peer_at h.parts i).number h rests; stored = tt; told = sym (append-nil lines) }
+
+  pub Takes-more : ((a b c : L) (xs ys : List LaneMove) → M a xs b → M b ys c → M a (xs ++ ys) c) → (i k : ℕ) (a b c : Holding L) (ls ls' ls'' : List Line) → Takes M i k a b ls ls' → Takes M i 1 b c ls' ls'' → Takes M i (k + 1) a c ls ls''
+  Takes-more both i k a b c ls ls' ls'' so_far one =
+      let peer = (peer_at a.parts i).number in
+      let same_peer : (peer_at b.parts i).number ≡ peer = same-number a.parts b.parts i (did-numbers M so_far.doing.steps a b so_far.doing.did) in
+      let t1 = one_only one.takes one.many in
+      let n1 = one_only one.numbers one.each in
+      let t = t1.0 in
+      let n = n1.0 in
+      let ts = so_far.takes in
+      let ns = so_far.numbers in
+      let same : length ns ≡ length ts = so_far.each ∙ sym so_far.many in
+      let last : Doing M peer (takes_named nameless peer (t ∷ [])) (taking (n ∷ []) (t ∷ [])) b c =
+      subst (λ (xs : List ℕ). Doing M peer (takes_named nameless peer (t ∷ [])) (taking xs (t ∷ [])) b c) n1.1
+      (subst (λ (xs : List Taken). Doing M peer (takes_named nameless peer xs) (taking one.numbers xs) b c) t1.1
+      (subst (λ (m : ℕ). Doing M m (takes_named nameless m one.takes) (taking one.numbers one.takes) b c) same_peer one.doing)) in
+      let stored : Stores peer (n ∷ []) (t ∷ []) b.parts.book c.parts.book = record {
+        stays = last.stays;
+        stored = subst (λ (xs : List ℕ). AreStored peer xs (t ∷ []) c.parts.book) n1.1
+            (subst (λ (xs : List Taken). AreStored peer one.numbers xs c.parts.book) t1.1
+            (subst (λ (m : ℕ). AreStored m one.numbers one.takes c.parts.book) same_peer one.stored));
+      } in
+      let told : ls'' ≡ ls' ++ taken_line peer t ∷ [] = one.told ∙ ap (λ (m : ℕ). ls' ++ map (taken_line m) one.takes) same_peer ∙ ap (λ (xs : List Taken). ls' ++ map (taken_line peer) xs) t1.1 in
+      record {
+        takes = ts ++ t ∷ [];
+        numbers = ns ++ n ∷ [];
+        many = length_push ts t ∙ ap (λ (j : ℕ). j + 1) so_far.many;
+        each = length_push ns n ∙ ap (λ (j : ℕ). j + 1) so_far.each;
+        doing = subst (λ (ds : List Deed). Doing M peer ds (taking (ns ++ n ∷ []) (ts ++ t ∷ [])) a c) (sym (named_push peer ts (t ∷ [])))
+            (subst (λ (ms : List LaneMove). Doing M peer (takes_named nameless peer ts ++ takes_named nameless peer (t ∷ [])) ms a c) (sym (taking_push ns ts n t same))
+            (doing-then M both peer (takes_named nameless peer ts) (takes_named nameless peer (t ∷ [])) (taking ns ts) (taking (n ∷ []) (t ∷ [])) a b c so_far.doing last));
+        stored = (Stores-more peer ns ts n t a.parts.book b.parts.book c.parts.book same (record { stays = so_far.doing.stays; stored = so_far.stored }) stored).stored;
+        told = told
+            ∙ ap (λ (xs : List Line). xs ++ taken_line peer t ∷ []) so_far.told
+            ∙ append_assoc ls (map (taken_line peer) ts) (taken_line peer t ∷ [])
+            ∙ ap (λ (xs : List Line). ls ++ xs) (sym (map-append (taken_line peer) ts (t ∷ [])));
+      }
 
 -- ---- lines, of which the turn's own is noted before the first
 
@@ -87,10 +181,10 @@ after-four ls bs cs ds es = append_assoc ((ls ++ bs) ++ cs) ds es ∙ append_ass
 
 -- ---- the visit
 
-none-seen : (see : ℕ) (takes : List Taken) → length takes ≡ min 8 see → (see == 0) ≡ true → (length takes == 0) ≡ true
-none-seen see takes many e =
+none-seen : (see : ℕ) (ts : List Taken) → length ts ≡ min 8 see → (see == 0) ≡ true → (length ts == 0) ≡ true
+none-seen see ts many e =
     let none = eqb-true see 0 e in
-    let no_takes : length takes ≡ 0 = omega (arith, many, none) in
+    let no_takes : length ts ≡ 0 = omega (arith, many, none) in
     ap (λ (n : ℕ). n == 0) no_takes
 
 -- as many as are due are the first that are owed
@@ -99,52 +193,82 @@ due-first free fs owed first many =
     let same : length fs ≡ min (min 8 free) (length owed) = omega (arith, many) in
     first ∙ ap (λ (n : ℕ). take n owed) same ∙ take_min (min 8 free) owed
 
+-- looks and owed frames change nothing of what is held
+held_same : (n peer back : ℕ) (fs : List (List ℕ)) (s : DomainState) → held_from n (after_deeds s (map (puts_owed peer) fs)) ≡ held_from n s
+held_same n peer back [] s = refl
+held_same n peer back (f ∷ fs) s = held_same n peer back fs (after_deed s (puts_owed peer f))
+
 module _ {L : Type 0} (M : L → List LaneMove → L → Type 0) (m-both : (a b c : L) (xs ys : List LaneMove) → M a xs b → M b ys c → M a (xs ++ ys) c) where
   -- a look at the buffers, what is put, a look at the frames, and what is taken, with the lines after each
-  pub visited : (peer back see count : ℕ) (begun begun1 begun2 begun3 : Bool) (at at' : Standing) (free free' : ℕ) (s t : Scene) (lines1 lines2 lines3 : List Line) (owing owing' : endpoint_table.Table) (names names' : Names) (b b' : Book) (x y z w u : L)
-      → M x (sender (Looked back) ∷ []) y → lines1 ≡ s.lines ++ look_lines begun (back_line peer) back → begun1 ≡ (begun || not (back == 0))
-      → PutsDue M peer begun1 begun2 free free' owing owing' lines1 lines2 y z
-      → M z (receiver (receiving.Looked see) ∷ []) w → lines3 ≡ lines2 ++ look_lines begun2 (see_line peer) see → begun3 ≡ (begun2 || not (see == 0))
-      → Takes M peer count (scene s.table lines3) t names names' b b' w u → count ≡ min 8 see
-      → free ≡ at.free + back → at'.free ≡ free' → at.free + back ≤ at.size_to → at.shown ≤ see → at.out + see ≤ at.size_from → see ≡ at'.shown + count → at'.size_to ≡ at.size_to → at'.size_from ≡ at.size_from
-      → Visits M peer begun begun3 at at' s t owing owing' names names' b b' x u
-  visited peer back see count begun begun1 begun2 begun3 at at' free free' s t lines1 lines2 lines3 owing owing' names names' b b' x y z w u looked-back told1 begins1 due looked-ahead told3 begins3 took counted free_is left fits shown room left_shown size_to size_from =
+  pub visited : (i back see count : ℕ) (begun begun1 begun2 begun3 : Bool) (a b c d e : Holding L) (ls ls1 ls2 ls3 ls4 : List Line) → i < length a.parts.peers → Sound a.parts
+      → Doing M (peer_at a.parts i).number (looks_back (peer_at a.parts i).number back ∷ []) (sender (Looked back) ∷ []) a b → (peer_at a.parts i).ends.free + back ≤ (peer_at a.parts i).ends.size_from → b.parts.table ≡ a.parts.table
+      → ls1 ≡ ls ++ look_lines begun (back_line (peer_at a.parts i).number) back → begun1 ≡ (begun || not (back == 0))
+      → PutsDue M i begun1 begun2 b c ls1 ls2
+      → Doing M (peer_at c.parts i).number (looks_ahead (peer_at c.parts i).number see ∷ []) (receiver (receiving.Looked see) ∷ []) c d → (peer_at c.parts i).ends.shown ≤ see → see + held_from (peer_at c.parts i).number (state_of c.parts) ≤ (peer_at c.parts i).ends.size_from
+      → ls3 ≡ ls2 ++ look_lines begun2 (see_line (peer_at a.parts i).number) see → begun3 ≡ (begun2 || not (see == 0))
+      → Takes M i count d e ls3 ls4 → count ≡ min 8 see
+      → Visits M i begun begun3 a e ls ls4
+  visited i back see count begun begun1 begun2 begun3 a b c d e ls ls1 ls2 ls3 ls4 within sound looked_back fits table told1 begins1 due looked_ahead shown room told3 begins3 took counted =
+      let p = a.parts in
+      let x = peer_at p i in
+      let peer = x.number in
       let fs = due.frames in
+      let bs = did-numbers M looked_back.steps a b looked_back.did in
+      let cs = did-numbers M due.puts.doing.steps b c due.puts.doing.did ∙ bs in
+      let ds = did-numbers M looked_ahead.steps c d looked_ahead.did ∙ cs in
+      let b_peer : (peer_at b.parts i).number ≡ peer = same-number p b.parts i bs in
+      let c_peer : (peer_at c.parts i).number ≡ peer = same-number p c.parts i cs in
+      let d_peer : (peer_at d.parts i).number ≡ peer = same-number p d.parts i ds in
+      let puts : Doing M peer (map (puts_owed peer) fs) (putting fs) b c = subst (λ (n : ℕ). Doing M n (map (puts_owed n) fs) (putting fs) b c) b_peer due.puts.doing in
+      let ahead : Doing M peer (looks_ahead peer see ∷ []) (receiver (receiving.Looked see) ∷ []) c d = subst (λ (n : ℕ). Doing M n (looks_ahead n see ∷ []) (receiver (receiving.Looked see) ∷ []) c d) c_peer looked_ahead in
+      let taken : Doing M peer (takes_named nameless peer took.takes) (taking took.numbers took.takes) d e = subst (λ (n : ℕ). Doing M n (takes_named nameless n took.takes) (taking took.numbers took.takes) d e) d_peer took.doing in
       let v : Visit = record { peer = peer; back = back; owed = fs; see = see; takes = took.takes } in
-      let many : length took.takes ≡ min 8 see = took.many ∙ counted in
+      let last_two = doing-then M m-both peer (looks_ahead peer see ∷ []) (takes_named nameless peer took.takes) (receiver (receiving.Looked see) ∷ []) (taking took.numbers took.takes) c d e ahead taken in
+      let last_three = doing-then M m-both peer (map (puts_owed peer) fs) (looks_ahead peer see ∷ takes_named nameless peer took.takes) (putting fs) (receiver (receiving.Looked see) ∷ taking took.numbers took.takes) b c e puts last_two in
+      let all = doing-then M m-both peer (looks_back peer back ∷ []) (map (puts_owed peer) fs ++ (looks_ahead peer see ∷ takes_named nameless peer took.takes)) (sender (Looked back) ∷ []) (putting fs ++ (receiver (receiving.Looked see) ∷ taking took.numbers took.takes)) a b e looked_back last_three in
+      let within_b : i < length b.parts.peers = (let long = same-length p b.parts bs in omega (arith, long, within)) in
+      let b_ends : (peer_at b.parts i).ends ≡ record (x.ends) { free = x.ends.free + back } = doing-ends M (looks_back peer back ∷ []) (sender (Looked back) ∷ []) a b i within looked_back in
+      let c_ends : (peer_at c.parts i).ends ≡ after_moves (putting fs) (peer_at b.parts i).ends = doing-ends M (map (puts_owed (peer_at b.parts i).number) fs) (putting fs) b c i within_b due.puts.doing in
+      let c_seen : (peer_at c.parts i).ends ≡ record (x.ends) { free = x.ends.free + back - length fs } = c_ends ∙ ap (after_moves (putting fs)) b_ends ∙ free-put fs (record (x.ends) { free = x.ends.free + back }) in
+      let there : slice_get p.peers i ≡ Some x = slice_get-get_or p.peers i nobody within in
+      let sized = All-at (IsSized plain) p.peers i x sound.peers.sizes there in
+      let owed_now : owed_frames b.parts.table (peer_at b.parts i).number ≡ owed_frames p.table peer = ap (λ (n : ℕ). owed_frames b.parts.table n) b_peer ∙ ap (λ t. owed_frames t peer) table in
+      let free_now : (peer_at b.parts i).ends.free ≡ x.ends.free + back = ap (λ (l : LaneSeen). l.free) b_ends in
+      let first : fs ≡ take (length fs) (owed_frames p.table peer) = due.puts.first ∙ ap (take (length fs)) owed_now in
+      let many : length fs ≡ min 8 (min (x.ends.free + back) (length (owed_frames p.table peer))) = due.many ∙ ap (λ (os : List (List ℕ)). min 8 (min (peer_at b.parts i).ends.free (length os))) owed_now ∙ ap (λ (n : ℕ). min 8 (min n (length (owed_frames p.table peer)))) free_now in
+      let held : held_from peer (state_of c.parts) ≡ held_from peer (state_of p) = ap (held_from peer) (puts.state ∙ ap (λ (s : DomainState). after_deeds s (map (puts_owed peer) fs)) looked_back.state) ∙ held_same peer peer back fs (after_deed (state_of p) (looks_back peer back)) in
+      let takes_many : length took.takes ≡ min 8 see = took.many ∙ counted in
       let last : List Line = map (taken_line peer) took.takes in
-      let first : List Line = look_lines begun (back_line peer) back in
-      let no_takes : (length took.takes == 0) ≡ true → last ≡ [] = λ e. ap (λ (ts : List Taken). map (taken_line peer) ts) (none-in took.takes e) in
-      let no_puts : (length fs == 0) ≡ true → map (put_line peer) fs ≡ [] = λ e. ap (λ (gs : List (List ℕ)). map (put_line peer) gs) (none-in fs e) in
-      let begins2 : begun2 ≡ ((begun || not (back == 0)) || not (length fs == 0)) = due.begins ∙ ap (λ (c : Bool). c || not (length fs == 0)) begins1 in
+      let front : List Line = look_lines begun (back_line peer) back in
+      let no_takes : (length took.takes == 0) ≡ true → last ≡ [] = λ z. ap (λ (ts : List Taken). map (taken_line peer) ts) (none-in took.takes z) in
+      let no_puts : (length fs == 0) ≡ true → map (put_line peer) fs ≡ [] = λ z. ap (λ (gs : List (List ℕ)). map (put_line peer) gs) (none-in fs z) in
+      let begins2 : begun2 ≡ ((begun || not (back == 0)) || not (length fs == 0)) = due.begins ∙ ap (λ (z : Bool). z || not (length fs == 0)) begins1 in
+      let told2 : ls2 ≡ ls1 ++ put_lines begun1 peer fs = due.puts.told ∙ ap (λ (n : ℕ). ls1 ++ put_lines begun1 n fs) b_peer in
+      let told4 : ls4 ≡ ls3 ++ last = took.told ∙ ap (λ (n : ℕ). ls3 ++ map (taken_line n) took.takes) d_peer in
       record {
         visit = v;
         numbers = took.numbers;
         peer_is = refl;
-        many = many;
+        allowed = record {
+          at = peer_in plain p.table x;
+          known = get-position (is_numbered peer) (state_of p).peers ∙ find-place plain p.table i p.peers x sound.peers.rising there;
+          back_fits = omega (arith, fits);
+          puts_due = due-first (x.ends.free + back) fs (owed_frames p.table peer) first many ∙ ap (take (min 8 (x.ends.free + back))) (sym (owed-frames-are p x));
+          sees_shown = let same = ap (λ (l : LaneSeen). l.shown) c_seen in omega (arith, shown, same);
+          see_fits = let same = ap (λ (l : LaneSeen). l.size_from) c_seen in let number = ap (λ (n : ℕ). held_from n (state_of c.parts)) c_peer in omega (arith, room, same, held, number);
+          takes_first = takes_many;
+          may = all.may;
+        };
         each = took.each ∙ sym took.many;
-        back_fits = fits;
-        puts_due = due-first free fs (owed_frames owing peer) due.puts.first due.many ∙ ap (λ (n : ℕ). take (min 8 n) (owed_frames owing peer)) free_is;
-        sees_shown = shown;
-        see_fits = room;
-        left_free = let many_put = due.left in omega (arith, left, many_put, free_is);
-        left_shown = omega (arith, left_shown, took.many);
-        size_to = size_to;
-        size_from = size_from;
-        moved = m-both x y u (sender (Looked back) ∷ []) (putting fs ++ receiver (receiving.Looked see) ∷ taking took.numbers took.takes) looked-back
-            (m-both y z u (putting fs) (receiver (receiving.Looked see) ∷ taking took.numbers took.takes) due.puts.moved
-            (m-both z w u (receiver (receiving.Looked see) ∷ []) (taking took.numbers took.takes) looked-ahead took.moved));
-        paid = due.puts.table;
-        seen = took.seen;
-        rest = took.rest;
-        stored = took.stored;
+        doing = all;
+        stored = subst (λ (n : ℕ). AreStored n took.numbers took.takes e.parts.book) d_peer took.stored;
         told =
-            took.told
-            ∙ ap (λ (ls : List Line). ls ++ last) (told3 ∙ ap (λ (ls : List Line). ls ++ look_lines begun2 (see_line peer) see) (due.puts.told ∙ ap (λ (ls : List Line). ls ++ put_lines begun1 peer fs) told1))
-            ∙ after-four s.lines first (put_lines begun1 peer fs) (look_lines begun2 (see_line peer) see) last
-            ∙ ap (λ (c : Bool). s.lines ++ (first ++ (put_lines c peer fs ++ (look_lines begun2 (see_line peer) see ++ last)))) begins1
-            ∙ ap (λ (c : Bool). s.lines ++ (first ++ (put_lines (begun || not (back == 0)) peer fs ++ (look_lines c (see_line peer) see ++ last)))) begins2
-            ∙ ap (λ (ls : List Line). s.lines ++ (first ++ (ls ++ (look_lines ((begun || not (back == 0)) || not (length fs == 0)) (see_line peer) see ++ last)))) (puts-told (begun || not (back == 0)) peer fs)
-            ∙ ap (λ (ls : List Line). s.lines ++ ls) (all-told begun (back == 0) (length fs == 0) (see == 0) (length took.takes == 0) (back_line peer back ∷ []) (map (put_line peer) fs) (see_line peer see ∷ []) last no_puts (none-seen see took.takes many) no_takes);
-        begins = begins3 ∙ ap (λ (c : Bool). c || not (see == 0)) begins2 ∙ all-begun begun (back == 0) (length fs == 0) (see == 0) (length took.takes == 0) (none-seen see took.takes many);
+            told4
+            ∙ ap (λ (zs : List Line). zs ++ last) (told3 ∙ ap (λ (zs : List Line). zs ++ look_lines begun2 (see_line peer) see) (told2 ∙ ap (λ (zs : List Line). zs ++ put_lines begun1 peer fs) told1))
+            ∙ after-four ls front (put_lines begun1 peer fs) (look_lines begun2 (see_line peer) see) last
+            ∙ ap (λ (z : Bool). ls ++ (front ++ (put_lines z peer fs ++ (look_lines begun2 (see_line peer) see ++ last)))) begins1
+            ∙ ap (λ (z : Bool). ls ++ (front ++ (put_lines (begun || not (back == 0)) peer fs ++ (look_lines z (see_line peer) see ++ last)))) begins2
+            ∙ ap (λ (zs : List Line). ls ++ (front ++ (zs ++ (look_lines ((begun || not (back == 0)) || not (length fs == 0)) (see_line peer) see ++ last)))) (puts-told (begun || not (back == 0)) peer fs)
+            ∙ ap (λ (zs : List Line). ls ++ zs) (all-told begun (back == 0) (length fs == 0) (see == 0) (length took.takes == 0) (back_line peer back ∷ []) (map (put_line peer) fs) (see_line peer see ∷ []) last no_puts (none-seen see took.takes takes_many) no_takes);
+        begins = begins3 ∙ ap (λ (z : Bool). z || not (see == 0)) begins2 ∙ all-begun begun (back == 0) (length fs == 0) (see == 0) (length took.takes == 0) (none-seen see took.takes takes_many);
       }

@@ -14,9 +14,6 @@ pub mod InBook
 pub mod InRequests
 pub mod InPlaces
 pub mod Stores
-pub mod Seen
-pub mod Dealt
-pub mod Announced
 pub mod Owed
 pub mod Peers
 pub mod AllMoved
@@ -28,6 +25,8 @@ pub mod Calls
 pub mod Parts
 pub mod Steps
 pub mod CallSteps
+pub mod Verdicts
+pub mod Doing
 pub mod HoldingParts
 pub mod GivingBack
 pub mod Opening

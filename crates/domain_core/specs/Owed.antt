@@ -1,15 +1,12 @@
 -- The announcements that a visit puts: frames of what the table of endpoints owes to a linked domain.
 -- Source: docs/PROFILE.md, "A turn" and "Names".
-use Rattle.std.specs.Prelude.{◌≡◌, ℕ, zero, suc, ◌+◌, Bool, List, [], ◌∷◌, ◌++◌, min, not, ◌||◌, length, map, take, ◌==◌, Option, None, Some, if◌then◌else◌}
+use Rattle.std.specs.Prelude.{ℕ, zero, suc, Bool, List, [], ◌∷◌, ◌++◌, map, Option, None, Some, if◌then◌else◌}
 use Rattle.mc_base.specs.Limits.{name_service_address}
 use Rattle.mc_base.specs.Frame.{made}
 use Rattle.mc_base.specs.Announcement.{announcement}
 use Rattle.endpoint_table.specs.declared.announced.Announced.{Announced}
 use Rattle.endpoint_table.specs.Table.{Owing, Table, name_of, owing_to, paid_to}
 use Rattle.board_model.specs.Journal.{Line, put_line}
-use Rattle.board_model.specs.Turn.{turn_limit}
-use Rattle.domain_core.specs.LaneMoves.{LaneMove}
-use Rattle.domain_core.specs.VisitMoves.{putting}
 use Rattle.domain_core.specs.Beginning.{beginning}
 
 -- the frame of an announcement: from the endpoint's address to the name service
@@ -33,21 +30,6 @@ paid_times (suc n) t peer = paid_times n (paid_to t peer) peer
 abbrev pub put_lines : Bool → ℕ → List (List ℕ) → List Line
 put_lines begun peer [] = []
 put_lines begun peer (f ∷ fs) = beginning begun ++ map (put_line peer) (f ∷ fs)
-
--- these frames, which are the first that are owed, are put
-pub record PutsOwed {L : Type 0} (Moved : L → List LaneMove → L → Type 0) (peer : ℕ) (begun : Bool) (frames : List (List ℕ)) (old new : Table) (lines lines' : List Line) (before after : L) : Type 0 where
-  pub first : frames ≡ take (length frames) (owed_frames old peer)
-  pub moved : Moved before (putting frames) after
-  pub table : new ≡ paid_times (length frames) old peer
-  pub told : lines' ≡ lines ++ put_lines begun peer frames
-
--- all that a visit must put: as many as are owed and as buffers are free, and not over 8. Each takes a free buffer
-pub record PutsDue {L : Type 0} (Moved : L → List LaneMove → L → Type 0) (peer : ℕ) (begun begun' : Bool) (free free' : ℕ) (old new : Table) (lines lines' : List Line) (before after : L) : Type 0 where
-  pub frames : List (List ℕ)
-  pub puts : PutsOwed Moved peer begun frames old new lines lines' before after
-  pub many : length frames ≡ min turn_limit (min free (length (owed_frames old peer)))
-  pub left : free ≡ free' + length frames
-  pub begins : begun' ≡ (begun || not (length frames == 0))
 
 -- the room that an entry needs, with the line of a turn that begins with it
 abbrev pub room_for : Bool → ℕ

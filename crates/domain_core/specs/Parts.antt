@@ -1,7 +1,7 @@
 -- The inside of a domain as one value: its parts as plain data, with the ends towards its peers beside them.
 -- Source: docs/PROFILE.md, "A domain" and "Lanes". Ends move by the moves of their lanes. What is seen of them changes by a function
 -- of each move.
-use Rattle.std.specs.Prelude.{List, map}
+use Rattle.std.specs.Prelude.{ℕ, List, [], map, slice_index_or}
 use Rattle.buffer_book.specs.Book.{Book}
 use Rattle.request_set.specs.Requests.{Requests}
 use Rattle.endpoint_table.specs.Table as endpoint_table
@@ -39,6 +39,13 @@ state_of p = state_in plain p.book p.records p.requests p.table p.peers
 
 abbrev pub Sound : Parts → Type 0
 Sound p = AreSound plain p.book p.records p.requests p.table p.peers
+
+-- the peer at a place, and none where there is no such place
+abbrev pub nobody : Peer LaneSeen
+nobody = record { number = 0; ends = record { size_to = 0; size_from = 0; free = 0; shown = 0; out = [] }; known = [] }
+
+abbrev pub peer_at : Parts → ℕ → Peer LaneSeen
+peer_at p i = slice_index_or p.peers i nobody
 
 -- the parts with the ends towards each peer, in the order of the peers
 pub record Holding (L : Type 0) : Type 0 where

@@ -1,34 +1,44 @@
 -- The steps that a domain makes inside, and what each does to its parts and at the ends towards its peers.
 -- Source: docs/PROFILE.md, "Calls". A step names the place, the slot and the request that it is about, so that it tells the number of
 -- each buffer that is given back.
-use Rattle.std.specs.Prelude.{◌≡◌, ℕ, ◌+◌, ◌%◌, ◌^◌, ◌==◌, cond, List, [], ◌∷◌, ◌++◌, map, Option, Some}
+use Rattle.std.specs.Prelude.{◌≡◌, ℕ, ◌+◌, ◌%◌, ◌^◌, ◌==◌, cond, List, [], ◌∷◌, ◌++◌, map, take, Option, Some}
 use Rattle.mc_base.specs.FullName.{end_name}
+use Rattle.mc_base.specs.NameMap.{Names}
+use Rattle.mc_base.specs.Stored.{Stored}
+use Rattle.mc_base.specs.declared.name.EndName.{EndName}
 use Rattle.mc_base.specs.declared.name.Local.{Local}
 use Rattle.mc_base.specs.declared.refusal.Refusal.TheVariants.{EndpInvalid}
 use Rattle.mc_base.specs.declared.request.RequestId.{RequestId}
 use Rattle.mc_base.specs.declared.request.Slot.{Slot}
-use Rattle.lane_end.specs.SendMoves.{Sent}
-use Rattle.lane_end.specs.ReceiveMoves.{Gave}
+use Rattle.lane_end.specs.SendMoves.{Looked, Sent}
+use Rattle.lane_end.specs.ReceiveMoves.{Gave, Took}
+use Rattle.lane_end.specs.ReceiveMoves as receiving
 use Rattle.board_model.specs.Lists as lists
-use Rattle.buffer_book.specs.Book.{Book, with_away}
+use Rattle.buffer_book.specs.Book.{Book, queued_in, with_away, with_queued}
 use Rattle.endpoint_table.specs.Table as endpoint_table
 use Rattle.request_set.specs.declared.ask.Ask.{Ask}
 use Rattle.request_set.specs.declared.ask.Ask.TheVariants as ask
 use Rattle.request_set.specs.declared.ask.Complete.{Complete}
 use Rattle.request_set.specs.declared.ask.Complete.TheVariants as complete
-use Rattle.request_set.specs.Requests.{Requests}
+use Rattle.request_set.specs.Requests.{Requests, with_complete}
+use Rattle.message_queue.specs.Queue.{waiting}
 use Rattle.domain_core.specs.LaneSeen.{LaneSeen, after_moves}
 use Rattle.domain_core.specs.declared.peer.Peer.{Peer}
 use Rattle.domain_core.specs.declared.requests.Waiters.TheVariants as waiters
 use Rattle.domain_core.specs.AllMoved.{AllMoved, numbers_of}
+use Rattle.domain_core.specs.InPlaces.{slot_at}
 use Rattle.domain_core.specs.InRequests.{with_all_complete}
 use Rattle.domain_core.specs.LaneMoves.{LaneMove, sender, receiver}
 use Rattle.domain_core.specs.Parts.{Holding, Parts}
-use Rattle.domain_core.specs.Records.{Records, with_best_taken_at, with_oldest_taken_at, with_record, without_record_at}
+use Rattle.domain_core.specs.Records.{Records, with_best_taken_at, with_oldest_taken_at, with_record, with_waiting_at, without_record_at}
 
 -- each peer, after the moves at the peer of its number
 abbrev pub moved_peer : (ℕ → List LaneMove) → Peer LaneSeen → Peer LaneSeen
 moved_peer moves p = record p { ends = after_moves (moves p.number) p.ends }
+
+-- these names are known of the peer of this number
+abbrev pub told_peer : ℕ → Names → Peer LaneSeen → Peer LaneSeen
+told_peer peer names p = record p { known = cond (peer == p.number) names p.known }
 
 -- ---- steps
 
@@ -49,11 +59,27 @@ pub data Step : Type 0 where
   -- the request at a place is gone, and with it the message that it held, which is in this slot
   request_ended : Option ℕ → Step
   message_ended : Option ℕ → Slot → Step
+  -- at a peer a look shows so many buffers that came back; the oldest announcement that is owed is put, in this frame; a look shows so
+  -- many frames
+  looked_back : ℕ → ℕ → Step
+  owed_put : ℕ → List ℕ → Step
+  looked_ahead : ℕ → ℕ → Step
+  -- The oldest frame of a peer is taken: so many of the first bytes of this buffer. Its message, of this size, is last in the queue at a
+  -- place, with this priority; or the request with this id, which asks for so many bytes at most, is complete with it
+  frame_queued : ℕ → Stored → ℕ → ℕ → ℕ → ℕ → Step
+  frame_handed : ℕ → Stored → ℕ → ℕ → RequestId → ℕ → Step
+  -- it is taken in the buffer of this number, which is given back at once
+  frame_returned : ℕ → ℕ → List ℕ → Step
+  -- these names are known of a peer; lookups of a name are complete with its address
+  names_told : ℕ → Names → Step
+  name_told : EndName → ℕ → Step
 
 abbrev pub book_after : Step → Book → Book
 book_after (best_dropped i s) b = with_away b s
 book_after (oldest_dropped i s) b = with_away b s
 book_after (message_ended place s) b = with_away b s
+book_after (frame_queued peer buffer len size i priority) b = with_queued b (slot_at peer buffer.number) (queued_in buffer 24 size)
+book_after (frame_handed peer buffer len size id max) b = with_queued b (slot_at peer buffer.number) (queued_in buffer 24 size)
 book_after other b = b
 
 abbrev pub records_after : Step → Records → Records
@@ -62,6 +88,7 @@ records_after (endpoint_gone i at) r = without_record_at r i
 records_after (best_dropped i s) r = with_best_taken_at r i
 records_after (oldest_dropped i s) r = with_oldest_taken_at r i
 records_after (receive_begun i s id at max) r = with_best_taken_at r i
+records_after (frame_queued peer buffer len size i priority) r = with_waiting_at r i (waiting (slot_at peer buffer.number) priority)
 records_after other r = r
 
 -- one request more, last, and one less
@@ -78,11 +105,14 @@ requests_after (request_begun id a o) q = with_last q id a o
 requests_after (receive_begun i s id at max) q = with_last q id (ask.Message at max) (Some (complete.Message s max))
 requests_after (request_ended place) q = without_at q place
 requests_after (message_ended place s) q = without_at q place
+requests_after (frame_handed peer buffer len size id max) q = with_complete q id (complete.Message (slot_at peer buffer.number) max)
+requests_after (name_told name address) q = with_all_complete q (waiters.Lookups name) (complete.Address address)
 requests_after other q = q
 
 abbrev pub table_after : Step → endpoint_table.Table → endpoint_table.Table
 table_after (endpoint_made domain at address) t = endpoint_table.created t at
 table_after (endpoint_gone i at) t = endpoint_table.deleted t at
+table_after (owed_put peer frame) t = endpoint_table.paid_to t peer
 table_after other t = t
 
 -- moves at one peer, by its number
@@ -95,11 +125,21 @@ step_moves (best_dropped i s) n = at_peer s.peer (receiver (Gave s.buffer) ∷ [
 step_moves (oldest_dropped i s) n = at_peer s.peer (receiver (Gave s.buffer) ∷ []) n
 step_moves (message_ended place s) n = at_peer s.peer (receiver (Gave s.buffer) ∷ []) n
 step_moves (frame_put peer frame) n = at_peer peer (sender (Sent frame) ∷ []) n
+step_moves (looked_back peer count) n = at_peer peer (sender (Looked count) ∷ []) n
+step_moves (owed_put peer frame) n = at_peer peer (sender (Sent frame) ∷ []) n
+step_moves (looked_ahead peer count) n = at_peer peer (receiver (receiving.Looked count) ∷ []) n
+step_moves (frame_queued peer buffer len size i priority) n = at_peer peer (receiver (Took buffer.number (take len buffer.bytes)) ∷ []) n
+step_moves (frame_handed peer buffer len size id max) n = at_peer peer (receiver (Took buffer.number (take len buffer.bytes)) ∷ []) n
+step_moves (frame_returned peer number frame) n = at_peer peer (receiver (Took number frame) ∷ receiver (Gave number) ∷ []) n
 step_moves other n = []
+
+abbrev pub peers_after : Step → List (Peer LaneSeen) → List (Peer LaneSeen)
+peers_after (names_told peer names) ps = map (told_peer peer names) ps
+peers_after other ps = map (moved_peer (step_moves other)) ps
 
 -- what a step leaves of the parts, and what steps leave, one after the other
 abbrev pub done : Step → Parts → Parts
-done c p = record p { book = book_after c p.book; records = records_after c p.records; requests = requests_after c p.requests; table = table_after c p.table; peers = map (moved_peer (step_moves c)) p.peers }
+done c p = record p { book = book_after c p.book; records = records_after c p.records; requests = requests_after c p.requests; table = table_after c p.table; peers = peers_after c p.peers }
 
 abbrev pub done_all : List Step → Parts → Parts
 done_all [] p = p

@@ -22,13 +22,6 @@ pub record Table : Type 0 where
 abbrev pub holding : List Endpoint → DomainState
 holding es = record { number = 0; nodes = 0; endpoints = es; ended = []; peers = []; requests = []; lent = []; endpoints_given = 0; channels_given = 0; requests_given = 0; packets_lent = 0 }
 
--- a domain of which only the endpoints and the requests matter
-abbrev pub keeping : Held → DomainState
-keeping h = record (holding h.endpoints) { requests = h.requests }
-
-abbrev pub held_in : DomainState → Held
-held_in s = record { endpoints = s.endpoints; requests = s.requests }
-
 -- the items in the queues
 abbrev pub items_in : List Endpoint → List Item
 items_in es = flat_map (λ e. e.queue) es

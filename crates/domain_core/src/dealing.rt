@@ -1,22 +1,20 @@
 //! What becomes of a frame that is taken.
 
-ghost use Rattle.std.specs.Prelude.{◌≡◌, ℕ, None, true, map};
+ghost use Rattle.std.specs.Prelude.{◌≡◌, ℕ, map};
+ghost use Rattle.mc_base.specs.Letter.{plain_letter};
+ghost use Rattle.mc_base.specs.NameMap.{Names};
 ghost use Rattle.buffer_book.specs.Book.{Book};
-ghost use Rattle.mc_base.specs.FaultRow.{first_fault};
-ghost use Rattle.mc_base.specs.Frame.{IsFrame, frame_faults};
-ghost use Rattle.board_model.specs.Dealing.{is_letter};
-ghost use Rattle.domain_core.specs.InRequests.{AreReceives, handed_slots};
-ghost use Rattle.domain_core.specs.Dealt.{IsDealt, IsVerdict, fate_of};
+ghost use Rattle.board_model.specs.State.{DomainState};
+ghost use Rattle.domain_core.specs.InRequests.{AreReceives};
+ghost use Rattle.domain_core.specs.Verdicts.{IsJudged, IsShort, IsVerdict, Shows, fate_of};
 
-use crate::announcements::take_announcement;
+use crate::announcements::hear;
 use crate::endpoints::Endpoints;
-use crate::fates::{frame_fate, letter_fate};
+use crate::fates::fault_fate;
 use crate::requests::oldest_receive;
-use bridge_frame::read_letter;
-use mc_base::{Fate, Letter, NAME_SERVICE_ADDRESS, Priority, RequestId};
-use name_service::KnownNames;
+use mc_base::{Fate, Letter, Priority, RequestId};
+use name_service::{KnownNames, Said, read_frame};
 use request_set::RequestSet;
-use rpmsg_frame::{Frame, decode};
 
 /// What is to be done with a frame.
 #[derive(Clone, Copy)]
@@ -27,7 +25,7 @@ pub enum Verdict {
         priority: Priority,
         size: u32,
     },
-    /// The pending receive of this id, which is given so many bytes at most, is complete with its message.
+    /// The pending receive of this id, which asks for so many bytes at most, is complete with its message.
     Handed {
         id: RequestId,
         max: u32,
@@ -50,8 +48,8 @@ impl Verdict {
     }
 }
 
-/// Deals with a frame from a peer, which may have any bytes, and answers what is to be done with its buffer. `known` are the
-/// names that are known of this peer; only announcements change them, and requests too. What waits in queues does not matter.
+/// Deals with a frame from a peer, which may have any bytes, and returns what is to be done with its buffer. `known` are the
+/// names that are known of this peer; only announcements change them, and the requests that look them up.
 pub fn deal(
     endpoints: &Endpoints,
     requests: &mut RequestSet,
@@ -59,39 +57,26 @@ pub fn deal(
     peer: u8,
     frame: &[u8],
 ) -> Verdict
-    requires receives { AreReceives requests.old }
-    ensures dealt { (b : Book) → IsDealt peer b endpoints.now requests.old requests.new known.old known.new frame.now result }
-    ensures receives { AreReceives requests.new }
-    ensures ids { map (λ r. r.id) requests.new.standing ≡ map (λ r. r.id) requests.old.standing }
-    ensures handed { handed_slots requests.new.standing ≡ handed_slots requests.old.standing }
-    ensures given { requests.new.given ≡ requests.old.given }
+    requires { AreReceives requests.old }
+    ensures { (b : Book) (s : DomainState) → Shows s peer b endpoints.now requests.old known.old → IsVerdict s peer known.old known.new requests.old requests.new frame.now result }
 {
-    let parts = match decode(frame) {
-        Ok(parts) => parts,
-        Err(fault) => return Verdict::Returned(frame_fate(fault)),
-    };
-    if parts.dst == NAME_SERVICE_ADDRESS {
-        return Verdict::Returned(take_announcement(known, requests, peer, parts.payload));
+    match read_frame(frame) {
+        Said::Faulty(fault) => Verdict::Returned(fault_fate(fault)),
+        Said::Announces(ns) => Verdict::Returned(hear(known, requests, peer, &ns)),
+        Said::Sends { dst, letter, .. } => judge(endpoints, requests, dst, &letter),
     }
-    judge(endpoints, requests, parts, frame)
 }
 
-/// The verdict on a letter in a frame, of which these are the parts.
-fn judge(endpoints: &Endpoints, requests: &RequestSet, parts: Frame<'_>, frame: &[u8]) -> Verdict
-    requires parts { IsFrame frame.now parts.src parts.dst parts.payload.now }
-    requires sound { first_fault (frame_faults frame.now) ≡ None }
-    requires letter { is_letter frame.now ≡ true }
+/// The verdict on a letter to an address.
+fn judge(endpoints: &Endpoints, requests: &RequestSet, dst: u32, letter: &Letter<'_>) -> Verdict
     requires receives { AreReceives requests.now }
-    ensures { (peer : ℕ) (b : Book) → IsVerdict peer b endpoints.now requests.now frame.now result }
+    requires short { IsShort (plain_letter letter.now) }
+    ensures { (b : Book) (s : DomainState) (peer source : ℕ) (names : Names) → Shows s peer b endpoints.now requests.now names → IsJudged s peer source dst requests.now (plain_letter letter.now) result }
 {
-    let letter = match read_letter(parts.payload) {
-        Ok(letter) => letter,
-        Err(fault) => return Verdict::Returned(letter_fate(fault)),
-    };
-    let Some(place) = endpoints.place_of_address(parts.dst) else {
+    let Some(place) = endpoints.place_of_address(dst) else {
         return Verdict::Returned(Fate::NoEndpoint);
     };
-    let Letter::Msg { priority, bytes } = letter else {
+    let Letter::Msg { priority, bytes } = *letter else {
         return Verdict::Returned(Fate::State);
     };
     let size = bytes.len() as u32;

@@ -3,26 +3,25 @@
 ghost use Rattle.std.specs.Prelude.{◌≡◌, ◌↔◌, ◌+◌, ◌<◌, ◌≤◌, [], ◌∷◌, false, Contains, IfSome, IsNone, is_some, length, map};
 ghost use Rattle.board_model.specs.State.{address_at, endpoint_at, free_to, lent_from, place_at, place_of_peer, queued_from, queued_items};
 ghost use Rattle.board_model.specs.Answer.{address_of, has_channel};
-ghost use Rattle.domain_core.specs.CallSteps.{Rests};
-ghost use Rattle.domain_core.specs.Parts.{Sound, shown, state_of};
+ghost use Rattle.domain_core.specs.Parts.{Sound, state_of};
 ghost use Rattle.domain_core.specs.Steps.{Did, frame_put};
-ghost use Rattle.domain_core.specs.Turned.{MakesTurn};
 
 mod endpoint_calls;
 mod message_calls;
 mod opening;
+mod owed;
 mod request_calls;
+mod taking;
+mod turns;
 
 use crate::endpoints::Endpoints;
 use crate::peer::Peer;
 use crate::peer_lane::PeerLane;
 use crate::peers::place_of;
 use crate::requests::messages_handed_from;
-use crate::turn::make_turn;
 use buffer_book::{BufferBook, Places};
 use endpoint_table::EndpointTable;
 use mc_base::{EndName, Local};
-use mc_journal::Journal;
 pub use opening::carry;
 use request_set::RequestSet;
 use std::marker::Model;
@@ -49,25 +48,6 @@ impl<P: PeerLane> Model for Holdings<P> {
 }
 
 impl<P: PeerLane> Holdings<P> {
-    /// Makes a turn, notes it, and answers whether it was idle.
-    pub fn take_turn(&mut self, journal: &mut Journal) -> bool
-        requires entry_room { 145 ≤ journal.old.entry_room }
-        requires byte_room { 65536 ≤ journal.old.byte_room }
-        ensures turn { MakesTurn P.Moved (shown self.old) (shown self.new) journal.old.lines journal.new.lines result }
-        ensures rests { Rests P.Moved self.new }
-        ensures entry_room { journal.old.entry_room ≤ journal.new.entry_room + 145 }
-        ensures byte_room { journal.old.byte_room ≤ journal.new.byte_room + 65536 }
-    {
-        make_turn(
-            &mut self.endpoints,
-            &mut self.book,
-            &mut self.requests,
-            &mut self.table,
-            &mut self.peers,
-            journal,
-        )
-    }
-
     /// Whether there is a lane to a domain.
     pub fn has_peer(&self, number: u8) -> bool
         ensures { result ≡ is_some (place_of_peer (state_of self.now.parts) number) }

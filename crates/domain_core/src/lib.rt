@@ -15,16 +15,13 @@ mod link;
 mod link_room;
 mod linking;
 mod messages;
-mod owed;
+mod noting;
 mod own_lane;
 mod peer;
 mod peer_lane;
 mod peers;
 mod requests;
-mod taking;
 mod threads;
-mod turn;
-mod visit;
 
 pub use carrying::{MeetingEnds, calls_move_ends, domains_stay_linked};
 pub use domain::{CALL_BYTES, CALL_ENTRIES, Domain, Places, carry, carry_rings};

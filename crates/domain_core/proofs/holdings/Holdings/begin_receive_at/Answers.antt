@@ -15,7 +15,7 @@ use Rattle.domain_core.specs.Parts.{Holding, Parts, Sound, holding_in, parts_in,
 use Rattle.domain_core.specs.Records.{Records, waiting_in, with_best_taken_at}
 use Rattle.domain_core.specs.Steps.{Did, receive_begun, request_begun, with_last}
 use Rattle.domain_core.proofs.Beginning.{few-left, id-fresh, last-complete, last-receives}
-use Rattle.domain_core.proofs.Frames.{none-from}
+use Rattle.domain_core.proofs.Readings.{none-from}
 use Rattle.domain_core.proofs.Meaning.{pending-means, receive-steps, request-means}
 use Rattle.domain_core.proofs.Receiving.{handed-sound, pending-sound}
 use Rattle.domain_core.proofs.Stepping.{quiet-moved, quiet-peers}

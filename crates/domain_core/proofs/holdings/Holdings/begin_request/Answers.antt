@@ -11,7 +11,7 @@ use Rattle.domain_core.specs.Parts.{Holding, Parts, Sound, holding_in, parts_in,
 use Rattle.domain_core.specs.Steps.{Did, request_begun, with_last}
 use Rattle.domain_core.proofs.Asking.{asked-sound}
 use Rattle.domain_core.proofs.Beginning.{few-left, id-fresh, last-complete}
-use Rattle.domain_core.proofs.Frames.{none-from}
+use Rattle.domain_core.proofs.Readings.{none-from}
 use Rattle.domain_core.proofs.Stepping.{quiet-moved, quiet-peers}
 use Rattle.domain_core.proofs.holdings.Holdings.begin_request.Given.{Over}
 use Rattle.domain_core.proofs.holdings.Holdings.begin_request.Goals as goal

@@ -36,7 +36,7 @@ gave g c =
 pub invariant_of-self : goal.invariant_of-self
 invariant_of-self g c =
     let d = c.self.inside in
-    subst Sound (sym (dropped-parts (v g) g.P.PeerLane.Moved g.met.P.PeerLane.none c.unwrap-slot.result d.peers.items _ c.self.invariant.peers.rising (gave g c) d.book c.give_back.new.book d.endpoints c.take_oldest.new.self d.requests d.table (oldest_dropped c.args.place c.unwrap-slot.result) c.give_back.ensures.book c.take_oldest.ensures.rest refl refl refl))
+    subst Sound (sym (dropped-parts (v g) g.P.PeerLane.Moved g.met.P.PeerLane.none c.unwrap-slot.result d.peers.items _ c.self.invariant.peers.rising (gave g c) d.book c.give_back.new.book d.endpoints c.take_oldest.new.self d.requests d.table (oldest_dropped c.args.place c.unwrap-slot.result) c.give_back.ensures.book c.take_oldest.ensures.rest refl refl refl (λ xs. refl)))
     (oldest_dropped-keeps (p g d) c.self.invariant c.args.place c.unwrap-slot.result (sym c.unwrap-slot.ensures ∙ c.take_oldest.ensures.oldest))
 
 pub returns : goal.returns
@@ -45,6 +45,6 @@ returns g c =
     let s = c.unwrap-slot.result in
     let step = oldest_dropped c.args.place s in
     let now = holding_in (v g) c.give_back.new.book c.take_oldest.new.self d.requests d.table (with_items d.peers c.give_back.new.peers).items in
-    let did = dropped-did (v g) g.P.PeerLane.Moved g.met.P.PeerLane.none s d.peers.items _ c.self.invariant.peers.rising (gave g c) d.book c.give_back.new.book d.endpoints c.take_oldest.new.self d.requests d.table step c.give_back.ensures.book c.take_oldest.ensures.rest refl refl refl in
+    let did = dropped-did (v g) g.P.PeerLane.Moved g.met.P.PeerLane.none s d.peers.items _ c.self.invariant.peers.rising (gave g c) d.book c.give_back.new.book d.endpoints c.take_oldest.new.self d.requests d.table step c.give_back.ensures.book c.take_oldest.ensures.rest refl refl refl (λ xs. refl) in
     let left = oldest_dropped-left (p g d) c.self.invariant c.args.place s (sym c.unwrap-slot.ensures ∙ c.take_oldest.ensures.oldest) ∙ ap (λ (r : Records). s ∷ slots_at r c.args.place) (sym c.take_oldest.ensures.rest) in
     record { did = subst (λ (x : Holding g.row.P.Denot). (s : Slot) × (slots_at x.parts.records c.args.place ≡ s ∷ slots_at c.take_oldest.new.self c.args.place) × Did g.P.PeerLane.Moved (oldest_dropped c.args.place s ∷ []) x now) c.self.view_is (s, left, did) }

@@ -1,0 +1,295 @@
+-- A frame that is taken, by the verdict on it.
+use Rattle.std.proofs.Common.{◌≡◌, ℕ, zero, suc, ◌<◌, Bool, true, List, [], ◌∷◌, ◌++◌, length, map, take, Some, None, refl, sym, ap, ◌∙◌, subst, arith}
+use Rattle.std.specs.Prelude.{Contains, if◌then◌else◌, slice_get, slice_index, slice_set}
+use Rattle.std.proofs.lemmas.List.{append-nil, length-append, length-map}
+use Rattle.mc_base.specs.NameMap.{Names}
+use Rattle.mc_base.specs.Reading.{reading}
+use Rattle.mc_base.specs.Stored.{Stored}
+use Rattle.mc_base.specs.declared.fate.Fate.{Fate}
+use Rattle.mc_base.specs.declared.fate.Fate.TheVariants.{Queued, Handed}
+use Rattle.mc_base.specs.declared.request.RequestId.{RequestId}
+use Rattle.lane_end.specs.Numbers.{AreApart}
+use Rattle.lane_end.specs.ReceiveMoves.{Gave, Took}
+use Rattle.board_model.specs.Change.{Change, changed_all, frame_taken, item_handed, item_queued, name_found, names_known}
+use Rattle.board_model.specs.Dealing.{keeps_buffer}
+use Rattle.board_model.specs.Deeds.{takes}
+use Rattle.board_model.specs.Journal.{Line, take_line, taken}
+use Rattle.board_model.specs.State.{DomainState}
+use Rattle.board_model.specs.TakenFrames.{Row, names_of, row, row_of}
+use Rattle.buffer_book.specs.Book.{Book, IsAway, queued_in, with_queued}
+use Rattle.endpoint_table.specs.Table as endpoint_table
+use Rattle.message_queue.specs.Queue.{waiting}
+use Rattle.request_set.specs.declared.ask.Complete.TheVariants as complete
+use Rattle.request_set.specs.Requests.{Requests, with_complete}
+use Rattle.domain_core.specs.declared.peer.Peer.{Peer}
+use Rattle.domain_core.specs.declared.requests.Waiters.TheVariants as waiters
+use Rattle.domain_core.specs.AllMoved.{ends_of}
+use Rattle.domain_core.specs.Doing.{Doing, Takes, ids_in}
+use Rattle.domain_core.specs.InBook.{endpoint_in}
+use Rattle.domain_core.specs.InPlaces.{AreInPlaces, slot_at, slots_of}
+use Rattle.domain_core.specs.InRequests.{handed_slots, with_all_complete}
+use Rattle.domain_core.specs.LaneMoves.{LaneMove, receiver}
+use Rattle.domain_core.specs.LaneSeen.{LaneSeen, after_move, after_moves}
+use Rattle.domain_core.specs.Parts.{Holding, Parts, Sound, holding_in, parts_in, peer_at, peer_seen, peers_seen, plain, state_of}
+use Rattle.domain_core.specs.Records.{Records, all_waiting, with_waiting_at}
+use Rattle.domain_core.specs.Sound.{out_at}
+use Rattle.domain_core.specs.Steps.{Step, all_moves, at_peer, done, done_all, frame_handed, frame_queued, frame_returned, moved_peer, name_told, names_told, step_moves, told_peer}
+use Rattle.domain_core.specs.Stores.{AreStored, KeepsQueued, Stores}
+use Rattle.domain_core.specs.Verdicts.{Fits, IsHanded, IsHeard, IsQueued, IsReturned, Shows, message_in}
+use Rattle.domain_core.specs.VisitMoves.{taking}
+use Rattle.domain_core.proofs.Completing.{ids-all}
+use Rattle.domain_core.proofs.PeerPlaces.{All-from}
+use Rattle.domain_core.proofs.PeersAt.{Fit, find-place, outs-room}
+use Rattle.domain_core.proofs.Placed.{is-away}
+use Rattle.domain_core.proofs.Slots.{length-all}
+use Rattle.lane_end.proofs.CountLemmas.{length-apart}
+use Rattle.domain_core.proofs.Queuing.{enqueued-stored, handed-ids}
+use Rattle.domain_core.proofs.Stepping.{quiet-peers, seen-set, set-is-map}
+use Rattle.domain_core.proofs.Outs.{is-out}
+use Rattle.domain_core.proofs.Storing.{Stores-returned, keeps-none}
+use Rattle.domain_core.proofs.TurnMeaning.{frame_handed-is, frame_queued-is, frame_returned-is, name_told-is, names_told-is, told-set}
+use Rattle.domain_core.proofs.TurnSteps.{but-one, frame_handed-keeps, frame_queued-keeps, frame_returned-keeps, name_told-keeps, names_told-keeps}
+use Rattle.domain_core.proofs.Turning.{doing-by, peer-is, peers-are, seen-there}
+
+-- ---- what an announcement changes
+
+abbrev pub heard_steps : List Change → List Step
+heard_steps [] = []
+heard_steps (names_known n names ∷ cs) = names_told n names ∷ heard_steps cs
+heard_steps (name_found name address ∷ cs) = name_told name address ∷ heard_steps cs
+heard_steps (other ∷ cs) = heard_steps cs
+
+set_itself : {X : Type 0} (xs : List X) (i : ℕ) (x : X) → slice_get xs i ≡ Some x → slice_set xs i x ≡ xs
+set_itself [] i x there = refl
+set_itself {X} (y ∷ xs) zero x there = let same : y ≡ x = cc in ap (λ (z : X). z ∷ xs) (sym same)
+set_itself {X} (y ∷ xs) (suc i) x there = ap (λ (zs : List X). y ∷ zs) (set_itself xs i x there)
+
+set_twice : {X : Type 0} (xs : List X) (i : ℕ) (x y : X) → slice_set (slice_set xs i x) i y ≡ slice_set xs i y
+set_twice [] i x y = refl
+set_twice (z ∷ xs) zero x y = refl
+set_twice {X} (z ∷ xs) (suc i) x y = ap (λ (zs : List X). z ∷ zs) (set_twice xs i x y)
+
+get_set : {X : Type 0} (xs : List X) (i : ℕ) (x y : X) → slice_get xs i ≡ Some x → slice_get (slice_set xs i y) i ≡ Some y
+get_set [] i x y there = absurd cc
+get_set (z ∷ xs) zero x y there = refl
+get_set (z ∷ xs) (suc i) x y there = get_set xs i x y there
+
+module _ (p : Parts) (sound : Sound p) (i : ℕ) (x : Peer LaneSeen) (there : slice_get p.peers i ≡ Some x) where
+  told_stays : map (told_peer x.number x.known) p.peers ≡ p.peers
+  told_stays = sym (told-set p sound i x there x.known p.peers i sound.peers.rising there) ∙ set_itself p.peers i x there
+
+  abbrev heard_parts : Names → Requests → Parts
+  heard_parts names q = record p { requests = q; peers = map (told_peer x.number names) p.peers }
+
+  pub heard-done : (cs : List Change) (names : Names) (q : Requests) → IsHeard x.number cs x.known names p.requests q → done_all (heard_steps cs) p ≡ heard_parts names q
+  heard-done [] names q is =
+      ap (λ (ps : List (Peer LaneSeen)). record p { peers = ps }) (sym told_stays)
+      ∙ ap (λ (ns : Names). heard_parts ns p.requests) (sym is.0) ∙ ap (heard_parts names) (sym is.1)
+  heard-done (names_known n ms ∷ []) names q is =
+      ap (λ (m : ℕ). record p { peers = map (told_peer m ms) p.peers }) is.0
+      ∙ ap (λ (ns : Names). heard_parts ns p.requests) (sym is.1) ∙ ap (heard_parts names) (sym is.2)
+  heard-done (names_known n ms ∷ name_found name address ∷ []) names q is =
+      ap (λ (ps : List (Peer LaneSeen)). record p { requests = with_all_complete p.requests (waiters.Lookups name) (complete.Address address); peers = ps }) (quiet-peers (map (told_peer n ms) p.peers))
+      ∙ ap (λ (m : ℕ). record p { requests = with_all_complete p.requests (waiters.Lookups name) (complete.Address address); peers = map (told_peer m ms) p.peers }) is.0
+      ∙ ap (λ (ns : Names). heard_parts ns (with_all_complete p.requests (waiters.Lookups name) (complete.Address address))) (sym is.1)
+      ∙ ap (heard_parts names) (sym is.2)
+  heard-done other names q is = absurd is
+
+  pub heard-keeps : (cs : List Change) (names : Names) (q : Requests) → IsHeard x.number cs x.known names p.requests q → Sound (done_all (heard_steps cs) p)
+  heard-keeps [] names q is = sound
+  heard-keeps (names_known n ms ∷ []) names q is = names_told-keeps p n ms sound
+  heard-keeps (names_known n ms ∷ name_found name address ∷ []) names q is = name_told-keeps (done (names_told n ms) p) name address (names_told-keeps p n ms sound)
+  heard-keeps other names q is = absurd is
+
+  pub heard-is : (cs : List Change) (names : Names) (q : Requests) → IsHeard x.number cs x.known names p.requests q → state_of (done_all (heard_steps cs) p) ≡ changed_all (state_of p) cs
+  heard-is [] names q is = refl
+  heard-is (names_known n ms ∷ []) names q is = subst (λ (m : ℕ). state_of (done_all (heard_steps (names_known m ms ∷ [])) p) ≡ changed_all (state_of p) (names_known m ms ∷ [])) (sym is.0) (names_told-is p sound i x there ms)
+  heard-is (names_known n ms ∷ name_found name address ∷ []) names q is =
+      name_told-is (done (names_told n ms) p) name address
+      ∙ ap (λ (s : DomainState). changed_all s (name_found name address ∷ []))
+      (subst (λ (m : ℕ). state_of (done (names_told m ms) p) ≡ changed_all (state_of p) (names_known m ms ∷ [])) (sym is.0) (names_told-is p sound i x there ms))
+  heard-is other names q is = absurd is
+
+  pub heard-moves : (cs : List Change) (names : Names) (q : Requests) → IsHeard x.number cs x.known names p.requests q → (c : Step) (n : ℕ) → all_moves (c ∷ heard_steps cs) n ≡ step_moves c n
+  heard-moves [] names q is c n = refl
+  heard-moves (names_known m ms ∷ []) names q is c n = append-nil (step_moves c n)
+  heard-moves (names_known m ms ∷ name_found name address ∷ []) names q is c n = append-nil (step_moves c n)
+  heard-moves other names q is c n = absurd is
+
+  pub heard-ids : (cs : List Change) (names : Names) (q : Requests) → IsHeard x.number cs x.known names p.requests q → map (λ r. r.id) q.standing ≡ map (λ r. r.id) p.requests.standing
+  heard-ids [] names q is = ap (λ (z : Requests). map (λ r. r.id) z.standing) is.1
+  heard-ids (names_known n ms ∷ []) names q is = ap (λ (z : Requests). map (λ r. r.id) z.standing) is.2
+  heard-ids (names_known n ms ∷ name_found name address ∷ []) names q is = ap (λ (z : Requests). map (λ r. r.id) z.standing) is.2 ∙ ids-all (waiters.Lookups name) (complete.Address address) p.requests.standing
+  heard-ids other names q is = absurd is
+
+ends-known : {L : Type 0} (ps : List (Peer L)) (i : ℕ) (x : Peer L) (e : L) (names names' : Names) → ends_of (slice_set ps i (record x { ends = e; known = names })) ≡ ends_of (slice_set ps i (record x { ends = e; known = names' }))
+ends-known [] i x e names names' = refl
+ends-known (z ∷ ps) zero x e names names' = refl
+ends-known {L} (z ∷ ps) (suc i) x e names names' = ap (λ (es : List L). z.ends ∷ es) (ends-known ps i x e names names')
+
+-- ---- the frame
+
+module _ {L : Type 0} (M : L → List LaneMove → L → Type 0) (m-none : (l : L) → M l [] l) (v : L → LaneSeen) (b : Book) (r : Records) (q : Requests) (t : endpoint_table.Table) (ps : List (Peer L)) (sound : Sound (parts_in v b r q t ps)) (i : ℕ) (x : Peer L) (there : slice_get ps i ≡ Some x)
+    (buffer : Stored) (len : ℕ) (lines lines' : List Line) where
+  abbrev old : Parts
+  old = parts_in v b r q t ps
+
+  abbrev y : Peer LaneSeen
+  y = peer_seen v x
+
+  abbrev n : ℕ
+  n = x.number
+
+  abbrev frame : List ℕ
+  frame = take len buffer.bytes
+
+  at : slice_get (peers_seen v ps) i ≡ Some (peer_seen v x)
+  at = seen-there M m-none v b r q t ps sound i x there
+
+  pub shows : Shows (state_of old) n b r q x.known
+  shows = record { endpoints = refl; requests = refl; known = ap names_of (find-place plain t i (peers_seen v ps) (peer_seen v x) sound.peers.rising at) }
+
+  module _ (e : L) (seen : v e ≡ after_move (receiver (Took buffer.number frame)) (v x.ends)) (moved : M x.ends (receiver (Took buffer.number frame) ∷ []) e) (apart : AreApart (v e).size_from (v e).out) where
+    pub apart-then : AreApart (v x.ends).size_from ((v x.ends).out ++ buffer.number ∷ [])
+    apart-then = subst (λ (l : LaneSeen). AreApart l.size_from l.out) seen apart
+
+    pub away-slot : IsAway b (slot_at n buffer.number)
+    away-slot = is-away n _ (slots_of r q) b buffer.number [] (but-one old sound i y at buffer.number apart-then).each
+
+    -- there is room for it
+    pub room-left : length (all_waiting r.endpoints) < r.room
+    room-left =
+        let fit = All-from (λ (z : Peer LaneSeen). AreInPlaces z.number r q b (out_at plain z)) (Fit plain) (λ z placed. length-apart z.ends.size_from z.ends.out placed.each.apart) (peers_seen v ps) sound.places in
+        let most = outs-room plain i (peers_seen v ps) (peer_seen v x) fit at in
+        let out = length-apart (v x.ends).size_from ((v x.ends).out ++ buffer.number ∷ []) apart-then in
+        let more = length-append (v x.ends).out (buffer.number ∷ []) in
+        let both = length-all (all_waiting r.endpoints) (handed_slots q.standing) in
+        let total = sound.total in
+        let room = sound.room in
+        omega (arith, most, out, more, both, total, room)
+
+    abbrev took_ps : Names → List (Peer L)
+    took_ps names = slice_set ps i (record x { ends = e; known = names })
+
+    took_peers : (names : Names) → names ≡ x.known → peers_seen v (took_ps names) ≡ map (moved_peer (at_peer n (receiver (Took buffer.number frame) ∷ []))) (peers_seen v ps)
+    took_peers names same = ap (λ (ns : Names). peers_seen v (took_ps ns)) same ∙ peers-are M m-none v b r q t ps sound i x there e (receiver (Took buffer.number frame) ∷ []) seen moved
+
+    -- it is kept: its word, its changes, and the step that it is
+    kept-doing : (c : Step) (fate : Fate) (happens : List Change) (b' : Book) (r' : Records) (q' : Requests) (names : Names) → names ≡ x.known → (step_moves c ≡ at_peer n (receiver (Took buffer.number frame) ∷ []))
+        → parts_in v b' r' q' t (took_ps names) ≡ done c old → row_of (state_of old) n None (reading frame) ≡ row true fate happens → state_of (done c old) ≡ changed_all (state_of old) (frame_taken n ∷ happens) → KeepsQueued b b' → ids_in (parts_in v b' r' q' t (took_ps names)) ≡ ids_in old
+        → keeps_buffer fate ≡ true → Doing M (peer_at old i).number (takes (peer_at old i).number None frame fate ∷ []) (taking (buffer.number ∷ []) (taken frame fate ∷ [])) (holding_in v b r q t ps) (holding_in v b' r' q' t (took_ps names))
+    kept-doing c fate happens b' r' q' names same moves after is means stays ids kept =
+        subst (λ (ms : List LaneMove). Doing M (peer_at old i).number (takes (peer_at old i).number None frame fate ∷ []) ms (holding_in v b r q t ps) (holding_in v b' r' q' t (took_ps names)))
+        (ap (λ (k : Bool). receiver (Took buffer.number frame) ∷ ((if k then [] else receiver (Gave buffer.number) ∷ []) ++ [])) (sym kept))
+        (doing-by M m-none v b r q t ps sound i x there e (receiver (Took buffer.number frame) ∷ []) seen moved (c ∷ []) (λ k. takes k None frame fate ∷ []) (holding_in v b' r' q' t (took_ps names))
+        (λ k. ap (λ (f : ℕ → List LaneMove). f k) moves) after (ap (λ (ns : Names). ends_of (took_ps ns)) same) (ap (λ (z : Row). z.word) is, tt) (means ∙ ap (λ (z : Row). changed_all (state_of old) (frame_taken n ∷ z.happens)) (sym is)) stays ids)
+
+    takes-one : (fate : Fate) (new : Holding L) → Doing M (peer_at old i).number (takes (peer_at old i).number None frame fate ∷ []) (taking (buffer.number ∷ []) (taken frame fate ∷ [])) (holding_in v b r q t ps) new → AreStored n (buffer.number ∷ []) (taken frame fate ∷ []) new.parts.book
+        → lines' ≡ lines ++ take_line n frame fate ∷ [] → Takes M i 1 (holding_in v b r q t ps) new lines lines'
+    takes-one fate new doing stored told =
+        let number = sym (ap (λ (z : Peer LaneSeen). z.number) (peer-is M m-none v b r q t ps sound i x there)) in
+        record {
+          takes = taken frame fate ∷ [];
+          numbers = buffer.number ∷ [];
+          many = refl;
+          each = refl;
+          doing = doing;
+          stored = subst (λ (k : ℕ). AreStored k (buffer.number ∷ []) (taken frame fate ∷ []) new.parts.book) number stored;
+          told = subst (λ (k : ℕ). lines' ≡ lines ++ take_line k frame fate ∷ []) number told;
+        }
+
+    module _ (size : ℕ) (fits : Fits frame size) (b' : Book) (book : b' ≡ with_queued b (slot_at n buffer.number) (queued_in buffer 24 size)) (names : Names) (same : names ≡ x.known) where
+      kept-stored : (fate : Fate) → Stores n (buffer.number ∷ []) (taken frame fate ∷ []) b b'
+      kept-stored fate = enqueued-stored r q b b' _ n (slot_at n buffer.number) buffer size len (but-one old sound i y at buffer.number apart-then) refl book fits.short fits.inside fate (fits.whole n)
+
+      -- its message is queued
+      module _ (j priority : ℕ) (is : IsQueued (state_of old) (row_of (state_of old) n None (reading frame)) (message_in n frame size) j) (says : slice_index frame 19 ≡ priority) (r' : Records) (q' : Requests) (records : r' ≡ with_waiting_at r j (waiting (slot_at n buffer.number) priority)) (requests : q' ≡ q) where
+        queued-after : parts_in v b' r' q' t (took_ps names) ≡ done (frame_queued n buffer len size j priority) old
+        queued-after = let peers = took_peers names same in cc
+
+        pub queued-keeps : Sound (parts_in v b' r' q' t (took_ps names))
+        queued-keeps = subst Sound (sym queued-after) (frame_queued-keeps old sound i y at buffer len size apart-then fits.short fits.inside j priority (let within = is.within in let long = length-map r.endpoints (endpoint_in b) in omega (arith, within, long)) says)
+
+        pub queued-takes : lines' ≡ lines ++ take_line n frame Queued ∷ [] → Takes M i 1 (holding_in v b r q t ps) (holding_in v b' r' q' t (took_ps names)) lines lines'
+        queued-takes told =
+            takes-one Queued (holding_in v b' r' q' t (took_ps names))
+            (kept-doing (frame_queued n buffer len size j priority) Queued (item_queued is.destination (message_in n frame size) ∷ []) b' r' q' names same refl queued-after is.row_is
+            (frame_queued-is old sound i y at buffer len size apart-then fits.short fits.inside j priority is.destination says is.at) (kept-stored Queued).stays (ap (λ (z : Requests). map (λ c. c.id) z.standing) requests) refl)
+            (kept-stored Queued).stored told
+
+      -- it is handed to a request
+      module _ (id : RequestId) (max : ℕ) (is : IsHanded (state_of old) q (row_of (state_of old) n None (reading frame)) (message_in n frame size) id max) (q' : Requests) (requests : q' ≡ with_complete q id (complete.Message (slot_at n buffer.number) max)) where
+        handed-after : parts_in v b' r q' t (took_ps names) ≡ done (frame_handed n buffer len size id max) old
+        handed-after = let peers = took_peers names same in cc
+
+        pub handed-keeps : Sound (parts_in v b' r q' t (took_ps names))
+        handed-keeps = subst Sound (sym handed-after) (frame_handed-keeps old sound i y at buffer len size apart-then fits.short fits.inside id max is.pending is.asks)
+
+        pub handed-takes : lines' ≡ lines ++ take_line n frame Handed ∷ [] → Takes M i 1 (holding_in v b r q t ps) (holding_in v b' r q' t (took_ps names)) lines lines'
+        handed-takes told =
+            takes-one Handed (holding_in v b' r q' t (took_ps names))
+            (kept-doing (frame_handed n buffer len size id max) Handed (item_handed is.destination (message_in n frame size) ∷ []) b' r q' names same refl handed-after is.row_is
+            (frame_handed-is old sound i y at buffer len size apart-then fits.short fits.inside id max is.destination is.endpoint is.pending is.named is.waits) (kept-stored Handed).stays
+            (handed-ids r q b b' _ n (slot_at n buffer.number) buffer size len (but-one old sound i y at buffer.number apart-then) refl book fits.short fits.inside q' id max sound.receives is.pending requests) refl)
+            (kept-stored Handed).stored told
+
+    -- it is given back
+    pub given-out : Contains (v e).out buffer.number
+    given-out = subst (λ (l : LaneSeen). Contains l.out buffer.number) (sym seen) (is-out n r q b _ buffer.number (but-one old sound i y at buffer.number apart-then))
+
+    module _ (m-both : (a b c : L) (xs ys : List LaneMove) → M a xs b → M b ys c → M a (xs ++ ys) c) (e' : L) (seen' : v e' ≡ after_move (receiver (Gave buffer.number)) (v e)) (moved' : M e (receiver (Gave buffer.number) ∷ []) e') (fate : Fate) (names : Names) (q' : Requests)
+        (is : IsReturned n (row_of (state_of old) n None (reading frame)) fate x.known names q q') where
+      abbrev both : List LaneMove
+      both = receiver (Took buffer.number frame) ∷ receiver (Gave buffer.number) ∷ []
+
+      abbrev back_ps : List (Peer L)
+      back_ps = slice_set ps i (record x { ends = e'; known = names })
+
+      seen-both : v e' ≡ after_moves both (v x.ends)
+      seen-both = seen' ∙ ap (after_move (receiver (Gave buffer.number))) seen
+
+      moved-both : M x.ends both e'
+      moved-both = m-both x.ends e e' (receiver (Took buffer.number frame) ∷ []) (receiver (Gave buffer.number) ∷ []) moved moved'
+
+      abbrev returned : Parts
+      returned = done (frame_returned n buffer.number frame) old
+
+      abbrev y' : Peer LaneSeen
+      y' = record y { ends = after_moves both (v x.ends) }
+
+      sound' : Sound returned
+      sound' = frame_returned-keeps old sound i y at buffer.number apart-then frame
+
+      set_peers : slice_set (peers_seen v ps) i y' ≡ returned.peers
+      set_peers = set-is-map n both (peers_seen v ps) i y sound.peers.rising at refl
+
+      there' : slice_get returned.peers i ≡ Some y'
+      there' = subst (λ (zs : List (Peer LaneSeen)). slice_get zs i ≡ Some y') set_peers (get_set (peers_seen v ps) i y y' at)
+
+      back-after : parts_in v b r q' t back_ps ≡ done_all (frame_returned n buffer.number frame ∷ heard_steps is.happens) old
+      back-after =
+          let peers : peers_seen v back_ps ≡ map (told_peer n names) returned.peers =
+          seen-set v ps i (record x { ends = e'; known = names })
+          ∙ ap (λ (l : LaneSeen). slice_set (peers_seen v ps) i (record y { ends = l; known = names })) seen-both
+          ∙ sym (set_twice (peers_seen v ps) i y' (record y' { known = names }))
+          ∙ ap (λ (zs : List (Peer LaneSeen)). slice_set zs i (record y' { known = names })) set_peers
+          ∙ told-set returned sound' i y' there' names returned.peers i sound'.peers.rising there' in
+          ap (λ (zs : List (Peer LaneSeen)). record old { requests = q'; peers = zs }) peers ∙ sym (heard-done returned sound' i y' there' is.happens names q' is.heard)
+
+      pub back-keeps : Sound (parts_in v b r q' t back_ps)
+      back-keeps = subst Sound (sym back-after) (heard-keeps returned sound' i y' there' is.happens names q' is.heard)
+
+      back-state : state_of (done_all (frame_returned n buffer.number frame ∷ heard_steps is.happens) old) ≡ changed_all (state_of old) (frame_taken n ∷ (row_of (state_of old) n None (reading frame)).happens)
+      back-state =
+          heard-is returned sound' i y' there' is.happens names q' is.heard
+          ∙ ap (λ (s : DomainState). changed_all s is.happens) (frame_returned-is old sound i y at buffer.number frame)
+          ∙ ap (λ (z : Row). changed_all (state_of old) (frame_taken n ∷ z.happens)) (sym is.row_is)
+
+      pub back-takes : lines' ≡ lines ++ take_line n frame fate ∷ [] → Takes M i 1 (holding_in v b r q t ps) (holding_in v b r q' t back_ps) lines lines'
+      back-takes told =
+          takes-one fate (holding_in v b r q' t back_ps)
+          (subst (λ (ms : List LaneMove). Doing M (peer_at old i).number (takes (peer_at old i).number None frame fate ∷ []) ms (holding_in v b r q t ps) (holding_in v b r q' t back_ps))
+          (ap (λ (k : Bool). receiver (Took buffer.number frame) ∷ ((if k then [] else receiver (Gave buffer.number) ∷ []) ++ [])) (sym is.returned))
+          (doing-by M m-none v b r q t ps sound i x there e' both seen-both moved-both (frame_returned n buffer.number frame ∷ heard_steps is.happens) (λ k. takes k None frame fate ∷ []) (holding_in v b r q' t back_ps)
+          (heard-moves returned sound' i y' there' is.happens names q' is.heard (frame_returned n buffer.number frame)) back-after (ends-known ps i x e' names x.known) (ap (λ (z : Row). z.word) is.row_is, tt) back-state (keeps-none b) (heard-ids returned sound' i y' there' is.happens names q' is.heard)))
+          (Stores-returned n buffer.number frame fate b is.returned).stored told

@@ -1,0 +1,232 @@
+-- The steps of a turn keep what the parts keep.
+use Rattle.std.proofs.Common.{◌≡◌, ℕ, zero, suc, ◌+◌, ◌<◌, ◌≤◌, Bool, true, false, cond, List, [], ◌∷◌, ◌++◌, length, map, take, Some, refl, sym, ap, ◌∙◌, subst, arith, eq-eqb}
+use Rattle.std.specs.Prelude.{Contains, option_map, slice_get, slice_index, nat_lt, ◌==◌}
+use Rattle.std.specs.List.{AllByRecursion}
+use Rattle.std.proofs.lemmas.List.{length-append}
+use Rattle.mc_base.specs.NameMap.{Names}
+use Rattle.mc_base.specs.Stored.{Stored}
+use Rattle.mc_base.specs.declared.name.EndName.{EndName}
+use Rattle.mc_base.specs.declared.name.Local.{Local}
+use Rattle.mc_base.specs.declared.request.RequestId.{RequestId}
+use Rattle.lane_end.specs.Numbers.{AreApart, often}
+use Rattle.lane_end.specs.ReceiveMoves.{Gave, Took}
+use Rattle.lane_end.specs.ReceiveMoves as receiving
+use Rattle.lane_end.specs.ReceiverContract.{without}
+use Rattle.lane_end.specs.SendMoves.{Looked, Sent}
+use Rattle.mc_base.specs.Numbers.{inside}
+use Rattle.lane_end.proofs.CountLemmas.{often-append, tick, tick-same}
+use Rattle.buffer_book.specs.Book.{Book}
+use Rattle.endpoint_table.specs.Table.{Table}
+use Rattle.message_queue.specs.Queue.{Waiting, waiting}
+use Rattle.board_model.specs.Lists.{changed_at}
+use Rattle.request_set.specs.declared.ask.Ask.TheVariants as ask
+use Rattle.request_set.specs.declared.ask.Complete.TheVariants as complete
+use Rattle.request_set.specs.Requests.{IsPending, Requests, request_of}
+use Rattle.domain_core.specs.declared.endpoints.Endpoint.{Endpoint}
+use Rattle.domain_core.specs.declared.peer.Peer.{Peer}
+use Rattle.domain_core.specs.declared.requests.Waiters.TheVariants as waiters
+use Rattle.domain_core.specs.AllMoved.{numbers_of}
+use Rattle.domain_core.specs.InPlaces.{AreInPlaces, AreInPlacesBut, KeepOthers, slot_at, slots_of}
+use Rattle.domain_core.specs.InRequests.{AreReceives}
+use Rattle.domain_core.specs.LaneMoves.{LaneMove, receiver, sender}
+use Rattle.domain_core.specs.LaneSeen.{LaneSeen, after_move, after_moves}
+use Rattle.domain_core.specs.Out.{Out, out_of}
+use Rattle.domain_core.specs.Parts.{Parts, Sound, plain}
+use Rattle.domain_core.specs.Records.{Records, all_waiting, with_waiting, with_waiting_at}
+use Rattle.domain_core.specs.Sound.{ArePeers, AreRising, IsSized, buffers_count, out_at, outs_count}
+use Rattle.domain_core.specs.Steps.{at_peer, done, frame_handed, frame_queued, frame_returned, looked_ahead, looked_back, moved_peer, name_told, names_told, owed_put, told_peer}
+use Rattle.domain_core.specs.Tied.{AreTied, live_record}
+use Rattle.domain_core.proofs.Completing.{handed-all, receives-all}
+use Rattle.domain_core.proofs.GivingLemmas.{All-at, SameEndpoints, same-endpoints, same-tied}
+use Rattle.domain_core.proofs.Outs.{taken-places}
+use Rattle.domain_core.proofs.PaidTables.{paid-is, tied-told}
+use Rattle.domain_core.proofs.PeerPlaces.{All-from, set-same}
+use Rattle.domain_core.proofs.PeersAt.{all-set, outs-set}
+use Rattle.domain_core.proofs.Queuing.{handed-others, handed-places, handed-receives, handed-total, queued-others, queued-places, queued-total, same-held}
+use Rattle.domain_core.proofs.Sending.{Outline, outline, same-sound}
+use Rattle.domain_core.proofs.Stepping.{moved-numbers, quiet-peers, set-is-map}
+
+-- ---- a move that changes no outline
+
+abbrev outlined : ℕ → LaneSeen → Outline
+outlined n l = record { number = n; size_to = l.size_to; size_from = l.size_from; out = l.out }
+
+module _ (p : Parts) (d : ℕ) (m : LaneMove) (same : (n : ℕ) (l : LaneSeen) → outlined n (after_move m l) ≡ outlined n l) where
+  same_outline : (x : Peer LaneSeen) (b : Bool) → outlined x.number (after_moves (cond b (m ∷ []) []) x.ends) ≡ outline plain x
+  same_outline x true = same x.number x.ends
+  same_outline x false = refl
+
+  same_outlines : (ps : List (Peer LaneSeen)) → map (outline plain) (map (moved_peer (at_peer d (m ∷ []))) ps) ≡ map (outline plain) ps
+  same_outlines [] = refl
+  same_outlines (x ∷ ps) = let here = same_outline x (d == x.number) in let rest = same_outlines ps in cc
+
+  pub quiet-keeps : Sound p → Sound (record p { peers = map (moved_peer (at_peer d (m ∷ []))) p.peers })
+  quiet-keeps sound = same-sound plain plain p.book p.records p.requests p.table p.peers _ (same_outlines p.peers) sound
+
+pub looked_back-keeps : (p : Parts) (d count : ℕ) → Sound p → Sound (done (looked_back d count) p)
+looked_back-keeps p d count sound = quiet-keeps p d (sender (Looked count)) (λ n l. refl) sound
+
+pub looked_ahead-keeps : (p : Parts) (d count : ℕ) → Sound p → Sound (done (looked_ahead d count) p)
+looked_ahead-keeps p d count sound = quiet-keeps p d (receiver (receiving.Looked count)) (λ n l. refl) sound
+
+pub owed_put-keeps : (p : Parts) (d : ℕ) (frame : List ℕ) → Sound p → Sound (done (owed_put d frame) p)
+owed_put-keeps p d frame sound =
+    let q = quiet-keeps p d (sender (Sent frame)) (λ n l. refl) sound in
+    let ns = numbers_of (map (moved_peer (at_peer d (sender (Sent frame) ∷ []))) p.peers) in
+    record {
+      peers = q.peers;
+      places = q.places;
+      total = q.total;
+      room = q.room;
+      receives = q.receives;
+      tied = subst (λ (t : Table). AreTied p.records t ns) (sym (paid-is 1 p.table d sound.tied.used)) (tied-told p.records p.table 1 d ns q.tied);
+      given = q.given;
+    }
+
+-- ---- names that are known, and lookups that are complete
+
+told_outlines : (d : ℕ) (names : Names) (ps : List (Peer LaneSeen)) → map (outline plain) (map (told_peer d names) ps) ≡ map (outline plain) ps
+told_outlines d names [] = refl
+told_outlines d names (x ∷ ps) = ap (λ os. outline plain x ∷ os) (told_outlines d names ps)
+
+pub names_told-keeps : (p : Parts) (d : ℕ) (names : Names) → Sound p → Sound (done (names_told d names) p)
+names_told-keeps p d names sound = same-sound plain plain p.book p.records p.requests p.table p.peers _ (told_outlines d names p.peers) sound
+
+pub name_told-keeps : (p : Parts) (name : EndName) (address : ℕ) → Sound p → Sound (done (name_told name address) p)
+name_told-keeps p name address sound =
+    let q' = (done (name_told name address) p).requests in
+    let handed = handed-all (waiters.Lookups name) (complete.Address address) p.requests.standing tt in
+    subst (λ (ps : List (Peer LaneSeen)). Sound (record p { requests = q'; peers = ps })) (sym (quiet-peers p.peers))
+    (record {
+      peers = sound.peers;
+      places = All-from (λ x. AreInPlaces x.number p.records p.requests p.book (out_at plain x)) (λ x. AreInPlaces x.number p.records q' p.book (out_at plain x)) (λ x placed. same-held p.records p.records p.requests q' p.book x.number (out_at plain x) refl handed placed) p.peers sound.places;
+      total = ap (λ hs. length (map (λ w. w.slot) (all_waiting p.records.endpoints) ++ hs)) handed ∙ sound.total;
+      room = sound.room;
+      receives = receives-all p.requests (waiters.Lookups name) (complete.Address address) tt sound.receives;
+      tied = sound.tied;
+      given = sound.given;
+    })
+
+-- ---- a frame is taken from the peer at a place
+
+size_kept : (m : LaneMove) (l : LaneSeen) → ((after_move m l).size_to ≡ l.size_to) × ((after_move m l).size_from ≡ l.size_from)
+size_kept (sender (Sent f)) l = (refl, refl)
+size_kept (sender (Looked n)) l = (refl, refl)
+size_kept (receiver (Gave n)) l = (refl, refl)
+size_kept (receiver (Took n f)) l = (refl, refl)
+size_kept (receiver (receiving.Looked n)) l = (refl, refl)
+
+sizes_kept : (ms : List LaneMove) (l : LaneSeen) → ((after_moves ms l).size_to ≡ l.size_to) × ((after_moves ms l).size_from ≡ l.size_from)
+sizes_kept [] l = (refl, refl)
+sizes_kept (m ∷ ms) l = let one = size_kept m l in let rest = sizes_kept ms (after_move m l) in (rest.0 ∙ one.0, rest.1 ∙ one.1)
+
+module _ (moves : ℕ → List LaneMove) where
+  sized_moved : (ps : List (Peer LaneSeen)) → AllByRecursion (IsSized plain) ps → AllByRecursion (IsSized plain) (map (moved_peer moves) ps)
+  sized_moved [] all = tt
+  sized_moved (p ∷ ps) all =
+      let k = sizes_kept (moves p.number) p.ends in
+      (record { same = k.0 ∙ all.0.same ∙ sym k.1; fits = let fits = all.0.fits in let one = k.1 in omega (arith, fits, one) }, sized_moved ps all.1)
+
+  buffers_moved : (ps : List (Peer LaneSeen)) → buffers_count plain (map (moved_peer moves) ps) ≡ buffers_count plain ps
+  buffers_moved [] = refl
+  buffers_moved (p ∷ ps) = let one = (sizes_kept (moves p.number) p.ends).1 in let rest = buffers_moved ps in omega (arith, one, rest)
+
+  peers_moved : (n : ℕ) (ps : List (Peer LaneSeen)) → ArePeers plain n ps → ArePeers plain n (map (moved_peer moves) ps)
+  peers_moved n ps are =
+      let same = sym (moved-numbers moves ps) in
+      record {
+        rising = subst AreRising same are.rising;
+        few = subst (AllByRecursion (λ m. m ≤ 7)) same are.few;
+        own = subst (λ (ns : List ℕ). Contains ns n) same are.own;
+        sizes = sized_moved ps are.sizes;
+      }
+
+inside_most : (b : Bool) → cond b 1 0 ≤ 1
+inside_most true = omega arith
+inside_most false = omega arith
+
+-- a number that was not among others and is last of them goes
+without_last : (n : ℕ) (ns : List ℕ) → often n ns ≡ 0 → without n (ns ++ n ∷ []) ≡ ns
+without_last n [] none = ap (λ b. cond b [] (n ∷ [])) (eq-eqb n n refl)
+without_last n (m ∷ ns) none = go (m == n) refl (without_last n ns (omega (arith, none)))
+  where
+    go : (b : Bool) → (m == n) ≡ b → without n (ns ++ n ∷ []) ≡ ns → cond (m == n) (ns ++ n ∷ []) (m ∷ without n (ns ++ n ∷ [])) ≡ m ∷ ns
+    go true e rest = let one : tick m n ≡ 1 = ap (λ (b : Bool). cond b 1 0) e in absurd (omega (arith, none, one))
+    go false e rest = ap (λ b. cond b (ns ++ n ∷ []) (m ∷ without n (ns ++ n ∷ []))) e ∙ ap (λ xs. m ∷ xs) rest
+
+module _ (p : Parts) (sound : Sound p) (i : ℕ) (x : Peer LaneSeen) (there : slice_get p.peers i ≡ Some x) (n : ℕ) (apart : AreApart x.ends.size_from (x.ends.out ++ n ∷ [])) where
+  pub not-out : often n x.ends.out ≡ 0
+  not-out =
+      let most = apart n in
+      let inside_once : inside x.ends.size_from n ≤ 1 = inside_most (nat_lt n x.ends.size_from) in
+      let sum = often-append n x.ends.out (n ∷ []) in
+      let one = tick-same n n refl in
+      omega (arith, most, inside_once, sum, one)
+
+  -- it is given back at once
+  pub frame_returned-keeps : (frame : List ℕ) → Sound (done (frame_returned x.number n frame) p)
+  frame_returned-keeps frame =
+      let ms = receiver (Took n frame) ∷ receiver (Gave n) ∷ [] in
+      let same : outline plain (record x { ends = after_moves ms x.ends }) ≡ outline plain x = ap (λ (ns : List ℕ). record (outline plain x) { out = ns }) (without_last n x.ends.out not-out) in
+      same-sound plain plain p.book p.records p.requests p.table p.peers _
+      (ap (map (outline plain)) (sym (set-is-map x.number ms p.peers i x sound.peers.rising there refl)) ∙ set-same (outline plain) p.peers i x (record x { ends = after_moves ms x.ends }) there same)
+      sound
+
+  abbrev now : Out
+  now = out_of x.ends.size_from (x.ends.out ++ n ∷ [])
+
+  pub but-one : AreInPlacesBut n x.number p.records p.requests p.book now
+  but-one = taken-places x.number p.records p.requests p.book n _ _ _ _ refl refl apart (All-at (λ (y : Peer LaneSeen). AreInPlaces y.number p.records p.requests p.book (out_at plain y)) p.peers i x sound.places there)
+
+  -- it is kept
+  kept-sound : (frame : List ℕ) (b : Book) (r : Records) (q : Requests) → SameEndpoints p.records r → AreInPlaces x.number r q b now → KeepOthers x.number p.records p.requests p.book r q b → length (slots_of r q) ≡ length (slots_of p.records p.requests) + 1 → AreReceives q
+      → Sound (record { book = b; records = r; requests = q; table = p.table; peers = map (moved_peer (at_peer x.number (receiver (Took n frame) ∷ []))) p.peers })
+  kept-sound frame b r q same placed others more receives =
+      let ms = receiver (Took n frame) ∷ [] in
+      let x' = record x { ends = after_moves ms x.ends } in
+      let moves = at_peer x.number ms in
+      let set = set-is-map x.number ms p.peers i x sound.peers.rising there refl in
+      let outs = ap (outs_count plain) set in
+      let more_out = outs-set plain i p.peers x x' there in
+      let long = length-append x.ends.out (n ∷ []) in
+      record {
+        peers = subst (λ (k : ℕ). ArePeers plain k (map (moved_peer moves) p.peers)) (sym same.number) (peers_moved moves p.records.number p.peers sound.peers);
+        places = subst (AllByRecursion (λ (y : Peer LaneSeen). AreInPlaces y.number r q b (out_at plain y))) set
+            (all-set (λ (y : Peer LaneSeen). AreInPlaces y.number p.records p.requests p.book (out_at plain y)) (λ (y : Peer LaneSeen). AreInPlaces y.number r q b (out_at plain y)) i p.peers x x' sound.peers.rising there (λ y differ was. others y.number (out_at plain y) differ was) placed sound.places);
+        total = let total = sound.total in omega (arith, more, outs, more_out, long, total);
+        room = let room = sound.room in let room_same = same.room in let buffers = buffers_moved moves p.peers in omega (arith, room, room_same, buffers);
+        receives = receives;
+        tied = subst (AreTied r p.table) (sym (moved-numbers moves p.peers)) (same-tied p.records r p.table (numbers_of p.peers) same sound.tied);
+        given = let given = sound.given in let given_same = same.given in omega (arith, given, given_same);
+      }
+
+live_more : (j : ℕ) (w : Waiting) (es : List Endpoint) → map live_record (changed_at (with_waiting w) j es) ≡ map live_record es
+live_more j w [] = refl
+live_more zero w (e ∷ es) = refl
+live_more (suc j) w (e ∷ es) = ap (λ xs. live_record e ∷ xs) (live_more j w es)
+
+pub waiting-same : (r : Records) (j : ℕ) (w : Waiting) → SameEndpoints r (with_waiting_at r j w)
+waiting-same r j w = record { number = refl; given = refl; room = refl; live = live_more j w r.endpoints }
+
+module _ (p : Parts) (sound : Sound p) (i : ℕ) (x : Peer LaneSeen) (there : slice_get p.peers i ≡ Some x) (buffer : Stored) (len size : ℕ) (apart : AreApart x.ends.size_from (x.ends.out ++ buffer.number ∷ []))
+    (small : size ≤ 488) (fits : 24 + size ≤ length (take len buffer.bytes)) where
+  abbrev placed_but : AreInPlacesBut buffer.number x.number p.records p.requests p.book (out_of x.ends.size_from (x.ends.out ++ buffer.number ∷ []))
+  placed_but = but-one p sound i x there buffer.number apart
+
+  pub frame_queued-keeps : (j priority : ℕ) → j < length p.records.endpoints → slice_index (take len buffer.bytes) 19 ≡ priority → Sound (done (frame_queued x.number buffer len size j priority) p)
+  frame_queued-keeps j priority within says =
+      let now = done (frame_queued x.number buffer len size j priority) p in
+      kept-sound p sound i x there buffer.number apart (take len buffer.bytes) now.book now.records now.requests (waiting-same p.records j (waiting (slot_at x.number buffer.number) priority))
+      (queued-places p.records p.requests p.book now.book _ x.number (slot_at x.number buffer.number) buffer size len placed_but refl refl small fits now.records j priority says refl within)
+      (queued-others p.records p.requests p.book now.book _ x.number (slot_at x.number buffer.number) buffer size len placed_but refl refl small fits now.records j priority says refl within)
+      (queued-total p.records p.requests p.book now.book _ x.number (slot_at x.number buffer.number) buffer size len placed_but refl refl small fits now.records j priority says refl within)
+      sound.receives
+
+  pub frame_handed-keeps : (id : RequestId) (max : ℕ) → IsPending p.requests id → ((l : Local) × (option_map (λ r. r.ask) (request_of p.requests id) ≡ Some (ask.Message l max))) → Sound (done (frame_handed x.number buffer len size id max) p)
+  frame_handed-keeps id max pending asks =
+      let now = done (frame_handed x.number buffer len size id max) p in
+      kept-sound p sound i x there buffer.number apart (take len buffer.bytes) now.book now.records now.requests (same-endpoints p.records)
+      (handed-places p.records p.requests p.book now.book _ x.number (slot_at x.number buffer.number) buffer size len placed_but refl refl small fits now.requests id max sound.receives pending refl)
+      (handed-others p.records p.requests p.book now.book _ x.number (slot_at x.number buffer.number) buffer size len placed_but refl refl small fits now.requests id max sound.receives pending refl)
+      (handed-total p.records p.requests p.book now.book _ x.number (slot_at x.number buffer.number) buffer size len placed_but refl refl small fits now.requests id max sound.receives pending refl)
+      (handed-receives p.records p.requests p.book now.book _ x.number (slot_at x.number buffer.number) buffer size len placed_but refl refl small fits now.requests id max sound.receives pending refl asks)

@@ -1,0 +1,49 @@
+use Rattle.std.proofs.Common.{◌≡◌, ◌<◌, ◌∷◌, [], ap, length, map, sym, subst, refl, Some}
+use Rattle.std.specs.Prelude.{slice_get}
+use Rattle.std.specs.Prelude.{slice_set}
+use Rattle.lane_end.specs.SendMoves.{Looked}
+use Rattle.board_model.specs.Deeds.{looks_back}
+use Rattle.domain_core.specs.LaneMoves.{sender}
+use Rattle.domain_core.specs.LaneSeen.{LaneSeen}
+use Rattle.domain_core.specs.declared.holdings.Holdings.TheInside.{Inside}
+use Rattle.domain_core.specs.Doing.{Doing}
+use Rattle.domain_core.specs.Parts.{Holding, Parts, Sound, holding_in, parts_in, peer_at, peer_seen, peers_seen}
+use Rattle.domain_core.specs.Steps.{at_peer, moved_peer, looked_back}
+use Rattle.domain_core.proofs.TurnMeaning.{looked_back-is}
+use Rattle.domain_core.proofs.TurnSteps.{looked_back-keeps}
+use Rattle.domain_core.proofs.Turning.{doing-by, peers-are, seen-there, there-read}
+use Rattle.domain_core.proofs.Storing.{keeps-none}
+use Rattle.domain_core.proofs.holdings.Holdings.look_back.Given.{Over}
+use Rattle.domain_core.proofs.holdings.Holdings.look_back.Goals as goal
+
+abbrev v : (g : Over) → (g.row.P.Denot → LaneSeen)
+v g = g.P.PeerLane.seen
+
+abbrev p : (g : Over) → Inside g.row.P.Denot → Parts
+p g d = parts_in (v g) d.book d.endpoints d.requests d.table d.peers.items
+
+there : (g : Over) (c : goal.After-self-1 g) → slice_get c.self.inside.peers.items c.args.place ≡ Some c.index_mut.result.now
+there g c =
+    let d = c.self.inside in
+    there-read (v g) d.book d.endpoints d.requests d.table d.peers.items c.args.place c.index_mut.result.now (subst (λ (x : Holding g.row.P.Denot). c.args.place < length x.parts.peers) (sym c.self.view_is) c.requires) c.index_mut.ensures.value
+
+peers : (g : Over) (c : goal.After-self-1 g) → peers_seen (v g) (slice_set c.self.inside.peers.items c.args.place (record (c.index_mut.result.now) { ends = c.look_back.new.self })) ≡ map (moved_peer (at_peer c.index_mut.result.now.number (sender (Looked c.look_back.result) ∷ []))) (peers_seen (v g) c.self.inside.peers.items)
+peers g c =
+    let d = c.self.inside in
+    peers-are g.P.PeerLane.Moved g.met.P.PeerLane.none (v g) d.book d.endpoints d.requests d.table d.peers.items c.self.invariant c.args.place c.index_mut.result.now (there g c) c.look_back.new.self (sender (Looked c.look_back.result) ∷ []) c.look_back.ensures.seen c.look_back.ensures.moved
+
+pub invariant_of-self : goal.invariant_of-self
+invariant_of-self g c =
+    let d = c.self.inside in
+    subst (λ ps. Sound (record (p g d) { peers = ps })) (sym (peers g c)) (looked_back-keeps (p g d) c.index_mut.result.now.number c.look_back.result c.self.invariant)
+
+pub returns-clause-doing : goal.returns-clause-doing
+returns-clause-doing g c =
+    let d = c.self.inside in
+    let M = g.P.PeerLane.Moved in
+    let x = c.index_mut.result.now in
+    let n = c.look_back.result in
+    let new = holding_in (v g) d.book d.endpoints d.requests d.table (slice_set d.peers.items c.args.place (record x { ends = c.look_back.new.self })) in
+    subst (λ (h : Holding g.row.P.Denot). Doing M (peer_at h.parts c.args.place).number (looks_back (peer_at h.parts c.args.place).number n ∷ []) (sender (Looked n) ∷ []) h new) c.self.view_is
+    (doing-by M g.met.P.PeerLane.none (v g) d.book d.endpoints d.requests d.table d.peers.items c.self.invariant c.args.place x (there g c) c.look_back.new.self (sender (Looked c.look_back.result) ∷ []) c.look_back.ensures.seen c.look_back.ensures.moved
+    (looked_back x.number n ∷ []) (λ k. looks_back k n ∷ []) new (λ k. refl) (ap (λ ps. record (p g d) { peers = ps }) (peers g c)) refl (tt, tt) (looked_back-is (p g d) c.self.invariant c.args.place (peer_seen (v g) x) (seen-there M g.met.P.PeerLane.none (v g) d.book d.endpoints d.requests d.table d.peers.items c.self.invariant c.args.place x (there g c)) n) (keeps-none d.book) refl)

@@ -1,0 +1,86 @@
+use Rattle.std.proofs.Common.{◌≡◌, ◌+◌, ◌-◌, ◌∙◌, ◌++◌, ◌∷◌, [], ℕ, List, length, drop, map, min, rules, refl, subst, sym, ap, arith}
+use Rattle.std.specs.Prelude.{◌==◌, not, ◌||◌}
+use Rattle.std.proofs.lemmas.List.{length_push}
+use Rattle.board_model.specs.Deeds.{puts_owed}
+use Rattle.board_model.specs.Journal.{Line}
+use Rattle.endpoint_table.specs.Table.{Table}
+use Rattle.mc_journal.specs.Written.{Written}
+use Rattle.domain_core.specs.Doing.{Puts}
+use Rattle.domain_core.specs.LaneSeen.{LaneSeen}
+use Rattle.domain_core.specs.Owed.{owed_frames}
+use Rattle.domain_core.specs.Parts.{Holding, peer_at}
+use Rattle.domain_core.specs.VisitMoves.{putting}
+use Rattle.domain_core.proofs.Owing.{Puts-more, all-due, eight-due, first-within, free-put, owed-left, puts-none, some-put}
+use Rattle.domain_core.proofs.Turning.{did-numbers, doing-ends, same-length, same-number}
+use Rattle.domain_core.proofs.holdings.Holdings.put_owed.Goals as goal
+
+pub loop-init : goal.loop-init
+loop-init g c = record {
+  puts = ([], puts-none g.P.PeerLane.Moved c.args.place c.args.begun c.args.self.now c.args.journal.now.lines c.requires.rests, refl);
+  free = omega arith;
+  begins = search rules;
+  entry_room = omega arith;
+  byte_room = omega arith;
+}
+
+pub put_oldest-requires-clause-within : goal.put_oldest-requires-clause-within
+put_oldest-requires-clause-within g c =
+    let d = c.loop.invariant.puts.1.doing in
+    let long = same-length c.args.self.now.parts c.loop.self.parts (did-numbers g.P.PeerLane.Moved d.steps c.args.self.now c.loop.self d.did) in
+    omega (arith, long, c.requires.within)
+
+pub loop-preserved : goal.loop-preserved
+loop-preserved g c =
+    let i = c.loop.invariant in
+    let e = c.put_oldest.ensures in
+    let hit = c.if-not-put_oldest.false in
+    let was = i.puts in
+    let one = e.puts hit in
+    let some = e.free hit in
+    let M = g.P.PeerLane.Moved in
+    let ends = ap (λ (l : LaneSeen). l.free) (doing-ends M (map (puts_owed (peer_at c.args.self.now.parts c.args.place).number) was.0) (putting was.0) c.args.self.now c.loop.self c.args.place c.requires.within was.1.doing ∙ free-put was.0 (peer_at c.args.self.now.parts c.args.place).ends) in
+    let begins = i.begins ∙ ap (λ (k : ℕ). c.args.begun || not (k == 0)) (sym was.2) in
+    record {
+      puts = (was.0 ++ one.0 ∷ [], Puts-more M g.met.P.PeerLane.both c.args.place c.args.begun c.loop.has_begun was.0 one.0 c.args.self.now c.loop.self c.put_oldest.new.self c.args.journal.now.lines c.loop.journal.lines c.put_oldest.new.journal.lines begins was.1 one.1, length_push was.0 one.0 ∙ ap (λ (k : ℕ). k + 1) was.2);
+      free = omega (arith, ends, some, was.2, i.free);
+      begins = some-put c.args.begun c.loop.counter;
+      entry_room = omega (arith, i.entry_room, e.entry_room);
+      byte_room = omega (arith, i.byte_room, e.byte_room);
+    }
+
+pub returns-then-not-put_oldest-clause-puts : goal.returns-then-not-put_oldest-clause-puts
+returns-then-not-put_oldest-clause-puts g c =
+    let i = c.loop.invariant in
+    let e = c.put_oldest.ensures in
+    let miss = c.if-not-put_oldest.true in
+    let was = i.puts in
+    let M = g.P.PeerLane.Moved in
+    let p = c.args.self.now.parts in
+    let peer = (peer_at p c.args.place).number in
+    let free0 = (peer_at p c.args.place).ends.free in
+    let owed = owed_frames p.table peer in
+    let within = first-within was.0 owed was.1.first in
+    let same : (peer_at c.loop.self.parts c.args.place).number ≡ peer = same-number p c.loop.self.parts c.args.place (did-numbers M was.1.doing.steps c.args.self.now c.loop.self was.1.doing.did) in
+    let left : owed_frames c.loop.self.parts.table (peer_at c.loop.self.parts c.args.place).number ≡ drop (length was.0) owed = ap (λ (n : ℕ). owed_frames c.loop.self.parts.table n) same ∙ ap (λ (x : Table). owed_frames x peer) was.1.table ∙ owed-left (length was.0) p.table peer in
+    let free : (peer_at c.loop.self.parts c.args.place).ends.free ≡ free0 - length was.0 = ap (λ (l : LaneSeen). l.free) (doing-ends M (map (puts_owed peer) was.0) (putting was.0) c.args.self.now c.loop.self c.args.place c.requires.within was.1.doing ∙ free-put was.0 (peer_at p c.args.place).ends) in
+    let none : min (length (drop (length was.0) owed)) (free0 - length was.0) ≡ 0 = sym (ap (λ (xs : List (List ℕ)). min (length xs) (peer_at c.loop.self.parts c.args.place).ends.free) left ∙ ap (λ (k : ℕ). min (length (drop (length was.0) owed)) k) free) ∙ e.none miss in
+    record {
+      frames = was.0;
+      puts = subst (λ (h : Holding g.row.P.Denot). Puts M c.args.place c.args.begun was.0 c.args.self.now h c.args.journal.now.lines c.put_oldest.new.journal.lines) (sym (e.stays miss))
+          (subst (λ (ls : List Line). Puts M c.args.place c.args.begun was.0 c.args.self.now c.loop.self c.args.journal.now.lines ls) (sym (ap (λ (j : Written). j.lines) (e.journal miss))) was.1);
+      many = all-due (length was.0) free0 owed (omega (arith, was.2, c.loop-test.true)) (omega (arith, i.free, was.2)) none within;
+      begins = i.begins ∙ ap (λ (k : ℕ). c.args.begun || not (k == 0)) (sym was.2);
+    }
+
+pub returns-after-loop-clause-puts : goal.returns-after-loop-clause-puts
+returns-after-loop-clause-puts g c =
+    let i = c.loop.invariant in
+    let was = i.puts in
+    let p = c.args.self.now.parts in
+    let owed = owed_frames p.table (peer_at p c.args.place).number in
+    record {
+      frames = was.0;
+      puts = was.1;
+      many = eight-due (length was.0) (peer_at p c.args.place).ends.free owed (omega (arith, was.2, c.loop-test.false, c.loop.auto.counter-end)) (omega (arith, i.free, was.2)) (first-within was.0 owed was.1.first);
+      begins = i.begins ∙ ap (λ (k : ℕ). c.args.begun || not (k == 0)) (sym was.2);
+    }

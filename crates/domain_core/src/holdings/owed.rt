@@ -1,0 +1,108 @@
+//! What a linked domain is to be told: announcements of endpoints that are there or gone.
+
+ghost use Rattle.std.specs.Prelude.{◌≡◌, ◌≤◌, ◌<◌, ◌+◌, ◌∷◌, [], ℕ, List, IsTrue, Some, true, false, min, length, option_map, take};
+ghost use Rattle.mc_base.specs.Limits.{name_service_address};
+ghost use Rattle.mc_base.specs.Frame.{made};
+ghost use Rattle.mc_base.specs.Announcement.{announcement, is_name};
+ghost use Rattle.endpoint_table.specs.Table.{announcement_of, owed_to};
+ghost use Rattle.domain_core.specs.CallSteps.{Rests};
+ghost use Rattle.domain_core.specs.Doing.{Puts, PutsDue};
+ghost use Rattle.domain_core.specs.Owed.{owed_frames, room_for};
+ghost use Rattle.domain_core.specs.Parts.{peer_at};
+
+use crate::holdings::Holdings;
+use crate::noting::begin_turn;
+use crate::peer_lane::PeerLane;
+use mc_base::{BUFFER_SIZE, NAME_SERVICE_ADDRESS, NS_SIZE, Ns, TURN_FRAMES};
+use mc_journal::{Entry, Journal};
+use name_service::write_ns;
+use rpmsg_frame::encode_into;
+
+impl<P: PeerLane> Holdings<P> {
+    /// Puts what is owed to the linked domain at a place, the oldest first: at most 8 announcements, as long as a buffer is free.
+    /// Returns whether the turn has begun.
+    pub fn put_owed(&mut self, journal: &mut Journal, place: usize, begun: bool) -> bool
+        requires rests { Rests P.Moved self.old }
+        requires within { place < length self.old.parts.peers }
+        requires entry_room { 9 ≤ journal.old.entry_room }
+        requires byte_room { 4096 ≤ journal.old.byte_room }
+        ensures puts { PutsDue P.Moved place begun result self.old self.new journal.old.lines journal.new.lines }
+        ensures entry_room { journal.old.entry_room + room_for result ≤ journal.new.entry_room + 8 + room_for begun }
+        ensures byte_room { journal.old.byte_room ≤ journal.new.byte_room + 4096 }
+    {
+        let mut has_begun = begun;
+        for _ in 0..TURN_FRAMES {
+            if !self.put_oldest(journal, place, has_begun) {
+                break;
+            }
+            has_begun = true;
+        }
+        has_begun
+    }
+
+    /// Puts the oldest announcement that is owed to the linked domain at a place, where one is owed and a buffer is free. Returns
+    /// whether it was put.
+    fn put_oldest(&mut self, journal: &mut Journal, place: usize, begun: bool) -> bool
+        requires within { place < length self.old.parts.peers }
+        requires entry_room { room_for begun ≤ journal.old.entry_room }
+        requires byte_room { 512 ≤ journal.old.byte_room }
+        ensures puts { result ≡ true → (frame : List ℕ) × Puts P.Moved place begun (frame ∷ []) self.old self.new journal.old.lines journal.new.lines }
+        ensures free { result ≡ true → 0 < (peer_at self.old.parts place).ends.free }
+        ensures none { result ≡ false → min (length (owed_frames self.old.parts.table (peer_at self.old.parts place).number)) (peer_at self.old.parts place).ends.free ≡ 0 }
+        ensures stays { result ≡ false → self.new ≡ self.old }
+        ensures journal { result ≡ false → journal.new ≡ journal.old }
+        ensures entry_room { journal.old.entry_room ≤ journal.new.entry_room + room_for begun }
+        ensures byte_room { journal.old.byte_room ≤ journal.new.byte_room + 512 }
+    {
+        if self.peers[place].ends.free_len() == 0 {
+            return false;
+        }
+        let Some(ns) = self.table.owed(self.peers[place].number) else {
+            return false;
+        };
+        self.put_announcement(journal, place, begun, &ns);
+        true
+    }
+
+    /// Puts an announcement, which is the oldest that is owed to the linked domain at a place. It begins the turn where no other
+    /// entry did before.
+    #[cold]
+    #[inline(never)]
+    fn put_announcement(&mut self, journal: &mut Journal, place: usize, begun: bool, ns: &Ns)
+        requires within { place < length self.old.parts.peers }
+        requires free { 0 < (peer_at self.old.parts place).ends.free }
+        requires oldest { Some (ns.now.name.items, ns.now.addr, ns.now.create) ≡ option_map (announcement_of self.old.parts.table.domain) (owed_to self.old.parts.table (peer_at self.old.parts place).number) }
+        requires lawful { IsTrue (is_name ns.now.name.items) }
+        requires entry_room { room_for begun ≤ journal.old.entry_room }
+        requires byte_room { 512 ≤ journal.old.byte_room }
+        ensures puts { (frame : List ℕ) × Puts P.Moved place begun (frame ∷ []) self.old self.new journal.old.lines journal.new.lines }
+        ensures entry_room { journal.old.entry_room ≤ journal.new.entry_room + room_for begun }
+        ensures byte_room { journal.old.byte_room ≤ journal.new.byte_room + 512 }
+    {
+        let peer = &mut self.peers[place];
+        let number = peer.number;
+        begin_turn(journal, begun);
+        let mut out = [0; BUFFER_SIZE];
+        let len = announce(ns, &mut out);
+        let frame = &out[..len];
+        journal.note(Entry::Put {
+            peer: number,
+            frame,
+        });
+        peer.ends.put(frame);
+        self.table.paid(number);
+    }
+}
+
+/// Writes the frame of an announcement, and returns its length.
+fn announce(ns: &Ns, out: &mut [u8]) -> usize
+    requires lawful { IsTrue (is_name ns.now.name.items) }
+    requires room { length out.old ≡ 512 }
+    ensures frame { take result out.new ≡ made ns.now.addr name_service_address (announcement ns.now.name.items ns.now.addr ns.now.create) }
+    ensures some { 0 < result }
+    ensures fits { result ≤ 512 }
+{
+    let mut payload = [0; NS_SIZE];
+    write_ns(ns, &mut payload);
+    encode_into(ns.addr, NAME_SERVICE_ADDRESS, &payload, out)
+}
