@@ -92,7 +92,10 @@ fn each_reason_of_a_line_has_a_text(rt: HostRuntime) -> Result<(), Fail> {
         LineReason::Label,
     ];
     for reason in reasons {
-        assert!(rt; has_text(ScenarioFault::Refused { line: 1, reason }), "{reason:?}");
+        assert!(rt;
+            has_text(ScenarioFault::Refused { line: 1, reason }),
+            "{reason:?}"
+        );
     }
     Ok(())
 }
@@ -103,13 +106,31 @@ fn each_other_error_has_its_text(rt: HostRuntime) -> Result<(), Fail> {
         (InlineText::of(NoMemory), "out of memory"),
         (InlineText::of(BufInvalid), "no lent packet has this id"),
         (InlineText::of(SclSize), "the front scalar has another size"),
-        (InlineText::of(Full), "64 names of this domain are known, and no more can be"),
-        (InlineText::of(RequestLimit), "64 requests exist; take a result or cancel a request first"),
-        (InlineText::of(Reason::Busy), "the endpoint has queued messages or a waiting receive"),
+        (
+            InlineText::of(Full),
+            "64 names of this domain are known, and no more can be",
+        ),
+        (
+            InlineText::of(RequestLimit),
+            "64 requests exist; take a result or cancel a request first",
+        ),
+        (
+            InlineText::of(Reason::Busy),
+            "the endpoint has queued messages or a waiting receive",
+        ),
         (InlineText::of(Failed), "a read or a write failed"),
-        (InlineText::of(ReadFault::TooLong), "the input has more bytes than the limit; shorten it"),
-        (InlineText::of(RingFault::Queue), "the number of the queue is neither 0 nor 1"),
-        (InlineText::of(LaneFault::Size), "the size of a lane is not from 1 to 256 buffers"),
+        (
+            InlineText::of(ReadFault::TooLong),
+            "the input has more bytes than the limit; shorten it",
+        ),
+        (
+            InlineText::of(RingFault::Queue),
+            "the number of the queue is neither 0 nor 1",
+        ),
+        (
+            InlineText::of(LaneFault::Size),
+            "the size of a lane is not from 1 to 256 buffers",
+        ),
         (InlineText::of(ScenarioFault::NoMemory), "out of memory"),
     ];
     for (text, expected) in &texts {

@@ -12,9 +12,8 @@ pub use memory::{MemSink, MemSource};
 pub use sink::{Sink, write_all};
 pub use source::{ReadFault, Source, read_all};
 pub use standard::{StdSink, StdSource};
-pub use writer::Writer;
-
 use thiserror::Error;
+pub use writer::Writer;
 
 /// A read or a write failed.
 #[derive(Clone, Copy, Debug, PartialEq, Eq, Error)]
