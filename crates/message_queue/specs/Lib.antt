@@ -1,3 +1,4 @@
 pub mod Queue
 pub mod InQueue
-pub mod Lowest
+pub mod Linked
+pub mod Cells

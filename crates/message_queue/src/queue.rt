@@ -1,14 +1,13 @@
-//! A queue of messages as a list with room for all of them.
+//! A queue of messages, in cells that are linked by index.
 
 ghost use Rattle.std.specs.Prelude.{◌≡◌, ◌≤◌, ◌<◌, ◌+◌, ◌==◌, ◌↔◌, [], IfOk, IfSome, IsNone, Some, length, option_map, option_to_list};
 ghost use Rattle.board_model.specs.Choice.{best, oldest};
 ghost use Rattle.message_queue.specs.Queue.{waiting, empty_queue, pushed, popped_best, popped_oldest};
 
+use crate::cells::Cells;
 use crate::entry::Entry;
-use crate::taking::take_best;
 use mc_base::{NoMemory, Priority, Slot};
 use std::alloc::Global;
-use std::collections::VecDeque;
 use std::marker::Model;
 
 /// The messages that wait at one endpoint, each by the slot of its buffer and with its priority, the oldest first.
@@ -16,8 +15,7 @@ use std::marker::Model;
 /// A channel's queue is one too; there each item has priority 0.
 #[derive(Debug, Drop)]
 pub struct MessageQueue {
-    room: u32,
-    entries: VecDeque<Entry>,
+    cells: Cells,
 }
 
 impl Model for MessageQueue {
@@ -25,11 +23,12 @@ impl Model for MessageQueue {
 
     ghost Value = { Queue };
 
-    ghost use Rattle.message_queue.specs.InQueue.{queue_of, HasRoom};
+    ghost use Rattle.message_queue.specs.InQueue.{queue_of};
+    ghost use Rattle.message_queue.specs.Cells.{IsSound};
 
     ghost view = { queue_of };
 
-    ghost invariant = { HasRoom };
+    ghost invariant = { λ q. IsSound q.cells };
 }
 
 impl MessageQueue {
@@ -41,12 +40,8 @@ impl MessageQueue {
     pub fn new(alloc: Global, slots: u32) -> Result<MessageQueue, NoMemory>
         ensures { IfOk result (λ q. q ≡ empty_queue slots) }
     {
-        let Ok(entries) = VecDeque::with_capacity(alloc, slots as usize) else {
-            return Err(NoMemory);
-        };
         Ok(MessageQueue {
-            room: slots,
-            entries,
+            cells: Cells::new(alloc, slots)?,
         })
     }
 
@@ -55,7 +50,7 @@ impl MessageQueue {
         requires room { length self.old.waiting < self.old.room }
         ensures last { self.new ≡ pushed self.old (waiting slot priority) }
     {
-        self.entries.push_back_reserved(Entry { slot, priority });
+        self.cells.append(Entry { slot, priority });
     }
 
     /// Takes the oldest message of the best priority. The rest stays in order. `None` exactly where none waits; nothing
@@ -67,8 +62,9 @@ impl MessageQueue {
         ensures unchanged { IsNone result → self.new ≡ self.old }
         ensures one_less { length self.new.waiting + length (option_to_list result) ≡ length self.old.waiting }
     {
-        let entry = take_best(&mut self.entries)?;
-        Some((entry.slot, entry.priority))
+        let place = self.cells.best()?;
+        let (slot, priority) = self.cells.take(place);
+        Some((slot, priority))
     }
 
     /// Takes the oldest message of any priority. `None` exactly where none waits; nothing changes then.
@@ -79,8 +75,9 @@ impl MessageQueue {
         ensures unchanged { IsNone result → self.new ≡ self.old }
         ensures one_less { length self.new.waiting + length (option_to_list result) ≡ length self.old.waiting }
     {
-        let entry = self.entries.pop_front()?;
-        Some(entry.slot)
+        let place = self.cells.oldest()?;
+        let (slot, _priority) = self.cells.take(place);
+        Some(slot)
     }
 
     /// Returns the oldest message of any priority, which stays, or `None` exactly where none waits.
@@ -88,8 +85,8 @@ impl MessageQueue {
         ensures none { IsNone result ↔ (self.now.waiting ≡ []) }
         ensures oldest { result ≡ option_map (λ w. w.slot) (oldest self.now.waiting) }
     {
-        let entry = self.entries.front()?;
-        Some(entry.slot)
+        let place = self.cells.oldest()?;
+        Some(self.cells.slot(place))
     }
 
     /// Counts the messages that wait, never more than the queue has room for.
@@ -97,13 +94,13 @@ impl MessageQueue {
         ensures count { result ≡ length self.now.waiting }
         ensures within { result ≤ self.now.room }
     {
-        self.entries.len() as u32
+        self.cells.len
     }
 
     /// Returns whether no message waits.
     pub fn is_empty(&self) -> bool
         ensures { result ≡ (length self.now.waiting == 0) }
     {
-        self.entries.is_empty()
+        self.cells.len == 0
     }
 }
