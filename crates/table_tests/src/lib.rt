@@ -9,6 +9,8 @@ mod endpoints;
 #[cfg(test)]
 mod journals;
 #[cfg(test)]
+mod plain_queues;
+#[cfg(test)]
 mod queues;
 #[cfg(test)]
 mod requests;
