@@ -1,5 +1,5 @@
 -- A lane after a call of one of its domains: the frames that it puts and the buffers that it gives back stand at the lane's ends.
-use Rattle.std.proofs.Common.{◌≡◌, ℕ, ◌+◌, Bool, true, false, cond, List, [], ◌++◌, count_by, Some, refl, sym, ap, ◌∙◌, subst, arith, append_assoc, append-nil, eqb-true, eq-eqb}
+use Rattle.std.proofs.Common.{◌≡◌, ℕ, ◌+◌, Bool, true, false, cond, List, [], ◌++◌, count_by, Some, refl, sym, ap, ap₂, ◌∙◌, subst, arith, append_assoc, append-nil, eqb-true, eq-eqb}
 use Rattle.std.specs.Prelude.{◌==◌}
 use Rattle.board_model.specs.State.{Item, is_from}
 use Rattle.board_model.specs.Loads.{Load, loads_given}
@@ -8,7 +8,7 @@ use Rattle.board_model.proofs.WholeLoads.{load_on}
 use Rattle.board_model.proofs.WholeCalls.{frames_for, loaded-puts, loaded-given}
 use Rattle.board_runner.specs.Near.{Near}
 use Rattle.board_runner.proofs.LanesNear.{LaneStands, near_now}
-use Rattle.board_runner.proofs.NearCalled.{NearCalled}
+use Rattle.board_runner.proofs.NearCalled.{NearCalled, LinkCalled, OwnCalled}
 
 -- what a call of a domain leaves on the lanes
 abbrev pub loads_called : ℕ → List (ℕ × List ℕ) → List Item → List Load → List Load
@@ -24,31 +24,31 @@ loaded_called n puts items loads a b l at =
 
 module _ (loads loads' : List Load) (a b : ℕ) (frames : List (List ℕ)) (many : ℕ) where
   -- the lane to a peer
-  lane-out : (from to new : Near) (k : ℕ) (h : LaneStands loads a b from to) → NearCalled false frames k from new → load_on loads' a b ≡ Some (called_load true false frames many h.load) → LaneStands loads' a b new to
+  lane-out : (from to new : Near) (k : ℕ) (h : LaneStands loads a b from to) → LinkCalled frames k from new → load_on loads' a b ≡ Some (called_load true false frames many h.load) → LaneStands loads' a b new to
   lane-out from to new k h called loaded = record {
     load = called_load true false frames many h.load;
     loaded = loaded;
-    frames = ap (λ (fs : List (List ℕ)). fs ++ frames) h.frames ∙ append_assoc to.came from.put frames ∙ ap (λ (fs : List (List ℕ)). to.came ++ fs) (sym called.put);
-    returned = omega (arith, h.returned, called.back);
+    frames = called.sent.put ∙ ap (λ (fs : List (List ℕ)). fs ++ frames) h.frames ∙ append_assoc to.got.taken h.load.frames frames;
+    returned = omega (arith, h.returned, called.sent.back);
   }
 
   -- the lane from a peer
-  lane-in : (from to new : Near) (fs : List (List ℕ)) (h : LaneStands loads a b from to) → NearCalled false fs many to new → load_on loads' a b ≡ Some (called_load false true frames many h.load) → LaneStands loads' a b from new
+  lane-in : (from to new : Near) (fs : List (List ℕ)) (h : LaneStands loads a b from to) → LinkCalled fs many to new → load_on loads' a b ≡ Some (called_load false true frames many h.load) → LaneStands loads' a b from new
   lane-in from to new fs h called loaded = record {
     load = called_load false true frames many h.load;
     loaded = loaded;
-    frames = append-nil h.load.frames ∙ h.frames ∙ ap (λ (xs : List (List ℕ)). xs ++ from.put) (sym (append-nil to.came) ∙ sym called.came);
-    returned = omega (arith, h.returned, called.given);
+    frames = h.frames ∙ ap₂ (λ (xs ys : List (List ℕ)). xs ++ ys) (sym called.got.taken) (sym (append-nil h.load.frames));
+    returned = omega (arith, h.returned, called.got.given);
   }
 
-  -- the own lane, on which no frame waits to be carried
-  lane-own : (own new : Near) (h : LaneStands loads a b own own) → NearCalled true frames many own new → own.put ≡ [] → load_on loads' a b ≡ Some (called_load true true frames many h.load) → LaneStands loads' a b new new
-  lane-own own new h called none loaded = record {
+  -- the own lane
+  lane-own : (own new : Near) (h : LaneStands loads a b own own) → OwnCalled frames many own new → load_on loads' a b ≡ Some (called_load true true frames many h.load) → LaneStands loads' a b new new
+  lane-own own new h called loaded = record {
     load = called_load true true frames many h.load;
     loaded = loaded;
     frames =
-        ap (λ (fs : List (List ℕ)). fs ++ frames) (h.frames ∙ ap (λ (fs : List (List ℕ)). own.came ++ fs) none ∙ append-nil own.came)
-        ∙ sym called.came ∙ sym (append-nil new.came) ∙ ap (λ (fs : List (List ℕ)). new.came ++ fs) (sym (called.put ∙ append-nil own.put ∙ none));
+        called.put ∙ ap (λ (fs : List (List ℕ)). fs ++ frames) h.frames ∙ append_assoc own.got.taken h.load.frames frames
+        ∙ ap (λ (fs : List (List ℕ)). fs ++ (h.load.frames ++ frames)) (sym called.taken);
     returned = omega (arith, h.returned, called.back, called.given);
   }
 
@@ -56,11 +56,11 @@ module _ (loads loads' : List Load) (a b : ℕ) (frames : List (List ℕ)) (many
   lane-other from to h loaded = record {
     load = called_load false false frames many h.load;
     loaded = loaded;
-    frames = append-nil h.load.frames ∙ h.frames;
+    frames = h.frames ∙ ap (λ (fs : List (List ℕ)). to.got.taken ++ fs) (sym (append-nil h.load.frames));
     returned = omega (arith, h.returned);
   }
 
-module _ (n : ℕ) (own own' : ℕ → Near) (far : ℕ → ℕ → Near) (puts : List (ℕ × List ℕ)) (items : List Item) (loads : List Load) (none : (own n).put ≡ []) where
+module _ (n : ℕ) (own own' : ℕ → Near) (far : ℕ → ℕ → Near) (puts : List (ℕ × List ℕ)) (items : List Item) (loads : List Load) where
   abbrev Called : ℕ → Type 0
   Called q = NearCalled (q == n) (frames_for q puts) (count_by (is_from q) items) (own q) (own' q)
 
@@ -78,7 +78,7 @@ module _ (n : ℕ) (own own' : ℕ → Near) (far : ℕ → ℕ → Near) (puts 
   own_lane a b is_a is_b called =
       subst (λ (x : ℕ). OwnLane x b) (sym is_a)
       (subst (λ (y : ℕ). OwnLane n y) (sym is_b)
-      (λ h loaded. lane-own loads loads' n n (frames_for n puts) (count_by (is_from n) items) (own n) (own' n) h (called_as n true (eq-eqb n n refl) called) none loaded))
+      (λ h loaded. lane-own loads loads' n n (frames_for n puts) (count_by (is_from n) items) (own n) (own' n) h (called_as n true (eq-eqb n n refl) called) loaded))
 
   -- a lane from the domain leads to a peer, and one to it comes from a peer, so the call is told at both
   pub lane-called : (a b : ℕ) → (a ≡ n → Called b) → (b ≡ n → Called a) → LaneStands loads a b (near_now n own far a b) (near_now n own far b a) → LaneStands loads' a b (near_now n own' far a b) (near_now n own' far b a)

@@ -6,8 +6,8 @@ use Rattle.std.specs.Option.{option_or}
 use Rattle.std.proofs.lemmas.List.Sums.{sum_by-cons, sum_by-append}
 use Rattle.mc_base.specs.declared.refusal.Refusal.{Refusal}
 use Rattle.mc_base.specs.declared.request.RequestId.{RequestId}
-use Rattle.lane_end.specs.PlainSender.{Sends}
-use Rattle.lane_end.specs.PlainReceiver.{Receives}
+use Rattle.lane_end.specs.AnySender.{AnySends}
+use Rattle.lane_end.specs.AnyReceiver.{AnyReceives}
 use Rattle.board_model.specs.declared.scenario.CallLine.{CallLine}
 use Rattle.board_model.specs.declared.scenario.Scenario.{Scenario}
 use Rattle.board_model.specs.Answer.{answer, puts, refusal, unless_refused, success_puts}
@@ -38,7 +38,7 @@ use Rattle.board_runner.specs.declared.station.Station.{Station}
 use Rattle.board_runner.specs.declared.line.Made.{Made}
 use Rattle.board_runner.specs.Held.{id_for, told_for}
 use Rattle.board_runner.specs.Lines.{dropped_by, NotesAgain, NotesCalled}
-use Rattle.board_runner.specs.Near.{PlainDomain, peers_of, EndsMatch}
+use Rattle.board_runner.specs.Near.{RunDomain, peers_of, EndsMatch}
 use Rattle.board_runner.specs.Stations.{HoldsIds, IsStation}
 use Rattle.board_runner.proofs.HeldLemmas.{holds_after, holds_same}
 
@@ -89,7 +89,7 @@ after_called sc r (p ∷ ps) k a line here = after_called sc (after sc r (put_en
 pub record IsCall (s : Scenario) (t : run.Station) (line : CallLine) (st called_to : Station) (m : Made) (call : DomainCall) : Type 0 where
   pub stands : IsStation s t st
   pub call_is : call ≡ call_at t.run line
-  pub does : Does (EndsMoved Sends Receives) line.node call st.domain called_to.domain (plain_answer m.answer) m.given
+  pub does : Does (EndsMoved AnySends AnyReceives) line.node call st.domain called_to.domain (plain_answer m.answer) m.given
   pub told : called_to.journal.lines ≡ noted_all st.journal.lines (map put_entry (puts st.domain.state line.node call))
   pub gives : option_map (λ i. i.serial) m.given ≡ request_given st.domain.state line.node call
   pub ids : called_to.ids ≡ st.ids
@@ -124,7 +124,7 @@ module _ (s : Scenario) (t : run.Station) (line : CallLine) (st called_to new : 
   same_answer = h.does.answer ∙ ap₂ (λ (x : DomainState) (c : DomainCall). answer x line.node c) h.stands.state h.call_is
 
   state_after : new.domain.state ≡ (entered_all s entries t).run.state
-  state_after = ap (λ (d : PlainDomain). d.state) notes.domain ∙ h.does.state ∙ ap₂ (λ (x : DomainState) (c : DomainCall). effect x line.node c) h.stands.state h.call_is ∙ sym (ap (λ (r : RunState). r.state) leads)
+  state_after = ap (λ (d : RunDomain). d.state) notes.domain ∙ h.does.state ∙ ap₂ (λ (x : DomainState) (c : DomainCall). effect x line.node c) h.stands.state h.call_is ∙ sym (ap (λ (r : RunState). r.state) leads)
 
   told_after : new.journal.lines ≡ joined (t.entries ++ entries)
   told_after =
@@ -217,11 +217,11 @@ module _ (s : Scenario) (t : run.Station) (line : CallLine) (st called_to new : 
   none_given (Some i) e = absurd cc
 
   same_state : new.domain.state ≡ st.domain.state
-  same_state = ap (λ (d : PlainDomain). d.state) notes.domain ∙ h.does.state ∙ nothing.effect_is
+  same_state = ap (λ (d : RunDomain). d.state) notes.domain ∙ h.does.state ∙ nothing.effect_is
 
   same_ids : new.domain.ids ≡ st.domain.ids
   same_ids =
-      ap (λ (d : PlainDomain). d.ids) notes.domain ∙ h.does.ids
+      ap (λ (d : RunDomain). d.ids) notes.domain ∙ h.does.ids
       ∙ ap₂ (λ (p : Option ℕ) (id : Option RequestId). without p st.domain.ids ++ option_to_list id) nothing.ends_none (none_given m.given (h.gives ∙ nothing.gives_none))
       ∙ append-nil st.domain.ids
 

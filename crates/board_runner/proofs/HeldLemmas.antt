@@ -26,7 +26,7 @@ use Rattle.domain_core.specs.Calls.{place_ended, success_ends, IsFresh}
 use Rattle.domain_core.specs.DomainView.{place_of_id, has_id}
 use Rattle.board_runner.specs.Held.{Ids, id_for, id_or_none, no_id, told_for, TellsId}
 use Rattle.board_runner.specs.Lines.{call_by}
-use Rattle.board_runner.specs.Near.{PlainDomain}
+use Rattle.board_runner.specs.Near.{RunDomain}
 use Rattle.board_runner.specs.Stations.{IsKnown, HoldsIds}
 
 -- ---- the call of a line
@@ -44,14 +44,14 @@ nowhere : (ids : List RequestId) → AllByRecursion (λ i. i.key ≢ no_key) ids
 nowhere ids all = position_from-zero (has_id no_id) ids ∙ nowhere_from 0 ids all
 
 -- the id that is held for a label stands where the label's request does
-place_held : (d : PlainDomain) (ids : Ids) (labels : List Labelled) (k : ℕ) (label : List ℕ) → HoldsIds d ids labels k → place_of_id d.ids (id_or_none ids label) ≡ place_of_label labels d.state label
+place_held : (d : RunDomain) (ids : Ids) (labels : List Labelled) (k : ℕ) (label : List ℕ) → HoldsIds d ids labels k → place_of_id d.ids (id_or_none ids label) ≡ place_of_label labels d.state label
 place_held d ids labels k label h = go (id_for ids label) (h.told label) (h.known label)
   where
     go : (o : Option RequestId) → option_map (λ i. i.serial) o ≡ serial_of labels label → IfSome o (IsKnown d) → place_of_id d.ids (unwrap_or o no_id) ≡ place_of_label labels d.state label
     go None told known = nowhere d.ids h.keys ∙ ap (option_and_then (place_of_request d.state)) told
     go (Some id) told known = keyed_place (λ i. i.key) (λ i. i.serial) d.state labels label id.key id.serial d.ids h.serials known.only (sym told)
 
-pub call_is : (d : PlainDomain) (ids : Ids) (labels : List Labelled) (k : ℕ) (call : Call) → HoldsIds d ids labels k → call_by ids d.ids call ≡ call_of labels d.state call
+pub call_is : (d : RunDomain) (ids : Ids) (labels : List Labelled) (k : ℕ) (call : Call) → HoldsIds d ids labels k → call_by ids d.ids call ≡ call_of labels d.state call
 call_is d ids labels k (Create port) h = refl
 call_is d ids labels k (Delete port) h = refl
 call_is d ids labels k (Lookup name) h = refl
@@ -203,7 +203,7 @@ serial_list s node call ids id stand gave =
     ∙ sym (call_serials s node call)
 
 -- an id that was known is known after a call
-still_known : (old new : PlainDomain) (more : ℕ) (p : Option ℕ) (id : Option RequestId) → new.state.requests_given ≡ more → old.state.requests_given ≤ more →
+still_known : (old new : RunDomain) (more : ℕ) (p : Option ℕ) (id : Option RequestId) → new.state.requests_given ≡ more → old.state.requests_given ≤ more →
     new.ids ≡ without p old.ids ++ option_to_list id → IfSome id (IsNext old.state more) → (i : RequestId) → IsKnown old i → IsKnown new i
 still_known old new more p id now rises stays next i known =
     let lt = known.given in
@@ -213,7 +213,7 @@ still_known old new more p id now rises stays next i known =
     }
 
 -- and so is one that is given
-newly_known : (old new : PlainDomain) (more : ℕ) (p : Option ℕ) (id : Option RequestId) → new.state.requests_given ≡ more → new.ids ≡ without p old.ids ++ option_to_list id →
+newly_known : (old new : RunDomain) (more : ℕ) (p : Option ℕ) (id : Option RequestId) → new.state.requests_given ≡ more → new.ids ≡ without p old.ids ++ option_to_list id →
     AllByRecursion (λ i. i.serial < old.state.requests_given) old.ids → IfSome id (IsNext old.state more) → IfSome id (IsKnown new)
 newly_known old new more p None now stays below next = tt
 newly_known old new more p (Some i) now stays below next =
@@ -225,7 +225,7 @@ newly_known old new more p (Some i) now stays below next =
     }
 
 -- what is held after a call, once the id that it gives is held for the label of its line
-pub holds_after : (old new : PlainDomain) (ids more : Ids) (labels : List Labelled) (k node : ℕ) (call : DomainCall) (label : Option (List ℕ)) (id : Option RequestId) → k + 1 < 2 ^ 64 → HoldsIds old ids labels k →
+pub holds_after : (old new : RunDomain) (ids more : Ids) (labels : List Labelled) (k node : ℕ) (call : DomainCall) (label : Option (List ℕ)) (id : Option RequestId) → k + 1 < 2 ^ 64 → HoldsIds old ids labels k →
     new.state ≡ effect old.state node call → new.ids ≡ without (place_ended old.state node call) old.ids ++ option_to_list id → IfSome id (IsFresh old.ids old.state) → option_map (λ i. i.serial) id ≡ request_given old.state node call → TellsId label id ids more →
     HoldsIds new more (with_label labels label (request_given old.state node call)) (k + 1)
 holds_after old new ids more labels k node call label id small h is stays fresh gave tells =
@@ -252,12 +252,12 @@ holds_after old new ids more labels k node call label id small h is stays fresh 
     }
 
 -- the same ids of the same requests
-known_same : (old new : PlainDomain) → new.state ≡ old.state → new.ids ≡ old.ids → (i : RequestId) → IsKnown old i → IsKnown new i
+known_same : (old new : RunDomain) → new.state ≡ old.state → new.ids ≡ old.ids → (i : RequestId) → IsKnown old i → IsKnown new i
 known_same old new state ids i known =
     let lt = known.given in
     record { given = omega (arith, lt, ap (λ (x : DomainState). x.requests_given) state); only = subst (AllByRecursion (λ j. j.serial ≡ i.serial → j.key ≡ i.key)) (sym ids) known.only }
 
-pub holds_same : (old new : PlainDomain) (ids : Ids) (labels : List Labelled) (k : ℕ) → HoldsIds old ids labels k → new.state ≡ old.state → new.ids ≡ old.ids → HoldsIds new ids labels k
+pub holds_same : (old new : RunDomain) (ids : Ids) (labels : List Labelled) (k : ℕ) → HoldsIds old ids labels k → new.state ≡ old.state → new.ids ≡ old.ids → HoldsIds new ids labels k
 holds_same old new ids labels k h state same =
     let few = h.few in
     let given_same : old.state.requests_given ≡ new.state.requests_given = sym (ap (λ (x : DomainState). x.requests_given) state) in

@@ -1,5 +1,5 @@
 -- The loads of lanes by what stands near at both of their ends, before and after a visit.
-use Rattle.std.proofs.Common.{◌≡◌, ℕ, ◌+◌, Bool, true, false, ◌&&◌, cond, List, [], ◌++◌, length, drop, Some, refl, sym, ap, ◌∙◌, subst, arith, append_assoc, append-nil, eq-eqb, eqb-true, true≢false}
+use Rattle.std.proofs.Common.{◌≡◌, ℕ, ◌+◌, Bool, true, false, ◌&&◌, cond, List, [], ◌∷◌, ◌++◌, length, drop, Some, refl, sym, ap, ◌∙◌, subst, arith, append_assoc, append-nil, eq-eqb, eqb-true, true≢false}
 use Rattle.std.specs.Prelude.{◌==◌}
 use Rattle.std.proofs.Math.Seq.{drop-append_seam}
 use Rattle.std.proofs.lemmas.List.{length-map}
@@ -9,14 +9,21 @@ use Rattle.board_model.proofs.WholeLoads.{load_on, loaded-with}
 use Rattle.board_model.proofs.WholeLanes.{refilled}
 use Rattle.board_model.proofs.WholeTakes.{frames_of, emptied}
 use Rattle.board_runner.specs.Near.{Near}
-use Rattle.board_runner.proofs.NearEnds.{NearVisited}
+use Rattle.board_runner.proofs.NearEnds.{NearVisited, LinkVisited, OwnVisited}
 
--- the load of a lane stands at its ends: near the sender, and near the receiver
+-- the load of a lane is what its ends did: the sender's, and the receiver's
 pub record LaneStands (loads : List Load) (a b : ℕ) (from to : Near) : Type 0 where
   pub load : Load
   pub loaded : load_on loads a b ≡ Some load
-  pub frames : load.frames ≡ to.came ++ from.put
-  pub returned : load.returned ≡ from.back + to.given
+  pub frames : from.sent.put ≡ to.got.taken ++ load.frames
+  pub returned : to.got.given ≡ from.sent.back + load.returned
+
+-- a visit of a link saw and took just what was there, by what was done before it and by what the peer did
+pub record Exact (v : Visit) (old far : Near) : Type 0 where
+  pub rest : List (List ℕ)
+  pub first : far.sent.put ≡ (old.got.taken ++ frames_of v.takes) ++ rest
+  pub see : length old.got.taken + v.see ≡ length far.sent.put
+  pub back : old.sent.back + v.back ≡ far.got.given
 
 -- what stands near a domain towards each peer, beside what stands near the others
 abbrev pub near_now : ℕ → (ℕ → Near) → (ℕ → ℕ → Near) → ℕ → ℕ → Near
@@ -41,40 +48,46 @@ loaded-by n v loads a b l e =
 taken-off : (ts : List Taken) (frames rest : List (List ℕ)) → frames ≡ frames_of ts ++ rest → drop (length ts) frames ≡ rest
 taken-off ts frames rest e = ap (drop (length ts)) e ∙ ap (λ (k : ℕ). drop k (frames_of ts ++ rest)) (sym (length-map ts (λ (t : Taken). t.frame))) ∙ drop-append_seam (frames_of ts) rest
 
+cancel_front : {A : Type 0} (xs ys zs : List A) → xs ++ ys ≡ xs ++ zs → ys ≡ zs
+cancel_front [] ys zs e = e
+cancel_front (x ∷ xs) ys zs e = cancel_front xs ys zs cc
+
+-- what is on a lane, where so many frames of it are the first
+pub rest-on : (taken frames first rest : List (List ℕ)) (put : List (List ℕ)) → put ≡ taken ++ frames → put ≡ (taken ++ first) ++ rest → frames ≡ first ++ rest
+rest-on taken frames first rest put is split = cancel_front taken frames (first ++ rest) (sym is ∙ split ∙ append_assoc taken first rest)
+
 module _ (loads loads' : List Load) (a b : ℕ) (v : Visit) where
-  -- the lane to the peer, whose receiver has given back nothing that has not come back
-  lane-out : (from to new : Near) (h : LaneStands loads a b from to) → NearVisited false v from new → to.given ≡ 0 → load_on loads' a b ≡ Some (refilled v.owed h.load) → LaneStands loads' a b new to
-  lane-out from to new h visited none loaded = record {
+  -- the lane to the peer
+  lane-out : (from to new : Near) (h : LaneStands loads a b from to) → LinkVisited v from new → Exact v from to → load_on loads' a b ≡ Some (refilled v.owed h.load) → LaneStands loads' a b new to
+  lane-out from to new h visited exact loaded = record {
     load = refilled v.owed h.load;
     loaded = loaded;
-    frames = ap (λ (fs : List (List ℕ)). fs ++ v.owed) h.frames ∙ append_assoc to.came from.put v.owed ∙ ap (λ (fs : List (List ℕ)). to.came ++ fs) (sym visited.put);
-    returned = omega (arith, visited.left_back, none);
+    frames = visited.sent.put ∙ ap (λ (fs : List (List ℕ)). fs ++ v.owed) h.frames ∙ append_assoc to.got.taken h.load.frames v.owed;
+    returned = omega (arith, visited.sent.back_is, exact.back);
   }
 
   -- the lane from the peer
-  lane-in : (from to new : Near) (h : LaneStands loads a b from to) → NearVisited false v to new → load_on loads' a b ≡ Some (emptied v.takes h.load) → LaneStands loads' a b from new
-  lane-in from to new h visited loaded = record {
+  lane-in : (from to new : Near) (h : LaneStands loads a b from to) → LinkVisited v to new → Exact v to from → load_on loads' a b ≡ Some (emptied v.takes h.load) → LaneStands loads' a b from new
+  lane-in from to new h visited exact loaded = record {
     load = emptied v.takes h.load;
     loaded = loaded;
     frames =
-        taken-off v.takes h.load.frames (new.came ++ from.put)
-        (h.frames ∙ ap (λ (fs : List (List ℕ)). fs ++ from.put) (sym (append-nil to.came) ∙ visited.came) ∙ append_assoc (frames_of v.takes) new.came from.put);
-    returned = omega (arith, h.returned, visited.given);
+        exact.first ∙ (λ k. sym visited.got.taken k ++ exact.rest)
+        ∙ ap (λ (fs : List (List ℕ)). new.got.taken ++ fs) (sym (taken-off v.takes h.load.frames exact.rest (rest-on to.got.taken h.load.frames (frames_of v.takes) exact.rest from.sent.put h.frames exact.first)));
+    returned = omega (arith, h.returned, visited.got.given);
   }
 
-  -- the own lane, where nothing stands between its ends
-  lane-own : (from own new : Near) (h : LaneStands loads a b from own) → from ≡ own → NearVisited true v own new → own.put ≡ [] → own.given ≡ 0 → load_on loads' a b ≡ Some (emptied v.takes (refilled v.owed h.load)) → LaneStands loads' a b new new
-  lane-own from own new h same visited none_put none_given loaded =
-      let empty : new.put ≡ [] = visited.put ∙ append-nil own.put ∙ none_put in
-      let frames : h.load.frames ≡ own.came = h.frames ∙ ap (λ (n : Near). own.came ++ n.put) same ∙ ap (λ (fs : List (List ℕ)). own.came ++ fs) none_put ∙ append-nil own.came in
+  -- the own lane
+  lane-own : (from own new : Near) (h : LaneStands loads a b from own) → from ≡ own → OwnVisited v own new → load_on loads' a b ≡ Some (emptied v.takes (refilled v.owed h.load)) → LaneStands loads' a b new new
+  lane-own from own new h same visited loaded =
+      let frames : own.sent.put ≡ h.load.frames = ap (λ (n : Near). n.sent.put) (sym same) ∙ h.frames ∙ ap (λ (fs : List (List ℕ)). fs ++ h.load.frames) visited.was.taken in
       record {
         load = emptied v.takes (refilled v.owed h.load);
         loaded = loaded;
         frames =
-            taken-off v.takes (h.load.frames ++ v.owed) (new.came ++ new.put)
-            (ap (λ (fs : List (List ℕ)). fs ++ v.owed) frames ∙ visited.came
-            ∙ ap (λ (fs : List (List ℕ)). frames_of v.takes ++ fs) (sym (append-nil new.came) ∙ ap (λ (fs : List (List ℕ)). new.came ++ fs) (sym empty)));
-        returned = omega (arith, visited.left_back, visited.given, none_given);
+            sym (taken-off v.takes (h.load.frames ++ v.owed) new.sent.put (ap (λ (fs : List (List ℕ)). fs ++ v.owed) (sym frames) ∙ visited.came))
+            ∙ ap (λ (fs : List (List ℕ)). fs ++ drop (length v.takes) (h.load.frames ++ v.owed)) (sym visited.is.taken);
+        returned = omega (arith, visited.given, visited.is.back);
       }
 
   lane-other : (from to : Near) (h : LaneStands loads a b from to) → load_on loads' a b ≡ Some h.load → LaneStands loads' a b from to
@@ -82,19 +95,20 @@ module _ (loads loads' : List Load) (a b : ℕ) (v : Visit) where
 
 -- ---- every lane
 
--- the peer gave back nothing that has not come back; nothing stands between the ends of the own lane
+-- a visit of a link is exact
 pub record CanVisit (n : ℕ) (own : ℕ → Near) (far : ℕ → ℕ → Near) (v : Visit) (new : Near) : Type 0 where
   pub visited : NearVisited (v.peer == n) v (own v.peer) new
-  pub far_given : (far v.peer n).given ≡ 0
-  pub own_put : (v.peer == n) ≡ true → (own v.peer).put ≡ []
-  pub own_given : (v.peer == n) ≡ true → (own v.peer).given ≡ 0
+  pub exact : (v.peer == n) ≡ false → Exact v (own v.peer) (far v.peer n)
 
 module _ (n : ℕ) (own : ℕ → Near) (far : ℕ → ℕ → Near) (v : Visit) (new : Near) (loads : List Load) (can : CanVisit n own far v new) where
   visited_at : (q : ℕ) (o : Bool) → (q == v.peer) ≡ true → (q == n) ≡ o → NearVisited o v (own q) new
   visited_at q o at is = subst (λ (x : Bool). NearVisited x v (own q) new) is (subst (λ (m : ℕ). NearVisited (m == n) v (own m) new) (sym (eqb-true q v.peer at)) can.visited)
 
-  none_given : (a b : ℕ) → (a == n) ≡ true → (b == v.peer) ≡ true → (far b a).given ≡ 0
-  none_given a b is_n is_p = ap (λ (q : ℕ). (far q a).given) (eqb-true b v.peer is_p) ∙ ap (λ (m : ℕ). (far v.peer m).given) (eqb-true a n is_n) ∙ can.far_given
+  exact_at : (q m : ℕ) → (q == v.peer) ≡ true → (q == n) ≡ false → (m == n) ≡ true → Exact v (own q) (far q m)
+  exact_at q m at other is_n =
+      let same = eqb-true q v.peer at in
+      subst (λ (y : ℕ). Exact v (own q) (far q y)) (sym (eqb-true m n is_n))
+      (subst (λ (x : ℕ). Exact v (own x) (far x n)) (sym same) (can.exact (ap (λ (x : ℕ). x == n) (sym same) ∙ other)))
 
   -- by whether each end is the domain, and whether it is the peer
   lane_by : (a b : ℕ) (a_own b_own a_peer b_peer : Bool) → (a == n) ≡ a_own → (b == n) ≡ b_own → (a == v.peer) ≡ a_peer → (b == v.peer) ≡ b_peer
@@ -102,18 +116,15 @@ module _ (n : ℕ) (own : ℕ → Near) (far : ℕ → ℕ → Near) (v : Visit)
       → load_on (loads_by n v loads) a b ≡ Some (cond (a_peer && b_own) (emptied v.takes (cond (a_own && b_peer) (refilled v.owed h.load) h.load)) (cond (a_own && b_peer) (refilled v.owed h.load) h.load))
       → LaneStands (loads_by n v loads) a b (cond a_own (cond b_peer new (own b)) (far a b)) (cond b_own (cond a_peer new (own a)) (far b a))
   lane_by a b true true true true a_is b_is a_at b_at h loaded =
-      let is_p : v.peer ≡ a = sym (eqb-true a v.peer a_at) in
-      let own_n : (v.peer == n) ≡ true = ap (λ (m : ℕ). m == n) is_p ∙ a_is in
-      lane-own loads (loads_by n v loads) a b v (own b) (own a) new h (ap own (eqb-true b v.peer b_at ∙ is_p)) (visited_at a true a_at a_is)
-      (ap (λ (m : ℕ). (own m).put) (sym is_p) ∙ can.own_put own_n) (ap (λ (m : ℕ). (own m).given) (sym is_p) ∙ can.own_given own_n) loaded
+      lane-own loads (loads_by n v loads) a b v (own b) (own a) new h (ap own (eqb-true b v.peer b_at ∙ sym (eqb-true a v.peer a_at))) (visited_at a true a_at a_is) loaded
   lane_by a b true true true false a_is b_is a_at b_at h loaded = absurd (true≢false (sym (eq-eqb b v.peer (eqb-true b n b_is ∙ sym (eqb-true a n a_is) ∙ eqb-true a v.peer a_at)) ∙ b_at))
   lane_by a b true true false true a_is b_is a_at b_at h loaded = absurd (true≢false (sym (eq-eqb a v.peer (eqb-true a n a_is ∙ sym (eqb-true b n b_is) ∙ eqb-true b v.peer b_at)) ∙ a_at))
   lane_by a b true true false false a_is b_is a_at b_at h loaded = lane-other loads (loads_by n v loads) a b v (own b) (own a) h loaded
-  lane_by a b true false true true a_is b_is a_at b_at h loaded = lane-out loads (loads_by n v loads) a b v (own b) (far b a) new h (visited_at b false b_at b_is) (none_given a b a_is b_at) loaded
-  lane_by a b true false false true a_is b_is a_at b_at h loaded = lane-out loads (loads_by n v loads) a b v (own b) (far b a) new h (visited_at b false b_at b_is) (none_given a b a_is b_at) loaded
+  lane_by a b true false true true a_is b_is a_at b_at h loaded = lane-out loads (loads_by n v loads) a b v (own b) (far b a) new h (visited_at b false b_at b_is) (exact_at b a b_at b_is a_is) loaded
+  lane_by a b true false false true a_is b_is a_at b_at h loaded = lane-out loads (loads_by n v loads) a b v (own b) (far b a) new h (visited_at b false b_at b_is) (exact_at b a b_at b_is a_is) loaded
   lane_by a b true false true false a_is b_is a_at b_at h loaded = lane-other loads (loads_by n v loads) a b v (own b) (far b a) h loaded
   lane_by a b true false false false a_is b_is a_at b_at h loaded = lane-other loads (loads_by n v loads) a b v (own b) (far b a) h loaded
-  lane_by a b false true true b_peer a_is b_is a_at b_at h loaded = lane-in loads (loads_by n v loads) a b v (far a b) (own a) new h (visited_at a false a_at a_is) loaded
+  lane_by a b false true true b_peer a_is b_is a_at b_at h loaded = lane-in loads (loads_by n v loads) a b v (far a b) (own a) new h (visited_at a false a_at a_is) (exact_at a b a_at a_is b_is) loaded
   lane_by a b false true false b_peer a_is b_is a_at b_at h loaded = lane-other loads (loads_by n v loads) a b v (far a b) (own a) h loaded
   lane_by a b false false true b_peer a_is b_is a_at b_at h loaded = lane-other loads (loads_by n v loads) a b v (far a b) (far b a) h loaded
   lane_by a b false false false b_peer a_is b_is a_at b_at h loaded = lane-other loads (loads_by n v loads) a b v (far a b) (far b a) h loaded

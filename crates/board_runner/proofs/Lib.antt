@@ -5,6 +5,7 @@ pub mod AloneLemmas
 pub mod CallKept
 pub mod CallLanes
 pub mod CallLemmas
+pub mod ExactVisits
 pub mod HeldLemmas
 pub mod LanesNear
 pub mod LineLemmas
@@ -14,6 +15,7 @@ pub mod NearEnds
 pub mod OnceLemmas
 pub mod OthersLemmas
 pub mod PeersLanes
+pub mod RunBoards
 pub mod RunCarried
 pub mod RunFinds
 pub mod RunLemmas
@@ -30,6 +32,7 @@ pub mod TurnLinks
 pub mod TurnStations
 pub mod TurnVisits
 pub mod LinkLemmas
+pub mod WiredLemmas
 pub mod OpeningLemmas
 pub mod BoardLemmas
 pub mod CarryLemmas

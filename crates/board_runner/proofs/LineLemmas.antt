@@ -6,8 +6,8 @@ use Rattle.mc_base.specs.declared.name.EndName.{EndName}
 use Rattle.mc_base.specs.declared.refusal.NoMemory.{NoMemory}
 use Rattle.mc_base.specs.declared.refusal.Refusal.{Refusal}
 use Rattle.mc_base.specs.declared.request.RequestId.{RequestId}
-use Rattle.lane_end.specs.PlainSender.{Sends}
-use Rattle.lane_end.specs.PlainReceiver.{Receives}
+use Rattle.lane_end.specs.AnySender.{AnySends}
+use Rattle.lane_end.specs.AnyReceiver.{AnyReceives}
 use Rattle.board_model.specs.declared.scenario.CallLine.{CallLine}
 use Rattle.board_model.specs.DomainCall.{DomainCall, lookup_of}
 use Rattle.board_model.specs.Lists.{without}
@@ -22,7 +22,7 @@ use Rattle.mc_journal.specs.Entry.{plain_answer, bytes_in_answer}
 use Rattle.board_runner.specs.declared.station.Station.{Station}
 use Rattle.board_runner.specs.declared.line.Made.{Made}
 use Rattle.board_runner.specs.Lines.{CallsDomain, MakesCall, call_at_station, dropped_by}
-use Rattle.board_runner.specs.Near.{PlainDomain}
+use Rattle.board_runner.specs.Near.{RunDomain}
 
 -- ---- requests that calls give
 
@@ -51,7 +51,7 @@ ok_given (Err w) = refl
 -- ---- a call
 
 -- what the domain did, where room was made first, and the answer is written as a journal notes it
-pub calls_domain : (node : ℕ) (call : DomainCall) (old new : PlainDomain) (lines start lines' : List Line) (answered : PlainAnswer) (id : Option RequestId) (m : Made) → start ≡ lines → (c : Calls (EndsMoved Sends Receives) node call old new start lines' answered id) →
+pub calls_domain : (node : ℕ) (call : DomainCall) (old new : RunDomain) (lines start lines' : List Line) (answered : PlainAnswer) (id : Option RequestId) (m : Made) → start ≡ lines → (c : Calls (EndsMoved AnySends AnyReceives) node call old new start lines' answered id) →
     plain_answer m.answer ≡ answered → m.given ≡ id → option_map (λ i. i.serial) id ≡ request_given c.turned_to.state node call → bytes_in_answer m.answer ≤ 9000 → CallsDomain node call old new lines lines' m
 calls_domain node call old new lines start lines' answered id m same c noted is gives fit = record {
   calls = record {
@@ -76,7 +76,7 @@ calls_domain node call old new lines start lines' answered id m same c noted is 
 }
 
 -- a lookup hangs on no node
-pub lookup_anywhere : (node : ℕ) (name : EndName) (old new : PlainDomain) (lines lines' : List Line) (m : Made) → CallsDomain 0 (lookup_of name) old new lines lines' m → CallsDomain node (lookup_of name) old new lines lines' m
+pub lookup_anywhere : (node : ℕ) (name : EndName) (old new : RunDomain) (lines lines' : List Line) (m : Made) → CallsDomain 0 (lookup_of name) old new lines lines' m → CallsDomain node (lookup_of name) old new lines lines' m
 lookup_anywhere node name old new lines lines' m made =
     let c = made.calls in
     let d = c.does in

@@ -1,11 +1,23 @@
--- One visit at plain ends: what stands near after it, by what stood near before.
-use Rattle.std.proofs.Common.{◌≡◌, ℕ, ◌+◌, Bool, true, false, not, cond, List, [], ◌∷◌, ◌++◌, length, map, drop, slice_get, slice_index, Some, refl, sym, ap, ◌∙◌, subst, arith, append_assoc, append-nil, length-append}
+-- One visit at a domain's ends towards a peer: what the domain did there after it, by what it did before.
+use Rattle.std.proofs.Common.{◌≡◌, ℕ, ◌+◌, ◌≤◌, Bool, true, false, not, cond, List, [], ◌∷◌, ◌++◌, length, map, drop, sum, slice_get, slice_index, Some, refl, sym, ap, ap₂, ◌∙◌, subst, arith, append_assoc, append-nil, length-append}
 use Rattle.std.proofs.lemmas.List.{map-append, length-map}
+use Rattle.std.proofs.lemmas.List.Sums.{sum_by-append}
 use Rattle.lane_end.specs.SendMoves.{SendMove, Looked, Sent}
 use Rattle.lane_end.specs.ReceiveMoves.{ReceiveMove, Took, Gave}
 use Rattle.lane_end.specs.ReceiveMoves as receiving
-use Rattle.lane_end.specs.PlainSender.{Sender, Sends, sender_after}
-use Rattle.lane_end.specs.PlainReceiver.{Receiver, Receives, receiver_after}
+use Rattle.lane_end.specs.SendParts.{frames_sent, back_counts}
+use Rattle.lane_end.specs.ReceiveParts.{frames_taken, numbers_given}
+use Rattle.lane_end.specs.Entries.{frame_in as entry_frame, load_in, frames_in, loads_in, return_in}
+use Rattle.lane_end.specs.Opened.{given_length}
+use Rattle.lane_end.specs.RingSender.{RingSender, put_by, RingSends}
+use Rattle.lane_end.specs.RingReceiver.{RingReceiver, RingReceives, taken_by, given_entries, given_by, with_lengths}
+use Rattle.lane_end.specs.AnySender.{AnySends}
+use Rattle.lane_end.specs.AnyReceiver.{AnyReceives}
+use Rattle.lane_end.specs.declared.any.AnySend.{AnySend}
+use Rattle.lane_end.specs.declared.any.AnyRecv.{AnyRecv}
+use Rattle.lane_end.specs.declared.any.AnySend.TheVariants as send
+use Rattle.lane_end.specs.declared.any.AnyRecv.TheVariants as recv
+use Rattle.shared_words.specs.Entry.{Entry}
 use Rattle.lane_end.specs.Loop.{Loop}
 use Rattle.board_model.specs.Journal.{Visit, Taken}
 use Rattle.board_model.specs.Dealing.{keeps_buffer}
@@ -17,21 +29,45 @@ use Rattle.domain_core.specs.LaneMoves.{LaneMove, sender, receiver, sends, recei
 use Rattle.domain_core.specs.LinkMoved.{LinkMoved}
 use Rattle.domain_core.specs.LoopMoved.{LoopMoved, loop_after}
 use Rattle.domain_core.specs.VisitMoves.{putting, taking, visit_moves}
-use Rattle.domain_core.specs.Carrying.{PlainLink}
-use Rattle.board_runner.specs.Near.{Near, frame_in, near_to}
+use Rattle.domain_core.specs.Carrying.{AnyLink}
+use Rattle.board_runner.specs.Near.{Near, SentNear, GotNear, sent_by, got_by, sent_near, got_near, IsRingSend, IsRingRecv, IsLinkTo, frame_in, near_to}
 
--- the frames that stand there when a visit looks at them. On the own lane those that it put do
-abbrev pub seen_near : Bool → Visit → Near → List (List ℕ)
-seen_near own v n = n.came ++ cond own v.owed []
+-- a visit of a link: the frames that it put and took, what its looks showed, and what it gave back at once. A look shows no less than
+-- was known before, and no more than is known then
+pub record SentVisited (back : ℕ) (owed : List (List ℕ)) (old new : SentNear) : Type 0 where
+  pub put : new.put ≡ old.put ++ owed
+  pub back_is : new.back ≡ old.back + back
+  pub low : old.known ≤ old.back + back
+  pub high : old.back + back ≤ new.known
+  pub grows : old.known ≤ new.known
 
--- a visit tells what stood near, and leaves what it tells
-pub record NearVisited (own : Bool) (v : Visit) (old new : Near) : Type 0 where
-  pub back : v.back ≡ old.back
-  pub see : v.see ≡ length (seen_near own v old)
-  pub came : seen_near own v old ≡ frames_of v.takes ++ new.came
-  pub put : new.put ≡ old.put ++ cond own [] v.owed
-  pub left_back : new.back ≡ cond own (returned_at_once v.takes) 0
-  pub given : new.given ≡ old.given + cond own 0 (returned_at_once v.takes)
+pub record GotVisited (see : ℕ) (takes : List Taken) (old new : GotNear) : Type 0 where
+  pub taken : new.taken ≡ old.taken ++ frames_of takes
+  pub given : new.given ≡ old.given + returned_at_once takes
+  pub low : old.known ≤ length old.taken + see
+  pub high : length old.taken + see ≤ new.known
+  pub grows : old.known ≤ new.known
+
+pub record LinkVisited (v : Visit) (old new : Near) : Type 0 where
+  pub sent : SentVisited v.back v.owed old.sent new.sent
+  pub got : GotVisited v.see v.takes old.got new.got
+
+-- of the own lane only what is there counts
+pub record IsOwn (n : Near) : Type 0 where
+  pub back : n.sent.back ≡ 0
+  pub taken : n.got.taken ≡ []
+
+pub record OwnVisited (v : Visit) (old new : Near) : Type 0 where
+  pub was : IsOwn old
+  pub is : IsOwn new
+  pub back : v.back ≡ old.got.given
+  pub see : v.see ≡ length (old.sent.put ++ v.owed)
+  pub came : old.sent.put ++ v.owed ≡ frames_of v.takes ++ new.sent.put
+  pub given : new.got.given ≡ returned_at_once v.takes
+
+abbrev pub NearVisited : Bool → Visit → Near → Near → Type 0
+NearVisited true v old new = OwnVisited v old new
+NearVisited false v old new = LinkVisited v old new
 
 -- the frames that lanes carry, without their buffers' numbers
 abbrev pub contents : List (ℕ × List ℕ) → List (List ℕ)
@@ -69,19 +105,102 @@ sends_visit v ns =
     ap (λ (xs : List SendMove). Looked v.back ∷ xs)
     (sends_putting v.owed (receiver (receiving.Looked v.see) ∷ taking ns v.takes) ∙ ap (λ (xs : List SendMove). map Sent v.owed ++ xs) (sends_taking ns v.takes) ∙ append-nil (map Sent v.owed))
 
-pub record Put (frames : List (List ℕ)) (a b : Sender) : Type 0 where
-  pub put : contents b.put ≡ contents a.put ++ frames
-  pub back : b.back ≡ a.back
+-- what a sender over a ring did
 
-pub sent-put : (frames : List (List ℕ)) (a b : Sender) → Sends a (map Sent frames) b → Put frames a b
-sent-put [] a b moved = record { put = ap (λ (s : Sender). contents s.put) moved ∙ sym (append-nil (contents a.put)); back = ap (λ (s : Sender). s.back) moved }
-sent-put (f ∷ fs) a b moved =
-    let rest = sent-put fs (sender_after a (Sent f)) b moved.1 in
+pub sent_puts : (fs : List (List ℕ)) → frames_sent (map Sent fs) ≡ fs
+sent_puts [] = refl
+sent_puts (f ∷ fs) = ap (λ (gs : List (List ℕ)). f ∷ gs) (sent_puts fs)
+
+pub puts_show_none : (fs : List (List ℕ)) → back_counts (map Sent fs) ≡ []
+puts_show_none [] = refl
+puts_show_none (f ∷ fs) = puts_show_none fs
+
+ring-sent : (b : ℕ) (owed : List (List ℕ)) (s s' : RingSender) → RingSends s (Looked b ∷ map Sent owed) s' → SentVisited b owed (sent_by s) (sent_by s')
+ring-sent b owed s s' moved =
+    let looks : s'.half.looks ≡ s.half.looks ++ b ∷ [] = moved.looks ∙ ap (λ (xs : List ℕ). s.half.looks ++ b ∷ xs) (puts_show_none owed) in
     record {
-      put =
-          rest.put ∙ ap (λ (xs : List (List ℕ)). xs ++ fs) (map-append frame_in a.put ((slice_index a.free 0, f) ∷ [])) ∙ append_assoc (contents a.put) (f ∷ []) fs;
-      back = rest.back;
+      put = moved.put ∙ ap (λ (fs : List (List ℕ)). put_by s ++ fs) (sent_puts owed);
+      back_is = (let e = ap sum looks in let a = sum_by-append (λ (x : ℕ). x) s.half.looks (b ∷ []) in let c = sum_by-append (λ (x : ℕ). x) [] (b ∷ []) in omega (arith, e, a, c));
+      low = moved.seen.0;
+      high = moved.seen.1;
+      grows = moved.known;
     }
+
+any-sent : (b : ℕ) (owed : List (List ℕ)) (s s' : AnySend) → IsRingSend s → AnySends s (Looked b ∷ map Sent owed) s' → SentVisited b owed (sent_near s) (sent_near s')
+any-sent b owed (send.Driver s) (send.Driver t) ring moved = ring-sent b owed s t moved
+any-sent b owed (send.Device s) (send.Device t) ring moved = ring-sent b owed s t moved
+any-sent b owed (send.Plain s) t ring moved = absurd ring
+any-sent b owed (send.Driver s) (send.Plain t) ring moved = absurd moved
+any-sent b owed (send.Driver s) (send.Device t) ring moved = absurd moved
+any-sent b owed (send.Device s) (send.Plain t) ring moved = absurd moved
+any-sent b owed (send.Device s) (send.Driver t) ring moved = absurd moved
+
+-- what a receiver over a ring did
+
+pub loads-frames : (es : List Entry) → contents (loads_in es) ≡ frames_in es
+loads-frames [] = refl
+loads-frames (e ∷ es) = ap (λ (fs : List (List ℕ)). entry_frame e ∷ fs) (loads-frames es)
+
+record TakesTell (ms : List ReceiveMove) (ts : List Taken) : Type 0 where
+  frames : contents (frames_taken ms) ≡ frames_of ts
+  given : length (numbers_given ms) ≡ returned_at_once ts
+
+takes-tell : (ns : List ℕ) (ts : List Taken) → length ns ≡ length ts → TakesTell (receives (taking ns ts)) ts
+takes-tell [] [] each = record { frames = refl; given = refl }
+takes-tell [] (t ∷ ts) each = absurd (omega (arith, each))
+takes-tell (n ∷ ns) [] each = absurd (omega (arith, each))
+takes-tell (n ∷ ns) (t ∷ ts) each = go (keeps_buffer t.fate) refl (takes-tell ns ts (omega (arith, each)))
+  where
+    go : (k : Bool) → keeps_buffer t.fate ≡ k → TakesTell (receives (taking ns ts)) ts → TakesTell (Took n t.frame ∷ receives (cond k [] (receiver (Gave n) ∷ []) ++ taking ns ts)) (t ∷ ts)
+    go true e rest = record { frames = ap (λ (fs : List (List ℕ)). t.frame ∷ fs) rest.frames; given = omega (arith, rest.given, returned_one t ts true e) }
+    go false e rest = record { frames = ap (λ (fs : List (List ℕ)). t.frame ∷ fs) rest.frames; given = omega (arith, rest.given, returned_one t ts false e) }
+
+ring-taken : (see : ℕ) (ms : List ReceiveMove) (r r' : RingReceiver) → RingReceives r (receiving.Looked see ∷ ms) r' → (frames : List (List ℕ)) → contents (frames_taken ms) ≡ frames → (got_by r').taken ≡ (got_by r).taken ++ frames
+ring-taken see ms r r' moved frames taken =
+    sym (loads-frames r'.half.taken) ∙ ap contents moved.taken ∙ map-append frame_in (taken_by r) (frames_taken ms) ∙ ap₂ (λ (xs ys : List (List ℕ)). xs ++ ys) (loads-frames r.half.taken) taken
+
+ring-given : (see : ℕ) (ms : List ReceiveMove) (r r' : RingReceiver) → RingReceives r (receiving.Looked see ∷ ms) r' → (given : ℕ) → length (numbers_given ms) ≡ given → (got_by r').given ≡ (got_by r).given + given
+ring-given see ms r r' moved given many =
+    let a = ap length moved.given in
+    let b = length-append (given_by r) (with_lengths r.role (numbers_given ms)) in
+    let c = length-map (given_entries r) return_in in
+    let d = length-map (given_entries r') return_in in
+    let e : length (with_lengths r.role (numbers_given ms)) ≡ length (numbers_given ms) = length-map (numbers_given ms) (λ (n : ℕ). (n, given_length r.role)) in
+    omega (arith, a, b, c, d, e, many)
+
+any-got : (see : ℕ) (ns : List ℕ) (ts : List Taken) (r r' : AnyRecv) → IsRingRecv r → length ns ≡ length ts → AnyReceives r (receiving.Looked see ∷ receives (taking ns ts)) r' → GotVisited see ts (got_near r) (got_near r')
+any-got see ns ts r r' ring each moved = go r r' ring moved
+  where
+    tell : TakesTell (receives (taking ns ts)) ts
+    tell = takes-tell ns ts each
+
+    got : (r r' : RingReceiver) → RingReceives r (receiving.Looked see ∷ receives (taking ns ts)) r' → GotVisited see ts (got_by r) (got_by r')
+    got r r' moved =
+        let same : length (got_by r).taken ≡ length r.half.taken = length-map r.half.taken entry_frame in
+        record {
+          taken = ring-taken see (receives (taking ns ts)) r r' moved (frames_of ts) tell.frames;
+          given = ring-given see (receives (taking ns ts)) r r' moved (returned_at_once ts) tell.given;
+          low = let l = moved.seen.0 in omega (arith, l, same);
+          high = let h = moved.seen.1 in omega (arith, h, same);
+          grows = moved.known;
+        }
+
+    go : (r r' : AnyRecv) → IsRingRecv r → AnyReceives r (receiving.Looked see ∷ receives (taking ns ts)) r' → GotVisited see ts (got_near r) (got_near r')
+    go (recv.Driver a) (recv.Driver b) ring moved = got a b moved
+    go (recv.Device a) (recv.Device b) ring moved = got a b moved
+    go (recv.Plain a) b ring moved = absurd ring
+    go (recv.Driver a) (recv.Plain b) ring moved = absurd moved
+    go (recv.Driver a) (recv.Device b) ring moved = absurd moved
+    go (recv.Device a) (recv.Plain b) ring moved = absurd moved
+    go (recv.Device a) (recv.Driver b) ring moved = absurd moved
+
+pub link-visited : (v : Visit) (ns : List ℕ) (p : ℕ) (a b : AnyLink) → IsLinkTo p a → length ns ≡ length v.takes → LinkMoved AnySends AnyReceives a (visit_moves v ns) b → LinkVisited v (near_to (Linked a)) (near_to (Linked b))
+link-visited v ns p a b rings each moved =
+    let sent = subst (λ (ms : List SendMove). AnySends a.send ms b.send) (sends_visit v ns) moved.sent in
+    let received = subst (λ (ms : List ReceiveMove). AnyReceives a.recv ms b.recv) (receives_putting v.owed (receiver (receiving.Looked v.see) ∷ taking ns v.takes)) moved.received in
+    record { sent = any-sent v.back v.owed a.send b.send rings.sends sent; got = any-got v.see ns v.takes a.recv b.recv rings.receives each received }
+
+-- ---- the own lane
 
 -- frames leave those that came, and some of their buffers are given back
 record Taking (ts : List Taken) (old new : List (ℕ × List ℕ)) (back back' : List ℕ) : Type 0 where
@@ -94,36 +213,6 @@ taking_more n t ts came came' given given1 given' k e first more rest = record {
   came = first-came n t.frame came first ∙ ap (λ (xs : List (List ℕ)). t.frame ∷ xs) rest.came;
   given = omega (arith, rest.given, more, returned_one t ts k e);
 }
-
-received-takes : (ns : List ℕ) (ts : List Taken) (a b : Receiver) → length ns ≡ length ts → Receives a (receives (taking ns ts)) b → Taking ts a.came b.came a.given b.given
-received-takes [] [] a b each moved = record { came = ap (λ (r : Receiver). contents r.came) (sym moved); given = omega (arith, ap (λ (r : Receiver). length r.given) moved) }
-received-takes [] (t ∷ ts) a b each moved = absurd (omega (arith, each))
-received-takes (n ∷ ns) [] a b each moved = absurd (omega (arith, each))
-received-takes (n ∷ ns) (t ∷ ts) a b each moved = go (keeps_buffer t.fate) refl moved.1 (λ c rest. received-takes ns ts c b (omega (arith, each)) rest)
-  where
-    go : (k : Bool) → keeps_buffer t.fate ≡ k → Receives (receiver_after a (Took n t.frame)) (receives (cond k [] (receiver (Gave n) ∷ []) ++ taking ns ts)) b
-        → ((c : Receiver) → Receives c (receives (taking ns ts)) b → Taking ts c.came b.came c.given b.given) → Taking (t ∷ ts) a.came b.came a.given b.given
-    go true e rest later = taking_more n t ts a.came b.came a.given a.given b.given true e moved.0.1 (omega arith) (later (receiver_after a (Took n t.frame)) rest)
-    go false e rest later =
-        taking_more n t ts a.came b.came a.given (a.given ++ n ∷ []) b.given false e moved.0.1 (omega (arith, length-append a.given (n ∷ [])))
-        (later (receiver_after (receiver_after a (Took n t.frame)) (Gave n)) rest.1)
-
-pub link-visited : (v : Visit) (ns : List ℕ) (a b : PlainLink) → length ns ≡ length v.takes → LinkMoved Sends Receives a (visit_moves v ns) b → NearVisited false v (near_to (Linked a)) (near_to (Linked b))
-link-visited v ns a b each moved =
-    let sent = subst (λ (ms : List SendMove). Sends a.send ms b.send) (sends_visit v ns) moved.sent in
-    let received = subst (λ (ms : List ReceiveMove). Receives a.recv ms b.recv) (receives_putting v.owed (receiver (receiving.Looked v.see) ∷ taking ns v.takes)) moved.received in
-    let puts = sent-put v.owed (sender_after a.send (Looked v.back)) b.send sent.1 in
-    let takes = received-takes ns v.takes (receiver_after a.recv (receiving.Looked v.see)) b.recv each received.1 in
-    record {
-      back = sent.0;
-      see = omega (arith, received.0, length-map a.recv.came frame_in, ap length (append-nil (contents a.recv.came)));
-      came = append-nil (contents a.recv.came) ∙ takes.came;
-      put = puts.put;
-      left_back = ap length puts.back;
-      given = takes.given;
-    }
-
--- ---- the own lane
 
 pub record LoopPut (frames : List (List ℕ)) (ms : List LaneMove) (a b : Loop) : Type 0 where
   pub mid : Loop
@@ -156,16 +245,16 @@ loop-takes (n ∷ ns) (t ∷ ts) a b each moved = go (keeps_buffer t.fate) refl 
         taking_more n t ts a.frames b.frames a.back (a.back ++ n ∷ []) b.back false e moved.0.1 (omega (arith, length-append a.back (n ∷ [])))
         (later (loop_after (loop_after a (receiver (Took n t.frame))) (receiver (Gave n))) rest.1)
 
-pub own-visited : (v : Visit) (ns : List ℕ) (a b : Loop) → length ns ≡ length v.takes → LoopMoved a (visit_moves v ns) b → NearVisited true v (near_to (Own a)) (near_to (Own b))
+pub own-visited : (v : Visit) (ns : List ℕ) (a b : Loop) → length ns ≡ length v.takes → LoopMoved a (visit_moves v ns) b → OwnVisited v (near_to (Own a)) (near_to (Own b))
 own-visited v ns a b each moved =
     let puts = loop-put v.owed (receiver (receiving.Looked v.see) ∷ taking ns v.takes) (loop_after a (sender (Looked v.back))) b moved.1 in
     let looked = puts.rest in
     let takes = loop-takes ns v.takes (loop_after puts.mid (receiver (receiving.Looked v.see))) b each looked.1 in
     record {
+      was = record { back = refl; taken = refl };
+      is = record { back = refl; taken = refl };
       back = moved.0;
       see = omega (arith, looked.0, length-map puts.mid.frames frame_in, ap length puts.put);
       came = sym puts.put ∙ takes.came;
-      put = refl;
-      left_back = omega (arith, takes.given, ap length puts.back);
-      given = refl;
+      given = omega (arith, takes.given, ap length puts.back);
     }

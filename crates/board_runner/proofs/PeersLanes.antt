@@ -6,18 +6,16 @@ use Rattle.board_model.specs.declared.scenario.DomainLine.{DomainLine}
 use Rattle.board_model.specs.declared.scenario.Scenario.{Scenario}
 use Rattle.board_model.specs.LinkedBoard.{IsLinkedBoard}
 use Rattle.board_model.specs.Scenario.{Neighbour, Lane, lanes, rising, neighbours}
-use Rattle.board_model.specs.SerialRun.{Running}
 use Rattle.board_model.proofs.MessageAlls.{all-at, all-found, all-weaken, found-passes}
 use Rattle.board_model.proofs.PlaceBoards.{rising_differ}
 use Rattle.board_model.proofs.WholeHas.{Has, has-weaken, has-map, has-each, has-gives}
 use Rattle.board_model.proofs.WholeJoined.{Joined, joined_back, joined_found, rising_told, neighbours_join, lanes_join, found_neighbour, has_lane}
 use Rattle.board_runner.specs.declared.station.Station.{Station}
 use Rattle.board_runner.specs.Near.{peers_of}
-use Rattle.board_model.specs.SerialRun as serial
-use Rattle.board_runner.specs.Stations.{domain_of, IsRun}
-use Rattle.board_runner.proofs.StationLemmas.{numbers_are, domains_rise}
-use Rattle.board_runner.proofs.RunFinds.{mapped-at, find-at}
-use Rattle.board_runner.proofs.RunStations.{number_in, StationAt, station-at, station-number}
+use Rattle.board_runner.specs.Stations.{domain_of, IsBoard}
+use Rattle.board_runner.proofs.RunBoards.{board-at, board-numbers}
+use Rattle.board_runner.proofs.RunFinds.{find-at}
+use Rattle.board_runner.proofs.RunStations.{number_in}
 
 -- a peer among them
 abbrev pub HasPeer : List ℕ → ℕ → Type 0
@@ -66,18 +64,15 @@ record LineAt (s : Scenario) (i n : ℕ) (ps : List ℕ) : Type 0 where
   found : find (λ e. e.domain == n) (rising s) ≡ Some line
   peers : ps ≡ map (λ (m : Neighbour). m.number) (neighbours s line)
 
-module _ (s : Scenario) (board : IsLinkedBoard s) (r : Running) (sts : List Station) (run : IsRun s r sts) where
+module _ (s : Scenario) (board : IsLinkedBoard s) (sts : List Station) (b : IsBoard s sts) where
   line-at : (i : ℕ) (st : Station) → slice_get sts i ≡ Some st → LineAt s i (number_in st) (peers_of st.domain)
   line-at i st at =
-      let t : StationAt s r.stations i st = station-at s r.stations sts i st run.each at in
-      let line = t.station.line in
-      let is : line.domain ≡ number_in st = sym (station-number s t.station st t.is) in
-      let place : slice_get (rising s) i ≡ Some line = ap (λ (ds : List DomainLine). slice_get ds i) (sym run.lines) ∙ mapped-at (λ x. x.line) r.stations i t.station t.at in
+      let t = board-at s sts b i st at in
       record {
-        line = line;
-        is_number = is;
-        at = place;
-        found = find-at (λ (d : DomainLine). d.domain) (rising s) i line (number_in st) (rising_differ s board) place is;
+        line = t.line;
+        is_number = sym t.is.number;
+        at = t.at;
+        found = find-at (λ (d : DomainLine). d.domain) (rising s) i t.line (number_in st) (rising_differ s board) t.at (sym t.is.number);
         peers = t.is.peers;
       }
 
@@ -121,8 +116,7 @@ module _ (s : Scenario) (board : IsLinkedBoard s) (r : Running) (sts : List Stat
   peer-there i st at m has none =
       let j = peer_joined i st at m has in
       let d = joined_found s board m (number_in st) j.0 (joined_back s (number_in st) m j.0 j.1) in
-      let lines : map (λ (t : serial.Station). t.line.domain) r.stations ≡ map (λ (e : DomainLine). e.domain) (rising s) = domains_rise s r.stations run.lines in
-      let nowhere : find (λ e. e.domain == m) (rising s) ≡ None = missing m sts (rising s) (numbers_are s r.stations sts run.each ∙ lines) none in
+      let nowhere : find (λ e. e.domain == m) (rising s) ≡ None = missing m sts (rising s) (board-numbers s sts b) none in
       none_some (find (λ e. e.domain == m) (rising s)) d.0 nowhere d.1
 
   -- of two domains each is a peer of the other, or neither is

@@ -1,13 +1,28 @@
 -- Turns and calls that put nothing and give nothing back, by the lines of the journal.
-use Rattle.std.proofs.Common.{◌≡◌, ℕ, ◌-◌, Bool, true, false, ◌&&◌, ◌||◌, cond, List, [], ◌∷◌, ◌++◌, length, map, flat_map, slice_get, Option, Some, None, refl, sym, ap, ◌∙◌, subst, arith, eqb-true, true≢false, append_assoc, length-append}
-use Rattle.std.specs.Prelude.{◌==◌}
+use Rattle.std.proofs.Common.{◌≡◌, ℕ, ◌-◌, Bool, true, false, ◌&&◌, ◌||◌, cond, List, [], ◌∷◌, ◌++◌, length, map, sum, flat_map, slice_get, Option, Some, None, refl, sym, ap, ◌∙◌, subst, arith, eqb-true, true≢false, append_assoc, append-nil, length-append}
+use Rattle.std.specs.Prelude.{◌==◌, ◌≤◌}
+use Rattle.std.proofs.lemmas.List.{length-map}
+use Rattle.std.proofs.lemmas.List.Sums.{sum_by-append}
 use Rattle.std.specs.List.{AllByRecursion, list_all}
 use Rattle.mc_base.specs.declared.refusal.Refusal.{Refusal}
 use Rattle.mc_base.specs.declared.request.Slot.{Slot}
 use Rattle.lane_end.specs.SendMoves.{Looked, Sent}
 use Rattle.lane_end.specs.ReceiveMoves as receiving
-use Rattle.lane_end.specs.PlainSender.{Sender, Sends, sender_after}
-use Rattle.lane_end.specs.PlainReceiver.{Receiver, Receives, receiver_after}
+use Rattle.lane_end.specs.Loop.{Loop}
+use Rattle.lane_end.specs.SendMoves.{SendMove}
+use Rattle.lane_end.specs.ReceiveMoves.{ReceiveMove}
+use Rattle.lane_end.specs.SendParts.{frames_sent, back_counts}
+use Rattle.lane_end.specs.ReceiveParts.{frames_taken, numbers_given}
+use Rattle.lane_end.specs.Entries.{return_in}
+use Rattle.lane_end.specs.Opened.{given_length}
+use Rattle.lane_end.specs.RingSender.{RingSender, put_by, RingSends}
+use Rattle.lane_end.specs.RingReceiver.{RingReceiver, RingReceives, taken_by, given_by, given_entries, with_lengths}
+use Rattle.lane_end.specs.AnySender.{AnySends}
+use Rattle.lane_end.specs.AnyReceiver.{AnyReceives}
+use Rattle.lane_end.specs.declared.any.AnySend.{AnySend}
+use Rattle.lane_end.specs.declared.any.AnyRecv.{AnyRecv}
+use Rattle.lane_end.specs.declared.any.AnySend.TheVariants as send
+use Rattle.lane_end.specs.declared.any.AnyRecv.TheVariants as recv
 use Rattle.board_model.specs.declared.scenario.Call.{Call}
 use Rattle.board_model.specs.declared.scenario.Call.TheVariants.{Create, Delete, Lookup, MsgSend, MsgRecv, MsgRecvI, MsgAvailable, Test, Cancel, Turn}
 use Rattle.board_model.specs.declared.scenario.CallLine.{CallLine}
@@ -19,6 +34,7 @@ use Rattle.board_model.specs.Serial.{put_entry}
 use Rattle.board_model.specs.State.{DomainState, Item}
 use Rattle.board_model.specs.Step.{is_tried}
 use Rattle.domain_core.specs.declared.ends.Ends.TheVariants.{Own, Linked}
+use Rattle.domain_core.specs.LoopMoved.{LoopMoved, loop_after}
 use Rattle.domain_core.specs.LaneMoves.{LaneMove, sender, receiver, sends, receives}
 use Rattle.domain_core.specs.VisitMoves.{putting, taking, visit_moves}
 use Rattle.domain_core.specs.AllMoved.{AllMoved, turn_moves, call_moves}
@@ -26,59 +42,132 @@ use Rattle.domain_core.specs.InBook.{item_at}
 use Rattle.mc_journal.specs.Entry.{plain_answer}
 use Rattle.board_runner.specs.declared.station.Station.{Station}
 use Rattle.board_runner.specs.declared.line.Made.{Made}
-use Rattle.board_runner.specs.Near.{PlainEnds, near_to, near_among}
-use Rattle.board_runner.specs.Carried.{HasCome, StayCarried, StayCarriedWhere}
-use Rattle.board_runner.specs.Lines.{MakesCall, call_by, call_at_station, is_idle_line, ends_idle, is_turn, is_quiet}
+use Rattle.board_runner.specs.Near.{SentNear, GotNear, sent_by, got_by, sent_near, got_near, frame_in, nothing_near, RunEnds, near_to, near_among}
+use Rattle.board_runner.specs.Carried.{DidNothing, Knows, StayCarried, StayCarriedWhere}
+use Rattle.board_runner.specs.Lines.{MakesCall, IsIdleWhere, call_by, call_at_station, is_idle_line, ends_idle, is_turn, is_quiet}
 use Rattle.board_runner.proofs.CallLemmas.{tried_nothing}
+use Rattle.board_runner.proofs.NearEnds.{contents, loads-frames}
+use Rattle.board_runner.proofs.RunCarried.{did-nothing, did-nothing-both}
 use Rattle.board_runner.proofs.TurnEnds.{Moved}
 
--- ---- moves that only look
+-- ---- moves that only look, and show nothing to have come back
 
 abbrev OnlyLooks : List LaneMove → Type 0
 OnlyLooks [] = Unit {0}
-OnlyLooks (sender (Looked n) ∷ ms) = OnlyLooks ms
+OnlyLooks (sender (Looked n) ∷ ms) = (n ≡ 0) × OnlyLooks ms
 OnlyLooks (receiver (receiving.Looked n) ∷ ms) = OnlyLooks ms
 OnlyLooks (sender (Sent f) ∷ ms) = ⊥
 OnlyLooks (receiver (receiving.Took n f) ∷ ms) = ⊥
 OnlyLooks (receiver (receiving.Gave n) ∷ ms) = ⊥
 
-put_stays : (ms : List LaneMove) (a b : Sender) → OnlyLooks ms → Sends a (sends ms) b → b.put ≡ a.put
-put_stays [] a b looks moved = ap (λ (s : Sender). s.put) moved
-put_stays (sender (Looked n) ∷ ms) a b looks moved = put_stays ms (sender_after a (Looked n)) b looks moved.1
-put_stays (receiver (receiving.Looked n) ∷ ms) a b looks moved = put_stays ms a b looks moved
-put_stays (sender (Sent f) ∷ ms) a b looks moved = absurd looks
-put_stays (receiver (receiving.Took n f) ∷ ms) a b looks moved = absurd looks
-put_stays (receiver (receiving.Gave n) ∷ ms) a b looks moved = absurd looks
+-- they put, take and give back nothing
+record PartsNone (ms : List LaneMove) : Type 0 where
+  sent : frames_sent (sends ms) ≡ []
+  back : sum (back_counts (sends ms)) ≡ 0
+  taken : frames_taken (receives ms) ≡ []
+  given : numbers_given (receives ms) ≡ []
 
-given_stays : (ms : List LaneMove) (a b : Receiver) → OnlyLooks ms → Receives a (receives ms) b → b.given ≡ a.given
-given_stays [] a b looks moved = ap (λ (r : Receiver). r.given) moved
-given_stays (sender (Looked n) ∷ ms) a b looks moved = given_stays ms a b looks moved
-given_stays (receiver (receiving.Looked n) ∷ ms) a b looks moved = given_stays ms (receiver_after a (receiving.Looked n)) b looks moved.1
-given_stays (sender (Sent f) ∷ ms) a b looks moved = absurd looks
-given_stays (receiver (receiving.Took n f) ∷ ms) a b looks moved = absurd looks
-given_stays (receiver (receiving.Gave n) ∷ ms) a b looks moved = absurd looks
+parts_none : (ms : List LaneMove) → OnlyLooks ms → PartsNone ms
+parts_none [] looks = record { sent = refl; back = refl; taken = refl; given = refl }
+parts_none (sender (Looked n) ∷ ms) looks =
+    let rest = parts_none ms looks.1 in
+    record { sent = rest.sent; back = (let s = sum_by-append (λ (x : ℕ). x) (n ∷ []) (back_counts (sends ms)) in omega (arith, s, looks.0, rest.back)); taken = rest.taken; given = rest.given }
+parts_none (receiver (receiving.Looked n) ∷ ms) looks = let rest = parts_none ms looks in record { sent = rest.sent; back = rest.back; taken = rest.taken; given = rest.given }
+parts_none (sender (Sent f) ∷ ms) looks = absurd looks
+parts_none (receiver (receiving.Took n f) ∷ ms) looks = absurd looks
+parts_none (receiver (receiving.Gave n) ∷ ms) looks = absurd looks
 
-end_stays : (e : PlainEnds) (ms : List LaneMove) (e' : PlainEnds) → OnlyLooks ms → Moved e ms e' → HasCome (near_to e) → HasCome (near_to e')
-end_stays (Own a) ms (Own b) looks moved h = record { put = refl; given = refl }
-end_stays (Linked a) ms (Linked b) looks moved h = record {
-  put = ap (map (λ (f : ℕ × List ℕ). f.1)) (put_stays ms a.send b.send looks moved.sent) ∙ h.put;
-  given = ap length (given_stays ms a.recv b.recv looks moved.received) ∙ h.given;
-}
-end_stays (Own a) ms (Linked b) looks moved h = absurd moved
-end_stays (Linked a) ms (Own b) looks moved h = absurd moved
+record SentStays (s t : SentNear) : Type 0 where
+  put : t.put ≡ s.put
+  back : t.back ≡ s.back
+  knows : s.known ≤ t.known
 
-stay_carried : (es : List PlainEnds) (moves : List (List LaneMove)) (es' : List PlainEnds) → AllByRecursion OnlyLooks moves → AllMoved Moved es moves es' → StayCarried es es'
-stay_carried es moves es' looks moved [] p h = record { put = refl; given = refl }
-stay_carried [] [] [] looks moved (q ∷ ps) p h = h
-stay_carried [] [] (e' ∷ es') looks moved (q ∷ ps) p h = absurd moved
-stay_carried [] (ms ∷ moves) es' looks moved (q ∷ ps) p h = absurd moved
-stay_carried (e ∷ es) [] es' looks moved (q ∷ ps) p h = absurd moved
-stay_carried (e ∷ es) (ms ∷ moves) [] looks moved (q ∷ ps) p h = absurd moved
-stay_carried (e ∷ es) (ms ∷ moves) (e' ∷ es') looks moved (q ∷ ps) p h = go (q == p) h (stay_carried es moves es' looks.1 moved.1 ps p)
+record GotStays (r q : GotNear) : Type 0 where
+  taken : q.taken ≡ r.taken
+  given : q.given ≡ r.given
+  knows : r.known ≤ q.known
+
+module _ (ms : List LaneMove) (none : PartsNone ms) where
+  ring_sends : (s t : RingSender) → RingSends s (sends ms) t → SentStays (sent_by s) (sent_by t)
+  ring_sends s t moved = record {
+    put = moved.put ∙ ap (λ (fs : List (List ℕ)). put_by s ++ fs) none.sent ∙ append-nil (put_by s);
+    back = (let a = ap sum moved.looks in let b = sum_by-append (λ (x : ℕ). x) s.half.looks (back_counts (sends ms)) in omega (arith, a, b, none.back));
+    knows = moved.known;
+  }
+
+  ring_receives : (r q : RingReceiver) → RingReceives r (receives ms) q → GotStays (got_by r) (got_by q)
+  ring_receives r q moved = record {
+    taken = sym (loads-frames q.half.taken) ∙ ap contents (moved.taken ∙ ap (λ (fs : List (ℕ × List ℕ)). taken_by r ++ fs) none.taken ∙ append-nil (taken_by r)) ∙ loads-frames r.half.taken;
+    given = (let a = ap length (moved.given ∙ ap (λ (ns : List ℕ). given_by r ++ with_lengths r.role ns) none.given ∙ append-nil (given_by r)) in let c = length-map (given_entries r) return_in in let d = length-map (given_entries q) return_in in omega (arith, a, c, d));
+    knows = moved.known;
+  }
+
+  any_sends : (s t : AnySend) → AnySends s (sends ms) t → SentStays (sent_near s) (sent_near t)
+  any_sends (send.Driver s) (send.Driver t) moved = ring_sends s t moved
+  any_sends (send.Device s) (send.Device t) moved = ring_sends s t moved
+  any_sends (send.Plain s) (send.Plain t) moved = record { put = refl; back = refl; knows = omega arith }
+  any_sends (send.Plain s) (send.Driver t) moved = absurd moved
+  any_sends (send.Plain s) (send.Device t) moved = absurd moved
+  any_sends (send.Driver s) (send.Plain t) moved = absurd moved
+  any_sends (send.Driver s) (send.Device t) moved = absurd moved
+  any_sends (send.Device s) (send.Plain t) moved = absurd moved
+  any_sends (send.Device s) (send.Driver t) moved = absurd moved
+
+  any_receives : (r q : AnyRecv) → AnyReceives r (receives ms) q → GotStays (got_near r) (got_near q)
+  any_receives (recv.Driver r) (recv.Driver q) moved = ring_receives r q moved
+  any_receives (recv.Device r) (recv.Device q) moved = ring_receives r q moved
+  any_receives (recv.Plain r) (recv.Plain q) moved = record { taken = refl; given = refl; knows = omega arith }
+  any_receives (recv.Plain r) (recv.Driver q) moved = absurd moved
+  any_receives (recv.Plain r) (recv.Device q) moved = absurd moved
+  any_receives (recv.Driver r) (recv.Plain q) moved = absurd moved
+  any_receives (recv.Driver r) (recv.Device q) moved = absurd moved
+  any_receives (recv.Device r) (recv.Plain q) moved = absurd moved
+  any_receives (recv.Device r) (recv.Driver q) moved = absurd moved
+
+-- ---- the own lane
+
+record LoopStays (a b : Loop) : Type 0 where
+  frames : b.frames ≡ a.frames
+  back : length b.back ≡ length a.back
+
+loop_stays : (ms : List LaneMove) (a b : Loop) → OnlyLooks ms → LoopMoved a ms b → LoopStays a b
+loop_stays [] a b looks moved = record { frames = ap (λ (l : Loop). l.frames) moved; back = ap (λ (l : Loop). length l.back) moved }
+loop_stays (sender (Looked n) ∷ ms) a b looks moved =
+    let rest = loop_stays ms (loop_after a (sender (Looked n))) b looks.1 moved.1 in
+    let many = moved.0 in
+    record { frames = rest.frames; back = omega (arith, rest.back, many, looks.0) }
+loop_stays (receiver (receiving.Looked n) ∷ ms) a b looks moved =
+    let rest = loop_stays ms (loop_after a (receiver (receiving.Looked n))) b looks moved.1 in
+    record { frames = rest.frames; back = rest.back }
+loop_stays (sender (Sent f) ∷ ms) a b looks moved = absurd looks
+loop_stays (receiver (receiving.Took n f) ∷ ms) a b looks moved = absurd looks
+loop_stays (receiver (receiving.Gave n) ∷ ms) a b looks moved = absurd looks
+
+end_stays : (e : RunEnds) (ms : List LaneMove) (e' : RunEnds) → OnlyLooks ms → Moved e ms e' → DidNothing (near_to e) (near_to e')
+end_stays (Own a) ms (Own b) looks moved =
+    let stays = loop_stays ms a b looks moved in
+    let many = ap length stays.frames in
+    record { put = ap contents stays.frames; back = refl; taken = refl; given = stays.back; knows = record { come = omega (arith, many); back = omega (arith, stays.back) } }
+end_stays (Linked a) ms (Linked b) looks moved =
+    let none = parts_none ms looks in
+    let sent = any_sends ms none a.send b.send moved.sent in
+    let got = any_receives ms none a.recv b.recv moved.received in
+    record { put = sent.put; back = sent.back; taken = got.taken; given = got.given; knows = record { come = got.knows; back = sent.knows } }
+end_stays (Own a) ms (Linked b) looks moved = absurd moved
+end_stays (Linked a) ms (Own b) looks moved = absurd moved
+
+stay_carried : (es : List RunEnds) (moves : List (List LaneMove)) (es' : List RunEnds) → AllByRecursion OnlyLooks moves → AllMoved Moved es moves es' → StayCarried es es'
+stay_carried es moves es' looks moved [] p = did-nothing nothing_near nothing_near refl
+stay_carried [] [] [] looks moved (q ∷ ps) p = did-nothing nothing_near nothing_near refl
+stay_carried [] [] (e' ∷ es') looks moved (q ∷ ps) p = absurd moved
+stay_carried [] (ms ∷ moves) es' looks moved (q ∷ ps) p = absurd moved
+stay_carried (e ∷ es) [] es' looks moved (q ∷ ps) p = absurd moved
+stay_carried (e ∷ es) (ms ∷ moves) [] looks moved (q ∷ ps) p = absurd moved
+stay_carried (e ∷ es) (ms ∷ moves) (e' ∷ es') looks moved (q ∷ ps) p = go (q == p) (stay_carried es moves es' looks.1 moved.1 ps p)
   where
-    go : (b : Bool) → HasCome (cond b (near_to e) (near_among ps es p)) → (HasCome (near_among ps es p) → HasCome (near_among ps es' p)) → HasCome (cond b (near_to e') (near_among ps es' p))
-    go true here later = end_stays e ms e' looks.0 moved.0 here
-    go false there later = later there
+    go : (b : Bool) → DidNothing (near_among ps es p) (near_among ps es' p) → DidNothing (cond b (near_to e) (near_among ps es p)) (cond b (near_to e') (near_among ps es' p))
+    go true later = end_stays e ms e' looks.0 moved.0
+    go false later = later
 
 -- ---- idle turns
 
@@ -94,17 +183,17 @@ looks_of see (f ∷ fs) ns ts none_owed none_taken = absurd (omega (arith, none_
 
 idle_looks : (v : Visit) (ns : List ℕ) → is_idle v ≡ true → OnlyLooks (visit_moves v ns)
 idle_looks v ns idle =
-    let rest = (both_true (v.back == 0) (length v.owed == 0 && (v.see == 0 && length v.takes == 0)) idle).1 in
-    let owed = both_true (length v.owed == 0) (v.see == 0 && length v.takes == 0) rest in
+    let back = both_true (v.back == 0) (length v.owed == 0 && (v.see == 0 && length v.takes == 0)) idle in
+    let owed = both_true (length v.owed == 0) (v.see == 0 && length v.takes == 0) back.1 in
     let takes = (both_true (v.see == 0) (length v.takes == 0) owed.1).1 in
-    looks_of v.see v.owed ns v.takes (eqb-true (length v.owed) 0 owed.0) (eqb-true (length v.takes) 0 takes)
+    (eqb-true v.back 0 back.0, looks_of v.see v.owed ns v.takes (eqb-true (length v.owed) 0 owed.0) (eqb-true (length v.takes) 0 takes))
 
 turn_looks : (vs : List Visit) (numbers : List (List ℕ)) → list_all is_idle vs ≡ true → AllByRecursion OnlyLooks (turn_moves vs numbers)
 turn_looks [] numbers idle = tt
 turn_looks (v ∷ vs) [] idle = tt
 turn_looks (v ∷ vs) (ns ∷ numbers) idle = let both = both_true (is_idle v) (list_all is_idle vs) idle in (idle_looks v ns both.0, turn_looks vs numbers both.1)
 
-pub idle-stays : (es : List PlainEnds) (vs : List Visit) (numbers : List (List ℕ)) (es' : List PlainEnds) → list_all is_idle vs ≡ true → AllMoved Moved es (turn_moves vs numbers) es' → StayCarried es es'
+pub idle-stays : (es : List RunEnds) (vs : List Visit) (numbers : List (List ℕ)) (es' : List RunEnds) → list_all is_idle vs ≡ true → AllMoved Moved es (turn_moves vs numbers) es' → StayCarried es es'
 idle-stays es vs numbers es' idle moved = stay_carried es (turn_moves vs numbers) es' (turn_looks vs numbers idle) moved
 
 -- ---- calls that put nothing and give nothing back
@@ -117,7 +206,7 @@ no_slots : (item : Slot → Item) (slots : List Slot) → map item slots ≡ [] 
 no_slots item [] e = refl
 no_slots item (s ∷ ss) e = absurd cc
 
-call_stays : (es : List PlainEnds) (frames : List (ℕ × List ℕ)) (item : Slot → Item) (slots : List Slot) (items : List Item) (ps : List ℕ) (es' : List PlainEnds) → frames ≡ [] → items ≡ [] → map item slots ≡ items
+call_stays : (es : List RunEnds) (frames : List (ℕ × List ℕ)) (item : Slot → Item) (slots : List Slot) (items : List Item) (ps : List ℕ) (es' : List RunEnds) → frames ≡ [] → items ≡ [] → map item slots ≡ items
     → AllMoved Moved es (call_moves frames slots ps) es' → StayCarried es es'
 call_stays es frames item slots items ps es' no_frames no_items returned moved =
     stay_carried es (call_moves [] [] ps) es' (call_looks ps)
@@ -214,8 +303,15 @@ either : {P : Type 0} (x y : Bool) → (x || y) ≡ true → (x ≡ true → P) 
 either true y e one two = one refl
 either false y e one two = two e
 
+-- the turn of a quiet call is idle
+pub quiet-idle : (line : CallLine) (old new : Station) (m : Made) (makes : MakesCall line old new m) → is_quiet line.call (plain_answer m.answer) new.journal.lines ≡ true → list_all is_idle makes.calls.visits ≡ true
+quiet-idle line old new m makes quiet =
+    let both = both_true (is_turn line.call || is_tried (plain_answer m.answer)) (ends_idle new.journal.lines) quiet in
+    let c = makes.calls in
+    (told_idle old.journal.lines c.visits (puts c.turned_to.state line.node (call_at_station line old)) (ap ends_idle (sym c.told) ∙ both.1)).idle
+
 pub quiet-call : (line : CallLine) (old new : Station) (m : Made) → MakesCall line old new m → is_quiet line.call (plain_answer m.answer) new.journal.lines ≡ true → StayCarried old.domain.ends new.domain.ends
-quiet-call line old new m makes quiet ps p h =
+quiet-call line old new m makes quiet ps p =
     let both = both_true (is_turn line.call || is_tried (plain_answer m.answer)) (ends_idle new.journal.lines) quiet in
     let c = makes.calls in
     let s = c.turned_to.state in
@@ -224,9 +320,13 @@ quiet-call line old new m makes quiet ps p h =
     let told = told_idle old.journal.lines c.visits frames (ap ends_idle (sym c.told) ∙ both.1) in
     let none : returned s line.node call ≡ [] =
     either (is_turn line.call) (is_tried (plain_answer m.answer)) both.0 (turn_returns line old s) (λ tried. (tried_nothing s line.node call (ap is_tried (sym c.does.answer) ∙ tried)).returns_none) in
-    call_stays c.turned_to.ends frames (item_at c.turned_to.book) c.does.slots (returned s line.node call) (map (λ q. q.number) s.peers) new.domain.ends told.no_puts none c.does.returned c.does.moved ps p
-    (idle-stays old.domain.ends c.visits c.numbers c.turned_to.ends told.idle c.turns.moved ps p h)
+    did-nothing-both (near_among ps old.domain.ends p) (near_among ps c.turned_to.ends p) (near_among ps new.domain.ends p) (idle-stays old.domain.ends c.visits c.numbers c.turned_to.ends told.idle c.turns.moved ps p)
+    (call_stays c.turned_to.ends frames (item_at c.turned_to.book) c.does.slots (returned s line.node call) (map (λ q. q.number) s.peers) new.domain.ends told.no_puts none c.does.returned c.does.moved ps p)
 
 pub quiet-where : (line : CallLine) (old new : Station) (m : Made) (b : Bool) → MakesCall line old new m → b ≡ is_quiet line.call (plain_answer m.answer) new.journal.lines → StayCarriedWhere b old.domain.ends new.domain.ends
 quiet-where line old new m true makes is = quiet-call line old new m makes (sym is)
 quiet-where line old new m false makes is = tt
+
+pub idle-where : (line : CallLine) (old new : Station) (m : Made) (b : Bool) (makes : MakesCall line old new m) → b ≡ is_quiet line.call (plain_answer m.answer) new.journal.lines → IsIdleWhere b makes.calls.visits
+idle-where line old new m true makes is = quiet-idle line old new m makes (sym is)
+idle-where line old new m false makes is = tt

@@ -1,36 +1,55 @@
--- A board that runs stays as it is where the link between two of its domains is shuttled.
-use Rattle.std.proofs.Common.{◌≡◌, ◌≢◌, ℕ, zero, suc, Bool, cond, List, [], ◌∷◌, ◌++◌, map, slice_get, slice_set, Option, Some, refl, sym, ap, ap₂, ◌∙◌, subst, inl, inr, arith, append-nil, eq-eqb, ne_eqb}
+-- A board that runs stays as it is where the link between two of its domains is carried.
+use Rattle.std.proofs.Common.{◌≡◌, ◌≢◌, ℕ, zero, suc, ◌+◌, ◌≤◌, Bool, cond, List, [], ◌∷◌, ◌++◌, length, map, slice_get, slice_set, Option, Some, refl, sym, ap, ap₂, ◌∙◌, subst, inl, inr, arith, eq-eqb, ne_eqb}
 use Rattle.std.specs.Prelude.{◌==◌}
 use Rattle.std.proofs.lemmas.Bool.Decides.{eqb_tells}
-use Rattle.lane_end.proofs.LaneLemmas.{shuttled-one-lane}
+use Rattle.lane_end.specs.AnyLane.{AreEndsOfOneRing, EndsHaveMet}
+use Rattle.lane_end.specs.AnyLaneLaws.{met-of-one}
+use Rattle.board_model.specs.declared.scenario.DomainLine.{DomainLine}
 use Rattle.board_model.specs.declared.scenario.Scenario.{Scenario}
 use Rattle.board_model.specs.LinkedBoard.{Differ}
-use Rattle.board_model.specs.Scenario.{Lane, lanes}
-use Rattle.board_model.specs.Loads.{Load}
+use Rattle.board_model.specs.Scenario.{Lane, lanes, rising}
+use Rattle.board_model.specs.Loads.{Load, frames_on}
 use Rattle.board_model.specs.SerialRun as run
 use Rattle.board_model.specs.SerialRun.{Running}
 use Rattle.board_model.proofs.MessageAlls.{all-weaken}
-use Rattle.domain_core.specs.Carrying.{PlainLink, AreJoined, AreLinked, carried, link_to}
+use Rattle.domain_core.specs.declared.ends.Ends.TheVariants.{Linked}
+use Rattle.domain_core.specs.Carrying.{AnyLink, AreLinked, Carries, link_to, with_link}
+use Rattle.domain_core.proofs.Carries.{linked-carried}
 use Rattle.board_runner.specs.declared.station.Station.{Station}
-use Rattle.board_runner.specs.Near.{Near, PlainDomain, near_of, peers_of, EndsMatch}
-use Rattle.board_runner.specs.Stations.{domain_of, near, LaneHolds, LaneJoins, IsStation, AreStations, IsRun}
-use Rattle.board_runner.specs.Carried.{HasCome}
-use Rattle.board_runner.specs.Shuttled.{carried_domain, counted}
-use Rattle.board_runner.proofs.NearCarried.{come_from, linked-near, match-carried, link-carried, link-other, near-other, near-own}
+use Rattle.board_runner.specs.Near.{Near, IsLinkTo, RunEnds, RunDomain, near_to, near_of, near_among, peers_of, EndsMatch}
+use Rattle.board_runner.specs.Stations.{domain_of, near, LaneHolds, LaneJoins, IsStation, AreStations, IsRun, IsOnBoard, IsBoard}
+use Rattle.board_runner.specs.Carried.{HasCome, IsTrue, DidNothing, Knows}
+use Rattle.board_runner.specs.Shuttled.{counted}
+use Rattle.board_runner.proofs.NearCarried.{Meets, link-met, link-peer, links-met, links-other, linked-near, match-carried, link-other, near-other, near-own}
+use Rattle.board_runner.proofs.RunBoards.{stations-put}
 use Rattle.board_runner.proofs.RunFinds.{map-replaced, some_same}
-use Rattle.board_runner.proofs.RunStations.{domains_in, number_in, domain-at, domain-replaced, near-was, near-replaced}
+use Rattle.board_runner.proofs.RunStations.{domains_in, number_in, station-number, domain-at, domain-replaced, near-was, near-replaced}
+use Rattle.board_runner.proofs.TurnLinks.{linked-back}
 use Rattle.board_runner.proofs.TurnStations.{ids-stay}
 
--- ---- what stands near
+-- ---- what is near
 
--- the link between two domains was shuttled, and all others stay
+-- nothing was done, and nothing is known
+pub did-nothing : (x y : Near) → y ≡ x → DidNothing x y
+did-nothing x y is = record {
+  put = ap (λ (n : Near). n.sent.put) is;
+  back = ap (λ (n : Near). n.sent.back) is;
+  taken = ap (λ (n : Near). n.got.taken) is;
+  given = ap (λ (n : Near). n.got.given) is;
+  knows = record { come = omega (arith, ap (λ (n : Near). n.got.known) is); back = omega (arith, ap (λ (n : Near). n.sent.known) is) };
+}
+
+pub did-nothing-both : (x y z : Near) → DidNothing x y → DidNothing y z → DidNothing x z
+did-nothing-both x y z a b = record { put = b.put ∙ a.put; back = b.back ∙ a.back; taken = b.taken ∙ a.taken; given = b.given ∙ a.given; knows = record { come = omega (arith, a.knows.come, b.knows.come); back = omega (arith, a.knows.back, b.knows.back) } }
+
+-- the link between two domains was carried, and all others stay
 pub record LinkCome (n m : ℕ) (old new : ℕ → ℕ → Near) : Type 0 where
-  pub there : new n m ≡ come_from (old n m) (old m n)
-  pub back : new m n ≡ come_from (old m n) (old n m)
+  pub there : Meets (old n m) (old m n) (new n m)
+  pub back : Meets (old m n) (old n m) (new m n)
   pub others : (a b : ℕ) → (a ≡ n → b ≢ m) → (a ≡ m → b ≢ n) → new a b ≡ old a b
 
-come_all : (x here far : Near) → x ≡ come_from here far → HasCome x
-come_all x here far is = record { put = ap (λ (y : Near). y.put) is; given = ap (λ (y : Near). y.given) is }
+come_all : (x y x' y' : Near) → Meets x y x' → Meets y x y' → HasCome x' y'
+come_all x y x' y' a b = record { put = omega (arith, ap length a.did.put, b.come); given = omega (arith, a.did.given, b.back) }
 
 module _ (n m : ℕ) where
   -- which of the two ends this is, or neither
@@ -53,61 +72,50 @@ module _ (n m : ℕ) where
       ]
 
   module _ (old new : ℕ → ℕ → Near) (come : LinkCome n m old new) where
-    pub has-come : HasCome (new n m) × HasCome (new m n)
-    has-come = (come_all (new n m) (old n m) (old m n) come.there, come_all (new m n) (old m n) (old n m) come.back)
+    pub has-come : HasCome (new n m) (new m n) × HasCome (new m n) (new n m)
+    has-come = (come_all (old n m) (old m n) (new n m) (new m n) come.there come.back, come_all (old m n) (old n m) (new m n) (new n m) come.back come.there)
 
-    -- what has come stays so
-    pub come-stays : (a b : ℕ) → HasCome (old a b) → HasCome (new a b)
-    come-stays a b h =
-        by_ends a b (λ e f. subst (λ (x : ℕ). HasCome (new x b)) (sym e) (subst (λ (y : ℕ). HasCome (new n y)) (sym f) has-come.0))
-        (λ e f. subst (λ (x : ℕ). HasCome (new x b)) (sym e) (subst (λ (y : ℕ). HasCome (new m y)) (sym f) has-come.1)) (λ first second. subst HasCome (sym (come.others a b first second)) h)
+    -- nothing was done
+    pub come-alike : (a b : ℕ) → DidNothing (old a b) (new a b)
+    come-alike a b =
+        by_ends a b (λ e f. subst (λ (x : ℕ). DidNothing (old x b) (new x b)) (sym e) (subst (λ (y : ℕ). DidNothing (old n y) (new n y)) (sym f) come.there.did))
+        (λ e f. subst (λ (x : ℕ). DidNothing (old x b) (new x b)) (sym e) (subst (λ (y : ℕ). DidNothing (old m y) (new m y)) (sym f) come.back.did)) (λ first second. did-nothing (old a b) (new a b) (come.others a b first second))
 
 -- ---- one lane
 
-held_come : (loads : List Load) (old new : List PlainDomain) (l : Lane) → near new l.sender l.receiver ≡ come_from (near old l.sender l.receiver) (near old l.receiver l.sender) → near new l.receiver l.sender ≡ come_from (near old l.receiver l.sender) (near old l.sender l.receiver) → LaneHolds old loads l → LaneHolds new loads l
-held_come loads old new l there back h =
-    let from = near old l.sender l.receiver in
-    let to = near old l.receiver l.sender in
+pub held-alike : (loads : List Load) (old new : List RunDomain) → ((a b : ℕ) → DidNothing (near old a b) (near new a b)) → (l : Lane) → LaneHolds old loads l → LaneHolds new loads l
+held-alike loads old new alike l h =
+    let from = alike l.sender l.receiver in
+    let to = alike l.receiver l.sender in
     record {
       listed = h.listed;
-      frames =
-          h.frames ∙ sym (append-nil (to.came ++ from.put)) ∙ ap₂ (λ (xs ys : List (List ℕ)). xs ++ ys) (ap (λ (x : Near). x.came) (sym back)) (ap (λ (x : Near). x.put) (sym there));
-      returned = omega (arith, h.returned, ap (λ (x : Near). x.back) there, ap (λ (x : Near). x.given) back);
+      frames = from.put ∙ h.frames ∙ ap (λ (fs : List (List ℕ)). fs ++ frames_on loads l.sender l.receiver) (sym to.taken);
+      returned = omega (arith, h.returned, from.back, to.given);
     }
-
-held_same : (loads : List Load) (old new : List PlainDomain) (l : Lane) → near new l.sender l.receiver ≡ near old l.sender l.receiver → near new l.receiver l.sender ≡ near old l.receiver l.sender → LaneHolds old loads l → LaneHolds new loads l
-held_same loads old new l there back h = record {
-  listed = h.listed;
-  frames = h.frames ∙ ap₂ (λ (xs ys : List (List ℕ)). xs ++ ys) (ap (λ (x : Near). x.came) (sym back)) (ap (λ (x : Near). x.put) (sym there));
-  returned = omega (arith, h.returned, ap (λ (x : Near). x.back) there, ap (λ (x : Near). x.given) back);
-}
-
-pub holds-come : (n m : ℕ) (loads : List Load) (old new : List PlainDomain) → LinkCome n m (near old) (near new) → (l : Lane) → LaneHolds old loads l → LaneHolds new loads l
-holds-come n m loads old new come l h =
-    let a = l.sender in
-    let b = l.receiver in
-    by_ends n m a b
-    (λ e f. held_come loads old new l (ap₂ (λ (x y : ℕ). near new x y) e f ∙ come.there ∙ sym (ap₂ (λ (x y : ℕ). come_from (near old x y) (near old y x)) e f)) (ap₂ (λ (x y : ℕ). near new y x) e f ∙ come.back ∙ sym (ap₂ (λ (x y : ℕ). come_from (near old y x) (near old x y)) e f)) h)
-    (λ e f. held_come loads old new l (ap₂ (λ (x y : ℕ). near new x y) e f ∙ come.back ∙ sym (ap₂ (λ (x y : ℕ). come_from (near old x y) (near old y x)) e f)) (ap₂ (λ (x y : ℕ). near new y x) e f ∙ come.there ∙ sym (ap₂ (λ (x y : ℕ). come_from (near old y x) (near old x y)) e f)) h)
-    (λ first second. held_same loads old new l (come.others a b first second) (come.others b a (λ e f. second f e) (λ e f. first f e)) h)
 
 -- ---- the two stations
 
-abbrev pub with_domain : Station → PlainDomain → Station
+abbrev pub with_domain : Station → RunDomain → Station
 with_domain st d = record st { domain = d }
 
-station_carried : (s : Scenario) (t : run.Station) (st : Station) (peer : ℕ) (b : PlainLink) → IsStation s t st → IsStation s t (with_domain st (carried_domain peer b st.domain))
-station_carried s t st peer b h = record {
+abbrev pub with_these : RunDomain → List RunEnds → RunDomain
+with_these d es = record d { ends = es }
+
+station_carried : (s : Scenario) (t : run.Station) (st : Station) (es : List RunEnds) → EndsMatch (number_in st) (peers_of st.domain) es → IsStation s t st → IsStation s t (with_domain st (with_these st.domain es))
+station_carried s t st es matched h = record {
   state = h.state;
   told = h.told;
   number = h.number;
-  ids = ids-stay st.domain (carried_domain peer b st.domain) st.ids t.run.labels t.run.lines_called refl refl refl h.ids;
+  ids = ids-stay st.domain (with_these st.domain es) st.ids t.run.labels t.run.lines_called refl refl refl h.ids;
   dropped = h.dropped;
   own = h.own;
   domain_number = h.domain_number;
   peers = h.peers;
-  matched = match-carried peer b t.line.domain (peers_of st.domain) st.domain.ends h.matched;
+  matched = subst (λ (n : ℕ). EndsMatch n (peers_of st.domain) es) (station-number s t st h) matched;
 }
+
+on_board_carried : (s : Scenario) (d : DomainLine) (st : Station) (es : List RunEnds) → EndsMatch (number_in st) (peers_of st.domain) es → IsOnBoard s d st → IsOnBoard s d (with_domain st (with_these st.domain es))
+on_board_carried s d st es matched h = record { number = h.number; domain_number = h.domain_number; peers = h.peers; matched = subst (λ (n : ℕ). EndsMatch n (peers_of st.domain) es) h.number matched }
 
 stations_kept : (s : Scenario) (ts : List run.Station) (sts : List Station) (i : ℕ) (st st' : Station) → AreStations s ts sts → slice_get sts i ≡ Some st → ((t : run.Station) → IsStation s t st → IsStation s t st') → AreStations s ts (slice_set sts i st')
 stations_kept s [] [] i st st' are at keeps = tt
@@ -123,12 +131,9 @@ get_other (z ∷ xs) zero (suc j) x y other at = at
 get_other (z ∷ xs) (suc i) zero x y other at = at
 get_other (z ∷ xs) (suc i) (suc j) x y other at = get_other xs i j x y (λ e. other (ap suc e)) at
 
--- the link between the stations at two places is shuttled
-abbrev pub stations_carried : List Station → ℕ → ℕ → (one two : Station) → PlainLink → PlainLink → List Station
-stations_carried sts i j one two there back = slice_set (slice_set sts i (with_domain one (carried_domain (number_in two) back one.domain))) j (with_domain two (carried_domain (number_in one) there two.domain))
-
+-- the link between the stations at two places is carried: these are the ends of their domains then
 module _ (sts : List Station) (i j : ℕ) (one two : Station) (differ : Differ (map number_in sts)) (at_one : slice_get sts i ≡ Some one) (at_two : slice_get sts j ≡ Some two) (apart : number_in one ≢ number_in two)
-    (linked : AreLinked (number_in one) (number_in two) one.domain.ends two.domain.ends)
+    (linked : AreLinked AreEndsOfOneRing (number_in one) (number_in two) one.domain.ends two.domain.ends) (es fs : List RunEnds) (carries : Carries EndsHaveMet (number_in one) (number_in two) one.domain.ends two.domain.ends es fs)
     (match_one : EndsMatch (number_in one) (peers_of one.domain) one.domain.ends) (match_two : EndsMatch (number_in two) (peers_of two.domain) two.domain.ends) where
   abbrev n : ℕ
   n = number_in one
@@ -137,22 +142,34 @@ module _ (sts : List Station) (i j : ℕ) (one two : Station) (differ : Differ (
   m = number_in two
 
   abbrev one' : Station
-  one' = with_domain one (carried_domain m linked.back one.domain)
+  one' = with_domain one (with_these one.domain es)
 
   abbrev two' : Station
-  two' = with_domain two (carried_domain n linked.there two.domain)
+  two' = with_domain two (with_these two.domain fs)
 
   abbrev first : List Station
   first = slice_set sts i one'
 
   abbrev both : List Station
-  both = stations_carried sts i j one two linked.there linked.back
+  both = slice_set first j two'
 
-  abbrev old : List PlainDomain
+  abbrev old : List RunDomain
   old = domains_in sts
 
-  abbrev new : List PlainDomain
+  abbrev new : List RunDomain
   new = domains_in both
+
+  there_to : IsLinkTo m carries.there_after
+  there_to = link-met carries.there carries.back carries.there_after carries.back_after m (link-peer m one.domain.ends carries.there carries.one_had) carries.meets
+
+  back_to : IsLinkTo n carries.back_after
+  back_to = link-met carries.back carries.there carries.back_after carries.there_after n (link-peer n two.domain.ends carries.back carries.two_had) (links-other carries.there carries.back carries.there_after carries.back_after carries.meets)
+
+  match_one' : EndsMatch n (peers_of one.domain) es
+  match_one' = subst (EndsMatch n (peers_of one.domain)) (sym carries.one_has) (match-carried m carries.there_after there_to n (peers_of one.domain) one.domain.ends match_one)
+
+  match_two' : EndsMatch m (peers_of two.domain) fs
+  match_two' = subst (EndsMatch m (peers_of two.domain)) (sym carries.two_has) (match-carried n carries.back_after back_to m (peers_of two.domain) two.domain.ends match_two)
 
   places_apart : i ≢ j
   places_apart e = apart (ap number_in (some_same (slice_get sts j) one two (ap (slice_get sts) (sym e) ∙ at_one) at_two))
@@ -172,7 +189,7 @@ module _ (sts : List Station) (i j : ℕ) (one two : Station) (differ : Differ (
   domain_is : (q : ℕ) → domain_of new q ≡ cond (q == m) (Some two'.domain) (cond (q == n) (Some one'.domain) (domain_of old q))
   domain_is q =
       domain-replaced first j two m differ_first at_two_first refl two' q refl
-      ∙ ap (λ (o : Option PlainDomain). cond (q == m) (Some two'.domain) o) (domain-replaced sts i one n differ at_one refl one' q refl)
+      ∙ ap (λ (o : Option RunDomain). cond (q == m) (Some two'.domain) o) (domain-replaced sts i one n differ at_one refl one' q refl)
 
   near_is : (q p : ℕ) → near new q p ≡ cond (q == m) (near_of two'.domain p) (cond (q == n) (near_of one'.domain p) (near old q p))
   near_is q p =
@@ -193,21 +210,37 @@ module _ (sts : List Station) (i j : ℕ) (one two : Station) (differ : Differ (
   new_two : (p : ℕ) → near new m p ≡ near_of two'.domain p
   new_two p = near_is m p ∙ ap (λ (b : Bool). cond b (near_of two'.domain p) (cond (m == n) (near_of one'.domain p) (near old m p))) (eq-eqb m m refl)
 
+  abbrev near_at : AnyLink → Near
+  near_at l = near_to (Linked l)
+
+  met_one : near new n m ≡ near_at carries.there_after
+  met_one = new_one m ∙ ap (λ (xs : List RunEnds). near_among (peers_of one.domain) xs m) carries.one_has ∙ near-own m carries.there_after there_to n (λ e. apart (sym e)) (peers_of one.domain) one.domain.ends carries.there match_one carries.one_had
+
+  met_two : near new m n ≡ near_at carries.back_after
+  met_two = new_two n ∙ ap (λ (xs : List RunEnds). near_among (peers_of two.domain) xs n) carries.two_has ∙ near-own n carries.back_after back_to m apart (peers_of two.domain) two.domain.ends carries.back match_two carries.two_had
+
+  was_one : near old n m ≡ near_at carries.there
+  was_one = near_one m ∙ linked-near n m (peers_of one.domain) one.domain.ends carries.there (λ e. apart (sym e)) match_one carries.one_had
+
+  was_two : near old m n ≡ near_at carries.back
+  was_two = near_two n ∙ linked-near m n (peers_of two.domain) two.domain.ends carries.back apart match_two carries.two_had
+
+  meets_as : (a b c x y z : Near) → a ≡ x → b ≡ y → c ≡ z → Meets x y z → Meets a b c
+  meets_as a b c x y z e f g h = subst (λ (u : Near). Meets u b c) (sym e) (subst (λ (u : Near). Meets x u c) (sym f) (subst (Meets x y) (sym g) h))
+
   pub link-come : LinkCome n m (near old) (near new)
   link-come = record {
-    there =
-        new_one m ∙ near-own m linked.back n (λ e. apart (sym e)) (peers_of one.domain) one.domain.ends linked.there match_one linked.one_has
-        ∙ ap₂ come_from (sym (near_one m)) (sym (near_two n ∙ linked-near m n (peers_of two.domain) two.domain.ends linked.back apart match_two linked.two_has));
+    there = meets_as (near old n m) (near old m n) (near new n m) (near_at carries.there) (near_at carries.back) (near_at carries.there_after) was_one was_two met_one (links-met carries.there carries.back carries.there_after carries.back_after carries.meets);
     back =
-        new_two n ∙ near-own n linked.there m apart (peers_of two.domain) two.domain.ends linked.back match_two linked.two_has
-        ∙ ap₂ come_from (sym (near_two n)) (sym (near_one m ∙ linked-near n m (peers_of one.domain) one.domain.ends linked.there (λ e. apart (sym e)) match_one linked.one_has));
+        meets_as (near old m n) (near old n m) (near new m n) (near_at carries.back) (near_at carries.there) (near_at carries.back_after) was_two was_one met_two
+        (links-met carries.back carries.there carries.back_after carries.there_after (links-other carries.there carries.back carries.there_after carries.back_after carries.meets));
     others = λ a b not_there not_back. elim (eqb_tells a m) [
       | inl is_m ↦
-          ap (λ (x : ℕ). near new x b) is_m.1 ∙ new_two b ∙ near-other n linked.there m b (not_back is_m.1) (peers_of two.domain) two.domain.ends match_two
+          ap (λ (x : ℕ). near new x b) is_m.1 ∙ new_two b ∙ ap (λ (xs : List RunEnds). near_among (peers_of two.domain) xs b) carries.two_has ∙ near-other n carries.back_after back_to m b (not_back is_m.1) (peers_of two.domain) two.domain.ends match_two
           ∙ sym (near_two b) ∙ ap (λ (x : ℕ). near old x b) (sym is_m.1)
       | inr not_m ↦ elim (eqb_tells a n) [
         | inl is_n ↦
-            ap (λ (x : ℕ). near new x b) is_n.1 ∙ new_one b ∙ near-other m linked.back n b (not_there is_n.1) (peers_of one.domain) one.domain.ends match_one
+            ap (λ (x : ℕ). near new x b) is_n.1 ∙ new_one b ∙ ap (λ (xs : List RunEnds). near_among (peers_of one.domain) xs b) carries.one_has ∙ near-other m carries.there_after there_to n b (not_there is_n.1) (peers_of one.domain) one.domain.ends match_one
             ∙ sym (near_one b) ∙ ap (λ (x : ℕ). near old x b) (sym is_n.1)
         | inr not_n ↦
             near_is a b ∙ ap (λ (x : Bool). cond x (near_of two'.domain b) (cond (a == n) (near_of one'.domain b) (near old a b))) not_m.0
@@ -219,14 +252,14 @@ module _ (sts : List Station) (i j : ℕ) (one two : Station) (differ : Differ (
   -- ---- links
 
   -- the domain of a number, as it was
-  record Was (q : ℕ) (d : PlainDomain) : Type 0 where
-    before : PlainDomain
+  record Was (q : ℕ) (d : RunDomain) : Type 0 where
+    before : RunDomain
     was : domain_of old q ≡ Some before
     is_one : q ≡ n → (before ≡ one.domain) × (d ≡ one'.domain)
     is_two : q ≡ m → (before ≡ two.domain) × (d ≡ two'.domain)
     other : q ≢ n → q ≢ m → d ≡ before
 
-  was_at : (q : ℕ) (d : PlainDomain) → domain_of new q ≡ Some d → Was q d
+  was_at : (q : ℕ) (d : RunDomain) → domain_of new q ≡ Some d → Was q d
   was_at q d at = elim (eqb_tells q m) [
     | inl is_m ↦
         let is : two'.domain ≡ d = some_same (domain_of new q) two'.domain d (domain_is q ∙ ap (λ (b : Bool). cond b (Some two'.domain) (cond (q == n) (Some one'.domain) (domain_of old q))) is_m.0) at in
@@ -259,45 +292,33 @@ module _ (sts : List Station) (i j : ℕ) (one two : Station) (differ : Differ (
         ]
   ]
 
-  -- a link that was not shuttled is as it was
-  link_same : (q p : ℕ) (d : PlainDomain) (w : Was q d) → (q ≡ n → p ≢ m) → (q ≡ m → p ≢ n) → link_to p d.ends ≡ link_to p w.before.ends
+  -- a link that was not carried is as it was
+  link_same : (q p : ℕ) (d : RunDomain) (w : Was q d) → (q ≡ n → p ≢ m) → (q ≡ m → p ≢ n) → link_to p d.ends ≡ link_to p w.before.ends
   link_same q p d w not_there not_back = elim (eqb_tells q n) [
     | inl is_n ↦
         let is = w.is_one is_n.1 in
-        ap (λ (x : PlainDomain). link_to p x.ends) is.1 ∙ link-other m linked.back p (not_there is_n.1) one.domain.ends ∙ ap (λ (x : PlainDomain). link_to p x.ends) (sym is.0)
+        ap (λ (x : RunDomain). link_to p x.ends) is.1 ∙ ap (link_to p) carries.one_has ∙ link-other m carries.there_after there_to p (not_there is_n.1) one.domain.ends ∙ ap (λ (x : RunDomain). link_to p x.ends) (sym is.0)
     | inr not_n ↦ elim (eqb_tells q m) [
       | inl is_m ↦
           let is = w.is_two is_m.1 in
-          ap (λ (x : PlainDomain). link_to p x.ends) is.1 ∙ link-other n linked.there p (not_back is_m.1) two.domain.ends ∙ ap (λ (x : PlainDomain). link_to p x.ends) (sym is.0)
-      | inr not_m ↦ ap (λ (x : PlainDomain). link_to p x.ends) (w.other not_n.1 not_m.1)
+          ap (λ (x : RunDomain). link_to p x.ends) is.1 ∙ ap (link_to p) carries.two_has ∙ link-other n carries.back_after back_to p (not_back is_m.1) two.domain.ends ∙ ap (λ (x : RunDomain). link_to p x.ends) (sym is.0)
+      | inr not_m ↦ ap (λ (x : RunDomain). link_to p x.ends) (w.other not_n.1 not_m.1)
     ]
   ]
 
-  there_now : AreJoined (carried linked.there linked.back) (carried linked.back linked.there)
-  there_now = record { there = shuttled-one-lane linked.there.send linked.back.recv linked.joined.there; back = shuttled-one-lane linked.back.send linked.there.recv linked.joined.back }
+  abbrev AreOn : ℕ → ℕ → List RunEnds → List RunEnds → Type 0
+  AreOn a b xs ys = AreLinked AreEndsOfOneRing a b xs ys
 
-  linked_there : AreLinked n m one'.domain.ends two'.domain.ends
-  linked_there = record {
-    there = carried linked.there linked.back;
-    back = carried linked.back linked.there;
-    one_has = link-carried m linked.back one.domain.ends linked.there linked.one_has;
-    two_has = link-carried n linked.there two.domain.ends linked.back linked.two_has;
-    joined = there_now;
-  }
+  linked_there : AreOn n m es fs
+  linked_there = linked-carried EndsHaveMet AreEndsOfOneRing met-of-one n m one.domain.ends two.domain.ends es fs linked carries
 
-  linked_back : AreLinked m n two'.domain.ends one'.domain.ends
-  linked_back = record {
-    there = carried linked.back linked.there;
-    back = carried linked.there linked.back;
-    one_has = link-carried n linked.there two.domain.ends linked.back linked.two_has;
-    two_has = link-carried m linked.back one.domain.ends linked.there linked.one_has;
-    joined = record { there = there_now.back; back = there_now.there };
-  }
+  linked_back : AreOn m n fs es
+  linked_back = linked-back n m es fs linked_there
 
-  linked_as : (a b : ℕ) (x y x' y' : PlainDomain) (p q : ℕ) → a ≡ p → b ≡ q → x ≡ x' → y ≡ y' → AreLinked p q x'.ends y'.ends → AreLinked a b x.ends y.ends
+  linked_as : (a b : ℕ) (x y x' y' : RunDomain) (p q : ℕ) → a ≡ p → b ≡ q → x ≡ x' → y ≡ y' → AreOn p q x'.ends y'.ends → AreOn a b x.ends y.ends
   linked_as a b x y x' y' p q e f g h is =
-      subst (λ (k : ℕ). AreLinked k b x.ends y.ends) (sym e)
-      (subst (λ (k : ℕ). AreLinked p k x.ends y.ends) (sym f) (subst (λ (z : PlainDomain). AreLinked p q z.ends y.ends) (sym g) (subst (λ (z : PlainDomain). AreLinked p q x'.ends z.ends) (sym h) is)))
+      subst (λ (k : ℕ). AreOn k b x.ends y.ends) (sym e)
+      (subst (λ (k : ℕ). AreOn p k x.ends y.ends) (sym f) (subst (λ (z : RunDomain). AreOn p q z.ends y.ends) (sym g) (subst (λ (z : RunDomain). AreOn p q x'.ends z.ends) (sym h) is)))
 
   joins_carried : (l : Lane) → LaneJoins old l → LaneJoins new l
   joins_carried l h = record {
@@ -323,8 +344,16 @@ module _ (sts : List Station) (i j : ℕ) (one two : Station) (differ : Differ (
   are-carried s r h = record {
     lines = h.lines;
     each =
-        stations_kept s r.stations first j two two' (stations_kept s r.stations sts i one one' h.each at_one (λ t is. station_carried s t one m linked.back is)) at_two_first
-        (λ t is. station_carried s t two n linked.there is);
-    holds = all-weaken (LaneHolds old r.loads) (LaneHolds new r.loads) (holds-come n m r.loads old new link-come) (lanes s) h.holds;
+        stations_kept s r.stations first j two two' (stations_kept s r.stations sts i one one' h.each at_one (λ t is. station_carried s t one es match_one' is)) at_two_first
+        (λ t is. station_carried s t two fs match_two' is);
+    holds = all-weaken (LaneHolds old r.loads) (LaneHolds new r.loads) (held-alike r.loads old new (come-alike n m (near old) (near new) link-come)) (lanes s) h.holds;
+    joins = all-weaken (LaneJoins old) (LaneJoins new) joins_carried (lanes s) h.joins;
+  }
+
+  pub board-carried : (s : Scenario) → IsBoard s sts → IsBoard s both
+  board-carried s h = record {
+    each =
+        stations-put s (rising s) first j two two' (stations-put s (rising s) sts i one one' h.each at_one (λ d is. on_board_carried s d one es match_one' is)) at_two_first
+        (λ d is. on_board_carried s d two fs match_two' is);
     joins = all-weaken (LaneJoins old) (LaneJoins new) joins_carried (lanes s) h.joins;
   }

@@ -3,8 +3,8 @@ use Rattle.std.proofs.Common.{◌≡◌, ℕ, ◌+◌, ◌<◌, ◌^◌, Bool, t
 use Rattle.std.specs.Prelude.{slice_get}
 use Rattle.std.specs.List.{AllByRecursion}
 use Rattle.std.proofs.lemmas.List.{set-set}
-use Rattle.lane_end.specs.PlainSender.{Sends}
-use Rattle.lane_end.specs.PlainReceiver.{Receives}
+use Rattle.lane_end.specs.AnySender.{AnySends}
+use Rattle.lane_end.specs.AnyReceiver.{AnyReceives}
 use Rattle.board_model.specs.declared.scenario.CallLine.{CallLine}
 use Rattle.board_model.specs.declared.scenario.Scenario.{Scenario}
 use Rattle.board_model.specs.LinkedBoard.{IsLinkedBoard}
@@ -27,14 +27,14 @@ use Rattle.domain_core.specs.Ends.{EndsMoved}
 use Rattle.mc_journal.specs.Entry.{plain_answer}
 use Rattle.board_runner.specs.declared.station.Station.{Station}
 use Rattle.board_runner.specs.declared.line.Made.{Made}
-use Rattle.board_runner.specs.Carried.{AreCarried}
 use Rattle.board_runner.specs.Lines.{call_by, call_at_station, MakesCall, NotesAgain, NotesCalled, NotesAnswer}
 use Rattle.board_runner.specs.Runs.{IsNext, IsCalled, after_call}
-use Rattle.board_runner.specs.Stations.{IsRun, LaneHolds}
+use Rattle.board_runner.specs.Stations.{IsRun, LaneHolds, near}
 use Rattle.board_runner.proofs.CallKept.{LanesKept, call_kept}
 use Rattle.board_runner.proofs.CallLemmas.{IsCall, called_station, again_station, again_loads}
 use Rattle.board_runner.proofs.HeldLemmas.{call_is}
 use Rattle.board_runner.proofs.StationLemmas.{domains, StandsAt, slice_get-set, here, own_number, found_at, domains_differ, run_entered}
+use Rattle.board_runner.proofs.TurnEnds.{ExactAt}
 use Rattle.board_runner.proofs.TurnKept.{turn_kept}
 use Rattle.board_runner.proofs.TurnStations.{turned_station}
 
@@ -51,7 +51,7 @@ module _ (s : Scenario) (board : IsLinkedBoard s) (q : Running) (sts : List Stat
   loads = loads_given d (returned st.domain.state line.node call) (loads_with_puts d (puts st.domain.state line.node call) q.loads)
 
   kept : LanesKept s st.domain new.domain (domains (set sts at new)) loads
-  kept = call_kept s board q sts stands at st new is_at line.node call (plain_answer m.answer) m.given (subst (λ e. Does (EndsMoved Sends Receives) line.node call st.domain e (plain_answer m.answer) m.given) (sym same) h.does)
+  kept = call_kept s board q sts stands at st new is_at line.node call (plain_answer m.answer) m.given (subst (λ e. Does (EndsMoved AnySends AnyReceives) line.node call st.domain e (plain_answer m.answer) m.given) (sym same) h.does)
 
   -- the last one
   pub is_called : NotesCalled line m called_to new → next_line (script s t.line.domain) t.run ≡ Some line → st.number + 1 < 2 ^ 32 → IsRun s (called_by s line t q) (set sts at new)
@@ -73,8 +73,8 @@ module _ (s : Scenario) (board : IsLinkedBoard s) (q : Running) (sts : List Stat
       (run_entered s board q sts at t (again (word_in (answer t.run.state line.node (call_at t.run line))) ∷ []) q.loads new stands t_at is holds kept.joins)
 
 -- a call with its turn
-module _ (s : Scenario) (board : IsLinkedBoard s) (r : Running) (sts : List Station) (stands : IsRun s r sts) (at : ℕ) (old called_to new : Station) (is_at : slice_get sts at ≡ Some old) (carried : AreCarried (domains sts))
-    (line : CallLine) (m : Made) (makes : MakesCall line old called_to m) (next : IsNext s line old) (few : old.number + 1 < 2 ^ 32) where
+module _ (s : Scenario) (board : IsLinkedBoard s) (r : Running) (sts : List Station) (stands : IsRun s r sts) (at : ℕ) (old called_to new : Station) (is_at : slice_get sts at ≡ Some old)
+    (line : CallLine) (m : Made) (makes : MakesCall line old called_to m) (next : IsNext s line old) (few : old.number + 1 < 2 ^ 32) (exact : AllByRecursion (ExactAt (near (domains sts)) old.domain) makes.calls.visits) where
   -- the station after its turn
   abbrev turned_to : Station
   turned_to = turned_station old makes.calls.turned_to (record old.journal { lines = noted old.journal.lines (turned makes.calls.visits) })
@@ -83,7 +83,7 @@ module _ (s : Scenario) (board : IsLinkedBoard s) (r : Running) (sts : List Stat
   turned_all = set sts at turned_to
 
   after_turn : IsRun s (turned_once s r line.domain) turned_all
-  after_turn = turn_kept s board r sts stands at old makes.calls.turned_to turned_to.journal line.domain is_at carried makes.calls.visits makes.calls.numbers makes.calls.turns refl next.number
+  after_turn = turn_kept s board r sts stands at old makes.calls.turned_to turned_to.journal line.domain is_at makes.calls.visits makes.calls.numbers exact makes.calls.turns refl next.number
 
   turned_at : slice_get turned_all at ≡ Some turned_to
   turned_at = slice_get-set sts at old turned_to is_at

@@ -17,16 +17,16 @@ use Rattle.board_model.proofs.WholeFinds.{find-mapped}
 use Rattle.board_model.proofs.WholeHas.{Has}
 use Rattle.board_model.proofs.WholeJoined.{Joined, joined_back, joined_found, has_lane, rising_told, neighbours_join}
 use Rattle.board_runner.specs.declared.station.Station.{Station}
-use Rattle.board_runner.specs.Near.{Near, PlainDomain, near_of}
+use Rattle.board_runner.specs.Near.{Near, RunDomain, near_of}
 use Rattle.board_runner.specs.Stations.{domain_of, near_in, near, LaneHolds, IsStation, AreStations, IsRun}
 use Rattle.board_runner.proofs.LanesNear.{near_now}
 use Rattle.board_runner.proofs.TurnLanes.{Stands, HasBoth}
 use Rattle.board_runner.proofs.RunFinds.{some_item, find-at, find-replaced}
 
-abbrev pub domain_in : Station → PlainDomain
+abbrev pub domain_in : Station → RunDomain
 domain_in st = st.domain
 
-abbrev pub domains_in : List Station → List PlainDomain
+abbrev pub domains_in : List Station → List RunDomain
 domains_in sts = map (λ st. st.domain) sts
 
 abbrev pub number_in : Station → ℕ
@@ -100,11 +100,11 @@ module _ (sts : List Station) (i : ℕ) (st : Station) (n : ℕ) (differ : Diffe
   near-was m p = go (m == n) refl
     where
       go : (b : Bool) → (m == n) ≡ b → near (domains_in sts) m p ≡ cond b (near_of st.domain p) (near (domains_in sts) m p)
-      go true e = ap (λ (o : Option PlainDomain). near_in o p) (ap (domain_of (domains_in sts)) (eqb-true m n e) ∙ domain-at)
+      go true e = ap (λ (o : Option RunDomain). near_in o p) (ap (domain_of (domains_in sts)) (eqb-true m n e) ∙ domain-at)
       go false e = refl
 
   pub near-replaced : (st' : Station) → number_in st' ≡ n → (m p : ℕ) → near (domains_in (slice_set sts i st')) m p ≡ near_now n (near_of st'.domain) (near (domains_in sts)) m p
-  near-replaced st' same m p = ap (λ (o : Option PlainDomain). near_in o p) (domain-replaced st' m same) ∙ go (m == n)
+  near-replaced st' same m p = ap (λ (o : Option RunDomain). near_in o p) (domain-replaced st' m same) ∙ go (m == n)
     where
       go : (b : Bool) → near_in (cond b (Some st'.domain) (domain_of (domains_in sts) m)) p ≡ cond b (near_of st'.domain p) (near (domains_in sts) m p)
       go true = refl
@@ -113,7 +113,7 @@ module _ (sts : List Station) (i : ℕ) (st : Station) (n : ℕ) (differ : Diffe
 -- ---- lanes
 
 -- the load of a lane stands at its ends, told in either way
-module _ (ds : List PlainDomain) (n : ℕ) (own : ℕ → Near) (far : ℕ → ℕ → Near) (loads : List Load) (same : (m p : ℕ) → near ds m p ≡ near_now n own far m p) where
+module _ (ds : List RunDomain) (n : ℕ) (own : ℕ → Near) (far : ℕ → ℕ → Near) (loads : List Load) (same : (m p : ℕ) → near ds m p ≡ near_now n own far m p) where
   pub holds-stands : (l : Lane) → LaneHolds ds loads l → Stands n own far loads l
   holds-stands l h =
       let load = some_item (find _ loads) h.listed in
@@ -122,9 +122,8 @@ module _ (ds : List PlainDomain) (n : ℕ) (own : ℕ → Near) (far : ℕ → �
       record {
         load = load.0;
         loaded = load.1;
-        frames =
-            ap frames_in (sym load.1) ∙ h.frames ∙ ap₂ (λ (xs ys : List (List ℕ)). xs ++ ys) (ap (λ (x : Near). x.came) (same b a)) (ap (λ (x : Near). x.put) (same a b));
-        returned = omega (arith, ap returned_in load.1, h.returned, ap (λ (x : Near). x.back) (same a b), ap (λ (x : Near). x.given) (same b a));
+        frames = sym (ap (λ (x : Near). x.sent.put) (same a b)) ∙ h.frames ∙ ap₂ (λ (xs ys : List (List ℕ)). xs ++ ys) (ap (λ (x : Near). x.got.taken) (same b a)) (ap frames_in load.1);
+        returned = omega (arith, ap returned_in load.1, h.returned, ap (λ (x : Near). x.sent.back) (same a b), ap (λ (x : Near). x.got.given) (same b a));
       }
 
   pub stands-holds : (l : Lane) → Stands n own far loads l → LaneHolds ds loads l
@@ -133,9 +132,8 @@ module _ (ds : List PlainDomain) (n : ℕ) (own : ℕ → Near) (far : ℕ → �
       let b = l.receiver in
       record {
         listed = ap is_some h.loaded;
-        frames =
-            ap frames_in h.loaded ∙ h.frames ∙ ap₂ (λ (xs ys : List (List ℕ)). xs ++ ys) (ap (λ (x : Near). x.came) (sym (same b a))) (ap (λ (x : Near). x.put) (sym (same a b)));
-        returned = omega (arith, ap returned_in h.loaded, h.returned, ap (λ (x : Near). x.back) (same a b), ap (λ (x : Near). x.given) (same b a));
+        frames = ap (λ (x : Near). x.sent.put) (same a b) ∙ h.frames ∙ ap₂ (λ (xs ys : List (List ℕ)). xs ++ ys) (ap (λ (x : Near). x.got.taken) (sym (same b a))) (sym (ap frames_in h.loaded));
+        returned = omega (arith, ap returned_in h.loaded, h.returned, ap (λ (x : Near). x.sent.back) (same a b), ap (λ (x : Near). x.got.given) (same b a));
       }
 
 lane-has : (s : Scenario) → IsLinkedBoard s → (a b size : ℕ) → Joined s a b size → Has (λ l. (l.sender ≡ a) × (l.receiver ≡ b)) (lanes s)

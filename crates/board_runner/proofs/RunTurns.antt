@@ -1,4 +1,4 @@
--- A turn of a domain, where nothing is on its way, is the turn of the serial run.
+-- A turn of a domain whose visits are exact is the turn of the serial run.
 use Rattle.std.proofs.Common.{◌≡◌, ◌≢◌, ℕ, Bool, true, false, cond, List, map, Option, Some, slice_get, slice_set, refl, sym, ap, ◌∙◌, subst, eqb-true}
 use Rattle.std.specs.Prelude.{◌==◌}
 use Rattle.std.specs.List.{AllByRecursion}
@@ -14,20 +14,20 @@ use Rattle.board_model.specs.SerialRun.{Running, is_station, entered, with_entry
 use Rattle.board_model.proofs.MessageAlls.{all-weaken}
 use Rattle.board_model.proofs.PlaceBoards.{neighbours_differ}
 use Rattle.board_model.proofs.WholeTurns.{turn_number}
+use Rattle.lane_end.specs.AnyLane.{AreEndsOfOneRing}
 use Rattle.domain_core.specs.Carrying.{AreLinked}
 use Rattle.domain_core.specs.LaneMoves.{LaneMove}
 use Rattle.domain_core.specs.AllMoved.{AllMoved, turn_moves}
 use Rattle.domain_core.specs.Turned.{Turns}
 use Rattle.mc_journal.specs.Written.{Written}
 use Rattle.board_runner.specs.declared.station.Station.{Station}
-use Rattle.board_runner.specs.Near.{PlainDomain, near_of, peers_of, EndsMatch}
+use Rattle.board_runner.specs.Near.{RunDomain, near_of, peers_of, EndsMatch}
 use Rattle.board_runner.specs.Stations.{domain_of, near, LaneHolds, LaneJoins, IsStation, IsRun}
-use Rattle.board_runner.specs.Carried.{HasCome, AreCarried}
 use Rattle.board_runner.proofs.TurnLanes.{Stands, HasBoth}
-use Rattle.board_runner.proofs.TurnEnds.{Moved, TurnedLanes, turned-lanes}
+use Rattle.board_runner.proofs.TurnEnds.{Moved, ExactAt, TurnedLanes, turned-lanes}
 use Rattle.board_runner.proofs.TurnLinks.{linked-one, linked-two}
 use Rattle.board_runner.proofs.TurnStations.{turned_station, station-turned}
-use Rattle.board_runner.proofs.RunFinds.{mapped-at, map-replaced, find-at, map-at, all-every}
+use Rattle.board_runner.proofs.RunFinds.{mapped-at, map-replaced, find-at, map-at}
 use Rattle.board_runner.proofs.RunStations.{domains_in, number_in, line_number, StationAt, station-at, station-number, stations-replaced, lines-differ, numbers-differ, domain-at, domain-replaced, near-was, near-replaced, holds-stands, stands-holds, has-both}
 
 -- ---- one station in the place of another
@@ -49,16 +49,16 @@ joins-replaced sts i st st' moves differ at same moved l h = record {
     here : (m : ℕ) → (m == number_in st) ≡ true → domain_of (domains_in sts) m ≡ Some st.domain
     here m e = ap (domain_of (domains_in sts)) (eqb-true m (number_in st) e) ∙ domain-at sts i st (number_in st) differ at refl
 
-    go : l.sender ≢ l.receiver → (one two : PlainDomain) (x y : Bool) → (l.sender == number_in st) ≡ x → (l.receiver == number_in st) ≡ y
-        → cond x (Some st'.domain) (domain_of (domains_in sts) l.sender) ≡ Some one → cond y (Some st'.domain) (domain_of (domains_in sts) l.receiver) ≡ Some two → AreLinked l.sender l.receiver one.ends two.ends
+    go : l.sender ≢ l.receiver → (one two : RunDomain) (x y : Bool) → (l.sender == number_in st) ≡ x → (l.receiver == number_in st) ≡ y
+        → cond x (Some st'.domain) (domain_of (domains_in sts) l.sender) ≡ Some one → cond y (Some st'.domain) (domain_of (domains_in sts) l.receiver) ≡ Some two → AreLinked AreEndsOfOneRing l.sender l.receiver one.ends two.ends
     go apart one two true true e f at_one at_two = absurd (apart (eqb-true l.sender (number_in st) e ∙ sym (eqb-true l.receiver (number_in st) f)))
     go apart one two true false e f at_one at_two =
         let is : st'.domain ≡ one = cc in
-        subst (λ (d : PlainDomain). AreLinked l.sender l.receiver d.ends two.ends) is
+        subst (λ (d : RunDomain). AreLinked AreEndsOfOneRing l.sender l.receiver d.ends two.ends) is
         (linked-one l.sender l.receiver st.domain.ends moves st'.domain.ends two.ends moved (h.joined apart st.domain two (here l.sender e) at_two))
     go apart one two false true e f at_one at_two =
         let is : st'.domain ≡ two = cc in
-        subst (λ (d : PlainDomain). AreLinked l.sender l.receiver one.ends d.ends) is
+        subst (λ (d : RunDomain). AreLinked AreEndsOfOneRing l.sender l.receiver one.ends d.ends) is
         (linked-two l.sender l.receiver one.ends st.domain.ends moves st'.domain.ends moved (h.joined apart one st.domain at_one (here l.receiver f)))
     go apart one two false false e f at_one at_two = h.joined apart one two at_one at_two
 
@@ -82,8 +82,8 @@ turned-once-is s r n i t visits differ at is told =
     ∙ sym (entry-at s n (turned (turn_of t.run.state r.loads)) (record r { loads = loads_turned t.run.state r.loads }) i t differ at is)
     ∙ ap (λ (o : Option run.Station). turned_by s n o r) (sym (find-at line_number r.stations i t n differ at is))
 
-module _ (s : Scenario) (board : IsLinkedBoard s) (r : Running) (sts : List Station) (i : ℕ) (st : Station) (visits : List Visit) (numbers : List (List ℕ)) (d' : PlainDomain) (j : Written)
-    (h : IsRun s r sts) (at : slice_get sts i ≡ Some st) (carried : AreCarried (domains_in sts)) (turns : Turns Moved visits numbers st.domain d') (told : j.lines ≡ noted st.journal.lines (turned visits)) where
+module _ (s : Scenario) (board : IsLinkedBoard s) (r : Running) (sts : List Station) (i : ℕ) (st : Station) (visits : List Visit) (numbers : List (List ℕ)) (d' : RunDomain) (j : Written)
+    (h : IsRun s r sts) (at : slice_get sts i ≡ Some st) (turns : Turns Moved visits numbers st.domain d') (told : j.lines ≡ noted st.journal.lines (turned visits)) (exact : AllByRecursion (ExactAt (near (domains_in sts)) st.domain) visits) where
   place : StationAt s r.stations i st
   place = station-at s r.stations sts i st h.each at
 
@@ -98,10 +98,10 @@ module _ (s : Scenario) (board : IsLinkedBoard s) (r : Running) (sts : List Stat
 
   lanes-turned : TurnedLanes (near (domains_in sts)) (lanes s) st.domain d' visits r.loads
   lanes-turned =
-      turned-lanes (near (domains_in sts)) (lanes s) st.domain d' visits numbers r.loads turns
+      turned-lanes st.domain d' visits numbers turns
       (subst (λ (n : ℕ). EndsMatch n (peers_of st.domain) st.domain.ends) (sym number-is) place.is.matched)
       (subst Differ (sym place.is.peers) (neighbours_differ s board place.station.line))
-      (all-every (λ p. HasCome (near (domains_in sts) p (number_in st))) (λ p. carried p (number_in st)) (peers_of st.domain))
+      (near (domains_in sts)) (lanes s) r.loads exact
       (subst (λ (n : ℕ). AllByRecursion (HasBoth (lanes s) n) (peers_of st.domain)) (sym number-is) (subst (AllByRecursion (HasBoth (lanes s) place.station.line.domain)) (sym place.is.peers) (has-both s board place.station.line i line-at)))
       (all-weaken (LaneHolds (domains_in sts) r.loads) (Stands (number_in st) (near_of st.domain) (near (domains_in sts)) r.loads)
       (holds-stands (domains_in sts) (number_in st) (near_of st.domain) (near (domains_in sts)) r.loads (near-was sts i st (number_in st) (numbers-differ s board r sts h) at refl)) (lanes s) h.holds)

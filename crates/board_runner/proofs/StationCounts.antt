@@ -76,8 +76,8 @@ module _ (old carried : List Station) (at : ℕ) (st new : Station) (same : Keep
         subst (AllByRecursion DropsFit) (sym (map-set counted carried at new)) (all_set DropsFit (map counted carried) at (counted new) (subst (AllByRecursion DropsFit) (sym same) fits) after);
   }
 
-  pub counts_call : (line : CallLine) (may_try is_again : Bool) → Tries line may_try st new is_again → CountsCall is_again at old (set carried at new)
-  counts_call line may_try is_again h = go is_again h.notes
+  pub counts_call : (line : CallLine) (may_try is_again is_still : Bool) → Tries line may_try st new is_again is_still → CountsCall is_again at old (set carried at new)
+  counts_call line may_try is_again is_still h = go is_again h.notes
     where
       go : (b : Bool) → NotesAnswer b line h.made h.called_to new → CountsCall b at old (set carried at new)
       go true notes = counts_stay (ap₂ (λ (k n : ℕ). (k, n)) (notes.number ∙ h.makes.number) (notes.dropped ∙ h.makes.dropped))

@@ -18,7 +18,7 @@ use Rattle.board_model.proofs.MessageAlls.{all-at}
 use Rattle.board_model.proofs.PlaceBoards.{rising_differ}
 use Rattle.board_model.proofs.WholeStations.{entered_all, entries_loads, entries_lines}
 use Rattle.board_runner.specs.declared.station.Station.{Station}
-use Rattle.board_runner.specs.Near.{PlainDomain}
+use Rattle.board_runner.specs.Near.{RunDomain}
 use Rattle.board_runner.specs.Stations.{IsStation, AreStations, IsRun, LaneHolds, LaneJoins}
 
 -- ---- lists
@@ -46,7 +46,7 @@ domains_in ts = map (λ t. t.line.domain) ts
 abbrev pub numbers_in : List Station → List ℕ
 numbers_in sts = map (λ st. st.domain.state.number) sts
 
-abbrev pub domains : List Station → List PlainDomain
+abbrev pub domains : List Station → List RunDomain
 domains sts = map (λ st. st.domain) sts
 
 -- they are the board's domains, in rising number

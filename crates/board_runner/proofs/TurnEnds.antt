@@ -1,39 +1,67 @@
--- A turn at plain ends: it keeps whose ends they are, and what stands near towards each peer is what its visit left there.
+-- A turn at a domain's ends: it keeps whose ends they are, and what stands near towards each peer is what its visit left there.
 use Rattle.std.proofs.Common.{◌≡◌, ℕ, Bool, true, false, cond, List, [], ◌∷◌, map, refl, sym, ap, ap₂, ◌∙◌, subst, eq-eqb, ne_eqb, eqb-true, true≢false}
 use Rattle.std.specs.Prelude.{◌==◌}
 use Rattle.std.specs.List.{AllByRecursion}
-use Rattle.lane_end.specs.PlainSender.{Sends}
-use Rattle.lane_end.specs.PlainReceiver.{Receives}
+use Rattle.lane_end.specs.AnySender.{AnySends}
+use Rattle.lane_end.specs.AnyReceiver.{AnyReceives}
+use Rattle.lane_end.specs.SendMoves.{SendMove}
+use Rattle.lane_end.specs.ReceiveMoves.{ReceiveMove}
+use Rattle.lane_end.specs.declared.any.AnySend.{AnySend}
+use Rattle.lane_end.specs.declared.any.AnyRecv.{AnyRecv}
+use Rattle.lane_end.specs.declared.any.AnySend.TheVariants as send
+use Rattle.lane_end.specs.declared.any.AnyRecv.TheVariants as recv
 use Rattle.board_model.specs.Scenario.{Lane}
 use Rattle.board_model.specs.Journal.{Visit}
 use Rattle.board_model.specs.State.{DomainState}
 use Rattle.board_model.specs.Turn.{AreVisits}
 use Rattle.board_model.specs.LinkedBoard.{Differ}
 use Rattle.board_model.specs.Loads.{Load, turn_of, loads_turned, visits_to_all, loads_after}
-use Rattle.board_model.proofs.ListsApart.{all-unmap}
+use Rattle.board_model.proofs.ListsApart.{all-map, all-unmap}
 use Rattle.board_model.proofs.MessageAlls.{all-weaken, all-with}
 use Rattle.board_model.proofs.WholeTurns.{turn_numbers}
 use Rattle.domain_core.specs.declared.ends.Ends.TheVariants.{Own, Linked}
-use Rattle.domain_core.specs.LaneMoves.{LaneMove}
+use Rattle.domain_core.specs.LaneMoves.{LaneMove, sends, receives}
+use Rattle.domain_core.specs.LinkMoved.{LinkMoved}
+use Rattle.domain_core.specs.Carrying.{AnyLink}
 use Rattle.domain_core.specs.Ends.{EndsMoved}
 use Rattle.domain_core.specs.AllMoved.{AllMoved, turn_moves}
 use Rattle.domain_core.specs.Turned.{HaveNumbers, Turns}
-use Rattle.board_runner.specs.Near.{Near, PlainEnds, PlainDomain, near_to, near_among, near_of, peers_of, EndsMatch}
-use Rattle.board_runner.specs.Carried.{HasCome}
-use Rattle.board_runner.proofs.NearEnds.{NearVisited, link-visited, own-visited}
-use Rattle.board_runner.proofs.LanesNear.{LaneStands, near_now, with_near}
-use Rattle.board_runner.proofs.TurnLanes.{Stands, HasBoth, PeerTurn, peer_in, visits_in, peers_in, IsPeerTurn, near_after, turn-stands}
+use Rattle.board_runner.specs.Near.{Near, IsRingSend, IsRingRecv, IsLinkTo, RunEnds, RunDomain, near_to, near_among, near_of, peers_of, EndsMatch}
+use Rattle.board_runner.proofs.NearEnds.{NearVisited, LinkVisited, link-visited, own-visited}
+use Rattle.board_runner.proofs.LanesNear.{LaneStands, Exact, near_now, with_near}
+use Rattle.board_runner.proofs.TurnLanes.{Stands, HasBoth, PeerTurn, peer_in, visits_in, peers_in, IsPeerTurn, IsExactTurn, near_after, turn-stands}
 
--- the moves of plain ends
-abbrev pub Moved : PlainEnds → List LaneMove → PlainEnds → Type 0
-Moved = EndsMoved Sends Receives
+-- the moves of the ends
+abbrev pub Moved : RunEnds → List LaneMove → RunEnds → Type 0
+Moved = EndsMoved AnySends AnyReceives
 
 -- ---- whose ends they are
 
-pub ends-match : (n : ℕ) (ps : List ℕ) (es : List PlainEnds) (moves : List (List LaneMove)) (es' : List PlainEnds) → EndsMatch n ps es → AllMoved Moved es moves es' → EndsMatch n ps es'
+sends_stay : (s t : AnySend) (ms : List SendMove) → IsRingSend s → AnySends s ms t → IsRingSend t
+sends_stay (send.Driver s) (send.Driver t) ms ring moved = tt
+sends_stay (send.Device s) (send.Device t) ms ring moved = tt
+sends_stay (send.Plain s) t ms ring moved = absurd ring
+sends_stay (send.Driver s) (send.Plain t) ms ring moved = absurd moved
+sends_stay (send.Driver s) (send.Device t) ms ring moved = absurd moved
+sends_stay (send.Device s) (send.Plain t) ms ring moved = absurd moved
+sends_stay (send.Device s) (send.Driver t) ms ring moved = absurd moved
+
+receives_stay : (r q : AnyRecv) (ms : List ReceiveMove) → IsRingRecv r → AnyReceives r ms q → IsRingRecv q
+receives_stay (recv.Driver r) (recv.Driver q) ms ring moved = tt
+receives_stay (recv.Device r) (recv.Device q) ms ring moved = tt
+receives_stay (recv.Plain r) q ms ring moved = absurd ring
+receives_stay (recv.Driver r) (recv.Plain q) ms ring moved = absurd moved
+receives_stay (recv.Driver r) (recv.Device q) ms ring moved = absurd moved
+receives_stay (recv.Device r) (recv.Plain q) ms ring moved = absurd moved
+receives_stay (recv.Device r) (recv.Driver q) ms ring moved = absurd moved
+
+link-stays : (p : ℕ) (a b : AnyLink) (ms : List LaneMove) → IsLinkTo p a → LinkMoved AnySends AnyReceives a ms b → IsLinkTo p b
+link-stays p a b ms h moved = record { peer = moved.peer ∙ h.peer; sends = sends_stay a.send b.send (sends ms) h.sends moved.sent; receives = receives_stay a.recv b.recv (receives ms) h.receives moved.received }
+
+pub ends-match : (n : ℕ) (ps : List ℕ) (es : List RunEnds) (moves : List (List LaneMove)) (es' : List RunEnds) → EndsMatch n ps es → AllMoved Moved es moves es' → EndsMatch n ps es'
 ends-match n [] [] [] [] matched moved = tt
 ends-match n (p ∷ ps) (Own a ∷ es) (ms ∷ moves) (Own b ∷ es') matched moved = (matched.0, ends-match n ps es moves es' matched.1 moved.1)
-ends-match n (p ∷ ps) (Linked a ∷ es) (ms ∷ moves) (Linked b ∷ es') matched moved = (matched.0, moved.0.peer ∙ matched.1, ends-match n ps es moves es' matched.2 moved.1)
+ends-match n (p ∷ ps) (Linked a ∷ es) (ms ∷ moves) (Linked b ∷ es') matched moved = (matched.0, link-stays p a b ms matched.1 moved.0, ends-match n ps es moves es' matched.2 moved.1)
 ends-match n [] [] [] (e ∷ es') matched moved = absurd moved
 ends-match n [] [] (ms ∷ moves) es' matched moved = absurd moved
 ends-match n [] (e ∷ es) moves es' matched moved = absurd matched
@@ -45,26 +73,26 @@ ends-match n (p ∷ ps) (Linked a ∷ es) (ms ∷ moves) (Own b ∷ es') matched
 
 -- ---- visits with the ends that they are made at
 
-record Zipped (n : ℕ) (es : List PlainEnds) (vs : List Visit) (es' : List PlainEnds) : Type 0 where
+record Zipped (n : ℕ) (es : List RunEnds) (vs : List Visit) (es' : List RunEnds) : Type 0 where
   turns : List PeerTurn
   each : AllByRecursion (IsPeerTurn n) turns
   visits : vs ≡ visits_in turns
   olds : es ≡ map (λ t. t.old) turns
   news : es' ≡ map (λ t. t.new) turns
 
-abbrev peer_turn : Visit → PlainEnds → PlainEnds → PeerTurn
+abbrev peer_turn : Visit → RunEnds → RunEnds → PeerTurn
 peer_turn v e e' = record { visit = v; old = e; new = e' }
 
-zipped-more : (n : ℕ) (e : PlainEnds) (es : List PlainEnds) (v : Visit) (vs : List Visit) (e' : PlainEnds) (es' : List PlainEnds) → IsPeerTurn n (peer_turn v e e') → Zipped n es vs es' → Zipped n (e ∷ es) (v ∷ vs) (e' ∷ es')
+zipped-more : (n : ℕ) (e : RunEnds) (es : List RunEnds) (v : Visit) (vs : List Visit) (e' : RunEnds) (es' : List RunEnds) → IsPeerTurn n (peer_turn v e e') → Zipped n es vs es' → Zipped n (e ∷ es) (v ∷ vs) (e' ∷ es')
 zipped-more n e es v vs e' es' here rest = record {
   turns = peer_turn v e e' ∷ rest.turns;
   each = (here, rest.each);
   visits = ap (λ (us : List Visit). v ∷ us) rest.visits;
-  olds = ap (λ (fs : List PlainEnds). e ∷ fs) rest.olds;
-  news = ap (λ (fs : List PlainEnds). e' ∷ fs) rest.news;
+  olds = ap (λ (fs : List RunEnds). e ∷ fs) rest.olds;
+  news = ap (λ (fs : List RunEnds). e' ∷ fs) rest.news;
 }
 
-zipped : (n : ℕ) (es : List PlainEnds) (vs : List Visit) (numbers : List (List ℕ)) (es' : List PlainEnds) → EndsMatch n (map (λ v. v.peer) vs) es → HaveNumbers vs numbers → AllMoved Moved es (turn_moves vs numbers) es' → Zipped n es vs es'
+zipped : (n : ℕ) (es : List RunEnds) (vs : List Visit) (numbers : List (List ℕ)) (es' : List RunEnds) → EndsMatch n (map (λ v. v.peer) vs) es → HaveNumbers vs numbers → AllMoved Moved es (turn_moves vs numbers) es' → Zipped n es vs es'
 zipped n [] [] numbers [] matched each moved = record { turns = []; each = tt; visits = refl; olds = refl; news = refl }
 zipped n [] [] numbers (e ∷ es') matched each moved = absurd moved
 zipped n (e ∷ es) [] numbers es' matched each moved = absurd matched
@@ -73,19 +101,11 @@ zipped n (e ∷ es) (v ∷ vs) [] es' matched each moved = absurd each
 zipped n (e ∷ es) (v ∷ vs) (ns ∷ numbers) [] matched each moved = absurd moved
 zipped n (Own a ∷ es) (v ∷ vs) (ns ∷ numbers) (Own b ∷ es') matched each moved =
     zipped-more n (Own a) es v vs (Own b) es'
-    (record {
-      visited = subst (λ (o : Bool). NearVisited o v (near_to (Own a)) (near_to (Own b))) (sym (eq-eqb v.peer n matched.0)) (own-visited v ns a b each.0 moved.0);
-      own_put = λ e. refl;
-      own_given = λ e. refl;
-    })
+    (subst (λ (o : Bool). NearVisited o v (near_to (Own a)) (near_to (Own b))) (sym (eq-eqb v.peer n matched.0)) (own-visited v ns a b each.0 moved.0))
     (zipped n es vs numbers es' matched.1 each.1 moved.1)
 zipped n (Linked a ∷ es) (v ∷ vs) (ns ∷ numbers) (Linked b ∷ es') matched each moved =
     zipped-more n (Linked a) es v vs (Linked b) es'
-    (record {
-      visited = subst (λ (o : Bool). NearVisited o v (near_to (Linked a)) (near_to (Linked b))) (sym (ne_eqb v.peer n matched.0)) (link-visited v ns a b each.0 moved.0);
-      own_put = λ e. absurd (matched.0 (eqb-true v.peer n e));
-      own_given = λ e. absurd (matched.0 (eqb-true v.peer n e));
-    })
+    (subst (λ (o : Bool). NearVisited o v (near_to (Linked a)) (near_to (Linked b))) (sym (ne_eqb v.peer n matched.0)) (link-visited v ns v.peer a b matched.1 each.0 moved.0))
     (zipped n es vs numbers es' matched.2 each.1 moved.1)
 zipped n (Own a ∷ es) (v ∷ vs) (ns ∷ numbers) (Linked b ∷ es') matched each moved = absurd moved.0
 zipped n (Linked a ∷ es) (v ∷ vs) (ns ∷ numbers) (Own b ∷ es') matched each moved = absurd moved.0
@@ -99,14 +119,18 @@ abbrev near_then : List PeerTurn → ℕ → Near
 near_then ts q = near_among (peers_in ts) (map (λ t. t.new) ts) q
 
 -- the first of the peers stands nowhere else
-near-each : (ts : List PeerTurn) → Differ (peers_in ts) → AllByRecursion (λ t. near_before ts (peer_in t) ≡ near_to t.old) ts
-near-each [] differ = tt
-near-each (t ∷ ts) differ = (
-  ap (λ (b : Bool). cond b (near_to t.old) (near_before ts (peer_in t))) (eq-eqb (peer_in t) (peer_in t) refl),
-  all-with (λ u. peer_in u ≡ peer_in t → ⊥) (λ u. near_before ts (peer_in u) ≡ near_to u.old) (λ u. near_before (t ∷ ts) (peer_in u) ≡ near_to u.old)
-      (λ u other at. ap (λ (b : Bool). cond b (near_to t.old) (near_before ts (peer_in u))) (ne_eqb (peer_in t) (peer_in u) (λ h. other (sym h))) ∙ at) ts
-      (all-unmap (λ q. q ≡ peer_in t → ⊥) peer_in ts differ.0) (near-each ts differ.1),
-)
+module _ (end : PeerTurn → RunEnds) where
+  abbrev near_at : List PeerTurn → ℕ → Near
+  near_at ts q = near_among (peers_in ts) (map end ts) q
+
+  pub near-each : (ts : List PeerTurn) → Differ (peers_in ts) → AllByRecursion (λ t. near_at ts (peer_in t) ≡ near_to (end t)) ts
+  near-each [] differ = tt
+  near-each (t ∷ ts) differ = (
+    ap (λ (b : Bool). cond b (near_to (end t)) (near_at ts (peer_in t))) (eq-eqb (peer_in t) (peer_in t) refl),
+    all-with (λ u. peer_in u ≡ peer_in t → ⊥) (λ u. near_at ts (peer_in u) ≡ near_to (end u)) (λ u. near_at (t ∷ ts) (peer_in u) ≡ near_to (end u))
+        (λ u other at. ap (λ (b : Bool). cond b (near_to (end t)) (near_at ts (peer_in u))) (ne_eqb (peer_in t) (peer_in u) (λ h. other (sym h))) ∙ at) ts
+        (all-unmap (λ q. q ≡ peer_in t → ⊥) peer_in ts differ.0) (near-each ts differ.1),
+  )
 
 -- what stands near towards another peer stays
 near-past : (own : ℕ → Near) (ts : List PeerTurn) (q : ℕ) → AllByRecursion (λ p. p ≡ q → ⊥) (peers_in ts) → near_after own ts q ≡ own q
@@ -138,33 +162,78 @@ map-peers [] = refl
 map-peers (t ∷ ts) = ap (λ (ps : List ℕ). peer_in t ∷ ps) (map-peers ts)
 
 -- a turn of a domain at plain ends is that of the serial run, and leaves each lane at its ends
-pub record TurnedLanes (far : ℕ → ℕ → Near) (ls : List Lane) (d d' : PlainDomain) (visits : List Visit) (loads : List Load) : Type 0 where
+pub record TurnedLanes (far : ℕ → ℕ → Near) (ls : List Lane) (d d' : RunDomain) (visits : List Visit) (loads : List Load) : Type 0 where
   pub visits_are : visits ≡ turn_of d.state loads
   pub peers : peers_of d' ≡ peers_of d
   pub matched : EndsMatch d.state.number (peers_of d') d'.ends
   pub lanes : AllByRecursion (Stands d.state.number (near_of d') far (loads_turned d.state loads)) ls
 
-pub turned-lanes : (far : ℕ → ℕ → Near) (ls : List Lane) (d d' : PlainDomain) (visits : List Visit) (numbers : List (List ℕ)) (loads : List Load)
-    → Turns Moved visits numbers d d' → EndsMatch d.state.number (peers_of d) d.ends → Differ (peers_of d) → AllByRecursion (λ p. HasCome (far p d.state.number)) (peers_of d) → AllByRecursion (HasBoth ls d.state.number) (peers_of d)
-    → AllByRecursion (Stands d.state.number (near_of d) far loads) ls → TurnedLanes far ls d d' visits loads
-turned-lanes far ls d d' visits numbers loads turns matched differ come both stands =
-    let n = d.state.number in
-    let z = zipped n d.ends visits numbers d'.ends (subst (λ (ps : List ℕ). EndsMatch n ps d.ends) (sym turns.allowed.each_peer) matched) turns.each turns.moved in
-    let ps : peers_of d ≡ peers_in z.turns = sym turns.allowed.each_peer ∙ ap (map (λ (v : Visit). v.peer)) z.visits ∙ map-peers z.turns in
-    let apart = subst Differ ps differ in
-    let near_by : List ℕ → List PlainEnds → ℕ → Near = λ qs es q. near_among qs es q in
-    let before : near_of d ≡ near_before z.turns = ap₂ near_by ps z.olds in
-    let peers : peers_of d' ≡ peers_of d = ap (λ (s : DomainState). map (λ p. p.number) s.peers) turns.state ∙ turn_numbers d.state visits in
-    let after : (q : ℕ) → near_after (near_before z.turns) z.turns q ≡ near_of d' q
-    = λ q. near-own (near_before z.turns) z.turns q apart refl ∙ ap₂ (λ (qs : List ℕ) (es : List PlainEnds). near_among qs es q) (sym (peers ∙ ps)) (sym z.news) in
-    let t = turn-stands n far ls z.turns d.state loads (near_before z.turns) refl (subst (AreVisits d.state) z.visits turns.allowed.allowed) z.each apart (near-each z.turns apart)
-    (subst (AllByRecursion (λ p. HasCome (far p n))) ps come) (subst (AllByRecursion (HasBoth ls n)) ps both) (subst (λ (own : ℕ → Near). AllByRecursion (Stands n own far loads) ls) before stands) in
-    record {
-      visits_are = z.visits ∙ t.visits ∙ ap (visits_to_all d.state loads) (sym ps);
-      peers = peers;
-      matched = subst (λ (qs : List ℕ). EndsMatch n qs d'.ends) (sym peers) (ends-match n (peers_of d) d.ends (turn_moves visits numbers) d'.ends matched turns.moved);
-      lanes =
-          all-weaken (Stands n (near_after (near_before z.turns) z.turns) far (loads_turned d.state loads)) (Stands n (near_of d') far (loads_turned d.state loads))
-          (stands-same n (near_after (near_before z.turns) z.turns) (near_of d') far (loads_turned d.state loads) after) ls
-          (subst (λ (qs : List ℕ). AllByRecursion (Stands n (near_after (near_before z.turns) z.turns) far (loads_after d.state loads qs)) ls) (sym ps) t.lanes);
-    }
+-- a visit of a link, by what the domain did at its ends before the turn and after it
+abbrev pub VisitedAt : RunDomain → RunDomain → Visit → Type 0
+VisitedAt d d' v = (v.peer == d.state.number) ≡ false → LinkVisited v (near_of d v.peer) (near_of d' v.peer)
+
+-- and by what the peer did it is exact
+abbrev pub ExactAt : (ℕ → ℕ → Near) → RunDomain → Visit → Type 0
+ExactAt far d v = (v.peer == d.state.number) ≡ false → Exact v (near_of d v.peer) (far v.peer d.state.number)
+
+visited-false : (v : Visit) (old new : Near) (b : Bool) → b ≡ false → NearVisited b v old new → LinkVisited v old new
+visited-false v old new false e visited = visited
+visited-false v old new true e visited = absurd cc
+
+module _ (d d' : RunDomain) (visits : List Visit) (numbers : List (List ℕ)) (turns : Turns Moved visits numbers d d') (matched : EndsMatch d.state.number (peers_of d) d.ends) (differ : Differ (peers_of d)) where
+  abbrev n : ℕ
+  n = d.state.number
+
+  z : Zipped n d.ends visits d'.ends
+  z = zipped n d.ends visits numbers d'.ends (subst (λ (ps : List ℕ). EndsMatch n ps d.ends) (sym turns.allowed.each_peer) matched) turns.each turns.moved
+
+  peers-in : peers_of d ≡ peers_in z.turns
+  peers-in = sym turns.allowed.each_peer ∙ ap (map (λ (v : Visit). v.peer)) z.visits ∙ map-peers z.turns
+
+  apart : Differ (peers_in z.turns)
+  apart = subst Differ peers-in differ
+
+  before : (q : ℕ) → near_of d q ≡ near_before z.turns q
+  before q = ap₂ (λ (qs : List ℕ) (es : List RunEnds). near_among qs es q) peers-in z.olds
+
+  peers-stay : peers_of d' ≡ peers_of d
+  peers-stay = ap (λ (s : DomainState). map (λ p. p.number) s.peers) turns.state ∙ turn_numbers d.state visits
+
+  then : (q : ℕ) → near_of d' q ≡ near_then z.turns q
+  then q = ap₂ (λ (qs : List ℕ) (es : List RunEnds). near_among qs es q) (peers-stay ∙ peers-in) z.news
+
+  -- each visit of the turn
+  pub visits-told : AllByRecursion (VisitedAt d d') visits
+  visits-told =
+      subst (AllByRecursion (VisitedAt d d')) (sym z.visits)
+      (all-map (VisitedAt d d') (λ (t : PeerTurn). t.visit) z.turns
+      (all-with (λ t. IsPeerTurn n t × (near_before z.turns (peer_in t) ≡ near_to t.old)) (λ t. near_then z.turns (peer_in t) ≡ near_to t.new) (λ t. VisitedAt d d' t.visit)
+      (λ t is new e.
+      subst (λ (x : Near). LinkVisited t.visit x (near_of d' (peer_in t))) (sym (before (peer_in t) ∙ is.1))
+      (subst (LinkVisited t.visit (near_to t.old)) (sym (then (peer_in t) ∙ new)) (visited-false t.visit (near_to t.old) (near_to t.new) (peer_in t == n) e is.0))) z.turns
+      (all-with (IsPeerTurn n) (λ t. near_before z.turns (peer_in t) ≡ near_to t.old) (λ t. IsPeerTurn n t × (near_before z.turns (peer_in t) ≡ near_to t.old)) (λ t a b. (a, b)) z.turns z.each (near-each (λ t. t.old) z.turns apart))
+      (near-each (λ t. t.new) z.turns apart)))
+
+  module _ (far : ℕ → ℕ → Near) (ls : List Lane) (loads : List Load) (exact : AllByRecursion (ExactAt far d) visits) where
+    exact-turns : AllByRecursion (IsExactTurn n far) z.turns
+    exact-turns =
+        all-with (λ t. ExactAt far d t.visit) (λ t. near_before z.turns (peer_in t) ≡ near_to t.old) (IsExactTurn n far)
+        (λ t is old e. subst (λ (x : Near). Exact t.visit x (far (peer_in t) n)) (before (peer_in t) ∙ old) (is e)) z.turns
+        (all-unmap (ExactAt far d) (λ (t : PeerTurn). t.visit) z.turns (subst (AllByRecursion (ExactAt far d)) z.visits exact)) (near-each (λ t. t.old) z.turns apart)
+
+    pub turned-lanes : AllByRecursion (HasBoth ls n) (peers_of d) → AllByRecursion (Stands n (near_of d) far loads) ls → TurnedLanes far ls d d' visits loads
+    turned-lanes both stands =
+        let after : (q : ℕ) → near_after (near_before z.turns) z.turns q ≡ near_of d' q
+        = λ q. near-own (near_before z.turns) z.turns q apart refl ∙ sym (then q) in
+        let t = turn-stands n far ls z.turns d.state loads (near_before z.turns) refl (subst (AreVisits d.state) z.visits turns.allowed.allowed) z.each apart (near-each (λ t. t.old) z.turns apart)
+        exact-turns (subst (AllByRecursion (HasBoth ls n)) peers-in both)
+        (all-weaken (Stands n (near_of d) far loads) (Stands n (near_before z.turns) far loads) (stands-same n (near_of d) (near_before z.turns) far loads before) ls stands) in
+        record {
+          visits_are = z.visits ∙ t.visits ∙ ap (visits_to_all d.state loads) (sym peers-in);
+          peers = peers-stay;
+          matched = subst (λ (qs : List ℕ). EndsMatch n qs d'.ends) (sym peers-stay) (ends-match n (peers_of d) d.ends (turn_moves visits numbers) d'.ends matched turns.moved);
+          lanes =
+              all-weaken (Stands n (near_after (near_before z.turns) z.turns) far (loads_turned d.state loads)) (Stands n (near_of d') far (loads_turned d.state loads))
+              (stands-same n (near_after (near_before z.turns) z.turns) (near_of d') far (loads_turned d.state loads) after) ls
+              (subst (λ (qs : List ℕ). AllByRecursion (Stands n (near_after (near_before z.turns) z.turns) far (loads_after d.state loads qs)) ls) (sym peers-in) t.lanes);
+        }

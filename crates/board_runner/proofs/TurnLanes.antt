@@ -1,5 +1,5 @@
 -- The visits of a turn that each see all that stands are those of the serial run, and leave each lane at its ends.
-use Rattle.std.proofs.Common.{◌≡◌, ℕ, Bool, true, false, ◌&&◌, cond, List, [], ◌∷◌, ◌++◌, length, map, refl, sym, ap, ◌∙◌, subst, arith, append-nil, eq-eqb, ne_eqb, eqb-true, true≢false}
+use Rattle.std.proofs.Common.{◌≡◌, ℕ, ◌+◌, Bool, true, false, ◌&&◌, cond, List, [], ◌∷◌, ◌++◌, length, map, refl, sym, ap, ◌∙◌, subst, arith, append-nil, length-append, eq-eqb, ne_eqb, eqb-true, true≢false}
 use Rattle.std.specs.Prelude.{◌==◌}
 use Rattle.std.specs.List.{AllByRecursion}
 use Rattle.board_model.specs.Scenario.{Lane}
@@ -13,12 +13,12 @@ use Rattle.board_model.proofs.MessageAlls.{all-weaken, all-with}
 use Rattle.board_model.proofs.WholeHas.{Has, has-gives}
 use Rattle.board_model.proofs.WholeLoads.{loaded-with}
 use Rattle.board_model.proofs.WholeLanes.{refilled}
+use Rattle.board_model.proofs.WholeTakes.{frames_of}
 use Rattle.board_model.proofs.WholeTurns.{turn_number}
-use Rattle.board_runner.specs.Near.{Near, PlainEnds, near_to}
-use Rattle.board_runner.specs.Carried.{HasCome}
-use Rattle.board_runner.proofs.NearEnds.{seen_near, NearVisited}
+use Rattle.board_runner.specs.Near.{Near, RunEnds, near_to}
+use Rattle.board_runner.proofs.NearEnds.{NearVisited, OwnVisited}
 use Rattle.board_runner.proofs.TurnVisits.{owed-due, visit-is}
-use Rattle.board_runner.proofs.LanesNear.{LaneStands, near_now, with_near, loads_by, CanVisit, lane-visited}
+use Rattle.board_runner.proofs.LanesNear.{LaneStands, Exact, rest-on, near_now, with_near, loads_by, CanVisit, lane-visited}
 
 -- a lane of the board stands at its ends
 abbrev pub Stands : ℕ → (ℕ → Near) → (ℕ → ℕ → Near) → List Load → Lane → Type 0
@@ -43,35 +43,52 @@ seen_by true true owed l e = refl
 seen_by true false owed l e = absurd cc
 seen_by false again owed l e = sym (append-nil l.frames)
 
-module _ (n : ℕ) (own : ℕ → Near) (far : ℕ → ℕ → Near) (v : Visit) (new : Near) (loads : List Load) (can : CanVisit n own far v new) (far_put : (far v.peer n).put ≡ []) where
-  near_own : near_now n own far n v.peer ≡ own v.peer
-  near_own = ap (λ (b : Bool). cond b (own v.peer) (far n v.peer)) (eq-eqb n n refl)
+-- what a visit tells, by the loads of both lanes: the buffers that came back, the frames that it saw, and those that it took
+record VisitTold (is_own : Bool) (v : Visit) (out into : Load) : Type 0 where
+  back : v.back ≡ out.returned
+  rest : List (List ℕ)
+  see : v.see ≡ length (into.frames ++ cond is_own v.owed [])
+  first : into.frames ++ cond is_own v.owed [] ≡ frames_of v.takes ++ rest
 
-  far_given_now : (near_now n own far v.peer n).given ≡ 0
-  far_given_now = go (v.peer == n) refl
+module _ (n : ℕ) (own : ℕ → Near) (far : ℕ → ℕ → Near) (v : Visit) (new : Near) (loads : List Load) (can : CanVisit n own far v new) where
+  link-told : (old to : Near) (out : LaneStands loads n v.peer old to) (into : LaneStands loads v.peer n to old) → Exact v old to → VisitTold false v out.load into.load
+  link-told old to out into exact =
+      let first = rest-on old.got.taken into.load.frames (frames_of v.takes) exact.rest to.sent.put into.frames exact.first in
+      let all : into.load.frames ++ [] ≡ into.load.frames = append-nil into.load.frames in
+      record {
+        back = omega (arith, exact.back, out.returned);
+        rest = exact.rest;
+        see = omega (arith, exact.see, ap length into.frames, length-append old.got.taken into.load.frames, ap length all);
+        first = all ∙ first;
+      }
+
+  own-told : (a b : Load) → (own n).got.given ≡ (own v.peer).sent.back + a.returned → (own n).sent.put ≡ (own v.peer).got.taken ++ b.frames → v.peer ≡ n → OwnVisited v (own v.peer) new → VisitTold true v a b
+  own-told a b given put at visited =
+      let same : own n ≡ own v.peer = ap own (sym at) in
+      let frames : (own v.peer).sent.put ≡ b.frames = ap (λ (x : Near). x.sent.put) (sym same) ∙ put ∙ ap (λ (fs : List (List ℕ)). fs ++ b.frames) visited.was.taken in
+      record {
+        back = omega (arith, visited.back, given, ap (λ (x : Near). x.got.given) same, visited.was.back);
+        rest = new.sent.put;
+        see = visited.see ∙ ap (λ (fs : List (List ℕ)). length (fs ++ v.owed)) frames;
+        first = ap (λ (fs : List (List ℕ)). fs ++ v.owed) (sym frames) ∙ visited.came;
+      }
+
+  -- what the visit tells, by the loads of the lanes to the peer and from it
+  told-here : (out : LaneStands loads n v.peer (near_now n own far n v.peer) (near_now n own far v.peer n)) (into : LaneStands loads v.peer n (near_now n own far v.peer n) (near_now n own far n v.peer)) → VisitTold (v.peer == n) v out.load into.load
+  told-here out into = go (v.peer == n) refl (n == n) (eq-eqb n n refl) out into can.visited can.exact
     where
-      go : (b : Bool) → (v.peer == n) ≡ b → (cond b (own n) (far v.peer n)).given ≡ 0
-      go true e = ap (λ (q : ℕ). (own q).given) (sym (eqb-true v.peer n e)) ∙ can.own_given e
-      go false e = can.far_given
+      go : (x : Bool) → (v.peer == n) ≡ x → (y : Bool) → y ≡ true → (out : LaneStands loads n v.peer (cond y (own v.peer) (far n v.peer)) (cond x (own n) (far v.peer n))) (into : LaneStands loads v.peer n (cond x (own n) (far v.peer n)) (cond y (own v.peer) (far n v.peer)))
+          → NearVisited x v (own v.peer) new → (x ≡ false → Exact v (own v.peer) (far v.peer n)) → VisitTold x v out.load into.load
+      go true is true e out into visited exact =
+          let at : v.peer ≡ n = eqb-true v.peer n is in
+          own-told out.load into.load out.returned into.frames at visited
+      go false is true e out into visited exact = link-told (own v.peer) (far v.peer n) out into (exact refl)
+      go x is false e out into visited exact = absurd cc
 
-  far_put_now : (near_now n own far v.peer n).put ≡ []
-  far_put_now = go (v.peer == n) refl
-    where
-      go : (b : Bool) → (v.peer == n) ≡ b → (cond b (own n) (far v.peer n)).put ≡ []
-      go true e = ap (λ (q : ℕ). (own q).put) (sym (eqb-true v.peer n e)) ∙ can.own_put e
-      go false e = far_put
-
-  -- what stands on both lanes is what the visit saw
-  back_is : LaneStands loads n v.peer (near_now n own far n v.peer) (near_now n own far v.peer n) → v.back ≡ returned_on loads n v.peer
-  back_is out = omega (arith, can.visited.back, ap returned_in out.loaded, out.returned, ap (λ (x : Near). x.back) near_own, far_given_now)
-
-  frames_are : (owed : List (List ℕ)) → v.owed ≡ owed → LaneStands loads v.peer n (near_now n own far v.peer n) (near_now n own far n v.peer) → frames_on (with_load n v.peer (refilled owed) loads) v.peer n ≡ seen_near (v.peer == n) v (own v.peer)
-  frames_are owed due into =
+  frames_are : (owed : List (List ℕ)) (into : LaneStands loads v.peer n (near_now n own far v.peer n) (near_now n own far n v.peer)) → frames_on (with_load n v.peer (refilled owed) loads) v.peer n ≡ into.load.frames ++ cond (v.peer == n) owed []
+  frames_are owed into =
       ap frames_in (loaded-with (refilled owed) (record { sender = λ x. refl; receiver = λ x. refl }) loads n v.peer v.peer n into.load into.loaded)
       ∙ seen_by (v.peer == n) (n == v.peer) owed into.load (turned (v.peer == n) refl)
-      ∙ ap (λ (fs : List (List ℕ)). fs ++ cond (v.peer == n) owed [])
-      (into.frames ∙ ap (λ (x : Near). x.came ++ (near_now n own far v.peer n).put) near_own ∙ ap (λ (fs : List (List ℕ)). (own v.peer).came ++ fs) far_put_now ∙ append-nil (own v.peer).came)
-      ∙ ap (λ (fs : List (List ℕ)). (own v.peer).came ++ cond (v.peer == n) fs []) (sym due)
     where
       turned : (b : Bool) → (v.peer == n) ≡ b → (n == v.peer) ≡ (v.peer == n)
       turned true e = eq-eqb n v.peer (sym (eqb-true v.peer n e)) ∙ sym e
@@ -79,19 +96,21 @@ module _ (n : ℕ) (own : ℕ → Near) (far : ℕ → ℕ → Near) (v : Visit)
 
   pub visit-here : (s : DomainState) → s.number ≡ n → IsVisit s v → LaneStands loads n v.peer (near_now n own far n v.peer) (near_now n own far v.peer n) → LaneStands loads v.peer n (near_now n own far v.peer n) (near_now n own far n v.peer) → v ≡ visit_to s loads v.peer
   visit-here s e h out into =
-      let back : v.back ≡ returned_on loads s.number v.peer = back_is out ∙ ap (λ (m : ℕ). returned_on loads m v.peer) (sym e) in
+      let told = told-here out into in
+      let back : v.back ≡ returned_on loads s.number v.peer = told.back ∙ ap returned_in (sym out.loaded) ∙ ap (λ (m : ℕ). returned_on loads m v.peer) (sym e) in
       let due = owed-due s loads v h back in
-      let seen : frames_seen s loads v.peer ≡ seen_near (v.peer == n) v (own v.peer)
-      = ap (λ (m : ℕ). frames_on (with_load m v.peer (refilled (frames_due s loads v.peer)) loads) v.peer m) e ∙ frames_are (frames_due s loads v.peer) due into in
-      visit-is s loads v new.came h back (can.visited.see ∙ ap length (sym seen)) (seen ∙ can.visited.came)
+      let seen : frames_seen s loads v.peer ≡ into.load.frames ++ cond (v.peer == n) v.owed []
+      = ap (λ (m : ℕ). frames_on (with_load m v.peer (refilled (frames_due s loads v.peer)) loads) v.peer m) e ∙ frames_are (frames_due s loads v.peer) into
+      ∙ ap (λ (fs : List (List ℕ)). into.load.frames ++ cond (v.peer == n) fs []) (sym due) in
+      visit-is s loads v told.rest h back (told.see ∙ ap length (sym seen)) (seen ∙ told.first)
 
 -- ---- a turn
 
 -- what a turn does at the ends towards a peer
 pub record PeerTurn : Type 0 where
   pub visit : Visit
-  pub old : PlainEnds
-  pub new : PlainEnds
+  pub old : RunEnds
+  pub new : RunEnds
 
 abbrev pub peer_in : PeerTurn → ℕ
 peer_in t = t.visit.peer
@@ -102,10 +121,12 @@ visits_in ts = map (λ t. t.visit) ts
 abbrev pub peers_in : List PeerTurn → List ℕ
 peers_in ts = map peer_in ts
 
-pub record IsPeerTurn (n : ℕ) (t : PeerTurn) : Type 0 where
-  pub visited : NearVisited (peer_in t == n) t.visit (near_to t.old) (near_to t.new)
-  pub own_put : (peer_in t == n) ≡ true → (near_to t.old).put ≡ []
-  pub own_given : (peer_in t == n) ≡ true → (near_to t.old).given ≡ 0
+abbrev pub IsPeerTurn : ℕ → PeerTurn → Type 0
+IsPeerTurn n t = NearVisited (peer_in t == n) t.visit (near_to t.old) (near_to t.new)
+
+-- it is exact, by what the peer did
+abbrev pub IsExactTurn : ℕ → (ℕ → ℕ → Near) → PeerTurn → Type 0
+IsExactTurn n far t = (peer_in t == n) ≡ false → Exact t.visit (near_to t.old) (far (peer_in t) n)
 
 -- what stands near after them
 abbrev pub near_after : (ℕ → Near) → List PeerTurn → ℕ → Near
@@ -124,24 +145,22 @@ module _ (n : ℕ) (far : ℕ → ℕ → Near) (ls : List Lane) where
       (λ t other at. ap (λ (b : Bool). cond b new (own (peer_in t))) (ne_eqb (peer_in t) p other) ∙ at) ts (all-unmap (λ q. q ≡ p → ⊥) peer_in ts differ) near
 
   pub turn-stands : (ts : List PeerTurn) (s : DomainState) (loads : List Load) (own : ℕ → Near) → s.number ≡ n → AreVisits s (visits_in ts) → AllByRecursion (IsPeerTurn n) ts → Differ (peers_in ts) → AllByRecursion (λ t. own (peer_in t) ≡ near_to t.old) ts
-      → AllByRecursion (λ p. HasCome (far p n)) (peers_in ts) → AllByRecursion (HasBoth ls n) (peers_in ts) → AllByRecursion (Stands n own far loads) ls → TurnStands n far ls s loads own ts
-  turn-stands [] s loads own e are each differ near come both stands = record { visits = refl; lanes = stands }
-  turn-stands (t ∷ ts) s loads own e are each differ near come both stands =
+      → AllByRecursion (IsExactTurn n far) ts → AllByRecursion (HasBoth ls n) (peers_in ts) → AllByRecursion (Stands n own far loads) ls → TurnStands n far ls s loads own ts
+  turn-stands [] s loads own e are each differ near exact both stands = record { visits = refl; lanes = stands }
+  turn-stands (t ∷ ts) s loads own e are each differ near exact both stands =
       let v = t.visit in
       let p = peer_in t in
       let new = near_to t.new in
       let can : CanVisit n own far v new = record {
-        visited = subst (λ (x : Near). NearVisited (p == n) v x new) (sym near.0) each.0.visited;
-        far_given = come.0.given;
-        own_put = λ h. ap (λ (x : Near). x.put) near.0 ∙ each.0.own_put h;
-        own_given = λ h. ap (λ (x : Near). x.given) near.0 ∙ each.0.own_given h;
+        visited = subst (λ (x : Near). NearVisited (p == n) v x new) (sym near.0) each.0;
+        exact = λ h. subst (λ (x : Near). Exact v x (far p n)) (sym near.0) (exact.0 h);
       } in
       let out = stands-at n own far loads ls n p stands both.0.out in
       let into = stands-at n own far loads ls p n stands both.0.into in
-      let is : v ≡ visit_to s loads p = visit-here n own far v new loads can come.0.put s e are.0 out into in
+      let is : v ≡ visit_to s loads p = visit-here n own far v new loads can s e are.0 out into in
       let after : AllByRecursion (Stands n (with_near p new own) far (loads_by n v loads)) ls
       = all-weaken (Stands n own far loads) (Stands n (with_near p new own) far (loads_by n v loads)) (λ l h. lane-visited n own far v new loads can l.sender l.receiver h) ls stands in
-      let rest = turn-stands ts (after_visit s v) (loads_by n v loads) (with_near p new own) (turn_number s (v ∷ []) ∙ e) are.1 each.1 differ.1 (others_near p new own ts differ.0 near.1) come.1 both.1 after in
+      let rest = turn-stands ts (after_visit s v) (loads_by n v loads) (with_near p new own) (turn_number s (v ∷ []) ∙ e) are.1 each.1 differ.1 (others_near p new own ts differ.0 near.1) exact.1 both.1 after in
       record {
         visits =
             ap (λ (vs : List Visit). v ∷ vs) rest.visits

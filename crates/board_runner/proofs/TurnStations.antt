@@ -23,7 +23,7 @@ use Rattle.mc_journal.specs.Written.{Written}
 use Rattle.domain_core.specs.Turned.{Turns}
 use Rattle.board_runner.specs.declared.station.Station.{Station}
 use Rattle.board_runner.specs.Held.{Ids, id_for}
-use Rattle.board_runner.specs.Near.{PlainDomain, peers_of, EndsMatch}
+use Rattle.board_runner.specs.Near.{RunDomain, peers_of, EndsMatch}
 use Rattle.board_runner.specs.Stations.{IsKnown, HoldsIds, IsStation}
 use Rattle.board_runner.proofs.TurnEnds.{Moved}
 
@@ -34,7 +34,7 @@ if_weaker P Q None f h = tt
 if_weaker P Q (Some x) f h = f x h
 
 -- where a domain's requests and their ids stay, the ids that are held for labels stay those of the labels' requests
-pub ids-stay : (d d' : PlainDomain) (ids : Ids) (labels : List Labelled) (lines : ℕ) → d'.state.requests_given ≡ d.state.requests_given → map (λ q. q.serial) d'.state.requests ≡ map (λ q. q.serial) d.state.requests → d'.ids ≡ d.ids → HoldsIds d ids labels lines → HoldsIds d' ids labels lines
+pub ids-stay : (d d' : RunDomain) (ids : Ids) (labels : List Labelled) (lines : ℕ) → d'.state.requests_given ≡ d.state.requests_given → map (λ q. q.serial) d'.state.requests ≡ map (λ q. q.serial) d.state.requests → d'.ids ≡ d.ids → HoldsIds d ids labels lines → HoldsIds d' ids labels lines
 ids-stay d d' ids labels lines given serials same h =
     let below : AllByRecursion (λ (i : RequestId). i.serial < d'.state.requests_given) d.ids = subst (λ (g : ℕ). AllByRecursion (λ (i : RequestId). i.serial < g) d.ids) (sym given) h.given in
     record {
@@ -119,10 +119,10 @@ module _ (lines : List CallLine) where
 -- ---- a station
 
 -- with another domain and journal
-abbrev pub turned_station : Station → PlainDomain → Written → Station
+abbrev pub turned_station : Station → RunDomain → Written → Station
 turned_station st d j = record st { domain = d; journal = j }
 
-pub station-turned : (s : Scenario) (t : run.Station) (st : Station) (visits : List Visit) (numbers : List (List ℕ)) (d' : PlainDomain) (j : Written)
+pub station-turned : (s : Scenario) (t : run.Station) (st : Station) (visits : List Visit) (numbers : List (List ℕ)) (d' : RunDomain) (j : Written)
     → IsStation s t st → Turns Moved visits numbers st.domain d' → j.lines ≡ noted st.journal.lines (turned visits) → peers_of d' ≡ peers_of st.domain → EndsMatch t.line.domain (peers_of d') d'.ends
     → IsStation s (entered s (turned visits) t) (turned_station st d' j)
 station-turned s t st visits numbers d' j h turns told peers matched =

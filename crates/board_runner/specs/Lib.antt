@@ -6,7 +6,7 @@ pub mod Meeting
 pub mod Near
 pub mod Runs
 pub mod Shuttled
-pub mod Links
+pub mod Wired
 pub mod Opened
 pub mod Lanes
 pub mod Outcome

@@ -1,17 +1,18 @@
 -- What a runner does with the call of a line at the line's station.
 -- Source: docs/PROFILE.md, "Serial run" and "Tries".
 use Rattle.std.specs.Prelude.{◌≡◌, ℕ, ◌+◌, ◌-◌, ◌≤◌, ◌<◌, ◌^◌, Bool, true, false, ◌&&◌, ◌||◌, Option, Some, slice_get, length, option_map, if◌then◌else◌}
+use Rattle.std.specs.List.{list_all}
 use Rattle.mc_base.specs.Limits.{asked_limit}
 use Rattle.mc_base.specs.declared.request.Done.{Done}
 use Rattle.mc_base.specs.declared.request.Done.TheVariants as done
 use Rattle.mc_base.specs.declared.request.RequestId.{RequestId}
-use Rattle.lane_end.specs.PlainSender.{Sends}
-use Rattle.lane_end.specs.PlainReceiver.{Receives}
+use Rattle.lane_end.specs.AnySender.{AnySends}
+use Rattle.lane_end.specs.AnyReceiver.{AnyReceives}
 use Rattle.board_model.specs.declared.scenario.Call.{Call}
 use Rattle.board_model.specs.declared.scenario.Call.TheVariants.{Create, Delete, Lookup, MsgSend, MsgRecv, MsgRecvI, MsgAvailable, Test, Cancel, Turn}
 use Rattle.board_model.specs.declared.scenario.CallLine.{CallLine}
 use Rattle.board_model.specs.DomainCall.{DomainCall, create_at, delete_at, lookup_of, send_from, receive_at, request_at, available_at, test_of, cancel_of, turn_alone}
-use Rattle.board_model.specs.Journal.{Line, idle_line, PlainAnswer, again, called, noted}
+use Rattle.board_model.specs.Journal.{Line, Visit, idle_line, is_idle, PlainAnswer, again, called, noted}
 use Rattle.board_model.specs.Labels.{request_given}
 use Rattle.board_model.specs.Scenario.{label_in}
 use Rattle.board_model.specs.Step.{is_tried}
@@ -25,7 +26,7 @@ use Rattle.std.specs.Prelude.{List}
 use Rattle.board_runner.specs.declared.station.Station.{Station}
 use Rattle.board_runner.specs.declared.line.Made.{Made}
 use Rattle.board_runner.specs.Held.{Ids, id_or_none, TellsId}
-use Rattle.board_runner.specs.Near.{PlainDomain}
+use Rattle.board_runner.specs.Near.{RunDomain}
 
 -- the call of a line as the domain knows it, by the ids that are held for labels
 abbrev pub call_by : Ids → List RequestId → Call → DomainCall
@@ -76,14 +77,14 @@ GivesWithin n (done.Packet id) = ⊥
 GivesWithin n other = Unit {0}
 
 -- a call with its turn at a domain alone: its answer, and the id that it gives
-pub record CallsDomain (node : ℕ) (call : DomainCall) (old new : PlainDomain) (lines lines' : List Line) (m : Made) : Type 0 where
-  pub calls : Calls (EndsMoved Sends Receives) node call old new lines lines' (plain_answer m.answer) m.given
+pub record CallsDomain (node : ℕ) (call : DomainCall) (old new : RunDomain) (lines lines' : List Line) (m : Made) : Type 0 where
+  pub calls : Calls (EndsMoved AnySends AnyReceives) node call old new lines lines' (plain_answer m.answer) m.given
   pub gives : option_map (λ i. i.serial) m.given ≡ request_given calls.turned_to.state node call
   pub bytes_fit : bytes_in_answer m.answer ≤ asked_limit
 
 -- the call of a line, with its turn. Its answer is not noted yet, and the id that it gives is not held
 pub record MakesCall (line : CallLine) (old new : Station) (m : Made) : Type 0 where
-  pub calls : Calls (EndsMoved Sends Receives) line.node (call_at_station line old) old.domain new.domain old.journal.lines new.journal.lines (plain_answer m.answer) m.given
+  pub calls : Calls (EndsMoved AnySends AnyReceives) line.node (call_at_station line old) old.domain new.domain old.journal.lines new.journal.lines (plain_answer m.answer) m.given
   pub gives : option_map (λ i. i.serial) m.given ≡ request_given calls.turned_to.state line.node (call_at_station line old)
   pub ids : new.ids ≡ old.ids
   pub number : new.number ≡ old.number
@@ -114,10 +115,16 @@ abbrev pub NotesAnswer : Bool → CallLine → Made → Station → Station → 
 NotesAnswer true line m old new = NotesAgain m old new
 NotesAnswer false line m old new = NotesCalled line m old new
 
+-- where a call was quiet its turn was idle
+abbrev pub IsIdleWhere : Bool → List Visit → Type 0
+IsIdleWhere true visits = list_all is_idle visits ≡ true
+IsIdleWhere false visits = Unit {0}
+
 -- the call was made and noted, and is made again where it may be and its word is one of those
-pub record Tries (line : CallLine) (may_try : Bool) (old new : Station) (is_again : Bool) : Type 0 where
+pub record Tries (line : CallLine) (may_try : Bool) (old new : Station) (is_again is_quiet : Bool) : Type 0 where
   pub made : Made
   pub called_to : Station
   pub makes : MakesCall line old called_to made
   pub again_is : is_again ≡ (is_tried (plain_answer made.answer) && may_try)
   pub notes : NotesAnswer is_again line made called_to new
+  pub idle : IsIdleWhere is_quiet makes.calls.visits

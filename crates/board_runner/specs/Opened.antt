@@ -6,20 +6,22 @@ use Rattle.board_model.specs.declared.scenario.DomainLine.{DomainLine}
 use Rattle.board_model.specs.declared.scenario.Scenario.{Scenario}
 use Rattle.board_model.specs.Scenario.{neighbours}
 use Rattle.board_model.specs.State.{opening}
+use Rattle.domain_core.specs.Carrying.{AnyLink}
 use Rattle.domain_core.specs.Opening.{ends_opened}
 use Rattle.board_runner.specs.declared.station.Station.{Station}
 use Rattle.board_runner.specs.Held.{id_for}
 use Rattle.board_runner.specs.Lanes.{line_of_domain}
-use Rattle.board_runner.specs.Links.{links_of}
+use Rattle.board_runner.specs.Wired.{AreLinksOn}
 
 -- the line is that of its domain
 abbrev pub IsLineIn : Scenario → DomainLine → Type 0
 IsLineIn s d = line_of_domain s d.domain ≡ Some d
 
--- the domain of this line is open, and nothing was called
-pub record IsOpened (s : Scenario) (d : DomainLine) (st : Station) : Type 0 where
+-- the domain of this line is open with these links, and nothing was called
+pub record IsOpened (s : Scenario) (ls : List AnyLink) (d : DomainLine) (st : Station) : Type 0 where
+  pub on : AreLinksOn s d ls
   pub state : st.domain.state ≡ opening d.domain d.nodes (neighbours s d)
-  pub ends : st.domain.ends ≡ ends_opened d.domain (new_loop d.pool) (links_of s d)
+  pub ends : st.domain.ends ≡ ends_opened d.domain (new_loop d.pool) ls
   pub requests : st.domain.ids ≡ []
   pub told : st.journal.lines ≡ []
   pub number : st.number ≡ 0

@@ -13,9 +13,9 @@ use Rattle.board_model.specs.Step.{call_at}
 use Rattle.board_model.specs.SerialRun as run
 use Rattle.board_model.specs.SerialRun.{Running, turned_once, with_entry, word_in, called_by, is_tried_at, station_of}
 use Rattle.board_runner.specs.declared.station.Station.{Station}
-use Rattle.board_runner.specs.Carried.{AreCarried, OthersCarried}
+use Rattle.board_runner.specs.Carried.{AreCarried, OthersCarried, KnowsTruly}
 use Rattle.board_runner.specs.Shuttled.{counted, domains_of}
-use Rattle.board_runner.specs.Stations.{IsRun}
+use Rattle.board_runner.specs.Stations.{IsRun, IsBoard}
 
 -- the stations stand for a run of a lawful board
 pub record IsSomeRun (sts : List Station) : Type 0 where
@@ -23,6 +23,12 @@ pub record IsSomeRun (sts : List Station) : Type 0 where
   pub lawful : IsLawfulBoard scenario
   pub run : Running
   pub stands : IsRun scenario run sts
+
+-- the stations are those of some lawful board
+pub record IsSomeBoard (sts : List Station) : Type 0 where
+  pub scenario : Scenario
+  pub lawful : IsLawfulBoard scenario
+  pub stands : IsBoard scenario sts
 
 -- whatever run of a lawful board the stations stood for, now they stand for this one
 abbrev pub Leads : (Scenario → Running → Running) → List Station → List Station → Type 0
@@ -40,13 +46,17 @@ TurnsOnce at old new = At at (λ st. Leads (λ s r. turned_once s r st.domain.st
 abbrev pub OthersTurn : ℕ → List Station → List Station → Type 0
 OthersTurn at old new = At at (λ st. Leads (λ s r. run.all_turned s r (run.others s st.domain.state.number)) old new) old
 
--- nothing is on its way between them
+-- each knows of all that the others did
 abbrev pub AllCarried : List Station → Type 0
 AllCarried sts = AreCarried (domains_of sts)
 
--- or only what the domain at this place put and gave back
+-- or of all but what the domain at this place did
 abbrev pub CarriedBut : ℕ → List Station → Type 0
 CarriedBut at sts = At at (λ st. OthersCarried st.domain.state.number (domains_of sts)) sts
+
+-- what the domain at this place knows and took is true
+abbrev pub KnowsTrulyAt : ℕ → List Station → Type 0
+KnowsTrulyAt at sts = At at (λ st. KnowsTruly st.domain.state.number (domains_of sts)) sts
 
 -- ---- what stations count
 

@@ -1,34 +1,31 @@
--- What a shuttle between two stations does.
--- Source: docs/PROFILE.md, "Lanes" and "Serial run". Both lanes of the link between their domains are shuttled, where there is one.
+-- What happens where the link between two stations is carried.
+-- Source: docs/PROFILE.md, "Lanes" and "Serial run". The ends of both lanes of the link between their domains meet, where there is one.
 use Rattle.std.specs.Prelude.{◌≡◌, ℕ, List, map, slice_get, Some, Contains}
+use Rattle.lane_end.specs.AnyLane.{AreEndsOfOneRing, EndsHaveMet}
 use Rattle.board_model.specs.declared.scenario.Scenario.{Scenario}
 use Rattle.board_model.specs.Language.{IsLawfulBoard}
 use Rattle.board_model.specs.SerialRun.{Running}
-use Rattle.domain_core.specs.Carrying.{PlainLink, AreLinked, with_carried}
+use Rattle.domain_core.specs.Carrying.{AreLinked, Carries}
 use Rattle.board_runner.specs.declared.station.Station.{Station}
-use Rattle.board_runner.specs.Near.{PlainDomain, peers_of}
-use Rattle.board_runner.specs.Stations.{near, IsRun}
-use Rattle.board_runner.specs.Carried.{HasCome}
-
--- a domain whose link to a peer was shuttled with the peer's
-abbrev pub carried_domain : ℕ → PlainLink → PlainDomain → PlainDomain
-carried_domain peer b d = record d { ends = with_carried peer b d.ends }
+use Rattle.board_runner.specs.Near.{RunDomain, peers_of}
+use Rattle.board_runner.specs.Stations.{near, IsRun, IsBoard}
+use Rattle.board_runner.specs.Carried.{HasCome, IsTrue, DidNothing}
 
 -- where a domain has a peer, both have a link to the other
-abbrev pub AreLinkedPeers : PlainDomain → PlainDomain → Type 0
-AreLinkedPeers one two = Contains (peers_of one) two.state.number → AreLinked one.state.number two.state.number one.ends two.ends
+abbrev pub AreLinkedPeers : RunDomain → RunDomain → Type 0
+AreLinkedPeers one two = Contains (peers_of one) two.state.number → AreLinked AreEndsOfOneRing one.state.number two.state.number one.ends two.ends
 
--- the link between two domains is shuttled, or there is none and they stay
-pub data Shuttles (one two one' two' : PlainDomain) : Type 0 where
-  linked : (l : AreLinked one.state.number two.state.number one.ends two.ends) → one' ≡ carried_domain two.state.number l.back one → two' ≡ carried_domain one.state.number l.there two → Shuttles one two one' two'
+-- the link between two domains is carried, or there is none and they stay
+pub data Shuttles (one two one' two' : RunDomain) : Type 0 where
+  linked : AreLinked AreEndsOfOneRing one.state.number two.state.number one.ends two.ends → Carries EndsHaveMet one.state.number two.state.number one.ends two.ends one'.ends two'.ends → one' ≡ record one { ends = one'.ends } → two' ≡ record two { ends = two'.ends } → Shuttles one two one' two'
   apart : (Contains (peers_of one) two.state.number → ⊥) → one' ≡ one → two' ≡ two → Shuttles one two one' two'
 
--- two stations may be shuttled where their domains may. The second tells its domain's number
+-- two stations may be carried where their domains may. The second tells its domain's number
 pub record MayShuttle (one two : Station) : Type 0 where
   pub number : two.domain_number ≡ two.domain.state.number
   pub peers : AreLinkedPeers one.domain two.domain
 
--- the domains of two stations are shuttled, and all else of the stations stays
+-- the link of the domains of two stations is carried, and all else of the stations stays
 pub record StationsShuttle (one two one' two' : Station) : Type 0 where
   pub domains : Shuttles one.domain two.domain one'.domain two'.domain
   pub one_keeps : one' ≡ record one { domain = one'.domain }
@@ -36,7 +33,7 @@ pub record StationsShuttle (one two one' two' : Station) : Type 0 where
 
 -- ---- among the stations of a board
 
-abbrev pub domains_of : List Station → List PlainDomain
+abbrev pub domains_of : List Station → List RunDomain
 domains_of sts = map (λ st. st.domain) sts
 
 abbrev pub numbers_of : List Station → List ℕ
@@ -46,19 +43,26 @@ numbers_of sts = map (λ st. st.domain.state.number) sts
 abbrev pub counted : Station → ℕ × ℕ
 counted st = (st.number, st.dropped)
 
--- the stations stand for the same run of a board, and are domains of the same numbers. What has come stays so
+-- the stations stand for the same run of a board, and are domains of the same numbers. No less is known than before, and nothing was done
 pub record KeepsRun (old new : List Station) : Type 0 where
   pub run : (s : Scenario) (r : Running) → IsLawfulBoard s → IsRun s r old → IsRun s r new
+  pub board : (s : Scenario) → IsLawfulBoard s → IsBoard s old → IsBoard s new
   pub numbers : numbers_of new ≡ numbers_of old
   pub counts : map counted new ≡ map counted old
-  pub stays : (a b : ℕ) → HasCome (near (domains_of old) a b) → HasCome (near (domains_of new) a b)
+  pub alike : (a b : ℕ) → DidNothing (near (domains_of old) a b) (near (domains_of new) a b)
 
--- all has come from the domain at the one place to that at the other
+-- all that the domain at the one place did is known to that at the other
 abbrev pub ComesFrom : List Station → ℕ → ℕ → Type 0
-ComesFrom sts i j = (n m : ℕ) → slice_get (numbers_of sts) i ≡ Some n → slice_get (numbers_of sts) j ≡ Some m → HasCome (near (domains_of sts) n m)
+ComesFrom sts i j = (n m : ℕ) → slice_get (numbers_of sts) i ≡ Some n → slice_get (numbers_of sts) j ≡ Some m → HasCome (near (domains_of sts) n m) (near (domains_of sts) m n)
 
--- the stations at two places were shuttled
+-- what the domain at the one place knows of that at the other, and took from it, is true
+abbrev pub TrueOf : List Station → ℕ → ℕ → Type 0
+TrueOf sts i j = (n m : ℕ) → slice_get (numbers_of sts) i ≡ Some n → slice_get (numbers_of sts) j ≡ Some m → IsTrue (near (domains_of sts) n m) (near (domains_of sts) m n)
+
+-- the link between the stations at two places was carried
 pub record ShuttlesAt (i j : ℕ) (old new : List Station) : Type 0 where
   pub keeps : KeepsRun old new
   pub there : ComesFrom new i j
   pub back : ComesFrom new j i
+  pub there_true : TrueOf old i j
+  pub back_true : TrueOf old j i

@@ -14,3 +14,13 @@ pub fn add<T: Drop>(items: &mut Seq<T>, item: T) -> Result<(), NoMemory>
     }
     Ok(())
 }
+
+/// Appends an item to a vector.
+pub fn append<T: Drop>(items: &mut Vec<T>, item: T) -> Result<(), NoMemory>
+    ensures { OnOk result (items.new.items ≡ items.old.items ++ item ∷ []) }
+{
+    if items.push(item).is_err() {
+        return Err(NoMemory);
+    }
+    Ok(())
+}

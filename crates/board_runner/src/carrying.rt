@@ -2,18 +2,19 @@
 
 ghost use Rattle.std.specs.Prelude.{◌≡◌, ◌≢◌, ◌<◌, length};
 ghost use Rattle.board_runner.specs.Meeting.{MayMeetAt, MeetAt};
-ghost use Rattle.board_runner.specs.Runs.{IsSomeRun, Leads, AllCarried, CarriedBut, KeepCounts};
+ghost use Rattle.board_runner.specs.Runs.{IsSomeBoard, Leads, AllCarried, CarriedBut, KnowsTrulyAt, KeepCounts};
 ghost use Rattle.board_runner.specs.Shuttled.{ShuttlesAt};
 
 use crate::station::Station;
-use domain_core::carry;
+use domain_core::carry_rings;
 
-/// Carries what the domain of a station put and gave back: it stands at the other ends of the domain's links from then on. Nothing
-/// else is on its way.
+/// Carries the links of a station's domain: each of its peers knows then of all that it put and gave back, and it of all that they
+/// did. What it knew before was true, so that its looks showed what there was.
 pub fn carry_all(stations: &mut [Station<'_>], at: usize)
     requires at { at < length stations.old }
-    requires run { IsSomeRun stations.old }
+    requires board { IsSomeBoard stations.old }
     requires others { CarriedBut at stations.old }
+    ensures truly { KnowsTrulyAt at stations.old }
     ensures run { Leads (λ s r. r) stations.old stations.new }
     ensures carried { AllCarried stations.new }
     ensures counts { KeepCounts stations.old stations.new }
@@ -25,13 +26,12 @@ pub fn carry_all(stations: &mut [Station<'_>], at: usize)
     }
 }
 
-/// Shuttles both lanes of the link between the stations at two places, in whichever order they stand. Where there is no link
-/// nothing happens.
+/// Carries the link between the stations at two places, in whichever order they stand. Where there is no link nothing happens.
 fn shuttle_at(stations: &mut [Station<'_>], one: usize, two: usize)
     requires apart { one ≢ two }
     requires one_within { one < length stations.old }
     requires two_within { two < length stations.old }
-    requires run { IsSomeRun stations.old }
+    requires board { IsSomeBoard stations.old }
     ensures { ShuttlesAt one two stations.old stations.new }
 {
     if one < two {
@@ -61,7 +61,7 @@ impl Meets for Station<'_> {
 
     fn meet(&mut self, other: &mut Self) {
         if self.domain.has_peer(other.domain_number) {
-            carry(&mut self.domain, &mut other.domain);
+            carry_rings(&mut self.domain, &mut other.domain);
         }
     }
 }

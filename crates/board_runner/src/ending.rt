@@ -15,7 +15,7 @@ use crate::station::Station;
 use crate::tally::{HeldBuffers, Tally};
 use board_model::{Scenario, Seq};
 use domain_core::{Domain, Journal, Places};
-use lane_end::{PlainRecv, PlainSend};
+use lane_end::{AnyRecv, AnySend};
 use mc_base::{MAX_DOMAINS, NoMemory};
 use std::alloc::Global;
 
@@ -65,7 +65,7 @@ fn tally_of(station: &Station<'_>) -> Tally
 }
 
 /// How many messages are queued in a domain, and where it holds buffers.
-fn held_by(domain: &Domain<PlainSend, PlainRecv>) -> HeldBuffers
+fn held_by(domain: &Domain<AnySend<'_>, AnyRecv<'_>>) -> HeldBuffers
     ensures { AreHeld domain.now.state result }
 {
     let mut held = HeldBuffers {

@@ -17,10 +17,12 @@ mod numbers;
 mod opening;
 mod outcome;
 mod report;
+mod rings;
 mod serial;
 mod station;
 mod stations;
 mod tally;
+mod wires;
 
 pub use board_model::{LanePlaces, Totals};
 pub use outcome::{ChannelTotals, Outcome};

@@ -19,7 +19,7 @@ use crate::station::Station;
 use crate::stations::others_turn;
 use board_model::{Call, CallLine};
 use domain_core::{Answer, Domain, Entry, Journal, Told};
-use lane_end::{PlainRecv, PlainSend};
+use lane_end::{AnyRecv, AnySend};
 use mc_base::{Local, NoMemory, Refusal, RequestId};
 use messages::{available, create, delete, receive, send, turn};
 use requests::{cancel, lookup, request, test};
@@ -117,7 +117,7 @@ fn call_and_note<'a>(
     requires drops { station.old.dropped ≤ 2 ^ 32 * station.old.number }
     requires asks { AsksAtMost asked_limit line.now.call }
     requires room { length room.old ≡ asked_limit }
-    ensures tries { IfOk result (λ ended. Tries line.now may_try station.old station.new ended.is_again) }
+    ensures tries { IfOk result (λ ended. Tries line.now may_try station.old station.new ended.is_again ended.is_quiet) }
     ensures quiet { IfOk result (λ ended. StayCarriedWhere ended.is_quiet station.old.domain.ends station.new.domain.ends) }
 {
     let made = call_line(station, line, room)?;
@@ -177,7 +177,7 @@ fn call_line<'r>(
 
 /// Makes the call of a line at its domain. Labels name requests by the ids that are held for them.
 fn call_domain<'r>(
-    domain: &mut Domain<PlainSend, PlainRecv>,
+    domain: &mut Domain<AnySend<'_>, AnyRecv<'_>>,
     journal: &mut Journal,
     ids: &BTreeMap<&[u8], RequestId>,
     line: &CallLine,

@@ -5,24 +5,33 @@ ghost use Rattle.board_model.specs.Language.{IsLawfulBoard};
 ghost use Rattle.board_model.specs.LinkedBoard.{IsLinkedBoard};
 ghost use Rattle.board_model.specs.SerialRun.{opened};
 ghost use Rattle.board_runner.specs.Opened.{IsLineIn, IsOpened};
+ghost use Rattle.board_runner.specs.Wired.{IsWired, AreLinksOn};
 ghost use Rattle.board_runner.specs.Runs.{AllCarried};
 ghost use Rattle.board_runner.specs.Stations.{IsRun};
 
 use crate::board::line_of;
 use crate::links::links_of;
 use crate::station::Station;
+use crate::wires::Wire;
 use board_model::{DomainLine, Scenario};
-use domain_core::{Domain, Journal};
+use domain_core::{Domain, Journal, Link};
+use lane_end::{AnyRecv, AnySend};
 use mc_base::{MAX_DOMAINS, NoMemory};
 use std::alloc::Global;
 use std::collections::BTreeMap;
 
-/// The domains of a lawful board in rising number, before the first line. Want of memory is the only refusal.
+/// The domains of a lawful board in rising number, before the first line, with the links of the board.
+///
+/// # Errors
+///
+/// `NoMemory`, at any time.
 pub(crate) fn open_stations<'a>(
     alloc: Global,
     scenario: &Scenario,
+    mut wires: Vec<Wire<'a>>,
 ) -> Result<Vec<Station<'a>>, NoMemory>
-    requires { IsLawfulBoard scenario.now }
+    requires lawful { IsLawfulBoard scenario.now }
+    requires wired { IsWired scenario.now wires.items }
     ensures run { IfOk result (λ v. IsRun scenario.now (opened scenario.now) v.items) }
     ensures carried { IfOk result (λ v. AllCarried v.items) }
 {
@@ -31,7 +40,8 @@ pub(crate) fn open_stations<'a>(
     };
     for number in 0..MAX_DOMAINS {
         if let Some(line) = line_of(scenario, number) {
-            let station = open_station(alloc, scenario, line)?;
+            let links = links_of(alloc, &mut wires, number)?;
+            let station = open_station(alloc, scenario, line, links)?;
             stations.push(station).unwrap();
         }
     }
@@ -41,14 +51,15 @@ pub(crate) fn open_stations<'a>(
 /// A domain with its links, before its first line.
 fn open_station<'a>(
     alloc: Global,
-    scenario: &Scenario,
+    _scenario: &Scenario,
     line: DomainLine,
+    links: Vec<Link<AnySend<'a>, AnyRecv<'a>>>,
 ) -> Result<Station<'a>, NoMemory>
-    requires board { IsLinkedBoard scenario.now }
-    requires line { IsLineIn scenario.now line }
-    ensures { IfOk result (λ st. IsOpened scenario.now line st) }
+    requires board { IsLinkedBoard _scenario.now }
+    requires line { IsLineIn _scenario.now line }
+    requires links { AreLinksOn _scenario.now line links.items }
+    ensures { IfOk result (λ st. IsOpened _scenario.now links.entry.items line st) }
 {
-    let links = links_of(alloc, scenario, line)?;
     let domain = Domain::open(alloc, line.domain, line.nodes, line.pool, links)?;
     let journal = Journal::new(alloc)?;
     Ok(Station {

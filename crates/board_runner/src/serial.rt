@@ -7,17 +7,20 @@ ghost use Rattle.board_model.specs.SerialRun.{opened, finished, serial_run};
 ghost use Rattle.board_runner.specs.Outcome.{IsOutcome};
 ghost use Rattle.board_runner.specs.Runs.{AllCarried};
 ghost use Rattle.board_runner.specs.Stations.{IsRun};
+ghost use Rattle.board_runner.specs.Wired.{IsWired};
 
 use crate::Outcome;
 use crate::ending::outcome_of;
 use crate::line::run_line;
 use crate::opening::open_stations;
+use crate::rings::rings_of;
 use crate::station::Station;
+use crate::wires::{Wire, wires_of};
 use board_model::{DomainLine, Scenario};
 use mc_base::{MAX_ASKED, MAX_DOMAINS, NoMemory};
 use std::alloc::Global;
 
-/// Runs a lawful board, and returns what the run left. Its lines are run in the file's order, each look shows all that stands on
+/// Runs a lawful board over rings, two for each link, and returns what the run left. Its lines are run in the file's order, each look shows all that stands on
 /// the lanes, and between two calls of a line with tries every other domain makes one turn.
 ///
 /// # Errors
@@ -27,16 +30,24 @@ pub fn run_serial(alloc: Global, scenario: &Scenario) -> Result<Outcome, NoMemor
     requires { IsLawfulBoard scenario.now }
     ensures { IfOk result (λ o. IsOutcome scenario.now o (serial_run scenario.now)) }
 {
-    let stations = run_board(alloc, scenario)?;
+    let links = scenario.links.as_slice();
+    let (rings, halves) = rings_of(alloc, links)?;
+    let wires = wires_of(alloc, links, rings.as_slice(), halves)?;
+    let stations = run_board(alloc, scenario, wires)?;
     outcome_of(alloc, scenario, stations)
 }
 
 /// Runs the lines of a lawful board in the file's order, and returns its stations. Each look shows all that stands.
-fn run_board<'a>(alloc: Global, scenario: &'a Scenario) -> Result<Vec<Station<'a>>, NoMemory>
-    requires { IsLawfulBoard scenario.now }
+fn run_board<'a>(
+    alloc: Global,
+    scenario: &'a Scenario,
+    wires: Vec<Wire<'a>>,
+) -> Result<Vec<Station<'a>>, NoMemory>
+    requires lawful { IsLawfulBoard scenario.now }
+    requires wired { IsWired scenario.now wires.items }
     ensures { IfOk result (λ stations. IsRun scenario.now (finished scenario.now) stations.items) }
 {
-    let mut stations = open_stations(alloc, scenario)?;
+    let mut stations = open_stations(alloc, scenario, wires)?;
     let Ok(mut room) = Vec::from_elem(alloc, 0u8, MAX_ASKED) else {
         return Err(NoMemory);
     };

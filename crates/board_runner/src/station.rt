@@ -1,7 +1,7 @@
 //! A domain on its way through its script.
 
 use domain_core::{Domain, Journal};
-use lane_end::{PlainRecv, PlainSend};
+use lane_end::{AnyRecv, AnySend};
 use mc_base::RequestId;
 use std::collections::BTreeMap;
 
@@ -9,7 +9,7 @@ use std::collections::BTreeMap;
 /// and how many messages its deletes dropped.
 #[derive(Drop)]
 pub struct Station<'a> {
-    pub domain: Domain<PlainSend, PlainRecv>,
+    pub domain: Domain<AnySend<'a>, AnyRecv<'a>>,
     pub domain_number: u8,
     pub journal: Journal,
     pub ids: BTreeMap<&'a [u8], RequestId>,

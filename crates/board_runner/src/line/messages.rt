@@ -10,12 +10,12 @@ ghost use Rattle.board_runner.specs.Lines.{CallsDomain};
 use super::Made;
 use crate::answers::{of_number, of_receive, of_unit};
 use domain_core::{Answer, CALL_BYTES, CALL_ENTRIES, Domain, Journal};
-use lane_end::{PlainRecv, PlainSend};
+use lane_end::{AnyRecv, AnySend};
 use mc_base::{EndName, Local, NoMemory, Priority};
 
 /// Makes an endpoint.
 pub fn create(
-    domain: &mut Domain<PlainSend, PlainRecv>,
+    domain: &mut Domain<AnySend<'_>, AnyRecv<'_>>,
     journal: &mut Journal,
     at: Local,
 ) -> Result<Made<'static>, NoMemory>
@@ -31,7 +31,7 @@ pub fn create(
 
 /// Ends an endpoint.
 pub fn delete(
-    domain: &mut Domain<PlainSend, PlainRecv>,
+    domain: &mut Domain<AnySend<'_>, AnyRecv<'_>>,
     journal: &mut Journal,
     at: Local,
 ) -> Result<Made<'static>, NoMemory>
@@ -48,7 +48,7 @@ pub fn delete(
 
 /// Sends a message.
 pub fn send(
-    domain: &mut Domain<PlainSend, PlainRecv>,
+    domain: &mut Domain<AnySend<'_>, AnyRecv<'_>>,
     journal: &mut Journal,
     from: Local,
     to: EndName,
@@ -67,7 +67,7 @@ pub fn send(
 
 /// Receives a message into `out`, which has at most 9,000 bytes.
 pub fn receive<'r>(
-    domain: &mut Domain<PlainSend, PlainRecv>,
+    domain: &mut Domain<AnySend<'_>, AnyRecv<'_>>,
     journal: &mut Journal,
     at: Local,
     out: &'r mut [u8],
@@ -85,7 +85,7 @@ pub fn receive<'r>(
 
 /// Tells how many messages wait.
 pub fn available(
-    domain: &mut Domain<PlainSend, PlainRecv>,
+    domain: &mut Domain<AnySend<'_>, AnyRecv<'_>>,
     journal: &mut Journal,
     at: Local,
 ) -> Result<Made<'static>, NoMemory>
@@ -101,7 +101,7 @@ pub fn available(
 
 /// Makes a turn alone.
 pub fn turn(
-    domain: &mut Domain<PlainSend, PlainRecv>,
+    domain: &mut Domain<AnySend<'_>, AnyRecv<'_>>,
     journal: &mut Journal,
 ) -> Result<Made<'static>, NoMemory>
     ensures { IfOk result (λ made. (node : ℕ) → CallsDomain node turn_alone domain.old domain.new journal.old.lines journal.new.lines made) }

@@ -9,12 +9,12 @@ ghost use Rattle.board_runner.specs.Lines.{CallsDomain};
 use super::Made;
 use crate::answers::{of_request, of_test, of_unit};
 use domain_core::{CALL_BYTES, CALL_ENTRIES, Domain, Journal};
-use lane_end::{PlainRecv, PlainSend};
+use lane_end::{AnyRecv, AnySend};
 use mc_base::{EndName, Local, NoMemory, RequestId};
 
 /// Asks for the address of an endpoint. A call that is refused gives no request.
 pub fn lookup(
-    domain: &mut Domain<PlainSend, PlainRecv>,
+    domain: &mut Domain<AnySend<'_>, AnyRecv<'_>>,
     journal: &mut Journal,
     name: EndName,
 ) -> Result<Made<'static>, NoMemory>
@@ -30,7 +30,7 @@ pub fn lookup(
 
 /// Requests a message. A call that is refused gives no request.
 pub fn request(
-    domain: &mut Domain<PlainSend, PlainRecv>,
+    domain: &mut Domain<AnySend<'_>, AnyRecv<'_>>,
     journal: &mut Journal,
     at: Local,
     max: u32,
@@ -47,7 +47,7 @@ pub fn request(
 
 /// Ends a request if it is complete. What it brings goes to `out`, which has 9,000 bytes.
 pub fn test<'r>(
-    domain: &mut Domain<PlainSend, PlainRecv>,
+    domain: &mut Domain<AnySend<'_>, AnyRecv<'_>>,
     journal: &mut Journal,
     id: RequestId,
     out: &'r mut [u8],
@@ -65,7 +65,7 @@ pub fn test<'r>(
 
 /// Ends a request that is pending.
 pub fn cancel(
-    domain: &mut Domain<PlainSend, PlainRecv>,
+    domain: &mut Domain<AnySend<'_>, AnyRecv<'_>>,
     journal: &mut Journal,
     id: RequestId,
 ) -> Result<Made<'static>, NoMemory>

@@ -1,0 +1,78 @@
+//! The rings of a board: two for each link.
+
+ghost use Rattle.std.specs.Prelude.{IfOk};
+ghost use Rattle.board_runner.specs.Wired.{AreRings, HaveParts};
+
+use crate::adding::append;
+use board_model::LinkLine;
+use mc_base::{Buffer, NoMemory};
+use split_ring::{Device, Driver, Ring};
+use std::alloc::Global;
+
+/// The rings of a link: queue 0 from its device to its driver, and queue 1 back.
+#[derive(Drop)]
+pub struct LinkRings {
+    pub queue0: Ring,
+    pub queue1: Ring,
+}
+
+/// The two halves of a ring, and its buffers.
+#[derive(Drop)]
+pub struct Halves {
+    pub driver: Driver,
+    pub device: Device,
+    pub buffers: Vec<Buffer>,
+}
+
+/// The halves of the rings of a link.
+#[derive(Drop)]
+pub struct LinkHalves {
+    pub queue0: Halves,
+    pub queue1: Halves,
+}
+
+/// The rings of all links, in the order of the links, and their halves.
+///
+/// # Errors
+///
+/// `NoMemory` where there is none for a ring.
+pub fn rings_of(
+    alloc: Global,
+    links: &[LinkLine],
+) -> Result<(Vec<LinkRings>, Vec<LinkHalves>), NoMemory>
+    ensures { IfOk result (λ r. AreRings links.now r.0.items r.1.items) }
+{
+    let mut rings = Vec::new(alloc);
+    let mut halves = Vec::new(alloc);
+    for link in links {
+        let (two, parts) = rings_of_link(alloc, link.size)?;
+        append(&mut rings, two)?;
+        append(&mut halves, parts)?;
+    }
+    Ok((rings, halves))
+}
+
+/// The two rings of a link of this size.
+fn rings_of_link(alloc: Global, size: u32) -> Result<(LinkRings, LinkHalves), NoMemory>
+    ensures { IfOk result (λ r. HaveParts size r.0 r.1) }
+{
+    let Ok((queue0, driver0, device0, buffers0)) = Ring::new(alloc, 0, size) else {
+        return Err(NoMemory);
+    };
+    let Ok((queue1, driver1, device1, buffers1)) = Ring::new(alloc, 1, size) else {
+        return Err(NoMemory);
+    };
+    let halves = LinkHalves {
+        queue0: Halves {
+            driver: driver0,
+            device: device0,
+            buffers: buffers0,
+        },
+        queue1: Halves {
+            driver: driver1,
+            device: device1,
+            buffers: buffers1,
+        },
+    };
+    Ok((LinkRings { queue0, queue1 }, halves))
+}
