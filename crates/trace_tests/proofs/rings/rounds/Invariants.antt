@@ -1,0 +1,11 @@
+use Rattle.std.proofs.Common.{◌≡◌}
+use Rattle.shared_words.specs.declared.view.Role.TheVariants as role
+use Rattle.split_ring.specs.Ends.{HoldsNumber}
+use Rattle.trace_tests.proofs.rings.rounds.Given as goal
+
+abbrev pub invariant-loop-done : goal.invariant-loop-done
+invariant-loop-done l = record {
+  driver : l.driver.ring ≡ l.on.ring;
+  device : l.device.ring ≡ l.on.ring;
+  held : HoldsNumber role.Driver l.driver l.buffer.number;
+}
