@@ -4,3 +4,7 @@ pub mod Pieces
 pub mod HexPieces
 pub mod Tables
 pub mod Within
+pub mod FieldWrites
+pub mod SameImage
+pub mod SideWrites
+pub mod BothSides

@@ -1,3 +1,4 @@
 pub mod ImageFaults
 pub mod WordImage
 pub mod Writes
+pub mod BothSides
