@@ -3,8 +3,8 @@ ghost use Rattle.std.specs.List.{All};
 ghost use Rattle.ring_trace.specs.Writes.{LiesWithin};
 
 use ring_trace::{
-    ImageFault, ImageInfo, Write, check_image, device_writes, driver_writes, fold_writes,
-    start_image,
+    ImageFault, ImageInfo, Write, both_sides_make_the_image, check_image, device_writes,
+    driver_writes, fold_writes, start_image,
 };
 use std::alloc::Global;
 use std::test::Fail;
@@ -107,4 +107,9 @@ fn is_primed(alloc: Global) -> Option<bool> {
 fn a_primed_ring_is_what_its_driver_writes(rt: HostRuntime) -> Result<(), Fail> {
     assert!(rt; is_primed(rt.alloc()).ok_or("memory")?);
     Ok(())
+}
+
+#[test]
+fn the_law_of_both_sides_holds() {
+    both_sides_make_the_image();
 }
