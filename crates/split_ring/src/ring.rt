@@ -1,5 +1,6 @@
 //! The ring itself.
 ghost use Rattle.std.specs.Prelude.{◌≡◌, ◌≤◌, ◌<◌, ◌↔◌, map, IfOk, IsErrOf, vec_capacity};
+ghost use Rattle.mc_base.specs.Limits.{buffer_size};
 ghost use Rattle.shared_words.specs.declared.view.Role.TheVariants as role;
 ghost use Rattle.shared_words.specs.Shape.{IsRingSize};
 ghost use Rattle.shared_words.specs.Slots.{numbers_from};
@@ -64,6 +65,7 @@ impl Ring {
         ensures queue_refused { IsErrOf result RingFault.Queue ↔ (1 < queue) }
         ensures size_refused { IsErrOf result RingFault.Size ↔ ((queue ≤ 1) × (IsRingSize size → ⊥)) }
         ensures ring { IfOk result (λ r. (r.0.queue ≡ queue) × (size_of r.0.ring ≡ size) × IsRingSize size) }
+        ensures longest { IfOk result (λ r. r.0.ring.longest ≡ buffer_size) }
         ensures halves { IfOk result (λ r. (r.1 ≡ new_end r.0.ring) × (r.2 ≡ new_end r.0.ring)) }
         ensures sound { IfOk result (λ r. IsSound role.Driver r.1 × IsSound role.Device r.2) }
         ensures buffers { IfOk result (λ r. r.3.items ≡ map new_buffer (numbers_from 0 size)) }
