@@ -36,7 +36,7 @@ pub fn wires_of<'a>(
     let mut at = 0;
     for two in halves {
         let (Some(line), Some(on)) = (links.get(at), rings.get(at)) else {
-            return Err(NoMemory);
+            unreachable!()
         };
         let (there, back) = open_link(*line, on, two)?;
         append(&mut wires, there)?;

@@ -1,13 +1,28 @@
-use Rattle.std.proofs.Common.{◌≡◌, ◌∙◌, ◌+◌, ◌++◌, ℕ, List, [], ◌∷◌, drop, length, rules, refl, arith, sym, ap, subst, append-nil}
-use Rattle.std.proofs.lemmas.Option.{get_or_from_slice_get}
+use Rattle.std.proofs.Common.{◌≡◌, ◌∙◌, ◌+◌, ◌++◌, ◌<◌, ℕ, false, true≢false, nat_lt, List, [], ◌∷◌, drop, length, rules, refl, arith, sym, ap, subst, append-nil}
+use Rattle.std.proofs.lemmas.Bool.{lt-ltb}
+use Rattle.std.proofs.lemmas.Option.{get_or_from_slice_get, slice_get_within}
 use Rattle.board_runner.specs.declared.rings.LinkHalves.{LinkHalves}
 use Rattle.board_runner.specs.Wired.{AreRings, HaveParts, wires_for}
 use Rattle.board_runner.proofs.WiredLemmas.{NextRings, next-rings, none-rings, wires-more}
 use Rattle.board_runner.proofs.wires.wires_of.Goals as goal
+use Rattle.board_runner.proofs.wires.wires_of.Goals.{in_default-via-in-Some+in_default, in_default-via-in_default}
 
 none-left : (hs : List LinkHalves) → length hs ≡ 0 → hs ≡ []
 none-left [] e = refl
 none-left (h ∷ hs) e = absurd (omega (arith, e))
+
+never : (i n : ℕ) → i < n → false ≡ nat_lt i n → ⊥
+never i n within other = true≢false (sym (other ∙ lt-ltb i n within))
+
+-- each link has its rings, and both lists are longer than the links before this one
+pub unreachable-requires : goal.unreachable-requires
+unreachable-requires c =
+    let i = c.loop-two.at in
+    let n = next-rings c.args.links.now c.args.rings.now i c.in-Some.two c.next.new.self.rest.items (subst (λ (hs : List LinkHalves). AreRings (drop i c.args.links.now) (drop i c.args.rings.now) hs) c.in-Some.ensures.steps.0 c.loop-two.invariant.are) in
+    elim c.in_default.branch [
+      in_default-via-in-Some+in_default w ↦ never i (length c.args.rings.now) (slice_get_within c.args.rings.now i n.on n.ring_at) w.in_default.ensures'.lookup.0
+    | in_default-via-in_default w ↦ never i (length c.args.links.now) (slice_get_within c.args.links.now i n.line n.line_at) w.in_default.ensures.lookup.0
+    ]
 
 pub open_link-requires : goal.open_link-requires
 open_link-requires c =
