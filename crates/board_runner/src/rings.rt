@@ -1,12 +1,14 @@
 //! The rings of a board: two for each link.
 
-ghost use Rattle.std.specs.Prelude.{IfOk};
-ghost use Rattle.board_runner.specs.Wired.{AreRings, HaveParts};
+ghost use Rattle.std.specs.Prelude.{◌≤◌, IfOk};
+ghost use Rattle.std.specs.List.{AllByRecursion};
+ghost use Rattle.shared_words.specs.Shape.{IsRingSize};
+ghost use Rattle.board_runner.specs.Wired.{AreRings, HaveParts, IsNewRing};
 
 use crate::adding::append;
 use board_model::LinkLine;
 use mc_base::{Buffer, NoMemory};
-use split_ring::{Device, Driver, Ring};
+use split_ring::{Device, Driver, Ring, RingFault};
 use std::alloc::Global;
 
 /// The rings of a link: queue 0 from its device to its driver, and queue 1 back.
@@ -40,6 +42,7 @@ pub fn rings_of(
     alloc: Global,
     links: &[LinkLine],
 ) -> Result<(Vec<LinkRings>, Vec<LinkHalves>), NoMemory>
+    requires { AllByRecursion (λ l. IsRingSize l.size) links.now }
     ensures { IfOk result (λ r. AreRings links.now r.0.items r.1.items) }
 {
     let mut rings = Vec::new(alloc);
@@ -54,25 +57,34 @@ pub fn rings_of(
 
 /// The two rings of a link of this size.
 fn rings_of_link(alloc: Global, size: u32) -> Result<(LinkRings, LinkHalves), NoMemory>
+    requires { IsRingSize size }
     ensures { IfOk result (λ r. HaveParts size r.0 r.1) }
 {
-    let Ok((queue0, driver0, device0, buffers0)) = Ring::new(alloc, 0, size) else {
-        return Err(NoMemory);
-    };
-    let Ok((queue1, driver1, device1, buffers1)) = Ring::new(alloc, 1, size) else {
-        return Err(NoMemory);
-    };
+    let (queue0, zero) = new_ring(alloc, 0, size)?;
+    let (queue1, one) = new_ring(alloc, 1, size)?;
     let halves = LinkHalves {
-        queue0: Halves {
-            driver: driver0,
-            device: device0,
-            buffers: buffers0,
-        },
-        queue1: Halves {
-            driver: driver1,
-            device: device1,
-            buffers: buffers1,
-        },
+        queue0: zero,
+        queue1: one,
     };
     Ok((LinkRings { queue0, queue1 }, halves))
+}
+
+/// A new ring of a queue, with its halves.
+fn new_ring(alloc: Global, queue: u8, size: u32) -> Result<(Ring, Halves), NoMemory>
+    requires queue { queue ≤ 1 }
+    requires size { IsRingSize size }
+    ensures { IfOk result (λ r. IsNewRing queue size r.0 r.1) }
+{
+    match Ring::new(alloc, queue, size) {
+        Ok((ring, driver, device, buffers)) => {
+            let halves = Halves {
+                driver,
+                device,
+                buffers,
+            };
+            Ok((ring, halves))
+        }
+        Err(RingFault::NoMemory) => Err(NoMemory),
+        Err(RingFault::Queue | RingFault::Size) => unreachable!(),
+    }
 }
