@@ -1,5 +1,5 @@
 -- What the outcome of a run says of its board run.
--- Source: docs/FORMATS.md, "Report". Lanes are plain, so no ring is left, and no channels are built yet.
+-- Source: docs/FORMATS.md, "Report". A serial run closes none of its rings, so none is listed, and no channels are built yet.
 use Rattle.std.specs.Prelude.{◌≡◌, List, [], map}
 use Rattle.board_model.specs.declared.scenario.Scenario.{Scenario}
 use Rattle.board_model.specs.Scenario.{lanes}

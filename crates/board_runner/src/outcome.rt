@@ -12,7 +12,7 @@ pub struct ChannelTotals {
     pub totals: Totals,
 }
 
-/// What a run left: the journal of each domain in rising number, the rings, of which a serial run has none, where the buffers of
+/// What a run left: the journal of each domain in rising number, the rings, of which a serial run closes none, where the buffers of
 /// each lane are, what became of the items of each channel, of which there are none yet, and what became of the messages. All
 /// stand in the order of the report.
 #[derive(Debug, Drop)]
