@@ -1,1 +1,1 @@
-pub mod NewLinks
+pub mod ThreeLinks

@@ -1,19 +1,17 @@
 //! Two domains that are linked.
 
 ghost use Rattle.std.specs.Prelude.{◌≡◌, ◌≤◌, ◌∷◌, [], IfOk};
-ghost use Rattle.domain_core.specs.Carrying.{AreJoined};
 ghost use Rattle.domain_core.specs.Opening.{AreLinksOf, ends_opened};
 ghost use Rattle.lane_end.specs.Loop.{new_loop};
-ghost use Rattle.lane_end.specs.Numbers.{IsLaneSize};
 ghost use Rattle.domain_core.specs.Going.{PlainGoes};
-ghost use Rattle.domain_core_tests.specs.NewLinks.{IsOpen, new_link};
+ghost use Rattle.linked_pair.specs.Links.{IsOpen};
 
 use super::steps::Said::{Address, Held, Idle, Message, Number};
 use super::steps::Step::{Available, Begin, Cancel, Delete, Lookup, Plain, Test, Turn};
 use super::steps::{self, Step, stepped};
 use super::*;
-use domain_core::{Link, carry, domains_stay_linked};
-use lane_end::{PlainRecv, PlainSend, plain_lane};
+use domain_core::{carry, domains_stay_linked};
+use linked_pair::{PlainDomain, PlainLink, plain_link};
 use mc_base::RequestId;
 use std::marker::Model;
 
@@ -38,10 +36,6 @@ use Deed::{Carry, Four, FourHolds, FourQueues, Three, ThreeHolds};
 
 /// A deed, and what it answers: the number 0 for a link that is carried.
 type Row = (Deed, steps::Answered);
-
-type PlainLink = Link<PlainSend, PlainRecv>;
-
-type PlainDomain = Domain<PlainSend, PlainRecv>;
 
 /// What a domain noted, and the ids of its requests.
 #[derive(Drop)]
@@ -70,7 +64,7 @@ impl Model for Pair {
 impl Pair {
     /// Whose link has so many buffers each way.
     fn open(alloc: Global, size: u32) -> Result<Pair, Fail> {
-        let (there, back) = link(alloc, size)?;
+        let (there, back) = plain_link(alloc, 3, 4, size)?;
         Ok(Pair {
             three: linked(alloc, 3, there)?,
             four: linked(alloc, 4, back)?,
@@ -163,34 +157,6 @@ fn linked(alloc: Global, number: u8, link: PlainLink) -> Result<PlainDomain, Fai
     links.push(link)?;
     let domain = Domain::open(alloc, number, 1, 2, links)?;
     Ok(domain)
-}
-
-/// The ends of a link between domains 3 and 4.
-fn link(alloc: Global, size: u32) -> Result<(PlainLink, PlainLink), Fail>
-    ensures there { IfOk result (λ r. r.0 ≡ new_link 4 size) }
-    ensures back { IfOk result (λ r. r.1 ≡ new_link 3 size) }
-    ensures size { IfOk result (λ _. IsLaneSize size) }
-    ensures joined { IfOk result (λ r. AreJoined r.0 r.1) }
-{
-    let Ok((send, arriving)) = plain_lane(alloc, size) else {
-        return Err("no lane".into());
-    };
-    let Ok((answering, recv)) = plain_lane(alloc, size) else {
-        return Err("no lane".into());
-    };
-    let there = Link {
-        peer: 4,
-        size,
-        send,
-        recv,
-    };
-    let back = Link {
-        peer: 3,
-        size,
-        send: answering,
-        recv: arriving,
-    };
-    Ok((there, back))
 }
 
 /// Makes a call.

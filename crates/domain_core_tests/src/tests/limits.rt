@@ -1,31 +1,19 @@
 //! The most endpoints that a domain ever makes, and links of each size.
 
 ghost use Rattle.std.specs.Prelude.{◌≡◌, [], ◌∷◌, IfOk};
-ghost use Rattle.lane_end.specs.Numbers.{IsLaneSize};
-ghost use Rattle.domain_core_tests.specs.NewLinks.{new_link};
+ghost use Rattle.linked_pair.specs.Links.{new_link};
 
 use super::*;
-use domain_core::{CALL_BYTES, CALL_ENTRIES, Link};
-use lane_end::{PlainRecv, PlainSend, plain_lane};
-
-type PlainLink = Link<PlainSend, PlainRecv>;
+use domain_core::{CALL_BYTES, CALL_ENTRIES};
+use lane_end::{PlainRecv, PlainSend};
+use linked_pair::{PlainLink, plain_link};
 
 /// Ends of a link whose other ends are nowhere.
 fn loose_link(alloc: Global, peer: u8, size: u32) -> Result<PlainLink, Fail>
     ensures link { IfOk result (λ l. l ≡ new_link peer size) }
 {
-    let Ok((send, _)) = plain_lane(alloc, size) else {
-        return Err("no lane".into());
-    };
-    let Ok((_, recv)) = plain_lane(alloc, size) else {
-        return Err("no lane".into());
-    };
-    Ok(Link {
-        peer,
-        size,
-        send,
-        recv,
-    })
+    let (link, _) = plain_link(alloc, 3, peer, size)?;
+    Ok(link)
 }
 
 /// Links of domain 3, which stands between two of its peers.

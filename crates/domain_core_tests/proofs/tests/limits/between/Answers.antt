@@ -1,4 +1,4 @@
-use Rattle.domain_core_tests.proofs.NewLinks.{three-are, three-open}
+use Rattle.domain_core_tests.proofs.ThreeLinks.{three-are, three-open}
 use Rattle.domain_core_tests.proofs.tests.limits.between.Goals as goal
 
 pub open-requires-clause-peers : goal.open-requires-clause-peers

@@ -1,4 +1,4 @@
-use Rattle.domain_core_tests.proofs.NewLinks.{three-pushed}
+use Rattle.domain_core_tests.proofs.ThreeLinks.{three-pushed}
 use Rattle.domain_core_tests.proofs.tests.limits.three_links.Goals as goal
 
 pub returns : goal.returns

@@ -1,20 +1,14 @@
--- New plain links are open.
+-- The links of a domain 3 to domains 0, 2 and 5: they are those of a domain, and open.
 use Rattle.std.proofs.Common.{◌≡◌, ◌∙◌, ℕ, List, [], ◌∷◌, ◌++◌, refl, sym, ap, subst, arith}
 use Rattle.std.proofs.lemmas.List.FromFn.{length-range_with_len}
 use Rattle.std.specs.List.{AllByRecursion}
 use Rattle.lane_end.specs.Numbers.{IsLaneSize}
 use Rattle.domain_core.specs.Carrying.{PlainLink}
 use Rattle.domain_core.specs.Opening.{AreLinksOf}
-use Rattle.domain_core_tests.specs.NewLinks.{IsOpen, new_link}
+use Rattle.linked_pair.specs.Links.{IsOpen, new_link}
 
-pub new-open : (peer size : ℕ) → IsLaneSize size → IsOpen (new_link peer size)
+new-open : (peer size : ℕ) → IsLaneSize size → IsOpen (new_link peer size)
 new-open peer size fits = record { size_to_is = refl; size_from_is = refl; fits = fits.1; all_free = length-range_with_len 0 size; none_shown = refl; none_out = refl }
-
--- a link that was just made is open
-pub link-open : (l : PlainLink) (peer size : ℕ) → l ≡ new_link peer size → IsLaneSize size → IsOpen l
-link-open l peer size is fits = subst IsOpen (sym is) (new-open peer size fits)
-
--- ---- the links of a domain 3 to domains 0, 2 and 5
 
 abbrev pub three_new : List PlainLink
 three_new = new_link 0 1 ∷ new_link 2 2 ∷ new_link 5 256 ∷ []
