@@ -288,11 +288,40 @@ lane 1 1 free 2 ring 0 queue 0 lent 0
 end
 ";
 
-static BOARDS: [Outcome<'static>; 4] = [
+/// No endpoint is made, so nothing is put to either lane of the link, and all its buffers stay free.
+const QUIET: &[u8] = b"domain 0 nodes 1 pool 1
+domain 1 nodes 1 pool 1
+link 0 1 size 2
+0.0 turn
+1.0 turn
+";
+
+const QUIET_REPORT: &[u8] = b"mcapi-report 1 serial
+domain 0 nodes 1 pool 1
+domain 1 nodes 1 pool 1
+link 0 1 size 2
+0.0 turn
+1.0 turn
+journal 0
+idle 1
+call 1 ok
+journal 1
+idle 1
+call 1 ok
+messages accepted 0 taken 0 dropped 0 queued 0 ring 0
+lane 0 0 free 1 ring 0 queue 0 lent 0
+lane 0 1 free 2 ring 0 queue 0 lent 0
+lane 1 0 free 2 ring 0 queue 0 lent 0
+lane 1 1 free 1 ring 0 queue 0 lent 0
+end
+";
+
+static BOARDS: [Outcome<'static>; 5] = [
     (SERIAL, RING_OF_TWO, 0, RING_OF_TWO_REPORT),
     (SERIAL, LOOKED_UP_BEFORE, 0, LOOKED_UP_BEFORE_REPORT),
     (SERIAL, TRIES_OF_TWO, 0, TRIES_OF_TWO_REPORT),
     (SERIAL, THREE_OWED, 0, THREE_OWED_REPORT),
+    (SERIAL, QUIET, 0, QUIET_REPORT),
 ];
 
 #[test]
