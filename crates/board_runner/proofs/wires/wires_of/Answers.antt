@@ -20,8 +20,8 @@ unreachable-requires c =
     let i = c.loop-two.at in
     let n = next-rings c.args.links.now c.args.rings.now i c.in-Some.two c.next.new.self.rest.items (subst (λ (hs : List LinkHalves). AreRings (drop i c.args.links.now) (drop i c.args.rings.now) hs) c.in-Some.ensures.steps.0 c.loop-two.invariant.are) in
     elim c.in_default.branch [
-      in_default-via-in-Some+in_default w ↦ never i (length c.args.rings.now) (slice_get_within c.args.rings.now i n.on n.ring_at) w.in_default.ensures'.lookup.0
-    | in_default-via-in_default w ↦ never i (length c.args.links.now) (slice_get_within c.args.links.now i n.line n.line_at) w.in_default.ensures.lookup.0
+      | in_default-via-in-Some+in_default w ↦ never i (length c.args.rings.now) (slice_get_within c.args.rings.now i n.on n.ring_at) w.in_default.ensures'.lookup.0
+      | in_default-via-in_default w ↦ never i (length c.args.links.now) (slice_get_within c.args.links.now i n.line n.line_at) w.in_default.ensures.lookup.0
     ]
 
 pub open_link-requires : goal.open_link-requires
