@@ -6,7 +6,6 @@ use Rattle.lane_end.specs.AnyLane.{AreEndsOfOneRing}
 use Rattle.lane_end.specs.declared.any.AnySend.{AnySend}
 use Rattle.lane_end.specs.declared.any.AnyRecv.{AnyRecv}
 use Rattle.lane_end.specs.declared.any.AnySend.TheVariants as send
-use Rattle.lane_end.specs.declared.any.AnyRecv.TheVariants as recv
 use Rattle.domain_core.specs.Carrying.{AreLinked}
 use Rattle.domain_core.specs.Going.{AnyDomain}
 use Rattle.ring_domain_tests.specs.declared.ring_pair.Halves.{Halves}

@@ -35,7 +35,7 @@ pub fn agree(one: &Journal, two: &Journal) -> bool {
     one.len() == two.len()
 }
 
-/// How many turns a journal tells of, how many frames looks showed of a peer, and how many buffers came back from it.
+/// How many turns a journal holds, how many frames its looks showed of a peer, and how many buffers came back from it.
 pub fn count(journal: &Journal, from: u8) -> (u64, u64, u64) {
     let (mut turns, mut seen, mut back) = (0u64, 0u64, 0u64);
     for i in 0..journal.len() {

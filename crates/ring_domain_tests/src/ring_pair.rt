@@ -106,7 +106,7 @@ impl<'a> RingPair<'a> {
         carry_rings(&mut self.three, &mut self.four);
     }
 
-    /// Ends the domains, and gives the halves of their rings back.
+    /// Ends the domains, and returns the halves of their rings.
     pub fn into_halves(self) -> Option<Halves>
         ensures { IfSome result (λ h. AreOfRings self.entry h) }
     {

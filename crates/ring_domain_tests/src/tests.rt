@@ -145,7 +145,7 @@ fn looks_of(closed: &Closed) -> Looks {
     )
 }
 
-/// The looks that the journals tell of: at the ring of queue 0, and at that of queue 1.
+/// The looks that the journals hold: at the ring of queue 0, and at that of queue 1.
 fn looks_in(notes: &Notes) -> (Looks, Looks) {
     let (turns3, seen3, back3) = count(&notes.threes, 4);
     let (turns4, seen4, back4) = count(&notes.fours, 3);
