@@ -331,6 +331,6 @@ fn gathers_more_than_fits(rt: HostRuntime) -> Result<(), Fail> {
 #[test]
 fn faults_have_a_message(rt: HostRuntime) -> Result<(), Fail> {
     let text = ReadFault::TooLong.to_string(rt.alloc())?;
-    assert!(rt; text.as_str() == "more bytes came than the limit");
+    assert!(rt; text.as_str() == "the input has more bytes than the limit; shorten it");
     Ok(())
 }
