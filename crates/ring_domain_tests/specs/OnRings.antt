@@ -8,7 +8,6 @@ use Rattle.lane_end.specs.declared.any.AnyRecv.{AnyRecv}
 use Rattle.lane_end.specs.declared.any.AnySend.TheVariants as send
 use Rattle.domain_core.specs.Carrying.{AreLinked}
 use Rattle.domain_core.specs.Going.{AnyDomain}
-use Rattle.ring_domain_tests.specs.declared.ring_pair.Halves.{Halves}
 
 -- a sender is over the driver's half of the one ring or the device's of the other
 abbrev pub SendsOn : RingId → RingId → AnySend → Type 0
@@ -26,9 +25,9 @@ pub record AreLinkedOn (zero one : RingId) (three four : AnyDomain) : Type 0 whe
   pub four_is : four.state.number ≡ 4
   pub linked : AreLinked (AreOn zero one) 3 4 three.ends four.ends
 
--- the halves are those of the two rings
-pub record AreOfRings (rings : RingId × RingId) (h : Halves) : Type 0 where
-  pub driver0 : h.driver0.ring ≡ rings.0
-  pub device0 : h.device0.ring ≡ rings.0
-  pub driver1 : h.driver1.ring ≡ rings.1
-  pub device1 : h.device1.ring ≡ rings.1
+-- the halves are those of the two rings, by the rings of each
+pub record AreOfRings (rings : RingId × RingId) (driver0 device0 driver1 device1 : RingId) : Type 0 where
+  pub of_driver0 : driver0 ≡ rings.0
+  pub of_device0 : device0 ≡ rings.0
+  pub of_driver1 : driver1 ≡ rings.1
+  pub of_device1 : device1 ≡ rings.1

@@ -108,7 +108,7 @@ impl<'a> RingPair<'a> {
 
     /// Ends the domains, and returns the halves of their rings.
     pub fn into_halves(self) -> Option<Halves>
-        ensures { IfSome result (λ h. AreOfRings self.entry h) }
+        ensures { IfSome result (λ h. AreOfRings self.entry h.driver0.ring h.device0.ring h.driver1.ring h.device1.ring) }
     {
         let there = link_to(self.three.into_links(), 4)?;
         let back = link_to(self.four.into_links(), 3)?;

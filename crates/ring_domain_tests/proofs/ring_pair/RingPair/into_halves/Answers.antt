@@ -23,8 +23,8 @@ returns c =
     let zero = ap (λ (p : RingId × RingId). p.0) c.self.view_is in
     let one = ap (λ (p : RingId × RingId). p.1) c.self.view_is in
     record {
-      driver0 = ap ring_of c.into_half.ensures.half ∙ on.driver0 ∙ zero;
-      device0 = ap ring_of c.into_half-2.ensures.half ∙ on.device0 ∙ zero;
-      driver1 = ap ring_of c.into_half-3.ensures.half ∙ on.driver1 ∙ one;
-      device1 = ap ring_of c.into_half-4.ensures.half ∙ on.device1 ∙ one;
+      of_driver0 = ap ring_of c.into_half.ensures.half ∙ on.driver0 ∙ zero;
+      of_device0 = ap ring_of c.into_half-2.ensures.half ∙ on.device0 ∙ zero;
+      of_driver1 = ap ring_of c.into_half-3.ensures.half ∙ on.driver1 ∙ one;
+      of_device1 = ap ring_of c.into_half-4.ensures.half ∙ on.device1 ∙ one;
     }
