@@ -21,7 +21,7 @@ use Rattle.board_runner.specs.Stations.{domain_of, near_in, near, LaneJoins, IsR
 use Rattle.board_runner.specs.Carried.{HasCome, IsTrue, OthersCarried, KnowsTruly, DidNothing, Knows}
 use Rattle.board_runner.specs.Runs.{AllCarried, CarriedBut, KnowsTrulyAt}
 use Rattle.board_runner.specs.Meeting.{MayMeetAt, MeetAt}
-use Rattle.board_runner.specs.Shuttled.{AreLinkedPeers, Shuttles, linked, apart, MayShuttle, StationsShuttle, domains_of, numbers_of, KeepsRun, ComesFrom, TrueOf, ShuttlesAt}
+use Rattle.board_runner.specs.StationsMet.{AreLinkedPeers, DomainsMeet, linked, apart, StationsMayMeet, StationsMeet, domains_of, numbers_of, KeepsRun, ComesFrom, TrueOf, LinksMeetAt}
 use Rattle.board_runner.proofs.PeersLanes.{HasPeer, has-contains, contains-has, lane-to, peer-back, peer-there}
 use Rattle.board_runner.proofs.RunBoards.{board-at, board-differ, matched-at}
 use Rattle.board_runner.proofs.RunFinds.{mapped-at, some_same}
@@ -94,8 +94,8 @@ keeps-both one two three first then = record {
   alike = λ a b. did-nothing-both (near (domains_of one) a b) (near (domains_of two) a b) (near (domains_of three) a b) (first.alike a b) (then.alike a b);
 }
 
-pub shuttles-back : (i j : ℕ) (old new : List Station) → ShuttlesAt i j old new → ShuttlesAt j i old new
-shuttles-back i j old new h = record { keeps = h.keeps; there = h.back; back = h.there; there_true = h.back_true; back_true = h.there_true }
+pub meets-back : (i j : ℕ) (old new : List Station) → LinksMeetAt i j old new → LinksMeetAt j i old new
+meets-back i j old new h = record { keeps = h.keeps; there = h.back; back = h.there; there_true = h.back_true; back_true = h.there_true }
 
 no_item : {A : Type 0} (xs : List A) (i : ℕ) → i < length xs → slice_get xs i ≡ None → ⊥
 no_item [] i within none = absurd (omega (arith, within))
@@ -157,8 +157,8 @@ module _ (s : Scenario) (lawful : IsLawfulBoard s) (sts : List Station) (on : Is
   n_m : n ≢ m
   n_m e = i_j (once (numbers_of sts) i j differ at_n (at_m ∙ ap (λ (x : ℕ). Some x) (sym e)))
 
-  pub may-shuttle : AreLinkedPeers one.domain two.domain
-  may-shuttle = linked-peers s board sts on i j one two at_one at_two n_m
+  pub stations-may-meet : AreLinkedPeers one.domain two.domain
+  stations-may-meet = linked-peers s board sts on i j one two at_one at_two n_m
 
   match_one : EndsMatch n (peers_of one.domain) one.domain.ends
   match_one = matched-at s sts on i one at_one
@@ -166,8 +166,8 @@ module _ (s : Scenario) (lawful : IsLawfulBoard s) (sts : List Station) (on : Is
   match_two : EndsMatch m (peers_of two.domain) two.domain.ends
   match_two = matched-at s sts on j two at_two
 
-  shuttled : (es fs : List RunEnds) → AreLinked AreEndsOfOneRing n m one.domain.ends two.domain.ends → Carries EndsHaveMet n m one.domain.ends two.domain.ends es fs → ShuttlesAt i j sts (with_domains sts i j one two (with_these one.domain es) (with_these two.domain fs))
-  shuttled es fs l c =
+  domains_met : (es fs : List RunEnds) → AreLinked AreEndsOfOneRing n m one.domain.ends two.domain.ends → Carries EndsHaveMet n m one.domain.ends two.domain.ends es fs → LinksMeetAt i j sts (with_domains sts i j one two (with_these one.domain es) (with_these two.domain fs))
+  domains_met es fs l c =
       let new = with_domains sts i j one two (with_these one.domain es) (with_these two.domain fs) in
       let come = link-come sts i j one two differ at_one at_two n_m l es fs c match_one match_two in
       let numbers : numbers_of new ≡ numbers_of sts = numbers-carried sts i j one two differ at_one at_two n_m l es fs c match_one match_two in
@@ -189,7 +189,7 @@ module _ (s : Scenario) (lawful : IsLawfulBoard s) (sts : List Station) (on : Is
       }
 
   -- where neither is a peer of the other, nothing is between them
-  apart_come : (Contains (peers_of one.domain) m → ⊥) → ShuttlesAt i j sts sts
+  apart_come : (Contains (peers_of one.domain) m → ⊥) → LinksMeetAt i j sts sts
   apart_come none =
       let none_one : HasPeer (peers_of one.domain) m → ⊥ = λ h. none (has-contains (peers_of one.domain) m h) in
       let none_two : HasPeer (peers_of two.domain) n → ⊥ = λ h. none_one (peer-back s board sts on j i two one at_two at_one h) in
@@ -203,12 +203,12 @@ module _ (s : Scenario) (lawful : IsLawfulBoard s) (sts : List Station) (on : Is
         back_true = true_by sts j i m n at_m at_n (true_as (near (domains_of sts) m n) (near (domains_of sts) n m) nothing_near nothing_near back there true_nothing);
       }
 
-  pub shuttles-at : (d e : RunDomain) → Shuttles one.domain two.domain d e → ShuttlesAt i j sts (with_domains sts i j one two d e)
-  shuttles-at d e (linked l carries one_is two_is) =
-      subst (λ (x : RunDomain). ShuttlesAt i j sts (with_domains sts i j one two x e)) (sym one_is)
-      (subst (λ (x : RunDomain). ShuttlesAt i j sts (with_domains sts i j one two (with_these one.domain d.ends) x)) (sym two_is) (shuttled d.ends e.ends l carries))
-  shuttles-at d e (apart none one_is two_is) =
-      subst (ShuttlesAt i j sts)
+  pub links-meet-at : (d e : RunDomain) → DomainsMeet one.domain two.domain d e → LinksMeetAt i j sts (with_domains sts i j one two d e)
+  links-meet-at d e (linked l carries one_is two_is) =
+      subst (λ (x : RunDomain). LinksMeetAt i j sts (with_domains sts i j one two x e)) (sym one_is)
+      (subst (λ (x : RunDomain). LinksMeetAt i j sts (with_domains sts i j one two (with_these one.domain d.ends) x)) (sym two_is) (domains_met d.ends e.ends l carries))
+  links-meet-at d e (apart none one_is two_is) =
+      subst (LinksMeetAt i j sts)
       (sym (ap (λ (x : RunDomain). with_domains sts i j one two x e) one_is ∙ ap (with_domains sts i j one two one.domain) two_is
       ∙ ap (λ (xs : List Station). slice_set xs j two) (set_here sts i one at_one) ∙ set_here sts j two at_two))
       (apart_come none)
@@ -272,22 +272,22 @@ module _ (s : Scenario) (lawful : IsLawfulBoard s) (sts : List Station) (at : �
   true-of-all others p other = to_all IsTrue true_as true_nothing others p other
 
 -- what a call that carries a link tells
-pub shuttles-linked : (one two one' two' : RunDomain) → AreLinkedPeers one two → Contains (peers_of one) two.state.number → Carries EndsHaveMet one.state.number two.state.number one.ends two.ends one'.ends two'.ends
-    → one' ≡ record one { ends = one'.ends } → two' ≡ record two { ends = two'.ends } → Shuttles one two one' two'
-shuttles-linked one two one' two' may has carries one_is two_is = linked (may has) carries one_is two_is
+pub domains-meet : (one two one' two' : RunDomain) → AreLinkedPeers one two → Contains (peers_of one) two.state.number → Carries EndsHaveMet one.state.number two.state.number one.ends two.ends one'.ends two'.ends
+    → one' ≡ record one { ends = one'.ends } → two' ≡ record two { ends = two'.ends } → DomainsMeet one two one' two'
+domains-meet one two one' two' may has carries one_is two_is = linked (may has) carries one_is two_is
 
 -- ---- the stations at two places
 
-pub may-meet : (s : Scenario) → IsLawfulBoard s → (sts : List Station) → IsBoard s sts → (low high : ℕ) → low < high → MayMeetAt MayShuttle low high sts
+pub may-meet : (s : Scenario) → IsLawfulBoard s → (sts : List Station) → IsBoard s sts → (low high : ℕ) → low < high → MayMeetAt StationsMayMeet low high sts
 may-meet s lawful sts on low high order one two at_one at_two =
     let t = board-at s sts on high two at_two in
-    record { number = t.is.domain_number ∙ sym t.is.number; peers = may-shuttle s lawful sts on low high one two at_one at_two (λ e. omega (arith, order, e)) }
+    record { number = t.is.domain_number ∙ sym t.is.number; peers = stations-may-meet s lawful sts on low high one two at_one at_two (λ e. omega (arith, order, e)) }
 
-pub shuttles-met : (s : Scenario) → IsLawfulBoard s → (sts : List Station) → IsBoard s sts → (low high : ℕ) → low < high → (new : List Station) → MeetAt StationsShuttle low high sts new → ShuttlesAt low high sts new
-shuttles-met s lawful sts on low high order new h =
-    subst (ShuttlesAt low high sts)
+pub links-met : (s : Scenario) → IsLawfulBoard s → (sts : List Station) → IsBoard s sts → (low high : ℕ) → low < high → (new : List Station) → MeetAt StationsMeet low high sts new → LinksMeetAt low high sts new
+links-met s lawful sts on low high order new h =
+    subst (LinksMeetAt low high sts)
     (sym (h.new_is ∙ ap (λ (x : Station). slice_set (slice_set sts low x) high h.two') h.met.one_keeps ∙ ap (λ (y : Station). slice_set (slice_set sts low (with_domain h.one h.one'.domain)) high y) h.met.two_keeps))
-    (shuttles-at s lawful sts on low high h.one h.two h.at_one h.at_two (λ e. omega (arith, order, e)) h.one'.domain h.two'.domain h.met.domains)
+    (links-meet-at s lawful sts on low high h.one h.two h.at_one h.at_two (λ e. omega (arith, order, e)) h.one'.domain h.two'.domain h.met.domains)
 
 -- ---- one station after the other
 
@@ -310,11 +310,11 @@ true_was old new i j keeps truly n m at_n at_m =
     let is : (k x : ℕ) → slice_get (numbers_of old) k ≡ Some x → slice_get (numbers_of new) k ≡ Some x = λ k x e. ap (λ (ns : List ℕ). slice_get ns k) keeps.numbers ∙ e in
     true-before (near (domains_of old) n m) (near (domains_of old) m n) (near (domains_of new) n m) (near (domains_of new) m n) (keeps.alike n m) (keeps.alike m n) (truly n m (is i n at_n) (is j m at_m))
 
-pub carried-more : (at count : ℕ) (old now new : List Station) → CarriedUpTo at count old now → ShuttlesAt at count now new → CarriedUpTo at (count + 1) old new
-carried-more at count old now new h shuttles = record {
-  keeps = keeps-both old now new h.keeps shuttles.keeps;
-  come = λ j below other. by j (j == count) refl below (ComesFrom new at) shuttles.there (λ less. comes_stay now new at j shuttles.keeps (h.come j less other));
-  truly = λ j below other. by j (j == count) refl below (TrueOf old at) (true_was old now at count h.keeps shuttles.there_true) (λ less. h.truly j less other);
+pub carried-more : (at count : ℕ) (old now new : List Station) → CarriedUpTo at count old now → LinksMeetAt at count now new → CarriedUpTo at (count + 1) old new
+carried-more at count old now new h met = record {
+  keeps = keeps-both old now new h.keeps met.keeps;
+  come = λ j below other. by j (j == count) refl below (ComesFrom new at) met.there (λ less. comes_stay now new at j met.keeps (h.come j less other));
+  truly = λ j below other. by j (j == count) refl below (TrueOf old at) (true_was old now at count h.keeps met.there_true) (λ less. h.truly j less other);
 }
   where
     by : (j : ℕ) (b : Bool) → (j == count) ≡ b → j < count + 1 → (P : ℕ → Type 0) → P count → (j < count → P j) → P j

@@ -19,7 +19,7 @@ use Rattle.board_runner.specs.declared.station.Station.{Station}
 use Rattle.board_runner.specs.Near.{Near, IsLinkTo, RunEnds, RunDomain, near_to, near_of, near_among, peers_of, EndsMatch}
 use Rattle.board_runner.specs.Stations.{domain_of, near, LaneHolds, LaneJoins, IsStation, AreStations, IsRun, IsOnBoard, IsBoard}
 use Rattle.board_runner.specs.Carried.{HasCome, IsTrue, DidNothing, Knows}
-use Rattle.board_runner.specs.Shuttled.{counted}
+use Rattle.board_runner.specs.StationsMet.{counted}
 use Rattle.board_runner.proofs.NearCarried.{Meets, link-met, link-peer, links-met, links-other, linked-near, match-carried, link-other, near-other, near-own}
 use Rattle.board_runner.proofs.RunBoards.{stations-put}
 use Rattle.board_runner.proofs.RunFinds.{map-replaced, some_same}

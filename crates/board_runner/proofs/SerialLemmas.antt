@@ -29,7 +29,7 @@ use Rattle.board_model.proofs.WholeLines.{lines_of}
 use Rattle.board_runner.specs.declared.station.Station.{Station}
 use Rattle.board_runner.specs.Lines.{AsksAtMost}
 use Rattle.board_runner.specs.Runs.{IsSomeNext, AllCarried, At, IsNext, DropsFit, CountsFit, OneLineMore, RunsLine}
-use Rattle.board_runner.specs.Shuttled.{counted}
+use Rattle.board_runner.specs.StationsMet.{counted}
 use Rattle.board_runner.specs.Stations.{AreStations, IsRun}
 use Rattle.board_runner.proofs.OthersLemmas.{board_numbers}
 use Rattle.board_runner.proofs.StationCounts.{place_at}

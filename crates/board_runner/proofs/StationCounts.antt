@@ -18,7 +18,7 @@ use Rattle.mc_journal.specs.Entry.{plain_answer}
 use Rattle.board_runner.specs.declared.station.Station.{Station}
 use Rattle.board_runner.specs.Lines.{dropped_by, NotesAnswer, Tries}
 use Rattle.board_runner.specs.Runs.{At, KeepCounts, DropsFit, CountsFit, MayCount, OneLineMore, CountsCall, IsNext, IsSomeNext}
-use Rattle.board_runner.specs.Shuttled.{counted}
+use Rattle.board_runner.specs.StationsMet.{counted}
 use Rattle.board_runner.specs.Stations.{IsRun}
 use Rattle.board_runner.proofs.StationLemmas.{numbers_in, numbers_are, domains_rise, set-same}
 

@@ -5,7 +5,7 @@ pub mod Lines
 pub mod Meeting
 pub mod Near
 pub mod Runs
-pub mod Shuttled
+pub mod StationsMet
 pub mod Wired
 pub mod Opened
 pub mod Lanes

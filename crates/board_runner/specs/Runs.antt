@@ -14,7 +14,7 @@ use Rattle.board_model.specs.SerialRun as run
 use Rattle.board_model.specs.SerialRun.{Running, turned_once, with_entry, word_in, called_by, is_tried_at, station_of}
 use Rattle.board_runner.specs.declared.station.Station.{Station}
 use Rattle.board_runner.specs.Carried.{AreCarried, OthersCarried, KnowsTruly}
-use Rattle.board_runner.specs.Shuttled.{counted, domains_of}
+use Rattle.board_runner.specs.StationsMet.{counted, domains_of}
 use Rattle.board_runner.specs.Stations.{IsRun, IsBoard}
 
 -- the stations stand for a run of a lawful board

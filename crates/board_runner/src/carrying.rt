@@ -1,15 +1,15 @@
-//! Carrying between the stations of a board.
+//! Meetings between the stations of a board.
 
 ghost use Rattle.std.specs.Prelude.{◌≡◌, ◌≢◌, ◌<◌, length};
 ghost use Rattle.board_runner.specs.Meeting.{MayMeetAt, MeetAt};
 ghost use Rattle.board_runner.specs.Runs.{IsSomeBoard, Leads, AllCarried, CarriedBut, KnowsTrulyAt, KeepCounts};
-ghost use Rattle.board_runner.specs.Shuttled.{ShuttlesAt};
+ghost use Rattle.board_runner.specs.StationsMet.{LinksMeetAt};
 
 use crate::station::Station;
 use domain_core::carry_rings;
 
-/// Carries the links of a station's domain: each of its peers knows then of all that it put and gave back, and it of all that they
-/// did. What it knew before was true, so that its looks showed what there was.
+/// Has the ends of a station's links meet those of its peers: each peer knows then of all that the domain put and gave back, and
+/// the domain of all that they did. What it knew before was true, so its looks showed what there was.
 pub fn carry_all(stations: &mut [Station<'_>], at: usize)
     requires at { at < length stations.old }
     requires board { IsSomeBoard stations.old }
@@ -21,18 +21,18 @@ pub fn carry_all(stations: &mut [Station<'_>], at: usize)
 {
     for other in 0..stations.len() {
         if other != at {
-            shuttle_at(stations, at, other);
+            meet_between(stations, at, other);
         }
     }
 }
 
-/// Carries the link between the stations at two places, in whichever order they stand. Where there is no link nothing happens.
-fn shuttle_at(stations: &mut [Station<'_>], one: usize, two: usize)
+/// Has the stations at two places meet, in whichever order they stand. Where there is no link nothing happens.
+fn meet_between(stations: &mut [Station<'_>], one: usize, two: usize)
     requires apart { one ≢ two }
     requires one_within { one < length stations.old }
     requires two_within { two < length stations.old }
     requires board { IsSomeBoard stations.old }
-    ensures { ShuttlesAt one two stations.old stations.new }
+    ensures { LinksMeetAt one two stations.old stations.new }
 {
     if one < two {
         meet_at(stations, one, two);
@@ -53,11 +53,11 @@ trait Meets {
 }
 
 impl Meets for Station<'_> {
-    ghost use Rattle.board_runner.specs.Shuttled.{MayShuttle, StationsShuttle};
+    ghost use Rattle.board_runner.specs.StationsMet.{StationsMayMeet, StationsMeet};
 
-    ghost MayMeet = { MayShuttle };
+    ghost MayMeet = { StationsMayMeet };
 
-    ghost Met = { StationsShuttle };
+    ghost Met = { StationsMeet };
 
     fn meet(&mut self, other: &mut Self) {
         if self.domain.has_peer(other.domain_number) {

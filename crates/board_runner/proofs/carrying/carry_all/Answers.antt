@@ -10,7 +10,7 @@ loop-other-preserved c =
     elim c.if-other-at.branch [
       | then-other-at w ↦
           subst (λ (xs : List Station). CarriedUpTo c.args.at (i + 1) c.args.stations.now xs) (sym w.stations-is)
-          (carried-more c.args.at i c.args.stations.now c.loop-other.stations w.shuttle_at.new.stations c.loop-other.invariant w.shuttle_at.ensures)
+          (carried-more c.args.at i c.args.stations.now c.loop-other.stations w.meet_between.new.stations c.loop-other.invariant w.meet_between.ensures)
       | else-other-at w ↦
           subst (λ (xs : List Station). CarriedUpTo c.args.at (i + 1) c.args.stations.now xs) (sym w.stations-is)
           (carried-skip c.args.at i c.args.stations.now c.loop-other.stations c.loop-other.invariant w.if-other-at.false)

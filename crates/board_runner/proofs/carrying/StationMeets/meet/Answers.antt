@@ -1,7 +1,7 @@
 use Rattle.std.proofs.Common.{◌≡◌, ◌∙◌, ℕ, Contains, refl, sym, subst, true≢false}
 use Rattle.board_runner.specs.Near.{RunDomain, peers_of}
-use Rattle.board_runner.specs.Shuttled.{apart}
-use Rattle.board_runner.proofs.AllCarried.{shuttles-linked}
+use Rattle.board_runner.specs.StationsMet.{apart}
+use Rattle.board_runner.proofs.AllCarried.{domains-meet}
 use Rattle.board_runner.proofs.PeersFound.{found-peer, peer-found}
 use Rattle.board_runner.proofs.carrying.StationMeets.meet.Goals as goal
 
@@ -17,7 +17,7 @@ pub returns-then-has_peer : goal.returns-then-has_peer
 returns-then-has_peer c =
     let one = c.args.self.now.domain in
     record {
-      domains = shuttles-linked _ _ _ _ c.requires.peers (has_second one c.args.other.now.domain_number _ c.requires.number (found-peer one.state c.args.other.now.domain_number (sym c.has_peer.ensures ∙ c.if-has_peer.true))) c.carry_rings.ensures.carries c.carry_rings.ensures.one c.carry_rings.ensures.two;
+      domains = domains-meet _ _ _ _ c.requires.peers (has_second one c.args.other.now.domain_number _ c.requires.number (found-peer one.state c.args.other.now.domain_number (sym c.has_peer.ensures ∙ c.if-has_peer.true))) c.carry_rings.ensures.carries c.carry_rings.ensures.one c.carry_rings.ensures.two;
       one_keeps = refl;
       two_keeps = refl;
     }

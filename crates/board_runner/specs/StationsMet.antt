@@ -1,4 +1,4 @@
--- What happens where the link between two stations is carried.
+-- What happens where the two stations of a link meet.
 -- Source: docs/PROFILE.md, "Lanes" and "Serial run". The ends of both lanes of the link between their domains meet, where there is one.
 use Rattle.std.specs.Prelude.{◌≡◌, ℕ, List, map, slice_get, Some, Contains}
 use Rattle.lane_end.specs.AnyLane.{AreEndsOfOneRing, EndsHaveMet}
@@ -15,19 +15,19 @@ use Rattle.board_runner.specs.Carried.{HasCome, IsTrue, DidNothing}
 abbrev pub AreLinkedPeers : RunDomain → RunDomain → Type 0
 AreLinkedPeers one two = Contains (peers_of one) two.state.number → AreLinked AreEndsOfOneRing one.state.number two.state.number one.ends two.ends
 
--- the link between two domains is carried, or there is none and they stay
-pub data Shuttles (one two one' two' : RunDomain) : Type 0 where
-  linked : AreLinked AreEndsOfOneRing one.state.number two.state.number one.ends two.ends → Carries EndsHaveMet one.state.number two.state.number one.ends two.ends one'.ends two'.ends → one' ≡ record one { ends = one'.ends } → two' ≡ record two { ends = two'.ends } → Shuttles one two one' two'
-  apart : (Contains (peers_of one) two.state.number → ⊥) → one' ≡ one → two' ≡ two → Shuttles one two one' two'
+-- the ends of the link between two domains meet, or there is no link and they stay
+pub data DomainsMeet (one two one' two' : RunDomain) : Type 0 where
+  linked : AreLinked AreEndsOfOneRing one.state.number two.state.number one.ends two.ends → Carries EndsHaveMet one.state.number two.state.number one.ends two.ends one'.ends two'.ends → one' ≡ record one { ends = one'.ends } → two' ≡ record two { ends = two'.ends } → DomainsMeet one two one' two'
+  apart : (Contains (peers_of one) two.state.number → ⊥) → one' ≡ one → two' ≡ two → DomainsMeet one two one' two'
 
--- two stations may be carried where their domains may. The second tells its domain's number
-pub record MayShuttle (one two : Station) : Type 0 where
+-- two stations may meet where their domains may. The second has its domain's number beside it
+pub record StationsMayMeet (one two : Station) : Type 0 where
   pub number : two.domain_number ≡ two.domain.state.number
   pub peers : AreLinkedPeers one.domain two.domain
 
--- the link of the domains of two stations is carried, and all else of the stations stays
-pub record StationsShuttle (one two one' two' : Station) : Type 0 where
-  pub domains : Shuttles one.domain two.domain one'.domain two'.domain
+-- the domains of two stations meet, and all else of the stations stays
+pub record StationsMeet (one two one' two' : Station) : Type 0 where
+  pub domains : DomainsMeet one.domain two.domain one'.domain two'.domain
   pub one_keeps : one' ≡ record one { domain = one'.domain }
   pub two_keeps : two' ≡ record two { domain = two'.domain }
 
@@ -59,8 +59,8 @@ ComesFrom sts i j = (n m : ℕ) → slice_get (numbers_of sts) i ≡ Some n → 
 abbrev pub TrueOf : List Station → ℕ → ℕ → Type 0
 TrueOf sts i j = (n m : ℕ) → slice_get (numbers_of sts) i ≡ Some n → slice_get (numbers_of sts) j ≡ Some m → IsTrue (near (domains_of sts) n m) (near (domains_of sts) m n)
 
--- the link between the stations at two places was carried
-pub record ShuttlesAt (i j : ℕ) (old new : List Station) : Type 0 where
+-- the ends of the link between the stations at two places met
+pub record LinksMeetAt (i j : ℕ) (old new : List Station) : Type 0 where
   pub keeps : KeepsRun old new
   pub there : ComesFrom new i j
   pub back : ComesFrom new j i
