@@ -28,7 +28,7 @@ pub struct Ring {
 }
 
 impl Model for Ring {
-    ghost use Rattle.std.specs.Prelude.{◌≡◌};
+    ghost use Rattle.std.specs.Prelude.{◌≡◌, ◌≤◌};
     ghost use Rattle.mc_base.specs.Limits.{buffer_size};
     ghost use Rattle.shared_words.specs.Shape.{IsRingSize};
     ghost use Rattle.shared_words.specs.Shown.{TableShown, size_of};
@@ -38,7 +38,7 @@ impl Model for Ring {
 
     ghost view = { λ r. r.table };
 
-    ghost invariant = { λ r. (r.queue ≡ r.table.queue) × (r.size ≡ size_of r.table.ring) × IsRingSize r.size × HasRoom r.room r.size × (r.table.ring.longest ≡ buffer_size) };
+    ghost invariant = { λ r. (r.queue ≡ r.table.queue) × (r.size ≡ size_of r.table.ring) × IsRingSize r.size × HasRoom r.room r.size × (r.table.ring.longest ≡ buffer_size) × (r.queue ≤ 1) };
 }
 
 impl fmt::Debug for Ring {
