@@ -1,10 +1,11 @@
 -- The writes of both sides, in either order, and the words of a finished ring.
-use Rattle.std.proofs.Common.{◌≡◌, ◌∙◌, ◌<◌, ◌+◌, ◌*◌, ◌%◌, ℕ, List, [], ◌++◌, length, map, refl, sym, ap, subst, length-append, arith}
+use Rattle.std.proofs.Common.{◌≡◌, ◌∙◌, ◌<◌, ◌+◌, ◌*◌, ◌%◌, ℕ, List, ◌++◌, length, map, refl, sym, ap, subst, arith}
 use Rattle.std.specs.List.{All}
 use Rattle.mc_base.specs.Limits.{buffer_size}
 use Rattle.shared_words.specs.Entry.{Entry, number_of}
 use Rattle.shared_words.specs.Closed.{AreFinal}
 use Rattle.shared_words.specs.Shown.{shape_of}
+use Rattle.shared_words.proofs.WordLemmas.{size_facts}
 use Rattle.split_ring.specs.Ends.{End}
 use Rattle.shared_words.specs.declared.rule.Shape.{Shape}
 use Rattle.shared_words.specs.declared.field.Field.TheVariants.{DescAddr, DescLen, DescFlags, DescNext, AvailFlags, AvailIdx, AvailRing, UsedFlags, UsedIdx, UsedId, UsedLen}
@@ -16,7 +17,7 @@ use Rattle.ring_trace.proofs.SideWrites.{all_then, offered_on, returned_on, all_
 
 module _ (key : Shape) (offered returned : List Entry) (words : List ℕ)
     (full : key.length ≡ buffer_size) (final : AreFinal key offered returned words)
-    (low : All (λ (e : Entry). number_of e < key.size) offered) (some : 0 < length returned → 0 < key.size) where
+    (low : All (λ (e : Entry). number_of e < key.size) offered) (some : 0 < key.size) where
   abbrev z : ℕ
   z = key.size
 
@@ -45,7 +46,7 @@ module _ (key : Shape) (offered returned : List Entry) (words : List ℕ)
   }
 
   sized : All (λ (e : Entry). 0 < key.size) returned
-  sized k d h = some (omega (arith, h))
+  sized k d h = some
 
   pub driver_first : all_written (start_image z key.queue) (driver_writes z (map offer_of offered) ++ device_writes z (map offer_of returned)) ≡ word_image z words
   driver_first =
@@ -68,23 +69,21 @@ Both z queue driver device words =
     × (all_written (start_image z queue) (writes_of_device z device ++ writes_of_driver z driver) ≡ word_image z words)
 
 pub both_sides : BothSidesMakeTheImage
-both_sides ring driver device closed finished full low =
+both_sides ring driver device closed finished =
     subst (λ queue. Both closed.size queue driver device closed.words) (sym finished.queue)
-    (subst (λ z. All (λ (e : Entry). number_of e < z) driver.written → Both z ring.queue driver device closed.words) (sym finished.size) at_size low)
+    (subst (λ z. Both z ring.queue driver device closed.words) (sym finished.size) at_size)
   where
     key : Shape
     key = shape_of ring
 
-    -- what was returned was fetched before, and so offered
-    some : All (λ (e : Entry). number_of e < key.size) driver.written → 0 < length device.written → 0 < key.size
-    some below returned =
-        let count = finished.device_count in
-        let offered = ap (λ (es : List Entry). length es) finished.offered ∙ length-append device.taken finished.offered_rest in
-        let first = below 0 (record { number = 0; bytes = [] }, 0) (omega (arith, returned, count, offered)) in
-        omega (arith, first)
+    some : 0 < key.size
+    some = let two = size_facts key.size finished.shape.size in omega (arith, two)
 
-    at_size : All (λ (e : Entry). number_of e < key.size) driver.written → Both key.size ring.queue driver device closed.words
-    at_size below = (
-      driver_first key driver.written device.written closed.words full finished.all_words below (some below),
-      device_first key driver.written device.written closed.words full finished.all_words below (some below),
+    below : All (λ (e : Entry). number_of e < key.size) driver.written
+    below = λ k d h. (finished.offered_fit k d h).0
+
+    at_size : Both key.size ring.queue driver device closed.words
+    at_size = (
+      driver_first key driver.written device.written closed.words finished.longest finished.all_words below some,
+      device_first key driver.written device.written closed.words finished.longest finished.all_words below some,
     )

@@ -8,3 +8,5 @@ pub mod FieldWrites
 pub mod SameImage
 pub mod SideWrites
 pub mod BothSides
+pub mod FieldReads
+pub mod SoundImage

@@ -2,3 +2,4 @@ pub mod ImageFaults
 pub mod WordImage
 pub mod Writes
 pub mod BothSides
+pub mod SoundImages
