@@ -9,3 +9,5 @@ pub mod PrimingLemmas
 pub mod MeetingLemmas
 pub mod ExactLemmas
 pub mod AnyLaneLemmas
+pub mod LaneRunLemmas
+pub mod FinishLemmas

@@ -19,12 +19,12 @@ before-same : (s : RingSender) (r : RingReceiver) → AreOfOneRing s r → writt
 before-same s r one = (λ i. written_before (one.role i) (size_of (one.ring i))) ∙ taken-other s.role (sender_size s)
 
 module _ (s : RingSender) (r : RingReceiver) (one : AreOfOneRing s r) (a : IsSender s) (front : IsPrefix r.half.taken s.half.written) (back : IsPrefix s.half.taken r.half.written) where
-  given-is : given_entries r ≡ drop (taken_before s.role (sender_size s)) s.half.taken ++ back.0
+  pub given-is : given_entries r ≡ drop (taken_before s.role (sender_size s)) s.half.taken ++ back.0
   given-is =
       let within : taken_before s.role (sender_size s) ≤ length s.half.taken = omega (arith, a) in
       (λ i. drop (before-same s r one i) (back.1 i)) ∙ drop-append-le (taken_before s.role (sender_size s)) s.half.taken back.0 within
 
-  given-count : length (given_entries r) + taken_before s.role (sender_size s) ≡ length s.half.taken + length back.0
+  pub given-count : length (given_entries r) + taken_before s.role (sender_size s) ≡ length s.half.taken + length back.0
   given-count =
       let g = ap (λ (l : List Entry). length l) given-is in let l = length-append (drop (taken_before s.role (sender_size s)) s.half.taken) back.0 in
       let d = length-drop (taken_before s.role (sender_size s)) s.half.taken in omega (arith, a, g, l, d)

@@ -47,7 +47,7 @@ new-length ring =
 whole-times : (ring : RingId) (x : ℕ) → times x (whole (new_buffers ring)) ≡ inside (size_of ring) x
 whole-times ring x = times-often x (whole (new_buffers ring)) ∙ (ap (often x) (whole-numbers (new_buffers ring) ∙ new-numbers ring) ∙ often-all (size_of ring) x)
 
-whole-new : (ring : RingId) → length (whole (new_buffers ring)) ≡ size_of ring
+pub whole-new : (ring : RingId) → length (whole (new_buffers ring)) ≡ size_of ring
 whole-new ring = whole-length (new_buffers ring) ∙ new-length ring
 
 take-whole : {A : Type 0} (n : ℕ) (xs : List A) → length xs ≡ n → take n xs ≡ xs

@@ -39,12 +39,16 @@ module _ (on : TableShown) (r : RingReceiver) (k : KeepsReceiver on r) where
   given-length : length (given_entries r) + written_before r.role (receiver_size r) ≡ length r.half.written
   given-length = let d = length-drop (written_before r.role (receiver_size r)) r.half.written in let o = k.receiver.opened in omega (arith, d, o)
 
+  pub out-count : length (out_at r) + length (given_entries r) ≡ length r.half.taken
+  out-count =
+      let l = length-struck (numbers_in (given_entries r)) (numbers_in r.half.taken) are-among in
+      let g = numbers-length (given_entries r) in let t = numbers-length r.half.taken in omega (arith, l, g, t)
+
   pub out-room : length (out_at r) + r.shown ≤ receiver_size r
   out-room =
-      let l = length-struck (numbers_in (given_entries r)) (numbers_in r.half.taken) are-among in
-      let g = numbers-length (given_entries r) in let t = numbers-length r.half.taken in
+      let c = out-count in
       let w = given-length in let s = written-start r.role (receiver_size r) in
-      let room = k.sound.room in let shown = k.receiver.shown in omega (arith, l, g, t, w, s, room, shown)
+      let room = k.sound.room in let shown = k.receiver.shown in omega (arith, c, w, s, room, shown)
 
   pub out-held : (n : ℕ) → Contains (out_at r) n → HoldsNumber r.role r.half n
   out-held n c =

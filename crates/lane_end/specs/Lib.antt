@@ -36,3 +36,5 @@ pub mod Priming
 pub mod AnyLane
 pub mod AnyLaneLaws
 pub mod ExactLooks
+pub mod Halves
+pub mod LaneRun

@@ -8,6 +8,7 @@
 mod any;
 mod carried;
 mod fault;
+mod finishing;
 mod free_list;
 mod inbox;
 mod loop_lane;
@@ -26,6 +27,7 @@ mod threads;
 
 pub use any::{AnyRecv, AnySend};
 pub use fault::LaneFault;
+pub use finishing::{RecvHalf, SendHalf, finish_lane, halves_stay_of_one_ring};
 pub use loop_lane::LoopLane;
 pub use meeting::{
     ends_stay_of_one_ring, finished_ends_are_one_lane, looks_between_meetings_are_exact, meet_ends,

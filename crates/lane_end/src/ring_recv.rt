@@ -29,11 +29,14 @@ impl<'a, H: RingHalf> Model for RingRecv<'a, H> {
 
 impl<'a, H: RingHalf> RingRecv<'a, H> {
     ghost use Rattle.lane_end.specs.RingLane.{IsReceiver};
+    ghost use Rattle.lane_end.specs.Halves.{OutAreHeld};
 
-    /// Ends the receiver, and gives its half back as it is.
+    /// Ends the receiver and returns its half as it is.
     pub fn into_half(self) -> H
         ensures half { H.end result ≡ self.entry.half }
+        ensures role { self.entry.role ≡ H.role }
         ensures receiver { IsReceiver self.entry }
+        ensures out { OutAreHeld self.entry }
     {
         self.half
     }

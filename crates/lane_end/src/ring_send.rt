@@ -33,11 +33,14 @@ impl<'a, H: RingHalf> Model for RingSend<'a, H> {
 
 impl<'a, H: RingHalf> RingSend<'a, H> {
     ghost use Rattle.lane_end.specs.RingLane.{IsSender};
+    ghost use Rattle.lane_end.specs.Halves.{FreeAreHeld};
 
-    /// Ends the sender, and gives its half back as it is. The free buffers are dropped.
+    /// Ends the sender and returns its half as it is. The free buffers are dropped.
     pub fn into_half(self) -> H
         ensures half { H.end result ≡ self.entry.half }
+        ensures role { self.entry.role ≡ H.role }
         ensures sender { IsSender self.entry }
+        ensures free { FreeAreHeld self.entry }
     {
         self.half
     }
