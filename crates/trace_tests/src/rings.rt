@@ -1,28 +1,66 @@
-ghost use Rattle.std.specs.Prelude.{◌≡◌, IfSome};
+ghost use Rattle.std.specs.Prelude.{◌≡◌, ◌≤◌, ◌%◌, IfSome, length};
+ghost use Rattle.std.specs.List.{All};
+ghost use Rattle.mc_base.specs.Limits.{buffer_size};
+ghost use Rattle.shared_words.specs.Shown.{size_of};
 ghost use Rattle.shared_words.specs.declared.view.Role.TheVariants as role;
 ghost use Rattle.split_ring.specs.Ends.{HoldsNumber};
+ghost use Rattle.ring_trace.specs.SoundImages.{ReturnsAreEmpty};
 
 use crate::images::ONE_FRAME;
 use mc_base::Buffer;
 use outer_io::{Failed, MemSink};
-use ring_trace::{ImageInfo, check_image, image_of, write_image};
+use ring_trace::{ImageInfo, check_image, finished_images_are_sound, image_of, write_image};
 use split_ring::{Closed, Device, Driver, Ring};
 use std::alloc::Global;
 use std::test::Fail;
 
-/// Sends a frame of 26 bytes over in the buffer, so many times: how many times the buffer came back.
-fn rounds(on: &Ring, driver: &mut Driver, device: &mut Device, first: Buffer, count: u32) -> u32
+/// The lengths with which a buffer goes over and comes back.
+#[derive(Clone, Copy)]
+struct Lengths {
+    offered: u32,
+    returned: u32,
+}
+
+/// The lengths for a frame of 26 bytes: in queue 1 the driver sends, and in queue 0 the device.
+fn lengths_in(queue: u8) -> Lengths
+    ensures fit { (result.offered ≤ buffer_size) × (result.returned ≤ buffer_size) }
+    ensures empty { queue ≡ 1 → result.returned ≡ 0 }
+{
+    if queue == 1 {
+        return Lengths {
+            offered: 26,
+            returned: 0,
+        };
+    }
+    Lengths {
+        offered: 512,
+        returned: 26,
+    }
+}
+
+/// Sends the buffer over and back, so many times: how many times it came back.
+fn rounds(
+    on: &Ring,
+    driver: &mut Driver,
+    device: &mut Device,
+    first: Buffer,
+    lengths: Lengths,
+    count: u32,
+) -> u32
     requires rings { (driver.old.ring ≡ on.now.ring) × (device.old.ring ≡ on.now.ring) }
     requires held { HoldsNumber role.Driver driver.old first.number }
+    requires fit { (lengths.offered ≤ buffer_size) × (lengths.returned ≤ buffer_size) }
+    requires returned { All (λ e. e.1 ≡ lengths.returned) device.old.written }
     ensures rings { (driver.new.ring ≡ on.now.ring) × (device.new.ring ≡ on.now.ring) }
+    ensures returned { All (λ e. e.1 ≡ lengths.returned) device.new.written }
 {
     let mut buffer = first;
     for done in 0..count {
-        driver.offer(on, buffer, 26);
+        driver.offer(on, buffer, lengths.offered);
         let Some((frame, _)) = device.fetch(on) else {
             return done;
         };
-        device.give(on, frame, 0);
+        device.give(on, frame, lengths.returned);
         let Some((back, _)) = driver.reclaim(on) else {
             return done;
         };
@@ -31,17 +69,56 @@ fn rounds(on: &Ring, driver: &mut Driver, device: &mut Device, first: Buffer, co
     count
 }
 
-/// A new ring of queue 1, finished after so many rounds with its first buffer.
-fn after_rounds(alloc: Global, size: u32, count: u32) -> Option<Closed> {
-    let Ok((ring, mut driver, mut device, mut buffers)) = Ring::new(alloc, 1, size) else {
+/// A ring after so many rounds with its first buffer.
+fn run(alloc: Global, queue: u8, size: u32, count: u32) -> Option<(Ring, Driver, Device)>
+    ensures halves { IfSome result (λ r. (r.1.ring ≡ r.0.ring) × (r.2.ring ≡ r.0.ring)) }
+    ensures empty { IfSome result (λ r. ReturnsAreEmpty r.0.queue r.2.written) }
+{
+    let Ok((ring, mut driver, mut device, mut buffers)) = Ring::new(alloc, queue, size) else {
         return None;
     };
     if buffers.is_empty() {
         return None;
     }
-    let done = rounds(&ring, &mut driver, &mut device, buffers.remove(0), count);
+    let first = buffers.remove(0);
+    let done = rounds(
+        &ring,
+        &mut driver,
+        &mut device,
+        first,
+        lengths_in(queue),
+        count,
+    );
+    if done == count {
+        Some((ring, driver, device))
+    } else {
+        None
+    }
+}
+
+/// A ring of queue 1, finished after so many rounds.
+fn after_rounds(alloc: Global, size: u32, count: u32) -> Option<Closed> {
+    let (ring, driver, device) = run(alloc, 1, size, count)?;
+    Some(ring.finish(driver, device))
+}
+
+/// What a check says of the image of the finished ring, which cannot have a fault.
+fn info_of(alloc: Global, ring: Ring, driver: Driver, device: Device) -> Option<ImageInfo>
+    requires halves { (driver.ring ≡ ring.ring) × (device.ring ≡ ring.ring) }
+    requires empty { ReturnsAreEmpty ring.queue device.written }
+    ensures ring { IfSome result (λ i. (i.size ≡ size_of ring.ring) × (i.queue ≡ ring.queue)) }
+    ensures avail { IfSome result (λ i. i.avail ≡ length driver.written % 65536) }
+    ensures used { IfSome result (λ i. i.used ≡ length device.written % 65536) }
+{
+    finished_images_are_sound();
     let closed = ring.finish(driver, device);
-    if done == count { Some(closed) } else { None }
+    let Ok(image) = image_of(alloc, &closed) else {
+        return None;
+    };
+    let Ok(info) = check_image(&image) else {
+        unreachable!()
+    };
+    Some(info)
 }
 
 /// Whether a ring of four has the image after one frame.
@@ -57,20 +134,23 @@ fn a_ring_after_one_frame_has_the_image(rt: HostRuntime) -> Result<(), Fail> {
     Ok(())
 }
 
-/// What a check says of the image of a ring of two, which has 66 bytes, after 70,000 rounds.
-fn info_after_many(alloc: Global) -> Option<ImageInfo> {
-    let closed = after_rounds(alloc, 2, 70_000)?;
-    let image = image_of(alloc, &closed).ok()?;
-    if image.len() != 66 {
-        return None;
-    }
-    check_image(&image).ok()
+/// What a check says of the image of a ring after 70,000 rounds.
+fn info_after_many(alloc: Global, queue: u8, size: u32) -> Option<ImageInfo> {
+    let (ring, driver, device) = run(alloc, queue, size, 70_000)?;
+    info_of(alloc, ring, driver, device)
 }
 
 #[test]
-fn both_indices_wrap(rt: HostRuntime) -> Result<(), Fail> {
-    let info = info_after_many(rt.alloc()).ok_or("no image")?;
-    assert!(rt; (info.size, info.queue, info.avail, info.used) == (2, 1, 4464, 4464));
+fn both_indices_wrap_in_either_queue(rt: HostRuntime) -> Result<(), Fail> {
+    for queue in [0, 1] {
+        for size in [2, 256] {
+            let info = info_after_many(rt.alloc(), queue, size).ok_or("no image")?;
+            assert!(rt;
+                (info.size, info.queue, info.avail, info.used) == (size, queue, 4464, 4464),
+                "size {size}, queue {queue}"
+            );
+        }
+    }
     Ok(())
 }
 

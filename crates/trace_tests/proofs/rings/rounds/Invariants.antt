@@ -1,4 +1,6 @@
 use Rattle.std.proofs.Common.{◌≡◌}
+use Rattle.std.specs.List.{All}
+use Rattle.shared_words.specs.Entry.{Entry}
 use Rattle.shared_words.specs.declared.view.Role.TheVariants as role
 use Rattle.split_ring.specs.Ends.{HoldsNumber}
 use Rattle.trace_tests.proofs.rings.rounds.Given as goal
@@ -8,4 +10,5 @@ invariant-loop-done l = record {
   driver : l.driver.ring ≡ l.on.ring;
   device : l.device.ring ≡ l.on.ring;
   held : HoldsNumber role.Driver l.driver l.buffer.number;
+  returned : All (λ (e : Entry). e.1 ≡ l.lengths.returned) l.device.written;
 }
