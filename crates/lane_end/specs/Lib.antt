@@ -38,3 +38,4 @@ pub mod AnyLaneLaws
 pub mod ExactLooks
 pub mod Halves
 pub mod LaneRun
+pub mod ReturnedLengths
