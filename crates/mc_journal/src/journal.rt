@@ -33,10 +33,12 @@ impl Model for Journal {
 }
 
 impl Journal {
-    /// Makes a journal without entries. It takes no memory before the first `reserve`, so `NoMemory` does not occur today.
+    /// Makes a journal without entries and without room. It takes no memory before the first `reserve`, so `NoMemory` does not
+    /// occur today.
     pub fn new(alloc: Global) -> Result<Journal, NoMemory>
         ensures lines { IfOk result (λ j. j.lines ≡ []) }
         ensures bytes { IfOk result (λ j. j.bytes_held ≡ 0) }
+        ensures room { IfOk result (λ j. (j.entry_room ≡ 0) × (j.byte_room ≡ 0)) }
     {
         Ok(Journal {
             entries: Vec::new(alloc),
@@ -60,6 +62,9 @@ impl Journal {
         ensures byte_room_stays { self.old.byte_room ≤ self.new.byte_room }
         ensures entries_double { StaysOrDoubles (entry_places self.old) (entry_places self.new) }
         ensures bytes_double { StaysOrDoubles (byte_places self.old) (byte_places self.new) }
+        // It takes no memory where there is room enough.
+        ensures entries_stay { entries ≤ self.old.entry_room → entry_places self.new ≡ entry_places self.old }
+        ensures bytes_stay { bytes ≤ self.old.byte_room → byte_places self.new ≡ byte_places self.old }
     {
         make_room(&mut self.entries, entries as usize)?;
         make_room(&mut self.bytes, bytes as usize)?;
@@ -88,6 +93,7 @@ impl Journal {
         requires notable { IsNotable entry }
         ensures lines { self.new.lines ≡ noted_entry self.old.lines (line_of_entry entry.entry) }
         ensures bytes { self.new.bytes_held ≡ self.old.bytes_held + bytes_in entry.entry }
+        ensures entry_places { entry_places self.new ≡ entry_places self.old }
         ensures entry_room { self.old.entry_room ≤ self.new.entry_room + 1 }
         ensures byte_room { self.old.byte_room ≤ self.new.byte_room + bytes_in entry.entry }
     {
@@ -96,7 +102,7 @@ impl Journal {
             Entry::Again { word } => keep_again(&mut self.entries, word),
             _ => {
                 let kept = keep(&mut self.bytes, entry);
-                self.entries.push(kept).unwrap();
+                self.entries.push_reserved(kept);
             }
         }
     }

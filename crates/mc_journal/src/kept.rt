@@ -187,7 +187,7 @@ pub fn keep_idle(entries: &mut Vec<Kept>)
     requires { vec_len entries.old < vec_capacity entries.old }
     ensures lines { (bytes : List ℕ) → map (kept_line bytes) entries.new.items ≡ noted_idle (map (kept_line bytes) entries.old.items) }
     ensures within { (n : ℕ) → AllByRecursion (IsWithin n) entries.old.items → AllByRecursion (IsWithin n) entries.new.items }
-    ensures capacity { vec_capacity entries.old ≤ vec_capacity entries.new }
+    ensures capacity { vec_capacity entries.new ≡ vec_capacity entries.old }
     ensures one_more { vec_len entries.new ≤ vec_len entries.old + 1 }
 {
     match turns_to_join(entries) {
@@ -195,7 +195,7 @@ pub fn keep_idle(entries: &mut Vec<Kept>)
             let last = entries.len() - 1;
             entries[last] = Kept::Idle(turns + 1);
         }
-        None => entries.push(Kept::Idle(1)).unwrap(),
+        None => entries.push_reserved(Kept::Idle(1)),
     }
 }
 
@@ -220,14 +220,14 @@ pub fn keep_again(entries: &mut Vec<Kept>, word: Refusal)
     requires { vec_len entries.old < vec_capacity entries.old }
     ensures lines { (bytes : List ℕ) → map (kept_line bytes) entries.new.items ≡ noted_again word (map (kept_line bytes) entries.old.items) }
     ensures within { (n : ℕ) → AllByRecursion (IsWithin n) entries.old.items → AllByRecursion (IsWithin n) entries.new.items }
-    ensures capacity { vec_capacity entries.old ≤ vec_capacity entries.new }
+    ensures capacity { vec_capacity entries.new ≡ vec_capacity entries.old }
     ensures one_more { vec_len entries.new ≤ vec_len entries.old + 1 }
 {
     if follows_one_idle(entries) {
         entries.pop();
         keep_spin(entries, word);
     } else {
-        entries.push(Kept::Again(word)).unwrap();
+        entries.push_reserved(Kept::Again(word));
     }
 }
 
@@ -236,7 +236,7 @@ fn keep_spin(entries: &mut Vec<Kept>, word: Refusal)
     requires { vec_len entries.old < vec_capacity entries.old }
     ensures lines { (bytes : List ℕ) → map (kept_line bytes) entries.new.items ≡ noted_spin word (map (kept_line bytes) entries.old.items) }
     ensures within { (n : ℕ) → AllByRecursion (IsWithin n) entries.old.items → AllByRecursion (IsWithin n) entries.new.items }
-    ensures capacity { vec_capacity entries.old ≤ vec_capacity entries.new }
+    ensures capacity { vec_capacity entries.new ≡ vec_capacity entries.old }
     ensures one_more { vec_len entries.new ≤ vec_len entries.old + 1 }
 {
     match times_to_join(entries, word) {
@@ -244,7 +244,7 @@ fn keep_spin(entries: &mut Vec<Kept>, word: Refusal)
             let last = entries.len() - 1;
             entries[last] = Kept::Spin(times + 1, word);
         }
-        None => entries.push(Kept::Spin(1, word)).unwrap(),
+        None => entries.push_reserved(Kept::Spin(1, word)),
     }
 }
 

@@ -12,6 +12,7 @@ pub fn make_room<T>(items: &mut Vec<T>, more: usize) -> Result<(), NoMemory>
     ensures room { OnOk result (vec_len items.new + more ≤ vec_capacity items.new) }
     ensures doubles { StaysOrDoubles (vec_capacity items.old) (vec_capacity items.new) }
     ensures stays { vec_capacity items.old ≤ vec_capacity items.new }
+    ensures enough { vec_len items.old + more ≤ vec_capacity items.old → vec_capacity items.new ≡ vec_capacity items.old }
 {
     let capacity = items.capacity();
     let room = capacity - items.len();

@@ -21,6 +21,6 @@ returns-then-follows_one_idle-clause-within c = λ n within.
 pub returns-else-follows_one_idle-clause-lines : goal.returns-else-follows_one_idle-clause-lines
 returns-else-follows_one_idle-clause-lines c = λ bytes.
     let ks = c.args.entries.now.items in
-    let pushed : c.push.new.self.items ≡ ks ++ kept.Again c.args.word ∷ [] = search rules in
+    let pushed : c.push_reserved.new.self.items ≡ ks ++ kept.Again c.args.word ∷ [] = search rules in
     let other : false ≡ is_one_idle (slice_get (map (kept_line bytes) ks) (length ks - 1)) = rw c.deref.ensures.value at (c.if-follows_one_idle.ensures.value bytes) in
     rw pushed (again-stands bytes c.args.word ks other)

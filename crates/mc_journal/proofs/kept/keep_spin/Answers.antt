@@ -9,5 +9,5 @@ returns-in-Some-clause-lines c = λ bytes.
 
 pub returns-in-None-clause-lines : goal.returns-in-None-clause-lines
 returns-in-None-clause-lines c = λ bytes.
-    let pushed : c.push.new.self.items ≡ c.args.entries.now.items ++ kept.Spin 1 c.args.word ∷ [] = search rules in
+    let pushed : c.push_reserved.new.self.items ≡ c.args.entries.now.items ++ kept.Spin 1 c.args.word ∷ [] = search rules in
     rw pushed (spin-begins bytes c.args.word c.args.entries.now.items (rw c.deref.ensures.value at (c.in-None.ensures.value bytes)))

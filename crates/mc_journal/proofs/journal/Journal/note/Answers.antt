@@ -19,14 +19,14 @@ returns-in-Again-clause-lines c = rw c.in-Again.is (c.keep_again.ensures.lines c
 
 pub invariant_of-self-in_default : goal.invariant_of-self-in_default
 invariant_of-self-in_default c =
-    let pushed : c.push.new.self.items ≡ c.self.inside.entries.items ++ c.keep-kept.result ∷ [] = search rules in
+    let pushed : c.push_reserved.new.self.items ≡ c.self.inside.entries.items ++ c.keep-kept.result ∷ [] = search rules in
     let more = c.keep-kept.ensures.bytes in
     let grew : length c.self.inside.bytes.items ≤ length c.keep-kept.new.bytes.items = omega (arith, ap length more.1, length-append c.self.inside.bytes.items more.0) in
     rw pushed (AreWithin-push _ _ _ _ grew c.self.invariant c.keep-kept.ensures.within)
 
 pub returns-in_default-clause-lines : goal.returns-in_default-clause-lines
 returns-in_default-clause-lines c =
-    let pushed : c.push.new.self.items ≡ c.self.inside.entries.items ++ c.keep-kept.result ∷ [] = search rules in
+    let pushed : c.push_reserved.new.self.items ≡ c.self.inside.entries.items ++ c.keep-kept.result ∷ [] = search rules in
     let more = c.keep-kept.ensures.bytes in
     let line = lines-push c.self.inside.bytes.items c.keep-kept.new.bytes.items more.0 c.self.inside.entries.items c.keep-kept.result c.args.entry (IsPlain-from c.args.entry c.in_default.not-Idle c.in_default.not-Again) c.self.invariant more.1 c.keep-kept.ensures.line in
     rw pushed (line ∙ ap (λ (w : Written). noted_entry w.lines (line_of_entry c.args.entry)) c.self.view_is)
