@@ -3,12 +3,14 @@ use Rattle.std.proofs.Common.{Option, ◌≡◌, ℕ, ◌+◌, ◌-◌, ◌<◌,
 use Rattle.std.specs.List.{flat_map}
 use Rattle.std.proofs.lemmas.Grind.{flat_map-append, take_at_read}
 use Rattle.outer_io.specs.Faults.{Rose}
-use Rattle.outer_io.specs.Writes.{AppendsPart}
+use Rattle.outer_io.specs.Calls.{CountsAtMost}
+use Rattle.outer_io.specs.Writes.{AppendsPart, WritesStop}
 use Rattle.outer_io.specs.Puts.{Progress, Puts, PassesOn}
 use Rattle.outer_io.specs.declared.sink.Sink.{Ghosts}
 use Rattle.outer_io.specs.declared.writer.Writer.{Writer}
 use Rattle.std.proofs.KnownBytes.{Appends-trans, Appends-nil}
-use Rattle.outer_io.proofs.Appended.{whole_then_part, part_of_both}
+use Rattle.outer_io.proofs.Appended.{whole_then_part, part_of_both, whole_then_stop, stop_of_both}
+use Rattle.outer_io.proofs.Counted.{no_call, calls_then}
 
 pass_then : (wa wb wc : Option (List ℕ)) (ga gb gc x y : List ℕ) → PassesOn wa wb ga x gb → PassesOn wb wc gb y gc → PassesOn wa wc ga (x ++ y) gc
 pass_then wa wb wc ga gb gc x y p q =
@@ -25,6 +27,26 @@ module _ {K : Type 0} {sink : Ghosts K} {a b c : Writer K} {x y : List ℕ} wher
       let text : pass.0 ++ (b.gathered.items ++ y) ≡ a.gathered.items ++ (x ++ y) = sym (append_assoc pass.0 b.gathered.items y) ∙ ap (λ (t : List ℕ). t ++ y) (sym pass.1) ∙ append_assoc a.gathered.items x y in
       subst (λ (t : List ℕ). AppendsPart (sink.written a.sink.now) (sink.written c.sink.now) t) text (whole_then_part _ _ _ pass.0 (b.gathered.items ++ y) pass.2 (q.part e fails))
 
+  stop_then : (f : Bool) → b.failed ≡ f → Progress sink a b x → Progress sink b c y → a.failed ≡ false → c.failed ≡ true → WritesStop (sink.written a.sink.now) (sink.written c.sink.now) (sink.calls a.sink.now) (sink.calls c.sink.now) (a.gathered.items ++ (x ++ y))
+  stop_then true e p q sound fails =
+      let first = stop_of_both (sink.written a.sink.now) (sink.written b.sink.now) (sink.calls a.sink.now) (sink.calls b.sink.now) (a.gathered.items ++ x) y (p.stops sound e) in
+      subst (λ (w : Writer K). WritesStop (sink.written a.sink.now) (sink.written w.sink.now) (sink.calls a.sink.now) (sink.calls w.sink.now) (a.gathered.items ++ (x ++ y))) (sym (q.still e))
+      (subst (λ (t : List ℕ). WritesStop (sink.written a.sink.now) (sink.written b.sink.now) (sink.calls a.sink.now) (sink.calls b.sink.now) t) (append_assoc a.gathered.items x y) first)
+  stop_then false e p q sound fails =
+      let pass = (p.whole e).1 in
+      let text : pass.0 ++ (b.gathered.items ++ y) ≡ a.gathered.items ++ (x ++ y) = sym (append_assoc pass.0 b.gathered.items y) ∙ ap (λ (t : List ℕ). t ++ y) (sym pass.1) ∙ append_assoc a.gathered.items x y in
+      let size : length a.gathered.items + length x - length b.gathered.items ≡ length pass.0 = omega (arith, ap length pass.1, length-append a.gathered.items x, length-append pass.0 b.gathered.items) in
+      let few = subst (λ (n : ℕ). CountsAtMost (sink.calls a.sink.now) (sink.calls b.sink.now) n) size (p.few e) in
+      subst (λ (t : List ℕ). WritesStop (sink.written a.sink.now) (sink.written c.sink.now) (sink.calls a.sink.now) (sink.calls c.sink.now) t) text (whole_then_stop _ _ _ _ _ _ pass.0 (b.gathered.items ++ y) pass.2 few (q.stops e fails))
+
+  few_then : Progress sink a b x → Progress sink b c y → c.failed ≡ false → CountsAtMost (sink.calls a.sink.now) (sink.calls c.sink.now) (length a.gathered.items + length (x ++ y) - length c.gathered.items)
+  few_then p q e =
+      let second = q.whole e in
+      let first = p.whole second.0 in
+      let there : length a.gathered.items + length x ≡ length first.1.0 + length b.gathered.items = omega (arith, ap length first.1.1, length-append a.gathered.items x, length-append first.1.0 b.gathered.items) in
+      let here : length b.gathered.items + length y ≡ length second.1.0 + length c.gathered.items = omega (arith, ap length second.1.1, length-append b.gathered.items y, length-append second.1.0 c.gathered.items) in
+      calls_then _ _ _ _ _ _ (p.few second.0) (q.few e) (omega (arith, there, here, length-append x y))
+
   rose_then : (f : Bool) → b.failed ≡ f → Progress sink a b x → Progress sink b c y → a.failed ≡ false → c.failed ≡ true → Rose (sink.faults a.sink.now) (sink.faults c.sink.now)
   rose_then true e p q sound fails = omega (arith, p.rose sound e, q.later)
   rose_then false e p q sound fails = omega (arith, p.later, q.rose e fails)
@@ -34,6 +56,8 @@ module _ {K : Type 0} {sink : Ghosts K} {a b c : Writer K} {x y : List ℕ} wher
     whole = λ e. let second = q.whole e in let first = p.whole second.0 in (first.0, pass_then _ _ _ a.gathered.items b.gathered.items c.gathered.items x y first.1 second.1);
     part = part_then b.failed refl p q;
     rose = rose_then b.failed refl p q;
+    few = few_then p q;
+    stops = stop_then b.failed refl p q;
     quiet = λ e. q.quiet e ∙ p.quiet (q.whole e).0;
     still = λ e. q.still (ap (λ (w : Writer K). w.failed) (p.still e) ∙ e) ∙ p.still e;
     later = omega (arith, p.later, q.later);
@@ -60,6 +84,8 @@ puts_nothing sink a = record {
   whole = λ e. (e, ([], append-nil a.gathered.items, Appends-nil (sink.written a.sink.now)));
   part = λ sound fails. absurd (cc (sound, fails));
   rose = λ sound fails. absurd (cc (sound, fails));
+  few = λ e. no_call (sink.calls a.sink.now) _;
+  stops = λ sound fails. absurd (cc (sound, fails));
   quiet = λ e. refl;
   still = λ e. refl;
   later = omega arith;

@@ -59,7 +59,7 @@ impl<'a, K: Sink> Writer<'a, K> {
     }
 
     /// Gathers a piece, if there is room. After a failure it is dropped.
-    #[tactic(auto, unfolding(crate::specs::Puts::Puts))]
+    #[tactic(auto, unfolding(crate::specs::Puts::Puts), using(crate::proofs::Counted::no_call))]
     #[inline(always)]
     fn gathers(&mut self, piece: &[u8]) -> bool
         ensures puts { result ≡ true → Puts K.Sink self.old self.new piece.now }
@@ -69,7 +69,7 @@ impl<'a, K: Sink> Writer<'a, K> {
     }
 
     /// Writes what is gathered.
-    #[tactic(auto, unfolding(crate::specs::Puts::Puts))]
+    #[tactic(auto, unfolding(crate::specs::Puts::Puts), using(crate::proofs::Counted::no_call))]
     fn write_gathered(&mut self)
         requires { self.old.failed ≡ false }
         ensures puts { Puts K.Sink self.old self.new [] }
@@ -82,7 +82,7 @@ impl<'a, K: Sink> Writer<'a, K> {
     }
 
     /// Puts a piece where nothing is gathered. One that is longer than all that can be gathered is written at once.
-    #[tactic(auto, unfolding(crate::specs::Puts::Puts))]
+    #[tactic(auto, unfolding(crate::specs::Puts::Puts), using(crate::proofs::Counted::no_call))]
     fn put_first(&mut self, piece: &[u8])
         requires { self.old.failed ≡ false → self.old.gathered.items ≡ [] }
         ensures { Puts K.Sink self.old self.new piece.now }
