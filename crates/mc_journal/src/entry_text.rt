@@ -1,8 +1,8 @@
 //! The text of one entry, written to a sink.
 
-ghost use Rattle.std.specs.Prelude.{◌≤◌, ℕ, IsOk, length};
+ghost use Rattle.std.specs.Prelude.{◌≤◌, ℕ, IsOk, OnErr, length};
 ghost use Rattle.outer_io.specs.Faults.{HasCause};
-ghost use Rattle.outer_io.specs.Writes.{Writes};
+ghost use Rattle.outer_io.specs.Writes.{Writes, WritesStop};
 ghost use Rattle.mc_journal.specs.EntryText.{entry_text};
 
 use crate::entry::Entry;
@@ -13,11 +13,13 @@ use outer_io::{Failed, Sink, Writer};
 ///
 /// # Errors
 ///
-/// `Failed` where a write failed: the sink's count of faults rose, and a proper prefix of the line was written.
+/// `Failed` where a write failed, which is then the last: the sink's count of faults rose, and a proper prefix of the line was
+/// written.
 pub fn write_entry<K: Sink>(entry: &Entry<'_>, sink: &mut K) -> Result<(), Failed>
     ensures bytes { Writes (K.written sink.old) (K.written sink.new) result (entry_text entry.now) }
     ensures cause { HasCause (K.faults sink.old) (K.faults sink.new) result }
     ensures room { (n : ℕ) → K.takes sink.old n → length (entry_text entry.now) ≤ n → IsOk result }
+    ensures none_after_failure { OnErr result (WritesStop (K.written sink.old) (K.written sink.new) (K.calls sink.old) (K.calls sink.new) (entry_text entry.now)) }
 {
     let mut out = Writer::new(sink);
     put_entry(&mut out, *entry);

@@ -1,10 +1,10 @@
 //! Images as text, put piece by piece.
 
-ghost use Rattle.std.specs.Prelude.{◌≡◌, ◌≤◌, ℕ, length, slice_index, IsOk};
+ghost use Rattle.std.specs.Prelude.{◌≡◌, ◌≤◌, ℕ, length, slice_index, IsOk, OnErr};
 ghost use Rattle.byteorder.specs.Endian.{little_bytes};
 ghost use Rattle.mc_base.specs.Text.{hex_digits};
 ghost use Rattle.outer_io.specs.Faults.{HasCause};
-ghost use Rattle.outer_io.specs.Writes.{Writes};
+ghost use Rattle.outer_io.specs.Writes.{Writes, WritesStop};
 ghost use Rattle.outer_io.specs.Puts.{Puts};
 ghost use Rattle.board_model.specs.RingImage.{for_each};
 ghost use Rattle.ring_trace.specs.WordImage.{word_image, word_descriptor, word_entry, word_element, ring_head};
@@ -17,11 +17,12 @@ use split_ring::Closed;
 ///
 /// # Errors
 ///
-/// `Failed` where a write failed; a proper prefix was written then.
+/// `Failed` where a write failed, which is then the last; a proper prefix was written.
 pub fn write_image<K: Sink>(closed: &Closed, sink: &mut K) -> Result<(), Failed>
     ensures bytes { Writes (K.written sink.old) (K.written sink.new) result (hex_digits (word_image closed.now.size closed.now.words)) }
     ensures cause { HasCause (K.faults sink.old) (K.faults sink.new) result }
     ensures room { (n : ℕ) → K.takes sink.old n → length (hex_digits (word_image closed.now.size closed.now.words)) ≤ n → IsOk result }
+    ensures none_after_failure { OnErr result (WritesStop (K.written sink.old) (K.written sink.new) (K.calls sink.old) (K.calls sink.new) (hex_digits (word_image closed.now.size closed.now.words))) }
 {
     let mut out = Writer::new(sink);
     put_image(&mut out, closed);
