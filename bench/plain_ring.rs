@@ -175,6 +175,23 @@ fn batch(ring: &Ring, driver: &mut Half, device: &mut Half, buffers: Vec<Buffer>
     }
 }
 
+fn each(ring: &Ring, driver: &mut Half, device: &mut Half, buffers: Vec<Buffer>, rounds: u32) {
+    let mut free: VecDeque<Buffer> = buffers.into();
+    for round in 0..rounds {
+        while let Some(buffer) = free.pop_front() {
+            let len = length(round, buffer.number);
+            ring.offer(driver, buffer, len);
+        }
+        while let Some((buffer, _)) = ring.fetch(device) {
+            let len = length(round, buffer.number);
+            ring.give(device, buffer, len);
+        }
+        while let Some((buffer, _)) = ring.reclaim(driver) {
+            free.push_back(buffer);
+        }
+    }
+}
+
 fn main() {
     let words: Vec<String> = std::env::args().collect();
     let size = words[2].parse().unwrap();
@@ -188,6 +205,7 @@ fn main() {
             two(&ring, &mut driver, &mut device, buffers, rounds)
         }
         "order" => batch(&ring, &mut driver, &mut device, buffers, rounds, false),
+        "each" => each(&ring, &mut driver, &mut device, buffers, rounds),
         "reverse" => batch(&ring, &mut driver, &mut device, buffers, rounds, true),
         _ => one(&ring, &mut driver, &mut device, buffers, rounds),
     }

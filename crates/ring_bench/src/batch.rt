@@ -23,7 +23,7 @@ pub(crate) fn offer_new(on: &Ring, driver: &mut Driver, mut buffers: Vec<Buffer>
     }
 }
 
-fn offer_all(on: &Ring, driver: &mut Driver, free: &mut VecDeque<Buffer>, round: u32)
+pub(crate) fn offer_all(on: &Ring, driver: &mut Driver, free: &mut VecDeque<Buffer>, round: u32)
     requires ring { driver.old.ring ≡ on.now.ring }
     requires held { AreHeld role.Driver driver.old free.old.items }
     requires sound { IsSound role.Driver driver.old }
@@ -86,7 +86,7 @@ fn give_all_back(on: &Ring, device: &mut Device, held: &mut VecDeque<Buffer>, ro
     }
 }
 
-fn reclaim_all(
+pub(crate) fn reclaim_all(
     on: &Ring,
     driver: &mut Driver,
     free: &mut VecDeque<Buffer>,

@@ -1,11 +1,12 @@
 //! Moves buffers over a ring, so that `bench/ring.sh` can time it. It prints what it did, and no time.
 //!
 //! Words: a mode, the size of the ring, and the number of rounds. On one thread: `one` moves one buffer at a time, `order` all
-//! of them, and `reverse` all of them with the order turned round. On two threads, one for each half: `two` moves all
+//! of them, and `reverse` all of them with the order turned round. `each` offers all, and gives each back as soon as it is fetched. On two threads, one for each half: `two` moves all
 //! buffers, and `ping` one alone. The lengths differ from round to round.
 #![tactic(auto)]
 
 mod batch;
+mod each;
 mod length;
 mod one;
 mod two;
@@ -38,6 +39,7 @@ fn reclaimed<R: Threads + Sync + AllocGlobal>(
         "two" => two::run(rt, ring, driver, device, buffers, Load::All, rounds),
         "ping" => two::run(rt, ring, driver, device, buffers, Load::One, rounds),
         "order" => batch::run(alloc, ring, driver, device, buffers, rounds, false)?,
+        "each" => each::run(alloc, ring, driver, device, buffers, rounds)?,
         "reverse" => batch::run(alloc, ring, driver, device, buffers, rounds, true)?,
         _ => one::run(ring, driver, device, buffers, rounds),
     };
