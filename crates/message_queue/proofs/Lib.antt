@@ -1,4 +1,3 @@
-pub mod Queues
 pub mod Chains
 pub mod CellLists
 pub mod CellWrites

@@ -1,4 +1,3 @@
 pub mod Keys
 pub mod Standings
 pub mod Insides
-pub mod Changes
