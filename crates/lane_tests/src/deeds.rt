@@ -85,6 +85,26 @@ pub fn takes<R: RecvEnd>(end: &mut R, frame: &[u8]) -> u32
     u32::from(same)
 }
 
+/// Puts three frames, where buffers are free: 1 where one was for the third.
+pub fn puts_three<S: SendEnd>(end: &mut S) -> u32
+    ensures { (moves : List SendMove) × S.Moved end.old moves end.new }
+{
+    puts(end, b"a");
+    puts(end, b"a");
+    puts(end, b"a")
+}
+
+/// Looks, and takes the oldest frame for good: how many frames were shown.
+pub fn keeps<R: RecvEnd>(end: &mut R) -> u32
+    ensures { (moves : List ReceiveMove) × R.Moved end.old moves end.new }
+{
+    let shown = end.look();
+    if shown > 0 {
+        end.take();
+    }
+    shown
+}
+
 /// Takes two frames, and gives the later one's buffer back first.
 pub fn takes_two<R: RecvEnd>(end: &mut R) -> u32
     ensures { (moves : List ReceiveMove) × R.Moved end.old moves end.new }

@@ -4,6 +4,8 @@
 #[cfg(test)]
 mod deeds;
 #[cfg(test)]
+mod finished;
+#[cfg(test)]
 mod plain;
 #[cfg(test)]
 mod rings;

@@ -1,9 +1,9 @@
 //! Lanes over rings, of both queues.
-ghost use Rattle.std.specs.Prelude.{◌≡◌, List};
-ghost use Rattle.lane_end.specs.SendMoves.{SendMove};
-ghost use Rattle.lane_end.specs.ReceiveMoves.{ReceiveMove};
+ghost use Rattle.std.specs.Prelude.{◌≡◌};
 
-use crate::deeds::{AT_ONCE, Deed, Lane, Row, assert_rows, looks, looks_back, puts, takes};
+use crate::deeds::{
+    AT_ONCE, Deed, Lane, Row, assert_rows, keeps, looks, looks_back, puts, puts_three, takes,
+};
 use lane_end::{
     RecvEnd, RingHalf, RingRecv, RingSend, SendEnd, finished_ends_are_one_lane,
     looks_between_meetings_are_exact, may_cross_threads, open_queue0, open_queue1,
@@ -188,17 +188,6 @@ fn indices_wrap_from_the_device(rt: HostRuntime) -> Result<(), Fail> {
     Ok(())
 }
 
-// Looks, and takes the oldest frame for good: how many frames were shown.
-fn keeps<R: RecvEnd>(end: &mut R) -> u32
-    ensures { (moves : List ReceiveMove) × R.Moved end.old moves end.new }
-{
-    let shown = end.look();
-    if shown > 0 {
-        end.take();
-    }
-    shown
-}
-
 // Looks at what came back, puts three frames, gives one buffer back and keeps another: the looks showed 0, 3 and 2.
 fn plays<H: RingHalf, G: RingHalf>(send: &mut RingSend<'_, H>, recv: &mut RingRecv<'_, G>) -> bool
     ensures sends { send.new.half.ring ≡ send.old.half.ring }
@@ -209,14 +198,6 @@ fn plays<H: RingHalf, G: RingHalf>(send: &mut RingSend<'_, H>, recv: &mut RingRe
     let taken = takes(recv, b"a");
     let shown = keeps(recv);
     (back, put, taken, shown) == (0, 3, 1, 2)
-}
-
-fn puts_three<S: SendEnd>(end: &mut S) -> u32
-    ensures { (moves : List SendMove) × S.Moved end.old moves end.new }
-{
-    puts(end, b"a");
-    puts(end, b"a");
-    puts(end, b"a")
 }
 
 /// The ring of a lane from the driver, finished after this.

@@ -1,5 +1,5 @@
 use Rattle.std.proofs.Common.{◌++◌}
-use Rattle.lane_tests.proofs.rings.puts_three.Goals as goal
+use Rattle.lane_tests.proofs.deeds.puts_three.Goals as goal
 
 pub returns : goal.returns
 returns g c =

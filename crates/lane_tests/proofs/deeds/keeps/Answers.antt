@@ -1,6 +1,6 @@
 use Rattle.std.proofs.Common.{[], ◌∷◌, ◌++◌, take}
 use Rattle.lane_end.specs.ReceiveMoves.{Looked, Took}
-use Rattle.lane_tests.proofs.rings.keeps.Goals as goal
+use Rattle.lane_tests.proofs.deeds.keeps.Goals as goal
 
 pub returns-then-shown-gt0 : goal.returns-then-shown-gt0
 returns-then-shown-gt0 g c =
