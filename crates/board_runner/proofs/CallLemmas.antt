@@ -1,5 +1,5 @@
 -- The stations after a call that was made and noted: the run after it.
-use Rattle.std.proofs.Common.{◌≡◌, ℕ, zero, suc, append-nil, option_and_then, option_to_list, ◌+◌, ◌-◌, ◌<◌, ◌^◌, Bool, true, false, cond, List, [], ◌∷◌, ◌++◌, map, sum_by, Option, Some, None, option_map, refl, sym, ap, ap₂, ◌∙◌, subst, arith}
+use Rattle.std.proofs.Common.{◌≡◌, ℕ, append-nil, option_to_list, ◌+◌, ◌-◌, ◌<◌, ◌^◌, Bool, true, false, cond, List, [], ◌∷◌, ◌++◌, map, sum_by, Option, Some, None, option_map, refl, sym, ap, ap₂, ◌∙◌, subst, arith}
 use Rattle.std.specs.Prelude.{◌==◌, slice_get}
 use Rattle.std.specs.List.{AllByRecursion}
 use Rattle.std.specs.Option.{option_or}
@@ -10,7 +10,7 @@ use Rattle.lane_end.specs.AnySender.{AnySends}
 use Rattle.lane_end.specs.AnyReceiver.{AnyReceives}
 use Rattle.board_model.specs.declared.scenario.CallLine.{CallLine}
 use Rattle.board_model.specs.declared.scenario.Scenario.{Scenario}
-use Rattle.board_model.specs.Answer.{answer, puts, refusal, unless_refused, success_puts}
+use Rattle.board_model.specs.Answer.{answer, puts, unless_refused, success_puts}
 use Rattle.board_model.specs.DomainCall.{DomainCall}
 use Rattle.board_model.specs.Change.{changed_all}
 use Rattle.board_model.specs.CallChanges.{call_changes, effect, returned, success_changes, success_returned}
@@ -176,7 +176,7 @@ pub record DoesNothing (s : DomainState) (node : ℕ) (call : DomainCall) : Type
   pub gives_none : request_given s node call ≡ None
   pub ends_none : place_ended s node call ≡ None
 
-tried_word : (a : PlainAnswer) → is_tried a ≡ true → (word : Refusal) × (refuses word ≡ a)
+pub tried_word : (a : PlainAnswer) → is_tried a ≡ true → (word : Refusal) × (refuses word ≡ a)
 tried_word (refuses word) e = (word, refl)
 tried_word agrees e = absurd cc
 tried_word (tells n) e = absurd cc

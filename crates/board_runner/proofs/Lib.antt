@@ -47,3 +47,6 @@ pub mod TrafficLemmas
 pub mod TwoPlaces
 pub mod HoldingLemmas
 pub mod PeersFound
+pub mod ToldMoves
+pub mod ToldTraffic
+pub mod OwnRunLemmas

@@ -7,7 +7,7 @@ use Rattle.lane_end.specs.ReceiveMoves.{ReceiveMove, Took, Gave}
 use Rattle.lane_end.specs.ReceiveMoves as receiving
 use Rattle.lane_end.specs.SendParts.{frames_sent, back_counts}
 use Rattle.lane_end.specs.ReceiveParts.{frames_taken, numbers_given}
-use Rattle.lane_end.specs.Entries.{frame_in as entry_frame, load_in, frames_in, loads_in, return_in}
+use Rattle.lane_end.specs.Entries.{frame_in as entry_frame, frames_in, loads_in, return_in}
 use Rattle.lane_end.specs.Opened.{given_length}
 use Rattle.lane_end.specs.RingSender.{RingSender, put_by, RingSends}
 use Rattle.lane_end.specs.RingReceiver.{RingReceiver, RingReceives, taken_by, given_entries, given_by, with_lengths}
@@ -73,7 +73,7 @@ NearVisited false v old new = LinkVisited v old new
 abbrev pub contents : List (ℕ × List ℕ) → List (List ℕ)
 contents fs = map frame_in fs
 
-first-came : (n : ℕ) (frame : List ℕ) (came : List (ℕ × List ℕ)) → slice_get came 0 ≡ Some (n, frame) → contents came ≡ frame ∷ contents (drop 1 came)
+pub first-came : (n : ℕ) (frame : List ℕ) (came : List (ℕ × List ℕ)) → slice_get came 0 ≡ Some (n, frame) → contents came ≡ frame ∷ contents (drop 1 came)
 first-came n frame [] e = cc
 first-came n frame (f ∷ came) e = let is : f ≡ (n, frame) = cc in ap (λ (g : ℕ × List ℕ). g.1 ∷ contents came) is
 
@@ -100,7 +100,7 @@ sends_taking (n ∷ ns) (t ∷ ts) = go (keeps_buffer t.fate) (sends_taking ns t
     go true rest = rest
     go false rest = rest
 
-sends_visit : (v : Visit) (ns : List ℕ) → sends (visit_moves v ns) ≡ Looked v.back ∷ map Sent v.owed
+pub sends_visit : (v : Visit) (ns : List ℕ) → sends (visit_moves v ns) ≡ Looked v.back ∷ map Sent v.owed
 sends_visit v ns =
     ap (λ (xs : List SendMove). Looked v.back ∷ xs)
     (sends_putting v.owed (receiver (receiving.Looked v.see) ∷ taking ns v.takes) ∙ ap (λ (xs : List SendMove). map Sent v.owed ++ xs) (sends_taking ns v.takes) ∙ append-nil (map Sent v.owed))
@@ -141,11 +141,11 @@ pub loads-frames : (es : List Entry) → contents (loads_in es) ≡ frames_in es
 loads-frames [] = refl
 loads-frames (e ∷ es) = ap (λ (fs : List (List ℕ)). entry_frame e ∷ fs) (loads-frames es)
 
-record TakesTell (ms : List ReceiveMove) (ts : List Taken) : Type 0 where
-  frames : contents (frames_taken ms) ≡ frames_of ts
-  given : length (numbers_given ms) ≡ returned_at_once ts
+pub record TakesTell (ms : List ReceiveMove) (ts : List Taken) : Type 0 where
+  pub frames : contents (frames_taken ms) ≡ frames_of ts
+  pub given : length (numbers_given ms) ≡ returned_at_once ts
 
-takes-tell : (ns : List ℕ) (ts : List Taken) → length ns ≡ length ts → TakesTell (receives (taking ns ts)) ts
+pub takes-tell : (ns : List ℕ) (ts : List Taken) → length ns ≡ length ts → TakesTell (receives (taking ns ts)) ts
 takes-tell [] [] each = record { frames = refl; given = refl }
 takes-tell [] (t ∷ ts) each = absurd (omega (arith, each))
 takes-tell (n ∷ ns) [] each = absurd (omega (arith, each))

@@ -1,12 +1,12 @@
 -- The lines of a board, one after the other.
-use Rattle.std.proofs.Common.{◌≡◌, ◌≢◌, ℕ, zero, suc, ◌+◌, ◌<◌, ◌≤◌, Bool, cond, List, [], ◌∷◌, ◌++◌, length, map, take, drop, find, count_by, sum_by, Option, Some, option_map, refl, sym, ap, ap₂, ◌∙◌, subst, inl, inr, arith, length-append, append-nil, eq-eqb, ne_eqb, eqb-true, lt-ltb, le-ltb}
+use Rattle.std.proofs.Common.{◌≡◌, ◌≢◌, ℕ, zero, suc, ◌+◌, ◌<◌, ◌≤◌, Bool, cond, List, [], ◌∷◌, ◌++◌, length, map, take, drop, find, count_by, sum_by, Option, Some, option_map, get_or, refl, sym, ap, ap₂, ◌∙◌, subst, inl, inr, arith, length-append, append-nil, eq-eqb, ne_eqb, eqb-true, lt-ltb, le-ltb}
 use Rattle.std.specs.Prelude.{◌==◌, nat_lt, slice_get}
 use Rattle.std.specs.List.{AllByRecursion}
 use Rattle.std.proofs.lemmas.Bool.{cond_both}
 use Rattle.std.proofs.lemmas.Bool.Decides.{eqb_tells}
 use Rattle.std.proofs.lemmas.List.{length-map}
 use Rattle.std.proofs.lemmas.List.Elements.{filter-append}
-use Rattle.std.proofs.lemmas.Option.{slice_get-map, slice_get_within}
+use Rattle.std.proofs.lemmas.Option.{slice_get-map, slice_get_read, slice_get_within}
 use Rattle.board_model.specs.declared.scenario.Call.{Call}
 use Rattle.board_model.specs.declared.scenario.Call.TheVariants.{Create, Delete, Lookup, MsgSend, MsgRecv, MsgRecvI, MsgAvailable, Test, Cancel, Turn}
 use Rattle.board_model.specs.declared.scenario.CallLine.{CallLine}
@@ -85,12 +85,12 @@ place_is s board n told =
 one_line : (before : List CallLine) (line : CallLine) (n : ℕ) → lines_of (before ++ line ∷ []) n ≡ lines_of before n ++ cond (line.domain == n) (line ∷ []) []
 one_line before line n = filter-append (λ c. c.domain == n) before (line ∷ [])
 
-own_counted : (before : List CallLine) (line : CallLine) → length (lines_of (before ++ line ∷ []) line.domain) ≡ length (lines_of before line.domain) + 1
+pub own_counted : (before : List CallLine) (line : CallLine) → length (lines_of (before ++ line ∷ []) line.domain) ≡ length (lines_of before line.domain) + 1
 own_counted before line =
     ap length (one_line before line line.domain ∙ ap (λ (b : Bool). lines_of before line.domain ++ cond b (line ∷ []) []) (eq-eqb line.domain line.domain refl))
     ∙ length-append (lines_of before line.domain) (line ∷ [])
 
-other_counted : (before : List CallLine) (line : CallLine) (n : ℕ) → n ≢ line.domain → length (lines_of (before ++ line ∷ []) n) ≡ length (lines_of before n)
+pub other_counted : (before : List CallLine) (line : CallLine) (n : ℕ) → n ≢ line.domain → length (lines_of (before ++ line ∷ []) n) ≡ length (lines_of before n)
 other_counted before line n differ =
     ap length (one_line before line n ∙ ap (λ (b : Bool). lines_of before n ++ cond b (line ∷ []) []) (ne_eqb line.domain n (λ e. differ (sym e))) ∙ append-nil (lines_of before n))
 
@@ -121,11 +121,24 @@ take_next [] i line e = absurd cc
 take_next (l ∷ ls) zero line e = let is : l ≡ line = cc in ap (λ (x : CallLine). x ∷ []) is
 take_next (l ∷ ls) (suc i) line e = ap (λ (xs : List CallLine). l ∷ xs) (take_next ls i line e)
 
-take_all : (lines : List CallLine) (i : ℕ) → length lines ≤ i → take i lines ≡ lines
+pub take_all : (lines : List CallLine) (i : ℕ) → length lines ≤ i → take i lines ≡ lines
 take_all [] zero le = refl
 take_all [] (suc i) le = refl
 take_all (l ∷ ls) zero le = absurd (omega (arith, le))
 take_all (l ∷ ls) (suc i) le = ap (λ (xs : List CallLine). l ∷ xs) (take_all ls i (omega (arith, le)))
+
+-- the line at its place
+pub line_read : (lines calls : List CallLine) (i : ℕ) (line : CallLine) → i < length lines → line ≡ get_or lines i line → lines ≡ calls → slice_get calls i ≡ Some line
+line_read lines calls i line lt is same = ap (λ (xs : List CallLine). slice_get xs i) (sym same) ∙ slice_get_read lines (length lines) i line refl lt is
+
+-- the line at a place is the next of its domain after the lines before it
+pub next_in_script : (s : Scenario) (i : ℕ) (line : CallLine) → slice_get s.calls i ≡ Some line → slice_get (script s line.domain) (length (lines_of (take i s.calls) line.domain)) ≡ Some line
+next_in_script s i line is =
+    ap (λ (ls : List CallLine). slice_get (lines_of ls line.domain) (length (lines_of (take i s.calls) line.domain))) (split_at s.calls i line is) ∙ comes_next (take i s.calls) (drop (suc i) s.calls) line
+
+-- and with it they are one more
+pub one_taken : (lines : List CallLine) (i : ℕ) (line : CallLine) → slice_get lines i ≡ Some line → take i lines ++ line ∷ [] ≡ take (i + 1) lines
+one_taken lines i line is = let next : suc i ≡ i + 1 = omega arith in sym (take_next lines i line is) ∙ ap (λ (k : ℕ). take k lines) next
 
 -- so many lines of each domain were called
 abbrev pub called_of : List CallLine → List ℕ → List ℕ
@@ -188,7 +201,7 @@ line_comes s board i line at sts is place h =
       within = lt;
       next = place_at (IsNext s line) sts at st.0 st.1 (record {
         number = number;
-        comes = ap (slice_get (script s n)) many ∙ ap (λ (ls : List CallLine). slice_get (lines_of ls n) (length (lines_of before n))) (split_at s.calls i line is) ∙ comes_next before (drop (suc i) s.calls) line;
+        comes = ap (slice_get (script s n)) many ∙ next_in_script s i line is;
       });
     }
   where
@@ -201,8 +214,7 @@ line_along s lawful i line at sts new is place h runs carried more =
     let board = lawful_is_linked s lawful in
     let before = take i s.calls in
     let comes = line_comes s board i line at sts is place h in
-    let next : suc i ≡ i + 1 = omega arith in
-    let all : before ++ line ∷ [] ≡ take (i + 1) s.calls = sym (take_next s.calls i line is) ∙ ap (λ (k : ℕ). take k s.calls) next in
+    let all = one_taken s.calls i line is in
     let there : slice_get (board_numbers s) at ≡ Some line.domain = ap (slice_get (board_numbers s)) place ∙ place_is s board line.domain (all-at (λ c. IsTold s c.domain) s.calls i line board.lines_told is) in
     let go : Along s (before ++ line ∷ []) new = record {
       stands = subst (λ (z : Running). IsRun s z new) (sym (lines_run-append s (opened s) before (line ∷ []))) (runs s (lines_run s (opened s) before) lawful comes.next h.stands);

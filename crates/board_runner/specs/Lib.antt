@@ -9,7 +9,9 @@ pub mod StationsMet
 pub mod Wired
 pub mod Opened
 pub mod Lanes
+pub mod Looks
 pub mod Outcome
+pub mod OwnRun
 pub mod Stations
 pub mod Tallied
 pub mod Told

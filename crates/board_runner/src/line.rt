@@ -34,9 +34,9 @@ pub struct Made<'r> {
 
 /// How a call ended: whether it is to be made again, and whether it was quiet, so that nothing has to be carried after it.
 #[derive(Clone, Copy)]
-struct Ended {
-    is_again: bool,
-    is_quiet: bool,
+pub struct Ended {
+    pub is_again: bool,
+    pub is_quiet: bool,
 }
 
 /// Runs a line at the station of its domain. Between two of its calls every other domain makes a turn. What is received goes
@@ -72,7 +72,7 @@ pub fn run_line<'a>(
 }
 
 /// How many calls a line may make after its first.
-fn more_calls_of(tries: Option<u32>) -> u32
+pub fn more_calls_of(tries: Option<u32>) -> u32
     ensures { result ≡ more_calls tries }
 {
     match tries {
@@ -107,7 +107,7 @@ fn call_once<'a>(
 }
 
 /// Makes the call of a line and notes its answer.
-fn call_and_note<'a>(
+pub fn call_and_note<'a>(
     station: &mut Station<'a>,
     line: &'a CallLine,
     may_try: bool,

@@ -1,15 +1,9 @@
-use Rattle.std.proofs.Common.{◌≡◌, ℕ, ◌<◌, List, length, count_by, get_or, Some, refl, ap, ◌∙◌, sym, arith}
-use Rattle.std.specs.Prelude.{slice_get, nat_lt}
-use Rattle.std.proofs.lemmas.Option.{slice_get_read}
-use Rattle.board_model.specs.declared.scenario.CallLine.{CallLine}
+use Rattle.std.proofs.Common.{◌≡◌, ℕ, ◌<◌, List, length, count_by, get_or, ap, ◌∙◌, arith}
+use Rattle.std.specs.Prelude.{nat_lt}
 use Rattle.board_model.specs.declared.scenario.DomainLine.{DomainLine}
 use Rattle.board_model.proofs.LawfulBoards.{lawful_is_linked}
-use Rattle.board_runner.proofs.SerialLemmas.{none_along, number-fits, line_comes, line_along, some_next, all_along, line_asks}
+use Rattle.board_runner.proofs.SerialLemmas.{line_read, none_along, number-fits, line_comes, line_along, some_next, all_along, line_asks}
 use Rattle.board_runner.proofs.serial.run_lines.Goals as goal
-
--- the line at its place
-line_read : (lines calls : List CallLine) (i : ℕ) (line : CallLine) → i < length lines → line ≡ get_or lines i line → lines ≡ calls → slice_get calls i ≡ Some line
-line_read lines calls i line lt is same = ap (λ (xs : List CallLine). slice_get xs i) (sym same) ∙ slice_get_read lines (length lines) i line refl lt is
 
 -- the place by the table of the scenario's domains
 place_read : (places : List ℕ) (k n : ℕ) (domains told : List DomainLine) → ((m : ℕ) → m < 8 → get_or places m 0 ≡ count_by (λ d. nat_lt d.domain m) domains) → k ≡ n → n < 8 → domains ≡ told → get_or places k 0 ≡ count_by (λ d. nat_lt d.domain n) told

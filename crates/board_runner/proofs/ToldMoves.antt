@@ -1,0 +1,222 @@
+-- The moves that a turn and a call make at the ends towards each peer are those that their entries tell.
+use Rattle.std.proofs.Common.{◌≡◌, ℕ, Bool, true, false, cond, List, [], ◌∷◌, ◌++◌, length, map, flat_map, filter, refl, sym, ap, ap₂, ◌∙◌, subst, arith, append_assoc, append-nil, eq-eqb, ne_eqb}
+use Rattle.std.specs.Prelude.{◌==◌, Option, None, Some}
+use Rattle.std.specs.List.{AllByRecursion}
+use Rattle.std.proofs.lemmas.List.{map-append}
+use Rattle.mc_base.specs.declared.request.RequestId.{RequestId}
+use Rattle.mc_base.specs.declared.request.Slot.{Slot}
+use Rattle.buffer_book.specs.Book.{Book}
+use Rattle.lane_end.specs.AnySender.{AnySends, AnySends-none, AnySends-both}
+use Rattle.lane_end.specs.AnyReceiver.{AnyReceives, AnyReceives-none, AnyReceives-both}
+use Rattle.lane_end.specs.SendMoves.{Looked, Sent}
+use Rattle.lane_end.specs.ReceiveMoves as receiving
+use Rattle.lane_end.specs.ReceiveMoves.{Took, Gave}
+use Rattle.board_model.specs.declared.scenario.CallLine.{CallLine}
+use Rattle.board_model.specs.Answer.{puts}
+use Rattle.board_model.specs.CallChanges.{returned}
+use Rattle.board_model.specs.Dealing.{keeps_buffer}
+use Rattle.board_model.specs.DomainCall.{DomainCall}
+use Rattle.board_model.specs.Journal.{PlainEntry, turned, PlainAnswer, Visit, Taken}
+use Rattle.board_model.specs.LinkedBoard.{Differ}
+use Rattle.board_model.specs.Serial.{put_entry}
+use Rattle.board_model.specs.State.{Item, is_from}
+use Rattle.board_model.specs.Step.{RunState, next_line, after}
+use Rattle.board_model.specs.Run.{after_all}
+use Rattle.board_model.specs.Traffic.{visits_to, returned_by}
+use Rattle.board_model.proofs.WholeJournals.{call_entries}
+use Rattle.domain_core.specs.declared.ends.Ends.TheVariants.{Own, Linked}
+use Rattle.domain_core.specs.AllMoved.{AllMoved, turn_moves, giving, frames_to, buffers_of, moves_at}
+use Rattle.domain_core.specs.Calls.{Does}
+use Rattle.domain_core.specs.Ends.{EndsMoved-both}
+use Rattle.domain_core.specs.InBook.{item_at}
+use Rattle.domain_core.specs.LaneMoves.{LaneMove, sender, receiver}
+use Rattle.domain_core.specs.LinkMoved.{link-none}
+use Rattle.domain_core.specs.Turned.{HaveNumbers, Turns}
+use Rattle.domain_core.specs.VisitMoves.{putting, taking, visit_moves}
+use Rattle.board_runner.specs.Near.{RunEnds, RunDomain, peers_of, EndsMatch}
+use Rattle.board_runner.specs.OwnRun.{unnumbered, visit_told, entry_told, moves_told, MovedAsTold}
+use Rattle.board_runner.proofs.TurnEnds.{Moved}
+
+-- ---- without the numbers of buffers
+
+unnumbered_taking : (ns : List ℕ) (ts : List Taken) → length ns ≡ length ts → map unnumbered (taking ns ts) ≡ taking (map (λ t. 0) ts) ts
+unnumbered_taking [] [] e = refl
+unnumbered_taking [] (t ∷ ts) e = absurd cc
+unnumbered_taking (n ∷ ns) [] e = absurd cc
+unnumbered_taking (n ∷ ns) (t ∷ ts) e = go (keeps_buffer t.fate) (unnumbered_taking ns ts (omega (arith, e)))
+  where
+    go : (b : Bool) → map unnumbered (taking ns ts) ≡ taking (map (λ x. 0) ts) ts
+        → map unnumbered (receiver (Took n t.frame) ∷ (cond b [] (receiver (Gave n) ∷ []) ++ taking ns ts)) ≡ receiver (Took 0 t.frame) ∷ (cond b [] (receiver (Gave 0) ∷ []) ++ taking (map (λ x. 0) ts) ts)
+    go true rest = ap (λ (ms : List LaneMove). receiver (Took 0 t.frame) ∷ ms) rest
+    go false rest = ap (λ (ms : List LaneMove). receiver (Took 0 t.frame) ∷ (receiver (Gave 0) ∷ ms)) rest
+
+unnumbered_putting : (fs : List (List ℕ)) (ms : List LaneMove) → map unnumbered (putting fs ++ ms) ≡ putting fs ++ map unnumbered ms
+unnumbered_putting [] ms = refl
+unnumbered_putting (f ∷ fs) ms = ap (λ (xs : List LaneMove). sender (Sent f) ∷ xs) (unnumbered_putting fs ms)
+
+unnumbered_visit : (v : Visit) (ns : List ℕ) → length ns ≡ length v.takes → map unnumbered (visit_moves v ns) ≡ visit_told v
+unnumbered_visit v ns e =
+    ap (λ (xs : List LaneMove). sender (Looked v.back) ∷ xs)
+    (unnumbered_putting v.owed (receiver (receiving.Looked v.see) ∷ taking ns v.takes)
+    ∙ ap (λ (xs : List LaneMove). putting v.owed ++ receiver (receiving.Looked v.see) ∷ xs) (unnumbered_taking ns v.takes e))
+
+-- ---- a turn
+
+-- the moves of its visits to a peer
+abbrev turn_at : List Visit → List (List ℕ) → ℕ → List LaneMove
+turn_at [] nss p = []
+turn_at (v ∷ vs) [] p = []
+turn_at (v ∷ vs) (ns ∷ nss) p = cond (v.peer == p) (visit_moves v ns ++ turn_at vs nss p) (turn_at vs nss p)
+
+unnumbered_turn : (vs : List Visit) (nss : List (List ℕ)) → HaveNumbers vs nss → (p : ℕ) → map unnumbered (turn_at vs nss p) ≡ flat_map visit_told (visits_to p vs)
+unnumbered_turn [] [] have p = refl
+unnumbered_turn [] (ns ∷ nss) have p = absurd have
+unnumbered_turn (v ∷ vs) [] have p = absurd have
+unnumbered_turn (v ∷ vs) (ns ∷ nss) have p = go (v.peer == p) (unnumbered_turn vs nss have.1 p)
+  where
+    go : (b : Bool) → map unnumbered (turn_at vs nss p) ≡ flat_map visit_told (visits_to p vs)
+        → map unnumbered (cond b (visit_moves v ns ++ turn_at vs nss p) (turn_at vs nss p)) ≡ flat_map visit_told (cond b (v ∷ visits_to p vs) (visits_to p vs))
+    go true later = map-append unnumbered (visit_moves v ns) (turn_at vs nss p) ∙ ap₂ (λ (xs ys : List LaneMove). xs ++ ys) (unnumbered_visit v ns have.0) later
+    go false later = later
+
+abbrev Others : ℕ → List ℕ → Type 0
+Others p ps = AllByRecursion (λ m. m ≡ p → ⊥) ps
+
+none_at : (vs : List Visit) (nss : List (List ℕ)) (p : ℕ) → Others p (map (λ v. v.peer) vs) → turn_at vs nss p ≡ []
+none_at [] nss p others = refl
+none_at (v ∷ vs) [] p others = refl
+none_at (v ∷ vs) (ns ∷ nss) p others = ap (λ (b : Bool). cond b (visit_moves v ns ++ turn_at vs nss p) (turn_at vs nss p)) (ne_eqb v.peer p others.0) ∙ none_at vs nss p others.1
+
+past_one : (v : Visit) (ns : List ℕ) (vs : List Visit) (nss : List (List ℕ)) (ps : List ℕ) → Others v.peer ps → map (turn_at (v ∷ vs) (ns ∷ nss)) ps ≡ map (turn_at vs nss) ps
+past_one v ns vs nss [] others = refl
+past_one v ns vs nss (p ∷ ps) others =
+    ap₂ (λ (x : List LaneMove) (xs : List (List LaneMove)). x ∷ xs)
+    (ap (λ (b : Bool). cond b (visit_moves v ns ++ turn_at vs nss p) (turn_at vs nss p)) (ne_eqb v.peer p (λ e. others.0 (sym e)))) (past_one v ns vs nss ps others.1)
+
+-- each peer is visited once
+each_once : (vs : List Visit) (nss : List (List ℕ)) → HaveNumbers vs nss → Differ (map (λ v. v.peer) vs) → map (turn_at vs nss) (map (λ v. v.peer) vs) ≡ turn_moves vs nss
+each_once [] [] have differ = refl
+each_once [] (ns ∷ nss) have differ = absurd have
+each_once (v ∷ vs) [] have differ = absurd have
+each_once (v ∷ vs) (ns ∷ nss) have differ =
+    let here : turn_at (v ∷ vs) (ns ∷ nss) v.peer ≡ visit_moves v ns =
+    ap (λ (b : Bool). cond b (visit_moves v ns ++ turn_at vs nss v.peer) (turn_at vs nss v.peer)) (eq-eqb v.peer v.peer refl)
+    ∙ ap (λ (ms : List LaneMove). visit_moves v ns ++ ms) (none_at vs nss v.peer differ.0) ∙ append-nil (visit_moves v ns) in
+    ap₂ (λ (x : List LaneMove) (xs : List (List LaneMove)). x ∷ xs) here
+    (past_one v ns vs nss (map (λ (u : Visit). u.peer) vs) differ.0 ∙ each_once vs nss have.1 differ.1)
+
+pub turn_moved : (lines : List CallLine) (r : RunState) (d d' : RunDomain) (visits : List Visit) (numbers : List (List ℕ)) → Turns Moved visits numbers d d' → Differ (peers_of d) → MovedAsTold lines r (peers_of d) (turned visits ∷ []) d.ends d'.ends
+turn_moved lines r d d' visits numbers turns differ =
+    let peers = turns.allowed.each_peer in
+    record {
+      moves = turn_at visits numbers;
+      told = λ p. unnumbered_turn visits numbers turns.each p ∙ sym (append-nil (flat_map visit_told (visits_to p visits)));
+      moved =
+          subst (λ (ms : List (List LaneMove)). AllMoved Moved d.ends ms d'.ends)
+          (sym (each_once visits numbers turns.each (subst Differ (sym peers) differ)) ∙ ap (map (turn_at visits numbers)) peers) turns.moved;
+    }
+
+-- ---- a call
+
+given_once : (ns : List ℕ) → map unnumbered (giving ns) ≡ map (λ n. receiver (Gave 0)) ns
+given_once [] = refl
+given_once (n ∷ ns) = ap (λ (ms : List LaneMove). receiver (Gave 0) ∷ ms) (given_once ns)
+
+-- buffers that go back to a peer, by the items that they held
+abbrev going_back : ℕ → List Item → List LaneMove
+going_back p items = map (λ i. receiver (Gave 0)) (filter (is_from p) items)
+
+items_back : (book : Book) (p : ℕ) (slots : List Slot) → map (λ (n : ℕ). receiver (Gave 0)) (buffers_of p slots) ≡ going_back p (map (item_at book) slots)
+items_back book p [] = refl
+items_back book p (s ∷ ss) = go (s.peer == p) (items_back book p ss)
+  where
+    go : (b : Bool) → map (λ (n : ℕ). receiver (Gave 0)) (buffers_of p ss) ≡ going_back p (map (item_at book) ss)
+        → map (λ (n : ℕ). receiver (Gave 0)) (map (λ (y : Slot). y.buffer) (cond b (s ∷ filter (λ (y : Slot). y.peer == p) ss) (filter (λ (y : Slot). y.peer == p) ss)))
+        ≡ map (λ (i : Item). receiver (Gave 0)) (cond b (item_at book s ∷ filter (is_from p) (map (item_at book) ss)) (filter (is_from p) (map (item_at book) ss)))
+    go true rest = ap (λ (ms : List LaneMove). receiver (Gave 0) ∷ ms) rest
+    go false rest = rest
+
+unnumbered_call : (book : Book) (ps : List (ℕ × List ℕ)) (slots : List Slot) (p : ℕ) → map unnumbered (moves_at ps slots p) ≡ putting (frames_to p ps) ++ going_back p (map (item_at book) slots)
+unnumbered_call book ps slots p =
+    unnumbered_putting (frames_to p ps) (giving (buffers_of p slots))
+    ∙ ap (λ (ms : List LaneMove). putting (frames_to p ps) ++ ms) (given_once (buffers_of p slots) ∙ items_back book p slots)
+
+-- a frame that is put does not change what the next line gives back
+back_stays : (lines : List CallLine) (r : RunState) (q : ℕ × List ℕ) (o : Option CallLine) → returned_by o (after lines r (put_entry q)) ≡ returned_by o r
+back_stays lines r q None = refl
+back_stays lines r q (Some line) = refl
+
+-- the entries of its puts and of its answer
+call_told : (lines : List CallLine) (r : RunState) (p : ℕ) (ps : List (ℕ × List ℕ)) (k : ℕ) (a : PlainAnswer) → moves_told lines r p (call_entries ps k a) ≡ putting (frames_to p ps) ++ going_back p (returned_by (next_line lines r) r)
+call_told lines r p [] k a = append-nil (going_back p (returned_by (next_line lines r) r))
+call_told lines r p (q ∷ ps) k a = go (q.0 == p) (call_told lines (after lines r (put_entry q)) p ps k a ∙ ap (λ (items : List Item). putting (frames_to p ps) ++ going_back p items) (back_stays lines r q (next_line lines r)))
+  where
+    more : List LaneMove
+    more = moves_told lines (after lines r (put_entry q)) p (call_entries ps k a)
+
+    back : List LaneMove
+    back = going_back p (returned_by (next_line lines r) r)
+
+    go : (b : Bool) → more ≡ putting (frames_to p ps) ++ back
+        → putting (cond b (q.1 ∷ []) []) ++ more ≡ putting (map (λ (x : ℕ × List ℕ). x.1) (cond b (q ∷ filter (λ (x : ℕ × List ℕ). x.0 == p) ps) (filter (λ (x : ℕ × List ℕ). x.0 == p) ps))) ++ back
+    go true later = ap (λ (ms : List LaneMove). sender (Sent q.1) ∷ ms) later
+    go false later = later
+
+module _ (lines : List CallLine) (r : RunState) (node : ℕ) (call : DomainCall) (old new : RunDomain) (answered : PlainAnswer) (given : Option RequestId) (does : Does Moved node call old new answered given) where
+  abbrev frames : List (ℕ × List ℕ)
+  frames = puts old.state node call
+
+  pub call_moved : (k : ℕ) (a : PlainAnswer) → returned old.state node call ≡ returned_by (next_line lines r) r → MovedAsTold lines r (peers_of old) (call_entries frames k a) old.ends new.ends
+  call_moved k a back = record {
+    moves = moves_at frames does.slots;
+    told = λ p. unnumbered_call old.book frames does.slots p ∙ ap (λ (items : List Item). putting (frames_to p frames) ++ going_back p items) (does.returned ∙ back) ∙ sym (call_told lines r p frames k a);
+    moved = does.moved;
+  }
+
+  -- one that is made again does nothing
+  pub again_moved : (e : PlainEntry) → ((p : ℕ) → entry_told lines r p e ≡ []) → frames ≡ [] → returned old.state node call ≡ [] → MovedAsTold lines r (peers_of old) (e ∷ []) old.ends new.ends
+  again_moved e tells_none no_puts none_back = record {
+    moves = moves_at frames does.slots;
+    told = λ p.
+        unnumbered_call old.book frames does.slots p
+        ∙ ap₂ (λ (fs : List (ℕ × List ℕ)) (items : List Item). putting (frames_to p fs) ++ going_back p items) no_puts (does.returned ∙ none_back)
+        ∙ sym (append-nil (entry_told lines r p e) ∙ tells_none p);
+    moved = does.moved;
+  }
+
+-- ---- one after the other
+
+told_append : (lines : List CallLine) (r : RunState) (p : ℕ) (es fs : List PlainEntry) → moves_told lines r p (es ++ fs) ≡ moves_told lines r p es ++ moves_told lines (after_all lines r es) p fs
+told_append lines r p [] fs = refl
+told_append lines r p (e ∷ es) fs =
+    ap (λ (ms : List LaneMove). entry_told lines r p e ++ ms) (told_append lines (after lines r e) p es fs)
+    ∙ sym (append_assoc (entry_told lines r p e) (moves_told lines (after lines r e) p es) (moves_told lines (after_all lines (after lines r e) es) p fs))
+
+moved_both : (f g : ℕ → List LaneMove) (ps : List ℕ) (olds bs cs : List RunEnds) → AllMoved Moved olds (map f ps) bs → AllMoved Moved bs (map g ps) cs → AllMoved Moved olds (map (λ p. f p ++ g p) ps) cs
+moved_both f g [] [] [] [] first then = tt
+moved_both f g [] [] [] (c ∷ cs) first then = absurd then
+moved_both f g [] [] (b ∷ bs) cs first then = absurd first
+moved_both f g [] (a ∷ olds) bs cs first then = absurd first
+moved_both f g (p ∷ ps) [] bs cs first then = absurd first
+moved_both f g (p ∷ ps) (a ∷ olds) [] cs first then = absurd first
+moved_both f g (p ∷ ps) (a ∷ olds) (b ∷ bs) [] first then = absurd then
+moved_both f g (p ∷ ps) (a ∷ olds) (b ∷ bs) (c ∷ cs) first then =
+    (EndsMoved-both AnySends AnyReceives AnySends-both AnyReceives-both a b c (f p) (g p) first.0 then.0, moved_both f g ps olds bs cs first.1 then.1)
+
+pub moved_then : (lines : List CallLine) (r : RunState) (ps : List ℕ) (es fs : List PlainEntry) (olds bs cs : List RunEnds) → MovedAsTold lines r ps es olds bs → MovedAsTold lines (after_all lines r es) ps fs bs cs → MovedAsTold lines r ps (es ++ fs) olds cs
+moved_then lines r ps es fs olds bs cs first then = record {
+  moves = λ p. first.moves p ++ then.moves p;
+  told = λ p. map-append unnumbered (first.moves p) (then.moves p) ∙ ap₂ (λ (xs ys : List LaneMove). xs ++ ys) (first.told p) (then.told p) ∙ sym (told_append lines r p es fs);
+  moved = moved_both first.moves then.moves ps olds bs cs first.moved then.moved;
+}
+
+all_rest : (n : ℕ) (ps : List ℕ) (es : List RunEnds) → EndsMatch n ps es → AllMoved Moved es (map (λ p. []) ps) es
+all_rest n [] [] matched = tt
+all_rest n [] (e ∷ es) matched = absurd matched
+all_rest n (p ∷ ps) [] matched = absurd matched
+all_rest n (p ∷ ps) (Own l ∷ es) matched = (refl, all_rest n ps es matched.1)
+all_rest n (p ∷ ps) (Linked l ∷ es) matched = (link-none AnySends AnyReceives AnySends-none AnyReceives-none l, all_rest n ps es matched.2)
+
+-- before the first entry
+pub none_moved : (lines : List CallLine) (r : RunState) (n : ℕ) (ps : List ℕ) (es : List RunEnds) → EndsMatch n ps es → MovedAsTold lines r ps [] es es
+none_moved lines r n ps es matched = record { moves = λ p. []; told = λ p. refl; moved = all_rest n ps es matched }
