@@ -1,14 +1,16 @@
--- The serial run at its end: its stations are found by their numbers, and are in the states that their journals leave.
-use Rattle.std.proofs.Common.{◌≡◌, ℕ, [], map, length, Some, find, refl, sym, ap, ◌∙◌, subst}
+-- A board at its end: its stations are found by their numbers, and are in the states that their journals leave.
+use Rattle.std.proofs.Common.{◌≡◌, ℕ, List, [], ◌∷◌, map, length, Some, find, refl, sym, ap, ◌∙◌, subst}
 use Rattle.std.specs.List.{AllByRecursion}
 use Rattle.std.proofs.lemmas.Simd.{map-map}
 use Rattle.board_model.specs.declared.scenario.DomainLine.{DomainLine}
 use Rattle.board_model.specs.declared.scenario.Scenario.{Scenario}
-use Rattle.board_model.specs.Scenario.{script, rising}
+use Rattle.board_model.specs.Scenario.{script, rising, neighbours}
 use Rattle.board_model.specs.LinkedBoard.{Differ, IsLinkedBoard}
 use Rattle.board_model.specs.Run.{start, left_by}
-use Rattle.board_model.specs.SerialRun.{Station, is_station, opened, finished}
-use Rattle.board_model.proofs.MessageAlls.{all-weaken}
+use Rattle.board_model.specs.Board.{DomainJournal}
+use Rattle.board_model.specs.State.{DomainState}
+use Rattle.board_model.specs.SerialRun.{Station, is_station, opened, finished, journal_left}
+use Rattle.board_model.proofs.MessageAlls.{all-found, all-weaken}
 use Rattle.board_model.proofs.ListsApart.{differ-found}
 use Rattle.board_model.proofs.PlaceBoards.{rising_differ}
 use Rattle.board_model.proofs.WholeJournals.{leads_to}
@@ -16,21 +18,45 @@ use Rattle.board_model.proofs.WholeGoing.{Going}
 use Rattle.board_model.proofs.WholeJoined.{Joined}
 use Rattle.board_model.proofs.WholeOpening.{opened_going}
 use Rattle.board_model.proofs.WholeLines.{lines_go}
+use Rattle.board_model.proofs.WholeBoard.{serial_run_is_whole}
+use Rattle.board_runner.specs.declared.station.Station as code
+use Rattle.board_runner.specs.Stations.{AreStations}
+use Rattle.board_runner.specs.Tallied.{RanBoard}
 
 pub finish_going : (s : Scenario) → IsLinkedBoard s → Going s (Joined s) (λ n. length (script s n)) (λ n. 0) (finished s)
 finish_going s board = lines_go s board [] s.calls refl board.lines_told (opened s) (opened_going s board)
 
--- the numbers of the stations are those of the domains
-pub stations_numbers : (s : Scenario) → IsLinkedBoard s → map (λ d. d.domain) (rising s) ≡ map (λ (t : Station). t.line.domain) (finished s).stations
-stations_numbers s board = ap (map (λ d. d.domain)) (sym (finish_going s board).domains) ∙ map-map (λ (d : DomainLine). d.domain) (λ (t : Station). t.line) (finished s).stations
+-- ---- a board that ran
 
-pub stations_found : (s : Scenario) → IsLinkedBoard s → AllByRecursion (λ t. find (is_station t.line.domain) (finished s).stations ≡ Some t) (finished s).stations
-stations_found s board = differ-found (λ (t : Station). t.line.domain) (finished s).stations (subst Differ (stations_numbers s board) (rising_differ s board))
+-- the numbers of the stations are those of the domains
+pub stations_numbers : (s : Scenario) (ts : List Station) → RanBoard s ts → map (λ d. d.domain) (rising s) ≡ map (λ (t : Station). t.line.domain) ts
+stations_numbers s ts ran = ap (map (λ (d : DomainLine). d.domain)) (sym ran.run.each_domain ∙ map-map (λ (j : DomainJournal). j.line) journal_left ts) ∙ map-map (λ (d : DomainLine). d.domain) (λ (t : Station). t.line) ts
+
+pub stations_found : (s : Scenario) → IsLinkedBoard s → (ts : List Station) → RanBoard s ts → AllByRecursion (λ t. find (is_station t.line.domain) ts ≡ Some t) ts
+stations_found s board ts ran = differ-found (λ (t : Station). t.line.domain) ts (subst Differ (stations_numbers s ts ran) (rising_differ s board))
 
 -- a station is where its entries lead
-pub station_left : (s : Scenario) → IsLinkedBoard s → (n : ℕ) (t : Station) → find (is_station n) (finished s).stations ≡ Some t → t.run ≡ left_by s t.line t.entries
-station_left s board n t found = leads_to (script s t.line.domain) (start s t.line) t.run t.entries ((finish_going s board).each n t found).leads
+pub station_left : (s : Scenario) (ts : List Station) → RanBoard s ts → (n : ℕ) (t : Station) → find (is_station n) ts ≡ Some t → t.run ≡ left_by s t.line t.entries
+station_left s ts ran n t found = all-found (λ (x : Station). x.run ≡ left_by s x.line x.entries) (is_station n) ts t ran.led found
 
-pub stations_left : (s : Scenario) → IsLinkedBoard s → AllByRecursion (λ t. t.run ≡ left_by s t.line t.entries) (finished s).stations
-stations_left s board =
-    all-weaken (λ t. find (is_station t.line.domain) (finished s).stations ≡ Some t) (λ t. t.run ≡ left_by s t.line t.entries) (λ t found. station_left s board t.line.domain t found) (finished s).stations (stations_found s board)
+-- ---- the serial run is one
+
+known_peers : (s : Scenario) (ts : List Station) (sts : List code.Station) → AreStations s ts sts → AllByRecursion (λ t. map (λ p. p.number) t.run.state.peers ≡ map (λ n. n.number) (neighbours s t.line)) ts
+known_peers s [] [] are = tt
+known_peers s [] (st ∷ sts) are = absurd are
+known_peers s (t ∷ ts) [] are = absurd are
+known_peers s (t ∷ ts) (st ∷ sts) are = (ap (λ (x : DomainState). map (λ p. p.number) x.peers) (sym are.0.state) ∙ are.0.peers, known_peers s ts sts are.1)
+
+pub finished_ran : (s : Scenario) → IsLinkedBoard s → (sts : List code.Station) → AreStations s (finished s).stations sts → RanBoard s (finished s).stations
+finished_ran s board sts are =
+    let ts = (finished s).stations in
+    let going = finish_going s board in
+    let numbers : map (λ (d : DomainLine). d.domain) (rising s) ≡ map (λ (t : Station). t.line.domain) ts = ap (map (λ (d : DomainLine). d.domain)) (sym going.domains) ∙ map-map (λ (d : DomainLine). d.domain) (λ (t : Station). t.line) ts in
+    record {
+      run = (serial_run_is_whole s board).0;
+      led =
+          all-weaken (λ t. find (is_station t.line.domain) ts ≡ Some t) (λ t. t.run ≡ left_by s t.line t.entries)
+          (λ t found. leads_to (script s t.line.domain) (start s t.line) t.run t.entries (going.each t.line.domain t found).leads) ts
+          (differ-found (λ (t : Station). t.line.domain) ts (subst Differ numbers (rising_differ s board)));
+      peers = known_peers s ts sts are;
+    }

@@ -1,14 +1,15 @@
 -- The numbers of a lane, by the tallies of its two ends.
-use Rattle.std.proofs.Common.{◌≡◌, ℕ, ◌+◌, ◌-◌, ◌<◌, ◌≤◌, Bool, true, false, ◌&&◌, ◌||◌, cond, List, length, find, Option, Some, option_map, get_or, slice_get, slice_index, refl, sym, ap, ◌∙◌, subst, inl, inr, arith, eqb-true, length-append}
+use Rattle.std.proofs.Common.{◌≡◌, ℕ, ◌+◌, ◌-◌, ◌<◌, ◌≤◌, Bool, true, false, ◌&&◌, ◌||◌, cond, List, length, map, find, Option, Some, option_map, get_or, slice_get, slice_index, refl, sym, ap, ◌∙◌, subst, inl, inr, arith, eqb-true, length-append}
 use Rattle.std.specs.Prelude.{◌==◌, IsSome}
 use Rattle.std.proofs.lemmas.Bool.{and_parts}
 use Rattle.std.proofs.lemmas.Option.{get_or_from_slice_get}
+use Rattle.std.proofs.lemmas.Simd.{map-map}
 use Rattle.std.proofs.lemmas.Bool.Decides.{eqb_tells}
 use Rattle.board_model.specs.declared.totals.LanePlaces.{LanePlaces}
 use Rattle.board_model.specs.declared.scenario.DomainLine.{DomainLine}
 use Rattle.board_model.specs.declared.scenario.LinkLine.{LinkLine}
 use Rattle.board_model.specs.declared.scenario.Scenario.{Scenario}
-use Rattle.board_model.specs.Scenario.{Lane, lanes}
+use Rattle.board_model.specs.Scenario.{Neighbour, neighbours, rising, Lane, lanes}
 use Rattle.board_model.specs.Language.{IsLawfulBoard}
 use Rattle.board_model.specs.LinkedBoard.{IsLinkedBoard}
 use Rattle.board_model.specs.State.{DomainState, peer_of, queued_from, lent_from}
@@ -16,7 +17,7 @@ use Rattle.board_model.specs.Traffic.{put_to, taken_from}
 use Rattle.board_model.specs.Step.{RunState}
 use Rattle.board_model.specs.Board.{DomainJournal, journal_in, journal_of, LaneFits}
 use Rattle.board_model.specs.Places.{in_last_state, at_end, places_of, EveryBuffer}
-use Rattle.board_model.specs.SerialRun.{Station, is_station, journal_left, finished, serial_run}
+use Rattle.board_model.specs.SerialRun.{Station, is_station, journal_left}
 use Rattle.board_model.proofs.MessageAlls.{all-found, found-passes}
 use Rattle.board_model.proofs.LawfulBoards.{lawful_is_linked}
 use Rattle.board_model.proofs.PlaceCounts.{every_lane}
@@ -24,14 +25,13 @@ use Rattle.board_model.proofs.BoardsLanes.{lane-found}
 use Rattle.board_model.proofs.BoardsNeighbours.{told-fits, joined-leads}
 use Rattle.board_model.proofs.WholeHas.{Has, has-weaken, has-each}
 use Rattle.board_model.proofs.WholeFinds.{find-mapped, some_tells}
-use Rattle.board_model.proofs.WholeJoined.{IsOwn, IsLink, Joined, joined_back}
-use Rattle.board_model.proofs.WholeStations.{state_in}
-use Rattle.board_model.proofs.WholeBoard.{serial_run_is_whole}
+use Rattle.board_model.proofs.WholeJoined.{IsOwn, IsLink, Joined, joined_back, found_neighbour}
 use Rattle.buffer_book.specs.declared.places.Places.{Places}
 use Rattle.board_runner.specs.declared.tally.Tally.{Tally}
 use Rattle.board_runner.specs.Lanes.{line_of_domain, joins, buffers_between}
-use Rattle.board_runner.specs.Tallied.{places_held, IsTallyOf}
-use Rattle.board_runner.proofs.FinishLemmas.{finish_going, station_left}
+use Rattle.board_runner.specs.Tallied.{places_held, RanBoard, IsTallyOf, AreTalliesOf}
+use Rattle.board_runner.proofs.FinishLemmas.{station_left}
+use Rattle.board_runner.proofs.PeersFound.{number_known}
 use Rattle.board_runner.proofs.TrafficLemmas.{put-lines, take-lines}
 
 -- ---- the lanes that there are
@@ -60,12 +60,12 @@ between-joined s a b size at = elim (eqb_tells a b) [
 
 -- ---- the ends of a lane
 
-journal_found : (s : Scenario) (n : ℕ) (t : Station) → find (is_station n) (finished s).stations ≡ Some t → find (λ j. j.line.domain == n) (serial_run s) ≡ Some (journal_left t)
-journal_found s n t found = find-mapped (λ (j : DomainJournal). j.line.domain == n) journal_left (finished s).stations ∙ ap (option_map journal_left) found
+journal_found : (ts : List Station) (n : ℕ) (t : Station) → find (is_station n) ts ≡ Some t → find (λ j. j.line.domain == n) (map journal_left ts) ≡ Some (journal_left t)
+journal_found ts n t found = find-mapped (λ (j : DomainJournal). j.line.domain == n) journal_left ts ∙ ap (option_map journal_left) found
 
 -- what holds of a domain at the end
-end_state : (s : Scenario) → IsLinkedBoard s → (n : ℕ) (t : Station) → find (is_station n) (finished s).stations ≡ Some t → (f : DomainState → ℕ) → at_end s (serial_run s) n f ≡ f t.run.state
-end_state s board n t found f = ap (in_last_state s f) (journal_found s n t found) ∙ ap (λ (r : RunState). f r.state) (sym (station_left s board n t found))
+end_state : (s : Scenario) (ts : List Station) → RanBoard s ts → (n : ℕ) (t : Station) → find (is_station n) ts ≡ Some t → (f : DomainState → ℕ) → at_end s (map journal_left ts) n f ≡ f t.run.state
+end_state s ts ran n t found f = ap (in_last_state s f) (journal_found ts n t found) ∙ ap (λ (r : RunState). f r.state) (sym (station_left s ts ran n t found))
 
 some_is : {A : Type 0} (o : Option A) (x : A) → o ≡ Some x → IsSome o
 some_is o x e = rw e refl
@@ -75,29 +75,31 @@ ends_fit s board a b size joined =
     (omega (arith, told-fits s board a (joined-leads s board b a size (joined_back s a b size joined)).told), omega (arith, told-fits s board b (joined-leads s board a b size joined).told))
 
 -- the receiver knows the sender
-peer_there : (s : Scenario) → IsLinkedBoard s → (a b size : ℕ) → Joined s a b size → (u : Station) → find (is_station b) (finished s).stations ≡ Some u → IsSome (peer_of u.run.state a)
-peer_there s board a b size joined u found =
-    let lane = (finish_going s board).lanes a b size joined in
-    let sized : option_map (λ p. p.size) (peer_of u.run.state a) ≡ Some size = ap (λ o. option_map (λ p. p.size) (peer_of (state_in o) a)) (sym found) ∙ lane.sized_in in
-    let p = some_tells (λ p. p.size) (peer_of u.run.state a) size sized in
-    some_is (peer_of u.run.state a) p.0 p.1
+peer_there : (s : Scenario) → IsLinkedBoard s → (a b size : ℕ) → Joined s a b size → (ts : List Station) → RanBoard s ts → (u : Station) → find (is_station b) ts ≡ Some u → IsSome (peer_of u.run.state a)
+peer_there s board a b size joined ts ran u found =
+    let is_b : u.line.domain ≡ b = eqb-true u.line.domain b (found-passes (is_station b) ts u found) in
+    let line : find (λ d. d.domain == b) (rising s) ≡ Some u.line =
+    ap (find (λ (d : DomainLine). d.domain == b)) (sym ran.run.each_domain ∙ map-map (λ (j : DomainJournal). j.line) journal_left ts) ∙ find-mapped (λ (d : DomainLine). d.domain == b) (λ (t : Station). t.line) ts ∙ ap (option_map (λ (t : Station). t.line)) found in
+    let n = found_neighbour s board b a size u.line line is_b (joined_back s a b size joined) in
+    let peers = all-found (λ (t : Station). map (λ p. p.number) t.run.state.peers ≡ map (λ (n : Neighbour). n.number) (neighbours s t.line)) (is_station b) ts u ran.peers found in
+    number_known u.run.state a (neighbours s u.line) n.0 peers n.1
 
 places_same : (from to free ring queue lent free' ring' queue' lent' : ℕ) → free ≡ free' → ring ≡ ring' → queue ≡ queue' → lent ≡ lent' →
     ◌≡◌ {A = LanePlaces} (record { from = from; to = to; free = free; ring = ring; queue = queue; lent = lent }) (record { from = from; to = to; free = free'; ring = ring'; queue = queue'; lent = lent' })
 places_same from to free ring queue lent free' ring' queue' lent' e1 e2 e3 e4 = cc
 
-record LaneTold (s : Scenario) (a b size : ℕ) (y z : Tally) : Type 0 where
+record LaneTold (s : Scenario) (js : List DomainJournal) (a b size : ℕ) (y z : Tally) : Type 0 where
   small : size ≤ 256
   takes_fit : slice_index z.counts.takes a ≤ slice_index y.counts.puts b
   held : Places
   found : slice_get z.held.places a ≡ Some held
   fits : slice_index y.counts.puts b - slice_index z.counts.takes a + held.queue + held.lent ≤ size
-  places : ◌≡◌ {A = LanePlaces} (record { from = a; to = b; free = size - (slice_index y.counts.puts b - slice_index z.counts.takes a) - held.queue - held.lent; ring = slice_index y.counts.puts b - slice_index z.counts.takes a; queue = held.queue; lent = held.lent }) (places_of s (serial_run s) (record { sender = a; receiver = b; size = size }))
+  places : ◌≡◌ {A = LanePlaces} (record { from = a; to = b; free = size - (slice_index y.counts.puts b - slice_index z.counts.takes a) - held.queue - held.lent; ring = slice_index y.counts.puts b - slice_index z.counts.takes a; queue = held.queue; lent = held.lent }) (places_of s js (record { sender = a; receiver = b; size = size }))
 
-lane-told : (s : Scenario) → IsLinkedBoard s → (a b size : ℕ) (y z : Tally) → IsTallyOf s a y → IsTallyOf s b z → buffers_between s a b ≡ Some size → LaneTold s a b size y z
-lane-told s board a b size y z (t, t_found, t_is) (u, u_found, u_is) between =
-    let js = serial_run s in
-    let run = (serial_run_is_whole s board).0 in
+lane-told : (s : Scenario) → IsLinkedBoard s → (ts : List Station) → RanBoard s ts → (a b size : ℕ) (y z : Tally) → IsTallyOf s ts a y → IsTallyOf s ts b z → buffers_between s a b ≡ Some size → LaneTold s (map journal_left ts) a b size y z
+lane-told s board ts ran a b size y z (t, t_found, t_is) (u, u_found, u_is) between =
+    let js = map journal_left ts in
+    let run = ran.run in
     let l : Lane = record { sender = a; receiver = b; size = size } in
     let joined = between-joined s a b size between in
     let to = joined-leads s board a b size joined in
@@ -108,11 +110,11 @@ lane-told s board a b size y z (t, t_found, t_is) (u, u_found, u_is) between =
     let fits = all-found (LaneFits s js) (λ k. (k.sender == a) && (k.receiver == b)) (lanes s) l run.lanes_fit listed in
     let adds : EveryBuffer s js l = all-found (EveryBuffer s js) (λ k. (k.sender == a) && (k.receiver == b)) (lanes s) l (every_lane s js board run) listed in
     let puts : slice_index y.counts.puts b ≡ length (put_to b (journal_of a js)) =
-    t_is.counts.puts b b_fits ∙ put-lines b t.entries ∙ ap (λ (o : Option DomainJournal). length (put_to b (journal_in o))) (sym (journal_found s a t t_found)) in
+    t_is.counts.puts b b_fits ∙ put-lines b t.entries ∙ ap (λ (o : Option DomainJournal). length (put_to b (journal_in o))) (sym (journal_found ts a t t_found)) in
     let takes : slice_index z.counts.takes a ≡ length (taken_from a (journal_of b js)) =
-    u_is.counts.takes a a_fits ∙ take-lines a u.entries ∙ ap (λ (o : Option DomainJournal). length (taken_from a (journal_in o))) (sym (journal_found s b u u_found)) in
-    let queue : at_end s js b (queued_from a) ≡ queued_from a u.run.state = end_state s board b u u_found (queued_from a) in
-    let lent : at_end s js b (lent_from a) ≡ lent_from a u.run.state = end_state s board b u u_found (lent_from a) in
+    u_is.counts.takes a a_fits ∙ take-lines a u.entries ∙ ap (λ (o : Option DomainJournal). length (taken_from a (journal_in o))) (sym (journal_found ts b u u_found)) in
+    let queue : at_end s js b (queued_from a) ≡ queued_from a u.run.state = end_state s ts ran b u u_found (queued_from a) in
+    let lent : at_end s js b (lent_from a) ≡ lent_from a u.run.state = end_state s ts ran b u u_found (lent_from a) in
     let front : length (taken_from a (journal_of b js)) ≤ length (put_to b (journal_of a js)) =
     omega (arith, ap length fits.taken_first.1, length-append (taken_from a (journal_of b js)) fits.taken_first.0) in
     let ring : slice_index y.counts.puts b - slice_index z.counts.takes a ≡ (places_of s js l).ring = omega (arith, puts, takes) in
@@ -121,7 +123,7 @@ lane-told s board a b size y z (t, t_found, t_is) (u, u_found, u_is) between =
       small = to.buffers_fit;
       takes_fit = omega (arith, puts, takes, front);
       held = places_held a u.run.state;
-      found = u_is.held.places a a_fits (peer_there s board a b size joined u u_found);
+      found = u_is.held.places a a_fits (peer_there s board a b size joined ts ran u u_found);
       fits = omega (arith, ring, queue, lent, adds);
       places =
           places_same a b (size - (slice_index y.counts.puts b - slice_index z.counts.takes a) - queued_from a u.run.state - lent_from a u.run.state) (slice_index y.counts.puts b - slice_index z.counts.takes a) (queued_from a u.run.state) (lent_from a u.run.state)
@@ -129,14 +131,14 @@ lane-told s board a b size y z (t, t_found, t_is) (u, u_found, u_is) between =
     }
 
 -- the same as it is read: `i` and `k` are the sender's number, and `j` is the receiver's
-pub record LaneNumbers (s : Scenario) (a b size : ℕ) (y z : Tally) (j i k : ℕ) (d : Places) : Type 0 where
+pub record LaneNumbers (s : Scenario) (js : List DomainJournal) (a b size : ℕ) (y z : Tally) (j i k : ℕ) (d : Places) : Type 0 where
   pub takes_fit : get_or z.counts.takes i 0 ≤ get_or y.counts.puts j 0
   pub small : get_or y.counts.puts j 0 - get_or z.counts.takes i 0 ≤ 256
   pub fits : get_or y.counts.puts j 0 - get_or z.counts.takes i 0 + (get_or z.held.places k d).queue + (get_or z.held.places k d).lent ≤ size
-  pub places : ◌≡◌ {A = LanePlaces} (record { from = a; to = b; free = size - (get_or y.counts.puts j 0 - get_or z.counts.takes i 0) - (get_or z.held.places k d).queue - (get_or z.held.places k d).lent; ring = get_or y.counts.puts j 0 - get_or z.counts.takes i 0; queue = (get_or z.held.places k d).queue; lent = (get_or z.held.places k d).lent }) (places_of s (serial_run s) (record { sender = a; receiver = b; size = size }))
+  pub places : ◌≡◌ {A = LanePlaces} (record { from = a; to = b; free = size - (get_or y.counts.puts j 0 - get_or z.counts.takes i 0) - (get_or z.held.places k d).queue - (get_or z.held.places k d).lent; ring = get_or y.counts.puts j 0 - get_or z.counts.takes i 0; queue = (get_or z.held.places k d).queue; lent = (get_or z.held.places k d).lent }) (places_of s js (record { sender = a; receiver = b; size = size }))
 
-lane-numbers : (s : Scenario) (a b size : ℕ) (y z : Tally) → LaneTold s a b size y z → (j i k : ℕ) (d : Places) → j ≡ b → i ≡ a → k ≡ a → LaneNumbers s a b size y z j i k d
-lane-numbers s a b size y z told j i k d is_b is_a also_a =
+lane-numbers : (s : Scenario) (js : List DomainJournal) (a b size : ℕ) (y z : Tally) → LaneTold s js a b size y z → (j i k : ℕ) (d : Places) → j ≡ b → i ≡ a → k ≡ a → LaneNumbers s js a b size y z j i k d
+lane-numbers s js a b size y z told j i k d is_b is_a also_a =
     let puts : get_or y.counts.puts j 0 ≡ slice_index y.counts.puts b = ap (λ m. get_or y.counts.puts m 0) is_b in
     let takes : get_or z.counts.takes i 0 ≡ slice_index z.counts.takes a = ap (λ m. get_or z.counts.takes m 0) is_a in
     let held : get_or z.held.places k d ≡ told.held = ap (λ m. get_or z.held.places m d) also_a ∙ get_or_from_slice_get z.held.places a told.held d told.found in
@@ -161,5 +163,5 @@ lane-numbers s a b size y z told j i k d is_b is_a also_a =
 pub lane-ends : (s : Scenario) → IsLawfulBoard s → (a b size : ℕ) → buffers_between s a b ≡ Some size → (a < 8) × (b < 8)
 lane-ends s lawful a b size between = ends_fit s (lawful_is_linked s lawful) a b size (between-joined s a b size between)
 
-pub lane-read : (s : Scenario) → IsLawfulBoard s → (a b size : ℕ) (y z : Tally) → IsTallyOf s a y → IsTallyOf s b z → buffers_between s a b ≡ Some size → (j i k : ℕ) (d : Places) → j ≡ b → i ≡ a → k ≡ a → LaneNumbers s a b size y z j i k d
-lane-read s lawful a b size y z from to between j i k d is_b is_a also_a = lane-numbers s a b size y z (lane-told s (lawful_is_linked s lawful) a b size y z from to between) j i k d is_b is_a also_a
+pub lane-read : (s : Scenario) → IsLawfulBoard s → (ts : List Station) (a b size : ℕ) (y z : Tally) → AreTalliesOf s ts a b y z → buffers_between s a b ≡ Some size → (j i k : ℕ) (d : Places) → j ≡ b → i ≡ a → k ≡ a → LaneNumbers s (map journal_left ts) a b size y z j i k d
+lane-read s lawful ts a b size y z h between j i k d is_b is_a also_a = lane-numbers s (map journal_left ts) a b size y z (lane-told s (lawful_is_linked s lawful) ts h.ran a b size y z h.at_sender h.at_receiver between) j i k d is_b is_a also_a

@@ -1,5 +1,5 @@
--- The numbers of all tallies are those of the messages of the serial run.
-use Rattle.std.proofs.Common.{◌≡◌, ℕ, ◌+◌, ◌-◌, ◌<◌, ◌≤◌, ◌^◌, true, List, [], ◌∷◌, length, map, sum_by, refl, sym, ap, ap₂, ◌∙◌, arith, length-append}
+-- The numbers of all tallies are those of the messages of the run.
+use Rattle.std.proofs.Common.{◌≡◌, ℕ, ◌+◌, ◌-◌, ◌<◌, ◌≤◌, ◌^◌, true, List, [], ◌∷◌, length, map, sum_by, refl, sym, ap, ap₂, ◌∙◌, arith}
 use Rattle.std.specs.List.{AllByRecursion}
 use Rattle.std.proofs.lemmas.List.Sums.{sum_by-cons}
 use Rattle.board_model.specs.declared.totals.Totals.{Totals}
@@ -13,16 +13,14 @@ use Rattle.board_model.specs.Totals.{totals}
 use Rattle.board_model.specs.Messages.{accepted, messages_queued, messages_in_ring}
 use Rattle.board_model.specs.Drops.{dropped}
 use Rattle.board_model.specs.Takings.{messages_taken}
-use Rattle.board_model.specs.SerialRun.{Station, journal_left, finished, serial_run}
-use Rattle.board_model.proofs.WholeBoard.{serial_run_is_whole}
+use Rattle.board_model.specs.SerialRun.{Station, journal_left}
 use Rattle.board_model.proofs.ListsCounts.{count-every}
 use Rattle.board_model.proofs.MessageOnce.{total}
 use Rattle.board_model.proofs.KeptBoard.{no-message-lost}
 use Rattle.board_model.proofs.KeptFew.{accepted-few}
 use Rattle.board_model.proofs.KeptNumbers.{sent, came, lost, numbers-told}
 use Rattle.board_runner.specs.declared.tally.Tally.{Tally}
-use Rattle.board_runner.specs.Tallied.{IsTally, AreTallies}
-use Rattle.board_runner.proofs.FinishLemmas.{stations_left}
+use Rattle.board_runner.specs.Tallied.{IsTally, AreTallies, RanBoard}
 
 -- ---- sums
 
@@ -39,22 +37,20 @@ tallied s g f same (t ∷ ts) (y ∷ ys) left all = omega (arith, sum_by-cons g 
 -- ---- the numbers of messages
 
 -- what tallies add up to
-pub record Sums (s : Scenario) (ys : List Tally) : Type 0 where
-  pub accepts : sum_by (λ y. y.counts.sent) ys ≡ length (accepted s (serial_run s))
+pub record Sums (s : Scenario) (js : List DomainJournal) (ys : List Tally) : Type 0 where
+  pub accepts : sum_by (λ y. y.counts.sent) ys ≡ length (accepted s js)
   pub brings : sum_by (λ y. y.counts.brought) ys ≤ sum_by (λ y. y.counts.sent) ys
-  pub in_ring : sum_by (λ y. y.counts.sent) ys - sum_by (λ y. y.counts.brought) ys ≡ length (messages_in_ring s (serial_run s))
-  pub drops_some : sum_by (λ y. y.counts.lost + y.deleted) ys ≡ length (dropped s (serial_run s))
-  pub queues : sum_by (λ y. y.held.queued) ys ≡ length (messages_queued s (serial_run s))
-  pub all : length (accepted s (serial_run s)) ≡ length (messages_taken s (serial_run s)) + length (dropped s (serial_run s)) + length (messages_queued s (serial_run s)) + length (messages_in_ring s (serial_run s))
-  pub few : length (accepted s (serial_run s)) < 2 ^ 32
+  pub in_ring : sum_by (λ y. y.counts.sent) ys - sum_by (λ y. y.counts.brought) ys ≡ length (messages_in_ring s js)
+  pub drops_some : sum_by (λ y. y.counts.lost + y.deleted) ys ≡ length (dropped s js)
+  pub queues : sum_by (λ y. y.held.queued) ys ≡ length (messages_queued s js)
+  pub all : length (accepted s js) ≡ length (messages_taken s js) + length (dropped s js) + length (messages_queued s js) + length (messages_in_ring s js)
+  pub few : length (accepted s js) < 2 ^ 32
 
-pub sums : (s : Scenario) (ys : List Tally) → IsLinkedBoard s → AreTallies s (finished s).stations ys → Sums s ys
-sums s ys board tallies =
-    let whole = serial_run_is_whole s board in
-    let js = serial_run s in
-    let ts = (finished s).stations in
-    let left = stations_left s board in
-    let told = numbers-told s js board whole.0 in
+pub sums : (s : Scenario) (ys : List Tally) → IsLinkedBoard s → (ts : List Station) → RanBoard s ts → AreTallies s ts ys → Sums s (map journal_left ts) ys
+sums s ys board ts ran tallies =
+    let js = map journal_left ts in
+    let left = ran.led in
+    let told = numbers-told s js board ran.run in
     let sends : sum_by (λ (y : Tally). y.counts.sent) ys ≡ total sent js = tallied s (λ y. y.counts.sent) sent (λ t y at is. is.counts.sent) ts ys left tallies in
     let brings : sum_by (λ (y : Tally). y.counts.brought) ys ≡ total came js = tallied s (λ y. y.counts.brought) came (λ t y at is. is.counts.brought) ts ys left tallies in
     let losts : sum_by (λ (y : Tally). y.counts.lost + y.deleted) ys ≡ total (lost s) js
@@ -68,21 +64,21 @@ sums s ys board tallies =
       in_ring = omega (arith, sends, brings, told.in_ring);
       drops_some = losts ∙ sym told.drops_some;
       queues = queues ∙ sym told.queues;
-      all = omega (arith, no-message-lost s js board whole.0 (λ m. true), count-every (accepted s js), count-every (messages_taken s js), count-every (dropped s js), count-every (messages_queued s js), count-every (messages_in_ring s js));
-      few = omega (arith, accepted-few s js board whole.0, board.lines_few);
+      all = omega (arith, no-message-lost s js board ran.run (λ m. true), count-every (accepted s js), count-every (messages_taken s js), count-every (dropped s js), count-every (messages_queued s js), count-every (messages_in_ring s js));
+      few = omega (arith, accepted-few s js board ran.run, board.lines_few);
     }
 
 -- the totals that these numbers are
-pub totals-are : (s : Scenario) (ys : List Tally) → Sums s ys → (sent_all brought_all dropped_all queued_all taken ring : ℕ) →
+pub totals-are : (s : Scenario) (js : List DomainJournal) (ys : List Tally) → Sums s js ys → (sent_all brought_all dropped_all queued_all taken ring : ℕ) →
     sent_all ≡ sum_by (λ y. y.counts.sent) ys → brought_all ≡ sum_by (λ y. y.counts.brought) ys → dropped_all ≡ sum_by (λ y. y.counts.lost + y.deleted) ys → queued_all ≡ sum_by (λ y. y.held.queued) ys →
     ring ≡ sent_all - brought_all → taken ≡ sent_all - dropped_all - queued_all - ring →
-    ◌≡◌ {A = Totals} (record { accepted = sent_all; taken = taken; dropped = dropped_all; queued = queued_all; ring = ring }) (totals s (serial_run s))
-totals-are s ys h sent_all brought_all dropped_all queued_all taken ring e1 e2 e3 e4 e5 e6 =
-    let a1 : sent_all ≡ length (accepted s (serial_run s)) = e1 ∙ h.accepts in
-    let a2 : dropped_all ≡ length (dropped s (serial_run s)) = e3 ∙ h.drops_some in
-    let a3 : queued_all ≡ length (messages_queued s (serial_run s)) = e4 ∙ h.queues in
-    let a4 : ring ≡ length (messages_in_ring s (serial_run s)) = e5 ∙ ap₂ (λ (n m : ℕ). n - m) e1 e2 ∙ h.in_ring in
-    let a5 : taken ≡ length (messages_taken s (serial_run s)) = omega (arith, e6, a1, a2, a3, a4, h.all) in
+    ◌≡◌ {A = Totals} (record { accepted = sent_all; taken = taken; dropped = dropped_all; queued = queued_all; ring = ring }) (totals s js)
+totals-are s js ys h sent_all brought_all dropped_all queued_all taken ring e1 e2 e3 e4 e5 e6 =
+    let a1 : sent_all ≡ length (accepted s js) = e1 ∙ h.accepts in
+    let a2 : dropped_all ≡ length (dropped s js) = e3 ∙ h.drops_some in
+    let a3 : queued_all ≡ length (messages_queued s js) = e4 ∙ h.queues in
+    let a4 : ring ≡ length (messages_in_ring s js) = e5 ∙ ap₂ (λ (n m : ℕ). n - m) e1 e2 ∙ h.in_ring in
+    let a5 : taken ≡ length (messages_taken s js) = omega (arith, e6, a1, a2, a3, a4, h.all) in
     cc
 
 -- the sums are small, and what was accepted is the greatest
@@ -94,8 +90,8 @@ pub record SmallSums (ys : List Tally) : Type 0 where
   pub brings : sum_by (λ y. y.counts.brought) ys ≤ sum_by (λ y. y.counts.sent) ys
   pub rest : sum_by (λ y. y.counts.lost + y.deleted) ys + sum_by (λ y. y.held.queued) ys + (sum_by (λ y. y.counts.sent) ys - sum_by (λ y. y.counts.brought) ys) ≤ sum_by (λ y. y.counts.sent) ys
 
-pub small : (s : Scenario) (ys : List Tally) → Sums s ys → SmallSums ys
-small s ys h =
+pub small : (s : Scenario) (js : List DomainJournal) (ys : List Tally) → Sums s js ys → SmallSums ys
+small s js ys h =
     let all = h.all in
     let few = h.few in
     let sent : sum_by (λ (y : Tally). y.counts.sent) ys < 2 ^ 32 = omega (arith, few, h.accepts) in

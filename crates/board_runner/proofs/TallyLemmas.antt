@@ -1,4 +1,4 @@
--- The tallies of the serial run, place by place.
+-- The tallies of a board that ran, place by place.
 use Rattle.std.proofs.Common.{◌≡◌, ℕ, zero, suc, ◌+◌, ◌<◌, List, [], ◌∷◌, ◌++◌, length, map, take, get_or, sum_by, Some, find, slice_get, refl, sym, ap, ◌∙◌, subst, arith, add-one}
 use Rattle.std.proofs.lemmas.List.{length-map}
 use Rattle.board_model.specs.declared.scenario.Scenario.{Scenario}
@@ -7,13 +7,13 @@ use Rattle.board_model.specs.Scenario.{script}
 use Rattle.board_model.specs.Journal.{joined}
 use Rattle.board_model.specs.Tallies.{deleted_in}
 use Rattle.board_model.specs.Report.{lines_of}
-use Rattle.board_model.specs.SerialRun.{Station, is_station, journal_left, finished}
+use Rattle.board_model.specs.SerialRun.{Station, is_station, journal_left}
 use Rattle.board_model.proofs.MessageAlls.{all-at}
 use Rattle.board_runner.specs.declared.station.Station as code
 use Rattle.board_runner.specs.declared.tally.Tally.{Tally}
 use Rattle.board_runner.specs.Counts.{AreCounts}
 use Rattle.board_runner.specs.Lanes.{numbers_of}
-use Rattle.board_runner.specs.Tallied.{AreHeld, IsTally, AreTallies, IsTallyOf, TellsStation, TellStations}
+use Rattle.board_runner.specs.Tallied.{AreHeld, IsTally, AreTallies, RanBoard, IsTallyOf, TellsStation, TellStations}
 use Rattle.board_runner.specs.Stations.{IsStation, AreStations}
 use Rattle.board_runner.proofs.FinishLemmas.{stations_numbers, stations_found}
 
@@ -36,19 +36,18 @@ number_in (x ∷ ts) zero t at = let same : x ≡ t = cc in ap (λ (y : Station)
 number_in (x ∷ ts) (suc i) t at = number_in ts i t at
 
 -- there are as many as domains
-pub tallies-length : (s : Scenario) → IsLinkedBoard s → (ys : List Tally) → AreTallies s (finished s).stations ys → length ys ≡ length (numbers_of s)
-tallies-length s board ys all =
-    tallies_length s (finished s).stations ys all ∙ sym (length-map (finished s).stations (λ (t : Station). t.line.domain)) ∙ sym (ap length (stations_numbers s board))
+pub tallies-length : (s : Scenario) (ts : List Station) → RanBoard s ts → (ys : List Tally) → AreTallies s ts ys → length ys ≡ length (numbers_of s)
+tallies-length s ts ran ys all = tallies_length s ts ys all ∙ sym (length-map ts (λ (t : Station). t.line.domain)) ∙ sym (ap length (stations_numbers s ts ran))
 
 -- the one at a place is that of the domain there
-pub tally-at : (s : Scenario) → IsLinkedBoard s → (ys : List Tally) → AreTallies s (finished s).stations ys → (i : ℕ) (d : Tally) → i < length ys → IsTallyOf s (get_or (numbers_of s) i 0) (get_or ys i d)
-tally-at s board ys all i d within = go (tally_in s (finished s).stations ys all i d within)
+pub tally-at : (s : Scenario) → IsLinkedBoard s → (ts : List Station) → RanBoard s ts → (ys : List Tally) → AreTallies s ts ys → (i : ℕ) (d : Tally) → i < length ys → IsTallyOf s ts (get_or (numbers_of s) i 0) (get_or ys i d)
+tally-at s board ts ran ys all i d within = go (tally_in s ts ys all i d within)
   where
-    go : ((t : Station) × (slice_get (finished s).stations i ≡ Some t) × IsTally s t (get_or ys i d)) → IsTallyOf s (get_or (numbers_of s) i 0) (get_or ys i d)
+    go : ((t : Station) × (slice_get ts i ≡ Some t) × IsTally s t (get_or ys i d)) → IsTallyOf s ts (get_or (numbers_of s) i 0) (get_or ys i d)
     go (t, at, is) =
-        let number : t.line.domain ≡ get_or (numbers_of s) i 0 = sym (ap (λ ns. get_or ns i 0) (stations_numbers s board) ∙ number_in (finished s).stations i t at) in
-        let found = all-at (λ x. find (is_station x.line.domain) (finished s).stations ≡ Some x) (finished s).stations i t (stations_found s board) at in
-        (t, subst (λ n. find (is_station n) (finished s).stations ≡ Some t) number found, is)
+        let number : t.line.domain ≡ get_or (numbers_of s) i 0 = sym (ap (λ ns. get_or ns i 0) (stations_numbers s ts ran) ∙ number_in ts i t at) in
+        let found = all-at (λ x. find (is_station x.line.domain) ts ≡ Some x) ts i t (stations_found s board ts ran) at in
+        (t, subst (λ n. find (is_station n) ts ≡ Some t) number found, is)
 
 -- ---- the code's stations
 

@@ -1,17 +1,25 @@
--- What a domain's tally says of its run, and which tallies the serial run leaves.
+-- What a domain's tally says of its run, and what tallies say of a board's.
 -- Source: docs/FORMATS.md, "Report".
-use Rattle.std.specs.Prelude.{◌≡◌, ℕ, ◌<◌, List, [], ◌∷◌, length, sum_by, find, slice_get, Some, IsSome}
+use Rattle.std.specs.Prelude.{◌≡◌, ℕ, ◌<◌, List, [], ◌∷◌, ◌++◌, length, map, sum_by, find, slice_get, Option, Some, IsSome, option_map}
+use Rattle.std.specs.List.{AllByRecursion}
+use Rattle.board_model.specs.declared.totals.LanePlaces.{LanePlaces}
+use Rattle.board_model.specs.declared.totals.Totals.{Totals}
 use Rattle.board_model.specs.declared.scenario.Scenario.{Scenario}
-use Rattle.board_model.specs.Scenario.{script}
+use Rattle.board_model.specs.Scenario.{script, neighbours, Lane}
 use Rattle.board_model.specs.Journal.{joined}
 use Rattle.board_model.specs.State.{DomainState, peer_of, queued_items, queued_from, lent_from}
 use Rattle.board_model.specs.Tallies.{deleted_in}
-use Rattle.board_model.specs.SerialRun.{Station, is_station, finished}
+use Rattle.board_model.specs.Run.{left_by}
+use Rattle.board_model.specs.Board.{IsBoardRun}
+use Rattle.board_model.specs.Places.{places_of}
+use Rattle.board_model.specs.Totals.{totals}
+use Rattle.board_model.specs.SerialRun.{Station, is_station, journal_left}
 use Rattle.buffer_book.specs.declared.places.Places.{Places}
 use Rattle.board_runner.specs.declared.station.Station as code
 use Rattle.board_runner.specs.declared.tally.HeldBuffers.{HeldBuffers}
 use Rattle.board_runner.specs.declared.tally.Tally.{Tally}
 use Rattle.board_runner.specs.Counts.{AreCounts}
+use Rattle.board_runner.specs.Lanes.{lane_between}
 
 -- where the buffers of the lane from a peer are held
 abbrev pub places_held : ℕ → DomainState → Places
@@ -33,9 +41,45 @@ AreTallies s [] [] = Unit {0}
 AreTallies s (t ∷ ts) (y ∷ ys) = IsTally s t y × AreTallies s ts ys
 AreTallies s ts ys = ⊥
 
--- the tally of the domain of a number at the end of the serial run
-abbrev pub IsTallyOf : Scenario → ℕ → Tally → Type 0
-IsTallyOf s n y = (t : Station) × (find (is_station n) (finished s).stations ≡ Some t) × IsTally s t y
+-- ---- a board that ran
+
+-- each of its domains is where its journal leads, and knows its neighbours; the journals are a run of the board
+pub record RanBoard (s : Scenario) (ts : List Station) : Type 0 where
+  pub run : IsBoardRun s (map journal_left ts)
+  pub led : AllByRecursion (λ t. t.run ≡ left_by s t.line t.entries) ts
+  pub peers : AllByRecursion (λ t. map (λ p. p.number) t.run.state.peers ≡ map (λ n. n.number) (neighbours s t.line)) ts
+
+-- the tallies are those of the domains of some such board
+pub record TallySomeRun (s : Scenario) (ys : List Tally) : Type 0 where
+  pub stations : List Station
+  pub ran : RanBoard s stations
+  pub tallies : AreTallies s stations ys
+
+-- the tally of the domain of a number
+abbrev pub IsTallyOf : Scenario → List Station → ℕ → Tally → Type 0
+IsTallyOf s ts n y = (t : Station) × (find (is_station n) ts ≡ Some t) × IsTally s t y
+
+-- those of the two ends of a lane
+pub record AreTalliesOf (s : Scenario) (ts : List Station) (from to : ℕ) (sender receiver : Tally) : Type 0 where
+  pub ran : RanBoard s ts
+  pub at_sender : IsTallyOf s ts from sender
+  pub at_receiver : IsTallyOf s ts to receiver
+
+pub record TallySomeLane (s : Scenario) (from to : ℕ) (sender receiver : Tally) : Type 0 where
+  pub stations : List Station
+  pub tallies : AreTalliesOf s stations from to sender receiver
+
+-- whatever run it is, these are its totals
+abbrev pub TellTotals : Scenario → List Tally → Totals → Type 0
+TellTotals s ys x = (ts : List Station) → RanBoard s ts → AreTallies s ts ys → x ≡ totals s (map journal_left ts)
+
+-- the places of one of its lanes, where there is this lane
+abbrev pub TellLane : Scenario → ℕ → ℕ → Tally → Tally → Option LanePlaces → Type 0
+TellLane s from to sender receiver places = (ts : List Station) → AreTalliesOf s ts from to sender receiver → places ≡ option_map (places_of s (map journal_left ts)) (lane_between s from to)
+
+-- and the places of its lanes, added to others
+abbrev pub AddPlaces : Scenario → List Tally → List Lane → List LanePlaces → List LanePlaces → Type 0
+AddPlaces s ys ls old new = (ts : List Station) → RanBoard s ts → AreTallies s ts ys → new ≡ old ++ map (places_of s (map journal_left ts)) ls
 
 -- ---- the tallies of the code's stations
 

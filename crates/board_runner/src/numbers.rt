@@ -1,13 +1,10 @@
 //! What the outcome tells in numbers, by the tallies of the domains.
 
-ghost use Rattle.std.specs.Prelude.{◌≡◌, ◌+◌, ◌-◌, ◌<◌, ◌≤◌, ◌^◌, ◌++◌, IfOk, OnOk, length, map, sum_by, get_or, option_map, option_to_list};
+ghost use Rattle.std.specs.Prelude.{◌≡◌, ◌+◌, ◌-◌, ◌<◌, ◌≤◌, ◌^◌, ◌++◌, [], IfOk, OnOk, length, sum_by, get_or, option_to_list};
 ghost use Rattle.board_model.specs.Scenario.{lanes};
 ghost use Rattle.board_model.specs.Language.{IsLawfulBoard};
-ghost use Rattle.board_model.specs.Totals.{totals};
-ghost use Rattle.board_model.specs.Places.{places_of as places_of_lane};
-ghost use Rattle.board_model.specs.SerialRun.{finished, serial_run};
-ghost use Rattle.board_runner.specs.Lanes.{lane_between, lanes_from, numbers_of};
-ghost use Rattle.board_runner.specs.Tallied.{IsTallyOf, AreTallies};
+ghost use Rattle.board_runner.specs.Lanes.{lanes_from, numbers_of};
+ghost use Rattle.board_runner.specs.Tallied.{TallySomeRun, TallySomeLane, TellTotals, TellLane, AddPlaces};
 
 use crate::adding::add;
 use crate::board::{buffers_between, rising_numbers};
@@ -30,8 +27,8 @@ struct Sum {
 /// taken are the rest.
 pub fn totals_of(_scenario: &Scenario, tallies: &[Tally]) -> Totals
     requires lawful { IsLawfulBoard _scenario.now }
-    requires tallies { AreTallies _scenario.now (finished _scenario.now).stations tallies.now }
-    ensures { result ≡ totals _scenario.now (serial_run _scenario.now) }
+    requires tallies { TallySomeRun _scenario.now tallies.now }
+    ensures { TellTotals _scenario.now tallies.now result }
 {
     let sum = sum_of(tallies);
     let ring = sum.sent - sum.brought;
@@ -76,8 +73,8 @@ pub fn places_of(
     tallies: &[Tally],
 ) -> Result<Seq<LanePlaces>, NoMemory>
     requires lawful { IsLawfulBoard scenario.now }
-    requires tallies { AreTallies scenario.now (finished scenario.now).stations tallies.now }
-    ensures { IfOk result (λ places. places ≡ map (places_of_lane scenario.now (serial_run scenario.now)) (lanes scenario.now)) }
+    requires tallies { TallySomeRun scenario.now tallies.now }
+    ensures { IfOk result (AddPlaces scenario.now tallies.now (lanes scenario.now) []) }
 {
     let numbers = rising_numbers(scenario);
     let mut places = Seq::new(Vec::new(alloc));
@@ -97,9 +94,9 @@ fn add_lanes_from(
 ) -> Result<(), NoMemory>
     requires lawful { IsLawfulBoard scenario.now }
     requires numbers { numbers.now ≡ numbers_of scenario.now }
-    requires tallies { AreTallies scenario.now (finished scenario.now).stations tallies.now }
+    requires tallies { TallySomeRun scenario.now tallies.now }
     requires from { from < length numbers.now }
-    ensures { OnOk result (places.new ≡ places.old ++ map (places_of_lane scenario.now (serial_run scenario.now)) (lanes_from scenario.now (get_or numbers.now from 0) numbers.now)) }
+    ensures { OnOk result (AddPlaces scenario.now tallies.now (lanes_from scenario.now (get_or numbers.now from 0) numbers.now) places.old places.new) }
 {
     for to in 0..numbers.len() {
         let lane = places_between(
@@ -132,9 +129,8 @@ fn places_between(
     receiver: &Tally,
 ) -> Option<LanePlaces>
     requires lawful { IsLawfulBoard scenario.now }
-    requires sender { IsTallyOf scenario.now from sender.now }
-    requires receiver { IsTallyOf scenario.now to receiver.now }
-    ensures { result ≡ option_map (places_of_lane scenario.now (serial_run scenario.now)) (lane_between scenario.now from to) }
+    requires tallies { TallySomeLane scenario.now from to sender.now receiver.now }
+    ensures { TellLane scenario.now from to sender.now receiver.now result }
 {
     let size = buffers_between(scenario, from, to)?;
     let puts = sender.counts.puts[usize::from(to)];

@@ -1,29 +1,45 @@
-use Rattle.std.proofs.Common.{List, sym, ◌∙◌, subst}
+use Rattle.std.proofs.Common.{◌≡◌, List, sym, ◌∙◌, subst}
+use Rattle.board_model.specs.declared.scenario.Scenario.{Scenario}
 use Rattle.board_model.specs.SerialRun.{finished}
+use Rattle.board_model.proofs.LawfulBoards.{lawful_is_linked}
 use Rattle.board_runner.specs.declared.station.Station as code
+use Rattle.board_runner.specs.declared.tally.Tally.{Tally}
+use Rattle.board_runner.specs.Stations.{AreStations}
 use Rattle.board_runner.specs.Tallied.{AreTallies, TellStations}
+use Rattle.board_runner.proofs.FinishLemmas.{finished_ran}
 use Rattle.board_runner.proofs.TallyLemmas.{stations-tallied, stations-told}
 use Rattle.board_runner.proofs.ending.outcome_of.Goals as goal
+
+-- the tallies are those of the serial run
+tallied : (s : Scenario) (sts borrowed : List code.Station) (ys read : List Tally) → AreStations s (finished s).stations sts → borrowed ≡ sts → TellStations borrowed ys → read ≡ ys → AreTallies s (finished s).stations read
+tallied s sts borrowed ys read are same tell as_read = subst (AreTallies s (finished s).stations) (sym as_read) (stations-tallied s (finished s).stations sts ys are (subst (λ (xs : List code.Station). TellStations xs ys) same tell))
 
 pub places_of-requires-clause-tallies : goal.places_of-requires-clause-tallies
 places_of-requires-clause-tallies c =
     let s = c.args.scenario.now in
-    let told = subst (λ (sts : List code.Station). TellStations sts c.in_ok-tallies.tallies) c.deref.ensures.value c.in_ok-tallies.ensures in
-    subst (AreTallies s (finished s).stations) (sym c.as_slice.ensures) (stations-tallied s (finished s).stations c.args.stations.items c.in_ok-tallies.tallies c.requires.run.each told)
+    record {
+      stations = (finished s).stations;
+      ran = finished_ran s (lawful_is_linked s c.requires.lawful) c.args.stations.items c.requires.run.each;
+      tallies = tallied s c.args.stations.items _ c.in_ok-tallies.tallies _ c.requires.run.each c.deref.ensures.value c.in_ok-tallies.ensures c.as_slice.ensures;
+    }
 
 pub totals_of-messages-requires-clause-tallies : goal.totals_of-messages-requires-clause-tallies
 totals_of-messages-requires-clause-tallies c =
     let s = c.args.scenario.now in
-    let told = subst (λ (sts : List code.Station). TellStations sts c.in_ok-tallies.tallies) c.deref.ensures.value c.in_ok-tallies.ensures in
-    subst (AreTallies s (finished s).stations) (sym c.as_slice-2.ensures) (stations-tallied s (finished s).stations c.args.stations.items c.in_ok-tallies.tallies c.requires.run.each told)
+    record {
+      stations = (finished s).stations;
+      ran = finished_ran s (lawful_is_linked s c.requires.lawful) c.args.stations.items c.requires.run.each;
+      tallies = tallied s c.args.stations.items _ c.in_ok-tallies.tallies _ c.requires.run.each c.deref.ensures.value c.in_ok-tallies.ensures c.as_slice-2.ensures;
+    }
 
 pub returns : goal.returns
 returns c =
     let s = c.args.scenario.now in
+    let ran = finished_ran s (lawful_is_linked s c.requires.lawful) c.args.stations.items c.requires.run.each in
     record {
       journals = c.in_ok-journals_of.ensures ∙ stations-told s (finished s).stations c.args.stations.items c.requires.run.each;
-      places = c.in_ok-places.ensures;
+      places = c.in_ok-places.ensures (finished s).stations ran (tallied s c.args.stations.items _ c.in_ok-tallies.tallies _ c.requires.run.each c.deref.ensures.value c.in_ok-tallies.ensures c.as_slice.ensures);
       rings = c.new-2.ensures ∙ c.new.ensures.items;
       channels = c.new-4.ensures ∙ c.new-3.ensures.items;
-      messages = c.totals_of-messages.ensures;
+      messages = c.totals_of-messages.ensures (finished s).stations ran (tallied s c.args.stations.items _ c.in_ok-tallies.tallies _ c.requires.run.each c.deref.ensures.value c.in_ok-tallies.ensures c.as_slice-2.ensures);
     }
