@@ -50,3 +50,5 @@ pub mod PeersFound
 pub mod ToldMoves
 pub mod ToldTraffic
 pub mod OwnRunLemmas
+pub mod JobLemmas
+pub mod OwnBoardLemmas

@@ -12,6 +12,8 @@ pub mod Lanes
 pub mod Looks
 pub mod Outcome
 pub mod OwnRun
+pub mod Jobs
+pub mod OwnBoard
 pub mod Stations
 pub mod Tallied
 pub mod Told

@@ -1,8 +1,7 @@
 -- A domain that runs its script on its own, whatever the other domains do.
 -- Source: docs/PROFILE.md, "Runs", "Lanes" and "Tries". Between two calls of a line with tries it makes only the turns of its calls.
-use Rattle.std.specs.Prelude.{◌≡◌, ℕ, ◌+◌, ◌*◌, ◌≤◌, ◌^◌, List, [], ◌∷◌, ◌++◌, map, filter, slice_get, Some, Result, Ok}
+use Rattle.std.specs.Prelude.{◌≡◌, ℕ, ◌+◌, ◌*◌, ◌≤◌, ◌^◌, List, [], ◌∷◌, ◌++◌, map, filter, slice_get, Some}
 use Rattle.std.specs.List.{flat_map}
-use Rattle.mc_base.specs.declared.refusal.NoMemory.{NoMemory}
 use Rattle.lane_end.specs.AnySender.{AnySends}
 use Rattle.lane_end.specs.AnyReceiver.{AnyReceives}
 use Rattle.lane_end.specs.ReceiveMoves.{Took, Gave}
@@ -102,15 +101,3 @@ pub record RanWhole (s : Scenario) (d : DomainLine) (ends : List RunEnds) (st : 
 -- whatever domain of a board stood there before its first line
 abbrev pub RunsScript : Scenario → Station → Station → Type 0
 RunsScript s old new = (d : DomainLine) → IsStation s (opened_station s d) old → RanWhole s d old.domain.ends new
-
--- ---- on threads
-
--- whatever domain stood at each place, its script was run there
-abbrev pub RunScripts : Scenario → List Station → List Station → Type 0
-RunScripts s [] [] = Unit {0}
-RunScripts s (old ∷ olds) (new ∷ news) = RunsScript s old new × RunScripts s olds news
-RunScripts s olds news = ⊥
-
--- no result is an error
-abbrev pub AreAllOk : List (Result Station NoMemory) → List Station → Type 0
-AreAllOk results sts = results ≡ map Ok sts

@@ -24,6 +24,7 @@ mod serial;
 mod station;
 mod stations;
 mod tally;
+mod threads;
 mod wires;
 
 pub use board_model::{LanePlaces, Totals};
