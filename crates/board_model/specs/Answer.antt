@@ -1,18 +1,22 @@
 -- The answer of a call: the first refusal whose condition holds, or else the answer of success.
 -- Source: docs/PROFILE.md, "Calls" and "Words of refusal". E is the endpoint of the line's domain, node and port.
-use Rattle.std.specs.Prelude.{ℕ, ◌+◌, Bool, false, not, List, [], ◌∷◌, length, take, nat_lt, nat_le, ◌==◌, find, Option, None, Some, is_some, unwrap_or, if◌then◌else◌}
+use Rattle.std.specs.Prelude.{ℕ, ◌+◌, Bool, true, false, not, ◌||◌, List, [], ◌∷◌, map, length, take, nat_lt, nat_le, ◌==◌, find, Option, None, Some, is_some, unwrap_or, if◌then◌else◌}
 use Rattle.mc_base.specs.Limits.{item_size, first_address, record_limit, creation_limit, request_limit}
 use Rattle.mc_base.specs.NameMap.{address_in}
 use Rattle.mc_base.specs.Frame.{made}
-use Rattle.mc_base.specs.Letter.{spelling, msg}
+use Rattle.mc_base.specs.Letter.{PlainLetter, spelling, msg, connect, send_open, recv_open, send_close, recv_close}
 use Rattle.mc_base.specs.declared.name.Local.{Local}
 use Rattle.mc_base.specs.declared.name.EndName.{EndName}
+use Rattle.mc_base.specs.declared.channel.Kind.{Kind}
+use Rattle.mc_base.specs.declared.channel.Side.{Side}
+use Rattle.mc_base.specs.declared.channel.Side.TheVariants.{Sender, Receiver}
 use Rattle.mc_base.specs.declared.refusal.Refusal.{Refusal}
-use Rattle.mc_base.specs.declared.refusal.Refusal.TheVariants.{NodeInvalid, ExistsAlready, EndpLimit, AddressSpent, EndpInvalid, PeerInvalid, OnChannel, ChanConnected, MsgSize, NoBuffer, Empty, RequestLimit, RequestInvalid, Pending, TooLate}
-use Rattle.board_model.specs.DomainCall.{DomainCall, create_at, delete_at, lookup_of, send_from, receive_at, request_at, available_at, test_of, cancel_of, turn_alone}
-use Rattle.board_model.specs.Journal.{PlainResult, found_at, was_accepted, was_rejected, brought, ended_by, PlainAnswer, refuses, agrees, tells, gives, completes}
-use Rattle.board_model.specs.State.{DomainState, Item, Endpoint, Peer, Asked, message_at, Outcome, has_address, is_accepted, is_rejected, has_item, has_ended, Request, request_at_place, place_at, endpoint_at, address_at, queue_at, peer_of, free_to}
+use Rattle.mc_base.specs.declared.refusal.Refusal.TheVariants.{NodeInvalid, ExistsAlready, EndpLimit, AddressSpent, EndpInvalid, PeerInvalid, OnChannel, ChanConnected, EndpBusy, ChanLimit, NotConnected, ChanDirection, ChanType, ChanClosed, AlreadyOpen, MsgSize, NoBuffer, Empty, RequestLimit, RequestInvalid, Pending, TooLate}
+use Rattle.board_model.specs.DomainCall.{DomainCall, create_at, delete_at, lookup_of, send_from, receive_at, request_at, available_at, connect_from, open_at, close_at, test_of, cancel_of, turn_alone}
+use Rattle.board_model.specs.Journal.{PlainResult, found_at, was_accepted, was_rejected, brought, ended_by, PlainAnswer, refuses, agrees, tells, connects, gives, completes}
+use Rattle.board_model.specs.State.{DomainState, Item, ChannelEnd, Endpoint, Peer, Asked, message_at, Outcome, has_address, is_accepted, is_rejected, has_item, has_ended, Request, request_at_place, place_at, endpoint_at, live_at, address_at, channel_in, queue_at, one_waits, peer_of, free_to}
 use Rattle.board_model.specs.Choice.{best}
+use Rattle.board_model.specs.ChannelEnds.{EndCall, opens, closes, end_refuses}
 
 -- E
 abbrev pub local : ℕ → ℕ → Local
@@ -27,6 +31,9 @@ port_of (send_from port to priority bytes) = port
 port_of (receive_at port max) = port
 port_of (request_at port max) = port
 port_of (available_at port) = port
+port_of (connect_from port to kind) = port
+port_of (open_at port side kind) = port
+port_of (close_at port side) = port
 port_of (test_of request) = 0
 port_of (cancel_of request) = 0
 port_of turn_alone = 0
@@ -50,7 +57,63 @@ has_channel (Some e) = is_some e.channel
 
 abbrev pub named : DomainState → DomainCall → Option ℕ
 named s (send_from port to priority bytes) = address_of s to
+named s (connect_from port to kind) = address_of s to
 named s other = None
+
+-- ---- E's channel
+
+-- what a call asks of E's channel, or none where it asks nothing of it
+abbrev pub end_call : DomainCall → Option EndCall
+end_call (open_at port side kind) = Some (opens side kind)
+end_call (close_at port side) = Some (closes side)
+end_call other = None
+
+-- without a channel a call at one is not connected, and no other word holds
+abbrev pub lacks_end : Refusal → Bool
+lacks_end NotConnected = true
+lacks_end other = false
+
+abbrev pub end_holds : EndCall → Option ChannelEnd → Refusal → Bool
+end_holds call None word = lacks_end word
+end_holds call (Some c) word = end_refuses call c word
+
+abbrev pub holds_at_end : Option EndCall → Option ChannelEnd → Refusal → Bool
+holds_at_end None c word = false
+holds_at_end (Some call) c word = end_holds call c word
+
+-- E's channel, where it is live
+abbrev pub channel_at : DomainState → Local → Option ChannelEnd
+channel_at s at = channel_in (live_at s at)
+
+-- a letter that a call puts: to which peer, and from and to which address
+pub record Post : Type 0 where
+  pub peer : ℕ
+  pub source : ℕ
+  pub destination : ℕ
+  pub letter : PlainLetter
+
+abbrev pub post : ℕ → ℕ → ℕ → PlainLetter → Post
+post peer source destination letter = record { peer = peer; source = source; destination = destination; letter = letter }
+
+-- its frame, with its peer
+abbrev pub put_of : Post → ℕ × List ℕ
+put_of p = (p.peer, made p.source p.destination (spelling p.letter))
+
+-- from E over its channel, to the address of the far end
+abbrev pub over_channel : Option Endpoint → Option ChannelEnd → (ℕ → PlainLetter) → List Post
+over_channel (Some e) (Some c) letter = post c.peer e.address c.peer_address (letter c.number) ∷ []
+over_channel e c letter = []
+
+abbrev pub over_end : DomainState → Local → (ℕ → PlainLetter) → List Post
+over_end s at letter = over_channel (live_at s at) (channel_at s at) letter
+
+abbrev pub opening_letter : Side → ℕ → PlainLetter
+opening_letter Sender number = send_open number
+opening_letter Receiver number = recv_open number
+
+abbrev pub closing_letter : Side → ℕ → PlainLetter
+closing_letter Sender number = send_close number
+closing_letter Receiver number = recv_close number
 
 -- the request that a call names, where it stands, and whether it is complete
 abbrev pub request_named : DomainState → DomainCall → Option Request
@@ -66,15 +129,25 @@ abbrev pub content_size : DomainCall → ℕ
 content_size (send_from port to priority bytes) = length bytes
 content_size other = 0
 
--- the frames that success puts, each with its peer
+-- the letters that success puts, and their frames, each with its peer
+abbrev pub success_posts : DomainState → ℕ → DomainCall → List Post
+success_posts s node (send_from port to priority bytes) = post to.domain (unwrap_or (address_at s (local node port)) 0) (unwrap_or (address_of s to) 0) (msg priority bytes) ∷ []
+success_posts s node (connect_from port to kind) = post to.domain (unwrap_or (address_at s (local node port)) 0) (unwrap_or (address_of s to) 0) (connect (s.channels_given + 1) kind) ∷ []
+success_posts s node (open_at port side kind) = over_end s (local node port) (opening_letter side)
+success_posts s node (close_at port side) = over_end s (local node port) (closing_letter side)
+success_posts s node other = []
+
 abbrev pub success_puts : DomainState → ℕ → DomainCall → List (ℕ × List ℕ)
-success_puts s node (send_from port to priority bytes) = (to.domain, made (unwrap_or (address_at s (local node port)) 0) (unwrap_or (address_of s to) 0) (spelling (msg priority bytes))) ∷ []
-success_puts s node other = []
+success_puts s node call = map put_of (success_posts s node call)
 
 -- whether the lane to a peer has fewer buffers free than these frames need
 abbrev pub lacks_buffers : DomainState → List (ℕ × List ℕ) → Bool
 lacks_buffers s [] = false
 lacks_buffers s (p ∷ ps) = nat_lt (free_to s p.0) (length (p ∷ ps))
+
+-- the most channels that a domain ever numbers
+abbrev pub channel_limit : ℕ
+channel_limit = 65535
 
 -- the conditions of the words
 abbrev pub holds : DomainState → ℕ → DomainCall → Refusal → Bool
@@ -86,6 +159,13 @@ holds s node call EndpInvalid = not (is_some (place_at s (here node call)))
 holds s node call PeerInvalid = not (is_some (named s call))
 holds s node call OnChannel = has_channel (endpoint_at s (here node call))
 holds s node call ChanConnected = has_channel (endpoint_at s (here node call))
+holds s node call EndpBusy = not (length (queue_at s (here node call)) == 0) || one_waits s (here node call)
+holds s node call ChanLimit = nat_le channel_limit s.channels_given
+holds s node call NotConnected = holds_at_end (end_call call) (channel_at s (here node call)) NotConnected
+holds s node call ChanDirection = holds_at_end (end_call call) (channel_at s (here node call)) ChanDirection
+holds s node call ChanType = holds_at_end (end_call call) (channel_at s (here node call)) ChanType
+holds s node call ChanClosed = holds_at_end (end_call call) (channel_at s (here node call)) ChanClosed
+holds s node call AlreadyOpen = holds_at_end (end_call call) (channel_at s (here node call)) AlreadyOpen
 holds s node call MsgSize = nat_lt item_size (content_size call)
 holds s node call NoBuffer = lacks_buffers s (success_puts s node call)
 holds s node call Empty = length (queue_at s (here node call)) == 0
@@ -104,6 +184,9 @@ words_of (send_from port to priority bytes) = EndpInvalid ∷ OnChannel ∷ Peer
 words_of (receive_at port max) = EndpInvalid ∷ OnChannel ∷ Empty ∷ []
 words_of (request_at port max) = EndpInvalid ∷ OnChannel ∷ RequestLimit ∷ []
 words_of (available_at port) = EndpInvalid ∷ OnChannel ∷ []
+words_of (connect_from port to kind) = EndpInvalid ∷ ChanConnected ∷ EndpBusy ∷ PeerInvalid ∷ ChanLimit ∷ RequestLimit ∷ NoBuffer ∷ []
+words_of (open_at port side kind) = EndpInvalid ∷ NotConnected ∷ ChanDirection ∷ ChanType ∷ ChanClosed ∷ AlreadyOpen ∷ NoBuffer ∷ []
+words_of (close_at port side) = EndpInvalid ∷ NotConnected ∷ ChanDirection ∷ ChanClosed ∷ NoBuffer ∷ []
 words_of (test_of request) = RequestInvalid ∷ Pending ∷ []
 words_of (cancel_of request) = RequestInvalid ∷ TooLate ∷ []
 words_of turn_alone = []
@@ -144,6 +227,10 @@ success s node (send_from port to priority bytes) = agrees
 success s node (receive_at port max) = given max (best (λ i. i.priority) (queue_at s (local node port)))
 success s node (request_at port max) = tells s.requests_given
 success s node (available_at port) = tells (length (queue_at s (local node port)))
+success s node (connect_from port to kind) = connects s.requests_given (s.channels_given + 1)
+success s node (open_at port side kind) = agrees
+success s node (close_at port Sender) = agrees
+success s node (close_at port Receiver) = tells (length (queue_at s (local node port)))
 success s node (test_of request) = completes None (result_of (request_at_place s request))
 success s node (cancel_of request) = agrees
 success s node turn_alone = agrees

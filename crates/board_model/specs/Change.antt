@@ -10,7 +10,7 @@ use Rattle.mc_base.specs.declared.name.EndName.{EndName}
 use Rattle.mc_base.specs.declared.refusal.Refusal.{Refusal}
 use Rattle.board_model.specs.Lists.{without, changed_first, with_rising}
 use Rattle.board_model.specs.Choice.{without_best}
-use Rattle.board_model.specs.State.{Item, Endpoint, Asked, name_of, Outcome, has_address, has_item, has_ended, Request, Announcement, Peer, DomainState, has_address_of, endpoint_of, waits_at, is_numbered, is_owed_end}
+use Rattle.board_model.specs.State.{Item, ChannelEnd, Endpoint, Asked, name_of, channel_of, Outcome, has_address, has_item, has_ended, Request, Announcement, Reply, Peer, DomainState, has_address_of, endpoint_of, waits_at, is_numbered, is_owed_end}
 
 pub data Change : Type 0 where
   -- an endpoint of this name is made; the one with this address is gone, with all that is queued there
@@ -19,6 +19,9 @@ pub data Change : Type 0 where
   -- at the endpoint with this address an item is last in the queue, or the oldest of the best priority is gone from it
   item_queued : ℕ → Item → Change
   best_gone : ℕ → Change
+  -- the endpoint with this address has this channel from now on, or none; or that, and nothing is queued there any longer
+  channel_set : ℕ → Option ChannelEnd → Change
+  queue_dropped : ℕ → Option ChannelEnd → Change
   -- a request is given, complete or not
   request_added : Asked → Option Outcome → Change
   -- the oldest receive that waits at the endpoint with this address is complete with the item; all that wait there end with a word
@@ -26,10 +29,14 @@ pub data Change : Type 0 where
   waiting_ended : ℕ → Refusal → Change
   -- pending lookups of the name are complete with the address
   name_found : EndName → ℕ → Change
+  -- pending requests to connect on this channel are complete
+  connect_settled : ℕ → Outcome → Change
   -- the request at this place is gone
   request_gone : Option ℕ → Change
   -- each linked domain is owed the announcement
   end_announced : Announcement → Change
+  -- the peer is owed a reply
+  reply_owed : ℕ → Reply → Change
   -- the first frame that is owed to the peer is put
   owed_put : ℕ → Change
   -- so many buffers came back from the peer; so many of its frames are shown; one of these is taken
@@ -40,6 +47,8 @@ pub data Change : Type 0 where
   names_known : ℕ → Names → Change
   -- one buffer of the lane to the peer is used
   buffer_used : ℕ → Change
+  -- the number of a channel is used
+  channel_given : Change
 
 -- ---- endpoints
 
@@ -48,6 +57,12 @@ endpoint_with s at = record { local = at; address = first_address + s.endpoints_
 
 abbrev pub with_queue : (List Item → List Item) → Endpoint → Endpoint
 with_queue f e = record e { queue = f e.queue }
+
+abbrev pub with_channel : Option ChannelEnd → Endpoint → Endpoint
+with_channel c e = record e { channel = c }
+
+abbrev pub without_queue : Option ChannelEnd → Endpoint → Endpoint
+without_queue c e = record e { queue = []; channel = c }
 
 -- the endpoint with this address changes
 abbrev pub at_address : ℕ → (Endpoint → Endpoint) → List Endpoint → List Endpoint
@@ -58,6 +73,8 @@ endpoints_after (endpoint_made at) s = s.endpoints ++ endpoint_with s at ∷ []
 endpoints_after (endpoint_gone a) s = filter (λ e. not (has_address_of a e)) s.endpoints
 endpoints_after (item_queued a i) s = at_address a (with_queue (λ q. q ++ i ∷ [])) s.endpoints
 endpoints_after (best_gone a) s = at_address a (with_queue (without_best (λ i. i.priority))) s.endpoints
+endpoints_after (channel_set a c) s = at_address a (with_channel c) s.endpoints
+endpoints_after (queue_dropped a c) s = at_address a (without_queue c) s.endpoints
 endpoints_after other s = s.endpoints
 
 -- ---- requests
@@ -71,6 +88,10 @@ same_name n m = m.domain == n.domain && (m.node == n.node && m.port == n.port)
 abbrev pub asks_for : EndName → Asked → Bool
 asks_for n (name_of m) = same_name n m
 asks_for n other = false
+
+abbrev pub connects_on : ℕ → Asked → Bool
+connects_on n (channel_of m) = m == n
+connects_on n other = false
 
 -- the pending ones that ask so are complete
 abbrev pub all_done : (Asked → Bool) → Outcome → Request → Request
@@ -89,6 +110,7 @@ requests_after (request_added asked o) s = s.requests ++ record { serial = s.req
 requests_after (item_handed a i) s = handed_in (endpoint_of s a) i s.requests
 requests_after (waiting_ended a word) s = ended_in (endpoint_of s a) word s.requests
 requests_after (name_found n a) s = map (all_done (asks_for n) (has_address a)) s.requests
+requests_after (connect_settled n o) s = map (all_done (connects_on n) o) s.requests
 requests_after (request_gone place) s = without place s.requests
 requests_after other s = s.requests
 
@@ -108,6 +130,7 @@ at_peer n f ps = changed_first (is_numbered n) f ps
 
 abbrev pub peers_after : Change → DomainState → List Peer
 peers_after (end_announced a) s = map (also_owed s.number a) s.peers
+peers_after (reply_owed n r) s = at_peer n (λ p. record p { replies = p.replies ++ r ∷ [] }) s.peers
 peers_after (owed_put n) s = at_peer n first_put s.peers
 peers_after (buffers_back n count) s = at_peer n (λ p. record p { free = p.free + count }) s.peers
 peers_after (frames_shown n count) s = at_peer n (λ p. record p { shown = count }) s.peers
@@ -129,6 +152,10 @@ abbrev pub endpoints_given_after : Change → ℕ → ℕ
 endpoints_given_after (endpoint_made at) n = n + 1
 endpoints_given_after other n = n
 
+abbrev pub channels_given_after : Change → ℕ → ℕ
+channels_given_after channel_given n = n + 1
+channels_given_after other n = n
+
 -- serials count modulo 2^64
 abbrev pub requests_given_after : Change → ℕ → ℕ
 requests_given_after (request_added asked o) n = (n + 1) % 2 ^ 64
@@ -146,7 +173,7 @@ changed s c = record {
   requests = requests_after c s;
   lent = s.lent;
   endpoints_given = endpoints_given_after c s.endpoints_given;
-  channels_given = s.channels_given;
+  channels_given = channels_given_after c s.channels_given;
   requests_given = requests_given_after c s.requests_given;
   packets_lent = s.packets_lent;
 }

@@ -2,6 +2,8 @@
 -- Source: docs/PROFILE.md, "Calls".
 use Rattle.std.specs.Prelude.{ℕ, List, Option}
 use Rattle.mc_base.specs.declared.name.EndName.{EndName}
+use Rattle.mc_base.specs.declared.channel.Kind.{Kind}
+use Rattle.mc_base.specs.declared.channel.Side.{Side}
 
 -- the port at which a call is made comes first; a request that does not stand is none
 pub data DomainCall : Type 0 where
@@ -12,6 +14,9 @@ pub data DomainCall : Type 0 where
   receive_at : ℕ → ℕ → DomainCall
   request_at : ℕ → ℕ → DomainCall
   available_at : ℕ → DomainCall
+  connect_from : ℕ → EndName → Kind → DomainCall
+  open_at : ℕ → Side → Kind → DomainCall
+  close_at : ℕ → Side → DomainCall
   test_of : Option ℕ → DomainCall
   cancel_of : Option ℕ → DomainCall
   turn_alone : DomainCall

@@ -1,16 +1,18 @@
 -- The forms of a line: the words that it may have, and what they say.
 -- Source: docs/FORMATS.md, "Scenario files": the lines of domains and links, and the table of calls.
-use Rattle.std.specs.Prelude.{ℕ, ◌&&◌, Bool, true, false, List, [], ◌∷◌, ◌++◌, codes, bytes_eq, Option, None, Some, option_map, if◌then◌else◌}
+use Rattle.std.specs.Prelude.{ℕ, ◌&&◌, Bool, true, false, List, [], ◌∷◌, ◌++◌, codes, bytes_eq, Option, None, Some, option_map, is_some, unwrap_or, if◌then◌else◌}
 use Rattle.arrayvec.specs.ArrayVec.{ArrayVec}
 use Rattle.mc_base.specs.Limits.{asked_limit, try_limit}
 use Rattle.mc_base.specs.declared.name.EndName.{EndName}
+use Rattle.mc_base.specs.declared.channel.Kind.{Kind}
+use Rattle.mc_base.specs.declared.channel.Kind.TheVariants as kind
 use Rattle.board_model.specs.declared.scenario.DomainLine.{DomainLine}
 use Rattle.board_model.specs.declared.scenario.LinkLine.{LinkLine}
 use Rattle.board_model.specs.declared.scenario.Call.{Call}
-use Rattle.board_model.specs.declared.scenario.Call.TheVariants.{Create, Delete, Lookup, MsgSend, MsgRecv, MsgRecvI, MsgAvailable, Test, Cancel, Turn}
+use Rattle.board_model.specs.declared.scenario.Call.TheVariants.{Create, Delete, Lookup, MsgSend, MsgRecv, MsgRecvI, MsgAvailable, Connect, OpenSend, OpenRecv, CloseSend, CloseRecv, Test, Cancel, Turn}
 use Rattle.board_model.specs.declared.scenario.CallLine.{CallLine}
 use Rattle.board_model.specs.declared.form.ArgumentKind.{ArgumentKind}
-use Rattle.board_model.specs.declared.form.ArgumentKind.TheVariants.{Port, Name, Priority, Content, Maximum, Label}
+use Rattle.board_model.specs.declared.form.ArgumentKind.TheVariants.{Port, Name, Priority, Content, Maximum, ChannelKind, Label}
 use Rattle.board_model.specs.declared.form.Callee.{Callee}
 use Rattle.board_model.specs.declared.form.Callee.TheVariants as callee
 use Rattle.board_model.specs.FileLines.{parts_at, says_nothing}
@@ -26,6 +28,7 @@ Value Name = EndName
 Value Priority = ℕ
 Value Content = List ℕ
 Value Maximum = ℕ
+Value ChannelKind = Kind
 Value Label = ArrayVec ℕ
 
 -- how many bits the argument after this one has, where this one tells it
@@ -36,9 +39,14 @@ abbrev pub are_three : List (List ℕ) → Bool
 are_three (d ∷ n ∷ p ∷ []) = true
 are_three parts = false
 
+-- the kind of a channel with this word
+abbrev pub kind_in : List ℕ → Option Kind
+kind_in word = if bytes_eq word (codes "packet") then Some kind.Packet else if bytes_eq word (codes "scalar") then Some kind.Scalar else None
+
 -- the form of a word. A name has two colons, whatever stands between them: 58 is the colon
 abbrev pub argument_fits : ArgumentKind → List ℕ → Bool
 argument_fits Name word = are_three (parts_at 58 word)
+argument_fits ChannelKind word = is_some (kind_in word)
 argument_fits Label word = is_label word
 argument_fits kind word = true
 
@@ -82,6 +90,7 @@ value Name word = name_in word
 value Priority word = number word
 value Content word = bytes word
 value Maximum word = number word
+value ChannelKind word = unwrap_or (kind_in word) kind.Packet
 value Label word = label_of word
 
 -- ---- calls
@@ -130,6 +139,11 @@ form callee.MsgSend = row (codes "msg_send") (Port ∷ Name ∷ Priority ∷ Con
 form callee.MsgRecv = row (codes "msg_recv") (Port ∷ Maximum ∷ []) no_label may_try MsgRecv
 form callee.MsgRecvI = row (codes "msg_recv_i") (Port ∷ Maximum ∷ []) a_label may_try MsgRecvI
 form callee.MsgAvailable = row (codes "msg_available") (Port ∷ []) no_label may_try MsgAvailable
+form callee.Connect = row (codes "connect") (Port ∷ Name ∷ ChannelKind ∷ []) a_label may_try Connect
+form callee.OpenSend = row (codes "open_send") (Port ∷ ChannelKind ∷ []) no_label may_try OpenSend
+form callee.OpenRecv = row (codes "open_recv") (Port ∷ ChannelKind ∷ []) no_label may_try OpenRecv
+form callee.CloseSend = row (codes "close_send") (Port ∷ []) no_label may_try CloseSend
+form callee.CloseRecv = row (codes "close_recv") (Port ∷ []) no_label may_try CloseRecv
 form callee.Test = row (codes "test") (Label ∷ []) no_label may_try Test
 form callee.Cancel = row (codes "cancel") (Label ∷ []) no_label may_try Cancel
 form callee.Turn = row (codes "turn") [] no_label may_try Turn
@@ -143,6 +157,11 @@ callees =
     ∷ callee.MsgRecv
     ∷ callee.MsgRecvI
     ∷ callee.MsgAvailable
+    ∷ callee.Connect
+    ∷ callee.OpenSend
+    ∷ callee.OpenRecv
+    ∷ callee.CloseSend
+    ∷ callee.CloseRecv
     ∷ callee.Test
     ∷ callee.Cancel
     ∷ callee.Turn

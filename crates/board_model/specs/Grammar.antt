@@ -4,14 +4,16 @@ use Rattle.std.specs.Prelude.{ℕ, ◌<◌, ◌≤◌, ◌^◌, List, [], ◌∷
 use Rattle.std.specs.List.{flat_map}
 use Rattle.mc_base.specs.Text.{hex_text}
 use Rattle.mc_base.specs.declared.name.EndName.{EndName}
+use Rattle.mc_base.specs.declared.channel.Kind.{Kind}
+use Rattle.mc_base.specs.declared.channel.Kind.TheVariants as kind
 use Rattle.board_model.specs.declared.scenario.DomainLine.{DomainLine}
 use Rattle.board_model.specs.declared.scenario.LinkLine.{LinkLine}
 use Rattle.board_model.specs.declared.scenario.Call.{Call}
-use Rattle.board_model.specs.declared.scenario.Call.TheVariants.{Create, Delete, Lookup, MsgSend, MsgRecv, MsgRecvI, MsgAvailable, Test, Cancel, Turn}
+use Rattle.board_model.specs.declared.scenario.Call.TheVariants.{Create, Delete, Lookup, MsgSend, MsgRecv, MsgRecvI, MsgAvailable, Connect, OpenSend, OpenRecv, CloseSend, CloseRecv, Test, Cancel, Turn}
 use Rattle.board_model.specs.declared.scenario.CallLine.{CallLine}
 use Rattle.board_model.specs.declared.scenario.Scenario.{Scenario}
 use Rattle.board_model.specs.declared.form.ArgumentKind.{ArgumentKind}
-use Rattle.board_model.specs.declared.form.ArgumentKind.TheVariants.{Port, Name, Priority, Content, Maximum, Label}
+use Rattle.board_model.specs.declared.form.ArgumentKind.TheVariants.{Port, Name, Priority, Content, Maximum, ChannelKind, Label}
 use Rattle.board_model.specs.declared.form.Callee.{Callee}
 use Rattle.board_model.specs.declared.form.Callee.TheVariants as callee
 use Rattle.board_model.specs.Scenario.{label_in}
@@ -37,6 +39,10 @@ link_text l = line_of (codes "link" ∷ decimal l.driver ∷ decimal l.device �
 abbrev pub name_text : EndName → List ℕ
 name_text n = decimal n.domain ++ (58 ∷ (decimal n.node ++ (58 ∷ decimal n.port)))
 
+abbrev pub kind_text : Kind → List ℕ
+kind_text kind.Packet = codes "packet"
+kind_text kind.Scalar = codes "scalar"
+
 -- an argument as its word
 abbrev pub argument_text : (kind : ArgumentKind) → Value kind → List ℕ
 argument_text Port n = decimal n
@@ -44,6 +50,7 @@ argument_text Name n = name_text n
 argument_text Priority n = decimal n
 argument_text Content bytes = hex_text bytes
 argument_text Maximum n = decimal n
+argument_text ChannelKind kind = kind_text kind
 argument_text Label label = label.items
 
 abbrev pub argument_texts : (kinds : List ArgumentKind) → Values kinds → List (List ℕ)
@@ -63,6 +70,11 @@ call_words (MsgSend port to priority bytes) = form_words callee.MsgSend (port, (
 call_words (MsgRecv port max) = form_words callee.MsgRecv (port, (max, tt))
 call_words (MsgRecvI port max) = form_words callee.MsgRecvI (port, (max, tt))
 call_words (MsgAvailable port) = form_words callee.MsgAvailable (port, tt)
+call_words (Connect port to kind) = form_words callee.Connect (port, (to, (kind, tt)))
+call_words (OpenSend port kind) = form_words callee.OpenSend (port, (kind, tt))
+call_words (OpenRecv port kind) = form_words callee.OpenRecv (port, (kind, tt))
+call_words (CloseSend port) = form_words callee.CloseSend (port, tt)
+call_words (CloseRecv port) = form_words callee.CloseRecv (port, tt)
 call_words (Test label) = form_words callee.Test (label, tt)
 call_words (Cancel label) = form_words callee.Cancel (label, tt)
 call_words Turn = form_words callee.Turn tt

@@ -17,12 +17,14 @@ pub data PlainResult : Type 0 where
   brought : ℕ → List ℕ → PlainResult
   ended_by : Refusal → PlainResult
 
--- the answer of a call: a word of refusal; ok; ok with a number; ok with a size and the bytes that were given; or done, with
--- the place of the request among those that were named, or none where one alone was, and how it was complete
+-- the answer of a call: a word of refusal; ok; ok with a number; ok with the numbers of a request and of a channel; ok with a size and
+-- the bytes that were given; or done, with the place of the request among those that were named, or none where one alone was, and how
+-- it was complete
 pub data PlainAnswer : Type 0 where
   refuses : Refusal → PlainAnswer
   agrees : PlainAnswer
   tells : ℕ → PlainAnswer
+  connects : ℕ → ℕ → PlainAnswer
   gives : ℕ → List ℕ → PlainAnswer
   completes : Option ℕ → PlainResult → PlainAnswer
 

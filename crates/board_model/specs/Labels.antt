@@ -2,11 +2,12 @@
 -- Source: docs/PROFILE.md, "Requests". A label whose call was refused names no request, and a request that ended is none.
 use Rattle.std.specs.Prelude.{ℕ, List, [], ◌∷◌, ◌++◌, find, Option, Some, None, option_map, option_and_then}
 use Rattle.std.specs.Str.{bytes_eq}
+use Rattle.mc_base.specs.declared.channel.Side.TheVariants.{Sender, Receiver}
 use Rattle.board_model.specs.declared.scenario.Call.{Call}
-use Rattle.board_model.specs.declared.scenario.Call.TheVariants.{Create, Delete, Lookup, MsgSend, MsgRecv, MsgRecvI, MsgAvailable, Test, Cancel, Turn}
+use Rattle.board_model.specs.declared.scenario.Call.TheVariants.{Create, Delete, Lookup, MsgSend, MsgRecv, MsgRecvI, MsgAvailable, Connect, OpenSend, OpenRecv, CloseSend, CloseRecv, Test, Cancel, Turn}
 use Rattle.board_model.specs.declared.scenario.CallLine.{CallLine}
 use Rattle.board_model.specs.Scenario.{label_in}
-use Rattle.board_model.specs.DomainCall.{DomainCall, create_at, delete_at, lookup_of, send_from, receive_at, request_at, available_at, test_of, cancel_of, turn_alone}
+use Rattle.board_model.specs.DomainCall.{DomainCall, create_at, delete_at, lookup_of, send_from, receive_at, request_at, available_at, connect_from, open_at, close_at, test_of, cancel_of, turn_alone}
 use Rattle.board_model.specs.State.{DomainState, place_of_request}
 use Rattle.board_model.specs.Answer.{refusal, unless_refused}
 
@@ -32,6 +33,11 @@ call_of labels s (MsgSend port to priority bytes) = send_from port to priority b
 call_of labels s (MsgRecv port max) = receive_at port max
 call_of labels s (MsgRecvI port max) = request_at port max
 call_of labels s (MsgAvailable port) = available_at port
+call_of labels s (Connect port to kind) = connect_from port to kind
+call_of labels s (OpenSend port kind) = open_at port Sender kind
+call_of labels s (OpenRecv port kind) = open_at port Receiver kind
+call_of labels s (CloseSend port) = close_at port Sender
+call_of labels s (CloseRecv port) = close_at port Receiver
 call_of labels s (Test label) = test_of (place_of_label labels s label.items)
 call_of labels s (Cancel label) = cancel_of (place_of_label labels s label.items)
 call_of labels s Turn = turn_alone
@@ -40,6 +46,7 @@ call_of labels s Turn = turn_alone
 abbrev pub success_request : DomainState → DomainCall → Option ℕ
 success_request s (lookup_of name) = Some s.requests_given
 success_request s (request_at port max) = Some s.requests_given
+success_request s (connect_from port to kind) = Some s.requests_given
 success_request s other = None
 
 abbrev pub request_given : DomainState → ℕ → DomainCall → Option ℕ

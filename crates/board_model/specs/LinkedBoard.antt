@@ -5,7 +5,7 @@ use Rattle.std.specs.List.{AllByRecursion}
 use Rattle.mc_base.specs.Limits.{asked_limit}
 use Rattle.board_model.specs.declared.scenario.LinkLine.{LinkLine}
 use Rattle.board_model.specs.declared.scenario.Call.{Call}
-use Rattle.board_model.specs.declared.scenario.Call.TheVariants.{Create, Delete, Lookup, MsgSend, MsgRecv, MsgRecvI, MsgAvailable, Test, Cancel, Turn}
+use Rattle.board_model.specs.declared.scenario.Call.TheVariants.{Create, Delete, Lookup, MsgSend, MsgRecv, MsgRecvI, MsgAvailable, Connect, OpenSend, OpenRecv, CloseSend, CloseRecv, Test, Cancel, Turn}
 use Rattle.board_model.specs.declared.scenario.Scenario.{Scenario}
 use Rattle.board_model.specs.Grammar.{IsLawfulDomain, IsLawfulName}
 
@@ -43,6 +43,11 @@ HasFitArguments (MsgSend port to priority bytes) = (port < 2 ^ 16) × IsLawfulNa
 HasFitArguments (MsgRecv port max) = (port < 2 ^ 16) × (max ≤ asked_limit)
 HasFitArguments (MsgRecvI port max) = (port < 2 ^ 16) × (max ≤ asked_limit)
 HasFitArguments (MsgAvailable port) = port < 2 ^ 16
+HasFitArguments (Connect port to kind) = (port < 2 ^ 16) × IsLawfulName to
+HasFitArguments (OpenSend port kind) = port < 2 ^ 16
+HasFitArguments (OpenRecv port kind) = port < 2 ^ 16
+HasFitArguments (CloseSend port) = port < 2 ^ 16
+HasFitArguments (CloseRecv port) = port < 2 ^ 16
 HasFitArguments (Test label) = Unit {0}
 HasFitArguments (Cancel label) = Unit {0}
 HasFitArguments Turn = Unit {0}

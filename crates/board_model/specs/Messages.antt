@@ -1,7 +1,7 @@
 -- The messages of a board: those that were accepted, those that are queued, and those in the ring, that is, on their way. What
 -- receives took is defined in `Takings`, and what was dropped in `Drops`.
 -- Source: docs/PROFILE.md, "Messages".
-use Rattle.std.specs.Prelude.{ℕ, Bool, ◌&&◌, List, [], ◌∷◌, length, drop, map, is_none, unwrap_or}
+use Rattle.std.specs.Prelude.{ℕ, Bool, ◌&&◌, List, [], ◌∷◌, length, drop, map, filter, is_none, unwrap_or}
 use Rattle.std.specs.List.{flat_map}
 use Rattle.mc_base.specs.Fault.{fault}
 use Rattle.mc_base.specs.Letter.{msg}
@@ -59,8 +59,12 @@ accepted s js = flat_map (accepted_in s) js
 
 -- ---- queued, and in the ring
 
+-- an item that came on no channel is a message
+abbrev pub is_message_item : Item → Bool
+is_message_item i = is_none i.channel
+
 abbrev pub queued_at : ℕ → Endpoint → List Message
-queued_at d e = map (message_of d e.address) e.queue
+queued_at d e = map (message_of d e.address) (filter is_message_item e.queue)
 
 abbrev pub queued_in : Scenario → DomainJournal → List Message
 queued_in s j = flat_map (queued_at j.line.domain) (left_in s j).endpoints

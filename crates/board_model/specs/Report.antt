@@ -4,15 +4,16 @@ use Rattle.std.specs.Prelude.{ℕ, List, [], ◌∷◌, ◌++◌, map, option_to
 use Rattle.std.specs.List.{flat_map}
 use Rattle.mc_base.specs.Text.{hex_text}
 use Rattle.board_model.specs.declared.totals.Totals.{Totals}
+use Rattle.board_model.specs.declared.totals.ChannelTotals.{ChannelTotals}
 use Rattle.board_model.specs.declared.totals.LanePlaces.{LanePlaces}
 use Rattle.board_model.specs.declared.scenario.DomainLine.{DomainLine}
 use Rattle.board_model.specs.declared.scenario.Scenario.{Scenario}
 use Rattle.board_model.specs.Scenario.{rising, lanes}
 use Rattle.board_model.specs.Grammar.{line_of, canonical}
-use Rattle.board_model.specs.Journal.{PlainResult, found_at, was_accepted, was_rejected, brought, ended_by, PlainAnswer, refuses, agrees, tells, gives, completes, Line, idle_line, again_line, spin_line, turn_line, back_line, put_line, see_line, take_line, call_line, joined}
+use Rattle.board_model.specs.Journal.{PlainResult, found_at, was_accepted, was_rejected, brought, ended_by, PlainAnswer, refuses, agrees, tells, connects, gives, completes, Line, idle_line, again_line, spin_line, turn_line, back_line, put_line, see_line, take_line, call_line, joined}
 use Rattle.board_model.specs.Words.{refusal_text, fate_text, reason_text}
 use Rattle.board_model.specs.Board.{DomainJournal}
-use Rattle.board_model.specs.Totals.{totals}
+use Rattle.board_model.specs.Totals.{channel_totals, totals}
 use Rattle.board_model.specs.Places.{places_of}
 
 -- the words of how a request was complete. Where fewer bytes than the size were given, it is truncated
@@ -28,6 +29,7 @@ abbrev pub answer_words : PlainAnswer → List (List ℕ)
 answer_words (refuses word) = refusal_text word ∷ []
 answer_words agrees = codes "ok" ∷ []
 answer_words (tells n) = codes "ok" ∷ decimal n ∷ []
+answer_words (connects request channel) = codes "ok" ∷ decimal request ∷ decimal channel ∷ []
 answer_words (gives size bytes) = (if nat_lt (length bytes) size then codes "truncated" else codes "ok") ∷ decimal size ∷ hex_text bytes ∷ []
 answer_words (completes place result) = codes "done" ∷ (map decimal (option_to_list place) ++ result_words result)
 
@@ -61,12 +63,6 @@ journals_text (d ∷ ds) (lines ∷ journals) = journal_text d lines ++ journals
 abbrev pub totals_words : Totals → List (List ℕ)
 totals_words t = codes "accepted" ∷ decimal t.accepted ∷ codes "taken" ∷ decimal t.taken ∷ codes "dropped" ∷ decimal t.dropped ∷ codes "queued" ∷ decimal t.queued ∷ codes "ring" ∷ decimal t.ring ∷ []
 
--- what became of the items of a channel, by its owner and its number there
-pub record ChannelTotals : Type 0 where
-  pub owner : ℕ
-  pub number : ℕ
-  pub items : Totals
-
 abbrev pub messages_text : Totals → List ℕ
 messages_text t = line_of (codes "messages" ∷ totals_words t)
 
@@ -75,7 +71,7 @@ places_text p = line_of (codes "lane" ∷ decimal p.from ∷ decimal p.to ∷ co
 
 -- the line of a channel, by its owner and its number there
 abbrev pub channel_text : ChannelTotals → List ℕ
-channel_text c = line_of (codes "channel" ∷ decimal c.owner ∷ decimal c.number ∷ totals_words c.items)
+channel_text c = line_of (codes "channel" ∷ decimal c.owner ∷ decimal c.number ∷ totals_words c.totals)
 
 -- how the board was run: its domains by turns on one thread, or each on its own
 pub data Mode : Type 0 where
@@ -98,6 +94,6 @@ report_of mode s journals channels messages places rings =
 abbrev pub lines_of : DomainJournal → List Line
 lines_of j = joined j.entries
 
--- the report of a serial run of a scenario. No call of the present profile makes a channel, and a serial run has no ring lines
+-- the report of a serial run of a scenario. It has no ring lines
 unfoldable pub report : Scenario → List DomainJournal → List ℕ
-report s js = report_of serial s (map lines_of js) [] (totals s js) (map (places_of s js) (lanes s)) []
+report s js = report_of serial s (map lines_of js) (channel_totals s js) (totals s js) (map (places_of s js) (lanes s)) []

@@ -5,6 +5,7 @@ use Rattle.std.specs.Prelude.{ℕ, ◌+◌, Bool, false, not, ◌&&◌, List, []
 use Rattle.std.specs.List.{flat_map, list_any}
 use Rattle.mc_base.specs.Limits.{name_service_address}
 use Rattle.mc_base.specs.Frame.{made}
+use Rattle.mc_base.specs.Letter.{PlainLetter, accept, reject, spelling}
 use Rattle.mc_base.specs.Announcement.{announcement}
 use Rattle.mc_base.specs.FullName.{end_name, full_name}
 use Rattle.mc_base.specs.NameMap.{Names}
@@ -85,6 +86,14 @@ pub record Announcement : Type 0 where
   pub address : ℕ
   pub create : Bool
 
+-- the answer that is owed to a Connect: from the address that it named, to the one that it came from, an Accept of the channel, or a
+-- Reject with its reason
+pub record Reply : Type 0 where
+  pub source : ℕ
+  pub destination : ℕ
+  pub channel : ℕ
+  pub reason : Option Reason
+
 -- a peer, the domain itself among them: the lane to it with its free buffers, the frames of the lane from it that were
 -- shown and not taken, the announcements and replies that are owed to it, and the addresses known of its names
 pub record Peer : Type 0 where
@@ -93,7 +102,7 @@ pub record Peer : Type 0 where
   pub free : ℕ
   pub shown : ℕ
   pub announcements : List Announcement
-  pub replies : List (List ℕ)
+  pub replies : List Reply
   pub known : Names
 
 -- `endpoints` are the live ones in the order of their creation, and `ended` the addresses, in rising order, of those that were
@@ -147,6 +156,11 @@ endpoint_of s address = find (has_address_of address) s.endpoints
 -- the address of the endpoint of this name
 abbrev pub address_at : DomainState → Local → Option ℕ
 address_at s local = option_map (λ e. e.address) (endpoint_at s local)
+
+-- its channel
+abbrev pub channel_in : Option Endpoint → Option ChannelEnd
+channel_in None = None
+channel_in (Some e) = e.channel
 
 -- its queue
 abbrev pub queue_in : Option Endpoint → List Item
@@ -221,9 +235,17 @@ free_to s n = unwrap_or (option_map (λ p. p.free) (peer_of s n)) 0
 abbrev pub announcing : ℕ → Announcement → List ℕ
 announcing domain a = made a.address name_service_address (announcement (full_name (end_name domain a.local)) a.address a.create)
 
+-- the letter of a reply, and its frame
+abbrev pub letter_by : ℕ → Option Reason → PlainLetter
+letter_by channel None = accept channel
+letter_by channel (Some reason) = reject channel reason
+
+abbrev pub replying : Reply → List ℕ
+replying r = made r.source r.destination (spelling (letter_by r.channel r.reason))
+
 -- the frames that a domain owes to a peer: announcements first, and then replies, the oldest first
 abbrev pub owed_to : ℕ → Peer → List (List ℕ)
-owed_to domain p = map (announcing domain) p.announcements ++ p.replies
+owed_to domain p = map (announcing domain) p.announcements ++ map replying p.replies
 
 -- a peer is still to be told that the endpoint of this address is gone
 abbrev pub tells_gone : ℕ → Announcement → Bool

@@ -8,6 +8,11 @@ pub enum Callee {
     MsgRecv,
     MsgRecvI,
     MsgAvailable,
+    Connect,
+    OpenSend,
+    OpenRecv,
+    CloseSend,
+    CloseRecv,
     Test,
     Cancel,
     Turn,
@@ -26,6 +31,8 @@ pub enum ArgumentKind {
     Content,
     /// MAX: 0 to 9000.
     Maximum,
+    /// KIND: `packet` or `scalar`.
+    ChannelKind,
     /// LABEL: that of a request.
     Label,
 }

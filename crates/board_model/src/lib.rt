@@ -22,4 +22,4 @@ pub use numeral::{decode_pairs, hex_digit, is_dash, length_before, number_to};
 pub use reason::LineReason;
 pub use scenario::{Call, CallLine, DomainLine, Label, LinkLine, Scenario};
 pub use seq::Seq;
-pub use totals::{LanePlaces, Totals};
+pub use totals::{ChannelTotals, LanePlaces, Totals};

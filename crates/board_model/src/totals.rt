@@ -8,6 +8,14 @@ pub struct Totals {
     pub ring: u64,
 }
 
+/// The totals of the items of a channel, which is named by its sender's domain and by the number that this domain gave it.
+#[derive(Clone, Copy, Debug, PartialEq, Eq)]
+pub struct ChannelTotals {
+    pub owner: u8,
+    pub number: u32,
+    pub totals: Totals,
+}
+
 /// Where the buffers of the lane from one domain to another are. The four numbers add up to the lane's size.
 #[derive(Clone, Copy, Debug, PartialEq, Eq)]
 pub struct LanePlaces {
