@@ -7,7 +7,7 @@ use Rattle.mc_base.specs.Limits.{first_address}
 use Rattle.mc_base.specs.declared.name.Local.{Local}
 use Rattle.board_model.specs.Lists.{changed_first, without_first}
 use Rattle.board_model.specs.State.{Item, Endpoint, Announcement, Peer, DomainState, is_at, has_address_of, is_numbered, place_at, live_at}
-use Rattle.board_model.specs.Change.{Change, endpoint_made, endpoint_gone, item_queued, best_gone, request_added, item_handed, waiting_ended, name_found, request_gone, end_announced, owed_put, buffers_back, frames_shown, frame_taken, names_known, buffer_used, endpoint_with, with_queue, also_owed, first_put, peers_after, changed, changed_all}
+use Rattle.board_model.specs.Change.{Change, endpoint_made, endpoint_gone, item_queued, best_gone, channel_set, queue_dropped, request_added, item_handed, waiting_ended, name_found, connect_settled, request_gone, end_announced, reply_owed, owed_put, buffers_back, frames_shown, frame_taken, names_known, buffer_used, channel_given, endpoint_with, with_channel, without_queue, with_queue, also_owed, first_put, peers_after, changed, changed_all}
 use Rattle.board_model.specs.Choice.{without_best}
 use Rattle.board_model.proofs.MessageAlls.{all-append, all-changed-first, all-filter, all-found, all-weaken}
 use Rattle.board_model.proofs.MessageLists.{some-position}
@@ -20,12 +20,14 @@ abbrev pub EndsApart : List Endpoint → Type 0
 EndsApart [] = Unit {0}
 EndsApart (e ∷ es) = AllByRecursion (λ f. has_address_of e.address f ≡ false) es × EndsApart es
 
-apart_changed : (p : Endpoint → Bool) (q : List Item → List Item) (es : List Endpoint) → EndsApart es → EndsApart (changed_first p (with_queue q) es)
-apart_changed p q [] apart = tt
-apart_changed p q (e ∷ es) apart =
-    cond_both (p e) (with_queue q e ∷ es) (e ∷ changed_first p (with_queue q) es) EndsApart
-    (λ here. apart)
-    (λ other. (all-changed-first (λ (f : Endpoint). has_address_of e.address f ≡ false) p (with_queue q) es apart.0 (λ f found differs. differs), apart_changed p q es apart.1))
+-- a change that keeps an endpoint's address
+module _ (p : Endpoint → Bool) (f : Endpoint → Endpoint) (same : (e : Endpoint) → (f e).address ≡ e.address) where
+  apart_changed : (es : List Endpoint) → EndsApart es → EndsApart (changed_first p f es)
+  apart_changed [] apart = tt
+  apart_changed (e ∷ es) apart =
+      cond_both (p e) (f e ∷ es) (e ∷ changed_first p f es) EndsApart
+      (λ here. (subst (λ a. AllByRecursion (λ (x : Endpoint). has_address_of a x ≡ false) es) (sym (same e)) apart.0, apart.1))
+      (λ other. (all-changed-first (λ (x : Endpoint). has_address_of e.address x ≡ false) p f es apart.0 (λ x found differs. ap (λ a. a == e.address) (same x) ∙ differs), apart_changed es apart.1))
 
 apart_filtered : (p : Endpoint → Bool) (es : List Endpoint) → EndsApart es → EndsApart (filter p es)
 apart_filtered p [] apart = tt
@@ -61,10 +63,10 @@ ends_gone s a ends = record {
   below = all-filter (λ e. e.address < first_address + s.endpoints_given) (λ e. not (has_address_of a e)) s.endpoints ends.below;
 }
 
-ends_queue : (s : DomainState) (a : ℕ) (q : List Item → List Item) → Ends s → Ends (record s { endpoints = changed_first (has_address_of a) (with_queue q) s.endpoints })
-ends_queue s a q ends = record {
-  apart = apart_changed (has_address_of a) q s.endpoints ends.apart;
-  below = all-changed-first (λ e. e.address < first_address + s.endpoints_given) (has_address_of a) (with_queue q) s.endpoints ends.below (λ f found less. less);
+ends_one : (s : DomainState) (a : ℕ) (f : Endpoint → Endpoint) → ((e : Endpoint) → (f e).address ≡ e.address) → Ends s → Ends (record s { endpoints = changed_first (has_address_of a) f s.endpoints })
+ends_one s a f same ends = record {
+  apart = apart_changed (has_address_of a) f same s.endpoints ends.apart;
+  below = all-changed-first (λ e. e.address < first_address + s.endpoints_given) (has_address_of a) f s.endpoints ends.below (λ e found less. subst (λ x. x < first_address + s.endpoints_given) (sym (same e)) less);
 }
 
 -- ---- peers
@@ -83,6 +85,7 @@ put-number p = cond_both (length p.announcements == 0) (record p { free = p.free
 
 pub numbers-kept : (s : DomainState) (c : Change) → numbers_in (peers_after c s) ≡ numbers_in s.peers
 numbers-kept s (end_announced a) = also_numbers s.number a s.peers
+numbers-kept s (reply_owed n r) = map-changed_first (λ p. p.number) (is_numbered n) (λ p. record p { replies = p.replies ++ r ∷ [] }) (λ p. refl) s.peers
 numbers-kept s (owed_put n) = map-changed_first (λ p. p.number) (is_numbered n) first_put put-number s.peers
 numbers-kept s (buffers_back n count) = map-changed_first (λ p. p.number) (is_numbered n) (λ p. record p { free = p.free + count }) (λ p. refl) s.peers
 numbers-kept s (frames_shown n count) = map-changed_first (λ p. p.number) (is_numbered n) (λ p. record p { shown = count }) (λ p. refl) s.peers
@@ -96,20 +99,25 @@ numbers-kept s other = refl
 pub ends-changed : (s : DomainState) (c : Change) → Ends s → Ends (changed s c)
 ends-changed s (endpoint_made at) ends = ends_made s at ends
 ends-changed s (endpoint_gone a) ends = ends_gone s a ends
-ends-changed s (item_queued a i) ends = let more = ends_queue s a (λ q. q ++ i ∷ []) ends in record { apart = more.apart; below = more.below }
-ends-changed s (best_gone a) ends = let less = ends_queue s a (without_best (λ i. i.priority)) ends in record { apart = less.apart; below = less.below }
+ends-changed s (item_queued a i) ends = let more = ends_one s a (with_queue (λ q. q ++ i ∷ [])) (λ e. refl) ends in record { apart = more.apart; below = more.below }
+ends-changed s (best_gone a) ends = let less = ends_one s a (with_queue (without_best (λ i. i.priority))) (λ e. refl) ends in record { apart = less.apart; below = less.below }
+ends-changed s (channel_set a c) ends = let other = ends_one s a (with_channel c) (λ e. refl) ends in record { apart = other.apart; below = other.below }
+ends-changed s (queue_dropped a c) ends = let other = ends_one s a (without_queue c) (λ e. refl) ends in record { apart = other.apart; below = other.below }
 ends-changed s (request_added asked o) ends = record { apart = ends.apart; below = ends.below }
 ends-changed s (item_handed a i) ends = record { apart = ends.apart; below = ends.below }
 ends-changed s (waiting_ended a word) ends = record { apart = ends.apart; below = ends.below }
 ends-changed s (name_found n a) ends = record { apart = ends.apart; below = ends.below }
+ends-changed s (connect_settled n o) ends = record { apart = ends.apart; below = ends.below }
 ends-changed s (request_gone place) ends = record { apart = ends.apart; below = ends.below }
 ends-changed s (end_announced a) ends = record { apart = ends.apart; below = ends.below }
+ends-changed s (reply_owed n r) ends = record { apart = ends.apart; below = ends.below }
 ends-changed s (owed_put n) ends = record { apart = ends.apart; below = ends.below }
 ends-changed s (buffers_back n count) ends = record { apart = ends.apart; below = ends.below }
 ends-changed s (frames_shown n count) ends = record { apart = ends.apart; below = ends.below }
 ends-changed s (frame_taken n) ends = record { apart = ends.apart; below = ends.below }
 ends-changed s (names_known n names) ends = record { apart = ends.apart; below = ends.below }
 ends-changed s (buffer_used n) ends = record { apart = ends.apart; below = ends.below }
+ends-changed s channel_given ends = record { apart = ends.apart; below = ends.below }
 
 pub ends-all : (s : DomainState) (cs : List Change) → Ends s → Ends (changed_all s cs)
 ends-all s [] ends = ends
