@@ -1,27 +1,29 @@
 -- What a call answers, puts and does in a state but for the names of frames is as in the state.
-use Rattle.std.proofs.Common.{◌≡◌, ℕ, ◌+◌, true, false, not, cond, List, [], ◌∷◌, map, length, Option, Some, None, refl, sym, ap, ap₂, ◌∙◌}
+use Rattle.std.proofs.Common.{◌≡◌, ℕ, ◌+◌, true, false, not, ◌||◌, cond, List, [], ◌∷◌, map, length, Option, Some, None, refl, sym, ap, ap₂, ◌∙◌}
 use Rattle.std.specs.Prelude.{nat_le, option_map, ◌==◌, is_some, unwrap_or}
 use Rattle.std.proofs.lemmas.List.{length-map}
 use Rattle.mc_base.specs.Limits.{record_limit, request_limit}
-use Rattle.mc_base.specs.Frame.{made}
-use Rattle.mc_base.specs.Letter.{spelling, msg}
+use Rattle.mc_base.specs.Letter.{PlainLetter, msg, connect}
 use Rattle.mc_base.specs.declared.name.Local.{Local}
 use Rattle.mc_base.specs.declared.name.EndName.{EndName}
+use Rattle.mc_base.specs.declared.channel.Side.{Side}
+use Rattle.mc_base.specs.declared.channel.Side.TheVariants.{Sender, Receiver}
 use Rattle.mc_base.specs.declared.refusal.Refusal.{Refusal}
-use Rattle.mc_base.specs.declared.refusal.Refusal.TheVariants.{ExistsAlready, EndpLimit, EndpInvalid, PeerInvalid, OnChannel, ChanConnected, NoBuffer, Empty, RequestLimit, RequestInvalid, Pending, TooLate}
-use Rattle.board_model.specs.State.{Item, Endpoint, Outcome, has_address, is_accepted, is_rejected, has_item, has_ended, Asked, name_of, message_at, Request, DomainState, is_at, live_at, endpoint_at, address_at, queue_in, queue_at, request_at_place, peer_of}
+use Rattle.mc_base.specs.declared.refusal.Refusal.TheVariants.{ExistsAlready, EndpLimit, EndpInvalid, PeerInvalid, OnChannel, ChanConnected, EndpBusy, NotConnected, ChanDirection, ChanType, ChanClosed, AlreadyOpen, NoBuffer, Empty, RequestLimit, RequestInvalid, Pending, TooLate}
+use Rattle.board_model.specs.State.{Item, ChannelEnd, Endpoint, Outcome, has_address, is_accepted, is_rejected, has_item, has_ended, Asked, name_of, channel_of, message_at, Request, DomainState, is_at, live_at, endpoint_at, address_at, channel_in, queue_in, queue_at, one_waits, request_at_place, peer_of}
 use Rattle.board_model.specs.Choice.{best}
-use Rattle.board_model.specs.DomainCall.{DomainCall, create_at, delete_at, lookup_of, send_from, receive_at, request_at, available_at, test_of, cancel_of, turn_alone}
+use Rattle.board_model.specs.DomainCall.{DomainCall, create_at, delete_at, lookup_of, send_from, receive_at, request_at, available_at, connect_from, open_at, close_at, test_of, cancel_of, turn_alone}
 use Rattle.board_model.specs.Journal.{refuses, tells, completes}
-use Rattle.board_model.specs.Answer.{local, here, known_address, address_of, has_channel, named, request_named, is_complete, success_puts, lacks_buffers, holds, words_of, refusal, given, result_by, result_of, success, answer_by, answer, unless_refused, puts}
-use Rattle.board_model.specs.Change.{Change, endpoint_gone, best_gone, request_added, waiting_ended, end_announced}
-use Rattle.board_model.specs.CallChanges.{at_live, best_item, success_changes, call_changes}
+use Rattle.board_model.specs.Answer.{local, here, known_address, address_of, has_channel, named, end_call, holds_at_end, channel_at, Post, post, put_of, over_channel, over_end, opening_letter, closing_letter, request_named, is_complete, success_posts, success_puts, lacks_buffers, holds, words_of, refusal, given, result_by, result_of, success, answer_by, answer, unless_refused, puts}
+use Rattle.board_model.specs.Change.{Change, endpoint_gone, best_gone, channel_set, request_added, waiting_ended, end_announced, buffer_used, channel_given}
+use Rattle.board_model.specs.ChannelEnds.{connecting_end, opened_end}
+use Rattle.board_model.specs.CallChanges.{at_live, at_channel, at_end, new_sender, closing, best_item, success_changes, call_changes}
 use Rattle.board_model.proofs.DeedRuns.{unnamed_item, unnamed_end, unnamed_outcome, unnamed_request, unnamed}
 use Rattle.board_model.proofs.MessageAlls.{none-passes}
 use Rattle.board_model.proofs.MessageBest.{best-none}
 use Rattle.board_model.proofs.MessageLists.{get-position}
 use Rattle.board_model.proofs.ListsMapped.{is_some-map, option-map-map, get-mapped, find-alike, best-mapped}
-use Rattle.board_model.proofs.UnnamedChanges.{live-unnamed, place-unnamed, unnamed_change}
+use Rattle.board_model.proofs.UnnamedChanges.{live-unnamed, place-unnamed, one_waits-unnamed, unnamed_change}
 
 -- ---- endpoints
 
@@ -51,6 +53,23 @@ channel_unnamed : (o : Option Endpoint) → has_channel (option_map unnamed_end 
 channel_unnamed None = refl
 channel_unnamed (Some e) = refl
 
+-- ---- their channels
+
+has_unnamed : (o : Option Endpoint) → channel_in (option_map unnamed_end o) ≡ channel_in o
+has_unnamed None = refl
+has_unnamed (Some e) = refl
+
+pub channel-unnamed : (s : DomainState) (at : Local) → channel_at (unnamed s) at ≡ channel_at s at
+channel-unnamed s at = ap channel_in (live-unnamed s at) ∙ has_unnamed (live_at s at)
+
+over_unnamed : (o : Option Endpoint) (c : Option ChannelEnd) (letter : ℕ → PlainLetter) → over_channel (option_map unnamed_end o) c letter ≡ over_channel o c letter
+over_unnamed None c letter = refl
+over_unnamed (Some e) None letter = refl
+over_unnamed (Some e) (Some c) letter = refl
+
+over_end_unnamed : (s : DomainState) (at : Local) (letter : ℕ → PlainLetter) → over_end (unnamed s) at letter ≡ over_end s at letter
+over_end_unnamed s at letter = ap₂ (λ o c. over_channel o c letter) (live-unnamed s at) (channel-unnamed s at) ∙ over_unnamed (live_at s at) (channel_at s at) letter
+
 -- ---- requests
 
 pub request-unnamed : (s : DomainState) (place : Option ℕ) → request_at_place (unnamed s) place ≡ option_map unnamed_request (request_at_place s place)
@@ -64,31 +83,35 @@ complete_unnamed (Some r) = is_some-map unnamed_outcome r.outcome
 named_unnamed : (s : DomainState) (call : DomainCall) → request_named (unnamed s) call ≡ option_map unnamed_request (request_named s call)
 named_unnamed s (test_of request) = request-unnamed s request
 named_unnamed s (cancel_of request) = request-unnamed s request
-named_unnamed s (create_at port) = refl
-named_unnamed s (delete_at port) = refl
-named_unnamed s (lookup_of name) = refl
-named_unnamed s (send_from port to priority bytes) = refl
-named_unnamed s (receive_at port max) = refl
-named_unnamed s (request_at port max) = refl
-named_unnamed s (available_at port) = refl
-named_unnamed s turn_alone = refl
+named_unnamed s other = refl
 
 addressed_unnamed : (s : DomainState) (call : DomainCall) → named (unnamed s) call ≡ named s call
 addressed_unnamed s (send_from port to priority bytes) = address_of_unnamed s to
+addressed_unnamed s (connect_from port to kind) = address_of_unnamed s to
 addressed_unnamed s other = refl
 
 -- ---- words of refusal
 
+pub posts-unnamed : (s : DomainState) (node : ℕ) (call : DomainCall) → success_posts (unnamed s) node call ≡ success_posts s node call
+posts-unnamed s node (send_from port to priority bytes) =
+    ap₂ (λ from at. post to.domain (unwrap_or from 0) (unwrap_or at 0) (msg priority bytes) ∷ []) (address_unnamed s (local node port)) (address_of_unnamed s to)
+posts-unnamed s node (connect_from port to kind) =
+    ap₂ (λ from at. post to.domain (unwrap_or from 0) (unwrap_or at 0) (connect (s.channels_given + 1) kind) ∷ []) (address_unnamed s (local node port)) (address_of_unnamed s to)
+posts-unnamed s node (open_at port side kind) = over_end_unnamed s (local node port) (opening_letter side)
+posts-unnamed s node (close_at port side) = over_end_unnamed s (local node port) (closing_letter side)
+posts-unnamed s node other = refl
+
 success_puts_unnamed : (s : DomainState) (node : ℕ) (call : DomainCall) → success_puts (unnamed s) node call ≡ success_puts s node call
-success_puts_unnamed s node (send_from port to priority bytes) =
-    ap₂ (λ from at. (to.domain, made (unwrap_or from 0) (unwrap_or at 0) (spelling (msg priority bytes))) ∷ []) (address_unnamed s (local node port)) (address_of_unnamed s to)
-success_puts_unnamed s node other = refl
+success_puts_unnamed s node call = ap (map put_of) (posts-unnamed s node call)
 
 lacks_unnamed : (s : DomainState) (ps : List (ℕ × List ℕ)) → lacks_buffers (unnamed s) ps ≡ lacks_buffers s ps
 lacks_unnamed s [] = refl
 lacks_unnamed s (p ∷ ps) = refl
 
 module _ (s : DomainState) (node : ℕ) (call : DomainCall) where
+  at_end_unnamed : (word : Refusal) → holds_at_end (end_call call) (channel_at (unnamed s) (here node call)) word ≡ holds_at_end (end_call call) (channel_at s (here node call)) word
+  at_end_unnamed word = ap (λ c. holds_at_end (end_call call) c word) (channel-unnamed s (here node call))
+
   holds_unnamed : (word : Refusal) → holds (unnamed s) node call word ≡ holds s node call word
   holds_unnamed ExistsAlready = ap is_some (place-unnamed s (here node call))
   holds_unnamed EndpLimit = ap (λ n. nat_le record_limit (n + length s.ended)) (length-map s.endpoints unnamed_end)
@@ -96,6 +119,12 @@ module _ (s : DomainState) (node : ℕ) (call : DomainCall) where
   holds_unnamed PeerInvalid = ap (λ o. not (is_some o)) (addressed_unnamed s call)
   holds_unnamed OnChannel = ap has_channel (end_unnamed s (here node call)) ∙ channel_unnamed (endpoint_at s (here node call))
   holds_unnamed ChanConnected = ap has_channel (end_unnamed s (here node call)) ∙ channel_unnamed (endpoint_at s (here node call))
+  holds_unnamed EndpBusy = ap₂ (λ n b. not (n == 0) || b) (queue_length s (here node call)) (one_waits-unnamed s (here node call))
+  holds_unnamed NotConnected = at_end_unnamed NotConnected
+  holds_unnamed ChanDirection = at_end_unnamed ChanDirection
+  holds_unnamed ChanType = at_end_unnamed ChanType
+  holds_unnamed ChanClosed = at_end_unnamed ChanClosed
+  holds_unnamed AlreadyOpen = at_end_unnamed AlreadyOpen
   holds_unnamed NoBuffer = ap (lacks_buffers (unnamed s)) (success_puts_unnamed s node call) ∙ lacks_unnamed s (success_puts s node call)
   holds_unnamed Empty = ap (λ n. n == 0) (queue_length s (here node call))
   holds_unnamed RequestLimit = ap (λ n. nat_le request_limit n) (length-map s.requests unnamed_request)
@@ -142,6 +171,10 @@ module _ (s : DomainState) (node : ℕ) where
       ∙ (ap (given max) (best-unnamed (queue_at s (local node port))) ∙ given_unnamed max (best (λ i. i.priority) (queue_at s (local node port))))
   success_unnamed (request_at port max) = refl
   success_unnamed (available_at port) = ap tells (queue_length s (local node port))
+  success_unnamed (connect_from port to kind) = refl
+  success_unnamed (open_at port side kind) = refl
+  success_unnamed (close_at port Sender) = refl
+  success_unnamed (close_at port Receiver) = ap tells (queue_length s (local node port))
   success_unnamed (test_of request) = ap (λ o. completes None (result_of o)) (request-unnamed s request) ∙ ap (completes None) (result_of_unnamed (request_at_place s request))
   success_unnamed (cancel_of request) = refl
   success_unnamed turn_alone = refl
@@ -157,6 +190,21 @@ module _ (s : DomainState) (node : ℕ) where
 
   at_unnamed : (f : Endpoint → List Change) → ((e : Endpoint) → map unnamed_change (f e) ≡ f (unnamed_end e)) → (at : Local) → map unnamed_change (at_live (live_at s at) f) ≡ at_live (live_at (unnamed s) at) f
   at_unnamed f same at = live_changes f same (live_at s at) ∙ ap (λ o. at_live o f) (sym (live-unnamed s at))
+
+  end_changes : (f : Endpoint → ChannelEnd → List Change) → ((e : Endpoint) (c : ChannelEnd) → map unnamed_change (f e c) ≡ f (unnamed_end e) c) → (o : Option Endpoint) → map unnamed_change (at_end o f) ≡ at_end (option_map unnamed_end o) f
+  end_changes f same None = refl
+  end_changes f same (Some e) = go e.channel
+    where
+      go : (c : Option ChannelEnd) → map unnamed_change (at_channel c (f e)) ≡ at_channel c (f (unnamed_end e))
+      go None = refl
+      go (Some c) = same e c
+
+  end_unnamed_at : (f : Endpoint → ChannelEnd → List Change) → ((e : Endpoint) (c : ChannelEnd) → map unnamed_change (f e c) ≡ f (unnamed_end e) c) → (at : Local) → map unnamed_change (at_end (live_at s at) f) ≡ at_end (live_at (unnamed s) at) f
+  end_unnamed_at f same at = end_changes f same (live_at s at) ∙ ap (λ o. at_end o f) (sym (live-unnamed s at))
+
+  closing_unnamed : (side : Side) (e : Endpoint) (c : ChannelEnd) → map unnamed_change (closing side e c) ≡ closing side (unnamed_end e) c
+  closing_unnamed Sender e c = refl
+  closing_unnamed Receiver e c = refl
 
   item_unnamed : (o : Option Item) → option_map unnamed_outcome (option_map has_item o) ≡ option_map has_item (option_map unnamed_item o)
   item_unnamed None = refl
@@ -178,6 +226,11 @@ module _ (s : DomainState) (node : ℕ) where
       at_unnamed (λ e. best_gone e.address ∷ request_added (message_at e.local max) (option_map has_item (best_item e)) ∷ [])
       (λ e. ap (λ o. best_gone e.address ∷ request_added (message_at e.local max) o ∷ []) (item_unnamed (best_item e) ∙ ap (option_map has_item) (sym (best-unnamed e.queue)))) (local node port)
   changes_unnamed (available_at port) = refl
+  changes_unnamed (connect_from port to kind) =
+      at_unnamed (λ e. buffer_used to.domain ∷ channel_set e.address (Some (new_sender s to kind)) ∷ request_added (channel_of (s.channels_given + 1)) None ∷ channel_given ∷ []) (λ e. refl) (local node port)
+      ∙ ap (λ (a : Option ℕ). at_live (live_at (unnamed s) (local node port)) (λ e. buffer_used to.domain ∷ channel_set e.address (Some (connecting_end kind s.number (s.channels_given + 1) to.domain (unwrap_or a 0))) ∷ request_added (channel_of (s.channels_given + 1)) None ∷ channel_given ∷ [])) (sym (address_of_unnamed s to))
+  changes_unnamed (open_at port side kind) = end_unnamed_at (λ e c. buffer_used c.peer ∷ channel_set e.address (Some (opened_end c)) ∷ []) (λ e c. refl) (local node port)
+  changes_unnamed (close_at port side) = end_unnamed_at (closing side) (closing_unnamed side) (local node port)
   changes_unnamed (test_of request) = refl
   changes_unnamed (cancel_of request) = refl
   changes_unnamed turn_alone = refl
@@ -211,6 +264,10 @@ refused-is u node word call is = go (refusal u node call) refl is
     never (send_from port to priority bytes) none told = absurd cc
     never (request_at port max) none told = absurd cc
     never (available_at port) none told = absurd cc
+    never (connect_from port to kind) none told = absurd cc
+    never (open_at port side kind) none told = absurd cc
+    never (close_at port Sender) none told = absurd cc
+    never (close_at port Receiver) none told = absurd cc
     never (test_of request) none told = absurd cc
     never (cancel_of request) none told = absurd cc
     never turn_alone none told = absurd cc

@@ -4,11 +4,10 @@ use Rattle.std.specs.Prelude.{option_map, is_none}
 use Rattle.std.proofs.lemmas.List.{map-append}
 use Rattle.std.proofs.lemmas.Simd.{map-map}
 use Rattle.mc_base.specs.declared.name.Local.{Local}
-use Rattle.mc_base.specs.declared.name.EndName.{EndName}
 use Rattle.mc_base.specs.declared.refusal.Refusal.{Refusal}
-use Rattle.board_model.specs.State.{Item, Endpoint, has_address, has_item, has_ended, Request, DomainState, is_at, has_address_of, live_at, endpoint_of, place_at, receives_at, waits_at, one_waits}
+use Rattle.board_model.specs.State.{Item, Endpoint, Asked, Outcome, has_address, has_item, has_ended, Request, DomainState, is_at, has_address_of, live_at, endpoint_of, place_at, receives_at, waits_at, one_waits}
 use Rattle.board_model.specs.Choice.{without_best}
-use Rattle.board_model.specs.Change.{Change, endpoint_made, endpoint_gone, item_queued, best_gone, request_added, item_handed, waiting_ended, name_found, request_gone, end_announced, owed_put, buffers_back, frames_shown, frame_taken, names_known, buffer_used, endpoint_with, with_queue, asks_for, done_with, all_done, handed_in, ended_in, changed, changed_all}
+use Rattle.board_model.specs.Change.{Change, endpoint_made, endpoint_gone, item_queued, best_gone, channel_set, queue_dropped, request_added, item_handed, waiting_ended, name_found, connect_settled, request_gone, end_announced, reply_owed, owed_put, buffers_back, frames_shown, frame_taken, names_known, buffer_used, channel_given, endpoint_with, with_queue, with_channel, without_queue, asks_for, connects_on, done_with, all_done, handed_in, ended_in, changed, changed_all}
 use Rattle.board_model.proofs.DeedRuns.{unnamed_item, unnamed_end, unnamed_outcome, unnamed_request, unnamed}
 use Rattle.board_model.proofs.ListsMapped.{is_none-map, find-mapped, position-mapped, filter-mapped, any-mapped, changed_first-mapped, without-mapped, map-alike, without_best-mapped}
 
@@ -35,6 +34,7 @@ abbrev pub unnamed_change : Change → Change
 unnamed_change (item_queued a i) = item_queued a (unnamed_item i)
 unnamed_change (request_added asked o) = request_added asked (option_map unnamed_outcome o)
 unnamed_change (item_handed a i) = item_handed a (unnamed_item i)
+unnamed_change (connect_settled n o) = connect_settled n (unnamed_outcome o)
 unnamed_change other = other
 
 -- ---- endpoints
@@ -67,16 +67,16 @@ ended (Some e) word rs =
     ∙ (map-alike (λ r. unnamed_request (cond (waits_at e.local r) (done_with (has_ended word) r) r)) (λ r. cond (waits_at e.local (unnamed_request r)) (done_with (has_ended word) (unnamed_request r)) (unnamed_request r)) (ended_one e.local word) rs
     ∙ sym (map-map (λ r. cond (waits_at e.local r) (done_with (has_ended word) r) r) unnamed_request rs))
 
-found_one : (n : EndName) (a : ℕ) (r : Request) → unnamed_request (all_done (asks_for n) (has_address a) r) ≡ all_done (asks_for n) (has_address a) (unnamed_request r)
-found_one n a r =
-    choose_request (is_none r.outcome && asks_for n r.asked) (done_with (has_address a) r) r
-    ∙ ap (λ b. cond (b && asks_for n r.asked) (done_with (has_address a) (unnamed_request r)) (unnamed_request r)) (sym (is_none-map unnamed_outcome r.outcome))
+done_one : (asks : Asked → Bool) (o : Outcome) (r : Request) → unnamed_request (all_done asks o r) ≡ all_done asks (unnamed_outcome o) (unnamed_request r)
+done_one asks o r =
+    choose_request (is_none r.outcome && asks r.asked) (done_with o r) r
+    ∙ ap (λ b. cond (b && asks r.asked) (done_with (unnamed_outcome o) (unnamed_request r)) (unnamed_request r)) (sym (is_none-map unnamed_outcome r.outcome))
 
-found : (n : EndName) (a : ℕ) (rs : List Request) → map unnamed_request (map (all_done (asks_for n) (has_address a)) rs) ≡ map (all_done (asks_for n) (has_address a)) (map unnamed_request rs)
-found n a rs =
-    map-map unnamed_request (all_done (asks_for n) (has_address a)) rs
-    ∙ (map-alike (λ r. unnamed_request (all_done (asks_for n) (has_address a) r)) (λ r. all_done (asks_for n) (has_address a) (unnamed_request r)) (found_one n a) rs
-    ∙ sym (map-map (all_done (asks_for n) (has_address a)) unnamed_request rs))
+done : (asks : Asked → Bool) (o : Outcome) (rs : List Request) → map unnamed_request (map (all_done asks o) rs) ≡ map (all_done asks (unnamed_outcome o)) (map unnamed_request rs)
+done asks o rs =
+    map-map unnamed_request (all_done asks o) rs
+    ∙ (map-alike (λ r. unnamed_request (all_done asks o r)) (λ r. all_done asks (unnamed_outcome o) (unnamed_request r)) (done_one asks o) rs
+    ∙ sym (map-map (all_done asks (unnamed_outcome o)) unnamed_request rs))
 
 -- ---- a change
 
@@ -90,6 +90,12 @@ module _ (s : DomainState) where
   unnamed-changed (best_gone a) =
       ap (λ es. record (changed (unnamed s) (best_gone a)) { endpoints = es })
       (sym (changed_first-mapped unnamed_end (has_address_of a) (has_address_of a) (λ e. refl) (with_queue (without_best (λ i. i.priority))) (with_queue (without_best (λ i. i.priority))) queue_less s.endpoints))
+  unnamed-changed (channel_set a c) =
+      ap (λ es. record (changed (unnamed s) (channel_set a c)) { endpoints = es })
+      (sym (changed_first-mapped unnamed_end (has_address_of a) (has_address_of a) (λ e. refl) (with_channel c) (with_channel c) (λ e. refl) s.endpoints))
+  unnamed-changed (queue_dropped a c) =
+      ap (λ es. record (changed (unnamed s) (queue_dropped a c)) { endpoints = es })
+      (sym (changed_first-mapped unnamed_end (has_address_of a) (has_address_of a) (λ e. refl) (without_queue c) (without_queue c) (λ e. refl) s.endpoints))
   unnamed-changed (request_added asked o) =
       ap (λ rs. record (changed (unnamed s) (request_added asked (option_map unnamed_outcome o))) { requests = rs })
       (map-append unnamed_request s.requests (record { serial = s.requests_given; asked = asked; outcome = o } ∷ []))
@@ -99,15 +105,18 @@ module _ (s : DomainState) where
   unnamed-changed (waiting_ended a word) =
       ap (λ rs. record (changed (unnamed s) (waiting_ended a word)) { requests = rs })
       (ended (endpoint_of s a) word s.requests ∙ ap (λ o. ended_in o word (map unnamed_request s.requests)) (sym (endpoint-unnamed s a)))
-  unnamed-changed (name_found n a) = ap (λ rs. record (changed (unnamed s) (name_found n a)) { requests = rs }) (found n a s.requests)
+  unnamed-changed (name_found n a) = ap (λ rs. record (changed (unnamed s) (name_found n a)) { requests = rs }) (done (asks_for n) (has_address a) s.requests)
+  unnamed-changed (connect_settled n o) = ap (λ rs. record (changed (unnamed s) (connect_settled n (unnamed_outcome o))) { requests = rs }) (done (connects_on n) o s.requests)
   unnamed-changed (request_gone place) = ap (λ rs. record (changed (unnamed s) (request_gone place)) { requests = rs }) (sym (without-mapped unnamed_request place s.requests))
   unnamed-changed (end_announced a) = refl
+  unnamed-changed (reply_owed n r) = refl
   unnamed-changed (owed_put n) = refl
   unnamed-changed (buffers_back n count) = refl
   unnamed-changed (frames_shown n count) = refl
   unnamed-changed (frame_taken n) = refl
   unnamed-changed (names_known n names) = refl
   unnamed-changed (buffer_used n) = refl
+  unnamed-changed channel_given = refl
 
 pub unnamed-all : (s : DomainState) (cs : List Change) → unnamed (changed_all s cs) ≡ changed_all (unnamed s) (map unnamed_change cs)
 unnamed-all s [] = refl
