@@ -3,24 +3,27 @@ use Rattle.std.proofs.Common.{◌≡◌, ℕ, ◌+◌, Bool, true, false, not, �
 use Rattle.std.specs.Prelude.{find, filter, count_by, is_none, slice_get, option_map, option_to_list, IsSome, ◌==◌}
 use Rattle.std.specs.List.{AllByRecursion, flat_map}
 use Rattle.std.proofs.lemmas.Bool.{cond_both}
-use Rattle.mc_base.specs.Reading.{reading}
+use Rattle.mc_base.specs.Reading.{Reading, reading}
 use Rattle.mc_base.specs.declared.name.Local.{Local}
+use Rattle.mc_base.specs.declared.channel.Side.{Side}
+use Rattle.mc_base.specs.declared.channel.Side.TheVariants.{Sender, Receiver}
 use Rattle.mc_base.specs.declared.refusal.Refusal.{Refusal}
 use Rattle.mc_base.specs.declared.refusal.Refusal.TheVariants.{EndpInvalid}
-use Rattle.board_model.specs.State.{Item, Endpoint, message_at, Outcome, has_address, is_accepted, is_rejected, has_item, has_ended, item_in, Request, DomainState, is_at, has_address_of, live_at, endpoint_of, request_at_place, waits_at, is_from}
+use Rattle.board_model.specs.State.{Item, ChannelEnd, Endpoint, channel_of, message_at, Outcome, has_address, is_accepted, is_rejected, has_item, has_ended, item_in, Request, DomainState, is_at, has_address_of, live_at, endpoint_of, request_at_place, waits_at, is_from}
 use Rattle.board_model.specs.Choice.{least, best, best_place, without_best}
-use Rattle.board_model.specs.DomainCall.{DomainCall, create_at, delete_at, lookup_of, send_from, receive_at, request_at, available_at, test_of, cancel_of, turn_alone}
+use Rattle.board_model.specs.DomainCall.{DomainCall, create_at, delete_at, lookup_of, send_from, receive_at, request_at, available_at, connect_from, open_at, close_at, test_of, cancel_of, turn_alone}
 use Rattle.board_model.specs.Answer.{local, address_of, refusal, answer, unless_refused}
 use Rattle.board_model.specs.Journal.{refuses}
-use Rattle.board_model.specs.Change.{Change, endpoint_made, endpoint_gone, item_queued, best_gone, request_added, item_handed, waiting_ended, name_found, request_gone, end_announced, owed_put, buffers_back, frames_shown, frame_taken, names_known, buffer_used, asks_for, done_with, handed_in, ended_in, with_queue, endpoint_with, changed, changed_all}
+use Rattle.board_model.specs.Change.{Change, endpoint_made, endpoint_gone, item_queued, best_gone, channel_set, queue_dropped, request_added, item_handed, waiting_ended, name_found, connect_settled, request_gone, end_announced, reply_owed, owed_put, buffers_back, frames_shown, frame_taken, names_known, buffer_used, channel_given, asks_for, connects_on, done_with, handed_in, ended_in, with_queue, with_channel, without_queue, endpoint_with, changed, changed_all}
 use Rattle.board_model.specs.TakenFrames.{Row, row_of}
-use Rattle.board_model.specs.CallChanges.{at_live, best_item, success_changes, call_changes, held_by, success_returned, returned}
+use Rattle.board_model.specs.ChannelEnds.{opened_end}
+use Rattle.board_model.specs.CallChanges.{at_live, at_channel, at_end, new_sender, closing, best_item, success_changes, call_changes, held_by, success_returned, returned}
 use Rattle.board_model.specs.Deeds.{Deed, looks_back, puts_owed, looks_ahead, takes, calls, after_deed, after_deeds}
 use Rattle.board_model.specs.Given.{frames_from}
 use Rattle.board_model.proofs.MessageAlls.{all-at, all-append, all-filter, all-found, all-changed-first, all-without}
 use Rattle.board_model.proofs.ListsCounts.{one_if, count-cons}
 use Rattle.board_model.proofs.MessageLists.{best_is}
-use Rattle.board_model.proofs.LaneRows.{Deals, stays, learns, forgets, hands, queues, row-deals}
+use Rattle.board_model.proofs.LaneRows.{Deals, stays, learns, forgets, hands, queues, rejects, accepts, acts, item-frames, acting-all, row-deals}
 use Rattle.board_model.proofs.DeedRuns.{unnamed_item, unnamed_end, unnamed_request, unnamed_outcome, unnamed}
 use Rattle.board_model.proofs.UnnamedChanges.{live-unnamed}
 use Rattle.board_model.proofs.UnnamedCalls.{refusal-unnamed, request-unnamed, best-unnamed, refused-is}
@@ -41,6 +44,7 @@ abbrev pub BringsOne : Change → Type 0
 BringsOne (item_queued a i) = IsOne i
 BringsOne (item_handed a i) = IsOne i
 BringsOne (request_added asked o) = AreOne (item_in o)
+BringsOne (connect_settled n o) = AreOne (item_in (Some o))
 BringsOne other = Unit {0}
 
 handed_held : (o : Option Endpoint) (i : Item) (rs : List Request) → IsOne i → AllByRecursion (λ r. AreOne (item_in r.outcome)) rs → AllByRecursion (λ r. AreOne (item_in r.outcome)) (handed_in o i rs)
@@ -68,18 +72,29 @@ held-changed s (best_gone a) one held = record {
   queued = all-changed-first (λ e. AreOne e.queue) (has_address_of a) (with_queue (without_best (λ i. i.priority))) s.endpoints held.queued (λ e found before. all-without IsOne (best_place (λ i. i.priority) e.queue) e.queue before);
   lent = held.lent;
 }
+held-changed s (channel_set a c) one held = record {
+  queued = all-changed-first (λ e. AreOne e.queue) (has_address_of a) (with_channel c) s.endpoints held.queued (λ e found before. before);
+  lent = held.lent;
+}
+held-changed s (queue_dropped a c) one held = record {
+  queued = all-changed-first (λ e. AreOne e.queue) (has_address_of a) (without_queue c) s.endpoints held.queued (λ e found before. tt);
+  lent = held.lent;
+}
 held-changed s (request_added asked o) one held = record { queued = held.queued; lent = all-append (λ r. AreOne (item_in r.outcome)) s.requests (record { serial = s.requests_given; asked = asked; outcome = o } ∷ []) held.lent (one, tt) }
 held-changed s (item_handed a i) one held = record { queued = held.queued; lent = handed_held (endpoint_of s a) i s.requests one held.lent }
 held-changed s (waiting_ended a word) one held = record { queued = held.queued; lent = ended_held (endpoint_of s a) word s.requests held.lent }
 held-changed s (name_found n a) one held = record { queued = held.queued; lent = passed_held (λ r. is_none r.outcome && asks_for n r.asked) (has_address a) s.requests tt held.lent }
+held-changed s (connect_settled n o) one held = record { queued = held.queued; lent = passed_held (λ r. is_none r.outcome && connects_on n r.asked) o s.requests one held.lent }
 held-changed s (request_gone place) one held = record { queued = held.queued; lent = all-without (λ r. AreOne (item_in r.outcome)) place s.requests held.lent }
 held-changed s (end_announced a) one held = record { queued = held.queued; lent = held.lent }
+held-changed s (reply_owed n r) one held = record { queued = held.queued; lent = held.lent }
 held-changed s (owed_put n) one held = record { queued = held.queued; lent = held.lent }
 held-changed s (buffers_back n count) one held = record { queued = held.queued; lent = held.lent }
 held-changed s (frames_shown n count) one held = record { queued = held.queued; lent = held.lent }
 held-changed s (frame_taken n) one held = record { queued = held.queued; lent = held.lent }
 held-changed s (names_known n names) one held = record { queued = held.queued; lent = held.lent }
 held-changed s (buffer_used n) one held = record { queued = held.queued; lent = held.lent }
+held-changed s channel_given one held = record { queued = held.queued; lent = held.lent }
 
 held_all : (s : DomainState) (cs : List Change) → AllByRecursion BringsOne cs → Held s → Held (changed_all s cs)
 held_all s [] one held = held
@@ -90,12 +105,15 @@ held_all s (c ∷ cs) one held = held_all (changed s c) cs one.1 (held-changed s
 abbrev RowBringsOne : Row → Type 0
 RowBringsOne r = AllByRecursion BringsOne r.happens
 
-row_one : (s : DomainState) (peer name : ℕ) (r : Row) → Deals s peer (Some name) r → RowBringsOne r
-row_one s peer name r (stays is gives) = subst (AllByRecursion BringsOne) (sym is) tt
-row_one s peer name r (learns n a names is gives) = subst (AllByRecursion BringsOne) (sym is) (tt, (tt, tt))
-row_one s peer name r (forgets names is gives) = subst (AllByRecursion BringsOne) (sym is) (tt, tt)
-row_one s peer name r (hands at source priority content e found waits is keeps) = subst (AllByRecursion BringsOne) (sym is) (refl, tt)
-row_one s peer name r (queues at source priority content e found is keeps) = subst (AllByRecursion BringsOne) (sym is) (refl, tt)
+row_one : (s : DomainState) (peer name : ℕ) (frame : Reading) (r : Row) → Deals s peer (Some name) frame r → RowBringsOne r
+row_one s peer name frame r (stays is gives) = subst (AllByRecursion BringsOne) (sym is) tt
+row_one s peer name frame r (learns text n a names says named is gives) = subst (AllByRecursion BringsOne) (sym is) (tt, (tt, tt))
+row_one s peer name frame r (forgets text n a names says named is gives) = subst (AllByRecursion BringsOne) (sym is) (tt, tt)
+row_one s peer name frame r (hands source at l e says found carried waits is word) = subst (AllByRecursion BringsOne) (sym is) (ap (λ fs. length fs) (item-frames peer (Some name) source l), tt)
+row_one s peer name frame r (queues source at l e says found carried none is word) = subst (AllByRecursion BringsOne) (sym is) (ap (λ fs. length fs) (item-frames peer (Some name) source l), tt)
+row_one s peer name frame r (rejects source at number kind why says is gives) = subst (AllByRecursion BringsOne) (sym is) (tt, tt)
+row_one s peer name frame r (accepts source at number kind e says found none free is gives) = subst (AllByRecursion BringsOne) (sym is) (tt, (tt, tt))
+row_one s peer name frame r (acts source at l e c left says found has row is gives) = subst (AllByRecursion BringsOne) (sym is) (acting-all BringsOne at left tt (λ n. tt) (λ n why. tt) tt l)
 
 -- ---- calls
 
@@ -125,6 +143,18 @@ module _ (s : DomainState) (held : Held s) (node : ℕ) where
       go None live = tt
       go (Some e) live = each e (queue_one at e live)
 
+  end_one : (f : Endpoint → ChannelEnd → List Change) → ((e : Endpoint) (c : ChannelEnd) → AllByRecursion BringsOne (f e c)) → (o : Option Endpoint) → AllByRecursion BringsOne (at_end o f)
+  end_one f each None = tt
+  end_one f each (Some e) = go e.channel
+    where
+      go : (c : Option ChannelEnd) → AllByRecursion BringsOne (at_channel c (f e))
+      go None = tt
+      go (Some c) = each e c
+
+  closing_one : (side : Side) (e : Endpoint) (c : ChannelEnd) → AllByRecursion BringsOne (closing side e c)
+  closing_one Sender e c = (tt, (tt, tt))
+  closing_one Receiver e c = (tt, (tt, (tt, tt)))
+
   success_one : (call : DomainCall) → AllByRecursion BringsOne (success_changes s node call)
   success_one (create_at port) = (tt, (tt, (tt, tt)))
   success_one (delete_at port) =
@@ -136,6 +166,10 @@ module _ (s : DomainState) (held : Held s) (node : ℕ) where
       live_one BringsOne (λ e. best_gone e.address ∷ request_added (message_at e.local max) (option_map has_item (best_item e)) ∷ []) (local node port)
       (λ e one. (tt, (item_one (best_item e) (best_one e.queue one), tt)))
   success_one (available_at port) = tt
+  success_one (connect_from port to kind) =
+      live_one BringsOne (λ e. buffer_used to.domain ∷ channel_set e.address (Some (new_sender s to kind)) ∷ request_added (channel_of (s.channels_given + 1)) None ∷ channel_given ∷ []) (local node port) (λ e one. (tt, (tt, (tt, (tt, tt)))))
+  success_one (open_at port side kind) = end_one (λ e c. buffer_used c.peer ∷ channel_set e.address (Some (opened_end c)) ∷ []) (λ e c. (tt, (tt, tt))) (live_at s (local node port))
+  success_one (close_at port side) = end_one (closing side) (closing_one side) (live_at s (local node port))
   success_one (test_of request) = (tt, tt)
   success_one (cancel_of request) = (tt, tt)
   success_one turn_alone = tt
@@ -159,6 +193,8 @@ module _ (s : DomainState) (held : Held s) (node : ℕ) where
   success_returned_one : (call : DomainCall) → AreOne (success_returned s node call)
   success_returned_one (delete_at port) = live_one IsOne (λ e. e.queue) (local node port) (λ e one. one)
   success_returned_one (receive_at port max) = live_one IsOne (λ e. option_to_list (best_item e)) (local node port) (λ e one. best_one e.queue one)
+  success_returned_one (close_at port Sender) = tt
+  success_returned_one (close_at port Receiver) = live_one IsOne (λ e. e.queue) (local node port) (λ e one. one)
   success_returned_one (test_of request) = test_one request
   success_returned_one other = tt
 
@@ -181,7 +217,7 @@ deed-held t (looks_back peer count) named held = record { queued = held.queued; 
 deed-held t (puts_owed peer frame) named held = record { queued = held.queued; lent = held.lent }
 deed-held t (looks_ahead peer count) named held = record { queued = held.queued; lent = held.lent }
 deed-held t (takes peer None frame word) named held = absurd cc
-deed-held t (takes peer (Some name) frame word) named held = held_all (changed t (frame_taken peer)) (row_of t peer (Some name) (reading frame)).happens (row_one t peer name (row_of t peer (Some name) (reading frame)) (row-deals t peer (Some name) (reading frame))) (record { queued = held.queued; lent = held.lent })
+deed-held t (takes peer (Some name) frame word) named held = held_all (changed t (frame_taken peer)) (row_of t peer (Some name) (reading frame)).happens (row_one t peer name (reading frame) (row_of t peer (Some name) (reading frame)) (row-deals t peer (Some name) (reading frame))) (record { queued = held.queued; lent = held.lent })
 deed-held t (calls node call a) named held = held_all t (call_changes t node call) (call_one t held node call) held
 
 pub deeds-held : (t : DomainState) (ds : List Deed) → AllByRecursion HasName ds → Held t → Held (after_deeds t ds)
@@ -228,6 +264,8 @@ module _ (t : DomainState) (node : ℕ) where
   success_same : (call : DomainCall) → success_returned (unnamed t) node call ≡ map unnamed_item (success_returned t node call)
   success_same (delete_at port) = live_same t (local node port) (λ e. e.queue) (λ e. refl)
   success_same (receive_at port max) = live_same t (local node port) (λ e. option_to_list (best_item e)) (λ e. ap option_to_list (best-unnamed e.queue) ∙ same_best (best_item e))
+  success_same (close_at port Sender) = refl
+  success_same (close_at port Receiver) = live_same t (local node port) (λ e. e.queue) (λ e. refl)
   success_same (test_of request) = ap held_by (request-unnamed t request) ∙ same_held (request_at_place t request)
   success_same other = refl
 

@@ -5,7 +5,7 @@ use Rattle.std.specs.List.{AllByRecursion}
 use Rattle.std.proofs.lemmas.Bool.{cond_both}
 use Rattle.std.proofs.lemmas.Bool.Decides.{eqb_tells}
 use Rattle.board_model.specs.State.{DomainState, Announcement, Peer, is_numbered, peer_at, peer_of, free_to}
-use Rattle.board_model.specs.Change.{Change, end_announced, owed_put, buffers_back, frames_shown, frame_taken, names_known, buffer_used, also_owed, first_put, changed, changed_all}
+use Rattle.board_model.specs.Change.{Change, end_announced, reply_owed, owed_put, buffers_back, frames_shown, frame_taken, names_known, buffer_used, also_owed, first_put, changed, changed_all}
 use Rattle.board_model.proofs.MessageLists.{changed_first, get-position}
 use Rattle.board_model.proofs.ListsMapped.{find-mapped}
 
@@ -47,6 +47,7 @@ module _ (f : Peer → Peer) (number : (p : Peer) → (f p).number ≡ p.number)
 
 abbrev pub peer_after : ℕ → Change → ℕ → Peer → Peer
 peer_after d (end_announced a) n p = also_owed d a p
+peer_after d (reply_owed m r) n p = cond (m == n) (record p { replies = p.replies ++ r ∷ [] }) p
 peer_after d (owed_put m) n p = cond (m == n) (first_put p) p
 peer_after d (buffers_back m count) n p = cond (m == n) (record p { free = p.free + count }) p
 peer_after d (frames_shown m count) n p = cond (m == n) (record p { shown = count }) p
@@ -80,6 +81,7 @@ found_mapped f number n ps = find-mapped f (is_numbered n) (is_numbered n) (λ p
 
 pub peer-changed : (s : DomainState) (c : Change) (n : ℕ) → peer_at (changed s c) n ≡ option_map (peer_after s.number c n) (peer_at s n)
 peer-changed s (end_announced a) n = found_mapped (also_owed s.number a) (owed-number s.number a) n s.peers
+peer-changed s (reply_owed m r) n = found_first (λ p. record p { replies = p.replies ++ r ∷ [] }) (λ p. refl) m n s.peers
 peer-changed s (owed_put m) n = found_first first_put first-number m n s.peers
 peer-changed s (buffers_back m count) n = found_first (λ p. record p { free = p.free + count }) (λ p. refl) m n s.peers
 peer-changed s (frames_shown m count) n = found_first (λ p. record p { shown = count }) (λ p. refl) m n s.peers
@@ -120,6 +122,7 @@ cond-keeps g false p q same = refl
 -- every change keeps the size
 pub size-keeps : (d n : ℕ) (c : Change) → Keeps (λ p. p.size) d n c
 size-keeps d n (end_announced a) p = cond_both (p.number == d) p (record p { announcements = p.announcements ++ a ∷ [] }) (λ q. q.size ≡ p.size) (λ e. refl) (λ e. refl)
+size-keeps d n (reply_owed m r) p = cond-keeps (λ q. q.size) (m == n) p (record p { replies = p.replies ++ r ∷ [] }) refl
 size-keeps d n (owed_put m) p = cond-keeps (λ q. q.size) (m == n) p (first_put p) (cond_both (length p.announcements == 0) (record p { free = p.free - 1; replies = drop 1 p.replies }) (record p { free = p.free - 1; announcements = drop 1 p.announcements }) (λ q. q.size ≡ p.size) (λ e. refl) (λ e. refl))
 size-keeps d n (buffers_back m count) p = cond-keeps (λ q. q.size) (m == n) p (record p { free = p.free + count }) refl
 size-keeps d n (frames_shown m count) p = cond-keeps (λ q. q.size) (m == n) p (record p { shown = count }) refl

@@ -4,23 +4,27 @@ use Rattle.std.proofs.Common.{◌≡◌, ℕ, ◌+◌, ◌-◌, Bool, true, fals
 use Rattle.std.specs.Prelude.{is_none, unwrap_or, ◌==◌, ◌&&◌}
 use Rattle.std.specs.List.{AllByRecursion}
 use Rattle.std.proofs.lemmas.Bool.{and_parts}
-use Rattle.mc_base.specs.Reading.{reading}
+use Rattle.mc_base.specs.Letter.{PlainLetter, accept, reject, send_close}
+use Rattle.mc_base.specs.Reading.{Reading, reading}
 use Rattle.mc_base.specs.declared.name.Local.{Local}
 use Rattle.mc_base.specs.declared.name.EndName.{EndName}
 use Rattle.mc_base.specs.declared.fate.Fate.{Fate}
+use Rattle.mc_base.specs.declared.refusal.Refusal.{Refusal}
+use Rattle.mc_base.specs.declared.refusal.Refusal.TheVariants.{ChanClosed}
 use Rattle.board_model.specs.Lists.{changed_first}
 use Rattle.board_model.specs.Journal.{Taken}
-use Rattle.board_model.specs.State.{DomainState, Endpoint, Item, Peer, Request, Outcome, has_address, has_item, item_in, queued_items, lent_items, has_address_of, endpoint_of, receives_at, waits_at, one_waits, peer_at}
-use Rattle.board_model.specs.Change.{item_queued, item_handed, name_found, names_known, frame_taken, with_queue, asks_for, done_with, all_done, handed_in, changed, changed_all}
+use Rattle.board_model.specs.State.{DomainState, ChannelEnd, Endpoint, Item, Peer, Reply, Asked, Request, Outcome, has_address, is_accepted, is_rejected, has_item, has_ended, item_in, queued_items, lent_items, has_address_of, endpoint_of, receives_at, waits_at, one_waits, peer_at}
+use Rattle.board_model.specs.Change.{channel_set, item_queued, item_handed, waiting_ended, name_found, connect_settled, reply_owed, names_known, frame_taken, with_queue, with_channel, asks_for, connects_on, done_with, all_done, handed_in, ended_in, changed, changed_all}
+use Rattle.board_model.specs.ChannelEnds.{accepted_end}
 use Rattle.board_model.specs.Dealing.{keeps_buffer}
-use Rattle.board_model.specs.TakenFrames.{Row, message_item, row_of}
+use Rattle.board_model.specs.TakenFrames.{Row, item_of, acting, row_of}
 use Rattle.board_model.specs.Deeds.{takes, after_deed}
 use Rattle.board_model.proofs.ListsCounts.{one_if, count-cons, count-append}
 use Rattle.mc_base.specs.NameMap.{Names}
 use Rattle.board_model.proofs.ListsMapped.{any-found}
 use Rattle.board_model.proofs.MessageAlls.{found-passes}
 use Rattle.board_model.proofs.LanePeers.{read_of, Keeps, read-all, cond-keeps, peer-changed}
-use Rattle.board_model.proofs.LaneRows.{Deals, stays, learns, forgets, hands, queues, row-deals}
+use Rattle.board_model.proofs.LaneRows.{Deals, stays, learns, forgets, hands, queues, rejects, accepts, acts, acting-all, row-deals}
 use Rattle.board_model.proofs.VisitLooks.{after_takes, HaveWords}
 
 -- ---- items that are held
@@ -61,15 +65,40 @@ pub same_asked : (f : Request → Request) → ((r : Request) → item_in (f r).
 same_asked f same [] = refl
 same_asked f same (r ∷ rs) = ap₂ (λ (xs ys : List Item). xs ++ ys) (same r) (same_asked f same rs)
 
-done_holds : (n : EndName) (address : ℕ) (r : Request) → item_in (all_done (asks_for n) (has_address address) r).outcome ≡ item_in r.outcome
-done_holds n address r = go (is_none r.outcome && asks_for n r.asked) refl
+-- a request is complete with nothing that is held
+done_holds : (asks : Asked → Bool) (o : Outcome) → item_in (Some o) ≡ [] → (r : Request) → item_in (all_done asks o r).outcome ≡ item_in r.outcome
+done_holds asks o none r = go (is_none r.outcome && asks r.asked) refl
   where
-    go : (b : Bool) → (is_none r.outcome && asks_for n r.asked) ≡ b → item_in (cond b (done_with (has_address address) r) r).outcome ≡ item_in r.outcome
-    go true looks = sym (pending_holds r.outcome (and_parts (is_none r.outcome) (asks_for n r.asked) looks).0)
+    go : (b : Bool) → (is_none r.outcome && asks r.asked) ≡ b → item_in (cond b (done_with o r) r).outcome ≡ item_in r.outcome
+    go true looks = none ∙ sym (pending_holds r.outcome (and_parts (is_none r.outcome) (asks r.asked) looks).0)
     go false looks = refl
 
+done_asked : (asks : Asked → Bool) (o : Outcome) → item_in (Some o) ≡ [] → (rs : List Request) → asked_items (map (all_done asks o) rs) ≡ asked_items rs
+done_asked asks o none rs = same_asked (all_done asks o) (done_holds asks o none) rs
+
 pub found_asked : (n : EndName) (address : ℕ) (rs : List Request) → asked_items (map (all_done (asks_for n) (has_address address)) rs) ≡ asked_items rs
-found_asked n address rs = same_asked (all_done (asks_for n) (has_address address)) (done_holds n address) rs
+found_asked n address rs = done_asked (asks_for n) (has_address address) refl rs
+
+-- a receive that waits there holds nothing
+ended_holds : (r : Refusal) (at : Local) (x : Request) → item_in (cond (waits_at at x) (done_with (has_ended r) x) x).outcome ≡ item_in x.outcome
+ended_holds r at x = go (waits_at at x) refl
+  where
+    go : (b : Bool) → waits_at at x ≡ b → item_in (cond b (done_with (has_ended r) x) x).outcome ≡ item_in x.outcome
+    go true waits = sym (pending_holds x.outcome (waits-pending at x waits))
+    go false waits = refl
+
+pub ended_asked : (o : Option Endpoint) (word : Refusal) (rs : List Request) → asked_items (ended_in o word rs) ≡ asked_items rs
+ended_asked None word rs = refl
+ended_asked (Some e) word rs = same_asked (λ x. cond (waits_at e.local x) (done_with (has_ended word) x) x) (ended_holds word e.local) rs
+
+-- what is queued stays where channels change
+kept_queues : (p : Endpoint → Bool) (f : Endpoint → Endpoint) → ((e : Endpoint) → (f e).queue ≡ e.queue) → (es : List Endpoint) → flat_map (λ e. e.queue) (changed_first p f es) ≡ flat_map (λ e. e.queue) es
+kept_queues p f same [] = refl
+kept_queues p f same (e ∷ es) = go (p e) (kept_queues p f same es)
+  where
+    go : (b : Bool) → flat_map (λ x. x.queue) (changed_first p f es) ≡ flat_map (λ x. x.queue) es → flat_map (λ x. x.queue) (cond b (f e ∷ es) (e ∷ changed_first p f es)) ≡ flat_map (λ x. x.queue) (e ∷ es)
+    go true rest = ap (λ q. q ++ flat_map (λ x. x.queue) es) (same e)
+    go false rest = ap (λ q. e.queue ++ q) rest
 
 -- ---- a frame
 
@@ -96,25 +125,57 @@ module _ (w : Item → Bool) (s : DomainState) where
   name_found_holds : (n : EndName) (a : ℕ) → held w (changed s (name_found n a)) ≡ held w s
   name_found_holds n a = omega (arith, lent_counts w s, lent_counts w (changed s (name_found n a)), ap (count_by w) (found_asked n a s.requests))
 
+  settled_holds : (n : ℕ) (o : Outcome) → item_in (Some o) ≡ [] → held w (changed s (connect_settled n o)) ≡ held w s
+  settled_holds n o none = omega (arith, lent_counts w s, lent_counts w (changed s (connect_settled n o)), ap (count_by w) (done_asked (connects_on n) o none s.requests))
+
+  pub ended-holds : (a : ℕ) (word : Refusal) → held w (changed s (waiting_ended a word)) ≡ held w s
+  ended-holds a word = omega (arith, lent_counts w s, lent_counts w (changed s (waiting_ended a word)), ap (count_by w) (ended_asked (endpoint_of s a) word s.requests))
+
+  pub set-holds : (a : ℕ) (c : Option ChannelEnd) → held w (changed s (channel_set a c)) ≡ held w s
+  set-holds a c = ap (λ q. count_by w q + count_by w (lent_items s)) (kept_queues (has_address_of a) (with_channel c) (λ e. refl) s.endpoints)
+
+-- what a letter does at a channel changes nothing that is held
+acting_holds : (w : Item → Bool) (s : DomainState) (at : ℕ) (left : Option ChannelEnd) (l : PlainLetter) → held w (changed_all s (acting at left l)) ≡ held w s
+acting_holds w s at left (accept number) = settled_holds w (changed s (channel_set at left)) number is_accepted refl ∙ set-holds w s at left
+acting_holds w s at left (reject number why) = settled_holds w (changed s (channel_set at left)) number (is_rejected why) refl ∙ set-holds w s at left
+acting_holds w s at left (send_close number) = set-holds w (changed s (waiting_ended at ChanClosed)) at left ∙ ended-holds w s at ChanClosed
+acting_holds w s at left other = set-holds w s at left
+
 -- what a frame's buffer counts for where it is given back, and where it stays
 abbrev pub given_of : Bool → Fate → ℕ
 given_of b f = cond (keeps_buffer f) 0 (one_if b)
 
-row_counts : (w : Item → Bool) (b : Bool) (s : DomainState) (peer : ℕ) (r : Row) → ((source priority : ℕ) (content : List ℕ) → w (message_item peer None source priority content) ≡ b) → Deals s peer None r →
-    held w (changed_all (changed s (frame_taken peer)) r.happens) + given_of b r.word ≡ held w s + one_if b
-row_counts w b s peer r counts (stays is gives) = omega (arith, ap (λ cs. held w (changed_all (changed s (frame_taken peer)) cs)) is, ap (λ k. cond k 0 (one_if b)) gives)
-row_counts w b s peer r counts (learns n a names is gives) =
-    omega (arith, ap (λ cs. held w (changed_all (changed s (frame_taken peer)) cs)) is, ap (λ k. cond k 0 (one_if b)) gives, name_found_holds w (changed (changed s (frame_taken peer)) (names_known peer names)) n a)
-row_counts w b s peer r counts (forgets names is gives) = omega (arith, ap (λ cs. held w (changed_all (changed s (frame_taken peer)) cs)) is, ap (λ k. cond k 0 (one_if b)) gives)
-row_counts w b s peer r counts (hands at source priority content e found waits is keeps) =
-    omega (arith, ap (λ cs. held w (changed_all (changed s (frame_taken peer)) cs)) is, ap (λ k. cond k 0 (one_if b)) keeps, item_handed_holds w (changed s (frame_taken peer)) at (message_item peer None source priority content) e found waits, ap one_if (counts source priority content))
-row_counts w b s peer r counts (queues at source priority content e found is keeps) =
-    omega (arith, ap (λ cs. held w (changed_all (changed s (frame_taken peer)) cs)) is, ap (λ k. cond k 0 (one_if b)) keeps, item_queued_holds w (changed s (frame_taken peer)) at (message_item peer None source priority content) e found, ap one_if (counts source priority content))
+-- what each item of the peer counts for
+abbrev pub CountFor : (Item → Bool) → ℕ → Bool → Type 0
+CountFor w peer b = (source : ℕ) (l : PlainLetter) → w (item_of peer None source l) ≡ b
+
+module _ (w : Item → Bool) (b : Bool) (s : DomainState) (peer : ℕ) (frame : Reading) (r : Row) (counts : CountFor w peer b) where
+  abbrev u : DomainState
+  u = changed s (frame_taken peer)
+
+  -- where nothing comes, the buffer is given back
+  none_comes : held w (changed_all u r.happens) ≡ held w s → keeps_buffer r.word ≡ false → held w (changed_all u r.happens) + given_of b r.word ≡ held w s + one_if b
+  none_comes same gives = omega (arith, same, ap (λ k. cond k 0 (one_if b)) gives)
+
+  one_comes : held w (changed_all u r.happens) ≡ held w s + one_if b → keeps_buffer r.word ≡ true → held w (changed_all u r.happens) + given_of b r.word ≡ held w s + one_if b
+  one_comes more keeps = omega (arith, more, ap (λ k. cond k 0 (one_if b)) keeps)
+
+  row_counts : Deals s peer None frame r → held w (changed_all u r.happens) + given_of b r.word ≡ held w s + one_if b
+  row_counts (stays is gives) = none_comes (ap (λ cs. held w (changed_all u cs)) is) gives
+  row_counts (learns text n a names says named is gives) = none_comes (ap (λ cs. held w (changed_all u cs)) is ∙ name_found_holds w (changed u (names_known peer names)) n a) gives
+  row_counts (forgets text n a names says named is gives) = none_comes (ap (λ cs. held w (changed_all u cs)) is) gives
+  row_counts (hands source at l e says found carried waits is word) =
+      one_comes (ap (λ cs. held w (changed_all u cs)) is ∙ (item_handed_holds w u at (item_of peer None source l) e found waits ∙ ap (λ c. held w s + one_if c) (counts source l))) (ap keeps_buffer word)
+  row_counts (queues source at l e says found carried none is word) =
+      one_comes (ap (λ cs. held w (changed_all u cs)) is ∙ (item_queued_holds w u at (item_of peer None source l) e found ∙ ap (λ c. held w s + one_if c) (counts source l))) (ap keeps_buffer word)
+  row_counts (rejects source at number kind why says is gives) = none_comes (ap (λ cs. held w (changed_all u cs)) is) gives
+  row_counts (accepts source at number kind e says found none free is gives) = none_comes (ap (λ cs. held w (changed_all u cs)) is ∙ set-holds w u at (Some (accepted_end kind peer number peer source))) gives
+  row_counts (acts source at l e c left says found has row is gives) = none_comes (ap (λ cs. held w (changed_all u cs)) is ∙ acting_holds w u at left l) gives
 
 -- a frame with the word of its row is held as an item, or its buffer is given back
-frame_counts : (w : Item → Bool) (b : Bool) (s : DomainState) (peer : ℕ) (frame : List ℕ) (f : Fate) → ((source priority : ℕ) (content : List ℕ) → w (message_item peer None source priority content) ≡ b) → (row_of s peer None (reading frame)).word ≡ f →
+frame_counts : (w : Item → Bool) (b : Bool) (s : DomainState) (peer : ℕ) (frame : List ℕ) (f : Fate) → CountFor w peer b → (row_of s peer None (reading frame)).word ≡ f →
     held w (after_deed s (takes peer None frame f)) + given_of b f ≡ held w s + one_if b
-frame_counts w b s peer frame f counts e = omega (arith, row_counts w b s peer (row_of s peer None (reading frame)) counts (row-deals s peer None (reading frame)), ap (given_of b) e)
+frame_counts w b s peer frame f counts e = omega (arith, row_counts w b s peer (reading frame) (row_of s peer None (reading frame)) counts (row-deals s peer None (reading frame)), ap (given_of b) e)
 
 given_one : (f : Fate) → given_of true f ≡ one_if (not (keeps_buffer f))
 given_one f = go (keeps_buffer f)
@@ -131,13 +192,13 @@ given_none f = go (keeps_buffer f)
     go false = refl
 
 -- where all items of the peer count, and where none does
-pub takes_count : (w : Item → Bool) (s : DomainState) (peer : ℕ) → ((source priority : ℕ) (content : List ℕ) → w (message_item peer None source priority content) ≡ true) → (ts : List Taken) → HaveWords s peer ts →
+pub takes_count : (w : Item → Bool) (s : DomainState) (peer : ℕ) → CountFor w peer true → (ts : List Taken) → HaveWords s peer ts →
     held w (after_takes s peer ts) + count_by (λ t. not (keeps_buffer t.fate)) ts ≡ held w s + length ts
 takes_count w s peer counts [] words = refl
 takes_count w s peer counts (t ∷ ts) words =
     omega (arith, frame_counts w true s peer t.frame t.fate counts words.0, given_one t.fate, takes_count w (after_deed s (takes peer None t.frame t.fate)) peer counts ts words.1, count-cons (λ (x : Taken). not (keeps_buffer x.fate)) t ts)
 
-pub takes_none : (w : Item → Bool) (s : DomainState) (peer : ℕ) → ((source priority : ℕ) (content : List ℕ) → w (message_item peer None source priority content) ≡ false) → (ts : List Taken) → HaveWords s peer ts → held w (after_takes s peer ts) ≡ held w s
+pub takes_none : (w : Item → Bool) (s : DomainState) (peer : ℕ) → CountFor w peer false → (ts : List Taken) → HaveWords s peer ts → held w (after_takes s peer ts) ≡ held w s
 takes_none w s peer counts [] words = refl
 takes_none w s peer counts (t ∷ ts) words =
     omega (arith, frame_counts w false s peer t.frame t.fate counts words.0, given_none t.fate, takes_none w (after_deed s (takes peer None t.frame t.fate)) peer counts ts words.1)
@@ -145,23 +206,29 @@ takes_none w s peer counts (t ∷ ts) words =
 -- ---- peers
 
 -- what a row keeps of peers, and of lookups that are pending
-module _ {X : Type 0} (g : Peer → X) (knows : (p : Peer) (names : Names) → g (record p { known = names }) ≡ g p) where
-  row_keeps : (s : DomainState) (d n peer : ℕ) (r : Row) → Deals s peer None r → AllByRecursion (Keeps g d n) r.happens
-  row_keeps s d n peer r (stays is gives) = subst (AllByRecursion (Keeps g d n)) (sym is) tt
-  row_keeps s d n peer r (learns m a names is gives) = subst (AllByRecursion (Keeps g d n)) (sym is) ((λ p. cond-keeps g (peer == n) p (record p { known = names }) (knows p names)), ((λ p. refl), tt))
-  row_keeps s d n peer r (forgets names is gives) = subst (AllByRecursion (Keeps g d n)) (sym is) ((λ p. cond-keeps g (peer == n) p (record p { known = names }) (knows p names)), tt)
-  row_keeps s d n peer r (hands at source priority content e found waits is keeps) = subst (AllByRecursion (Keeps g d n)) (sym is) ((λ p. refl), tt)
-  row_keeps s d n peer r (queues at source priority content e found is keeps) = subst (AllByRecursion (Keeps g d n)) (sym is) ((λ p. refl), tt)
+module _ {X : Type 0} (g : Peer → X) (knows : (p : Peer) (names : Names) → g (record p { known = names }) ≡ g p) (owes : (p : Peer) (replies : List Reply) → g (record p { replies = replies }) ≡ g p) where
+  reply_keeps : (d n peer : ℕ) (reply : Reply) → Keeps g d n (reply_owed peer reply)
+  reply_keeps d n peer reply p = cond-keeps g (peer == n) p (record p { replies = p.replies ++ reply ∷ [] }) (owes p (p.replies ++ reply ∷ []))
+
+  row_keeps : (s : DomainState) (d n peer : ℕ) (frame : Reading) (r : Row) → Deals s peer None frame r → AllByRecursion (Keeps g d n) r.happens
+  row_keeps s d n peer frame r (stays is gives) = subst (AllByRecursion (Keeps g d n)) (sym is) tt
+  row_keeps s d n peer frame r (learns text m a names says named is gives) = subst (AllByRecursion (Keeps g d n)) (sym is) ((λ p. cond-keeps g (peer == n) p (record p { known = names }) (knows p names)), ((λ p. refl), tt))
+  row_keeps s d n peer frame r (forgets text m a names says named is gives) = subst (AllByRecursion (Keeps g d n)) (sym is) ((λ p. cond-keeps g (peer == n) p (record p { known = names }) (knows p names)), tt)
+  row_keeps s d n peer frame r (hands source at l e says found carried waits is word) = subst (AllByRecursion (Keeps g d n)) (sym is) ((λ p. refl), tt)
+  row_keeps s d n peer frame r (queues source at l e says found carried none is word) = subst (AllByRecursion (Keeps g d n)) (sym is) ((λ p. refl), tt)
+  row_keeps s d n peer frame r (rejects source at number kind why says is gives) = subst (AllByRecursion (Keeps g d n)) (sym is) (reply_keeps d n peer _, tt)
+  row_keeps s d n peer frame r (accepts source at number kind e says found none free is gives) = subst (AllByRecursion (Keeps g d n)) (sym is) ((λ p. refl), (reply_keeps d n peer _, tt))
+  row_keeps s d n peer frame r (acts source at l e c left says found has row is gives) = subst (AllByRecursion (Keeps g d n)) (sym is) (acting-all (Keeps g d n) at left (λ p. refl) (λ m p. refl) (λ m why p. refl) (λ p. refl) l)
 
   -- after a frame that is taken, all is read as after its look
   frame_read : (s : DomainState) (peer : ℕ) (frame : List ℕ) (f : Fate) (n : ℕ) → read_of g (after_deed s (takes peer None frame f)) n ≡ read_of g (changed s (frame_taken peer)) n
-  frame_read s peer frame f n = read-all g (changed s (frame_taken peer)) (row_of s peer None (reading frame)).happens n (row_keeps s s.number n peer (row_of s peer None (reading frame)) (row-deals s peer None (reading frame)))
+  frame_read s peer frame f n = read-all g (changed s (frame_taken peer)) (row_of s peer None (reading frame)).happens n (row_keeps s s.number n peer (reading frame) (row_of s peer None (reading frame)) (row-deals s peer None (reading frame)))
 
 pub takes-free : (s : DomainState) (peer : ℕ) (ts : List Taken) (n : ℕ) → read_of (λ p. p.free) (after_takes s peer ts) n ≡ read_of (λ p. p.free) s n
 takes-free s peer [] n = refl
 takes-free s peer (t ∷ ts) n =
     takes-free (after_deed s (takes peer None t.frame t.fate)) peer ts n
-    ∙ (frame_read (λ p. p.free) (λ p names. refl) s peer t.frame t.fate n
+    ∙ (frame_read (λ p. p.free) (λ p names. refl) (λ p replies. refl) s peer t.frame t.fate n
     ∙ (ap (option_map (λ p. p.free)) (peer-changed s (frame_taken peer) n) ∙ go (peer_at s n)))
   where
     go : (o : Option Peer) → option_map (λ p. p.free) (option_map (λ (p : Peer). cond (peer == n) (record p { shown = p.shown - 1 }) p) o) ≡ option_map (λ p. p.free) o
@@ -179,7 +246,7 @@ takes-shown s peer [] n b is = omega (arith, none b)
     none true = refl
     none false = refl
 takes-shown s peer (t ∷ ts) n b is =
-    omega (arith, takes-shown (after_deed s (takes peer None t.frame t.fate)) peer ts n b is, ap (λ o. unwrap_or o 0) (frame_read (λ p. p.shown) (λ p names. refl) s peer t.frame t.fate n), one (peer_at s n), ap (λ o. unwrap_or (option_map (λ (p : Peer). p.shown) o) 0) (peer-changed s (frame_taken peer) n ∙ ap (λ c. option_map (λ (p : Peer). cond c (record p { shown = p.shown - 1 }) p) (peer_at s n)) is), more b)
+    omega (arith, takes-shown (after_deed s (takes peer None t.frame t.fate)) peer ts n b is, ap (λ o. unwrap_or o 0) (frame_read (λ p. p.shown) (λ p names. refl) (λ p replies. refl) s peer t.frame t.fate n), one (peer_at s n), ap (λ o. unwrap_or (option_map (λ (p : Peer). p.shown) o) 0) (peer-changed s (frame_taken peer) n ∙ ap (λ c. option_map (λ (p : Peer). cond c (record p { shown = p.shown - 1 }) p) (peer_at s n)) is), more b)
   where
     one : (o : Option Peer) → unwrap_or (option_map (λ p. p.shown) (option_map (λ (p : Peer). cond b (record p { shown = p.shown - 1 }) p) o)) 0 ≡ unwrap_or (option_map (λ p. p.shown) o) 0 - cond b 1 0
     one None = omega (arith, some b)

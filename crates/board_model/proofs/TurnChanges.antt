@@ -1,20 +1,24 @@
--- What a turn may change: items come, names are known and found, frames are shown and taken, and buffers are used and come back.
-use Rattle.std.proofs.Common.{◌≡◌, ℕ, List, [], ◌∷◌, None, refl, ap, ◌∙◌}
+-- What a turn may change: items come, names are known and found, channels change, replies are owed, frames are shown and taken, and buffers are used and come back.
+use Rattle.std.proofs.Common.{◌≡◌, ℕ, List, [], ◌∷◌, None, refl, sym, ap, ◌∙◌, subst}
 use Rattle.std.specs.List.{AllByRecursion}
-use Rattle.mc_base.specs.Reading.{reading}
+use Rattle.mc_base.specs.Reading.{Reading, reading}
 use Rattle.board_model.specs.Journal.{Visit, Taken}
 use Rattle.board_model.specs.State.{DomainState}
-use Rattle.board_model.specs.Change.{Change, item_queued, item_handed, name_found, owed_put, buffers_back, frames_shown, frame_taken, names_known, changed, changed_all}
-use Rattle.board_model.specs.TakenFrames.{Row, message_item, row_of}
+use Rattle.board_model.specs.Change.{Change, channel_set, item_queued, item_handed, waiting_ended, name_found, connect_settled, reply_owed, owed_put, buffers_back, frames_shown, frame_taken, names_known, changed, changed_all}
+use Rattle.board_model.specs.TakenFrames.{Row, row_of}
 use Rattle.board_model.specs.Deeds.{takes, after_deed}
 use Rattle.board_model.specs.Turn.{after_visit, after_turn}
-use Rattle.board_model.proofs.LaneRows.{Deals, stays, learns, forgets, hands, queues, row-deals}
+use Rattle.board_model.proofs.LaneRows.{Deals, stays, learns, forgets, hands, queues, rejects, accepts, acts, acting-all, row-deals}
 use Rattle.board_model.proofs.VisitLooks.{after_looks, after_takes, visit-after, looks-keep}
 
 abbrev pub IsOfTurn : Change → Type 0
 IsOfTurn (item_queued a i) = Unit {0}
 IsOfTurn (item_handed a i) = Unit {0}
+IsOfTurn (channel_set a c) = Unit {0}
+IsOfTurn (waiting_ended a word) = Unit {0}
 IsOfTurn (name_found n a) = Unit {0}
+IsOfTurn (connect_settled n o) = Unit {0}
+IsOfTurn (reply_owed n r) = Unit {0}
 IsOfTurn (owed_put n) = Unit {0}
 IsOfTurn (buffers_back n count) = Unit {0}
 IsOfTurn (frames_shown n count) = Unit {0}
@@ -28,20 +32,24 @@ module _ {X : Type 0} (f : DomainState → X) (same : (s : DomainState) (c : Cha
   changes_same s [] are = refl
   changes_same s (c ∷ cs) are = changes_same (changed s c) cs are.1 ∙ same s c are.0
 
-  row_same : (s t : DomainState) (peer : ℕ) (r : Row) → Deals s peer None r → f (changed_all t r.happens) ≡ f t
-  row_same s t peer r (stays is gives) = ap (λ cs. f (changed_all t cs)) is
-  row_same s t peer r (learns n a names is gives) = ap (λ cs. f (changed_all t cs)) is ∙ changes_same t (names_known peer names ∷ name_found n a ∷ []) (tt, (tt, tt))
-  row_same s t peer r (forgets names is gives) = ap (λ cs. f (changed_all t cs)) is ∙ changes_same t (names_known peer names ∷ []) (tt, tt)
-  row_same s t peer r (hands at source priority content e found waits is keeps) =
-      ap (λ cs. f (changed_all t cs)) is ∙ changes_same t (item_handed at (message_item peer None source priority content) ∷ []) (tt, tt)
-  row_same s t peer r (queues at source priority content e found is keeps) =
-      ap (λ cs. f (changed_all t cs)) is ∙ changes_same t (item_queued at (message_item peer None source priority content) ∷ []) (tt, tt)
+  row_of_turn : (s : DomainState) (peer : ℕ) (frame : Reading) (r : Row) → Deals s peer None frame r → AllByRecursion IsOfTurn r.happens
+  row_of_turn s peer frame r (stays is gives) = subst (AllByRecursion IsOfTurn) (sym is) tt
+  row_of_turn s peer frame r (learns text n a names says named is gives) = subst (AllByRecursion IsOfTurn) (sym is) (tt, (tt, tt))
+  row_of_turn s peer frame r (forgets text n a names says named is gives) = subst (AllByRecursion IsOfTurn) (sym is) (tt, tt)
+  row_of_turn s peer frame r (hands source at l e says found carried waits is word) = subst (AllByRecursion IsOfTurn) (sym is) (tt, tt)
+  row_of_turn s peer frame r (queues source at l e says found carried none is word) = subst (AllByRecursion IsOfTurn) (sym is) (tt, tt)
+  row_of_turn s peer frame r (rejects source at number kind why says is gives) = subst (AllByRecursion IsOfTurn) (sym is) (tt, tt)
+  row_of_turn s peer frame r (accepts source at number kind e says found none free is gives) = subst (AllByRecursion IsOfTurn) (sym is) (tt, (tt, tt))
+  row_of_turn s peer frame r (acts source at l e c left says found has row is gives) = subst (AllByRecursion IsOfTurn) (sym is) (acting-all IsOfTurn at left tt (λ n. tt) (λ n why. tt) tt l)
+
+  row_same : (s t : DomainState) (peer : ℕ) (frame : Reading) (r : Row) → Deals s peer None frame r → f (changed_all t r.happens) ≡ f t
+  row_same s t peer frame r deals = changes_same t r.happens (row_of_turn s peer frame r deals)
 
   takes_same : (s : DomainState) (peer : ℕ) (ts : List Taken) → f (after_takes s peer ts) ≡ f s
   takes_same s peer [] = refl
   takes_same s peer (t ∷ ts) =
       takes_same (after_deed s (takes peer None t.frame t.fate)) peer ts
-      ∙ (row_same s (changed s (frame_taken peer)) peer (row_of s peer None (reading t.frame)) (row-deals s peer None (reading t.frame)) ∙ same s (frame_taken peer) tt)
+      ∙ (row_same s (changed s (frame_taken peer)) peer (reading t.frame) (row_of s peer None (reading t.frame)) (row-deals s peer None (reading t.frame)) ∙ same s (frame_taken peer) tt)
 
   pub visit-keeps : (s : DomainState) (v : Visit) → f (after_visit s v) ≡ f s
   visit-keeps s v =
