@@ -1,22 +1,25 @@
 -- Calls of a domain: what they take of the items that are held.
-use Rattle.std.proofs.Common.{◌≡◌, ℕ, zero, suc, ◌+◌, Bool, true, false, not, cond, List, [], ◌∷◌, ◌++◌, find, Option, Some, None, count_by, flat_map, slice_get, option_map, option_and_then, option_to_list, refl, sym, ap, ◌∙◌, arith}
+use Rattle.std.proofs.Common.{◌≡◌, ℕ, zero, suc, ◌+◌, Bool, true, false, not, cond, List, [], ◌∷◌, ◌++◌, find, Option, Some, None, count_by, flat_map, slice_get, option_map, option_and_then, option_to_list, refl, sym, ap, ◌∙◌, subst, arith}
 use Rattle.std.proofs.lemmas.List.Concat.{flat_map-append}
 use Rattle.mc_base.specs.Limits.{first_address}
 use Rattle.mc_base.specs.FullName.{end_name}
 use Rattle.mc_base.specs.declared.name.Local.{Local}
+use Rattle.mc_base.specs.declared.channel.Side.{Side}
+use Rattle.mc_base.specs.declared.channel.Side.TheVariants.{Sender, Receiver}
 use Rattle.mc_base.specs.declared.refusal.Refusal.{Refusal}
 use Rattle.mc_base.specs.declared.refusal.Refusal.TheVariants as word
-use Rattle.board_model.specs.DomainCall.{DomainCall, create_at, delete_at, lookup_of, send_from, receive_at, request_at, available_at, test_of, cancel_of, turn_alone}
+use Rattle.board_model.specs.DomainCall.{DomainCall, create_at, delete_at, lookup_of, send_from, receive_at, request_at, available_at, connect_from, open_at, close_at, test_of, cancel_of, turn_alone}
 use Rattle.board_model.specs.Lists.{without_first, without}
-use Rattle.board_model.specs.State.{DomainState, Endpoint, Item, Request, name_of, message_at, has_address, has_item, has_ended, item_in, request_at_place, is_at, has_address_of, live_at, endpoint_of, waits_at}
+use Rattle.board_model.specs.State.{DomainState, ChannelEnd, Endpoint, Item, Request, name_of, channel_of, message_at, has_address, has_item, item_in, request_at_place, is_at, has_address_of, live_at, endpoint_of, channel_in}
 use Rattle.board_model.specs.Choice.{without_best}
-use Rattle.board_model.specs.Answer.{local, holds, words_of, is_complete, refusal, unless_refused, address_of}
-use Rattle.board_model.specs.Change.{Change, endpoint_gone, best_gone, request_added, waiting_ended, end_announced, endpoint_with, with_queue, done_with, ended_in, changed, changed_all}
-use Rattle.board_model.specs.CallChanges.{at_live, best_item, success_changes, effect, held_by, success_returned, returned}
+use Rattle.board_model.specs.ChannelEnds.{EndCall, opened_end, closed_end, closes}
+use Rattle.board_model.specs.Answer.{local, end_holds, holds, words_of, is_complete, refusal, unless_refused, address_of}
+use Rattle.board_model.specs.Change.{Change, endpoint_gone, best_gone, channel_set, queue_dropped, request_added, waiting_ended, end_announced, buffer_used, channel_given, endpoint_with, with_queue, without_queue, changed, changed_all}
+use Rattle.board_model.specs.CallChanges.{at_live, at_channel, at_end, new_sender, closing, best_item, success_changes, effect, held_by, success_returned, returned}
 use Rattle.board_model.proofs.ListsCounts.{count-append, find-none}
 use Rattle.board_model.proofs.MessageBest.{count-best}
 use Rattle.board_model.proofs.StateEnds.{Ends, by_address}
-use Rattle.board_model.proofs.LaneTakes.{held, count-first, pending_holds, waits-pending, asked_items, lent_counts, same_asked, found_asked}
+use Rattle.board_model.proofs.LaneTakes.{held, count-first, pending_holds, asked_items, lent_counts, found_asked, ended_asked, ended-holds, set-holds}
 
 -- ---- endpoints
 
@@ -38,14 +41,6 @@ gone_counts w p e (x ∷ es) found = go (p x) found (λ later. gone_counts w p e
     go false is later = omega (arith, count-append w x.queue (flat_map (λ (y : Endpoint). y.queue) (without_first p es)), count-append w x.queue (flat_map (λ (y : Endpoint). y.queue) es), later is)
 
 -- ---- requests
-
--- a receive that waits there holds nothing
-ended_holds : (r : Refusal) (at : Local) (x : Request) → item_in (cond (waits_at at x) (done_with (has_ended r) x) x).outcome ≡ item_in x.outcome
-ended_holds r at x = go (waits_at at x) refl
-  where
-    go : (b : Bool) → waits_at at x ≡ b → item_in (cond b (done_with (has_ended r) x) x).outcome ≡ item_in x.outcome
-    go true waits = sym (pending_holds x.outcome (waits-pending at x waits))
-    go false waits = refl
 
 -- a new request holds what it is complete with
 asked_counts : (w : Item → Bool) (rs : List Request) (r : Request) → count_by w (asked_items (rs ++ r ∷ [])) ≡ count_by w (asked_items rs) + count_by w (item_in r.outcome)
@@ -80,6 +75,23 @@ cancelled_holds s node request e =
     let t = find-none (holds s node (cancel_of request)) (words_of (cancel_of request)) e in
     pending_none (request_at_place s request) t.1.0
 
+-- ---- an end of a channel
+
+-- a call at an end that is not refused finds one
+pub record EndThere (o : Option Endpoint) : Type 0 where
+  pub end : Endpoint
+  pub channel : ChannelEnd
+  pub live : o ≡ Some end
+  pub has : end.channel ≡ Some channel
+
+pub end-there : (call : EndCall) (o : Option Endpoint) → end_holds call (channel_in o) word.NotConnected ≡ false → EndThere o
+end-there call None connected = absurd cc
+end-there call (Some e) connected = go e.channel refl connected
+  where
+    go : (c : Option ChannelEnd) → e.channel ≡ c → end_holds call c word.NotConnected ≡ false → EndThere (Some e)
+    go None has connected = absurd cc
+    go (Some c) has connected = record { end = e; channel = c; live = refl; has = has }
+
 -- ---- a call
 
 module _ (w : Item → Bool) (s : DomainState) (ends : Ends s) where
@@ -101,9 +113,25 @@ module _ (w : Item → Bool) (s : DomainState) (ends : Ends s) where
         gone_counts w (is_at at) e s.endpoints live,
         lent_counts w s,
         lent_counts w t,
-        ap (λ o. count_by w (asked_items (ended_in o word.EndpInvalid s.requests))) by.found,
-        ap (count_by w) (same_asked (λ x. cond (waits_at e.local x) (done_with (has_ended word.EndpInvalid) x) x) (ended_holds word.EndpInvalid e.local) s.requests),
+        ap (count_by w) (ended_asked (endpoint_of s e.address) word.EndpInvalid s.requests),
       )
+
+  -- all that is queued at a live endpoint is gone
+  dropped_counts : (at : Local) (e : Endpoint) (c : ChannelEnd) → live_at s at ≡ Some e → held w (changed_all s (closing Receiver e c)) + count_by w e.queue ≡ held w s
+  dropped_counts at e c live =
+      let found : endpoint_of s e.address ≡ Some e = (by_address at s.endpoints e ends.apart live).found in
+      let u : DomainState = changed (changed s (buffer_used c.peer)) (waiting_ended e.address word.ChanClosed) in
+      let less = count-first w (λ (x : Endpoint). x.queue) (has_address_of e.address) (without_queue (closed_end c)) 0 (count_by w e.queue) e s.endpoints found (omega arith) in
+      omega (arith, less, ended-holds w (changed s (buffer_used c.peer)) e.address word.ChanClosed, lent_counts w u)
+
+  -- a channel that is set keeps what is queued
+  end_counts : (f : Endpoint → ChannelEnd → Option ChannelEnd) (o : Option Endpoint) → held w (changed_all s (at_end o (λ e c. buffer_used c.peer ∷ channel_set e.address (f e c) ∷ []))) + 0 ≡ held w s
+  end_counts f None = omega arith
+  end_counts f (Some e) = go e.channel
+    where
+      go : (c : Option ChannelEnd) → held w (changed_all s (at_channel c (λ d. buffer_used d.peer ∷ channel_set e.address (f e d) ∷ []))) + 0 ≡ held w s
+      go None = omega arith
+      go (Some c) = omega (arith, set-holds w (changed s (buffer_used c.peer)) e.address (f e c))
 
   live_counts : (node : ℕ) (at : Local) (f : Endpoint → List Change) (q : Endpoint → List Item) → ((e : Endpoint) → live_at s at ≡ Some e → held w (changed_all s (f e)) + count_by w (q e) ≡ held w s) → held w (changed_all s (at_live (live_at s at) f)) + count_by w (at_live (live_at s at) q) ≡ held w s
   live_counts node at f q each = go (live_at s at) refl
@@ -134,6 +162,22 @@ module _ (w : Item → Bool) (s : DomainState) (ends : Ends s) where
           let t : DomainState = changed u (request_added (message_at e.local max) (option_map has_item (best_item e))) in
           omega (arith, best_counts (local node port) e is, lent_counts w u, lent_counts w t, asked_counts w s.requests r, ap (count_by w) (item_asked (best_item e)))
   success_counts node (available_at port) e = omega arith
+  success_counts node (connect_from port to kind) e = go (live_at s (local node port))
+    where
+      go : (o : Option Endpoint) → held w (changed_all s (at_live o (λ e. buffer_used to.domain ∷ channel_set e.address (Some (new_sender s to kind)) ∷ request_added (channel_of (s.channels_given + 1)) None ∷ channel_given ∷ []))) + 0 ≡ held w s
+      go None = omega arith
+      go (Some e) =
+          let u : DomainState = changed (changed s (buffer_used to.domain)) (channel_set e.address (Some (new_sender s to kind))) in
+          let r : Request = record { serial = s.requests_given; asked = channel_of (s.channels_given + 1); outcome = None } in
+          let t : DomainState = changed u (request_added (channel_of (s.channels_given + 1)) None) in
+          omega (arith, set-holds w (changed s (buffer_used to.domain)) e.address (Some (new_sender s to kind)), lent_counts w u, lent_counts w t, asked_counts w s.requests r)
+  success_counts node (open_at port side kind) e = end_counts (λ e c. Some (opened_end c)) (live_at s (local node port))
+  success_counts node (close_at port Sender) e = end_counts (λ e c. closed_end c) (live_at s (local node port))
+  success_counts node (close_at port Receiver) e =
+      let words = find-none (holds s node (close_at port Receiver)) (words_of (close_at port Receiver)) e in
+      let there = end-there (closes Receiver) (live_at s (local node port)) words.1.0 in
+      subst (λ o. held w (changed_all s (at_end o (closing Receiver))) + count_by w (at_live o (λ e. e.queue)) ≡ held w s) (sym there.live)
+      (subst (λ c. held w (changed_all s (at_channel c (closing Receiver there.end))) + count_by w there.end.queue ≡ held w s) (sym there.has) (dropped_counts (local node port) there.end there.channel there.live))
   success_counts node (test_of request) e = omega (arith, ended_counts w request s.requests, lent_counts w s, lent_counts w (changed_all s (success_changes s node (test_of request))))
   success_counts node (cancel_of request) e =
       omega (arith, ended_counts w request s.requests, lent_counts w s, lent_counts w (changed_all s (success_changes s node (cancel_of request))), ap (count_by w) (cancelled_holds s node request e))

@@ -20,6 +20,7 @@ use Rattle.board_model.proofs.StateEnds.{Ends}
 use Rattle.board_model.proofs.DeedJoins.{call-ends, deeds-ends}
 use Rattle.board_model.proofs.LanePeers.{peer_found, free-at}
 use Rattle.board_model.proofs.VisitLooks.{after_looks, after_takes, HaveWords, visit-after, visit-words, looks-keep, looked, looked-free, looks-peer}
+use Rattle.board_model.proofs.LaneRows.{item-peer}
 use Rattle.board_model.proofs.LaneTakes.{takes_count, takes_none, takes-free}
 use Rattle.board_model.proofs.LaneCalls.{call_counts}
 use Rattle.board_model.proofs.LaneSends.{goes_to, call_frees}
@@ -68,10 +69,10 @@ looks_hold n s v = looks-keep (held_from n) (λ t p k. refl) (λ t p. refl) (λ 
 
 visit_holds : (n : ℕ) (s : DomainState) (v : Visit) → v.peer ≡ n → HaveWords (after_looks s v) v.peer v.takes → held_from n (after_visit s v) + count_by (λ t. not (keeps_buffer t.fate)) v.takes ≡ held_from n s + length v.takes
 visit_holds n s v same words =
-    omega (arith, ap (held_from n) (visit-after s v), takes_count (is_from n) (after_looks s v) v.peer (λ source priority content. eq-eqb v.peer n same) v.takes words, looks_hold n s v)
+    omega (arith, ap (held_from n) (visit-after s v), takes_count (is_from n) (after_looks s v) v.peer (λ source l. ap (λ k. k == n) (item-peer v.peer None source l) ∙ eq-eqb v.peer n same) v.takes words, looks_hold n s v)
 
 visit_holds_other : (n : ℕ) (s : DomainState) (v : Visit) → (v.peer == n) ≡ false → HaveWords (after_looks s v) v.peer v.takes → held_from n (after_visit s v) ≡ held_from n s
-visit_holds_other n s v differ words = ap (held_from n) (visit-after s v) ∙ (takes_none (is_from n) (after_looks s v) v.peer (λ source priority content. differ) v.takes words ∙ looks_hold n s v)
+visit_holds_other n s v differ words = ap (held_from n) (visit-after s v) ∙ (takes_none (is_from n) (after_looks s v) v.peer (λ source l. ap (λ k. k == n) (item-peer v.peer None source l) ∙ differ) v.takes words ∙ looks_hold n s v)
 
 -- ---- a turn
 

@@ -4,7 +4,7 @@ use Rattle.std.specs.Prelude.{option_map, ◌==◌}
 use Rattle.std.proofs.lemmas.Bool.{ne_eqb, eq-eqb}
 use Rattle.std.proofs.lemmas.List.{append_assoc}
 use Rattle.board_model.specs.Journal.{Visit, Taken}
-use Rattle.board_model.specs.State.{Announcement, Peer, DomainState, peer_at, peer_of, owed_to}
+use Rattle.board_model.specs.State.{Announcement, Reply, Peer, DomainState, peer_at, peer_of, replying, owed_to}
 use Rattle.board_model.specs.Change.{first_put, owed_put, buffers_back, frames_shown, changed}
 use Rattle.board_model.specs.Deeds.{looks_back, puts_owed, looks_ahead, after_deeds, AllMayDo}
 use Rattle.board_model.specs.Turn.{turn_limit, due_frames, nameless, takes_named, visit_deeds, after_visit}
@@ -96,8 +96,12 @@ looks-peer s v n b is =
 
 -- ---- what is put is owed
 
+replies_less : (rs : List Reply) → map replying (drop 1 rs) ≡ drop 1 (map replying rs)
+replies_less [] = refl
+replies_less (r ∷ rs) = refl
+
 put_owed : (d : ℕ) (p : Peer) (news : List Announcement) → owed_to d (first_put (record p { announcements = news })) ≡ drop 1 (owed_to d (record p { announcements = news }))
-put_owed d p [] = refl
+put_owed d p [] = replies_less p.replies
 put_owed d p (a ∷ news) =
     ap (λ b. owed_to d (cond b (record p { free = p.free - 1; announcements = a ∷ news; replies = drop 1 p.replies }) (record p { free = p.free - 1; announcements = news }))) (ne_eqb (length (a ∷ news)) 0 (λ e. absurd (omega arith)))
 
