@@ -17,12 +17,13 @@ use Rattle.board_model.specs.Journal.{refuses}
 use Rattle.board_model.specs.Change.{Change, endpoint_made, endpoint_gone, item_queued, best_gone, channel_set, queue_dropped, request_added, item_handed, waiting_ended, name_found, connect_settled, request_gone, end_announced, reply_owed, owed_put, buffers_back, frames_shown, frame_taken, names_known, buffer_used, channel_given, asks_for, connects_on, done_with, handed_in, ended_in, with_queue, with_channel, without_queue, endpoint_with, changed, changed_all}
 use Rattle.board_model.specs.TakenFrames.{Row, row_of}
 use Rattle.board_model.specs.ChannelEnds.{opened_end}
-use Rattle.board_model.specs.CallChanges.{at_live, at_channel, at_end, new_sender, closing, best_item, success_changes, call_changes, held_by, success_returned, returned}
+use Rattle.board_model.specs.CallChanges.{at_live, new_sender, closing, best_item, success_changes, call_changes, held_by, success_returned, returned}
 use Rattle.board_model.specs.Deeds.{Deed, looks_back, puts_owed, looks_ahead, takes, calls, after_deed, after_deeds}
 use Rattle.board_model.specs.Given.{frames_from}
 use Rattle.board_model.proofs.MessageAlls.{all-at, all-append, all-filter, all-found, all-changed-first, all-without}
 use Rattle.board_model.proofs.ListsCounts.{one_if, count-cons}
 use Rattle.board_model.proofs.MessageLists.{best_is}
+use Rattle.board_model.proofs.StateEnds.{end-holds}
 use Rattle.board_model.proofs.LaneRows.{Deals, stays, learns, forgets, hands, queues, rejects, accepts, acts, item-frames, acting-all, row-deals}
 use Rattle.board_model.proofs.DeedRuns.{unnamed_item, unnamed_end, unnamed_request, unnamed_outcome, unnamed}
 use Rattle.board_model.proofs.UnnamedChanges.{live-unnamed}
@@ -143,14 +144,6 @@ module _ (s : DomainState) (held : Held s) (node : ℕ) where
       go None live = tt
       go (Some e) live = each e (queue_one at e live)
 
-  end_one : (f : Endpoint → ChannelEnd → List Change) → ((e : Endpoint) (c : ChannelEnd) → AllByRecursion BringsOne (f e c)) → (o : Option Endpoint) → AllByRecursion BringsOne (at_end o f)
-  end_one f each None = tt
-  end_one f each (Some e) = go e.channel
-    where
-      go : (c : Option ChannelEnd) → AllByRecursion BringsOne (at_channel c (f e))
-      go None = tt
-      go (Some c) = each e c
-
   closing_one : (side : Side) (e : Endpoint) (c : ChannelEnd) → AllByRecursion BringsOne (closing side e c)
   closing_one Sender e c = (tt, (tt, tt))
   closing_one Receiver e c = (tt, (tt, (tt, tt)))
@@ -168,8 +161,8 @@ module _ (s : DomainState) (held : Held s) (node : ℕ) where
   success_one (available_at port) = tt
   success_one (connect_from port to kind) =
       live_one BringsOne (λ e. buffer_used to.domain ∷ channel_set e.address (Some (new_sender s to kind)) ∷ request_added (channel_of (s.channels_given + 1)) None ∷ channel_given ∷ []) (local node port) (λ e one. (tt, (tt, (tt, (tt, tt)))))
-  success_one (open_at port side kind) = end_one (λ e c. buffer_used c.peer ∷ channel_set e.address (Some (opened_end c)) ∷ []) (λ e c. (tt, (tt, tt))) (live_at s (local node port))
-  success_one (close_at port side) = end_one (closing side) (closing_one side) (live_at s (local node port))
+  success_one (open_at port side kind) = end-holds (AllByRecursion BringsOne) tt (live_at s (local node port)) (λ e c. buffer_used c.peer ∷ channel_set e.address (Some (opened_end c)) ∷ []) (λ e c live has. (tt, (tt, tt)))
+  success_one (close_at port side) = end-holds (AllByRecursion BringsOne) tt (live_at s (local node port)) (closing side) (λ e c live has. closing_one side e c)
   success_one (test_of request) = (tt, tt)
   success_one (cancel_of request) = (tt, tt)
   success_one turn_alone = tt

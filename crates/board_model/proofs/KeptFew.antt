@@ -10,8 +10,8 @@ use Rattle.board_model.specs.declared.scenario.DomainLine.{DomainLine}
 use Rattle.board_model.specs.declared.scenario.Scenario.{Scenario}
 use Rattle.board_model.specs.Scenario.{script, rising}
 use Rattle.board_model.specs.LinkedBoard.{Differ, IsLinkedBoard}
-use Rattle.board_model.specs.DomainCall.{create_at, delete_at, lookup_of, send_from, receive_at, request_at, available_at, test_of, cancel_of, turn_alone}
-use Rattle.board_model.specs.Journal.{PlainAnswer, refuses, agrees, tells, gives, completes}
+use Rattle.board_model.specs.DomainCall.{create_at, delete_at, lookup_of, send_from, receive_at, request_at, available_at, connect_from, open_at, close_at, test_of, cancel_of, turn_alone}
+use Rattle.board_model.specs.Journal.{PlainAnswer, refuses, agrees, tells, connects, gives, completes}
 use Rattle.board_model.specs.State.{Endpoint, DomainState, live_at}
 use Rattle.board_model.specs.Answer.{local}
 use Rattle.board_model.specs.CallChanges.{at_live}
@@ -38,6 +38,7 @@ send_few : (d : ℕ) (s : DomainState) (node port : ℕ) (to : EndName) (priorit
 send_few d s node port to priority bytes agrees = one_message (live_at s (local node port)) _
 send_few d s node port to priority bytes (refuses w) = omega arith
 send_few d s node port to priority bytes (tells n) = omega arith
+send_few d s node port to priority bytes (connects n channel) = omega arith
 send_few d s node port to priority bytes (gives size got) = omega arith
 send_few d s node port to priority bytes (completes place x) = omega arith
 
@@ -49,6 +50,9 @@ deed_few d s (calls node (lookup_of name) a) = omega arith
 deed_few d s (calls node (receive_at port max) a) = omega arith
 deed_few d s (calls node (request_at port max) a) = omega arith
 deed_few d s (calls node (available_at port) a) = omega arith
+deed_few d s (calls node (connect_from port to kind) a) = omega arith
+deed_few d s (calls node (open_at port side kind) a) = omega arith
+deed_few d s (calls node (close_at port side) a) = omega arith
 deed_few d s (calls node (test_of request) a) = omega arith
 deed_few d s (calls node (cancel_of request) a) = omega arith
 deed_few d s (calls node turn_alone a) = omega arith

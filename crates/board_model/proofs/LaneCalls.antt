@@ -4,7 +4,6 @@ use Rattle.std.proofs.lemmas.List.Concat.{flat_map-append}
 use Rattle.mc_base.specs.Limits.{first_address}
 use Rattle.mc_base.specs.FullName.{end_name}
 use Rattle.mc_base.specs.declared.name.Local.{Local}
-use Rattle.mc_base.specs.declared.channel.Side.{Side}
 use Rattle.mc_base.specs.declared.channel.Side.TheVariants.{Sender, Receiver}
 use Rattle.mc_base.specs.declared.refusal.Refusal.{Refusal}
 use Rattle.mc_base.specs.declared.refusal.Refusal.TheVariants as word
@@ -14,11 +13,11 @@ use Rattle.board_model.specs.State.{DomainState, ChannelEnd, Endpoint, Item, Req
 use Rattle.board_model.specs.Choice.{without_best}
 use Rattle.board_model.specs.ChannelEnds.{EndCall, opened_end, closed_end, closes}
 use Rattle.board_model.specs.Answer.{local, end_holds, holds, words_of, is_complete, refusal, unless_refused, address_of}
-use Rattle.board_model.specs.Change.{Change, endpoint_gone, best_gone, channel_set, queue_dropped, request_added, waiting_ended, end_announced, buffer_used, channel_given, endpoint_with, with_queue, without_queue, changed, changed_all}
+use Rattle.board_model.specs.Change.{Change, endpoint_gone, best_gone, channel_set, request_added, waiting_ended, end_announced, buffer_used, channel_given, endpoint_with, with_queue, without_queue, changed, changed_all}
 use Rattle.board_model.specs.CallChanges.{at_live, at_channel, at_end, new_sender, closing, best_item, success_changes, effect, held_by, success_returned, returned}
 use Rattle.board_model.proofs.ListsCounts.{count-append, find-none}
 use Rattle.board_model.proofs.MessageBest.{count-best}
-use Rattle.board_model.proofs.StateEnds.{Ends, by_address}
+use Rattle.board_model.proofs.StateEnds.{Ends, by_address, end-holds}
 use Rattle.board_model.proofs.LaneTakes.{held, count-first, pending_holds, asked_items, lent_counts, found_asked, ended_asked, ended-holds, set-holds}
 
 -- ---- endpoints
@@ -126,12 +125,7 @@ module _ (w : Item → Bool) (s : DomainState) (ends : Ends s) where
 
   -- a channel that is set keeps what is queued
   end_counts : (f : Endpoint → ChannelEnd → Option ChannelEnd) (o : Option Endpoint) → held w (changed_all s (at_end o (λ e c. buffer_used c.peer ∷ channel_set e.address (f e c) ∷ []))) + 0 ≡ held w s
-  end_counts f None = omega arith
-  end_counts f (Some e) = go e.channel
-    where
-      go : (c : Option ChannelEnd) → held w (changed_all s (at_channel c (λ d. buffer_used d.peer ∷ channel_set e.address (f e d) ∷ []))) + 0 ≡ held w s
-      go None = omega arith
-      go (Some c) = omega (arith, set-holds w (changed s (buffer_used c.peer)) e.address (f e c))
+  end_counts f o = end-holds (λ cs. held w (changed_all s cs) + 0 ≡ held w s) (omega arith) o (λ e c. buffer_used c.peer ∷ channel_set e.address (f e c) ∷ []) (λ e c live has. omega (arith, set-holds w (changed s (buffer_used c.peer)) e.address (f e c)))
 
   live_counts : (node : ℕ) (at : Local) (f : Endpoint → List Change) (q : Endpoint → List Item) → ((e : Endpoint) → live_at s at ≡ Some e → held w (changed_all s (f e)) + count_by w (q e) ≡ held w s) → held w (changed_all s (at_live (live_at s at) f)) + count_by w (at_live (live_at s at) q) ≡ held w s
   live_counts node at f q each = go (live_at s at) refl

@@ -1,23 +1,22 @@
 -- Calls of a domain: the frames that they put use as many buffers of their lanes.
-use Rattle.std.proofs.Common.{◌≡◌, ℕ, ◌+◌, ◌-◌, ◌≤◌, Bool, true, false, not, cond, List, [], ◌∷◌, map, Option, Some, None, count_by, option_map, refl, sym, ap, ◌∙◌, inl, inr, arith, ltb-false}
-use Rattle.std.specs.Prelude.{◌==◌, is_some, unwrap_or}
+use Rattle.std.proofs.Common.{◌≡◌, ℕ, ◌+◌, ◌-◌, ◌≤◌, Bool, true, false, cond, List, [], ◌∷◌, map, Option, Some, None, count_by, option_map, refl, ap, inl, inr, arith, ltb-false}
+use Rattle.std.specs.Prelude.{◌==◌, unwrap_or}
 use Rattle.std.specs.List.{AllByRecursion}
 use Rattle.std.proofs.lemmas.Bool.Decides.{eqb_tells}
 use Rattle.mc_base.specs.Frame.{made}
 use Rattle.mc_base.specs.Letter.{PlainLetter, spelling, msg, connect}
 use Rattle.mc_base.specs.declared.name.EndName.{EndName}
-use Rattle.mc_base.specs.declared.channel.Kind.{Kind}
 use Rattle.mc_base.specs.declared.channel.Side.TheVariants.{Sender, Receiver}
 use Rattle.mc_base.specs.declared.refusal.Refusal.{Refusal}
 use Rattle.mc_base.specs.declared.refusal.Refusal.TheVariants as word
 use Rattle.board_model.specs.DomainCall.{DomainCall, create_at, delete_at, lookup_of, send_from, receive_at, request_at, available_at, connect_from, open_at, close_at, test_of, cancel_of, turn_alone}
-use Rattle.board_model.specs.State.{DomainState, ChannelEnd, Endpoint, Peer, channel_of, message_at, has_item, address_at, is_at, live_at, channel_in, place_at, peer_at, free_to}
+use Rattle.board_model.specs.State.{DomainState, ChannelEnd, Endpoint, Peer, channel_of, message_at, has_item, address_at, live_at, channel_in, peer_at, free_to}
 use Rattle.board_model.specs.ChannelEnds.{opened_end, closed_end}
 use Rattle.board_model.specs.Answer.{local, put_of, over_channel, opening_letter, closing_letter, lacks_buffers, holds, words_of, refusal, unless_refused, success_puts, puts, address_of}
 use Rattle.board_model.specs.Change.{Change, endpoint_gone, best_gone, channel_set, queue_dropped, request_added, waiting_ended, end_announced, buffer_used, channel_given, changed, changed_all}
 use Rattle.board_model.specs.CallChanges.{at_live, at_channel, at_end, new_sender, best_item, success_changes, effect}
 use Rattle.board_model.proofs.ListsCounts.{one_if, count-cons, find-none}
-use Rattle.board_model.proofs.MessageLists.{some-position}
+use Rattle.board_model.proofs.StateEnds.{there_is}
 use Rattle.board_model.proofs.LanePeers.{Keeps, read-all, peer-changed, owed-free, free-at}
 
 -- what holds where a send is not refused: its endpoint is named, and its lane has a buffer
@@ -71,17 +70,6 @@ over_frees s n f letter keep (Some e) room = go e.channel room
     go (Some c) room =
         omega (arith, kept_frees (changed s (buffer_used c.peer)) n (f e c) (keep e c), used_frees s c.peer n (made e.address c.peer_address (spelling (letter c.number))) (ltb-false (free_to s c.peer) 1 room))
 
--- what else than its buffer a Connect changes, and its frame
-abbrev new_changes : DomainState → EndName → Kind → Endpoint → List Change
-new_changes s to kind e = channel_set e.address (Some (new_sender s to kind)) ∷ request_added (channel_of (s.channels_given + 1)) None ∷ channel_given ∷ []
-
-abbrev connect_frame : DomainState → ℕ → ℕ → EndName → Kind → List ℕ
-connect_frame s node port to kind = made (unwrap_or (address_at s (local node port)) 0) (unwrap_or (address_of s to) 0) (spelling (connect (s.channels_given + 1) kind))
-
-was_true : (b : Bool) → not b ≡ false → b ≡ true
-was_true true e = refl
-was_true false e = absurd cc
-
 success_frees : (s : DomainState) (n node : ℕ) (call : DomainCall) → refusal s node call ≡ None → free_to (changed_all s (success_changes s node call)) n + count_by (goes_to n) (success_puts s node call) ≡ free_to s n
 success_frees s n node (create_at port) e =
     kept_frees s n (success_changes s node (create_at port)) ((λ p. refl), ((λ p. owed-free s.number (record { local = local node port; address = 1024 + s.endpoints_given; create = true }) p), ((λ p. refl), tt)))
@@ -95,18 +83,17 @@ success_frees s n node (receive_at port max) e = live_frees s n (live_at s (loca
 success_frees s n node (request_at port max) e =
     live_frees s n (live_at s (local node port)) (λ e. best_gone e.address ∷ request_added (message_at e.local max) (option_map has_item (best_item e)) ∷ []) (λ e. ((λ p. refl), ((λ p. refl), tt)))
 success_frees s n node (available_at port) e = omega arith
-success_frees s n node (connect_from port to kind) e = go (live_at s (local node port)) live
-  where
-    words : AllByRecursion (λ w. holds s node (connect_from port to kind) w ≡ false) (words_of (connect_from port to kind))
-    words = find-none (holds s node (connect_from port to kind)) (words_of (connect_from port to kind)) e
-
-    live : is_some (live_at s (local node port)) ≡ true
-    live = sym (some-position (is_at (local node port)) s.endpoints) ∙ was_true (is_some (place_at s (local node port))) words.0
-
-    go : (o : Option Endpoint) → is_some o ≡ true → free_to (changed_all s (at_live o (λ e. buffer_used to.domain ∷ new_changes s to kind e))) n + count_by (goes_to n) ((to.domain, connect_frame s node port to kind) ∷ []) ≡ free_to s n
-    go None none = absurd cc
-    go (Some e) is =
-        omega (arith, kept_frees (changed s (buffer_used to.domain)) n (new_changes s to kind e) ((λ p. refl), ((λ p. refl), ((λ p. refl), tt))), used_frees s to.domain n (connect_frame s node port to kind) (ltb-false (free_to s to.domain) 1 words.1.1.1.1.1.1.0))
+success_frees s n node (connect_from port to kind) e =
+    let words = find-none (holds s node (connect_from port to kind)) (words_of (connect_from port to kind)) e in
+    let there = there_is s (local node port) words.0 in
+    let new : List Change = channel_set there.0.address (Some (new_sender s to kind)) ∷ request_added (channel_of (s.channels_given + 1)) None ∷ channel_given ∷ [] in
+    let frame : List ℕ = made (unwrap_or (address_at s (local node port)) 0) (unwrap_or (address_of s to) 0) (spelling (connect (s.channels_given + 1) kind)) in
+    omega (
+      arith,
+      ap (λ o. free_to (changed_all s (at_live o (λ e. buffer_used to.domain ∷ channel_set e.address (Some (new_sender s to kind)) ∷ request_added (channel_of (s.channels_given + 1)) None ∷ channel_given ∷ []))) n) there.1,
+      kept_frees (changed s (buffer_used to.domain)) n new ((λ p. refl), ((λ p. refl), ((λ p. refl), tt))),
+      used_frees s to.domain n frame (ltb-false (free_to s to.domain) 1 words.1.1.1.1.1.1.0),
+    )
 success_frees s n node (open_at port side kind) e =
     let words = find-none (holds s node (open_at port side kind)) (words_of (open_at port side kind)) e in
     over_frees s n (λ e c. channel_set e.address (Some (opened_end c)) ∷ []) (opening_letter side) (λ e c. ((λ p. refl), tt)) (live_at s (local node port)) words.1.1.1.1.1.1.0

@@ -1,55 +1,44 @@
--- Which calls put frames: a send alone, where no word of refusal holds, and to a peer.
-use Rattle.std.proofs.Common.{◌≡◌, ℕ, true, false, List, [], ◌∷◌, Option, Some, None, refl, sym, ap, ◌∙◌}
+-- All that a call puts goes to a peer: where no word of refusal holds, a lane has a buffer for it.
+use Rattle.std.proofs.Common.{◌≡◌, ℕ, ◌+◌, true, false, List, [], ◌∷◌, map, Option, Some, None, refl, sym, ap, ◌∙◌}
 use Rattle.std.specs.Prelude.{find, option_map, is_some, unwrap_or, nat_lt}
 use Rattle.std.specs.List.{AllByRecursion}
+use Rattle.mc_base.specs.Letter.{PlainLetter, msg, connect}
 use Rattle.mc_base.specs.declared.name.EndName.{EndName}
 use Rattle.mc_base.specs.declared.refusal.Refusal.{Refusal}
-use Rattle.mc_base.specs.declared.refusal.Refusal.TheVariants.{EndpInvalid, OnChannel, PeerInvalid, MsgSize, NoBuffer}
-use Rattle.board_model.specs.DomainCall.{DomainCall, create_at, delete_at, lookup_of, send_from, receive_at, request_at, available_at, test_of, cancel_of, turn_alone}
-use Rattle.board_model.specs.State.{DomainState, Peer, is_numbered, peer_of, free_to}
-use Rattle.board_model.specs.Answer.{holds, refusal, success_puts, puts, unless_refused}
+use Rattle.board_model.specs.DomainCall.{DomainCall, send_from, connect_from, open_at, close_at}
+use Rattle.board_model.specs.State.{DomainState, ChannelEnd, Endpoint, Peer, address_at, is_numbered, live_at, channel_in, peer_of}
+use Rattle.board_model.specs.Answer.{local, address_of, post, put_of, over_channel, opening_letter, closing_letter, lacks_buffers, holds, words_of, refusal, success_puts, puts, unless_refused}
 use Rattle.board_model.proofs.MessageLists.{get-position}
 use Rattle.board_model.proofs.MessageAlls.{none-passes}
-
--- the words that do not hold where a send succeeds
-pub record CanSend (s : DomainState) (node : ℕ) (call : DomainCall) : Type 0 where
-  pub has_peer : holds s node call PeerInvalid ≡ false
-  pub fits_size : holds s node call MsgSize ≡ false
-  pub has_buffer : holds s node call NoBuffer ≡ false
-
-pub can_send : (s : DomainState) (node port : ℕ) (to : EndName) (priority : ℕ) (bytes : List ℕ) → refusal s node (send_from port to priority bytes) ≡ None → CanSend s node (send_from port to priority bytes)
-can_send s node port to priority bytes h =
-    let call : DomainCall = send_from port to priority bytes in
-    let words = none-passes (holds s node call) (EndpInvalid ∷ OnChannel ∷ PeerInvalid ∷ MsgSize ∷ NoBuffer ∷ []) h in
-    record { has_peer = words.1.1.0; fits_size = words.1.1.1.0; has_buffer = words.1.1.1.1.0 }
 
 some_free : (o : Option Peer) → nat_lt (unwrap_or (option_map (λ p. p.free) o) 0) 1 ≡ false → is_some o ≡ true
 some_free None h = absurd cc
 some_free (Some p) h = refl
 
--- it puts to a peer
+-- a frame goes to a peer
+abbrev pub HasPeer : DomainState → ℕ × List ℕ → Type 0
+HasPeer s p = is_some (find (is_numbered p.0) s.peers) ≡ true
+
+one_found : (s : DomainState) (p : ℕ × List ℕ) → lacks_buffers s (p ∷ []) ≡ false → AllByRecursion (HasPeer s) (p ∷ [])
+one_found s p room = (ap (λ o. is_some o) (sym (get-position (is_numbered p.0) s.peers)) ∙ some_free (peer_of s p.0) room, tt)
+
+over_found : (s : DomainState) (o : Option Endpoint) (c : Option ChannelEnd) (letter : ℕ → PlainLetter) → lacks_buffers s (map put_of (over_channel o c letter)) ≡ false → AllByRecursion (HasPeer s) (map put_of (over_channel o c letter))
+over_found s None c letter room = tt
+over_found s (Some e) None letter room = tt
+over_found s (Some e) (Some c) letter room = one_found s (put_of (post c.peer e.address c.peer_address (letter c.number))) room
+
+found_of : (s : DomainState) (node : ℕ) (call : DomainCall) (o : Option Refusal) → refusal s node call ≡ o → AllByRecursion (HasPeer s) (unless_refused o [] (success_puts s node call))
+found_of s node call (Some w) is = tt
+found_of s node (send_from port to priority bytes) None is = one_found s (put_of (post to.domain (unwrap_or (address_at s (local node port)) 0) (unwrap_or (address_of s to) 0) (msg priority bytes))) (none-passes (holds s node (send_from port to priority bytes)) (words_of (send_from port to priority bytes)) is).1.1.1.1.0
+found_of s node (connect_from port to kind) None is = one_found s (put_of (post to.domain (unwrap_or (address_at s (local node port)) 0) (unwrap_or (address_of s to) 0) (connect (s.channels_given + 1) kind))) (none-passes (holds s node (connect_from port to kind)) (words_of (connect_from port to kind)) is).1.1.1.1.1.1.0
+found_of s node (open_at port side kind) None is =
+    over_found s (live_at s (local node port)) (channel_in (live_at s (local node port))) (opening_letter side) (none-passes (holds s node (open_at port side kind)) (words_of (open_at port side kind)) is).1.1.1.1.1.1.0
+found_of s node (close_at port side) None is =
+    over_found s (live_at s (local node port)) (channel_in (live_at s (local node port))) (closing_letter side) (none-passes (holds s node (close_at port side)) (words_of (close_at port side)) is).1.1.1.1.0
+found_of s node other None is = tt
+
+pub puts-found : (s : DomainState) (node : ℕ) (call : DomainCall) → AllByRecursion (HasPeer s) (puts s node call)
+puts-found s node call = found_of s node call (refusal s node call) refl
+
 pub send-found : (s : DomainState) (node port : ℕ) (to : EndName) (priority : ℕ) (bytes : List ℕ) → refusal s node (send_from port to priority bytes) ≡ None → is_some (find (is_numbered to.domain) s.peers) ≡ true
-send-found s node port to priority bytes h =
-    let free : nat_lt (free_to s to.domain) 1 ≡ false = (can_send s node port to priority bytes h).has_buffer in
-    ap (λ o. is_some o) (sym (get-position (is_numbered to.domain) s.peers)) ∙ some_free (peer_of s to.domain) free
-
--- what holds of the frame of each send holds of all that calls put
-module _ (P : ℕ × List ℕ → Type 0) (s : DomainState) (node : ℕ) where
-  abbrev OfSend : Type 0
-  OfSend = (port : ℕ) (to : EndName) (priority : ℕ) (bytes : List ℕ) → refusal s node (send_from port to priority bytes) ≡ None → AllByRecursion P (success_puts s node (send_from port to priority bytes))
-
-  puts_of : (call : DomainCall) (o : Option Refusal) → refusal s node call ≡ o → OfSend → AllByRecursion P (unless_refused o [] (success_puts s node call))
-  puts_of call (Some w) is of_send = tt
-  puts_of (create_at port) None is of_send = tt
-  puts_of (delete_at port) None is of_send = tt
-  puts_of (lookup_of name) None is of_send = tt
-  puts_of (send_from port to priority bytes) None is of_send = of_send port to priority bytes is
-  puts_of (receive_at port max) None is of_send = tt
-  puts_of (request_at port max) None is of_send = tt
-  puts_of (available_at port) None is of_send = tt
-  puts_of (test_of request) None is of_send = tt
-  puts_of (cancel_of request) None is of_send = tt
-  puts_of turn_alone None is of_send = tt
-
-  pub puts-of-send : (call : DomainCall) → OfSend → AllByRecursion P (puts s node call)
-  puts-of-send call of_send = puts_of call (refusal s node call) refl of_send
+send-found s node port to priority bytes is = (found_of s node (send_from port to priority bytes) None is).0

@@ -6,21 +6,25 @@ use Rattle.std.specs.List.{position_from, AllByRecursion}
 use Rattle.std.proofs.lemmas.Iterator.Adapters.{position_from-zero}
 use Rattle.std.proofs.lemmas.List.{map-append}
 use Rattle.mc_base.specs.FullName.{end_name}
+use Rattle.mc_base.specs.declared.channel.Kind.{Kind}
+use Rattle.mc_base.specs.declared.channel.Side.{Side}
+use Rattle.mc_base.specs.declared.channel.Side.TheVariants.{Sender, Receiver}
 use Rattle.mc_base.specs.declared.name.EndName.{EndName}
 use Rattle.mc_base.specs.declared.refusal.Refusal.{Refusal}
-use Rattle.mc_base.specs.declared.refusal.Refusal.TheVariants.{EndpInvalid}
-use Rattle.board_model.specs.DomainCall.{DomainCall, create_at, delete_at, lookup_of, send_from, receive_at, request_at, available_at, test_of, cancel_of, turn_alone}
+use Rattle.mc_base.specs.declared.refusal.Refusal.TheVariants.{EndpInvalid, ChanClosed}
+use Rattle.board_model.specs.DomainCall.{DomainCall, create_at, delete_at, lookup_of, send_from, receive_at, request_at, available_at, connect_from, open_at, close_at, test_of, cancel_of, turn_alone}
 use Rattle.board_model.specs.Lists.{without_at, without}
 use Rattle.board_model.specs.Journal.{Visit}
-use Rattle.board_model.specs.State.{DomainState, Endpoint, Item, Request, Outcome, message_at, has_address, has_item, has_ended, has_serial, endpoint_of, live_at, place_of_request, waits_at}
-use Rattle.board_model.specs.Change.{Change, endpoint_gone, best_gone, item_handed, waiting_ended, name_found, request_added, request_gone, end_announced, asks_for, all_done, done_with, handed_in, ended_in, changed, changed_all}
-use Rattle.board_model.specs.CallChanges.{at_live, best_item, success_changes, effect}
+use Rattle.board_model.specs.State.{DomainState, ChannelEnd, Endpoint, Item, Asked, Request, Outcome, channel_of, message_at, has_address, has_item, has_ended, has_serial, endpoint_of, live_at, place_of_request, waits_at}
+use Rattle.board_model.specs.Change.{Change, endpoint_gone, best_gone, channel_set, item_handed, waiting_ended, name_found, connect_settled, request_added, request_gone, end_announced, buffer_used, channel_given, asks_for, connects_on, all_done, done_with, handed_in, ended_in, changed, changed_all}
+use Rattle.board_model.specs.ChannelEnds.{opened_end}
+use Rattle.board_model.specs.CallChanges.{at_live, at_end, new_sender, closing, best_item, success_changes, effect}
 use Rattle.board_model.specs.Turn.{after_turn}
 use Rattle.board_model.specs.Answer.{local, holds, words_of, refusal, unless_refused}
 use Rattle.board_model.specs.Labels.{Labelled, serial_of, place_of_label, success_request, request_given}
 use Rattle.board_model.proofs.MessageAlls.{none-passes}
 use Rattle.board_model.proofs.ListsMapped.{map-changed_first}
-use Rattle.board_model.proofs.StateEnds.{there_is}
+use Rattle.board_model.proofs.StateEnds.{there_is, end-holds}
 use Rattle.board_model.proofs.TurnChanges.{IsOfTurn, turn-keeps}
 
 -- the serials of the requests that stand, in their order
@@ -46,14 +50,15 @@ ended_serials : (o : Option Endpoint) (w : Refusal) (rs : List Request) → map 
 ended_serials None w rs = refl
 ended_serials (Some e) w rs = map-kept (λ r. r.serial) (λ r. cond (waits_at e.local r) (done_with (has_ended w) r) r) (λ r. done_serial (waits_at e.local r) (has_ended w) r) rs
 
-found_serials : (n : EndName) (a : ℕ) (rs : List Request) → map (λ r. r.serial) (map (all_done (asks_for n) (has_address a)) rs) ≡ map (λ r. r.serial) rs
-found_serials n a rs = map-kept (λ r. r.serial) (all_done (asks_for n) (has_address a)) (λ r. done_serial (is_none r.outcome && asks_for n r.asked) (has_address a) r) rs
+complete_serials : (asks : Asked → Bool) (o : Outcome) (rs : List Request) → map (λ r. r.serial) (map (all_done asks o) rs) ≡ map (λ r. r.serial) rs
+complete_serials asks o rs = map-kept (λ r. r.serial) (all_done asks o) (λ r. done_serial (is_none r.outcome && asks r.asked) o r) rs
 
 -- no request is given or ended by a change of a turn
 change_serials : (s : DomainState) (c : Change) → IsOfTurn c → serials (changed s c) ≡ serials s
 change_serials s (item_handed a i) is = handed_serials (endpoint_of s a) i s.requests
-change_serials s (name_found n a) is = found_serials n a s.requests
-change_serials s (waiting_ended a w) is = absurd is
+change_serials s (name_found n a) is = complete_serials (asks_for n) (has_address a) s.requests
+change_serials s (connect_settled n o) is = complete_serials (connects_on n) o s.requests
+change_serials s (waiting_ended a w) is = ended_serials (endpoint_of s a) w s.requests
 change_serials s (request_added asked o) is = absurd is
 change_serials s (request_gone place) is = absurd is
 change_serials s other is = refl
@@ -100,8 +105,31 @@ module _ (s : DomainState) (node port max : ℕ) where
   asked_at : refusal s node (request_at port max) ≡ None → (e : Endpoint) × (live_at s (local node port) ≡ Some e)
   asked_at none = there_is s (local node port) (none-passes (holds s node (request_at port max)) (words_of (request_at port max)) none).0
 
+-- a connect finds its endpoint, too
+module _ (s : DomainState) (node port : ℕ) (to : EndName) (kind : Kind) where
+  abbrev connects : Endpoint → List Change
+  connects e = buffer_used to.domain ∷ channel_set e.address (Some (new_sender s to kind)) ∷ request_added (channel_of (s.channels_given + 1)) None ∷ channel_given ∷ []
+
+  connects_at : refusal s node (connect_from port to kind) ≡ None → (e : Endpoint) × (live_at s (local node port) ≡ Some e)
+  connects_at none = there_is s (local node port) (none-passes (holds s node (connect_from port to kind)) (words_of (connect_from port to kind)) none).0
+
+-- what opens and closes of ends keep
+abbrev opens : Endpoint → ChannelEnd → List Change
+opens e c = buffer_used c.peer ∷ channel_set e.address (Some (opened_end c)) ∷ []
+
+end_same : {X : Type 0} (f : DomainState → X) (s : DomainState) (o : Option Endpoint) (cs : Endpoint → ChannelEnd → List Change) → ((e : Endpoint) (c : ChannelEnd) → f (changed_all s (cs e c)) ≡ f s) → f (changed_all s (at_end o cs)) ≡ f s
+end_same f s o cs same = end-holds (λ ds. f (changed_all s ds) ≡ f s) refl o cs (λ e c live has. same e c)
+
+closing_serials : (s : DomainState) (side : Side) (e : Endpoint) (c : ChannelEnd) → serials (changed_all s (closing side e c)) ≡ serials s
+closing_serials s Sender e c = refl
+closing_serials s Receiver e c = ended_serials (endpoint_of s e.address) ChanClosed s.requests
+
+closing_gives : (s : DomainState) (side : Side) (e : Endpoint) (c : ChannelEnd) → (changed_all s (closing side e c)).requests_given ≡ s.requests_given
+closing_gives s Sender e c = refl
+closing_gives s Receiver e c = refl
+
 success_serials : (s : DomainState) (node : ℕ) (call : DomainCall) → refusal s node call ≡ None → serials (changed_all s (success_changes s node call)) ≡ without (success_ended call) (serials s) ++ option_to_list (success_request s call)
-success_serials s node (create_at port) none = found_serials (end_name s.number (local node port)) (1024 + s.endpoints_given) s.requests ∙ sym (append-nil (serials s))
+success_serials s node (create_at port) none = complete_serials (asks_for (end_name s.number (local node port))) (has_address (1024 + s.endpoints_given)) s.requests ∙ sym (append-nil (serials s))
 success_serials s node (delete_at port) none =
     live_same serials s (live_at s (local node port)) (λ e. waiting_ended e.address EndpInvalid ∷ endpoint_gone e.address ∷ end_announced (record { local = e.local; address = e.address; create = false }) ∷ [])
     (λ e. ended_serials (endpoint_of s e.address) EndpInvalid s.requests) ∙ sym (append-nil (serials s))
@@ -111,6 +139,10 @@ success_serials s node (receive_at port max) none = live_same serials s (live_at
 success_serials s node (request_at port max) none =
     ap (λ o. serials (changed_all s (at_live o (asks s node port max)))) (asked_at s node port max none).1 ∙ map-append (λ r. r.serial) s.requests _
 success_serials s node (available_at port) none = sym (append-nil (serials s))
+success_serials s node (connect_from port to kind) none =
+    ap (λ o. serials (changed_all s (at_live o (connects s node port to kind)))) (connects_at s node port to kind none).1 ∙ map-append (λ r. r.serial) s.requests _
+success_serials s node (open_at port side kind) none = end_same serials s (live_at s (local node port)) opens (λ e c. refl) ∙ sym (append-nil (serials s))
+success_serials s node (close_at port side) none = end_same serials s (live_at s (local node port)) (closing side) (closing_serials s side) ∙ sym (append-nil (serials s))
 success_serials s node (test_of p) none = map-without (λ r. r.serial) p s.requests ∙ sym (append-nil (without p (serials s)))
 success_serials s node (cancel_of p) none = map-without (λ r. r.serial) p s.requests ∙ sym (append-nil (without p (serials s)))
 success_serials s node turn_alone none = sym (append-nil (serials s))
@@ -132,6 +164,9 @@ success_gives s node (send_from port to priority bytes) none small = omega arith
 success_gives s node (receive_at port max) none small = omega (arith, live_same (λ t. t.requests_given) s (live_at s (local node port)) (λ e. best_gone e.address ∷ []) (λ e. refl))
 success_gives s node (request_at port max) none small = ap (λ o. (changed_all s (at_live o (asks s node port max))).requests_given) (asked_at s node port max none).1 ∙ mod-eq_of_lt small
 success_gives s node (available_at port) none small = omega arith
+success_gives s node (connect_from port to kind) none small = ap (λ o. (changed_all s (at_live o (connects s node port to kind))).requests_given) (connects_at s node port to kind none).1 ∙ mod-eq_of_lt small
+success_gives s node (open_at port side kind) none small = omega (arith, end_same (λ t. t.requests_given) s (live_at s (local node port)) opens (λ e c. refl))
+success_gives s node (close_at port side) none small = omega (arith, end_same (λ t. t.requests_given) s (live_at s (local node port)) (closing side) (closing_gives s side))
 success_gives s node (test_of p) none small = omega arith
 success_gives s node (cancel_of p) none small = omega arith
 success_gives s node turn_alone none small = omega arith
@@ -152,6 +187,9 @@ success_is s (send_from port to priority bytes) m e = absurd cc
 success_is s (receive_at port max) m e = absurd cc
 success_is s (request_at port max) m e = cc
 success_is s (available_at port) m e = absurd cc
+success_is s (connect_from port to kind) m e = cc
+success_is s (open_at port side kind) m e = absurd cc
+success_is s (close_at port side) m e = absurd cc
 success_is s (test_of p) m e = absurd cc
 success_is s (cancel_of p) m e = absurd cc
 success_is s turn_alone m e = absurd cc

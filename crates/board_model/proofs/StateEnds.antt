@@ -6,8 +6,9 @@ use Rattle.std.proofs.lemmas.Bool.{and_parts, cond_both, eqb-true, eq-eqb, ne_eq
 use Rattle.mc_base.specs.Limits.{first_address}
 use Rattle.mc_base.specs.declared.name.Local.{Local}
 use Rattle.board_model.specs.Lists.{changed_first, without_first}
-use Rattle.board_model.specs.State.{Item, Endpoint, Announcement, Peer, DomainState, is_at, has_address_of, is_numbered, place_at, live_at}
+use Rattle.board_model.specs.State.{ChannelEnd, Endpoint, Announcement, Peer, DomainState, is_at, has_address_of, is_numbered, place_at, live_at}
 use Rattle.board_model.specs.Change.{Change, endpoint_made, endpoint_gone, item_queued, best_gone, channel_set, queue_dropped, request_added, item_handed, waiting_ended, name_found, connect_settled, request_gone, end_announced, reply_owed, owed_put, buffers_back, frames_shown, frame_taken, names_known, buffer_used, channel_given, endpoint_with, with_channel, without_queue, with_queue, also_owed, first_put, peers_after, changed, changed_all}
+use Rattle.board_model.specs.CallChanges.{at_channel, at_end}
 use Rattle.board_model.specs.Choice.{without_best}
 use Rattle.board_model.proofs.MessageAlls.{all-append, all-changed-first, all-filter, all-found, all-weaken}
 use Rattle.board_model.proofs.MessageLists.{some-position}
@@ -186,6 +187,15 @@ there_is u at there = go (live_at u at) (sym (some-position (is_at at) u.endpoin
     go : (o : Option Endpoint) → is_some o ≡ is_some (place_at u at) → (e : Endpoint) × (o ≡ Some e)
     go None same = absurd cc
     go (Some e) same = (e, refl)
+
+-- what holds of nothing, and of what happens at an end of a channel, holds of what happens at an endpoint's
+pub end-holds : {A : Type 0} (P : List A → Type 0) → P [] → (o : Option Endpoint) (f : Endpoint → ChannelEnd → List A) → ((e : Endpoint) (c : ChannelEnd) → o ≡ Some e → e.channel ≡ Some c → P (f e c)) → P (at_end o f)
+end-holds P none None f each = none
+end-holds P none (Some e) f each = go e.channel refl
+  where
+    go : (c : Option ChannelEnd) → e.channel ≡ c → P (at_channel c (f e))
+    go None has = none
+    go (Some c) has = each e c refl has
 
 pub not_there : (u : DomainState) (at : Local) → is_some (place_at u at) ≡ false → live_at u at ≡ None
 not_there u at none = go (live_at u at) (sym (some-position (is_at at) u.endpoints))

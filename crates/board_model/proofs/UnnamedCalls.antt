@@ -10,11 +10,11 @@ use Rattle.mc_base.specs.declared.channel.Side.{Side}
 use Rattle.mc_base.specs.declared.channel.Side.TheVariants.{Sender, Receiver}
 use Rattle.mc_base.specs.declared.refusal.Refusal.{Refusal}
 use Rattle.mc_base.specs.declared.refusal.Refusal.TheVariants.{ExistsAlready, EndpLimit, EndpInvalid, PeerInvalid, OnChannel, ChanConnected, EndpBusy, NotConnected, ChanDirection, ChanType, ChanClosed, AlreadyOpen, NoBuffer, Empty, RequestLimit, RequestInvalid, Pending, TooLate}
-use Rattle.board_model.specs.State.{Item, ChannelEnd, Endpoint, Outcome, has_address, is_accepted, is_rejected, has_item, has_ended, Asked, name_of, channel_of, message_at, Request, DomainState, is_at, live_at, endpoint_at, address_at, channel_in, queue_in, queue_at, one_waits, request_at_place, peer_of}
+use Rattle.board_model.specs.State.{Item, ChannelEnd, Endpoint, Outcome, has_address, is_accepted, is_rejected, has_item, has_ended, Asked, name_of, channel_of, message_at, Request, DomainState, is_at, live_at, endpoint_at, address_at, channel_in, queue_in, queue_at, request_at_place, peer_of}
 use Rattle.board_model.specs.Choice.{best}
 use Rattle.board_model.specs.DomainCall.{DomainCall, create_at, delete_at, lookup_of, send_from, receive_at, request_at, available_at, connect_from, open_at, close_at, test_of, cancel_of, turn_alone}
 use Rattle.board_model.specs.Journal.{refuses, tells, completes}
-use Rattle.board_model.specs.Answer.{local, here, known_address, address_of, has_channel, named, end_call, holds_at_end, channel_at, Post, post, put_of, over_channel, over_end, opening_letter, closing_letter, request_named, is_complete, success_posts, success_puts, lacks_buffers, holds, words_of, refusal, given, result_by, result_of, success, answer_by, answer, unless_refused, puts}
+use Rattle.board_model.specs.Answer.{local, here, known_address, address_of, has_channel, named, end_call, holds_at_end, channel_at, post, put_of, over_channel, over_end, opening_letter, closing_letter, request_named, is_complete, success_posts, success_puts, lacks_buffers, holds, words_of, refusal, given, result_by, result_of, success, answer_by, answer, unless_refused, puts}
 use Rattle.board_model.specs.Change.{Change, endpoint_gone, best_gone, channel_set, request_added, waiting_ended, end_announced, buffer_used, channel_given}
 use Rattle.board_model.specs.ChannelEnds.{connecting_end, opened_end}
 use Rattle.board_model.specs.CallChanges.{at_live, at_channel, at_end, new_sender, closing, best_item, success_changes, call_changes}

@@ -13,7 +13,7 @@ use Rattle.mc_base.specs.declared.channel.Reason.TheVariants as reason
 use Rattle.mc_base.specs.declared.fate.Fate.{Fate}
 use Rattle.mc_base.specs.declared.fate.Fate.TheVariants as fate
 use Rattle.board_model.specs.Journal.{PlainEntry, Visit, Taken}
-use Rattle.board_model.specs.State.{Item, ChannelEnd, Endpoint, DomainState, endpoint_of, one_waits, peer_at}
+use Rattle.board_model.specs.State.{Item, ChannelEnd, Endpoint, DomainState, endpoint_of, peer_at}
 use Rattle.board_model.specs.Change.{buffers_back, owed_put, frames_shown, frame_taken, changed_all, item_handed, item_queued}
 use Rattle.board_model.specs.TakenFrames.{Row, row, last_row, first_row, names_of, name_rows, reply_limit, replies_to, rejecting, accepting, is_busy, connect_rows, item_of, message_rows, acting, rows_by, channel_rows, letter_rows, row_of}
 use Rattle.board_model.specs.ChannelEnds.{EndRow, end_rows}

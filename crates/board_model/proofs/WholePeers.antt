@@ -3,18 +3,21 @@ use Rattle.std.proofs.Common.{◌≡◌, ℕ, ◌+◌, ◌-◌, Bool, true, fals
 use Rattle.std.specs.Prelude.{◌==◌, unwrap_or}
 use Rattle.std.specs.List.{AllByRecursion}
 use Rattle.std.proofs.lemmas.Bool.{eq-eqb, ne_eqb}
+use Rattle.mc_base.specs.declared.channel.Side.{Side}
+use Rattle.mc_base.specs.declared.channel.Side.TheVariants.{Sender, Receiver}
 use Rattle.mc_base.specs.declared.refusal.Refusal.{Refusal}
 use Rattle.mc_base.specs.declared.refusal.Refusal.TheVariants.{EndpInvalid}
 use Rattle.board_model.specs.Journal.{Visit, Taken}
-use Rattle.board_model.specs.State.{DomainState, Endpoint, Peer, message_at, has_item, live_at, peer_at, peer_of, free_to}
-use Rattle.board_model.specs.DomainCall.{DomainCall, create_at, delete_at, lookup_of, send_from, receive_at, request_at, available_at, test_of, cancel_of, turn_alone}
+use Rattle.board_model.specs.State.{DomainState, ChannelEnd, Endpoint, Peer, channel_of, message_at, has_item, live_at, peer_at, peer_of, free_to}
+use Rattle.board_model.specs.DomainCall.{DomainCall, create_at, delete_at, lookup_of, send_from, receive_at, request_at, available_at, connect_from, open_at, close_at, test_of, cancel_of, turn_alone}
 use Rattle.board_model.specs.Answer.{local, refusal, unless_refused}
-use Rattle.board_model.specs.Change.{Change, endpoint_gone, best_gone, request_added, waiting_ended, end_announced}
-use Rattle.board_model.specs.CallChanges.{at_live, best_item, success_changes, call_changes, effect}
+use Rattle.board_model.specs.ChannelEnds.{opened_end}
+use Rattle.board_model.specs.Change.{Change, endpoint_gone, best_gone, channel_set, request_added, waiting_ended, end_announced, buffer_used, channel_given}
+use Rattle.board_model.specs.CallChanges.{at_live, new_sender, closing, best_item, success_changes, call_changes, effect}
 use Rattle.board_model.specs.Deeds.{Deed, happens_by, after_deed, after_deeds}
 use Rattle.board_model.specs.Serial.{looks_deeds}
 use Rattle.board_model.specs.Turn.{nameless, takes_named}
-use Rattle.board_model.proofs.StateEnds.{numbers-all}
+use Rattle.board_model.proofs.StateEnds.{numbers-all, end-holds}
 use Rattle.board_model.proofs.LanePeers.{peer_found, read_of, Keeps, read-all, size-all, cond-keeps, owed-shown, free-at}
 use Rattle.board_model.proofs.VisitLooks.{after_looks, after_takes, looked, looks-peer}
 use Rattle.board_model.proofs.LaneTakes.{takes-free, shown_in, takes-shown}
@@ -66,17 +69,29 @@ module _ (s : DomainState) (node n : ℕ) where
   live_shown None f each = tt
   live_shown (Some e) f each = each e
 
+  used_shown : (m : ℕ) → Keeps (λ p. p.shown) s.number n (buffer_used m)
+  used_shown m p = cond-keeps (λ q. q.shown) (m == n) p (record p { free = p.free - 1 }) refl
+
+  closing_shown : (side : Side) (e : Endpoint) (c : ChannelEnd) → KeepShown (closing side e c)
+  closing_shown Sender e c = (used_shown c.peer, ((λ p. refl), tt))
+  closing_shown Receiver e c = (used_shown c.peer, ((λ p. refl), ((λ p. refl), tt)))
+
   success_shown : (call : DomainCall) → KeepShown (success_changes s node call)
   success_shown (create_at port) = ((λ p. refl), ((λ p. owed-shown s.number (record { local = local node port; address = 1024 + s.endpoints_given; create = true }) p), ((λ p. refl), tt)))
   success_shown (delete_at port) =
       live_shown (live_at s (local node port)) (λ e. waiting_ended e.address EndpInvalid ∷ endpoint_gone e.address ∷ end_announced (record { local = e.local; address = e.address; create = false }) ∷ [])
       (λ e. ((λ p. refl), ((λ p. refl), ((λ p. owed-shown s.number (record { local = e.local; address = e.address; create = false }) p), tt))))
   success_shown (lookup_of name) = ((λ p. refl), tt)
-  success_shown (send_from port to priority bytes) = ((λ p. cond-keeps (λ q. q.shown) (to.domain == n) p (record p { free = p.free - 1 }) refl), tt)
+  success_shown (send_from port to priority bytes) = (used_shown to.domain, tt)
   success_shown (receive_at port max) = live_shown (live_at s (local node port)) (λ e. best_gone e.address ∷ []) (λ e. ((λ p. refl), tt))
   success_shown (request_at port max) =
       live_shown (live_at s (local node port)) (λ e. best_gone e.address ∷ request_added (message_at e.local max) (option_map has_item (best_item e)) ∷ []) (λ e. ((λ p. refl), ((λ p. refl), tt)))
   success_shown (available_at port) = tt
+  success_shown (connect_from port to kind) =
+      live_shown (live_at s (local node port)) (λ e. buffer_used to.domain ∷ channel_set e.address (Some (new_sender s to kind)) ∷ request_added (channel_of (s.channels_given + 1)) None ∷ channel_given ∷ [])
+      (λ e. (used_shown to.domain, ((λ p. refl), ((λ p. refl), ((λ p. refl), tt)))))
+  success_shown (open_at port side kind) = end-holds KeepShown tt (live_at s (local node port)) (λ e c. buffer_used c.peer ∷ channel_set e.address (Some (opened_end c)) ∷ []) (λ e c live has. (used_shown c.peer, ((λ p. refl), tt)))
+  success_shown (close_at port side) = end-holds KeepShown tt (live_at s (local node port)) (closing side) (λ e c live has. closing_shown side e c)
   success_shown (test_of request) = ((λ p. refl), tt)
   success_shown (cancel_of request) = ((λ p. refl), tt)
   success_shown turn_alone = tt

@@ -7,7 +7,7 @@ use Rattle.std.proofs.lemmas.Bool.Decides.{eqb_tells}
 use Rattle.board_model.specs.declared.scenario.CallLine.{CallLine}
 use Rattle.board_model.specs.declared.scenario.Scenario.{Scenario}
 use Rattle.board_model.specs.Scenario.{script}
-use Rattle.board_model.specs.Journal.{turned, again, called, PlainAnswer, refuses, agrees, tells, gives, completes, Visit}
+use Rattle.board_model.specs.Journal.{turned, again, called, PlainAnswer, refuses, agrees, tells, connects, gives, completes, Visit}
 use Rattle.board_model.specs.Answer.{answer, puts}
 use Rattle.board_model.specs.CallChanges.{call_changes, returned}
 use Rattle.board_model.specs.Step.{HasNoPuts, next_line, call_at, is_tried, may_try, tries_again, after}
@@ -107,6 +107,7 @@ tried_word : (a : PlainAnswer) → is_tried a ≡ true → refuses (word_in a) �
 tried_word (refuses word) e = refl
 tried_word agrees e = absurd cc
 tried_word (tells n) e = absurd cc
+tried_word (connects request number) e = absurd cc
 tried_word (gives n bytes) e = absurd cc
 tried_word (completes place result) e = absurd cc
 

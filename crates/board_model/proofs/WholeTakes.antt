@@ -1,5 +1,5 @@
 -- A lane of a board that runs, after a domain took frames from a peer.
-use Rattle.std.proofs.Common.{◌≡◌, ℕ, ◌+◌, ◌-◌, ◌≤◌, Bool, true, false, ◌&&◌, cond, List, [], ◌++◌, length, map, take, drop, refl, sym, ap, ◌∙◌, arith, append_assoc, append-nil, take-append-drop, length-drop, length-take, eqb-true, ap₂}
+use Rattle.std.proofs.Common.{◌≡◌, ℕ, ◌+◌, ◌-◌, ◌≤◌, Bool, true, false, ◌&&◌, cond, List, [], ◌++◌, length, map, take, drop, None, refl, sym, ap, ◌∙◌, arith, append_assoc, append-nil, take-append-drop, length-drop, length-take, eqb-true, ap₂}
 use Rattle.std.specs.Prelude.{◌==◌}
 use Rattle.std.proofs.lemmas.Bool.{and_parts}
 use Rattle.std.proofs.lemmas.List.{length-map}
@@ -8,6 +8,7 @@ use Rattle.board_model.specs.State.{DomainState, is_from, free_to, held_from}
 use Rattle.board_model.specs.Serial.{returned_at_once}
 use Rattle.board_model.specs.Loads.{Load, frames_in, frames_on, with_load, with_returned, with_taken}
 use Rattle.board_model.proofs.VisitLooks.{after_takes, HaveWords}
+use Rattle.board_model.proofs.LaneRows.{item-peer}
 use Rattle.board_model.proofs.LaneTakes.{takes_count, takes_none}
 use Rattle.board_model.proofs.WholePeers.{size_at, shown_at, takes_size, takes_free, takes_shown}
 use Rattle.board_model.proofs.WholeLoads.{loaded-with}
@@ -31,9 +32,9 @@ pub record TakesFit (d : ℕ) (s : DomainState) (peer : ℕ) (ts : List Taken) (
 
 held_by : (states : ℕ → DomainState) (d : ℕ) (s : DomainState) (peer : ℕ) (ts : List Taken) → HaveWords s peer ts → (a b : ℕ) (x y : Bool) → (a == peer) ≡ x → (b == d) ≡ y → held_from a (placed states d (after_takes s peer ts) b) + cond (x && y) (returned_at_once ts) 0 ≡ held_from a (placed states d s b) + cond (x && y) (length ts) 0
 held_by states d s peer ts words a b true true is_peer is_d =
-    omega (arith, ap (held_from a) (placed-own states d s b is_d), ap (held_from a) (placed-own states d (after_takes s peer ts) b is_d), takes_count (is_from a) s peer (λ source priority content. eqb_turn a peer true is_peer) ts words)
+    omega (arith, ap (held_from a) (placed-own states d s b is_d), ap (held_from a) (placed-own states d (after_takes s peer ts) b is_d), takes_count (is_from a) s peer (λ source l. ap (λ k. k == a) (item-peer peer None source l) ∙ eqb_turn a peer true is_peer) ts words)
 held_by states d s peer ts words a b false true differs is_d =
-    omega (arith, ap (held_from a) (placed-own states d s b is_d), ap (held_from a) (placed-own states d (after_takes s peer ts) b is_d), takes_none (is_from a) s peer (λ source priority content. eqb_turn a peer false differs) ts words)
+    omega (arith, ap (held_from a) (placed-own states d s b is_d), ap (held_from a) (placed-own states d (after_takes s peer ts) b is_d), takes_none (is_from a) s peer (λ source l. ap (λ k. k == a) (item-peer peer None source l) ∙ eqb_turn a peer false differs) ts words)
 held_by states d s peer ts words a b true false is_peer differs =
     omega (arith, ap (held_from a) (placed-other states d s b differs), ap (held_from a) (placed-other states d (after_takes s peer ts) b differs))
 held_by states d s peer ts words a b false false differs other =
