@@ -4,7 +4,7 @@ use Rattle.std.specs.Prelude.{ℕ, Bool, true, false, not, ◌&&◌, ◌||◌, L
 use Rattle.std.specs.List.{list_all, list_any}
 use Rattle.board_model.specs.declared.scenario.LinkLine.{LinkLine}
 use Rattle.board_model.specs.declared.scenario.Call.{Call}
-use Rattle.board_model.specs.declared.scenario.Call.TheVariants.{Lookup, MsgRecvI}
+use Rattle.board_model.specs.declared.scenario.Call.TheVariants.{Lookup, MsgRecvI, Connect}
 use Rattle.board_model.specs.declared.scenario.CallLine.{CallLine}
 use Rattle.board_model.specs.declared.scenario.Scenario.{Scenario}
 use Rattle.board_model.specs.declared.reason.LineReason.{LineReason}
@@ -65,6 +65,7 @@ is_told above d label = list_any (tells d label) above.calls
 abbrev pub gives_request : Call → Bool
 gives_request (Lookup name) = true
 gives_request (MsgRecvI port max) = true
+gives_request (Connect port to kind) = true
 gives_request call = false
 
 abbrev pub is_request : Scenario → ℕ → List ℕ → Bool
