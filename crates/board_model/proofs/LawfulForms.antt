@@ -5,7 +5,7 @@ use Rattle.std.proofs.lemmas.Bool.{and_parts}
 use Rattle.mc_base.specs.Limits.{asked_limit}
 use Rattle.board_model.specs.declared.scenario.Call.{Call}
 use Rattle.board_model.specs.declared.form.ArgumentKind.{ArgumentKind}
-use Rattle.board_model.specs.declared.form.ArgumentKind.TheVariants.{Port, Name, Priority, Content, Maximum, Label}
+use Rattle.board_model.specs.declared.form.ArgumentKind.TheVariants.{Port, Name, Priority, Content, Maximum, ChannelKind, Label}
 use Rattle.board_model.specs.declared.form.Callee.{Callee}
 use Rattle.board_model.specs.declared.form.Callee.TheVariants as callee
 use Rattle.board_model.specs.Grammar.{IsLawfulName, form_words, call_words}
@@ -25,6 +25,7 @@ IsFit Name bits n = IsLawfulName n
 IsFit Priority bits n = n ≤ 3
 IsFit Content bits bs = (length bs ≤ asked_limit) × AllByRecursion (λ b. b < 256) bs
 IsFit Maximum bits n = n ≤ asked_limit
+IsFit ChannelKind bits kind = Unit {0}
 IsFit Label bits label = is_label label.items ≡ true
 
 abbrev pub AreFit : (kinds : List ArgumentKind) → (bits : ℕ) → Values kinds → Type 0
@@ -50,6 +51,7 @@ kind_fits Name bits word fit numbers bytes = name_fits (parts_at 58 word) fit nu
 kind_fits Priority bits word fit numbers bytes = one_number 0 3 word numbers
 kind_fits Content bits word fit numbers bytes = ((bytes_few 0 asked_limit word (and_parts (are_bytes (content 0 asked_limit word)) true bytes).0).1, bytes_below word)
 kind_fits Maximum bits word fit numbers bytes = one_number 0 asked_limit word numbers
+kind_fits ChannelKind bits word fit numbers bytes = tt
 kind_fits Label bits word fit numbers bytes = fit
 
 pub values-fit : (kinds : List ArgumentKind) (bits : ℕ) (words : List (List ℕ)) → arguments_fit kinds words ≡ true → list_all is_number (arguments_numerals kinds bits words) ≡ true → list_all are_bytes (arguments_contents kinds words) ≡ true → AreFit kinds bits (values kinds words)
@@ -76,6 +78,11 @@ words-made callee.MsgSend arguments = refl
 words-made callee.MsgRecv arguments = refl
 words-made callee.MsgRecvI arguments = refl
 words-made callee.MsgAvailable arguments = refl
+words-made callee.Connect arguments = refl
+words-made callee.OpenSend arguments = refl
+words-made callee.OpenRecv arguments = refl
+words-made callee.CloseSend arguments = refl
+words-made callee.CloseRecv arguments = refl
 words-made callee.Test arguments = refl
 words-made callee.Cancel arguments = refl
 words-made callee.Turn arguments = refl
@@ -88,6 +95,11 @@ has_fit callee.MsgSend arguments h = (h.0, h.1.0, h.1.1.0, h.1.1.1.0.0, h.1.1.1.
 has_fit callee.MsgRecv arguments h = (h.0, h.1.0)
 has_fit callee.MsgRecvI arguments h = (h.0, h.1.0)
 has_fit callee.MsgAvailable arguments h = h.0
+has_fit callee.Connect arguments h = (h.0, h.1.0)
+has_fit callee.OpenSend arguments h = h.0
+has_fit callee.OpenRecv arguments h = h.0
+has_fit callee.CloseSend arguments h = h.0
+has_fit callee.CloseRecv arguments h = h.0
 has_fit callee.Test arguments h = tt
 has_fit callee.Cancel arguments h = tt
 has_fit callee.Turn arguments h = tt
