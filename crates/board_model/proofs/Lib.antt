@@ -59,7 +59,9 @@ pub mod MessageOnce
 pub mod MessageVisitLines
 pub mod OrderCalls
 pub mod OrderCancels
+pub mod OrderChannels
 pub mod OrderDeeds
+pub mod OrderEnds
 pub mod OrderItems
 pub mod OrderLaws
 pub mod OrderQueues

@@ -1,6 +1,6 @@
 -- What taken frames and calls do to what is queued.
 use Rattle.std.proofs.Common.{◌≡◌, inl, inr, ℕ, ◌+◌, ◌-◌, ◌≤◌, Bool, true, false, not, cond, List, [], ◌∷◌, ◌++◌, map, find, flat_map, length, Option, Some, None, option_map, option_to_list, refl, sym, ap, ap₂, ◌∙◌, subst, arith}
-use Rattle.std.specs.Prelude.{◌==◌, ◌&&◌, is_none, is_some}
+use Rattle.std.specs.Prelude.{◌==◌, ◌&&◌, ◌||◌, is_none, is_some}
 use Rattle.std.specs.List.{AllByRecursion}
 use Rattle.std.proofs.lemmas.Bool.{eqb-true, eq-eqb, and_parts}
 use Rattle.std.proofs.lemmas.List.{append-nil}
@@ -10,15 +10,19 @@ use Rattle.mc_base.specs.FullName.{end_name}
 use Rattle.mc_base.specs.declared.name.Local.{Local}
 use Rattle.mc_base.specs.declared.name.EndName.{EndName}
 use Rattle.mc_base.specs.declared.fate.Fate.{Fate}
+use Rattle.mc_base.specs.declared.channel.Kind.{Kind}
+use Rattle.mc_base.specs.declared.channel.Side.{Side}
+use Rattle.mc_base.specs.declared.channel.Side.TheVariants.{Sender, Receiver}
 use Rattle.mc_base.specs.declared.refusal.Refusal.{Refusal}
-use Rattle.mc_base.specs.declared.refusal.Refusal.TheVariants.{EndpInvalid}
-use Rattle.board_model.specs.DomainCall.{DomainCall, create_at, delete_at, lookup_of, send_from, receive_at, request_at, available_at, test_of, cancel_of, turn_alone}
+use Rattle.mc_base.specs.declared.refusal.Refusal.TheVariants.{EndpInvalid, NotConnected, ChanDirection, ChanClosed}
+use Rattle.board_model.specs.DomainCall.{DomainCall, create_at, delete_at, lookup_of, send_from, receive_at, request_at, available_at, connect_from, open_at, close_at, test_of, cancel_of, turn_alone}
 use Rattle.board_model.specs.Journal.{PlainAnswer, refuses, agrees}
 use Rattle.board_model.specs.Choice.{least, best, without_best}
-use Rattle.board_model.specs.State.{Item, Endpoint, name_of, message_at, has_address, has_item, has_ended, Request, DomainState, is_at, has_address_of, live_at, place_at, endpoint_at, queue_at, endpoint_of, queue_in, receives_at, waits_at}
-use Rattle.board_model.specs.Answer.{local, holds, words_of, refusal, success, answer, answer_by, unless_refused, given as given_first, address_of}
-use Rattle.board_model.specs.Change.{Change, end_announced, asks_for, all_done, best_gone, request_added, endpoint_gone, waiting_ended, ended_in, done_with, with_queue, changed, changed_all}
-use Rattle.board_model.specs.CallChanges.{at_live, best_item, success_changes, call_changes}
+use Rattle.board_model.specs.State.{Item, ChannelEnd, Endpoint, Asked, name_of, channel_of, message_at, Outcome, has_address, has_item, Request, DomainState, is_at, has_address_of, live_at, place_at, endpoint_at, queue_at, endpoint_of, queue_in, channel_in, one_waits, receives_at}
+use Rattle.board_model.specs.Answer.{local, holds, words_of, refusal, success, answer, answer_by, unless_refused, given as given_first, address_of, has_channel, channel_at, end_holds, holds_at_end}
+use Rattle.board_model.specs.Change.{Change, end_announced, asks_for, all_done, best_gone, channel_set, queue_dropped, request_added, endpoint_gone, waiting_ended, ended_in, with_queue, with_channel, buffer_used, channel_given, changed, changed_all}
+use Rattle.board_model.specs.ChannelEnds.{EndCall, opens, closes, same_side, opened_end, closed_end}
+use Rattle.board_model.specs.CallChanges.{at_live, at_channel, at_end, best_item, new_sender, closing, success_changes, call_changes}
 use Rattle.board_model.specs.TakenFrames.{row_of}
 use Rattle.board_model.specs.Deeds.{Deed, takes, calls, happens_by, after_deed}
 use Rattle.board_model.specs.Takings.{Taking, taking, answered_by}
@@ -26,13 +30,15 @@ use Rattle.board_model.specs.MessageOrder.{is_handed, item_said, came_to, items_
 use Rattle.board_model.proofs.DeedRuns.{count_taken}
 use Rattle.board_model.proofs.MessageLists.{get-position, some-position, best_is, without_best_is}
 use Rattle.board_model.proofs.MessageBest.{best-none}
-use Rattle.board_model.proofs.OrderDeeds.{Takes, RowHands, Does, row_does, queues}
+use Rattle.board_model.proofs.OrderChannels.{no_length, either_none, row_does}
+use Rattle.board_model.proofs.OrderDeeds.{Takes, RowHands, Does, queues}
+use Rattle.board_model.proofs.OrderEnds.{Follows, mute_sender, closed_follows, end_bound, set_fits, set_same, dropped_same}
 use Rattle.board_model.proofs.OrderItems.{IsPast, IsNext, all_past_more, next_past_after, Apart, left_of, left_none, left_all, left_self, left_first, all_none_next, found_all}
-use Rattle.board_model.proofs.OrderQueues.{queued_for, queued_made, queued_gone, queued_best}
+use Rattle.board_model.proofs.OrderQueues.{messages_at, messages_of, messages_none, queued_for, queued_same, queued_made, queued_gone, queued_best}
 use Rattle.board_model.proofs.OrderRequests.{RequestsBy, kept, turned, gone, given, found_turns, ended_by, items_one, no_items}
 use Rattle.board_model.proofs.OrderSerials.{Serials, given_by_all, serials_changes}
-use Rattle.board_model.proofs.OrderSound.{Apart as NamesApart, all_changed, Sound, FitAllSound, sound_changes, sound_own}
-use Rattle.board_model.proofs.OrderTakings.{taken_of, IsOld, all_old, none_taken, old_mapped, old_done, old_without, added_takes}
+use Rattle.board_model.proofs.OrderSound.{Apart as NamesApart, all_changed, Waits, Sound, Bound, bound_empty, MayAsk, FitAllSound, sound_change, sound_changes, sound_own}
+use Rattle.board_model.proofs.OrderTakings.{taken_of, IsOld, all_old, none_taken, done_old, ended_old, old_without, added_takes}
 
 -- a call that is not refused
 abbrev pub succeeds : Deed → ℕ
@@ -114,6 +120,22 @@ some_of (Some x) e = (x, refl)
 pub live_here : (s : DomainState) (at : Local) → not (is_some (place_at s at)) ≡ false → (e : Endpoint) × (live_at s at ≡ Some e)
 live_here s at h = some_of (live_at s at) (sym (live_some s at) ∙ not_not (is_some (place_at s at)) h)
 
+-- it has no channel
+pub free_here : (s : DomainState) (at : Local) (e : Endpoint) → live_at s at ≡ Some e → has_channel (endpoint_at s at) ≡ false → e.channel ≡ None
+free_here s at e found none = go e.channel (sym (ap has_channel (live_found s at ∙ found)) ∙ none)
+  where
+    go : (c : Option ChannelEnd) → is_some c ≡ false → c ≡ None
+    go None h = refl
+    go (Some c) h = absurd cc
+
+-- it has one
+end_here : (s : DomainState) (at : Local) (e : Endpoint) (call : EndCall) → live_at s at ≡ Some e → holds_at_end (Some call) (channel_at s at) NotConnected ≡ false → (c : ChannelEnd) × (e.channel ≡ Some c)
+end_here s at e call found connected = go e.channel refl (sym (ap (λ o. end_holds call (channel_in o) NotConnected) found) ∙ connected)
+  where
+    go : (o : Option ChannelEnd) → e.channel ≡ o → end_holds call o NotConnected ≡ false → (c : ChannelEnd) × (e.channel ≡ Some c)
+    go None is h = absurd cc
+    go (Some c) is h = (c, is)
+
 -- ---- a refused call
 
 refused_none : (s : DomainState) (node : ℕ) (call : DomainCall) (w : Refusal) → answered_by s (calls node call (refuses w)) ≡ []
@@ -184,20 +206,13 @@ module _ (room : ℕ) (before : List Deed) (s : DomainState) (moment : Moment ro
   quiet_does : (call : DomainCall) (a : PlainAnswer) → refusal s node call ≡ None → answered_by s (calls node call a) ≡ [] → ((b : ℕ) → dropped_from b s (calls node call a) ≡ []) → given_by_all (success_changes s node call) ≤ room → Effect before s (success_changes s node call) [] (λ b. []) → Does room before s (calls node call a)
   quiet_does call a is answers drops fits effect = effect_does room before s moment node call a (success_changes s node call) [] (λ b. []) (ap (λ o. unless_refused o [] (success_changes s node call)) is) answers drops fits effect
 
-  found_old : (n : EndName) (a : ℕ) → AllByRecursion (IsOld s) (map (all_done (asks_for n) (has_address a)) s.requests)
-  found_old n a = old_mapped s (all_done (asks_for n) (has_address a)) (λ r old. old_done s (is_none r.outcome && asks_for n r.asked) (has_address a) r refl old) s.requests (all_old s)
-
-  ended_old : (o : Option Endpoint) (w : Refusal) → AllByRecursion (IsOld s) (ended_in o w s.requests)
-  ended_old None w = all_old s
-  ended_old (Some e) w = old_mapped s (λ r. cond (waits_at e.local r) (done_with (has_ended w) r) r) (λ r old. old_done s (waits_at e.local r) (has_ended w) r refl old) s.requests (all_old s)
-
   -- ---- create, send, available, test, cancel, turn, lookup
 
   create_does : (port : ℕ) → refusal s node (create_at port) ≡ None → Does room before s (calls node (create_at port) (success s node (create_at port)))
   create_does port is =
       let words = none_holds (holds s node (create_at port)) (words_of (create_at port)) is in
       quiet_does (create_at port) (success s node (create_at port)) is refl (λ b. refl) (omega arith)
-      (quiet before s (success_changes s node (create_at port)) (sym (live_some s (local node port)) ∙ words.1.0, (tt, (tt, tt))) (found_old _ _) (λ b. queued_made s (local node port) b) (turned (all_done (asks_for (end_name s.number (local node port))) (has_address (first_address + s.endpoints_given))) (found_turns (end_name s.number (local node port)) (first_address + s.endpoints_given))))
+      (quiet before s (success_changes s node (create_at port)) (sym (live_some s (local node port)) ∙ words.1.0, (tt, (tt, tt))) (done_old s (asks_for (end_name s.number (local node port))) (has_address (first_address + s.endpoints_given)) refl) (λ b. queued_made s (local node port) b) (turned (all_done (asks_for (end_name s.number (local node port))) (has_address (first_address + s.endpoints_given))) (found_turns (end_name s.number (local node port)) (first_address + s.endpoints_given))))
 
   send_does : (port : ℕ) (to : EndName) (priority : ℕ) (bytes : List ℕ) → refusal s node (send_from port to priority bytes) ≡ None → Does room before s (calls node (send_from port to priority bytes) agrees)
   send_does port to priority bytes is = quiet_does (send_from port to priority bytes) agrees is refl (λ b. refl) (omega arith) (quiet before s (success_changes s node (send_from port to priority bytes)) (tt, tt) (all_old s) (λ b. refl) (kept [] (λ k. refl)))
@@ -216,37 +231,38 @@ module _ (room : ℕ) (before : List Deed) (s : DomainState) (moment : Moment ro
 
   -- ---- lookup
 
-  not_received : (b : Bool) → (b && false) ≡ true → ⊥
-  not_received true h = absurd cc
-  not_received false h = absurd cc
-
-  all_free : (b : Bool) (name : EndName) (es : List Endpoint) → AllByRecursion (λ e. b && receives_at e.local (name_of name) ≡ true → e.queue ≡ []) es
-  all_free b name [] = tt
-  all_free b name (e ∷ es) = ((λ h. absurd (not_received b h)), all_free b name es)
+  -- what asks for no item may be asked anywhere
+  not_received : (asked : Asked) → ((l : Local) → receives_at l asked ≡ false) → (o : Option Outcome) (es : List Endpoint) → AllByRecursion (MayAsk asked o) es
+  not_received asked other o [] = tt
+  not_received asked other o (e ∷ es) = ((λ h. absurd (never (is_none o) (receives_at e.local asked) (other e.local) h)), not_received asked other o es)
+    where
+      never : (a b : Bool) → b ≡ false → (a && b) ≡ true → ⊥
+      never true b off h = absurd cc
+      never false b off h = absurd cc
 
   old_last : (r : Request) → IsOld s r → (rs : List Request) → AllByRecursion (IsOld s) rs → AllByRecursion (IsOld s) (rs ++ r ∷ [])
   old_last r old [] all = (old, tt)
   old_last r old (x ∷ xs) all = (all.0, old_last r old xs all.1)
 
   lookup_effect : (name : EndName) (x : Option ℕ) → Effect before s (request_added (name_of name) (option_map has_address x) ∷ []) [] (λ b. [])
-  lookup_effect name None = quiet before s (request_added (name_of name) None ∷ []) (all_free true name s.endpoints, tt) (old_last _ (inl refl) s.requests (all_old s)) (λ b. refl) (given (name_of name) None [] tt (λ k. sym (no_items (s.requests_given == k))))
-  lookup_effect name (Some a) = quiet before s (request_added (name_of name) (Some (has_address a)) ∷ []) (all_free false name s.endpoints, tt) (old_last _ (inl refl) s.requests (all_old s)) (λ b. refl) (given (name_of name) (Some (has_address a)) [] tt (λ k. sym (no_items (s.requests_given == k))))
+  lookup_effect name None = quiet before s (request_added (name_of name) None ∷ []) (not_received (name_of name) (λ l. refl) None s.endpoints, tt) (old_last _ (inl refl) s.requests (all_old s)) (λ b. refl) (given (name_of name) None [] tt (λ k. sym (no_items (s.requests_given == k))))
+  lookup_effect name (Some a) = quiet before s (request_added (name_of name) (Some (has_address a)) ∷ []) (not_received (name_of name) (λ l. refl) (Some (has_address a)) s.endpoints, tt) (old_last _ (inl refl) s.requests (all_old s)) (λ b. refl) (given (name_of name) (Some (has_address a)) [] tt (λ k. sym (no_items (s.requests_given == k))))
 
   lookup_does : (name : EndName) → refusal s node (lookup_of name) ≡ None → 1 ≤ room → Does room before s (calls node (lookup_of name) (success s node (lookup_of name)))
   lookup_does name is fits = quiet_does (lookup_of name) (success s node (lookup_of name)) is refl (λ b. refl) (omega arith) (lookup_effect name (address_of s name))
 
   -- ---- what is queued at an endpoint that is live
 
-  queue_here : (e : Endpoint) (at : Local) → live_at s at ≡ Some e → (b : ℕ) → (e.address == b) ≡ true → queued_for s b ≡ e.queue
-  queue_here e at found b same = ap queue_in (ap (λ x. endpoint_of s x) (sym (eqb-true e.address b same)) ∙ sound_own s moment.sound at e found)
+  queue_here : (e : Endpoint) (at : Local) → live_at s at ≡ Some e → e.channel ≡ None → (b : ℕ) → (e.address == b) ≡ true → queued_for s b ≡ e.queue
+  queue_here e at found free b same = ap messages_of (ap (λ x. endpoint_of s x) (sym (eqb-true e.address b same)) ∙ sound_own s moment.sound at e found) ∙ ap (λ c. messages_at c e.queue) free
 
   -- ---- delete
 
-  delete_effect : (e : Endpoint) (at : Local) → live_at s at ≡ Some e → Effect before s (waiting_ended e.address EndpInvalid ∷ endpoint_gone e.address ∷ end_announced (record { local = e.local; address = e.address; create = false }) ∷ []) [] (λ b. dropped_at b (Some e))
-  delete_effect e at found = record {
+  delete_effect : (e : Endpoint) (at : Local) → live_at s at ≡ Some e → e.channel ≡ None → Effect before s (waiting_ended e.address EndpInvalid ∷ endpoint_gone e.address ∷ end_announced (record { local = e.local; address = e.address; create = false }) ∷ []) [] (λ b. dropped_at b (Some e))
+  delete_effect e at found free = record {
     fits = (tt, (tt, (tt, tt)));
     completed = [];
-    takings = none_taken s (ended_in (endpoint_of s e.address) EndpInvalid s.requests) (ended_old (endpoint_of s e.address) EndpInvalid);
+    takings = none_taken s (ended_in (endpoint_of s e.address) EndpInvalid s.requests) (ended_old s (endpoint_of s e.address) EndpInvalid);
     queue = λ b. queued_gone (changed s (waiting_ended e.address EndpInvalid)) e.address b ∙ left b (e.address == b) refl;
     past = λ b. all_past b (e.address == b) refl;
     best_first = tt;
@@ -254,11 +270,11 @@ module _ (room : ℕ) (before : List Deed) (s : DomainState) (moment : Moment ro
   }
     where
       left : (b : ℕ) (c : Bool) → (e.address == b) ≡ c → cond c [] (queued_for s b) ≡ left_of (cond c e.queue []) (queued_for s b)
-      left b true same = sym (ap (left_of e.queue) (queue_here e at found b same) ∙ left_self e.queue)
+      left b true same = sym (ap (left_of e.queue) (queue_here e at found free b same) ∙ left_self e.queue)
       left b false other = sym (left_none (queued_for s b))
 
       all_past : (b : ℕ) (c : Bool) → (e.address == b) ≡ c → AllByRecursion (IsPast before) (cond c e.queue [])
-      all_past b true same = subst (AllByRecursion (IsPast before)) (queue_here e at found b same) (moment.items b)
+      all_past b true same = subst (AllByRecursion (IsPast before)) (queue_here e at found free b same) (moment.items b)
       all_past b false other = tt
 
   delete_does : (port : ℕ) → refusal s node (delete_at port) ≡ None → Does room before s (calls node (delete_at port) (success s node (delete_at port)))
@@ -266,7 +282,7 @@ module _ (room : ℕ) (before : List Deed) (s : DomainState) (moment : Moment ro
       let words = none_holds (holds s node (delete_at port)) (words_of (delete_at port)) is in
       let e = live_here s (local node port) words.0 in
       effect_does room before s moment node (delete_at port) (success s node (delete_at port)) (delete_changes (Some e.0)) [] (λ b. dropped_at b (Some e.0))
-      (ap (λ o. unless_refused o [] (success_changes s node (delete_at port))) is ∙ ap delete_changes e.1) refl (λ b. ap (dropped_at b) e.1) (omega arith) (delete_effect e.0 (local node port) e.1)
+      (ap (λ o. unless_refused o [] (success_changes s node (delete_at port))) is ∙ ap delete_changes e.1) refl (λ b. ap (dropped_at b) e.1) (omega arith) (delete_effect e.0 (local node port) e.1 (free_here s (local node port) e.0 e.1 words.1.0))
     where
       delete_changes : Option Endpoint → List Change
       delete_changes o = at_live o (λ e. waiting_ended e.address EndpInvalid ∷ endpoint_gone e.address ∷ end_announced (record { local = e.local; address = e.address; create = false }) ∷ [])
@@ -276,27 +292,27 @@ module _ (room : ℕ) (before : List Deed) (s : DomainState) (moment : Moment ro
   best_at : (e : Endpoint) (i : Item) → best_item e ≡ Some i → find (λ x. x.priority == least (λ y. y.priority) e.queue) e.queue ≡ Some i
   best_at e i is = sym (best_is (λ x. x.priority) e.queue) ∙ is
 
-  best_left : (e : Endpoint) (at : Local) (i : Item) → live_at s at ≡ Some e → best_item e ≡ Some i → (b : ℕ) → queued_for (changed s (best_gone e.address)) b ≡ left_of (cond (e.address == b) (i ∷ []) []) (queued_for s b)
-  best_left e at i found is b = queued_best s e.address b ∙ go (e.address == b) refl
+  best_left : (e : Endpoint) (at : Local) (i : Item) → live_at s at ≡ Some e → e.channel ≡ None → best_item e ≡ Some i → (b : ℕ) → queued_for (changed s (best_gone e.address)) b ≡ left_of (cond (e.address == b) (i ∷ []) []) (queued_for s b)
+  best_left e at i found free is b = queued_best s e.address b ∙ go (e.address == b) refl
     where
       go : (c : Bool) → (e.address == b) ≡ c → cond c (without_best (λ x. x.priority) (queued_for s b)) (queued_for s b) ≡ left_of (cond c (i ∷ []) []) (queued_for s b)
       go true same =
-          let here : queued_for s b ≡ e.queue = queue_here e at found b same in
+          let here : queued_for s b ≡ e.queue = queue_here e at found free b same in
           ap (without_best (λ x. x.priority)) here
           ∙ (without_best_is (λ x. x.priority) e.queue
           ∙ (sym (left_first (λ x. x.priority == least (λ y. y.priority) e.queue) e.queue i (best_at e i is) (subst Apart here (moment.apart b)))
           ∙ sym (ap (left_of (i ∷ [])) here)))
       go false other = sym (left_none (queued_for s b))
 
-  best_past : (e : Endpoint) (at : Local) (i : Item) → live_at s at ≡ Some e → best_item e ≡ Some i → (b : ℕ) → AllByRecursion (IsPast before) (cond (e.address == b) (i ∷ []) [])
-  best_past e at i found is b = go (e.address == b) refl
+  best_past : (e : Endpoint) (at : Local) (i : Item) → live_at s at ≡ Some e → e.channel ≡ None → best_item e ≡ Some i → (b : ℕ) → AllByRecursion (IsPast before) (cond (e.address == b) (i ∷ []) [])
+  best_past e at i found free is b = go (e.address == b) refl
     where
       go : (c : Bool) → (e.address == b) ≡ c → AllByRecursion (IsPast before) (cond c (i ∷ []) [])
-      go true same = (found_all (IsPast before) (λ x. x.priority == least (λ y. y.priority) e.queue) e.queue i (best_at e i is) (subst (AllByRecursion (IsPast before)) (queue_here e at found b same) (moment.items b)), tt)
+      go true same = (found_all (IsPast before) (λ x. x.priority == least (λ y. y.priority) e.queue) e.queue i (best_at e i is) (subst (AllByRecursion (IsPast before)) (queue_here e at found free b same) (moment.items b)), tt)
       go false other = tt
 
-  best_queued : (e : Endpoint) (at : Local) (i : Item) → live_at s at ≡ Some e → best_item e ≡ Some i → best (λ x. x.priority) (queued_for s e.address) ≡ Some i
-  best_queued e at i found is = ap (best (λ x. x.priority)) (queue_here e at found e.address (eq-eqb e.address e.address refl)) ∙ is
+  best_queued : (e : Endpoint) (at : Local) (i : Item) → live_at s at ≡ Some e → e.channel ≡ None → best_item e ≡ Some i → best (λ x. x.priority) (queued_for s e.address) ≡ Some i
+  best_queued e at i found free is = ap (best (λ x. x.priority)) (queue_here e at found free e.address (eq-eqb e.address e.address refl)) ∙ is
 
   -- one taking
   one_gone : (t : Taking) (b : ℕ) → gone_of (t ∷ []) (λ x. []) b ≡ cond (t.address == b) (t.item ∷ []) []
@@ -304,14 +320,14 @@ module _ (room : ℕ) (before : List Deed) (s : DomainState) (moment : Moment ro
 
   -- ---- receive
 
-  receive_effect : (e : Endpoint) (at : Local) (i : Item) → live_at s at ≡ Some e → best_item e ≡ Some i → Effect before s (best_gone e.address ∷ []) (taking None e.address i ∷ []) (λ b. [])
-  receive_effect e at i found is = record {
+  receive_effect : (e : Endpoint) (at : Local) (i : Item) → live_at s at ≡ Some e → e.channel ≡ None → best_item e ≡ Some i → Effect before s (best_gone e.address ∷ []) (taking None e.address i ∷ []) (λ b. [])
+  receive_effect e at i found free is = record {
     fits = (tt, tt);
     completed = [];
     takings = none_taken s s.requests (all_old s);
-    queue = λ b. best_left e at i found is b ∙ ap (λ g. left_of g (queued_for s b)) (sym (one_gone (taking None e.address i) b));
-    past = λ b. subst (AllByRecursion (IsPast before)) (sym (one_gone (taking None e.address i) b)) (best_past e at i found is b);
-    best_first = (best_queued e at i found is, tt);
+    queue = λ b. best_left e at i found free is b ∙ ap (λ g. left_of g (queued_for s b)) (sym (one_gone (taking None e.address i) b));
+    past = λ b. subst (AllByRecursion (IsPast before)) (sym (one_gone (taking None e.address i) b)) (best_past e at i found free is b);
+    best_first = (best_queued e at i found free is, tt);
     requests = kept (taking None e.address i ∷ []) (λ k. refl);
   }
 
@@ -340,7 +356,7 @@ module _ (room : ℕ) (before : List Deed) (s : DomainState) (moment : Moment ro
       effect_does room before s moment node (receive_at port max) (success s node (receive_at port max)) (receive_changes (Some e.0)) (taking None e.0.address i.0 ∷ []) (λ b. [])
       (ap (λ o. unless_refused o [] (success_changes s node (receive_at port max))) is ∙ ap receive_changes e.1)
       (ap (λ x. answered_by s (calls node (receive_at port max) (given_first max x))) (best_found (local node port) e.0 e.1 ∙ i.1) ∙ (ap (λ o. at_live o (λ f. map (taking None f.address) (option_to_list (best_item f)))) e.1 ∙ ap (λ x. map (taking None e.0.address) (option_to_list x)) i.1))
-      (λ b. refl) (omega arith) (receive_effect e.0 (local node port) i.0 e.1 i.1)
+      (λ b. refl) (omega arith) (receive_effect e.0 (local node port) i.0 e.1 (free_here s (local node port) e.0 e.1 words.1.0) i.1)
     where
       receive_changes : Option Endpoint → List Change
       receive_changes o = at_live o (λ e. best_gone e.address ∷ [])
@@ -381,38 +397,38 @@ module _ (room : ℕ) (before : List Deed) (s : DomainState) (moment : Moment ro
       ap₂ (λ n p. find (λ x. x.local.node == n && x.local.port == p) s.endpoints) names.0 names.1 ∙ found
 
   -- none waits that is complete at once; and where nothing is queued one may wait
-  not_waiting : (at : Local) (max : ℕ) (es : List Endpoint) → AllByRecursion (λ e. false && receives_at e.local (message_at at max) ≡ true → e.queue ≡ []) es
-  not_waiting at max [] = tt
-  not_waiting at max (e ∷ es) = ((λ h. absurd cc), not_waiting at max es)
+  not_waiting : (at : Local) (max : ℕ) (i : Item) (es : List Endpoint) → AllByRecursion (MayAsk (message_at at max) (Some (has_item i))) es
+  not_waiting at max i [] = tt
+  not_waiting at max i (e ∷ es) = ((λ h. absurd cc), not_waiting at max i es)
 
   is_turned : (f : Endpoint) (at : Local) (max : ℕ) → receives_at f.local (message_at at max) ≡ is_at at f
   is_turned f at max = grind (arith, eqb-true, eq-eqb)
 
-  may_wait : (e : Endpoint) (at : Local) (max : ℕ) → live_at s at ≡ Some e → e.queue ≡ [] → AllByRecursion (λ f. true && receives_at f.local (message_at e.local max) ≡ true → f.queue ≡ []) (changed s (best_gone e.address)).endpoints
-  may_wait e at max found empty =
-      all_changed (λ f. is_at e.local f ≡ true → f.queue ≡ []) (λ f. true && receives_at f.local (message_at e.local max) ≡ true → f.queue ≡ []) (has_address_of e.address) (with_queue (without_best (λ i. i.priority)))
+  may_wait : (e : Endpoint) (at : Local) (max : ℕ) → live_at s at ≡ Some e → e.channel ≡ None → e.queue ≡ [] → AllByRecursion (MayAsk (message_at e.local max) None) (changed s (best_gone e.address)).endpoints
+  may_wait e at max found free empty =
+      all_changed (λ f. is_at e.local f ≡ true → (f.queue ≡ []) × (f.channel ≡ None)) (MayAsk (message_at e.local max) None) (has_address_of e.address) (with_queue (without_best (λ i. i.priority)))
       (λ f none h. none (sym (is_turned f e.local max) ∙ h)) s.endpoints
-      (λ f at_f none h. ap (without_best (λ i. i.priority)) (none (sym (is_turned f e.local max) ∙ h)))
-      (only_at (λ f. f.queue ≡ []) e.local s.endpoints e moment.sound.apart (found_own at e found) empty)
+      (λ f at_f none h. let here = none (sym (is_turned f e.local max) ∙ h) in (ap (without_best (λ i. i.priority)) here.0, here.1))
+      (only_at (λ f. (f.queue ≡ []) × (f.channel ≡ None)) e.local s.endpoints e moment.sound.apart (found_own at e found) (empty, free))
 
-  request_effect : (e : Endpoint) (at : Local) (max : ℕ) → live_at s at ≡ Some e → (x : Option Item) → best_item e ≡ x → Effect before s (best_gone e.address ∷ request_added (message_at e.local max) (option_map has_item x) ∷ []) [] (λ b. [])
-  request_effect e at max found None none =
+  request_effect : (e : Endpoint) (at : Local) (max : ℕ) → live_at s at ≡ Some e → e.channel ≡ None → (x : Option Item) → best_item e ≡ x → Effect before s (best_gone e.address ∷ request_added (message_at e.local max) (option_map has_item x) ∷ []) [] (λ b. [])
+  request_effect e at max found free None none =
       let empty : e.queue ≡ [] = best-none (λ i. i.priority) e.queue none in
-      quiet before s (best_gone e.address ∷ request_added (message_at e.local max) None ∷ []) (tt, (may_wait e at max found empty, tt)) (old_last _ (inl refl) s.requests (all_old s))
+      quiet before s (best_gone e.address ∷ request_added (message_at e.local max) None ∷ []) (tt, (may_wait e at max found free empty, tt)) (old_last _ (inl refl) s.requests (all_old s))
       (λ b. queued_best s e.address b ∙ same b (e.address == b) refl) (given (message_at e.local max) None [] tt (λ k. sym (no_items (s.requests_given == k))))
     where
       same : (b : ℕ) (c : Bool) → (e.address == b) ≡ c → cond c (without_best (λ i. i.priority) (queued_for s b)) (queued_for s b) ≡ queued_for s b
       same b true is =
-          let here : queued_for s b ≡ [] = queue_here e at found b is ∙ best-none (λ i. i.priority) e.queue none in
+          let here : queued_for s b ≡ [] = queue_here e at found free b is ∙ best-none (λ i. i.priority) e.queue none in
           ap (without_best (λ i. i.priority)) here ∙ sym here
       same b false is = refl
-  request_effect e at max found (Some i) is = record {
-    fits = (tt, (not_waiting e.local max (changed s (best_gone e.address)).endpoints, tt));
+  request_effect e at max found free (Some i) is = record {
+    fits = (tt, (not_waiting e.local max i (changed s (best_gone e.address)).endpoints, tt));
     completed = taking (Some s.requests_given) e.address i ∷ [];
     takings = added_takes s (message_at e.local max) (Some (has_item i)) moment.serials.below ∙ ap (λ o. map (λ a. taking (Some s.requests_given) a i) (at_live o (λ f. f.address ∷ []))) (found_own at e found);
-    queue = λ b. best_left e at i found is b ∙ ap (λ g. left_of g (queued_for s b)) (sym (one_gone (taking (Some s.requests_given) e.address i) b));
-    past = λ b. subst (AllByRecursion (IsPast before)) (sym (one_gone (taking (Some s.requests_given) e.address i) b)) (best_past e at i found is b);
-    best_first = (best_queued e at i found is, tt);
+    queue = λ b. best_left e at i found free is b ∙ ap (λ g. left_of g (queued_for s b)) (sym (one_gone (taking (Some s.requests_given) e.address i) b));
+    past = λ b. subst (AllByRecursion (IsPast before)) (sym (one_gone (taking (Some s.requests_given) e.address i) b)) (best_past e at i found free is b);
+    best_first = (best_queued e at i found free is, tt);
     requests = given (message_at e.local max) (Some (has_item i)) (taking (Some s.requests_given) e.address i ∷ []) tt (λ k. items_one k s.requests_given e.address i);
   }
 
@@ -421,10 +437,104 @@ module _ (room : ℕ) (before : List Deed) (s : DomainState) (moment : Moment ro
       let words = none_holds (holds s node (request_at port max)) (words_of (request_at port max)) is in
       let e = live_here s (local node port) words.0 in
       effect_does room before s moment node (request_at port max) (success s node (request_at port max)) (request_changes (Some e.0)) [] (λ b. [])
-      (ap (λ o. unless_refused o [] (success_changes s node (request_at port max))) is ∙ ap request_changes e.1) refl (λ b. refl) (omega arith) (request_effect e.0 (local node port) max e.1 (best_item e.0) refl)
+      (ap (λ o. unless_refused o [] (success_changes s node (request_at port max))) is ∙ ap request_changes e.1) refl (λ b. refl) (omega arith) (request_effect e.0 (local node port) max e.1 (free_here s (local node port) e.0 e.1 words.1.0) (best_item e.0) refl)
     where
       request_changes : Option Endpoint → List Change
       request_changes o = at_live o (λ e. best_gone e.address ∷ request_added (message_at e.local max) (option_map has_item (best_item e)) ∷ [])
+
+  -- ---- connect
+
+  own_local : (at : Local) (e : Endpoint) → live_at s at ≡ Some e → e.local ≡ at
+  own_local at e found = let names = own_name at s.endpoints e found in ap₂ (λ n p. record { node = n; port = p }) names.0 names.1
+
+  connect_effect : (e : Endpoint) (at : Local) (peer number : ℕ) (c : ChannelEnd) → live_at s at ≡ Some e → e.queue ≡ [] → (Waits e.local s.requests → ⊥) → Effect before s (buffer_used peer ∷ channel_set e.address (Some c) ∷ request_added (channel_of number) None ∷ channel_given ∷ []) [] (λ b. [])
+  connect_effect e at peer number c found none still =
+      let t : DomainState = changed s (buffer_used peer) in
+      quiet before s (buffer_used peer ∷ channel_set e.address (Some c) ∷ request_added (channel_of number) None ∷ channel_given ∷ [])
+      (tt, ((λ f is. let same : e ≡ f = one f is in subst (λ x. Bound s.requests x.local x.queue (Some c)) same (bound_empty s.requests e.local e.queue none still (Some c))), (not_received (channel_of number) (λ l. refl) None (changed t (channel_set e.address (Some c))).endpoints, (tt, tt))))
+      (old_last _ (inl refl) s.requests (all_old s))
+      (λ b. queued_same (with_channel (Some c)) (λ x. refl) t e.address b (λ f is. let same : e ≡ f = one f is in subst (λ (x : Endpoint). [] ≡ messages_at x.channel x.queue) same (sym (ap (messages_at e.channel) none ∙ messages_none e.channel))))
+      (given (channel_of number) None [] tt (λ k. sym (no_items (s.requests_given == k))))
+    where
+      one : (f : Endpoint) → endpoint_of s e.address ≡ Some f → e ≡ f
+      one f is = let own : endpoint_of s e.address ≡ Some e = sound_own s moment.sound at e found in let both : Some e ≡ Some f = sym own ∙ is in cc
+
+  connect_does : (port : ℕ) (to : EndName) (kind : Kind) → refusal s node (connect_from port to kind) ≡ None → 1 ≤ room → Does room before s (calls node (connect_from port to kind) (success s node (connect_from port to kind)))
+  connect_does port to kind is fits =
+      let words = none_holds (holds s node (connect_from port to kind)) (words_of (connect_from port to kind)) is in
+      let e = live_here s (local node port) words.0 in
+      let idle = either_none (not (length (queue_at s (local node port)) == 0)) (one_waits s (local node port)) words.1.1.0 in
+      let none : e.0.queue ≡ [] = sym (ap queue_in (live_found s (local node port) ∙ e.1)) ∙ no_length (queue_at s (local node port)) idle.0 in
+      let still : one_waits s e.0.local ≡ false = ap (one_waits s) (own_local (local node port) e.0 e.1) ∙ idle.1 in
+      effect_does room before s moment node (connect_from port to kind) (success s node (connect_from port to kind)) (connect_changes (Some e.0)) [] (λ b. [])
+      (ap (λ o. unless_refused o [] (success_changes s node (connect_from port to kind))) is ∙ ap connect_changes e.1) refl (λ b. refl) (omega arith)
+      (connect_effect e.0 (local node port) to.domain (s.channels_given + 1) (new_sender s to kind) e.1 none (λ w. absurd cc))
+    where
+      connect_changes : Option Endpoint → List Change
+      connect_changes o = at_live o (λ e. buffer_used to.domain ∷ channel_set e.address (Some (new_sender s to kind)) ∷ request_added (channel_of (s.channels_given + 1)) None ∷ channel_given ∷ [])
+
+  -- ---- open and close
+
+  module _ (e : Endpoint) (at : Local) (found : live_at s at ≡ Some e) (c : ChannelEnd) (ends : e.channel ≡ Some c) (peer : ℕ) where
+    abbrev used : DomainState
+    used = changed s (buffer_used peer)
+
+    used_sound : Sound used
+    used_sound = sound_change s moment.sound (buffer_used peer) tt
+
+    here_own : endpoint_of s e.address ≡ Some e
+    here_own = sound_own s moment.sound at e found
+
+    set_effect : (d : Option ChannelEnd) → Follows c d → Effect before s (buffer_used peer ∷ channel_set e.address d ∷ []) [] (λ b. [])
+    set_effect d follows = quiet before s (buffer_used peer ∷ channel_set e.address d ∷ []) (tt, (set_fits used used_sound e.address e here_own c ends d follows, tt)) (all_old s) (λ b. set_same used used_sound e.address e here_own c ends d follows b) (kept [] (λ k. refl))
+
+    dropped_effect : (w : Refusal) (d : Option ChannelEnd) → Effect before s (buffer_used peer ∷ waiting_ended e.address w ∷ queue_dropped e.address d ∷ []) [] (λ b. [])
+    dropped_effect w d =
+        let t : DomainState = changed used (waiting_ended e.address w) in
+        let sure : Sound t = sound_change used used_sound (waiting_ended e.address w) tt in
+        quiet before s (buffer_used peer ∷ waiting_ended e.address w ∷ queue_dropped e.address d ∷ [])
+        (tt, (tt, ((λ f is waits. let same : e ≡ f = one f is in subst (λ x. Waits x.local t.requests → ⊥) same (end_bound t sure e.address e here_own c ends).0 waits), tt)))
+        (ended_old s (endpoint_of s e.address) w) (λ b. dropped_same t sure e.address e here_own c ends d b) (ended_by s (endpoint_of s e.address) w)
+      where
+        one : (f : Endpoint) → endpoint_of s e.address ≡ Some f → e ≡ f
+        one f is = let both : Some e ≡ Some f = sym here_own ∙ is in cc
+
+  opened_follows : (c : ChannelEnd) → Follows c (Some (opened_end c))
+  opened_follows c m = mute_sender c (go (same_side c.side Sender) m)
+    where
+      go : (b : Bool) → (b || false) ≡ true → b ≡ true
+      go true h = refl
+      go false h = absurd cc
+
+  -- the changes of a call at an end
+  end_changes : (f : Endpoint → ChannelEnd → List Change) (at : Local) (e : Endpoint) (c : ChannelEnd) → live_at s at ≡ Some e → e.channel ≡ Some c → at_end (live_at s at) f ≡ f e c
+  end_changes f at e c found ends = ap (λ o. at_end o f) found ∙ ap (λ o. at_channel o (f e)) ends
+
+  open_does : (port : ℕ) (side : Side) (kind : Kind) → refusal s node (open_at port side kind) ≡ None → Does room before s (calls node (open_at port side kind) agrees)
+  open_does port side kind is =
+      let words = none_holds (holds s node (open_at port side kind)) (words_of (open_at port side kind)) is in
+      let e = live_here s (local node port) words.0 in
+      let c = end_here s (local node port) e.0 (opens side kind) e.1 words.1.0 in
+      effect_does room before s moment node (open_at port side kind) agrees (buffer_used c.0.peer ∷ channel_set e.0.address (Some (opened_end c.0)) ∷ []) [] (λ b. [])
+      (ap (λ o. unless_refused o [] (success_changes s node (open_at port side kind))) is ∙ end_changes (λ e c. buffer_used c.peer ∷ channel_set e.address (Some (opened_end c)) ∷ []) (local node port) e.0 c.0 e.1 c.1) refl (λ b. refl) (omega arith)
+      (set_effect e.0 (local node port) e.1 c.0 c.1 c.0.peer (Some (opened_end c.0)) (opened_follows c.0))
+
+  close_does : (port : ℕ) (side : Side) → refusal s node (close_at port side) ≡ None → Does room before s (calls node (close_at port side) (success s node (close_at port side)))
+  close_does port Sender is =
+      let words = none_holds (holds s node (close_at port Sender)) (words_of (close_at port Sender)) is in
+      let e = live_here s (local node port) words.0 in
+      let c = end_here s (local node port) e.0 (closes Sender) e.1 words.1.0 in
+      let side : same_side c.0.side Sender ≡ true = not_not (same_side c.0.side Sender) (sym (ap (λ o. holds_at_end (Some (closes Sender)) (channel_in o) ChanDirection) e.1 ∙ ap (λ o. holds_at_end (Some (closes Sender)) o ChanDirection) c.1) ∙ words.1.1.0) in
+      effect_does room before s moment node (close_at port Sender) agrees (closing Sender e.0 c.0) [] (λ b. [])
+      (ap (λ o. unless_refused o [] (success_changes s node (close_at port Sender))) is ∙ end_changes (closing Sender) (local node port) e.0 c.0 e.1 c.1) refl (λ b. refl) (omega arith)
+      (set_effect e.0 (local node port) e.1 c.0 c.1 c.0.peer (closed_end c.0) (closed_follows c.0 side))
+  close_does port Receiver is =
+      let words = none_holds (holds s node (close_at port Receiver)) (words_of (close_at port Receiver)) is in
+      let e = live_here s (local node port) words.0 in
+      let c = end_here s (local node port) e.0 (closes Receiver) e.1 words.1.0 in
+      effect_does room before s moment node (close_at port Receiver) (success s node (close_at port Receiver)) (closing Receiver e.0 c.0) [] (λ b. [])
+      (ap (λ o. unless_refused o [] (success_changes s node (close_at port Receiver))) is ∙ end_changes (closing Receiver) (local node port) e.0 c.0 e.1 c.1) refl (λ b. refl) (omega arith)
+      (dropped_effect e.0 (local node port) e.1 c.0 c.1 c.0.peer ChanClosed (closed_end c.0))
 
   -- ---- all calls
 
@@ -436,6 +546,9 @@ module _ (room : ℕ) (before : List Deed) (s : DomainState) (moment : Moment ro
   success_does (receive_at port max) is fits = receive_does port max is
   success_does (request_at port max) is fits = request_does port max is fits
   success_does (available_at port) is fits = available_does port is
+  success_does (connect_from port to kind) is fits = connect_does port to kind is fits
+  success_does (open_at port side kind) is fits = open_does port side kind is
+  success_does (close_at port side) is fits = close_does port side is
   success_does (test_of place) is fits = test_does place is
   success_does (cancel_of place) is fits = cancel_does place is
   success_does turn_alone is fits = turn_does
@@ -459,17 +572,32 @@ live_given : (o : Option Endpoint) (f : Endpoint → List Change) (n : ℕ) → 
 live_given None f n each = omega arith
 live_given (Some e) f n each = each e
 
+end_given : (o : Option Endpoint) (f : Endpoint → ChannelEnd → List Change) → ((e : Endpoint) (c : ChannelEnd) → given_by_all (f e c) ≤ 0) → given_by_all (at_end o f) ≤ 0
+end_given None f each = omega arith
+end_given (Some e) f each = go e.channel
+  where
+    go : (c : Option ChannelEnd) → given_by_all (at_channel c (f e)) ≤ 0
+    go None = omega arith
+    go (Some c) = each e c
+
+closing_given : (side : Side) (e : Endpoint) (c : ChannelEnd) → given_by_all (closing side e c) ≤ 0
+closing_given Sender e c = omega arith
+closing_given Receiver e c = omega arith
+
+zero_less : {n m : ℕ} → n ≤ 0 → n ≤ m
+zero_less le = omega arith
+
 success_given : (s : DomainState) (node : ℕ) (call : DomainCall) → given_by_all (success_changes s node call) ≤ succeeds (calls node call (success s node call))
 success_given s node (create_at port) = omega arith
 success_given s node (delete_at port) = live_given (live_at s (local node port)) (λ e. waiting_ended e.address EndpInvalid ∷ endpoint_gone e.address ∷ end_announced (record { local = e.local; address = e.address; create = false }) ∷ []) 1 (λ e. omega arith)
 success_given s node (lookup_of name) = omega arith
 success_given s node (send_from port to priority bytes) = omega arith
 success_given s node (receive_at port max) = zero_less (live_given (live_at s (local node port)) (λ e. best_gone e.address ∷ []) 0 (λ e. omega arith))
-  where
-    zero_less : {n m : ℕ} → n ≤ 0 → n ≤ m
-    zero_less le = omega arith
 success_given s node (request_at port max) = live_given (live_at s (local node port)) (λ e. best_gone e.address ∷ request_added (message_at e.local max) (option_map has_item (best_item e)) ∷ []) 1 (λ e. omega arith)
 success_given s node (available_at port) = omega arith
+success_given s node (connect_from port to kind) = live_given (live_at s (local node port)) (λ e. buffer_used to.domain ∷ channel_set e.address (Some (new_sender s to kind)) ∷ request_added (channel_of (s.channels_given + 1)) None ∷ channel_given ∷ []) 1 (λ e. omega arith)
+success_given s node (open_at port side kind) = zero_less (end_given (live_at s (local node port)) (λ e c. buffer_used c.peer ∷ channel_set e.address (Some (opened_end c)) ∷ []) (λ e c. omega arith))
+success_given s node (close_at port side) = zero_less (end_given (live_at s (local node port)) (closing side) (closing_given side))
 success_given s node (test_of place) = omega arith
 success_given s node (cancel_of place) = omega arith
 success_given s node turn_alone = omega arith

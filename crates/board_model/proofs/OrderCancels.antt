@@ -8,7 +8,7 @@ use Rattle.mc_base.specs.declared.refusal.Refusal.TheVariants.{RequestInvalid, P
 use Rattle.board_model.specs.Lists.{without, without_at}
 use Rattle.board_model.specs.DomainCall.{test_of, cancel_of}
 use Rattle.board_model.specs.Journal.{PlainAnswer, refuses, agrees, completes}
-use Rattle.board_model.specs.State.{Asked, name_of, channel_of, message_at, packet_at, Outcome, has_address, has_item, has_ended, Request, DomainState, request_at_place}
+use Rattle.board_model.specs.State.{Asked, name_of, channel_of, message_at, packet_at, Outcome, has_address, is_accepted, is_rejected, has_item, has_ended, Request, DomainState, request_at_place}
 use Rattle.board_model.specs.Answer.{holds, words_of, refusal, answer, answer_by, unless_refused, is_complete, result_by, result_of}
 use Rattle.board_model.specs.Change.{request_gone, changed_all}
 use Rattle.board_model.specs.CallChanges.{success_changes, call_changes}
@@ -102,6 +102,8 @@ module _ (start : DomainState) (before : List Deed) (s : DomainState) (differ : 
   tells_held (message_at at max) (has_item i) k fits is = record { item = i; taken = is; gives = record { whole = refl; first = refl } }
   tells_held (message_at at max) (has_ended w) k fits is = is
   tells_held (name_of n) (has_address a) k fits is = is
+  tells_held (channel_of n) is_accepted k fits is = is
+  tells_held (channel_of n) (is_rejected why) k fits is = is
   tells_held asked o k fits is = absurd fits
 
   tells_pending : (asked : Asked) (k : ℕ) → taken_for start before k ≡ [] → TellsAsked asked (taken_for start before k) (refuses Pending)

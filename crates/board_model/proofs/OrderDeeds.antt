@@ -4,17 +4,15 @@ use Rattle.std.specs.Prelude.{◌==◌, ◌&&◌, ◌||◌, is_none, option_and_
 use Rattle.std.specs.List.{AllByRecursion, list_any}
 use Rattle.std.proofs.lemmas.Bool.{eqb-true, eq-eqb, and_parts}
 use Rattle.std.proofs.lemmas.List.{append-nil}
-use Rattle.mc_base.specs.Letter.{PlainLetter, msg}
+use Rattle.mc_base.specs.Letter.{msg}
 use Rattle.mc_base.specs.NameMap.{Names, learned, forgotten}
-use Rattle.mc_base.specs.FullName.{endpoint_named}
-use Rattle.mc_base.specs.Reading.{Reading, is_faulty, announces, says}
+use Rattle.mc_base.specs.Reading.{Reading, announces, says}
 use Rattle.mc_base.specs.declared.name.EndName.{EndName}
 use Rattle.mc_base.specs.declared.fate.Fate.{Fate}
-use Rattle.mc_base.specs.declared.fate.Fate.TheVariants.{Queued, Handed, NoEndpoint, State, Acted}
-use Rattle.board_model.specs.State.{Item, Endpoint, Asked, name_of, channel_of, message_at, packet_at, has_address, Request, DomainState, is_at, has_address_of, receives_at, live_at, endpoint_of, one_waits, oldest_waiting, peer_at, queue_in, waits_at}
+use Rattle.mc_base.specs.declared.fate.Fate.TheVariants.{Queued, Handed, NoEndpoint, OnChannel, Acted}
+use Rattle.board_model.specs.State.{Item, ChannelEnd, Endpoint, Asked, name_of, channel_of, message_at, packet_at, has_address, Request, DomainState, is_at, has_address_of, receives_at, live_at, endpoint_of, one_waits, oldest_waiting, waits_at}
 use Rattle.board_model.specs.Change.{item_queued, item_handed, name_found, names_known, frame_taken, handed_in, all_done, asks_for, changed, changed_all}
-use Rattle.board_model.specs.TakenFrames.{names_of}
-use Rattle.board_model.specs.TakenFrames.{Row, row, first_row, row_of, name_rows, letter_rows, message_item}
+use Rattle.board_model.specs.TakenFrames.{Row, row, first_row, name_rows, message_rows, letter_rows, message_item}
 use Rattle.board_model.specs.Deeds.{Deed, looks_back, puts_owed, looks_ahead, happens_by, after_deed}
 use Rattle.board_model.specs.Takings.{Taking, taking, takings_by, asked_address}
 use Rattle.mc_base.specs.declared.name.Local.{Local}
@@ -24,11 +22,11 @@ use Rattle.board_model.specs.MessageOrder.{is_handed, comes_now, waiting_first, 
 use Rattle.board_model.proofs.LaneRows.{by_rows}
 use Rattle.board_model.proofs.DeedRuns.{count_taken}
 use Rattle.board_model.proofs.OrderItems.{IsPast, IsNext, left_of, left_none}
-use Rattle.board_model.proofs.OrderQueues.{queued_for, queued_item}
+use Rattle.board_model.proofs.OrderQueues.{messages_at, messages_of, messages_none, queued_for, queued_item}
 use Rattle.board_model.proofs.OrderRequests.{RequestsBy, kept, turned, handed, FitsAsked, NoneBy, items_by, items_one, found_turns}
 use Rattle.board_model.proofs.OrderSerials.{Differ, Below, Serials, given_by_all, serials_changes}
-use Rattle.board_model.proofs.OrderSound.{Apart as NamesApart, sound_quiet, Sound, FitAllSound, sound_changes}
-use Rattle.board_model.proofs.OrderTakings.{found_pends, taken_of, IsOld, all_old, none_taken, old_mapped, old_done, handed_takes, waiter_takes}
+use Rattle.board_model.proofs.OrderSound.{Apart as NamesApart, sound_quiet, Sound, FitAllSound, FitsEnd, sound_changes}
+use Rattle.board_model.proofs.OrderTakings.{found_pends, taken_of, IsOld, all_old, none_taken, done_old, handed_takes, waiter_takes}
 
 -- at most one item comes, and then none is gone
 abbrev pub Comes : List Deed → Deed → List Item → List Item → Type 0
@@ -92,7 +90,7 @@ module _ (room : ℕ) (before : List Deed) (s : DomainState) (sound : Sound s) (
 
 -- ---- frames
 
-both_none : (b : Bool) → cond {A = List Item} b [] [] ≡ []
+pub both_none : (b : Bool) → cond {A = List Item} b [] [] ≡ []
 both_none true = refl
 both_none false = refl
 
@@ -167,7 +165,7 @@ pub record RowDoes (before : List Deed) (s : DomainState) (peer : ℕ) (name : O
   pub requests : RequestsBy s (after_row s peer r).requests taken (after_row s peer r).requests_given
 
 module _ (before : List Deed) (s : DomainState) (sound : Sound s) (differ : Differ s.requests) (peer : ℕ) (name : Option ℕ) where
-  quiet_row : (rd : Reading) (r : Row) → FitAllSound (changed s (frame_taken peer)) r.happens → given_by_all r.happens ≡ 0 → AllByRecursion (IsOld s) (after_row s peer r).requests → ((b : ℕ) → queued_for (after_row s peer r) b ≡ queued_for s b) → ((b : ℕ) → queues b peer name rd r.word ≡ []) →
+  pub quiet_row : (rd : Reading) (r : Row) → FitAllSound (changed s (frame_taken peer)) r.happens → given_by_all r.happens ≡ 0 → AllByRecursion (IsOld s) (after_row s peer r).requests → ((b : ℕ) → queued_for (after_row s peer r) b ≡ queued_for s b) → ((b : ℕ) → queues b peer name rd r.word ≡ []) →
       RequestsBy s (after_row s peer r).requests [] (after_row s peer r).requests_given → RowDoes before s peer name rd r
   quiet_row rd r fits gives old same none requests = record {
     fits = fits;
@@ -182,7 +180,7 @@ module _ (before : List Deed) (s : DomainState) (sound : Sound s) (differ : Diff
   }
 
   -- a row by which nothing happens
-  idle_row : (rd : Reading) (applies : Bool) (word : Fate) → ((b : ℕ) → queues b peer name rd word ≡ []) → RowDoes before s peer name rd (row applies word [])
+  pub idle_row : (rd : Reading) (applies : Bool) (word : Fate) → ((b : ℕ) → queues b peer name rd word ≡ []) → RowDoes before s peer name rd (row applies word [])
   idle_row rd applies word none = quiet_row rd (row applies word []) tt refl (all_old s) (λ b. refl) none (kept [] (λ k. refl))
 
   -- ---- announcements
@@ -191,20 +189,17 @@ module _ (before : List Deed) (s : DomainState) (sound : Sound s) (differ : Diff
       RequestsBy s (after_row s peer r).requests [] (after_row s peer r).requests_given → RowDoes before s peer name (announces text address there) r
   name_row text address there r fits gives old same requests = quiet_row (announces text address there) r fits gives old same (λ b. both_none (is_queued r.word)) requests
 
-  found_old : (n : EndName) (a : ℕ) → AllByRecursion (IsOld s) (map (all_done (asks_for n) (has_address a)) s.requests)
-  found_old n a = old_mapped s (all_done (asks_for n) (has_address a)) (λ r old. old_done s (is_none r.outcome && asks_for n r.asked) (has_address a) r refl old) s.requests (all_old s)
-
   abbrev learned_row : EndName → ℕ → Names → Row
   learned_row n address known = row true Acted (names_known peer (learned n address known) ∷ name_found n address ∷ [])
 
   abbrev forgotten_row : EndName → Names → Row
   forgotten_row n known = row true Acted (names_known peer (forgotten n known) ∷ [])
 
-  named_rows : (text : List ℕ) (known : Names) (o : Option EndName) (address : ℕ) (there : Bool) → RowDoes before s peer name (announces text address there) (first_row (name_rows peer known o address there))
+  pub named_rows : (text : List ℕ) (known : Names) (o : Option EndName) (address : ℕ) (there : Bool) → RowDoes before s peer name (announces text address there) (first_row (name_rows peer known o address there))
   named_rows text known None address there = name_row text address there (first_row (name_rows peer known None address there)) tt refl (all_old s) (λ b. refl) (kept [] (λ k. refl))
   named_rows text known (Some n) address true = by_rows (RowDoes before s peer name (announces text address true)) (name_rows peer known (Some n) address true) (
     (λ on. name_row text address true _ tt refl (all_old s) (λ b. refl) (kept [] (λ k. refl))),
-    (λ off. ((λ on. name_row text address true _ tt refl (all_old s) (λ b. refl) (kept [] (λ k. refl))), (λ off2. name_row text address true (learned_row n address known) (tt, (tt, tt)) refl (found_old n address) (λ b. refl) (turned (all_done (asks_for n) (has_address address)) (found_turns n address))))),
+    (λ off. ((λ on. name_row text address true _ tt refl (all_old s) (λ b. refl) (kept [] (λ k. refl))), (λ off2. name_row text address true (learned_row n address known) (tt, (tt, tt)) refl (done_old s (asks_for n) (has_address address) refl) (λ b. refl) (turned (all_done (asks_for n) (has_address address)) (found_turns n address))))),
   )
   named_rows text known (Some n) address false = by_rows (RowDoes before s peer name (announces text address false)) (name_rows peer known (Some n) address false) (
     (λ on. name_row text address false _ tt refl (all_old s) (λ b. refl) (kept [] (λ k. refl))),
@@ -239,7 +234,7 @@ module _ (before : List Deed) (s : DomainState) (sound : Sound s) (differ : Diff
         elim (asked_waits s e.local r.asked e pends.1 (λ at same. found_named at s.endpoints e sound.apart (has_address_of destination) found same)) [
           | inl there ↦ subst (λ xs. AllByRecursion (RowHands s peer name says_it Handed) (map (λ a. taking (Some r.serial) a item) xs)) (sym (there ∙ ap (λ a. a ∷ []) address)) (
             record {
-              nothing_queued = ap queue_in found ∙ sound_quiet s sound destination e found (found_any (waits_at e.local) s.requests r is);
+              nothing_queued = ap messages_of found ∙ (ap (messages_at e.channel) (sound_quiet s sound destination e found (found_any (waits_at e.local) s.requests r is)) ∙ messages_none e.channel);
               comes = ap (λ (b : Bool). cond b (item ∷ []) []) (eq-eqb destination destination refl);
               waits = ap (λ o. option_map (λ x. x.serial) (option_and_then (λ x. oldest_waiting s x.local) o)) found ∙ ap (λ o. option_map (λ x. x.serial) o) is;
             },
@@ -276,14 +271,14 @@ module _ (before : List Deed) (s : DomainState) (sound : Sound s) (differ : Diff
     abbrev taken_none : List Taking
     taken_none = []
 
-    queued_row : (e : Endpoint) → endpoint_of s destination ≡ Some e → one_waits s e.local ≡ false → RowDoes before s peer name says_it (row true Queued (item_queued destination item ∷ []))
-    queued_row e found none = record {
-      fits = ((λ f is waits. let same : e ≡ f = cc in let w : one_waits s f.local ≡ false = subst (λ x. one_waits s x.local ≡ false) same none in absurd cc), tt);
+    queued_row : (e : Endpoint) → endpoint_of s destination ≡ Some e → e.channel ≡ None → one_waits s e.local ≡ false → RowDoes before s peer name says_it (row true Queued (item_queued destination item ∷ []))
+    queued_row e found free none = record {
+      fits = ((λ f is. let same : e ≡ f = cc in ((λ waits. let w : one_waits s f.local ≡ false = subst (λ x. one_waits s x.local ≡ false) same none in absurd cc), subst (λ x. FitsEnd item x.channel) same (subst (FitsEnd item) (sym free) refl))), tt);
       gives_none = refl;
       taken = [];
       takings = none_of s;
       next = tt;
-      queue = λ b. queued_item (changed s (frame_taken peer)) destination b item e found ∙ shape b (destination == b);
+      queue = λ b. queued_item (changed s (frame_taken peer)) destination b item e found free ∙ shape b (destination == b);
       comes = λ b. one b (destination == b);
       hands = tt;
       requests = kept [] (λ k. refl);
@@ -297,17 +292,10 @@ module _ (before : List Deed) (s : DomainState) (sound : Sound s) (differ : Diff
         one b true = inr (item, refl, item_next, refl, refl)
         one b false = inl refl
 
-    message_rows : (o : Option Endpoint) → endpoint_of s destination ≡ o → RowDoes before s peer name says_it (first_row (letter_rows s peer name source destination o (msg priority content)))
-    message_rows None found = idle_row says_it true NoEndpoint (λ b. refl)
-    message_rows (Some e) found = by_rows (RowDoes before s peer name says_it) (letter_rows s peer name source destination (Some e) (msg priority content)) ((λ on. handed_row e found (one_waits s e.local)), (λ off. queued_row e found off))
-
-  letter_does : (named : name ≡ Some (count_taken peer before)) (source destination : ℕ) (l : PlainLetter) (o : Option Endpoint) → endpoint_of s destination ≡ o → RowDoes before s peer name (says source destination l) (first_row (letter_rows s peer name source destination o l))
-  letter_does named source destination (msg priority content) o found = message_rows source destination priority content named o found
-  letter_does named source destination l None found = idle_row (says source destination l) true NoEndpoint (λ b. refl)
-  letter_does named source destination l (Some e) found = idle_row (says source destination l) true State (λ b. refl)
-
-  -- whatever the frame says
-  pub row_does : (named : name ≡ Some (count_taken peer before)) (rd : Reading) → RowDoes before s peer name rd (row_of s peer name rd)
-  row_does named (is_faulty f) = quiet_row (is_faulty f) (row_of s peer name (is_faulty f)) tt refl (all_old s) (λ b. refl) (λ b. both_none (is_queued (row_of s peer name (is_faulty f)).word)) (kept [] (λ k. refl))
-  row_does named (announces text address there) = named_rows text (names_of (peer_at s peer)) (endpoint_named text) address there
-  row_does named (says source destination l) = letter_does named source destination l (endpoint_of s destination) refl
+    pub messages_do : (o : Option Endpoint) → endpoint_of s destination ≡ o → RowDoes before s peer name says_it (first_row (letter_rows s peer name source destination o (msg priority content)))
+    messages_do None found = idle_row says_it true NoEndpoint (λ b. refl)
+    messages_do (Some e) found = at e.channel refl
+      where
+        at : (c : Option ChannelEnd) → e.channel ≡ c → RowDoes before s peer name says_it (first_row (message_rows s destination e c item))
+        at (Some c) is = idle_row says_it true OnChannel (λ b. refl)
+        at None free = by_rows (RowDoes before s peer name says_it) (message_rows s destination e None item) ((λ on. handed_row e found (one_waits s e.local)), (λ off. queued_row e found free off))

@@ -10,15 +10,16 @@ use Rattle.board_model.specs.Choice.{best}
 use Rattle.board_model.specs.DomainCall.{delete_at, receive_at, test_of}
 use Rattle.board_model.specs.Journal.{tells, gives}
 use Rattle.board_model.specs.Scenario.{Neighbour}
-use Rattle.board_model.specs.State.{Item, Endpoint, DomainState, opening, live_at, queue_at, queue_in}
-use Rattle.board_model.specs.Answer.{local, refusal, success, answer, answer_by, unless_refused, given}
+use Rattle.board_model.specs.State.{Item, Endpoint, DomainState, opening, live_at, endpoint_at, queue_at, queue_in}
+use Rattle.board_model.specs.Answer.{local, has_channel, holds, words_of, refusal, success, answer, answer_by, unless_refused, given}
 use Rattle.board_model.specs.Change.{best_gone, changed_all}
 use Rattle.board_model.specs.CallChanges.{at_live, best_item, success_changes, call_changes}
 use Rattle.board_model.specs.Deeds.{Deed, calls, after_deed, after_deeds, MayDo, AllMayDo, along, EachDeed}
 use Rattle.board_model.specs.Takings.{Taking, taking, answered_by, completed_by, takings_by, cancelled_by}
 use Rattle.board_model.specs.MessageOrder.{Gives, GivesTaken, is_by, taken_for, standing, TakesWhatComes, TakesBest, TestTells, DeleteTells}
 use Rattle.board_model.proofs.DeedRuns.{IsNamed, AreNamed, IsDeedRun}
-use Rattle.board_model.proofs.OrderCalls.{succeeds, live_found}
+use Rattle.board_model.proofs.OrderCalls.{succeeds, live_found, free_here, none_holds}
+use Rattle.board_model.proofs.OrderQueues.{messages_at, messages_of}
 use Rattle.board_model.proofs.OrderDeeds.{Takes}
 use Rattle.board_model.proofs.OrderSound.{sound_own}
 use Rattle.board_model.proofs.OrderTakings.{all_old, none_taken}
@@ -53,7 +54,7 @@ each_deed start P holds room before (d ∷ ds) stands may named few =
 pub stands_open : (room number nodes : ℕ) (neighbours : List Neighbour) → room < 2 ^ 64 → Stands room (opening number nodes neighbours) []
 stands_open room number nodes neighbours small = record {
   moment = record {
-    sound = record { rise = omega arith; apart = tt; quiet = tt };
+    sound = record { rise = omega arith; apart = tt; quiet = tt; bound = tt };
     serials = record { differ = tt; below = tt; small = omega arith };
     items = λ b. tt;
     apart = λ b. tt;
@@ -116,7 +117,7 @@ takes_best start room before d stands may named few =
 -- ---- a delete
 
 delete_tells : (start : DomainState) (room : ℕ) (before : List Deed) (d : Deed) → Stands room start before → MayDo (after_deeds start before) d → IsNamed before d → succeeds d ≤ room → DeleteTells start before d
-delete_tells start room before (calls node (delete_at port) (tells count)) stands may named few = go (refusal (after_deeds start before) node (delete_at port)) may
+delete_tells start room before (calls node (delete_at port) (tells count)) stands may named few = go (refusal (after_deeds start before) node (delete_at port)) refl may
   where
     dropped : Option Endpoint → ℕ
     dropped o = length (at_live o (λ e. standing start before e.address))
@@ -124,13 +125,17 @@ delete_tells start room before (calls node (delete_at port) (tells count)) stand
     count_is : (n m : ℕ) → tells n ≡ tells m → n ≡ m
     count_is n m e = cc
 
-    queue_is : (o : Option Endpoint) → live_at (after_deeds start before) (local node port) ≡ o → length (queue_in o) ≡ length (at_live o (λ e. standing start before e.address))
-    queue_is None is = refl
-    queue_is (Some e) is = ap length (sym (ap queue_in (sound_own (after_deeds start before) stands.moment.sound (local node port) e is)) ∙ stands.queues e.address)
+    queue_is : (o : Option Endpoint) → live_at (after_deeds start before) (local node port) ≡ o → has_channel (endpoint_at (after_deeds start before) (local node port)) ≡ false → length (queue_in o) ≡ length (at_live o (λ e. standing start before e.address))
+    queue_is None is none = refl
+    queue_is (Some e) is none =
+        let free : e.channel ≡ None = free_here (after_deeds start before) (local node port) e is none in
+        ap length (sym (ap messages_of (sound_own (after_deeds start before) stands.moment.sound (local node port) e is) ∙ ap (λ c. messages_at c e.queue) free) ∙ stands.queues e.address)
 
-    go : (o : Option Refusal) → tells count ≡ answer_by o (success (after_deeds start before) node (delete_at port)) → count ≡ length (at_live (live_at (after_deeds start before) (local node port)) (λ e. standing start before e.address))
-    go (Some w) is = absurd cc
-    go None is = count_is count (length (queue_at (after_deeds start before) (local node port))) is ∙ (ap (λ o. length (queue_in o)) (live_found (after_deeds start before) (local node port)) ∙ queue_is (live_at (after_deeds start before) (local node port)) refl)
+    go : (o : Option Refusal) → refusal (after_deeds start before) node (delete_at port) ≡ o → tells count ≡ answer_by o (success (after_deeds start before) node (delete_at port)) → count ≡ length (at_live (live_at (after_deeds start before) (local node port)) (λ e. standing start before e.address))
+    go (Some w) some is = absurd cc
+    go None none is =
+        let words = none_holds (holds (after_deeds start before) node (delete_at port)) (words_of (delete_at port)) none in
+        count_is count (length (queue_at (after_deeds start before) (local node port))) is ∙ (ap (λ o. length (queue_in o)) (live_found (after_deeds start before) (local node port)) ∙ queue_is (live_at (after_deeds start before) (local node port)) refl words.1.0)
 delete_tells start room before other stands may named few = tt
 
 -- ---- a test

@@ -10,8 +10,8 @@ use Rattle.mc_base.specs.declared.name.Local.{Local}
 use Rattle.mc_base.specs.declared.name.EndName.{EndName}
 use Rattle.mc_base.specs.declared.refusal.Refusal.{Refusal}
 use Rattle.board_model.specs.Lists.{changed_first, without, without_at}
-use Rattle.board_model.specs.State.{Item, Endpoint, Asked, name_of, channel_of, message_at, packet_at, Outcome, has_address, has_item, has_ended, Request, DomainState, waits_at, receives_at}
-use Rattle.board_model.specs.Change.{done_with, all_done, asks_for, ended_in}
+use Rattle.board_model.specs.State.{Item, Endpoint, Asked, name_of, channel_of, message_at, packet_at, Outcome, has_address, is_accepted, is_rejected, has_item, has_ended, Request, DomainState, waits_at, receives_at}
+use Rattle.board_model.specs.Change.{done_with, all_done, asks_for, connects_on, ended_in}
 use Rattle.board_model.specs.Takings.{Taking, item_held}
 use Rattle.board_model.specs.MessageOrder.{is_by}
 use Rattle.board_model.proofs.OrderSerials.{IsOther, Differ, Below}
@@ -30,6 +30,9 @@ FitsAsked (message_at at max) (Some (has_item i)) = Unit {0}
 FitsAsked (message_at at max) (Some (has_ended word)) = Unit {0}
 FitsAsked (name_of name) None = Unit {0}
 FitsAsked (name_of name) (Some (has_address a)) = Unit {0}
+FitsAsked (channel_of number) None = Unit {0}
+FitsAsked (channel_of number) (Some is_accepted) = Unit {0}
+FitsAsked (channel_of number) (Some (is_rejected reason)) = Unit {0}
 FitsAsked asked o = ⊥
 
 -- a request stays, or is complete without an item
@@ -271,18 +274,41 @@ items_one k serial a i = go (serial == k)
     go true = refl
     go false = refl
 
-pub found_turns : (n : EndName) (a : ℕ) (r : Request) → FitsAsked r.asked r.outcome → Turns r (all_done (asks_for n) (has_address a) r)
-found_turns n a r fits = go (is_none r.outcome && asks_for n r.asked) refl
-  where
-    named : (asked : Asked) → asks_for n asked ≡ true → FitsAsked asked (Some (has_address a))
-    named (name_of m) h = tt
-    named (channel_of m) h = absurd cc
-    named (message_at at max) h = absurd cc
-    named (packet_at at) h = absurd cc
+-- those that ask so are complete, where the outcome is one for what they ask, and no item
+module _ (asks : Asked → Bool) (o : Outcome) (none : item_held (Some o) ≡ []) (fits_asked : (a : Asked) → asks a ≡ true → FitsAsked a (Some o)) where
+  pub done_turns : (r : Request) → FitsAsked r.asked r.outcome → Turns r (all_done asks o r)
+  done_turns r fits = go (is_none r.outcome && asks r.asked) refl
+    where
+      go : (b : Bool) → (is_none r.outcome && asks r.asked) ≡ b → Turns r (cond b (done_with o r) r)
+      go true is = let parts = and_parts (is_none r.outcome) (asks r.asked) is in inr (o, refl, none_is r.outcome parts.0, none, fits_asked r.asked parts.1)
+      go false is = inl refl
 
-    go : (b : Bool) → (is_none r.outcome && asks_for n r.asked) ≡ b → Turns r (cond b (done_with (has_address a) r) r)
-    go true is = let parts = and_parts (is_none r.outcome) (asks_for n r.asked) is in inr (has_address a, refl, none_is r.outcome parts.0, refl, named r.asked parts.1)
-    go false is = inl refl
+names_fit : (n : EndName) (a : ℕ) (asked : Asked) → asks_for n asked ≡ true → FitsAsked asked (Some (has_address a))
+names_fit n a (name_of m) h = tt
+names_fit n a other h = absurd cc
+
+pub found_turns : (n : EndName) (a : ℕ) (r : Request) → FitsAsked r.asked r.outcome → Turns r (all_done (asks_for n) (has_address a) r)
+found_turns n a = done_turns (asks_for n) (has_address a) refl (names_fit n a)
+
+-- how a request to connect is complete
+abbrev pub Settles : Outcome → Type 0
+Settles is_accepted = Unit {0}
+Settles (is_rejected reason) = Unit {0}
+Settles other = ⊥
+
+pub settles_nothing : (o : Outcome) → Settles o → item_held (Some o) ≡ []
+settles_nothing is_accepted settles = refl
+settles_nothing (is_rejected reason) settles = refl
+settles_nothing other settles = absurd settles
+
+connects_fit : (n : ℕ) (o : Outcome) → Settles o → (asked : Asked) → connects_on n asked ≡ true → FitsAsked asked (Some o)
+connects_fit n is_accepted settles (channel_of m) h = tt
+connects_fit n (is_rejected reason) settles (channel_of m) h = tt
+connects_fit n o settles (channel_of m) h = absurd settles
+connects_fit n o settles other h = absurd cc
+
+pub settled_turns : (n : ℕ) (o : Outcome) → Settles o → (r : Request) → FitsAsked r.asked r.outcome → Turns r (all_done (connects_on n) o r)
+settled_turns n o settles = done_turns (connects_on n) o (settles_nothing o settles) (connects_fit n o settles)
 
 pub ended_turns : (l : Local) (w : Refusal) (r : Request) → FitsAsked r.asked r.outcome → Turns r (cond (waits_at l r) (done_with (has_ended w) r) r)
 ended_turns l w r fits = go (waits_at l r) refl

@@ -7,7 +7,7 @@ use Rattle.board_model.specs.declared.scenario.CallLine.{CallLine}
 use Rattle.board_model.specs.declared.scenario.Scenario.{Scenario}
 use Rattle.board_model.specs.Scenario.{script, neighbours}
 use Rattle.board_model.specs.LinkedBoard.{IsLinkedBoard}
-use Rattle.board_model.specs.Journal.{PlainEntry, turned, put, again, called, PlainAnswer, refuses, agrees, tells, gives, completes, Visit, Taken}
+use Rattle.board_model.specs.Journal.{PlainEntry, turned, put, again, called, PlainAnswer, refuses, agrees, tells, connects, gives, completes, Visit, Taken}
 use Rattle.board_model.specs.Step.{RunState, next_line, after}
 use Rattle.board_model.specs.Run.{start, left_by, IsDomainRun}
 use Rattle.board_model.specs.Board.{DomainJournal}
@@ -47,6 +47,7 @@ one_call None r a = omega arith
 one_call (Some line) r (refuses w) = omega arith
 one_call (Some line) r agrees = omega arith
 one_call (Some line) r (tells n) = omega arith
+one_call (Some line) r (connects n channel) = omega arith
 one_call (Some line) r (gives n bytes) = omega arith
 one_call (Some line) r (completes place how) = omega arith
 

@@ -5,8 +5,8 @@ use Rattle.std.specs.List.{AllByRecursion}
 use Rattle.std.proofs.lemmas.Bool.{ne_eqb}
 use Rattle.std.proofs.Math.Nat.{mod-eq_of_lt}
 use Rattle.board_model.specs.Lists.{changed_first, without, without_at}
-use Rattle.board_model.specs.State.{Item, Endpoint, Outcome, has_address, has_item, has_ended, Request, DomainState, endpoint_of, waits_at}
-use Rattle.board_model.specs.Change.{Change, request_added, item_handed, waiting_ended, name_found, request_gone, done_with, all_done, handed_in, ended_in, asks_for, changed, changed_all}
+use Rattle.board_model.specs.State.{Item, Endpoint, Asked, Outcome, has_address, has_item, has_ended, Request, DomainState, endpoint_of, waits_at}
+use Rattle.board_model.specs.Change.{Change, request_added, item_handed, waiting_ended, name_found, connect_settled, request_gone, done_with, all_done, handed_in, ended_in, asks_for, connects_on, changed, changed_all}
 
 -- another serial
 abbrev pub IsOther : ℕ → Request → Type 0
@@ -119,10 +119,10 @@ ended_serials n (Some e) w rs d b =
     let same : (r : Request) → (f r).serial ≡ r.serial = λ r. done_same (waits_at e.local r) (has_ended w) r in
     (differ_mapped f same rs d, below_mapped f same n rs b)
 
-found_serials : (n : ℕ) (name : _) (a : ℕ) (rs : List Request) → Differ rs → Below n rs → Differ (map (all_done (asks_for name) (has_address a)) rs) × Below n (map (all_done (asks_for name) (has_address a)) rs)
-found_serials n name a rs d b =
-    let f : Request → Request = all_done (asks_for name) (has_address a) in
-    let same : (r : Request) → (f r).serial ≡ r.serial = λ r. done_same (is_none r.outcome && asks_for name r.asked) (has_address a) r in
+done_serials : (n : ℕ) (asks : Asked → Bool) (o : Outcome) (rs : List Request) → Differ rs → Below n rs → Differ (map (all_done asks o) rs) × Below n (map (all_done asks o) rs)
+done_serials n asks o rs d b =
+    let f : Request → Request = all_done asks o in
+    let same : (r : Request) → (f r).serial ≡ r.serial = λ r. done_same (is_none r.outcome && asks r.asked) o r in
     (differ_mapped f same rs d, below_mapped f same n rs b)
 
 -- how many requests a change gives
@@ -145,7 +145,8 @@ serials_change room s (request_added asked o) fits serials =
     }
 serials_change room s (item_handed a i) fits serials = let k = handed_serials s.requests_given (endpoint_of s a) i s.requests serials.differ serials.below in record { differ = k.0; below = k.1; small = omega (arith, serials.small) }
 serials_change room s (waiting_ended a w) fits serials = let k = ended_serials s.requests_given (endpoint_of s a) w s.requests serials.differ serials.below in record { differ = k.0; below = k.1; small = omega (arith, serials.small) }
-serials_change room s (name_found n a) fits serials = let k = found_serials s.requests_given n a s.requests serials.differ serials.below in record { differ = k.0; below = k.1; small = omega (arith, serials.small) }
+serials_change room s (name_found n a) fits serials = let k = done_serials s.requests_given (asks_for n) (has_address a) s.requests serials.differ serials.below in record { differ = k.0; below = k.1; small = omega (arith, serials.small) }
+serials_change room s (connect_settled n o) fits serials = let k = done_serials s.requests_given (connects_on n) o s.requests serials.differ serials.below in record { differ = k.0; below = k.1; small = omega (arith, serials.small) }
 serials_change room s (request_gone p) fits serials = record { differ = differ_without p s.requests serials.differ; below = all_without (λ r. r.serial < s.requests_given) p s.requests serials.below; small = omega (arith, serials.small) }
 serials_change room s other fits serials = record { differ = serials.differ; below = serials.below; small = omega (arith, serials.small) }
 

@@ -2,11 +2,12 @@
 use Rattle.std.proofs.Common.{◌≡◌, ◌⊎◌, inl, inr, ℕ, zero, suc, ◌<◌, Bool, true, false, cond, List, [], ◌∷◌, ◌++◌, map, find, flat_map, Option, Some, None, refl, sym, ap, ◌∙◌, subst, arith}
 use Rattle.std.specs.Prelude.{◌==◌, ◌&&◌, ◌||◌, is_none}
 use Rattle.std.specs.List.{AllByRecursion, list_any}
+use Rattle.mc_base.specs.declared.refusal.Refusal.{Refusal}
 use Rattle.std.proofs.lemmas.Bool.{eqb-true, eq-eqb, ne_eqb, cases_Bool, and_parts}
 use Rattle.std.proofs.lemmas.List.{append-nil}
 use Rattle.board_model.specs.Lists.{changed_first, without, without_at}
 use Rattle.board_model.specs.State.{Item, Endpoint, Asked, Outcome, has_address, is_accepted, is_rejected, has_item, has_ended, Request, DomainState, waits_at, receives_at, oldest_waiting}
-use Rattle.board_model.specs.Change.{done_with, handed_in}
+use Rattle.board_model.specs.Change.{done_with, all_done, handed_in, ended_in}
 use Rattle.board_model.specs.Takings.{Taking, taking, item_held, holds_item, held_before, asked_address, completed_by}
 use Rattle.board_model.proofs.OrderSerials.{IsOther, Differ, Below}
 
@@ -69,6 +70,14 @@ old_mapped s f keeps (r ∷ rs) all = (keeps r all.0, old_mapped s f keeps rs al
 pub old_done : (s : DomainState) (b : Bool) (o : Outcome) (r : Request) → item_held (Some o) ≡ [] → IsOld s r → IsOld s (cond b (done_with o r) r)
 old_done s true o r none old = inl none
 old_done s false o r none old = old
+
+-- all that ask so are complete without an item; all that wait at an endpoint end
+pub done_old : (s : DomainState) (asks : Asked → Bool) (o : Outcome) → item_held (Some o) ≡ [] → AllByRecursion (IsOld s) (map (all_done asks o) s.requests)
+done_old s asks o none = old_mapped s (all_done asks o) (λ r old. old_done s (is_none r.outcome && asks r.asked) o r none old) s.requests (all_old s)
+
+pub ended_old : (s : DomainState) (o : Option Endpoint) (w : Refusal) → AllByRecursion (IsOld s) (ended_in o w s.requests)
+ended_old s None w = all_old s
+ended_old s (Some e) w = old_mapped s (λ r. cond (waits_at e.local r) (done_with (has_ended w) r) r) (λ r old. old_done s (waits_at e.local r) (has_ended w) r refl old) s.requests (all_old s)
 
 pub old_without : (s : DomainState) (place : Option ℕ) (rs : List Request) → AllByRecursion (IsOld s) rs → AllByRecursion (IsOld s) (without place rs)
 old_without s None rs all = all
