@@ -4,29 +4,28 @@ use Rattle.std.specs.Prelude.{find, ◌==◌, nat_lt, nat_le, is_some}
 use Rattle.std.specs.List.{AllByRecursion}
 use Rattle.std.proofs.lemmas.Bool.{cond_both, leb-false, eqb-true}
 use Rattle.mc_base.specs.Limits.{creation_limit}
-use Rattle.mc_base.specs.NameMap.{Names, names_limit, rank, has_name, learned, forgotten, address_in}
-use Rattle.mc_base.specs.FullName.{endpoint_named}
+use Rattle.mc_base.specs.NameMap.{Names, rank, has_name, learned}
 use Rattle.mc_base.specs.Reading.{Reading, is_faulty, announces, says, reading}
-use Rattle.mc_base.specs.Letter.{PlainLetter, msg, connect, accept, reject, recv_open, send_open, packet, scalar, send_close, recv_close}
-use Rattle.mc_base.specs.declared.fate.Fate.TheVariants as fate
+use Rattle.mc_base.specs.Letter.{PlainLetter, accept, reject, send_close}
+use Rattle.mc_base.specs.declared.channel.Side.{Side}
+use Rattle.mc_base.specs.declared.channel.Side.TheVariants.{Sender, Receiver}
 use Rattle.mc_base.specs.declared.name.EndName.{EndName}
 use Rattle.mc_base.specs.declared.refusal.Refusal.{Refusal}
 use Rattle.board_model.specs.Honesty.{IsMade}
-use Rattle.board_model.specs.DomainCall.{DomainCall, create_at, delete_at, lookup_of, send_from, receive_at, request_at, available_at, test_of, cancel_of, turn_alone}
-use Rattle.board_model.specs.State.{Item, Endpoint, Announcement, Peer, DomainState, is_at, live_at, endpoint_of, one_waits, peer_at, is_numbered, announcing, owed_to}
+use Rattle.board_model.specs.DomainCall.{DomainCall, create_at, delete_at, lookup_of, send_from, receive_at, request_at, available_at, connect_from, open_at, close_at, test_of, cancel_of, turn_alone}
+use Rattle.board_model.specs.State.{ChannelEnd, Endpoint, Announcement, Reply, Peer, DomainState, is_at, live_at, peer_at, is_numbered, announcing, letter_by, replying, owed_to}
 use Rattle.board_model.specs.Change.{Change, item_queued, item_handed, names_known, name_found, changed_all}
-use Rattle.board_model.specs.TakenFrames.{names_of}
-use Rattle.board_model.specs.TakenFrames.{Row, row, name_rows, letter_rows, message_item, first_row, row_of}
+use Rattle.board_model.specs.TakenFrames.{Row, names_of, rejecting, accepting, acting, item_of, row_of}
 use Rattle.board_model.specs.Messages.{said_by}
-use Rattle.board_model.specs.Answer.{local, holds, words_of, refusal, unless_refused, puts}
-use Rattle.board_model.specs.CallChanges.{at_live, success_changes}
+use Rattle.board_model.specs.Answer.{local, holds, words_of, refusal, unless_refused, Post, put_of, success_posts, success_puts, puts}
+use Rattle.board_model.specs.CallChanges.{at_live, at_channel, at_end, closing, success_changes}
 use Rattle.board_model.specs.Deeds.{Deed, looks_back, puts_owed, looks_ahead, takes, calls, happens_by, after_deed, MayDo}
 use Rattle.board_model.proofs.DeedRuns.{frames_if, frames_to, puts_by}
 use Rattle.board_model.proofs.ListsApart.{all-map}
 use Rattle.board_model.proofs.MessageAlls.{none-passes, all-append, all-filter, all-found, all-weaken, found-passes}
 use Rattle.board_model.proofs.MessageLists.{some-position}
-use Rattle.board_model.proofs.MessageCanSend.{puts-of-send}
-use Rattle.board_model.proofs.HonestFrames.{Honest, IsReply, letter_honest, announcing_honest, announcing_silent, reply_honest, reply_silent}
+use Rattle.board_model.proofs.LaneRows.{Deals, stays, learns, forgets, hands, queues, rejects, accepts, acts, row-deals}
+use Rattle.board_model.proofs.HonestFrames.{Honest, letter_honest, announcing_honest, announcing_silent, replying_silent}
 use Rattle.board_model.proofs.HonestSound.{own, PeerSound, Sound, FitAll, given_changes, sound_changes}
 
 peer_number : (q : ℕ) (ps : List Peer) (p : Peer) → find (is_numbered q) ps ≡ Some p → q ≡ p.number
@@ -47,40 +46,21 @@ pub live_holds : {A : Type 0} (P : List A → Type 0) → P [] → (x : Option E
 live_holds P none None f each = none
 live_holds P none (Some e) f each = each e refl
 
-not_some : {A : Type 0} (x : Option A) → is_some x ≡ false → x ≡ None
+-- and its channel
+pub end_holds : {A : Type 0} (P : List A → Type 0) → P [] → (x : Option Endpoint) (f : Endpoint → ChannelEnd → List A) → ((e : Endpoint) (c : ChannelEnd) → x ≡ Some e → e.channel ≡ Some c → P (f e c)) → P (at_end x f)
+end_holds P none None f each = none
+end_holds P none (Some e) f each = go e.channel refl
+  where
+    go : (c : Option ChannelEnd) → e.channel ≡ c → P (at_channel c (f e))
+    go None is = none
+    go (Some c) is = each e c refl is
+
+pub not_some : {A : Type 0} (x : Option A) → is_some x ≡ false → x ≡ None
 not_some None is = refl
 not_some (Some y) is = absurd cc
 
 abbrev pub NoWord : DomainState → ℕ → DomainCall → Type 0
 NoWord s node call = AllByRecursion (λ w. holds s node call w ≡ false) (words_of call)
-
--- what holds of no change, and of those by which a name is learned or forgotten, holds of what an announcement brings
-pub by_names : (P : List Change → Type 0) → P [] → (q : ℕ) (ks : Names) (o : Option EndName) (a : ℕ) (there : Bool) → ((n : EndName) → P (names_known q (learned n a ks) ∷ name_found n a ∷ [])) → ((n : EndName) → P (names_known q (forgotten n ks) ∷ [])) → P (first_row (name_rows q ks o a there)).happens
-by_names P none q ks None a there learn forget = none
-by_names P none q ks (Some n) a true learn forget =
-    let full : Row = row (not (is_some (address_in n ks)) && nat_le names_limit (length ks)) fate.NamesFull [] in
-    let acts : Row = row true fate.Acted (names_known q (learned n a ks) ∷ name_found n a ∷ []) in
-    cond_both (not (n.domain == q)) (row (not (n.domain == q)) fate.ForeignName []) (cond full.applies full acts) (λ w. P w.happens) (λ k. none) (λ k. cond_both full.applies full acts (λ w. P w.happens) (λ j. none) (λ j. learn n))
-by_names P none q ks (Some n) a false learn forget =
-    let unknown : Row = row (not (is_some (address_in n ks))) fate.UnknownName [] in
-    let acts : Row = row true fate.Acted (names_known q (forgotten n ks) ∷ []) in
-    cond_both (not (n.domain == q)) (row (not (n.domain == q)) fate.ForeignName []) (cond unknown.applies unknown acts) (λ w. P w.happens) (λ k. none) (λ k. cond_both unknown.applies unknown acts (λ w. P w.happens) (λ j. none) (λ j. forget n))
-
--- what holds of no change, and of those by which an item is handed or queued, holds of what a letter brings
-pub by_letters : (P : List Change → Type 0) → P [] → (s : DomainState) (q : ℕ) (name : Option ℕ) (src dst : ℕ) (x : Option Endpoint) (l : PlainLetter) → ((i : Item) → P (item_handed dst i ∷ [])) → ((i : Item) → P (item_queued dst i ∷ [])) → P (first_row (letter_rows s q name src dst x l)).happens
-by_letters P none s q name src dst None l hand queue = none
-by_letters P none s q name src dst (Some e) (msg priority content) hand queue =
-    let i : Item = message_item q name src priority content in
-    cond_both (one_waits s e.local) (row (one_waits s e.local) fate.Handed (item_handed dst i ∷ [])) (row true fate.Queued (item_queued dst i ∷ [])) (λ w. P w.happens) (λ k. hand i) (λ k. queue i)
-by_letters P none s q name src dst (Some e) (connect m kind) hand queue = none
-by_letters P none s q name src dst (Some e) (accept m) hand queue = none
-by_letters P none s q name src dst (Some e) (reject m why) hand queue = none
-by_letters P none s q name src dst (Some e) (recv_open m) hand queue = none
-by_letters P none s q name src dst (Some e) (send_open m) hand queue = none
-by_letters P none s q name src dst (Some e) (packet m bytes) hand queue = none
-by_letters P none s q name src dst (Some e) (scalar m bits value) hand queue = none
-by_letters P none s q name src dst (Some e) (send_close m) hand queue = none
-by_letters P none s q name src dst (Some e) (recv_close m) hand queue = none
 
 module _ (made : ℕ) (known : ℕ → ℕ → Type 0) (ns : List ℕ) where
   abbrev KnownOf : ℕ → Names → Type 0
@@ -109,12 +89,29 @@ module _ (made : ℕ) (known : ℕ → ℕ → Type 0) (ns : List ℕ) where
     abbrev RowFits : DomainState → Row → Type 0
     RowFits t r = FitAll made known ns t r.happens
 
+    acts_fit : (t : DomainState) (at : ℕ) (left : Option ChannelEnd) (l : PlainLetter) → FitAll made known ns t (acting at left l)
+    acts_fit t at left (accept n) = (tt, (tt, tt))
+    acts_fit t at left (reject n why) = (tt, (tt, tt))
+    acts_fit t at left (send_close n) = (tt, (tt, tt))
+    acts_fit t at left other = (tt, tt)
+
     frame_fits : (t : DomainState) (q : ℕ) (name : Option ℕ) (r : Reading) → Hears known q r → RowFits t (row_of s q name r)
-    frame_fits t q name (is_faulty w) hears = tt
-    frame_fits t q name (announces text a there) hears = by_names (FitAll made known ns t) tt q (names_of (peer_at s q)) (endpoint_named text) a there
-        (λ n. (learned_known q n a (names_of (peer_at s q)) hears (names_known_of q), (tt, tt)))
-        (λ n. (all-filter (λ (k : EndName × ℕ). known q k.1) (λ k. not (has_name n k)) (names_of (peer_at s q)) (names_known_of q), tt))
-    frame_fits t q name (says src dst l) hears = by_letters (FitAll made known ns t) tt s q name src dst (endpoint_of s dst) l (λ i. (tt, tt)) (λ i. (tt, tt))
+    frame_fits t q name r hears = go (row-deals s q name r)
+      where
+        by : (cs : List Change) → (row_of s q name r).happens ≡ cs → FitAll made known ns t cs → FitAll made known ns t (row_of s q name r).happens
+        by cs happens fits = subst (FitAll made known ns t) (sym happens) fits
+
+        go : Deals s q name r (row_of s q name r) → FitAll made known ns t (row_of s q name r).happens
+        go (stays happens word) = by [] happens tt
+        go (learns text n a names is learned_so happens word) =
+            by (names_known q names ∷ name_found n a ∷ []) happens (subst (KnownOf q) (sym learned_so) (learned_known q n a (names_of (peer_at s q)) (subst (Hears known q) is hears) (names_known_of q)), (tt, tt))
+        go (forgets text n a names is forgotten_so happens word) =
+            by (names_known q names ∷ []) happens (subst (KnownOf q) (sym forgotten_so) (all-filter (λ (k : EndName × ℕ). known q k.1) (λ k. not (has_name n k)) (names_of (peer_at s q)) (names_known_of q)), tt)
+        go (hands source at l e is found carried waits happens word) = by (item_handed at (item_of q name source l) ∷ []) happens (tt, tt)
+        go (queues source at l e is found carried none happens word) = by (item_queued at (item_of q name source l) ∷ []) happens (tt, tt)
+        go (rejects source at number kind why is happens word) = by (rejecting q source at number why) happens (tt, tt)
+        go (accepts source at number kind e is found free idle happens word) = by (accepting q source at number kind) happens (tt, (tt, tt))
+        go (acts source at l e c left is found has row happens word) = by (acting at left l) happens (acts_fit t at left l)
 
     -- ---- calls
 
@@ -134,6 +131,13 @@ module _ (made : ℕ) (known : ℕ → ℕ → Type 0) (ns : List ℕ) where
     success_fits node (receive_at port max) no_word within = live_holds (FitAll made known ns s) tt (live_at s (local node port)) _ (λ e is. (tt, tt))
     success_fits node (request_at port max) no_word within = live_holds (FitAll made known ns s) tt (live_at s (local node port)) _ (λ e is. (tt, (tt, tt)))
     success_fits node (available_at port) no_word within = tt
+    success_fits node (connect_from port to kind) no_word within = live_holds (FitAll made known ns s) tt (live_at s (local node port)) _ (λ e is. (tt, (tt, (tt, (tt, tt)))))
+    success_fits node (open_at port side kind) no_word within = end_holds (FitAll made known ns s) tt (live_at s (local node port)) _ (λ e c is has. (tt, (tt, tt)))
+    success_fits node (close_at port side) no_word within = end_holds (FitAll made known ns s) tt (live_at s (local node port)) (closing side) (λ e c is has. closes_fit side e c)
+      where
+        closes_fit : (side : Side) (e : Endpoint) (c : ChannelEnd) → FitAll made known ns s (closing side e c)
+        closes_fit Sender e c = (tt, (tt, tt))
+        closes_fit Receiver e c = (tt, (tt, (tt, tt)))
     success_fits node (test_of request) no_word within = (tt, tt)
     success_fits node (cancel_of request) no_word within = (tt, tt)
     success_fits node turn_alone no_word within = tt
@@ -154,12 +158,16 @@ module _ (made : ℕ) (known : ℕ → ℕ → Type 0) (ns : List ℕ) where
 
     -- ---- what is put
 
-    owed_holds : (P : List ℕ → Type 0) → ((a : Announcement) → IsMade made a.address → P (announcing s.number a)) → ((f : List ℕ) → IsReply (reading f) → P f) → (q : ℕ) (p : Peer) → peer_at s q ≡ Some p → AllByRecursion P (owed_to s.number p)
+    owed_holds : (P : List ℕ → Type 0) → ((a : Announcement) → IsMade made a.address → P (announcing s.number a)) → ((r : Reply) → P (replying r)) → (q : ℕ) (p : Peer) → peer_at s q ≡ Some p → AllByRecursion P (owed_to s.number p)
     owed_holds P announced replied q p is =
         let well = all-found (PeerSound made known) (is_numbered q) s.peers p sound.peers is in
-        all-append P (map (announcing s.number) p.announcements) p.replies
+        all-append P (map (announcing s.number) p.announcements) (map replying p.replies)
         (all-map P (announcing s.number) p.announcements (all-weaken (λ (a : Announcement). IsMade made a.address) (λ a. P (announcing s.number a)) announced p.announcements well.announced))
-        (all-weaken (λ f. IsReply (reading f)) P replied p.replies well.replies)
+        (each_reply p.replies)
+      where
+        each_reply : (rs : List Reply) → AllByRecursion P (map replying rs)
+        each_reply [] = tt
+        each_reply (r ∷ rs) = (replied r, each_reply rs)
 
     -- an owed frame that is put says no message, and announces an address of an endpoint made
     pub record OwedWell (frame : List ℕ) : Type 0 where
@@ -169,7 +177,7 @@ module _ (made : ℕ) (known : ℕ → ℕ → Type 0) (ns : List ℕ) where
     pub owed_well : (q : ℕ) (frame : List ℕ) → made ≤ creation_limit → MayDo s (puts_owed q frame) → OwedWell frame
     owed_well q frame few may = first (owed_to s.number may.0) may.3 (owed_holds OwedWell
         (λ a is. record { honest = announcing_honest made s.number a few is; silent = λ sender receiver. announcing_silent sender receiver s.number a })
-        (λ f is. record { honest = reply_honest made (reading f) is; silent = λ sender receiver. reply_silent sender receiver (reading f) is }) q may.0 may.2)
+        (λ r. record { honest = letter_honest made r.source r.destination (letter_by r.channel r.reason); silent = λ sender receiver. replying_silent sender receiver r }) q may.0 may.2)
       where
         first : (fs : List (List ℕ)) → fs ≡ frame ∷ may.1 → AllByRecursion OwedWell fs → OwedWell frame
         first [] e all = absurd cc
@@ -180,8 +188,16 @@ module _ (made : ℕ) (known : ℕ → ℕ → Type 0) (ns : List ℕ) where
     deed_honest q (looks_ahead p n) few may = tt
     deed_honest q (takes p name frame word) few may = tt
     deed_honest q (puts_owed p frame) few may = cond_both (p == q) (frame ∷ []) [] (AllByRecursion (λ f. Honest made (reading f))) (λ k. ((owed_well p frame few may).honest, tt)) (λ k. tt)
-    deed_honest q (calls node call a) few may = to_one (puts s node call) (puts-of-send (λ x. Honest made (reading x.1)) s node call (λ port to priority bytes free. (letter_honest made _ _ (msg priority bytes), tt)))
+    deed_honest q (calls node call a) few may = to_one (puts s node call) (by (refusal s node call))
       where
+        all_honest : (ps : List Post) → AllByRecursion (λ (x : ℕ × List ℕ). Honest made (reading x.1)) (map put_of ps)
+        all_honest [] = tt
+        all_honest (x ∷ xs) = (letter_honest made x.source x.destination x.letter, all_honest xs)
+
+        by : (o : Option Refusal) → AllByRecursion (λ (x : ℕ × List ℕ). Honest made (reading x.1)) (unless_refused o [] (success_puts s node call))
+        by None = all_honest (success_posts s node call)
+        by (Some w) = tt
+
         to_one : (xs : List (ℕ × List ℕ)) → AllByRecursion (λ (x : ℕ × List ℕ). Honest made (reading x.1)) xs → AllByRecursion (λ f. Honest made (reading f)) (frames_to q xs)
         to_one [] all = tt
         to_one (x ∷ xs) all = all-append (λ f. Honest made (reading f)) (frames_if (x.0 == q) (x.1 ∷ [])) (frames_to q xs)

@@ -18,11 +18,12 @@ use Rattle.mc_base.specs.Letter.{PlainLetter, msg, connect, accept, reject, recv
 use Rattle.mc_base.specs.LetterFaults.{letter_faults, fields_in}
 use Rattle.mc_base.specs.Announcement.{announcement, announcement_faults, flags_of, is_name, name_in}
 use Rattle.mc_base.specs.Fault.{faults, fault}
+use Rattle.mc_base.specs.declared.channel.Reason.{Reason}
 use Rattle.mc_base.specs.declared.fault.Fault.{Fault}
 use Rattle.mc_base.specs.declared.fault.Fault.TheVariants as of
 use Rattle.mc_base.specs.declared.fault.FrameFault.TheVariants.{FrameLong}
 use Rattle.mc_base.specs.Reading.{Reading, is_faulty, announces, says, reading, reading_by, announced_in, letter_of}
-use Rattle.board_model.specs.State.{Announcement, announcing}
+use Rattle.board_model.specs.State.{Announcement, Reply, announcing, letter_by, replying}
 use Rattle.board_model.specs.Honesty.{IsMade}
 use Rattle.board_model.specs.Messages.{said_by}
 use Rattle.board_model.proofs.HonestReads.{payload_back, source_back, destination_back}
@@ -196,7 +197,7 @@ announcing_honest endpoints d a few is = go (reading (announcing d a)) (tells_ma
     go r (tells_faulty w) = tt
     go r (tells_name bytes m create same) = subst (IsMade endpoints) (sym (same small)) is
 
--- it is no message, and so is a reply
+-- it is no message
 pub announcing_silent : (sender receiver d : ℕ) (a : Announcement) → said_by sender receiver (reading (announcing d a)) ≡ []
 announcing_silent sender receiver d a = go (reading (announcing d a)) (tells_made d a)
   where
@@ -204,20 +205,26 @@ announcing_silent sender receiver d a = go (reading (announcing d a)) (tells_mad
     go r (tells_faulty w) = refl
     go r (tells_name bytes m create same) = refl
 
-abbrev pub IsReply : Reading → Type 0
-IsReply (is_faulty w) = Unit {0}
-IsReply (says src dst (accept m)) = Unit {0}
-IsReply (says src dst (reject m why)) = Unit {0}
-IsReply other = ⊥
+-- a letter of another kind is none either
+abbrev pub IsSilent : PlainLetter → Type 0
+IsSilent (msg priority bytes) = ⊥
+IsSilent other = Unit {0}
 
-pub reply_honest : (endpoints : ℕ) (r : Reading) → IsReply r → Honest endpoints r
-reply_honest endpoints (is_faulty w) is = tt
-reply_honest endpoints (announces text a create) is = absurd is
-reply_honest endpoints (says src dst l) is = tt
+pub letter_silent : (sender receiver a b : ℕ) (l : PlainLetter) → IsSilent l → said_by sender receiver (reading (made a b (spelling l))) ≡ []
+letter_silent sender receiver a b l silent = go (reading (made a b (spelling l))) (reads_made a b (fields_of l) (first_version l))
+  where
+    fields_silent : (k : PlainLetter) → IsSilent k → (s d m : ℕ) → said_by sender receiver (says s d (letter_of (fields (fields_of k).version (fields_of k).kind (fields_of k).argument m (fields_of k).content))) ≡ []
+    fields_silent (msg priority bytes) is s d m = absurd is
+    fields_silent other is s d m = refl
 
-pub reply_silent : (sender receiver : ℕ) (r : Reading) → IsReply r → said_by sender receiver r ≡ []
-reply_silent sender receiver (is_faulty w) is = refl
-reply_silent sender receiver (announces text a create) is = refl
-reply_silent sender receiver (says src dst (accept m)) is = refl
-reply_silent sender receiver (says src dst (reject m why)) is = refl
-reply_silent sender receiver (says src dst other) is = absurd is
+    go : (r : Reading) → MadeReads a (fields_of l) r → said_by sender receiver r ≡ []
+    go r (made_faulty w) = refl
+    go r (made_letter s d m from number) = fields_silent l silent s d m
+
+-- a reply says no message
+pub replying_silent : (sender receiver : ℕ) (r : Reply) → said_by sender receiver (reading (replying r)) ≡ []
+replying_silent sender receiver r = letter_silent sender receiver r.source r.destination (letter_by r.channel r.reason) (go r.reason)
+  where
+    go : (o : Option Reason) → IsSilent (letter_by r.channel o)
+    go None = tt
+    go (Some why) = tt

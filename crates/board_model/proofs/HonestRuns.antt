@@ -16,7 +16,7 @@ use Rattle.board_model.proofs.HonestDeeds.{Hears, HearsDeed, sound_deed, deed_ho
 
 new_sound : (made : ℕ) (known : ℕ → ℕ → Type 0) (ks : List Neighbour) → AllByRecursion (PeerSound made known) (map new_peer ks)
 new_sound made known [] = tt
-new_sound made known (k ∷ ks) = (record { announced = tt; replies = tt; names = tt }, new_sound made known ks)
+new_sound made known (k ∷ ks) = (record { announced = tt; names = tt }, new_sound made known ks)
 
 new_numbers : (ks : List Neighbour) → map (λ p. p.number) (map new_peer ks) ≡ map (λ k. k.number) ks
 new_numbers [] = refl

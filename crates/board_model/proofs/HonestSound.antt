@@ -6,17 +6,15 @@ use Rattle.std.specs.List.{AllByRecursion}
 use Rattle.std.proofs.lemmas.Bool.{cond_both, eqb-true, eq-eqb, ne_eqb}
 use Rattle.mc_base.specs.Limits.{creation_limit}
 use Rattle.mc_base.specs.NameMap.{Names}
-use Rattle.mc_base.specs.Reading.{reading}
 use Rattle.mc_base.specs.declared.refusal.Refusal.{Refusal}
 use Rattle.board_model.specs.Honesty.{IsMade}
 use Rattle.board_model.specs.Lists.{without}
 use Rattle.board_model.specs.Choice.{without_best}
-use Rattle.board_model.specs.State.{Item, Endpoint, Asked, name_of, message_at, Outcome, has_address, has_item, has_ended, Request, Announcement, Peer, DomainState, waits_at, is_at, has_address_of, endpoint_of, is_numbered}
-use Rattle.board_model.specs.Change.{Change, endpoint_made, endpoint_gone, item_queued, best_gone, end_announced, owed_put, buffers_back, frames_shown, frame_taken, names_known, buffer_used, request_added, item_handed, waiting_ended, name_found, request_gone, done_with, all_done, asks_for, handed_in, ended_in, endpoint_with, with_queue, at_address, at_peer, also_owed, first_put, changed, changed_all}
+use Rattle.board_model.specs.State.{Item, Endpoint, Asked, name_of, channel_of, message_at, Outcome, has_address, has_item, has_ended, Request, Announcement, Peer, DomainState, waits_at, is_at, has_address_of, endpoint_of, is_numbered}
+use Rattle.board_model.specs.Change.{Change, endpoint_made, endpoint_gone, item_queued, best_gone, channel_set, queue_dropped, end_announced, reply_owed, channel_given, owed_put, buffers_back, frames_shown, frame_taken, names_known, buffer_used, request_added, item_handed, waiting_ended, name_found, connect_settled, request_gone, done_with, all_done, asks_for, connects_on, handed_in, ended_in, endpoint_with, with_queue, with_channel, without_queue, at_address, at_peer, also_owed, first_put, changed, changed_all}
 use Rattle.board_model.proofs.MessageAlls.{none-passes, all-append, all-changed-first, all-drop, all-without, found-passes}
 use Rattle.board_model.proofs.StateEnds.{numbers-kept}
 use Rattle.board_model.proofs.OrderSound.{Rise, rise_changed, rise_fewer, rise_more, Apart, apart_changed, apart_fewer, apart_more}
-use Rattle.board_model.proofs.HonestFrames.{IsReply}
 
 -- ---- addresses rise
 
@@ -46,10 +44,11 @@ own p lo hi (x ∷ xs) e rise is = go (p x) is (λ k. own p (x.address + 1) hi x
         let differs : (x.address == e.address) ≡ false = ne_eqb x.address e.address (λ same. absurd (omega arith)) in
         record { above = omega arith; below = k.below; found = ap (λ b. cond b (Some x) (find (has_address_of e.address) xs)) differs ∙ k.found }
 
--- ---- requests ask for names and messages alone, as no call asks for more
+-- ---- requests ask for names, channels and messages alone, as no call asks for more
 
 abbrev pub IsPlain : Asked → Type 0
 IsPlain (name_of n) = Unit {0}
+IsPlain (channel_of n) = Unit {0}
 IsPlain (message_at at max) = Unit {0}
 IsPlain other = ⊥
 
@@ -78,7 +77,6 @@ plain_ended (Some e) w rs all = plain_mapped (λ r. cond (waits_at e.local r) (d
 -- which addresses may be known of a peer
 pub record PeerSound (made : ℕ) (known : ℕ → ℕ → Type 0) (p : Peer) : Type 0 where
   pub announced : AllByRecursion (λ a. IsMade made a.address) p.announcements
-  pub replies : AllByRecursion (λ f. IsReply (reading f)) p.replies
   pub names : AllByRecursion (λ k. known p.number k.1) p.known
 
 pub record Sound (made : ℕ) (known : ℕ → ℕ → Type 0) (ns : List ℕ) (s : DomainState) : Type 0 where
@@ -116,7 +114,7 @@ module _ (made : ℕ) (known : ℕ → ℕ → Type 0) (ns : List ℕ) where
 
   also_sound : (d : ℕ) (a : Announcement) (p : Peer) → IsMade made a.address → OfPeer p → OfPeer (also_owed d a p)
   also_sound d a p is well = cond_both (p.number == d) p (record p { announcements = p.announcements ++ a ∷ [] }) OfPeer (λ k. well)
-      (λ k. record { announced = all-append (λ (x : Announcement). IsMade made x.address) p.announcements (a ∷ []) well.announced (is, tt); replies = well.replies; names = well.names })
+      (λ k. record { announced = all-append (λ (x : Announcement). IsMade made x.address) p.announcements (a ∷ []) well.announced (is, tt); names = well.names })
 
   all_also : (d : ℕ) (a : Announcement) (ps : List Peer) → IsMade made a.address → AllByRecursion OfPeer ps → AllByRecursion OfPeer (map (also_owed d a) ps)
   all_also d a [] is all = tt
@@ -124,8 +122,8 @@ module _ (made : ℕ) (known : ℕ → ℕ → Type 0) (ns : List ℕ) where
 
   put_sound : (p : Peer) → OfPeer p → OfPeer (first_put p)
   put_sound p well = cond_both (length p.announcements == 0) (record p { free = p.free - 1; replies = drop 1 p.replies }) (record p { free = p.free - 1; announcements = drop 1 p.announcements }) OfPeer
-      (λ k. record { announced = well.announced; replies = all-drop (λ f. IsReply (reading f)) 1 p.replies well.replies; names = well.names })
-      (λ k. record { announced = all-drop (λ (x : Announcement). IsMade made x.address) 1 p.announcements well.announced; replies = well.replies; names = well.names })
+      (λ k. record { announced = well.announced; names = well.names })
+      (λ k. record { announced = all-drop (λ (x : Announcement). IsMade made x.address) 1 p.announcements well.announced; names = well.names })
 
   module _ (s : DomainState) (sound : Sound made known ns s) where
     peer_changed : (q : ℕ) (f : Peer → Peer) → ((p : Peer) → is_numbered q p ≡ true → OfPeer p → OfPeer (f p)) → AllByRecursion OfPeer (at_peer q f s.peers)
@@ -141,12 +139,12 @@ module _ (made : ℕ) (known : ℕ → ℕ → Type 0) (ns : List ℕ) where
       numbers = numbers-kept s c ∙ sound.numbers;
     }
 
-    by_end : (a : ℕ) (f : List Item → List Item) → (c : Change) → (changed s c).endpoints ≡ at_address a (with_queue f) s.endpoints → (changed s c).endpoints_given ≡ s.endpoints_given → (changed s c).peers ≡ s.peers → (changed s c).requests ≡ s.requests → Sound made known ns (changed s c)
-    by_end a f c ends given peers requests = record {
+    by_end : (a : ℕ) (f : Endpoint → Endpoint) → ((e : Endpoint) → (f e).address ≡ e.address) → ((e : Endpoint) → (f e).local ≡ e.local) → (c : Change) → (changed s c).endpoints ≡ at_address a f s.endpoints → (changed s c).endpoints_given ≡ s.endpoints_given → (changed s c).peers ≡ s.peers → (changed s c).requests ≡ s.requests → Sound made known ns (changed s c)
+    by_end a f address name c ends given peers requests = record {
       plain = rw requests sound.plain;
-      rise = rw (ends, given) (rise_changed (has_address_of a) (with_queue f) (λ e. refl) 1024 (1024 + s.endpoints_given) s.endpoints sound.rise);
+      rise = rw (ends, given) (rise_changed (has_address_of a) f address 1024 (1024 + s.endpoints_given) s.endpoints sound.rise);
       few = rw given sound.few;
-      apart = rw ends (apart_changed (has_address_of a) (with_queue f) (λ e. refl) s.endpoints sound.apart);
+      apart = rw ends (apart_changed (has_address_of a) f name s.endpoints sound.apart);
       peers = rw peers sound.peers;
       numbers = numbers-kept s c ∙ sound.numbers;
     }
@@ -178,21 +176,27 @@ module _ (made : ℕ) (known : ℕ → ℕ → Type 0) (ns : List ℕ) where
       numbers = sound.numbers;
       plain = sound.plain;
     }
-    sound_change (item_queued a i) fits = by_end a (λ q. q ++ i ∷ []) (item_queued a i) refl refl refl refl
-    sound_change (best_gone a) fits = by_end a (without_best (λ i. i.priority)) (best_gone a) refl refl refl refl
+    sound_change (item_queued a i) fits = by_end a (with_queue (λ q. q ++ i ∷ [])) (λ e. refl) (λ e. refl) (item_queued a i) refl refl refl refl
+    sound_change (best_gone a) fits = by_end a (with_queue (without_best (λ i. i.priority))) (λ e. refl) (λ e. refl) (best_gone a) refl refl refl refl
+    sound_change (channel_set a c) fits = by_end a (with_channel c) (λ e. refl) (λ e. refl) (channel_set a c) refl refl refl refl
+    sound_change (queue_dropped a c) fits = by_end a (without_queue c) (λ e. refl) (λ e. refl) (queue_dropped a c) refl refl refl refl
+    sound_change (reply_owed q w) fits = by_peer q (λ p. record p { replies = p.replies ++ w ∷ [] }) (λ p is well. record { announced = well.announced; names = well.names }) (reply_owed q w) refl refl refl refl
+    sound_change channel_given fits = by_requests s.requests channel_given refl refl refl refl sound.plain
     sound_change (end_announced a) fits = record { rise = sound.rise; few = sound.few; apart = sound.apart; peers = all_also s.number a s.peers fits sound.peers; numbers = numbers-kept s (end_announced a) ∙ sound.numbers; plain = sound.plain }
     sound_change (owed_put q) fits = by_peer q first_put (λ p is well. put_sound p well) (owed_put q) refl refl refl refl
-    sound_change (buffers_back q n) fits = by_peer q (λ p. record p { free = p.free + n }) (λ p is well. record { announced = well.announced; replies = well.replies; names = well.names }) (buffers_back q n) refl refl refl refl
-    sound_change (frames_shown q n) fits = by_peer q (λ p. record p { shown = n }) (λ p is well. record { announced = well.announced; replies = well.replies; names = well.names }) (frames_shown q n) refl refl refl refl
-    sound_change (frame_taken q) fits = by_peer q (λ p. record p { shown = p.shown - 1 }) (λ p is well. record { announced = well.announced; replies = well.replies; names = well.names }) (frame_taken q) refl refl refl refl
-    sound_change (buffer_used q) fits = by_peer q (λ p. record p { free = p.free - 1 }) (λ p is well. record { announced = well.announced; replies = well.replies; names = well.names }) (buffer_used q) refl refl refl refl
+    sound_change (buffers_back q n) fits = by_peer q (λ p. record p { free = p.free + n }) (λ p is well. record { announced = well.announced; names = well.names }) (buffers_back q n) refl refl refl refl
+    sound_change (frames_shown q n) fits = by_peer q (λ p. record p { shown = n }) (λ p is well. record { announced = well.announced; names = well.names }) (frames_shown q n) refl refl refl refl
+    sound_change (frame_taken q) fits = by_peer q (λ p. record p { shown = p.shown - 1 }) (λ p is well. record { announced = well.announced; names = well.names }) (frame_taken q) refl refl refl refl
+    sound_change (buffer_used q) fits = by_peer q (λ p. record p { free = p.free - 1 }) (λ p is well. record { announced = well.announced; names = well.names }) (buffer_used q) refl refl refl refl
     sound_change (names_known q ks) fits = by_peer q (λ p. record p { known = ks })
-        (λ p is well. record { announced = well.announced; replies = well.replies; names = subst (λ n. Names_of n ks) (sym (eqb-true p.number q is)) fits }) (names_known q ks) refl refl refl refl
+        (λ p is well. record { announced = well.announced; names = subst (λ n. Names_of n ks) (sym (eqb-true p.number q is)) fits }) (names_known q ks) refl refl refl refl
     sound_change (request_added asked o) fits = by_requests (s.requests ++ record { serial = s.requests_given; asked = asked; outcome = o } ∷ []) (request_added asked o) refl refl refl refl (all-append (λ (r : Request). IsPlain r.asked) s.requests (record { serial = s.requests_given; asked = asked; outcome = o } ∷ []) sound.plain (fits, tt))
     sound_change (item_handed a i) fits = by_requests (handed_in (endpoint_of s a) i s.requests) (item_handed a i) refl refl refl refl (plain_handed (endpoint_of s a) i s.requests sound.plain)
     sound_change (waiting_ended a w) fits = by_requests (ended_in (endpoint_of s a) w s.requests) (waiting_ended a w) refl refl refl refl (plain_ended (endpoint_of s a) w s.requests sound.plain)
     sound_change (name_found n a) fits = by_requests (map (all_done (asks_for n) (has_address a)) s.requests) (name_found n a) refl refl refl refl
         (plain_mapped (all_done (asks_for n) (has_address a)) (λ r is. plain_if (is_none r.outcome && asks_for n r.asked) (has_address a) r is) s.requests sound.plain)
+    sound_change (connect_settled n o) fits = by_requests (map (all_done (connects_on n) o) s.requests) (connect_settled n o) refl refl refl refl
+        (plain_mapped (all_done (connects_on n) o) (λ r is. plain_if (is_none r.outcome && connects_on n r.asked) o r is) s.requests sound.plain)
     sound_change (request_gone place) fits = by_requests (without place s.requests) (request_gone place) refl refl refl refl (all-without (λ (r : Request). IsPlain r.asked) place s.requests sound.plain)
 
   abbrev pub FitAll : DomainState → List Change → Type 0
