@@ -23,7 +23,7 @@ use Rattle.board_model.proofs.MessageAlls.{all-found, all-weaken}
 use Rattle.board_model.proofs.MessageOnce.{total, total-each, total-same, total-sum, total-map, total-joined, count-joined}
 use Rattle.board_model.proofs.MessageNeighbours.{over_lanes, lanes-turned}
 use Rattle.board_model.proofs.PlaceBoards.{neighbours_differ}
-use Rattle.board_model.proofs.OrderLaws.{all_succeed}
+use Rattle.board_model.proofs.OrderLaws.{all_succeed, run_queues}
 use Rattle.board_model.proofs.OrderSerials.{Serials}
 use Rattle.board_model.proofs.HonestRuns.{anything, sound_opening}
 use Rattle.board_model.proofs.HonestBoard.{made_at, may_know, OnBoard, each_on_board}
@@ -111,7 +111,7 @@ module _ (s : Scenario) (js : List DomainJournal) (board : IsLinkedBoard s) (run
         let made : ℕ = (left_in s j).endpoints_given in
         let few : all_succeed (deeds_of s j) + 1 < 2 ^ 64 = on.deeds.few in
         let serials : Serials (all_succeed (deeds_of s j)) (opened s j) = record { differ = tt; below = tt; small = omega arith } in
-        let balance = run_balanced j.line.domain test made (numbers_of s j.line) (opened s j) (deeds_of s j) on.told.run.may (omega arith) (sound_opening made anything j.line.domain j.line.nodes (neighbours s j.line)) serials in
+        let balance = run_balanced j.line.domain test made (numbers_of s j.line) (opened s j) (deeds_of s j) on.told.run.may (run_queues j.line.domain j.line.nodes (neighbours s j.line) (deeds_of s j) on.told.run few) (omega arith) (sound_opening made anything j.line.domain j.line.nodes (neighbours s j.line)) serials in
         omega (arith, balance)
 
     -- ---- all journals

@@ -1,41 +1,45 @@
 -- The items of one domain are kept: what its frames bring is taken or dropped, or is queued, deed by deed.
 use Rattle.std.proofs.Common.{◌≡◌, ℕ, ◌+◌, Bool, true, false, cond, List, [], ◌∷◌, ◌++◌, map, find, Option, Some, None, option_to_list, refl, sym, ap, ◌∙◌, subst, arith}
 use Rattle.std.specs.Prelude.{count_by, is_none, is_some, option_map, ◌==◌, ◌&&◌, ◌||◌}
-use Rattle.std.specs.List.{list_any}
+use Rattle.std.specs.List.{AllByRecursion, list_any}
 use Rattle.std.proofs.lemmas.Bool.{eqb-true, eq-eqb, and_parts}
 use Rattle.std.proofs.lemmas.List.{append-nil}
-use Rattle.mc_base.specs.Letter.{PlainLetter, msg, connect, accept, reject, recv_open, send_open, packet, scalar, send_close, recv_close}
-use Rattle.mc_base.specs.FullName.{endpoint_named}
+use Rattle.byteorder.specs.Endian.{little_bytes}
+use Rattle.mc_base.specs.Letter.{PlainLetter, msg, packet, scalar, bytes_of_bits}
 use Rattle.mc_base.specs.Reading.{Reading, is_faulty, announces, says, reading}
 use Rattle.mc_base.specs.declared.name.Local.{Local}
 use Rattle.mc_base.specs.declared.name.EndName.{EndName}
+use Rattle.mc_base.specs.declared.channel.Side.{Side}
+use Rattle.mc_base.specs.declared.channel.Side.TheVariants.{Sender, Receiver}
 use Rattle.mc_base.specs.declared.refusal.Refusal.{Refusal}
-use Rattle.mc_base.specs.declared.refusal.Refusal.TheVariants.{EndpInvalid}
+use Rattle.mc_base.specs.declared.refusal.Refusal.TheVariants.{EndpInvalid, ChanClosed}
 use Rattle.mc_base.specs.declared.fate.Fate.{Fate}
 use Rattle.mc_base.specs.declared.fate.Fate.TheVariants as fate
 use Rattle.board_model.specs.Lists.{without}
-use Rattle.board_model.specs.Choice.{best}
-use Rattle.board_model.specs.DomainCall.{DomainCall, create_at, delete_at, lookup_of, send_from, receive_at, request_at, available_at, test_of, cancel_of, turn_alone}
-use Rattle.board_model.specs.Journal.{PlainAnswer, refuses, agrees, tells, gives, completes}
-use Rattle.board_model.specs.State.{Item, Endpoint, Asked, name_of, channel_of, message_at, packet_at, has_address, has_item, has_ended, Request, DomainState, is_at, has_address_of, live_at, endpoint_at, endpoint_of, queue_at, queue_in, one_waits, oldest_waiting, receives_at, waits_at, peer_at}
-use Rattle.board_model.specs.Change.{item_handed, item_queued, frame_taken, endpoint_gone, best_gone, request_added, waiting_ended, end_announced, endpoint_with, all_done, done_with, asks_for, handed_in, ended_in, with_queue, at_address, changed_all}
-use Rattle.board_model.specs.TakenFrames.{names_of}
-use Rattle.board_model.specs.TakenFrames.{row, letter_rows, message_item, first_row, row_of}
-use Rattle.board_model.specs.Answer.{local, address_of, given, refusal, success, answer_by, unless_refused}
-use Rattle.board_model.specs.CallChanges.{at_live, best_item, success_changes}
+use Rattle.board_model.specs.Choice.{least, best}
+use Rattle.board_model.specs.DomainCall.{DomainCall, create_at, delete_at, lookup_of, send_from, receive_at, request_at, available_at, connect_from, open_at, close_at, test_of, cancel_of, turn_alone}
+use Rattle.board_model.specs.Journal.{PlainAnswer, refuses, agrees, tells, connects, gives, completes}
+use Rattle.board_model.specs.State.{Item, ChannelEnd, Endpoint, Asked, name_of, channel_of, message_at, packet_at, has_address, has_item, has_ended, Request, DomainState, is_at, has_address_of, live_at, endpoint_at, endpoint_of, queue_at, queue_in, one_waits, oldest_waiting, receives_at, waits_at}
+use Rattle.board_model.specs.Change.{Change, item_handed, item_queued, channel_set, frame_taken, endpoint_gone, best_gone, request_added, request_gone, waiting_ended, name_found, connect_settled, end_announced, reply_owed, names_known, buffer_used, channel_given, endpoint_with, all_done, done_with, asks_for, connects_on, handed_in, ended_in, with_queue, with_channel, at_address, changed, changed_all}
+use Rattle.board_model.specs.ChannelEnds.{opened_end, closed_end}
+use Rattle.board_model.specs.TakenFrames.{Row, row, rejecting, accepting, acting, item_of, message_item, channel_item, message_rows, letter_rows, first_row, row_of}
+use Rattle.board_model.specs.Answer.{local, address_of, given, has_channel, holds, words_of, refusal, success, answer_by, unless_refused}
+use Rattle.board_model.specs.CallChanges.{at_live, at_end, best_item, new_sender, closing, success_changes}
 use Rattle.board_model.specs.Deeds.{Deed, looks_back, puts_owed, looks_ahead, takes, calls, after_deed, MayDo}
-use Rattle.board_model.specs.Messages.{Message, message_of, said_by, queued_at}
+use Rattle.board_model.specs.Messages.{Message, message_of, said_by, is_message_item, queued_at}
 use Rattle.board_model.specs.Drops.{drops, dropped_by}
-use Rattle.board_model.specs.Takings.{Taking, taking, answered_by, asked_address, takings_by}
-use Rattle.board_model.proofs.ListsCounts.{count-cons}
-use Rattle.board_model.proofs.MessageAlls.{all-found, found-passes}
-use Rattle.board_model.proofs.MessageLists.{get-position}
+use Rattle.board_model.specs.Takings.{Taking, taking, answered_by, item_held, asked_address, takings_by}
+use Rattle.board_model.proofs.LaneRows.{Carried, Deals, stays, learns, forgets, hands, queues, rejects, accepts, acts, acting-all, row-deals}
+use Rattle.board_model.proofs.ListsCounts.{one_if, count-cons}
+use Rattle.board_model.proofs.MessageAlls.{none-passes, all-found, found-passes}
+use Rattle.board_model.proofs.MessageLists.{get-position, best_is}
 use Rattle.board_model.proofs.MessageNames.{found_by, each-found}
 use Rattle.board_model.proofs.OrderSerials.{Serials}
-use Rattle.board_model.proofs.OrderTakings.{taken_of, all_old, none_taken, old_mapped, old_done, old_without, handed_takes, waiter_takes, added_takes, given_takes}
+use Rattle.board_model.proofs.OrderSound.{Sound as Queues, Bound, IsMessage, OnSome, sound_bound}
+use Rattle.board_model.proofs.OrderTakings.{taken_of, IsOld, all_old, none_taken, old_mapped, old_done, old_without, done_old, ended_old, handed_takes, waiter_takes, added_takes, given_takes}
 use Rattle.board_model.proofs.HonestSound.{own, IsPlain, Sound}
-use Rattle.board_model.proofs.HonestDeeds.{by_names}
-use Rattle.board_model.proofs.KeptItems.{weight, took, best_weight, weight-queued, weight-best, weight-made, weight-gone}
+use Rattle.board_model.proofs.HonestDeeds.{end_holds, not_some}
+use Rattle.board_model.proofs.KeptItems.{weight, took, best_weight, passes-message, weight-set, weight-dropped, weight-queued, weight-best, weight-made, weight-gone}
 
 -- the messages of the frames that a deed takes
 abbrev pub brought_by : ℕ → DomainState → Deed → List Message
@@ -50,7 +54,48 @@ found_one at (x ∷ xs) any = go (waits_at at x) any (λ k. found_one at xs k)
     go true is later = refl
     go false is later = later is
 
+-- a change by which nothing is taken, and no item comes or goes
+abbrev pub Mild : Change → Type 0
+Mild (channel_set a c) = Unit {0}
+Mild (waiting_ended a w) = Unit {0}
+Mild (name_found n a) = Unit {0}
+Mild (connect_settled n o) = item_held (Some o) ≡ []
+Mild (reply_owed q reply) = Unit {0}
+Mild (frame_taken q) = Unit {0}
+Mild (names_known q ks) = Unit {0}
+Mild (buffer_used q) = Unit {0}
+Mild (request_gone place) = Unit {0}
+Mild other = ⊥
+
+mild_old : (s t : DomainState) (c : Change) → Mild c → AllByRecursion (IsOld s) t.requests → AllByRecursion (IsOld s) (changed t c).requests
+mild_old s t (channel_set a c) mild old = old
+mild_old s t (waiting_ended a w) mild old = go (endpoint_of t a)
+  where
+    go : (x : Option Endpoint) → AllByRecursion (IsOld s) (ended_in x w t.requests)
+    go None = old
+    go (Some e) = old_mapped s (λ q. cond (waits_at e.local q) (done_with (has_ended w) q) q) (λ q was. old_done s (waits_at e.local q) (has_ended w) q refl was) t.requests old
+mild_old s t (name_found n a) mild old = old_mapped s (all_done (asks_for n) (has_address a)) (λ q was. old_done s (is_none q.outcome && asks_for n q.asked) (has_address a) q refl was) t.requests old
+mild_old s t (connect_settled n o) mild old = old_mapped s (all_done (connects_on n) o) (λ q was. old_done s (is_none q.outcome && connects_on n q.asked) o q mild was) t.requests old
+mild_old s t (reply_owed q reply) mild old = old
+mild_old s t (frame_taken q) mild old = old
+mild_old s t (names_known q ks) mild old = old
+mild_old s t (buffer_used q) mild old = old
+mild_old s t (request_gone place) mild old = old_without s place t.requests old
+mild_old s t other mild old = absurd mild
+
 module _ (r : ℕ) (test : Message → Bool) where
+  mild_weight : (t : DomainState) (c : Change) → Mild c → weight r test (changed t c).endpoints ≡ weight r test t.endpoints
+  mild_weight t (channel_set a c) mild = weight-set r test a c t.endpoints
+  mild_weight t (waiting_ended a w) mild = refl
+  mild_weight t (name_found n a) mild = refl
+  mild_weight t (connect_settled n o) mild = refl
+  mild_weight t (reply_owed q reply) mild = refl
+  mild_weight t (frame_taken q) mild = refl
+  mild_weight t (names_known q ks) mild = refl
+  mild_weight t (buffer_used q) mild = refl
+  mild_weight t (request_gone place) mild = refl
+  mild_weight t other mild = absurd mild
+
   -- what the deed leads to, with the requests and the endpoints after it
   abbrev Balance : DomainState → List Message → List Taking → List Message → List Endpoint → Type 0
   Balance s came ts lost es = count_by test came + weight r test s.endpoints ≡ took r test ts + count_by test lost + weight r test es
@@ -61,16 +106,27 @@ module _ (r : ℕ) (test : Message → Bool) where
   nothing : (s : DomainState) (ts : List Taking) (es : List Endpoint) → ts ≡ [] → weight r test es ≡ weight r test s.endpoints → Balance s [] ts [] es
   nothing s ts es none same = ap (λ n. 0 + n) (sym same) ∙ ap (λ (xs : List Taking). took r test xs + 0 + weight r test es) (sym none)
 
-  module _ (made : ℕ) (known : ℕ → ℕ → Type 0) (ns : List ℕ) (room : ℕ) (s : DomainState) (sound : Sound made known ns s) (serials : Serials room s) where
+  module _ (made : ℕ) (known : ℕ → ℕ → Type 0) (ns : List ℕ) (room : ℕ) (s : DomainState) (sound : Sound made known ns s) (order : Queues s) (serials : Serials room s) where
     none_new : taken_of s s.requests ≡ []
     none_new = none_taken s s.requests (all_old s)
 
+    -- by these changes nothing is taken, and no message comes or goes
+    record Idles (cs : List Change) : Type 0 where
+      nothing_taken : taken_of s (changed_all s cs).requests ≡ []
+      same : weight r test (changed_all s cs).endpoints ≡ weight r test s.endpoints
+
+    mild_from : (t : DomainState) (cs : List Change) → AllByRecursion Mild cs → AllByRecursion (IsOld s) t.requests → weight r test t.endpoints ≡ weight r test s.endpoints → AllByRecursion (IsOld s) (changed_all t cs).requests × (weight r test (changed_all t cs).endpoints ≡ weight r test s.endpoints)
+    mild_from t [] mild old same = (old, same)
+    mild_from t (c ∷ cs) mild old same = mild_from (changed t c) cs mild.1 (mild_old s t c mild.0 old) (mild_weight t c mild.0 ∙ same)
+
+    mild_idles : (cs : List Change) → AllByRecursion Mild cs → Idles cs
+    mild_idles cs mild = let all = mild_from s cs mild (all_old s) refl in record { nothing_taken = none_taken s (changed_all s cs).requests all.0; same = all.1 }
+
     found_none : (n : EndName) (a : ℕ) → taken_of s (map (all_done (asks_for n) (has_address a)) s.requests) ≡ []
-    found_none n a = none_taken s _ (old_mapped s (all_done (asks_for n) (has_address a)) (λ q old. old_done s (is_none q.outcome && asks_for n q.asked) (has_address a) q refl old) s.requests (all_old s))
+    found_none n a = none_taken s _ (done_old s (asks_for n) (has_address a) refl)
 
     ended_none : (x : Option Endpoint) (w : Refusal) → taken_of s (ended_in x w s.requests) ≡ []
-    ended_none None w = none_new
-    ended_none (Some e) w = none_taken s _ (old_mapped s (λ q. cond (waits_at e.local q) (done_with (has_ended w) q) q) (λ q old. old_done s (waits_at e.local q) (has_ended w) q refl old) s.requests (all_old s))
+    ended_none x w = none_taken s _ (ended_old s x w)
 
     -- an endpoint of the domain is found by its name, and by its address
     own_end : (p : Endpoint → Bool) (e : Endpoint) → find p s.endpoints ≡ Some e → endpoint_of s e.address ≡ Some e
@@ -89,22 +145,58 @@ module _ (r : ℕ) (test : Message → Bool) where
     abbrev Leads : ℕ → Option ℕ → Reading → Fate → Type 0
     Leads q name rd word = let t = changed_all s (frame_taken q ∷ (row_of s q name rd).happens) in Balance s (said_by q r rd) (taken_of s t.requests) (cond (drops word) (said_by q r rd) []) t.endpoints
 
-    idle_leads : (q : ℕ) (name : Option ℕ) (rd : Reading) (word : Fate) → said_by q r rd ≡ [] → taken_of s (changed_all s (frame_taken q ∷ (row_of s q name rd).happens)).requests ≡ [] → (changed_all s (frame_taken q ∷ (row_of s q name rd).happens)).endpoints ≡ s.endpoints → Leads q name rd word
-    idle_leads q name rd word silent none same =
-        omega (arith, ap (count_by test) silent, ap (took r test) none, ap (λ (ms : List Message). count_by test (cond (drops word) ms [])) silent, no_said (drops word), ap (weight r test) same)
+    idle_leads : (q : ℕ) (name : Option ℕ) (rd : Reading) (word : Fate) → said_by q r rd ≡ [] → Idles (frame_taken q ∷ (row_of s q name rd).happens) → Leads q name rd word
+    idle_leads q name rd word silent idles =
+        omega (arith, ap (count_by test) silent, ap (took r test) idles.nothing_taken, ap (λ (ms : List Message). count_by test (cond (drops word) ms [])) silent, no_said (drops word), idles.same)
 
-    -- letters, by the endpoint with the destination's address
+    no_waiter : (at : ℕ) (e : Endpoint) (c : ChannelEnd) → endpoint_of s at ≡ Some e → e.channel ≡ Some c → one_waits s e.local ≡ true → ⊥
+    no_waiter at e c found has waits = (subst (Bound s.requests e.local e.queue) has (sound_bound s order (has_address_of at) e found)).0 waits
+
+    -- a message is said
+    says_one : (q source at priority : ℕ) (content : List ℕ) (rd : Reading) → rd ≡ says source at (msg priority content) → said_by q r rd ≡ [] → ⊥
+    says_one q source at priority content rd is silent = let none : said_by q r (says source at (msg priority content)) ≡ [] = subst (λ x. said_by q r x ≡ []) is silent in absurd cc
+
+    silent_idles : (q : ℕ) (name : Option ℕ) (rd : Reading) → said_by q r rd ≡ [] → Idles (frame_taken q ∷ (row_of s q name rd).happens)
+    silent_idles q name rd silent = go (row-deals s q name rd)
+      where
+        by : (cs : List Change) → (row_of s q name rd).happens ≡ cs → Idles (frame_taken q ∷ cs) → Idles (frame_taken q ∷ (row_of s q name rd).happens)
+        by cs happens idles = subst (λ xs. Idles (frame_taken q ∷ xs)) (sym happens) idles
+
+        on_channel : (at number source : ℕ) (content : List ℕ) (e : Endpoint) → endpoint_of s at ≡ Some e → Idles (frame_taken q ∷ item_queued at (channel_item q name source number content) ∷ [])
+        on_channel at number source content e found = record { nothing_taken = none_new; same = weight-queued r test at (channel_item q name source number content) e s.endpoints found ∙ omega arith }
+
+        handed_none : (source at : ℕ) (l : PlainLetter) (e : Endpoint) → rd ≡ says source at l → endpoint_of s at ≡ Some e → Carried q e l → one_waits s e.local ≡ true → ⊥
+        handed_none source at (msg priority content) e is found carried waits = says_one q source at priority content rd is silent
+        handed_none source at (packet number content) e is found carried waits = no_waiter at e carried.0 found carried.1 waits
+        handed_none source at (scalar number bits value) e is found carried waits = no_waiter at e carried.0 found carried.1 waits
+        handed_none source at other e is found carried waits = carried
+
+        queued_idles : (source at : ℕ) (l : PlainLetter) (e : Endpoint) → rd ≡ says source at l → endpoint_of s at ≡ Some e → Carried q e l → Idles (frame_taken q ∷ item_queued at (item_of q name source l) ∷ [])
+        queued_idles source at (msg priority content) e is found carried = absurd (says_one q source at priority content rd is silent)
+        queued_idles source at (packet number content) e is found carried = on_channel at number source content e found
+        queued_idles source at (scalar number bits value) e is found carried = on_channel at number source (little_bytes (bytes_of_bits bits) value) e found
+        queued_idles source at other e is found carried = absurd carried
+
+        go : Deals s q name rd (row_of s q name rd) → Idles (frame_taken q ∷ (row_of s q name rd).happens)
+        go (stays happens word) = by [] happens (mild_idles (frame_taken q ∷ []) (tt, tt))
+        go (learns text n a names is learned_so happens word) = by (names_known q names ∷ name_found n a ∷ []) happens (mild_idles _ (tt, (tt, (tt, tt))))
+        go (forgets text n a names is forgotten_so happens word) = by (names_known q names ∷ []) happens (mild_idles _ (tt, (tt, tt)))
+        go (hands source at l e is found carried waits happens word) = absurd (handed_none source at l e is found carried waits)
+        go (queues source at l e is found carried none happens word) = by (item_queued at (item_of q name source l) ∷ []) happens (queued_idles source at l e is found carried)
+        go (rejects source at number kind why is happens word) = by (rejecting q source at number why) happens (mild_idles _ (tt, (tt, tt)))
+        go (accepts source at number kind e is found free idle happens word) = by (accepting q source at number kind) happens (mild_idles _ (tt, (tt, (tt, tt))))
+        go (acts source at l e c left is found has row happens word) = by (acting at left l) happens (mild_idles (frame_taken q ∷ acting at left l) (tt, acting-all Mild at left tt (λ n. refl) (λ n why. refl) tt l))
+
+    -- messages, by the endpoint with the destination's address
     module _ (q : ℕ) (name : Option ℕ) (src dst : ℕ) where
-      abbrev Arrives : Option Endpoint → PlainLetter → Fate → Type 0
-      Arrives x l word = let t = changed_all s (frame_taken q ∷ (first_row (letter_rows s q name src dst x l)).happens) in Balance s (said_by q r (says src dst l)) (taken_of s t.requests) (cond (drops word) (said_by q r (says src dst l)) []) t.endpoints
+      -- what a row leads to
+      abbrev Arrives : Row → List Message → Fate → Type 0
+      Arrives row ms word = let t = changed_all s (frame_taken q ∷ row.happens) in Balance s ms (taken_of s t.requests) (cond (drops word) ms []) t.endpoints
 
-      silent : (word : Fate) → Balance s [] (taken_of s s.requests) (cond (drops word) [] []) s.endpoints
-      silent word = omega (arith, ap (took r test) none_new, no_said (drops word))
+      dropped : (w : Fate) → drops w ≡ true → (ms : List Message) (word : Fate) → w ≡ word → Balance s ms (taken_of s s.requests) (cond (drops word) ms []) s.endpoints
+      dropped w lost ms word is = subst (λ v. Balance s ms (taken_of s s.requests) (cond (drops v) ms []) s.endpoints) is (omega (arith, ap (took r test) none_new, ap (λ (b : Bool). count_by test (cond b ms [])) lost))
 
-      dropped : (ms : List Message) (word : Fate) → fate.NoEndpoint ≡ word → Balance s ms (taken_of s s.requests) (cond (drops word) ms []) s.endpoints
-      dropped ms word is = subst (λ w. Balance s ms (taken_of s s.requests) (cond (drops w) ms []) s.endpoints) is (omega (arith, ap (took r test) none_new))
-
-      module _ (e : Endpoint) (found : endpoint_of s dst ≡ Some e) (i : Item) where
+      module _ (e : Endpoint) (found : endpoint_of s dst ≡ Some e) (i : Item) (message : is_message_item i ≡ true) where
         here : e.address ≡ dst
         here = eqb-true e.address dst (found-passes (has_address_of dst) s.endpoints e found)
 
@@ -116,7 +208,7 @@ module _ (r : ℕ) (test : Message → Bool) where
         -- a request that waits here asks for a message here
         asked_here : (asked : Asked) → IsPlain asked → receives_at e.local asked ≡ true → asked_address s asked ≡ e.address ∷ []
         asked_here (name_of n) plain h = absurd cc
-        asked_here (channel_of n) plain h = absurd plain
+        asked_here (channel_of n) plain h = absurd cc
         asked_here (packet_at at) plain h = absurd plain
         asked_here (message_at at max) plain h = ap (λ x. at_live x (λ k. k.address ∷ [])) (named_end (has_address_of dst) at e found (turned at h))
 
@@ -135,33 +227,31 @@ module _ (r : ℕ) (test : Message → Bool) where
 
         queued : (word : Fate) → fate.Queued ≡ word → Balance s (message_of r dst i ∷ []) (taken_of s s.requests) (cond (drops word) (message_of r dst i ∷ []) []) (at_address dst (with_queue (λ k. k ++ i ∷ [])) s.endpoints)
         queued word is = subst (λ w. Balance s (message_of r dst i ∷ []) (taken_of s s.requests) (cond (drops w) (message_of r dst i ∷ []) []) (at_address dst (with_queue (λ k. k ++ i ∷ [])) s.endpoints)) is
-            (omega (arith, ap (took r test) none_new, weight-queued r test dst i e s.endpoints found, count-cons test (message_of r dst i) []))
+            (omega (arith, ap (took r test) none_new, weight-queued r test dst i e s.endpoints found, ap (λ b. one_if (b && test (message_of r dst i))) message, count-cons test (message_of r dst i) []))
 
-      letter : (x : Option Endpoint) → endpoint_of s dst ≡ x → (l : PlainLetter) (word : Fate) → (first_row (letter_rows s q name src dst x l)).word ≡ word → Arrives x l word
-      letter None found l word is = dropped (said_by q r (says src dst l)) word is
-      letter (Some e) found (msg priority content) word is = by (one_waits s e.local) refl is
-        where
-          by : (b : Bool) → one_waits s e.local ≡ b → (cond b (row b fate.Handed (item_handed dst (message_item q name src priority content) ∷ [])) (row true fate.Queued (item_queued dst (message_item q name src priority content) ∷ []))).word ≡ word →
-              let t = changed_all s (frame_taken q ∷ (cond b (row b fate.Handed (item_handed dst (message_item q name src priority content) ∷ [])) (row true fate.Queued (item_queued dst (message_item q name src priority content) ∷ []))).happens) in
-              Balance s (message_of r dst (message_item q name src priority content) ∷ []) (taken_of s t.requests) (cond (drops word) (message_of r dst (message_item q name src priority content) ∷ []) []) t.endpoints
-          by true waits k = handed e found (message_item q name src priority content) word waits k
-          by false waits k = queued e found (message_item q name src priority content) word k
-      letter (Some e) found (connect m kind) word is = silent word
-      letter (Some e) found (accept m) word is = silent word
-      letter (Some e) found (reject m why) word is = silent word
-      letter (Some e) found (recv_open m) word is = silent word
-      letter (Some e) found (send_open m) word is = silent word
-      letter (Some e) found (packet m bytes) word is = silent word
-      letter (Some e) found (scalar m bits value) word is = silent word
-      letter (Some e) found (send_close m) word is = silent word
-      letter (Some e) found (recv_close m) word is = silent word
+      module _ (priority : ℕ) (content : List ℕ) where
+        abbrev brought : Item
+        brought = message_item q name src priority content
+
+        letter : (x : Option Endpoint) → endpoint_of s dst ≡ x → (word : Fate) → (first_row (letter_rows s q name src dst x (msg priority content))).word ≡ word →
+            Arrives (first_row (letter_rows s q name src dst x (msg priority content))) (message_of r dst brought ∷ []) word
+        letter None found word is = dropped fate.NoEndpoint refl (message_of r dst brought ∷ []) word is
+        letter (Some e) found word is = at e.channel is
+          where
+            by : (b : Bool) → one_waits s e.local ≡ b → (cond b (row b fate.Handed (item_handed dst brought ∷ [])) (row true fate.Queued (item_queued dst brought ∷ []))).word ≡ word →
+                Arrives (cond b (row b fate.Handed (item_handed dst brought ∷ [])) (row true fate.Queued (item_queued dst brought ∷ []))) (message_of r dst brought ∷ []) word
+            by true waits k = handed e found brought refl word waits k
+            by false waits k = queued e found brought refl word k
+
+            at : (c : Option ChannelEnd) → (first_row (message_rows s dst e c brought)).word ≡ word → Arrives (first_row (message_rows s dst e c brought)) (message_of r dst brought ∷ []) word
+            at None k = by (one_waits s e.local) refl k
+            at (Some c) k = dropped fate.OnChannel refl (message_of r dst brought ∷ []) word k
 
     take_leads : (q : ℕ) (name : Option ℕ) (rd : Reading) (word : Fate) → (row_of s q name rd).word ≡ word → Leads q name rd word
-    take_leads q name (is_faulty w) word is = idle_leads q name (is_faulty w) word refl none_new refl
-    take_leads q name (announces text a there) word is =
-        let idle = by_names (λ cs. (taken_of s (changed_all s (frame_taken q ∷ cs)).requests ≡ []) × ((changed_all s (frame_taken q ∷ cs)).endpoints ≡ s.endpoints)) (none_new, refl) q (names_of (peer_at s q)) (endpoint_named text) a there (λ n. (found_none n a, refl)) (λ n. (none_new, refl)) in
-        idle_leads q name (announces text a there) word refl idle.0 idle.1
-    take_leads q name (says src dst l) word is = letter q name src dst (endpoint_of s dst) refl l word is
+    take_leads q name (is_faulty w) word is = idle_leads q name (is_faulty w) word refl (silent_idles q name (is_faulty w) refl)
+    take_leads q name (announces text a there) word is = idle_leads q name (announces text a there) word refl (silent_idles q name (announces text a there) refl)
+    take_leads q name (says src dst (msg priority content)) word is = letter q name src dst priority content (endpoint_of s dst) refl word is
+    take_leads q name (says src dst l) word is = idle_leads q name (says src dst l) word refl (silent_idles q name (says src dst l) refl)
 
     -- ---- calls
 
@@ -179,6 +269,10 @@ module _ (r : ℕ) (test : Message → Bool) where
     looked_up None name = added_takes s (name_of name) None serials.below
     looked_up (Some a) name = added_takes s (name_of name) (Some (has_address a)) serials.below
 
+    -- no channel
+    no_end : (e : Endpoint) → is_some e.channel ≡ false → e.channel ≡ None
+    no_end e none = not_some e.channel none
+
     -- a receive that answers takes the best
     abbrev receives : Option Endpoint → PlainAnswer → List Taking
     receives x (gives size bytes) = at_live x (λ e. map (taking None e.address) (option_to_list (best_item e)))
@@ -189,59 +283,104 @@ module _ (r : ℕ) (test : Message → Bool) where
     receives_is node port max (refuses w) = refl
     receives_is node port max agrees = refl
     receives_is node port max (tells n) = refl
+    receives_is node port max (connects n channel) = refl
     receives_is node port max (completes place res) = refl
 
-    best_taken : (e : Endpoint) (max : ℕ) (o : Option Item) → best_item e ≡ o → took r test (receives (Some e) (given max o)) ≡ best_weight r test (Some e)
-    best_taken e max None is = sym (ap (λ x. count_by test (map (message_of r e.address) (option_to_list x))) is)
-    best_taken e max (Some i) is = ap (λ x. took r test (map (taking None e.address) (option_to_list x))) is ∙ sym (ap (λ x. count_by test (map (message_of r e.address) (option_to_list x))) is)
+    -- the best of an endpoint without a channel is a message
+    best_passes : (e : Endpoint) (at : Local) → live_at s at ≡ Some e → e.channel ≡ None → count_by test (map (message_of r e.address) (option_to_list (best_item e))) ≡ best_weight r test (Some e)
+    best_passes e at found free =
+        let all : AllByRecursion IsMessage e.queue = subst (Bound s.requests e.local e.queue) free (sound_bound s order (is_at at) e found) in
+        passes-message r test e.address (option_to_list (best_item e)) (go (best_item e) refl all)
+      where
+        go : (o : Option Item) → best_item e ≡ o → AllByRecursion IsMessage e.queue → AllByRecursion IsMessage (option_to_list o)
+        go None is all = tt
+        go (Some i) is all = (all-found IsMessage (λ x. x.priority == least (λ y. y.priority) e.queue) e.queue i all (sym (best_is (λ x. x.priority) e.queue) ∙ is), tt)
 
-    received : (x : Option Endpoint) (at : Local) (max : ℕ) → live_at s at ≡ x →
+    best_taken : (e : Endpoint) (at : Local) → live_at s at ≡ Some e → e.channel ≡ None → (max : ℕ) (o : Option Item) → best_item e ≡ o → took r test (receives (Some e) (given max o)) ≡ best_weight r test (Some e)
+    best_taken e at found free max None is = sym (ap (λ x. count_by test (map (message_of r e.address) (option_to_list x))) is) ∙ best_passes e at found free
+    best_taken e at found free max (Some i) is = ap (λ x. took r test (map (taking None e.address) (option_to_list x))) is ∙ (sym (ap (λ x. count_by test (map (message_of r e.address) (option_to_list x))) is) ∙ best_passes e at found free)
+
+    received : (x : Option Endpoint) (at : Local) (max : ℕ) → live_at s at ≡ x → has_channel x ≡ false →
         let t = changed_all s (at_live x (λ e. best_gone e.address ∷ [])) in
         Balance s [] (receives x (given max (best (λ i. i.priority) (queue_in x))) ++ taken_of s t.requests) [] t.endpoints
-    received None at max found = nothing s (taken_of s s.requests) s.endpoints none_new refl
-    received (Some e) at max found =
+    received None at max found free = nothing s (taken_of s s.requests) s.endpoints none_new refl
+    received (Some e) at max found free =
         let ts : List Taking = receives (Some e) (given max (best_item e)) in
         let all : ts ++ taken_of s s.requests ≡ ts = ap (λ xs. ts ++ xs) none_new ∙ append-nil ts in
-        omega (arith, ap (took r test) all, best_taken e max (best_item e) refl, weight-best r test e.address e s.endpoints (own_end (is_at at) e found))
+        omega (arith, ap (took r test) all, best_taken e at found (no_end e free) max (best_item e) refl, weight-best r test e.address e s.endpoints (own_end (is_at at) e found))
 
     -- a request for a message takes the best
-    best_asked : (e : Endpoint) (at : Local) (max : ℕ) (o : Option Item) → live_at s at ≡ Some e → best_item e ≡ o → took r test (given_takes s (message_at e.local max) (option_map has_item o)) ≡ best_weight r test (Some e)
-    best_asked e at max None found is = sym (ap (λ x. count_by test (map (message_of r e.address) (option_to_list x))) is)
-    best_asked e at max (Some i) found is =
+    best_asked : (e : Endpoint) (at : Local) (max : ℕ) (o : Option Item) → live_at s at ≡ Some e → e.channel ≡ None → best_item e ≡ o → took r test (given_takes s (message_at e.local max) (option_map has_item o)) ≡ best_weight r test (Some e)
+    best_asked e at max None found free is = sym (ap (λ x. count_by test (map (message_of r e.address) (option_to_list x))) is) ∙ best_passes e at found free
+    best_asked e at max (Some i) found free is =
         let self : is_at e.local e ≡ true = rw (eq-eqb e.local.node e.local.node refl, eq-eqb e.local.port e.local.port refl) refl in
         ap (λ x. took r test (map (λ a. taking (Some s.requests_given) a i) (at_live x (λ k. k.address ∷ [])))) (named_end (is_at at) e.local e found self)
-        ∙ sym (ap (λ x. count_by test (map (message_of r e.address) (option_to_list x))) is)
+        ∙ (sym (ap (λ x. count_by test (map (message_of r e.address) (option_to_list x))) is) ∙ best_passes e at found free)
 
-    asked_for : (x : Option Endpoint) (at : Local) (max : ℕ) → live_at s at ≡ x →
+    asked_for : (x : Option Endpoint) (at : Local) (max : ℕ) → live_at s at ≡ x → has_channel x ≡ false →
         let t = changed_all s (at_live x (λ e. best_gone e.address ∷ request_added (message_at e.local max) (option_map has_item (best_item e)) ∷ [])) in
         Balance s [] (taken_of s t.requests) [] t.endpoints
-    asked_for None at max found = nothing s (taken_of s s.requests) s.endpoints none_new refl
-    asked_for (Some e) at max found =
+    asked_for None at max found free = nothing s (taken_of s s.requests) s.endpoints none_new refl
+    asked_for (Some e) at max found free =
         omega (
           arith,
           ap (took r test) (added_takes s (message_at e.local max) (option_map has_item (best_item e)) serials.below),
-          best_asked e at max (best_item e) found refl,
+          best_asked e at max (best_item e) found (no_end e free) refl,
           weight-best r test e.address e s.endpoints (own_end (is_at at) e found),
         )
 
-    success_leads : (node : ℕ) (call : DomainCall) →
+    -- ---- calls at the end of a channel
+
+    connected : (x : Option Endpoint) (at : Local) (peer n : ℕ) (c : ChannelEnd) → live_at s at ≡ x →
+        let t = changed_all s (at_live x (λ e. buffer_used peer ∷ channel_set e.address (Some c) ∷ request_added (channel_of n) None ∷ channel_given ∷ [])) in
+        Balance s [] (taken_of s t.requests) [] t.endpoints
+    connected None at peer n c found = nothing s (taken_of s s.requests) s.endpoints none_new refl
+    connected (Some e) at peer n c found = nothing s _ (at_address e.address (with_channel (Some c)) s.endpoints) (added_takes s (channel_of n) None serials.below) (weight-set r test e.address (Some c) s.endpoints)
+
+    idle : (cs : List Change) → Idles cs → Balance s [] (taken_of s (changed_all s cs).requests) [] (changed_all s cs).endpoints
+    idle cs idles = nothing s (taken_of s (changed_all s cs).requests) (changed_all s cs).endpoints idles.nothing_taken idles.same
+
+    closed_receiver : (at : Local) (e : Endpoint) (c : ChannelEnd) → live_at s at ≡ Some e → e.channel ≡ Some c → Idles (closing Receiver e c)
+    closed_receiver at e c found has =
+        let own_it = own_end (is_at at) e found in
+        let all : AllByRecursion OnSome e.queue = (subst (Bound s.requests e.local e.queue) has (sound_bound s order (is_at at) e found)).1.1 in
+        record { nothing_taken = ended_none (endpoint_of s e.address) ChanClosed; same = weight-dropped r test e.address (closed_end c) e s.endpoints own_it all }
+
+    closed_leads : (side : Side) (at : Local) → Idles (at_end (live_at s at) (closing side))
+    closed_leads Sender at = end_holds Idles (mild_idles [] tt) (live_at s at) (closing Sender) (λ e c found has. mild_idles (closing Sender e c) (tt, (tt, tt)))
+    closed_leads Receiver at = end_holds Idles (mild_idles [] tt) (live_at s at) (closing Receiver) (λ e c found has. closed_receiver at e c found has)
+
+    opened_leads : (at : Local) → Idles (at_end (live_at s at) (λ e c. buffer_used c.peer ∷ channel_set e.address (Some (opened_end c)) ∷ []))
+    opened_leads at = end_holds Idles (mild_idles [] tt) (live_at s at) (λ e c. buffer_used c.peer ∷ channel_set e.address (Some (opened_end c)) ∷ []) (λ e c found has. mild_idles (buffer_used c.peer ∷ channel_set e.address (Some (opened_end c)) ∷ []) (tt, (tt, tt)))
+
+    -- ---- each call
+
+    -- what a receive finds has no channel
+    free_live : (at : Local) → has_channel (endpoint_at s at) ≡ false → has_channel (live_at s at) ≡ false
+    free_live at none = sym (ap has_channel (get-position (is_at at) s.endpoints)) ∙ none
+
+    success_leads : (node : ℕ) (call : DomainCall) → AllByRecursion (λ w. holds s node call w ≡ false) (words_of call) →
         let t = changed_all s (success_changes s node call) in
         Balance s [] (answered_by s (calls node call (success s node call)) ++ taken_of s t.requests) (dropped_by r s (calls node call (success s node call))) t.endpoints
-    success_leads node (create_at port) = nothing s _ (s.endpoints ++ endpoint_with s (local node port) ∷ []) (found_none _ _) (weight-made r test (endpoint_with s (local node port)) s.endpoints refl)
-    success_leads node (delete_at port) = deleted (live_at s (local node port)) (local node port) refl
-    success_leads node (lookup_of name) = nothing s _ s.endpoints (looked_up (address_of s name) name) refl
-    success_leads node (send_from port to priority bytes) = nothing s _ s.endpoints none_new refl
-    success_leads node (receive_at port max) =
+    success_leads node (create_at port) words = nothing s _ (s.endpoints ++ endpoint_with s (local node port) ∷ []) (found_none _ _) (weight-made r test (endpoint_with s (local node port)) s.endpoints refl)
+    success_leads node (delete_at port) words = deleted (live_at s (local node port)) (local node port) refl
+    success_leads node (lookup_of name) words = nothing s _ s.endpoints (looked_up (address_of s name) name) refl
+    success_leads node (send_from port to priority bytes) words = nothing s _ s.endpoints none_new refl
+    success_leads node (receive_at port max) words =
         let at : Local = local node port in
         let t = changed_all s (success_changes s node (receive_at port max)) in
         let there : endpoint_at s at ≡ live_at s at = get-position (is_at at) s.endpoints in
         subst (λ ts. Balance s [] (ts ++ taken_of s t.requests) [] t.endpoints) (sym (receives_is node port max (given max (best (λ i. i.priority) (queue_at s at)))))
-        (subst (λ x. Balance s [] (receives (live_at s at) (given max (best (λ i. i.priority) (queue_in x))) ++ taken_of s t.requests) [] t.endpoints) (sym there) (received (live_at s at) at max refl))
-    success_leads node (request_at port max) = asked_for (live_at s (local node port)) (local node port) max refl
-    success_leads node (available_at port) = nothing s _ s.endpoints none_new refl
-    success_leads node (test_of request) = nothing s _ s.endpoints (gone_none request) refl
-    success_leads node (cancel_of request) = nothing s _ s.endpoints (gone_none request) refl
-    success_leads node turn_alone = nothing s _ s.endpoints none_new refl
+        (subst (λ x. Balance s [] (receives (live_at s at) (given max (best (λ i. i.priority) (queue_in x))) ++ taken_of s t.requests) [] t.endpoints) (sym there) (received (live_at s at) at max refl (free_live at words.1.0)))
+    success_leads node (request_at port max) words = asked_for (live_at s (local node port)) (local node port) max refl (free_live (local node port) words.1.0)
+    success_leads node (available_at port) words = nothing s _ s.endpoints none_new refl
+    success_leads node (connect_from port to kind) words = connected (live_at s (local node port)) (local node port) to.domain (s.channels_given + 1) (new_sender s to kind) refl
+    success_leads node (open_at port side kind) words = idle _ (opened_leads (local node port))
+    success_leads node (close_at port Sender) words = idle _ (closed_leads Sender (local node port))
+    success_leads node (close_at port Receiver) words = idle _ (closed_leads Receiver (local node port))
+    success_leads node (test_of request) words = nothing s _ s.endpoints (gone_none request) refl
+    success_leads node (cancel_of request) words = nothing s _ s.endpoints (gone_none request) refl
+    success_leads node turn_alone words = nothing s _ s.endpoints none_new refl
 
     refused_leads : (node : ℕ) (call : DomainCall) (w : Refusal) → Balance s [] (answered_by s (calls node call (refuses w)) ++ taken_of s s.requests) (dropped_by r s (calls node call (refuses w))) s.endpoints
     refused_leads node call w = subst (λ ts. Balance s [] (ts ++ taken_of s s.requests) (dropped_by r s (calls node call (refuses w))) s.endpoints) (sym (answers_none call))
@@ -255,13 +394,13 @@ module _ (r : ℕ) (test : Message → Bool) where
         drops_none (delete_at port) = refl
         drops_none other = refl
 
-    call_leads : (node : ℕ) (call : DomainCall) (o : Option Refusal) (a : PlainAnswer) → a ≡ answer_by o (success s node call) →
+    call_leads : (node : ℕ) (call : DomainCall) (o : Option Refusal) (a : PlainAnswer) → refusal s node call ≡ o → a ≡ answer_by o (success s node call) →
         let t = changed_all s (unless_refused o [] (success_changes s node call)) in
         Balance s [] (answered_by s (calls node call a) ++ taken_of s t.requests) (dropped_by r s (calls node call a)) t.endpoints
-    call_leads node call (Some w) a is = subst (λ k. Balance s [] (answered_by s (calls node call k) ++ taken_of s s.requests) (dropped_by r s (calls node call k)) s.endpoints) (sym is) (refused_leads node call w)
-    call_leads node call None a is =
+    call_leads node call (Some w) a why is = subst (λ k. Balance s [] (answered_by s (calls node call k) ++ taken_of s s.requests) (dropped_by r s (calls node call k)) s.endpoints) (sym is) (refused_leads node call w)
+    call_leads node call None a why is =
         let t = changed_all s (success_changes s node call) in
-        subst (λ k. Balance s [] (answered_by s (calls node call k) ++ taken_of s t.requests) (dropped_by r s (calls node call k)) t.endpoints) (sym is) (success_leads node call)
+        subst (λ k. Balance s [] (answered_by s (calls node call k) ++ taken_of s t.requests) (dropped_by r s (calls node call k)) t.endpoints) (sym is) (success_leads node call (none-passes (holds s node call) (words_of call) why))
 
     -- ---- each deed
 
@@ -270,4 +409,4 @@ module _ (r : ℕ) (test : Message → Bool) where
     deed_balanced (puts_owed q frame) may = nothing s _ s.endpoints none_new refl
     deed_balanced (looks_ahead q n) may = nothing s _ s.endpoints none_new refl
     deed_balanced (takes q name frame word) may = take_leads q name (reading frame) word may
-    deed_balanced (calls node call a) may = call_leads node call (refusal s node call) a may
+    deed_balanced (calls node call a) may = call_leads node call (refusal s node call) a refl may

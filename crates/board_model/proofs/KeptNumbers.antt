@@ -1,27 +1,30 @@
 -- On a board of linked domains the lines of the journals tell how many messages were accepted and dropped, and are in the ring.
 -- Those that were taken are the rest.
-use Rattle.std.proofs.Common.{◌≡◌, ℕ, ◌+◌, ◌-◌, ◌≤◌, List, [], ◌∷◌, length, map, sum_by, refl, sym, ap, ◌∙◌, subst, arith}
+use Rattle.std.proofs.Common.{◌≡◌, ℕ, ◌+◌, ◌-◌, ◌≤◌, List, [], ◌∷◌, length, map, filter, sum_by, refl, sym, ap, ◌∙◌, subst, arith}
 use Rattle.std.specs.Prelude.{count_by}
 use Rattle.std.specs.List.{flat_map}
 use Rattle.std.proofs.lemmas.List.{length-append, length-map}
+use Rattle.std.proofs.lemmas.List.Elements.{filter-append}
 use Rattle.board_model.specs.declared.scenario.Scenario.{Scenario}
 use Rattle.board_model.specs.Scenario.{script, neighbours}
 use Rattle.board_model.specs.LinkedBoard.{IsLinkedBoard}
 use Rattle.board_model.specs.Journal.{joined}
 use Rattle.board_model.specs.Run.{start, left_by}
-use Rattle.board_model.specs.State.{Endpoint, DomainState, queued_items}
+use Rattle.board_model.specs.State.{Item, Endpoint, DomainState, queued_items}
 use Rattle.board_model.specs.Traffic.{put_to}
 use Rattle.board_model.specs.Board.{DomainJournal, IsBoardRun}
 use Rattle.board_model.specs.JournalDeeds.{deeds_of, opened, left_in}
-use Rattle.board_model.specs.Messages.{message_of, accepted_in, accepted, queued_at, queued_in, messages_queued, messages_in_ring, carries_message}
+use Rattle.board_model.specs.Messages.{message_of, is_message_item, accepted_in, accepted, queued_at, queued_in, messages_queued, messages_in_ring, carries_message}
 use Rattle.board_model.specs.Drops.{dropped_in, dropped}
 use Rattle.board_model.specs.Takings.{messages_taken}
 use Rattle.board_model.specs.Tallies.{is_sent_line, is_brought_line, is_lost_line, deleted_in}
 use Rattle.board_model.proofs.RunDeeds.{AllAllowed, allowed-all}
 use Rattle.board_model.proofs.DeedRuns.{unnamed_item, unnamed_end}
 use Rattle.board_model.proofs.ListsCounts.{count-every}
+use Rattle.board_model.proofs.ListsMapped.{filter-mapped}
 use Rattle.board_model.proofs.MessageAlls.{all-weaken}
 use Rattle.board_model.proofs.MessageOnce.{total, total-each, total-same, length-joined}
+use Rattle.board_model.proofs.OrderLaws.{run_queues}
 use Rattle.board_model.proofs.PlaceBoards.{neighbours_differ}
 use Rattle.board_model.proofs.HonestRuns.{anything, sound_opening}
 use Rattle.board_model.proofs.HonestBoard.{OnBoard, each_on_board}
@@ -47,22 +50,25 @@ pub record NumbersTold (s : Scenario) (js : List DomainJournal) : Type 0 where
   pub drops_some : length (dropped s js) ≡ total (lost s) js
   pub in_ring : length (messages_in_ring s js) ≡ total sent js - total came js
   pub takes_rest : length (messages_taken s js) ≡ length (accepted s js) - length (dropped s js) - length (messages_queued s js) - length (messages_in_ring s js)
-  -- the messages that are queued are the items in queues
-  pub queues : length (messages_queued s js) ≡ total (λ j. length (queued_items (left_by s j.line j.entries).state)) js
+  -- the messages that are queued are the items in queues that came on no channel
+  pub queues : length (messages_queued s js) ≡ total (λ j. length (filter is_message_item (queued_items (left_by s j.line j.entries).state))) js
   -- what was brought was sent
   pub brings : total came js ≤ total sent js
 
 -- ---- what is queued
 
-queued_each : (d : ℕ) (es : List Endpoint) → length (flat_map (queued_at d) es) ≡ length (flat_map (λ e. e.queue) (map unnamed_end es))
+queued_each : (d : ℕ) (es : List Endpoint) → length (flat_map (queued_at d) es) ≡ length (filter is_message_item (flat_map (λ e. e.queue) (map unnamed_end es)))
 queued_each d [] = refl
 queued_each d (e ∷ es) =
+    let later : List Item = flat_map (λ (x : Endpoint). x.queue) (map unnamed_end es) in
     omega (
       arith,
       length-append (queued_at d e) (flat_map (queued_at d) es),
-      length-append (map unnamed_item e.queue) (flat_map (λ (x : Endpoint). x.queue) (map unnamed_end es)),
-      length-map e.queue (message_of d e.address),
-      length-map e.queue unnamed_item,
+      ap (λ (is : List Item). length is) (filter-append is_message_item (map unnamed_item e.queue) later),
+      length-append (filter is_message_item (map unnamed_item e.queue)) (filter is_message_item later),
+      ap (λ (is : List Item). length is) (filter-mapped unnamed_item is_message_item is_message_item (λ i. refl) e.queue),
+      length-map (filter is_message_item e.queue) (message_of d e.address),
+      length-map (filter is_message_item e.queue) unnamed_item,
       queued_each d es,
     )
 
@@ -89,10 +95,10 @@ module _ (s : Scenario) (js : List DomainJournal) (board : IsLinkedBoard s) (run
 
   journal_lost : (j : DomainJournal) → Placed j → length (dropped_in s j) ≡ lost s j
   journal_lost j on =
-      sym (count-every (dropped_in s j)) ∙ (lost-deeds j.line.domain (opened s j) (deeds_of s j) on.told.run.may ∙ lost-told (script s j.line.domain) [] (start s j.line) j.entries (allowed j on))
+      sym (count-every (dropped_in s j)) ∙ (lost-deeds j.line.domain (opened s j) (deeds_of s j) (run_queues j.line.domain j.line.nodes (neighbours s j.line) (deeds_of s j) on.told.run on.deeds.few) on.told.run.may ∙ lost-told (script s j.line.domain) [] (start s j.line) j.entries (allowed j on))
 
-  journal_queued : (j : DomainJournal) → Placed j → length (queued_in s j) ≡ length (queued_items (left_by s j.line j.entries).state)
-  journal_queued j on = queued_each j.line.domain (left_in s j).endpoints ∙ ap (λ (t : DomainState). length (queued_items t)) (sym on.told.state)
+  journal_queued : (j : DomainJournal) → Placed j → length (queued_in s j) ≡ length (filter is_message_item (queued_items (left_by s j.line j.entries).state))
+  journal_queued j on = queued_each j.line.domain (left_in s j).endpoints ∙ ap (λ (t : DomainState). length (filter is_message_item (queued_items t))) (sym on.told.state)
 
   each : (f g : DomainJournal → ℕ) → ((j : DomainJournal) → Placed j → f j ≡ g j) → total f js ≡ total g js
   each f g same = total-each f g js (all-weaken Placed (λ j. f j ≡ g j) same js (each_on_board s js board run))
@@ -107,6 +113,6 @@ module _ (s : Scenario) (js : List DomainJournal) (board : IsLinkedBoard s) (run
         drops_some = length-joined (dropped_in s) js ∙ each (λ j. length (dropped_in s j)) (lost s) journal_lost;
         in_ring = omega (arith, accepts, brings, parts, count-every (accepted s js), count-every (messages_in_ring s js));
         takes_rest = omega (arith, no-message-lost s js board run any, count-every (accepted s js), count-every (messages_taken s js), count-every (dropped s js), count-every (messages_queued s js), count-every (messages_in_ring s js));
-        queues = length-joined (queued_in s) js ∙ each (λ j. length (queued_in s j)) (λ j. length (queued_items (left_by s j.line j.entries).state)) journal_queued;
+        queues = length-joined (queued_in s) js ∙ each (λ j. length (queued_in s j)) (λ j. length (filter is_message_item (queued_items (left_by s j.line j.entries).state))) journal_queued;
         brings = omega (arith, accepts, brings, parts, count-every (accepted s js));
       }

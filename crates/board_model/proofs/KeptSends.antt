@@ -1,23 +1,25 @@
 -- What the frames that a domain puts say is what its sends had accepted, lane by lane: each frame of a send is read back, since the
 -- addresses that a domain has and knows are real.
-use Rattle.std.proofs.Common.{◌≡◌, ℕ, ◌+◌, ◌≤◌, ◌<◌, ◌^◌, Bool, true, false, not, cond, List, [], ◌∷◌, ◌++◌, find, length, Option, Some, None, refl, sym, ap, ◌∙◌, subst, arith}
+use Rattle.std.proofs.Common.{◌≡◌, ℕ, ◌+◌, ◌≤◌, ◌<◌, ◌^◌, Bool, true, false, not, cond, List, [], ◌∷◌, ◌++◌, find, length, map, Option, Some, None, refl, sym, ap, ◌∙◌, subst, arith}
 use Rattle.std.specs.Prelude.{count_by, is_some, option_map, unwrap_or, ◌==◌}
 use Rattle.std.specs.List.{AllByRecursion}
 use Rattle.std.proofs.lemmas.Bool.{ltb-false}
 use Rattle.std.proofs.lemmas.List.{append-nil}
 use Rattle.mc_base.specs.Limits.{creation_limit, item_size}
 use Rattle.mc_base.specs.Frame.{made}
-use Rattle.mc_base.specs.Letter.{msg, spelling}
+use Rattle.mc_base.specs.Letter.{PlainLetter, msg, spelling}
+use Rattle.mc_base.specs.declared.channel.Side.{Side}
+use Rattle.mc_base.specs.declared.channel.Side.TheVariants.{Sender, Receiver}
 use Rattle.mc_base.specs.NameMap.{Names, has_name, address_in}
 use Rattle.mc_base.specs.Reading.{says, reading}
 use Rattle.mc_base.specs.declared.name.Local.{Local}
 use Rattle.mc_base.specs.declared.name.EndName.{EndName}
 use Rattle.mc_base.specs.declared.refusal.Refusal.{Refusal}
 use Rattle.board_model.specs.LinkedBoard.{Differ}
-use Rattle.board_model.specs.DomainCall.{DomainCall, create_at, delete_at, lookup_of, send_from, receive_at, request_at, available_at, test_of, cancel_of, turn_alone}
+use Rattle.board_model.specs.DomainCall.{DomainCall, create_at, delete_at, lookup_of, send_from, receive_at, request_at, available_at, connect_from, open_at, close_at, test_of, cancel_of, turn_alone}
 use Rattle.board_model.specs.Journal.{PlainAnswer, refuses, agrees}
-use Rattle.board_model.specs.State.{Endpoint, Peer, DomainState, is_at, endpoint_at, address_at, live_at, peer_of, is_numbered}
-use Rattle.board_model.specs.Answer.{local, known_address, address_of, holds, words_of, refusal, success, answer_by, success_puts, unless_refused}
+use Rattle.board_model.specs.State.{ChannelEnd, Endpoint, Peer, DomainState, is_at, endpoint_at, address_at, live_at, peer_of, is_numbered}
+use Rattle.board_model.specs.Answer.{local, known_address, address_of, holds, words_of, refusal, success, answer_by, channel_at, over_channel, opening_letter, closing_letter, Post, put_of, success_posts, success_puts, unless_refused}
 use Rattle.board_model.specs.CallChanges.{at_live}
 use Rattle.board_model.specs.Deeds.{Deed, looks_back, puts_owed, looks_ahead, takes, calls, after_deed, after_deeds, MayDo, AllMayDo, along}
 use Rattle.board_model.specs.Messages.{Message, said_by, accepted_by}
@@ -27,6 +29,7 @@ use Rattle.board_model.proofs.MessageAlls.{none-passes, all-found}
 use Rattle.board_model.proofs.MessageLists.{get-position, some-position}
 use Rattle.board_model.proofs.MessageCanSend.{send-found}
 use Rattle.board_model.proofs.MessageOnce.{total, total-same, total-zero, total-sum}
+use Rattle.board_model.proofs.HonestFrames.{IsSilent, letter_silent}
 use Rattle.board_model.proofs.HonestReads.{letter_back}
 use Rattle.board_model.proofs.HonestSound.{own, PeerSound, Sound}
 use Rattle.board_model.proofs.HonestDeeds.{NoWord, HearsDeed, OwedWell, owed_well, sound_deed}
@@ -128,6 +131,33 @@ module _ (test : Message → Bool) (made_in : ℕ) (known : ℕ → ℕ → Type
     none_put : total (λ (n : ℕ). 0) ns ≡ 0
     none_put = total-zero (λ (n : ℕ). 0) (λ n. refl) ns
 
+    -- letters that are no messages
+    silent_posts : (d : ℕ) (ps : List Post) → AllByRecursion (λ p. IsSilent p.letter) ps → (n : ℕ) → passing test d n (frames_to n (map put_of ps)) ≡ 0
+    silent_posts d [] all n = refl
+    silent_posts d (x ∷ xs) all n =
+        passing-append test d n (frames_if (x.peer == n) ((put_of x).1 ∷ [])) (frames_to n (map put_of xs))
+        ∙ omega (arith, one_frame test (x.peer == n) d n (put_of x).1 ∙ here (x.peer == n), silent_posts d xs all.1 n)
+      where
+        here : (b : Bool) → cond b (passing test d n ((put_of x).1 ∷ [])) 0 ≡ 0
+        here true = said_alone test d n (put_of x).1 ∙ ap (count_by test) (letter_silent d n x.source x.destination x.letter all.0)
+        here false = refl
+
+    none_sent : (d : ℕ) (ps : List Post) → AllByRecursion (λ p. IsSilent p.letter) ps → total (λ n. passing test d n (frames_to n (map put_of ps))) ns ≡ 0
+    none_sent d ps all = total-zero (λ n. passing test d n (frames_to n (map put_of ps))) (silent_posts d ps all) ns
+
+    over_silent : (x : Option Endpoint) (c : Option ChannelEnd) (letter : ℕ → PlainLetter) → ((n : ℕ) → IsSilent (letter n)) → AllByRecursion (λ p. IsSilent p.letter) (over_channel x c letter)
+    over_silent None c letter silent = tt
+    over_silent (Some e) None letter silent = tt
+    over_silent (Some e) (Some c) letter silent = (silent c.number, tt)
+
+    opening_silent : (side : Side) (n : ℕ) → IsSilent (opening_letter side n)
+    opening_silent Sender n = tt
+    opening_silent Receiver n = tt
+
+    closing_silent : (side : Side) (n : ℕ) → IsSilent (closing_letter side n)
+    closing_silent Sender n = tt
+    closing_silent Receiver n = tt
+
     success_sends : (d node : ℕ) (call : DomainCall) → FitsDeed (calls node call (success s node call)) → refusal s node call ≡ None →
         total (λ n. passing test d n (frames_to n (success_puts s node call))) ns ≡ count_by test (accepted_by d s (calls node call (success s node call)))
     success_sends d node (send_from port to priority bytes) low free = send_said d node port to priority bytes low free
@@ -137,6 +167,9 @@ module _ (test : Message → Bool) (made_in : ℕ) (known : ℕ → ℕ → Type
     success_sends d node (receive_at port max) fits free = none_put
     success_sends d node (request_at port max) fits free = none_put
     success_sends d node (available_at port) fits free = none_put
+    success_sends d node (connect_from port to kind) fits free = none_sent d (success_posts s node (connect_from port to kind)) (tt, tt)
+    success_sends d node (open_at port side kind) fits free = none_sent d (success_posts s node (open_at port side kind)) (over_silent (live_at s (local node port)) (channel_at s (local node port)) (opening_letter side) (opening_silent side))
+    success_sends d node (close_at port side) fits free = none_sent d (success_posts s node (close_at port side)) (over_silent (live_at s (local node port)) (channel_at s (local node port)) (closing_letter side) (closing_silent side))
     success_sends d node (test_of request) fits free = none_put
     success_sends d node (cancel_of request) fits free = none_put
     success_sends d node turn_alone fits free = none_put

@@ -15,7 +15,8 @@ use Rattle.board_model.specs.Tallies.{is_sent_line}
 use Rattle.board_model.proofs.DeedRuns.{frames_if, frames_to, puts_by}
 use Rattle.board_model.proofs.ListsCounts.{count-cons, count-append}
 use Rattle.board_model.proofs.ListsJoined.{entry_lines}
-use Rattle.board_model.proofs.MessageCanSend.{send-found, puts-of-send}
+use Rattle.board_model.proofs.MessageAlls.{all-weaken}
+use Rattle.board_model.proofs.MessageCanSend.{HasPeer, puts-found}
 use Rattle.board_model.proofs.MessageLines.{joined-count}
 use Rattle.board_model.proofs.MessageOnce.{total, total-same, total-zero, total-sum, times}
 use Rattle.board_model.proofs.MessageVisitLines.{count-never, visit_lines_count}
@@ -49,7 +50,7 @@ module _ (made : ℕ) (ns : List ℕ) (differ : Differ ns) (q : ℕ) where
   none_by s (takes p name frame word) sound may never = refl
   none_by s (puts_owed p frame) sound may never = none_if p frame never (peer_once ns p s.peers differ sound.numbers (ap is_some may.2))
   none_by s (calls node call a) sound may never =
-      none_of (puts s node call) never (puts-of-send (λ x. IsOnce ns x.0) s node call (λ port to priority bytes free. (peer_once ns to.domain s.peers differ sound.numbers (send-found s node port to priority bytes free), tt)))
+      none_of (puts s node call) never (all-weaken (HasPeer s) (λ x. IsOnce ns x.0) (λ x found. peer_once ns x.0 s.peers differ sound.numbers found) (puts s node call) (puts-found s node call))
 
   none_along : (s : DomainState) (ds : List Deed) → AllMayDo s ds → (after_deeds s ds).endpoints_given ≤ made → Sound made anything ns s → (IsOnce ns q → ⊥) → along (puts_by q) s ds ≡ []
   none_along s [] may within sound never = refl

@@ -4,7 +4,7 @@ use Rattle.std.proofs.Common.{◌≡◌, ℕ, ◌+◌, ◌<◌, ◌^◌, List, [
 use Rattle.std.specs.Prelude.{◌==◌}
 use Rattle.std.specs.List.{AllByRecursion, flat_map}
 use Rattle.board_model.specs.declared.scenario.Call.{Call}
-use Rattle.board_model.specs.declared.scenario.Call.TheVariants.{Create, Delete, Lookup, MsgSend, MsgRecv, MsgRecvI, MsgAvailable, Test, Cancel, Turn}
+use Rattle.board_model.specs.declared.scenario.Call.TheVariants.{Create, Delete, Lookup, MsgSend, MsgRecv, MsgRecvI, MsgAvailable, Connect, OpenSend, OpenRecv, CloseSend, CloseRecv, Test, Cancel, Turn}
 use Rattle.board_model.specs.declared.scenario.CallLine.{CallLine}
 use Rattle.board_model.specs.declared.scenario.DomainLine.{DomainLine}
 use Rattle.board_model.specs.declared.scenario.Scenario.{Scenario}
@@ -86,6 +86,11 @@ fits_call labels s node (Lookup name) a fits = tt
 fits_call labels s node (MsgRecv port max) a fits = tt
 fits_call labels s node (MsgRecvI port max) a fits = tt
 fits_call labels s node (MsgAvailable port) a fits = tt
+fits_call labels s node (Connect port to kind) a fits = tt
+fits_call labels s node (OpenSend port kind) a fits = tt
+fits_call labels s node (OpenRecv port kind) a fits = tt
+fits_call labels s node (CloseSend port) a fits = tt
+fits_call labels s node (CloseRecv port) a fits = tt
 fits_call labels s node (Test label) a fits = tt
 fits_call labels s node (Cancel label) a fits = tt
 fits_call labels s node Turn a fits = tt

@@ -1,5 +1,5 @@
 -- What the lines of a journal tell of the messages that its frames bring, and of those that it drops, deed by deed.
-use Rattle.std.proofs.Common.{◌≡◌, ℕ, ◌+◌, ◌-◌, Bool, true, false, ◌&&◌, cond, List, [], ◌∷◌, ◌++◌, map, length, Option, Some, None, refl, sym, ap, ◌∙◌, subst, arith, sum_by}
+use Rattle.std.proofs.Common.{◌≡◌, ℕ, ◌+◌, ◌-◌, Bool, true, false, ◌&&◌, cond, List, [], ◌∷◌, ◌++◌, map, filter, length, Option, Some, None, refl, sym, ap, ◌∙◌, subst, arith, sum_by}
 use Rattle.std.specs.Prelude.{count_by, slice_get, ◌==◌}
 use Rattle.std.specs.List.{AllByRecursion, flat_map}
 use Rattle.std.proofs.lemmas.List.{length-map}
@@ -7,25 +7,29 @@ use Rattle.std.proofs.lemmas.List.Sums.{sum_by-cons}
 use Rattle.mc_base.specs.Reading.{reading}
 use Rattle.mc_base.specs.declared.refusal.Refusal.{Refusal}
 use Rattle.board_model.specs.declared.scenario.Call.{Call}
-use Rattle.board_model.specs.declared.scenario.Call.TheVariants.{Create, Delete, Lookup, MsgSend, MsgRecv, MsgRecvI, MsgAvailable, Test, Cancel, Turn}
+use Rattle.board_model.specs.declared.scenario.Call.TheVariants.{Create, Delete, Lookup, MsgSend, MsgRecv, MsgRecvI, MsgAvailable, Connect, OpenSend, OpenRecv, CloseSend, CloseRecv, Test, Cancel, Turn}
 use Rattle.board_model.specs.declared.scenario.CallLine.{CallLine}
-use Rattle.board_model.specs.Journal.{PlainEntry, turned, put, again, called, PlainAnswer, refuses, agrees, tells, gives, completes, Visit, Taken, Line, turn_line, back_line, put_line, see_line, call_line, taken_line, looked, visit_lines, joined}
-use Rattle.board_model.specs.State.{DomainState, Endpoint, is_at, live_at, queue_in, queue_at}
+use Rattle.board_model.specs.Journal.{PlainEntry, turned, put, again, called, PlainAnswer, refuses, agrees, tells, connects, gives, completes, Visit, Taken, Line, turn_line, back_line, put_line, see_line, call_line, taken_line, looked, visit_lines, joined}
+use Rattle.board_model.specs.State.{Item, DomainState, Endpoint, is_at, live_at, endpoint_at, queue_in, queue_at}
 use Rattle.board_model.specs.Labels.{Labelled, call_of}
-use Rattle.board_model.specs.DomainCall.{DomainCall, create_at, delete_at, lookup_of, send_from, receive_at, request_at, available_at, test_of, cancel_of, turn_alone}
-use Rattle.board_model.specs.Answer.{local, refusal, answer_by}
+use Rattle.mc_base.specs.declared.name.Local.{Local}
+use Rattle.board_model.specs.DomainCall.{DomainCall, create_at, delete_at, lookup_of, send_from, receive_at, request_at, available_at, connect_from, open_at, close_at, test_of, cancel_of, turn_alone}
+use Rattle.board_model.specs.Answer.{local, has_channel, holds, words_of, refusal, answer_by}
 use Rattle.board_model.specs.Step.{RunState, Allowed, next_line, call_at, after}
 use Rattle.board_model.specs.CallChanges.{at_live}
 use Rattle.board_model.specs.Deeds.{Deed, looks_back, puts_owed, looks_ahead, takes, calls, after_deed, MayDo, AllMayDo, along}
 use Rattle.board_model.specs.Turn.{takes_named}
 use Rattle.board_model.specs.JournalDeeds.{names_from, named_deeds, call_deeds, entry_deeds, deeds_along}
 use Rattle.board_model.specs.Traffic.{taken_from}
-use Rattle.board_model.specs.Messages.{Message, said_by, carries_message, message_of, queued_at}
+use Rattle.board_model.specs.Messages.{Message, said_by, carries_message, message_of, is_message_item, queued_at}
 use Rattle.board_model.specs.Drops.{drops, dropped_by}
 use Rattle.board_model.specs.Tallies.{is_brought_line, is_lost_line, is_delete, deletes_line, number_told, deleted_in}
 use Rattle.board_model.proofs.ListsCounts.{one_if, count-cons, count-append, count-every}
 use Rattle.board_model.proofs.ListsJoined.{entry_lines, sum-joined}
-use Rattle.board_model.proofs.MessageAlls.{all-append}
+use Rattle.board_model.proofs.MessageAlls.{none-passes, all-append}
+use Rattle.board_model.proofs.OrderSound.{Sound as Queues, Bound, IsMessage, sound_bound}
+use Rattle.board_model.proofs.OrderLaws.{AllQueues}
+use Rattle.board_model.proofs.HonestDeeds.{not_some}
 use Rattle.board_model.proofs.MessageLines.{joined-count}
 use Rattle.board_model.proofs.MessageLists.{get-position}
 use Rattle.board_model.proofs.MessageOnce.{total, total-append}
@@ -60,38 +64,50 @@ lost_if : (b c : Bool) (ms : List Message) → count_by any ms ≡ one_if c → 
 lost_if true c ms is = is
 lost_if false c ms is = refl
 
-deleted_length : (d : ℕ) (x : Option Endpoint) → count_by any (at_live x (queued_at d)) ≡ length (queue_in x)
-deleted_length d None = refl
-deleted_length d (Some e) = count-every (queued_at d e) ∙ length-map e.queue (message_of d e.address)
+-- what is queued at an endpoint without a channel
+deleted_length : (d : ℕ) (s : DomainState) → Queues s → (at : Local) (x : Option Endpoint) → live_at s at ≡ x → has_channel x ≡ false → count_by any (at_live x (queued_at d)) ≡ length (queue_in x)
+deleted_length d s order at None found free = refl
+deleted_length d s order at (Some e) found free =
+    let all : AllByRecursion IsMessage e.queue = subst (Bound s.requests e.local e.queue) (not_some e.channel free) (sound_bound s order (is_at at) e found) in
+    count-every (queued_at d e) ∙ (length-map (filter is_message_item e.queue) (message_of d e.address) ∙ ap length (all_messages e.queue all))
+  where
+    all_messages : (q : List Item) → AllByRecursion IsMessage q → filter is_message_item q ≡ q
+    all_messages [] all = refl
+    all_messages (i ∷ q) all = let is : is_message_item i ≡ true = all.0 in rw is (ap (λ xs. i ∷ xs) (all_messages q all.1))
 
-delete_lost : (d : ℕ) (s : DomainState) (node port : ℕ) (a : PlainAnswer) (o : Option Refusal) → a ≡ answer_by o (tells (length (queue_at s (local node port)))) → count_by any (dropped_by d s (calls node (delete_at port) a)) ≡ lost_deed (calls node (delete_at port) a)
-delete_lost d s node port a (Some w) is = subst (λ k. count_by any (dropped_by d s (calls node (delete_at port) k)) ≡ lost_deed (calls node (delete_at port) k)) (sym is) refl
-delete_lost d s node port a None is =
+delete_lost : (d : ℕ) (s : DomainState) → Queues s → (node port : ℕ) (a : PlainAnswer) (o : Option Refusal) → refusal s node (delete_at port) ≡ o → a ≡ answer_by o (tells (length (queue_at s (local node port)))) → count_by any (dropped_by d s (calls node (delete_at port) a)) ≡ lost_deed (calls node (delete_at port) a)
+delete_lost d s order node port a (Some w) why is = subst (λ k. count_by any (dropped_by d s (calls node (delete_at port) k)) ≡ lost_deed (calls node (delete_at port) k)) (sym is) refl
+delete_lost d s order node port a None why is =
+    let there : endpoint_at s (local node port) ≡ live_at s (local node port) = get-position (is_at (local node port)) s.endpoints in
+    let free : has_channel (live_at s (local node port)) ≡ false = sym (ap has_channel there) ∙ (none-passes (holds s node (delete_at port)) (words_of (delete_at port)) why).1.0 in
     subst (λ k. count_by any (dropped_by d s (calls node (delete_at port) k)) ≡ lost_deed (calls node (delete_at port) k)) (sym is)
-    (deleted_length d (live_at s (local node port)) ∙ ap (λ x. length (queue_in x)) (sym (get-position (is_at (local node port)) s.endpoints)))
+    (deleted_length d s order (local node port) (live_at s (local node port)) refl free ∙ ap (λ x. length (queue_in x)) (sym there))
 
-call_lost : (d : ℕ) (s : DomainState) (node : ℕ) (call : DomainCall) (a : PlainAnswer) → MayDo s (calls node call a) → count_by any (dropped_by d s (calls node call a)) ≡ lost_deed (calls node call a)
-call_lost d s node (delete_at port) a may = delete_lost d s node port a (refusal s node (delete_at port)) may
-call_lost d s node (create_at port) a may = refl
-call_lost d s node (lookup_of name) a may = refl
-call_lost d s node (send_from port to priority bytes) a may = refl
-call_lost d s node (receive_at port max) a may = refl
-call_lost d s node (request_at port max) a may = refl
-call_lost d s node (available_at port) a may = refl
-call_lost d s node (test_of request) a may = refl
-call_lost d s node (cancel_of request) a may = refl
-call_lost d s node turn_alone a may = refl
+call_lost : (d : ℕ) (s : DomainState) (node : ℕ) (call : DomainCall) (a : PlainAnswer) → Queues s → MayDo s (calls node call a) → count_by any (dropped_by d s (calls node call a)) ≡ lost_deed (calls node call a)
+call_lost d s node (delete_at port) a order may = delete_lost d s order node port a (refusal s node (delete_at port)) refl may
+call_lost d s node (create_at port) a order may = refl
+call_lost d s node (lookup_of name) a order may = refl
+call_lost d s node (send_from port to priority bytes) a order may = refl
+call_lost d s node (receive_at port max) a order may = refl
+call_lost d s node (request_at port max) a order may = refl
+call_lost d s node (available_at port) a order may = refl
+call_lost d s node (connect_from port to kind) a order may = refl
+call_lost d s node (open_at port side kind) a order may = refl
+call_lost d s node (close_at port side) a order may = refl
+call_lost d s node (test_of request) a order may = refl
+call_lost d s node (cancel_of request) a order may = refl
+call_lost d s node turn_alone a order may = refl
 
-deed_lost : (d : ℕ) (s : DomainState) (e : Deed) → MayDo s e → count_by any (dropped_by d s e) ≡ lost_deed e
-deed_lost d s (takes q name frame word) may = lost_if (drops word) (carries_message frame) (said_by q d (reading frame)) (said_bytes q d frame)
-deed_lost d s (calls node call a) may = call_lost d s node call a may
-deed_lost d s (looks_back q n) may = refl
-deed_lost d s (puts_owed q f) may = refl
-deed_lost d s (looks_ahead q n) may = refl
+deed_lost : (d : ℕ) (s : DomainState) (e : Deed) → Queues s → MayDo s e → count_by any (dropped_by d s e) ≡ lost_deed e
+deed_lost d s (takes q name frame word) order may = lost_if (drops word) (carries_message frame) (said_by q d (reading frame)) (said_bytes q d frame)
+deed_lost d s (calls node call a) order may = call_lost d s node call a order may
+deed_lost d s (looks_back q n) order may = refl
+deed_lost d s (puts_owed q f) order may = refl
+deed_lost d s (looks_ahead q n) order may = refl
 
-pub lost-deeds : (d : ℕ) (s : DomainState) (ds : List Deed) → AllMayDo s ds → count_by any (along (dropped_by d) s ds) ≡ total lost_deed ds
-lost-deeds d s [] may = refl
-lost-deeds d s (e ∷ ds) may = omega (arith, count-append any (dropped_by d s e) (along (dropped_by d) (after_deed s e) ds), deed_lost d s e may.0, lost-deeds d (after_deed s e) ds may.1)
+pub lost-deeds : (d : ℕ) (s : DomainState) (ds : List Deed) → AllQueues s ds → AllMayDo s ds → count_by any (along (dropped_by d) s ds) ≡ total lost_deed ds
+lost-deeds d s [] order may = refl
+lost-deeds d s (e ∷ ds) order may = omega (arith, count-append any (dropped_by d s e) (along (dropped_by d) (after_deed s e) ds), deed_lost d s e order.0 may.0, lost-deeds d (after_deed s e) ds order.1 may.1)
 
 -- ---- the lines of a turn, where those of frames taken alone are counted
 
@@ -170,6 +186,7 @@ deleted_by lines other = 0
 
 told_or_none : (node port : ℕ) (a : PlainAnswer) → lost_deed (calls node (delete_at port) a) ≡ number_told a
 told_or_none node port (tells n) = refl
+told_or_none node port (connects n channel) = refl
 told_or_none node port (refuses w) = refl
 told_or_none node port agrees = refl
 told_or_none node port (gives size bytes) = refl
@@ -183,6 +200,11 @@ line_lost labels s node (MsgSend port to priority bytes) a = refl
 line_lost labels s node (MsgRecv port max) a = refl
 line_lost labels s node (MsgRecvI port max) a = refl
 line_lost labels s node (MsgAvailable port) a = refl
+line_lost labels s node (Connect port to kind) a = refl
+line_lost labels s node (OpenSend port kind) a = refl
+line_lost labels s node (OpenRecv port kind) a = refl
+line_lost labels s node (CloseSend port) a = refl
+line_lost labels s node (CloseRecv port) a = refl
 line_lost labels s node (Test label) a = refl
 line_lost labels s node (Cancel label) a = refl
 line_lost labels s node Turn a = refl

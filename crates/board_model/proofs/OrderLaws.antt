@@ -21,7 +21,7 @@ use Rattle.board_model.proofs.DeedRuns.{IsNamed, AreNamed, IsDeedRun}
 use Rattle.board_model.proofs.OrderCalls.{succeeds, live_found, free_here, none_holds}
 use Rattle.board_model.proofs.OrderQueues.{messages_at, messages_of}
 use Rattle.board_model.proofs.OrderDeeds.{Takes}
-use Rattle.board_model.proofs.OrderSound.{sound_own}
+use Rattle.board_model.proofs.OrderSound.{Sound, sound_own}
 use Rattle.board_model.proofs.OrderTakings.{all_old, none_taken}
 use Rattle.board_model.proofs.OrderStands.{Stands, stands_more, given_few, after_append, all_done, done_same, taken_after}
 use Rattle.board_model.proofs.OrderCancels.{cancels_done, test_tells}
@@ -155,6 +155,21 @@ module _ (number nodes : ℕ) (neighbours : List Neighbour) (ds : List Deed) (ru
 
   pub run_tests_tell : EachDeed (TestTells (opening number nodes neighbours)) [] ds
   run_tests_tell = each_deed (opening number nodes neighbours) (TestTells (opening number nodes neighbours)) (test_tells_taken (opening number nodes neighbours)) (all_succeed ds + 1) [] ds (stands_open (all_succeed ds + 1) number nodes neighbours few) run.may run.named (omega arith)
+
+-- ---- at each moment
+
+abbrev pub AllQueues : DomainState → List Deed → Type 0
+AllQueues s [] = Unit {0}
+AllQueues s (d ∷ ds) = Sound s × AllQueues (after_deed s d) ds
+
+all_queues : (start : DomainState) (before ds : List Deed) → EachDeed (λ b d. Sound (after_deeds start b)) before ds → AllQueues (after_deeds start before) ds
+all_queues start before [] each = tt
+all_queues start before (d ∷ ds) each = (each.0, subst (λ t. AllQueues t ds) (after_append start before (d ∷ [])) (all_queues start (before ++ d ∷ []) ds each.1))
+
+-- what is queued is as it must be
+module _ (number nodes : ℕ) (neighbours : List Neighbour) (ds : List Deed) (run : IsDeedRun (opening number nodes neighbours) ds) (few : all_succeed ds + 1 < 2 ^ 64) where
+  pub run_queues : AllQueues (opening number nodes neighbours) ds
+  run_queues = all_queues (opening number nodes neighbours) [] ds (each_deed (opening number nodes neighbours) (λ b d. Sound (after_deeds (opening number nodes neighbours) b)) (λ room b d stands may named less. stands.moment.sound) (all_succeed ds + 1) [] ds (stands_open (all_succeed ds + 1) number nodes neighbours few) run.may run.named (omega arith))
 
 -- ---- a cancel
 
