@@ -1,6 +1,6 @@
 -- Each deed keeps what holds of a domain, and what a deed puts is honest, whatever the domain takes.
 use Rattle.std.proofs.Common.{◌≡◌, ℕ, ◌+◌, ◌≤◌, ◌<◌, Bool, true, false, not, ◌&&◌, cond, List, [], ◌∷◌, map, length, Option, Some, None, refl, sym, ◌∙◌, subst, arith}
-use Rattle.std.specs.Prelude.{find, ◌==◌, nat_lt, nat_le, is_some}
+use Rattle.std.specs.Prelude.{find, ◌==◌, nat_lt, is_some, option_map, unwrap_or}
 use Rattle.std.specs.List.{AllByRecursion}
 use Rattle.std.proofs.lemmas.Bool.{cond_both, leb-false, eqb-true}
 use Rattle.mc_base.specs.Limits.{creation_limit}
@@ -11,21 +11,23 @@ use Rattle.mc_base.specs.declared.channel.Side.{Side}
 use Rattle.mc_base.specs.declared.channel.Side.TheVariants.{Sender, Receiver}
 use Rattle.mc_base.specs.declared.name.EndName.{EndName}
 use Rattle.mc_base.specs.declared.refusal.Refusal.{Refusal}
+use Rattle.mc_base.specs.declared.name.Local.{Local}
 use Rattle.board_model.specs.Honesty.{IsMade}
 use Rattle.board_model.specs.DomainCall.{DomainCall, create_at, delete_at, lookup_of, send_from, receive_at, request_at, available_at, connect_from, open_at, close_at, test_of, cancel_of, turn_alone}
-use Rattle.board_model.specs.State.{ChannelEnd, Endpoint, Announcement, Reply, Peer, DomainState, is_at, live_at, peer_at, is_numbered, announcing, letter_by, replying, owed_to}
+use Rattle.board_model.specs.State.{ChannelEnd, Endpoint, Announcement, Reply, Peer, DomainState, is_at, live_at, place_at, address_at, peer_at, is_numbered, announcing, replying, owed_to}
 use Rattle.board_model.specs.Change.{Change, item_queued, item_handed, names_known, name_found, changed_all}
 use Rattle.board_model.specs.TakenFrames.{Row, names_of, rejecting, accepting, acting, item_of, row_of}
 use Rattle.board_model.specs.Messages.{said_by}
-use Rattle.board_model.specs.Answer.{local, holds, words_of, refusal, unless_refused, Post, put_of, success_posts, success_puts, puts}
-use Rattle.board_model.specs.CallChanges.{at_live, at_channel, at_end, closing, success_changes}
+use Rattle.board_model.specs.Answer.{local, holds, words_of, refusal, unless_refused, channel_at, channel_limit, over_channel, opening_letter, closing_letter, Post, put_of, success_posts, success_puts, puts}
+use Rattle.board_model.specs.CallChanges.{at_live, closing, success_changes}
 use Rattle.board_model.specs.Deeds.{Deed, looks_back, puts_owed, looks_ahead, takes, calls, happens_by, after_deed, MayDo}
 use Rattle.board_model.proofs.DeedRuns.{frames_if, frames_to, puts_by}
 use Rattle.board_model.proofs.ListsApart.{all-map}
 use Rattle.board_model.proofs.MessageAlls.{none-passes, all-append, all-filter, all-found, all-weaken, found-passes}
-use Rattle.board_model.proofs.MessageLists.{some-position}
+use Rattle.board_model.proofs.MessageLists.{get-position, some-position}
 use Rattle.board_model.proofs.LaneRows.{Deals, stays, learns, forgets, hands, queues, rejects, accepts, acts, row-deals}
-use Rattle.board_model.proofs.HonestFrames.{Honest, letter_honest, announcing_honest, announcing_silent, replying_silent}
+use Rattle.board_model.proofs.StateEnds.{there_is, end-holds}
+use Rattle.board_model.proofs.HonestFrames.{HonestLetter, Honest, letter_honest, announcing_honest, announcing_silent, replying_replies, reply_honest, reply_silent}
 use Rattle.board_model.proofs.HonestSound.{own, PeerSound, Sound, FitAll, given_changes, sound_changes}
 
 peer_number : (q : ℕ) (ps : List Peer) (p : Peer) → find (is_numbered q) ps ≡ Some p → q ≡ p.number
@@ -45,15 +47,6 @@ HearsDeed known other = Unit {0}
 pub live_holds : {A : Type 0} (P : List A → Type 0) → P [] → (x : Option Endpoint) (f : Endpoint → List A) → ((e : Endpoint) → x ≡ Some e → P (f e)) → P (at_live x f)
 live_holds P none None f each = none
 live_holds P none (Some e) f each = each e refl
-
--- and its channel
-pub end_holds : {A : Type 0} (P : List A → Type 0) → P [] → (x : Option Endpoint) (f : Endpoint → ChannelEnd → List A) → ((e : Endpoint) (c : ChannelEnd) → x ≡ Some e → e.channel ≡ Some c → P (f e c)) → P (at_end x f)
-end_holds P none None f each = none
-end_holds P none (Some e) f each = go e.channel refl
-  where
-    go : (c : Option ChannelEnd) → e.channel ≡ c → P (at_channel c (f e))
-    go None is = none
-    go (Some c) is = each e c refl is
 
 pub not_some : {A : Type 0} (x : Option A) → is_some x ≡ false → x ≡ None
 not_some None is = refl
@@ -132,8 +125,8 @@ module _ (made : ℕ) (known : ℕ → ℕ → Type 0) (ns : List ℕ) where
     success_fits node (request_at port max) no_word within = live_holds (FitAll made known ns s) tt (live_at s (local node port)) _ (λ e is. (tt, (tt, tt)))
     success_fits node (available_at port) no_word within = tt
     success_fits node (connect_from port to kind) no_word within = live_holds (FitAll made known ns s) tt (live_at s (local node port)) _ (λ e is. (tt, (tt, (tt, (tt, tt)))))
-    success_fits node (open_at port side kind) no_word within = end_holds (FitAll made known ns s) tt (live_at s (local node port)) _ (λ e c is has. (tt, (tt, tt)))
-    success_fits node (close_at port side) no_word within = end_holds (FitAll made known ns s) tt (live_at s (local node port)) (closing side) (λ e c is has. closes_fit side e c)
+    success_fits node (open_at port side kind) no_word within = end-holds (FitAll made known ns s) tt (live_at s (local node port)) _ (λ e c is has. (tt, (tt, tt)))
+    success_fits node (close_at port side) no_word within = end-holds (FitAll made known ns s) tt (live_at s (local node port)) (closing side) (λ e c is has. closes_fit side e c)
       where
         closes_fit : (side : Side) (e : Endpoint) (c : ChannelEnd) → FitAll made known ns s (closing side e c)
         closes_fit Sender e c = (tt, (tt, tt))
@@ -177,26 +170,54 @@ module _ (made : ℕ) (known : ℕ → ℕ → Type 0) (ns : List ℕ) where
     pub owed_well : (q : ℕ) (frame : List ℕ) → made ≤ creation_limit → MayDo s (puts_owed q frame) → OwedWell frame
     owed_well q frame few may = first (owed_to s.number may.0) may.3 (owed_holds OwedWell
         (λ a is. record { honest = announcing_honest made s.number a few is; silent = λ sender receiver. announcing_silent sender receiver s.number a })
-        (λ r. record { honest = letter_honest made r.source r.destination (letter_by r.channel r.reason); silent = λ sender receiver. replying_silent sender receiver r }) q may.0 may.2)
+        (λ r. record { honest = reply_honest made (reading (replying r)) (replying_replies r); silent = λ sender receiver. reply_silent sender receiver (reading (replying r)) (replying_replies r) }) q may.0 may.2)
       where
         first : (fs : List (List ℕ)) → fs ≡ frame ∷ may.1 → AllByRecursion OwedWell fs → OwedWell frame
         first [] e all = absurd cc
         first (f ∷ fs) e all = let same : f ≡ frame = cc in subst OwedWell same all.0
 
-    pub deed_honest : (q : ℕ) (d : Deed) → made ≤ creation_limit → MayDo s d → AllByRecursion (λ f. Honest made (reading f)) (puts_by q s d)
-    deed_honest q (looks_back p n) few may = tt
-    deed_honest q (looks_ahead p n) few may = tt
-    deed_honest q (takes p name frame word) few may = tt
-    deed_honest q (puts_owed p frame) few may = cond_both (p == q) (frame ∷ []) [] (AllByRecursion (λ f. Honest made (reading f))) (λ k. ((owed_well p frame few may).honest, tt)) (λ k. tt)
-    deed_honest q (calls node call a) few may = to_one (puts s node call) (by (refusal s node call))
-      where
-        all_honest : (ps : List Post) → AllByRecursion (λ (x : ℕ × List ℕ). Honest made (reading x.1)) (map put_of ps)
-        all_honest [] = tt
-        all_honest (x ∷ xs) = (letter_honest made x.source x.destination x.letter, all_honest xs)
+    -- a letter that a call posts
+    over_honest : (x : Option Endpoint) (c : Option ChannelEnd) (letter : ℕ → PlainLetter) → ((src n : ℕ) → HonestLetter made src (letter n)) → AllByRecursion (λ p. HonestLetter made p.source p.letter) (over_channel x c letter)
+    over_honest None c letter each = tt
+    over_honest (Some e) None letter each = tt
+    over_honest (Some e) (Some c) letter each = (each e.address c.number, tt)
 
-        by : (o : Option Refusal) → AllByRecursion (λ (x : ℕ × List ℕ). Honest made (reading x.1)) (unless_refused o [] (success_puts s node call))
-        by None = all_honest (success_posts s node call)
-        by (Some w) = tt
+    opening_honest : (side : Side) (src n : ℕ) → HonestLetter made src (opening_letter side n)
+    opening_honest Sender src n = tt
+    opening_honest Receiver src n = tt
+
+    closing_honest : (side : Side) (src n : ℕ) → HonestLetter made src (closing_letter side n)
+    closing_honest Sender src n = tt
+    closing_honest Receiver src n = tt
+
+    own_address : (at : Local) → s.endpoints_given ≤ made → not (is_some (place_at s at)) ≡ false → IsMade made (unwrap_or (address_at s at) 0)
+    own_address at within there =
+        let e = there_is s at there in
+        subst (λ o. IsMade made (unwrap_or (option_map (λ (k : Endpoint). k.address) o) 0)) (sym (get-position (is_at at) s.endpoints ∙ e.1)) (own_made (is_at at) e.0 within e.1)
+
+    posts_honest : (node : ℕ) (call : DomainCall) → NoWord s node call → s.endpoints_given ≤ made → AllByRecursion (λ p. HonestLetter made p.source p.letter) (success_posts s node call)
+    posts_honest node (send_from port to priority bytes) no_word within = (tt, tt)
+    posts_honest node (connect_from port to kind) no_word within =
+        let less : s.channels_given < 65535 = leb-false channel_limit s.channels_given no_word.1.1.1.1.0 in
+        ((own_address (local node port) within no_word.0, (omega arith, omega arith)), tt)
+    posts_honest node (open_at port side kind) no_word within = over_honest (live_at s (local node port)) (channel_at s (local node port)) (opening_letter side) (opening_honest side)
+    posts_honest node (close_at port side) no_word within = over_honest (live_at s (local node port)) (channel_at s (local node port)) (closing_letter side) (closing_honest side)
+    posts_honest node other no_word within = tt
+
+    pub deed_honest : (q : ℕ) (d : Deed) → made ≤ creation_limit → s.endpoints_given ≤ made → MayDo s d → AllByRecursion (λ f. Honest made (reading f)) (puts_by q s d)
+    deed_honest q (looks_back p n) few within may = tt
+    deed_honest q (looks_ahead p n) few within may = tt
+    deed_honest q (takes p name frame word) few within may = tt
+    deed_honest q (puts_owed p frame) few within may = cond_both (p == q) (frame ∷ []) [] (AllByRecursion (λ f. Honest made (reading f))) (λ k. ((owed_well p frame few may).honest, tt)) (λ k. tt)
+    deed_honest q (calls node call a) few within may = to_one (puts s node call) (by (refusal s node call) refl)
+      where
+        all_honest : (ps : List Post) → AllByRecursion (λ p. HonestLetter made p.source p.letter) ps → AllByRecursion (λ (x : ℕ × List ℕ). Honest made (reading x.1)) (map put_of ps)
+        all_honest [] all = tt
+        all_honest (x ∷ xs) all = (letter_honest made x.source x.destination x.letter few all.0, all_honest xs all.1)
+
+        by : (o : Option Refusal) → refusal s node call ≡ o → AllByRecursion (λ (x : ℕ × List ℕ). Honest made (reading x.1)) (unless_refused o [] (success_puts s node call))
+        by None why = all_honest (success_posts s node call) (posts_honest node call (none-passes (holds s node call) (words_of call) why) within)
+        by (Some w) why = tt
 
         to_one : (xs : List (ℕ × List ℕ)) → AllByRecursion (λ (x : ℕ × List ℕ). Honest made (reading x.1)) xs → AllByRecursion (λ f. Honest made (reading f)) (frames_to q xs)
         to_one [] all = tt

@@ -14,7 +14,7 @@ use Rattle.mc_base.specs.Limits.{buffer_size, frame_header_size, name_service_ad
 use Rattle.mc_base.specs.FaultRow.{FaultRow, first, first_fault, widened}
 use Rattle.mc_base.specs.Frame.{made, source_of, destination_of, payload_of}
 use Rattle.mc_base.specs.FullName.{end_name, full_name}
-use Rattle.mc_base.specs.Letter.{PlainLetter, msg, connect, accept, reject, recv_open, send_open, packet, scalar, send_close, recv_close, spelling, Fields, fields, fields_of, spelled}
+use Rattle.mc_base.specs.Letter.{PlainLetter, msg, connect, accept, reject, recv_open, send_open, packet, scalar, send_close, recv_close, spelling, Fields, fields, fields_of, spelled, IsChannel}
 use Rattle.mc_base.specs.LetterFaults.{letter_faults, fields_in}
 use Rattle.mc_base.specs.Announcement.{announcement, announcement_faults, flags_of, is_name, name_in}
 use Rattle.mc_base.specs.Fault.{faults, fault}
@@ -162,11 +162,17 @@ module _ (d : ℕ) (a : Announcement) where
     | inr long ↦ subst (λ x. Tells a.address (reading_by x frame)) (sym (too_long a.address name_service_address payload (leb-false (length payload) 496 long))) (tells_faulty _)
   ]
 
--- ---- what is put is honest: an announcement has an address of an endpoint of the domain
+-- ---- what is put is honest: an announcement has an address of an endpoint of the domain, and a Connect comes from one, with the
+-- number of a channel
+
+abbrev pub HonestLetter : ℕ → ℕ → PlainLetter → Type 0
+HonestLetter endpoints src (connect m kind) = IsMade endpoints src × IsChannel m
+HonestLetter endpoints src other = Unit {0}
 
 abbrev pub Honest : ℕ → Reading → Type 0
+Honest endpoints (is_faulty w) = Unit {0}
 Honest endpoints (announces text a create) = IsMade endpoints a
-Honest endpoints other = Unit {0}
+Honest endpoints (says src dst l) = HonestLetter endpoints src l
 
 first_version : (l : PlainLetter) → (fields_of l).version ≡ 1
 first_version (msg priority bytes) = refl
@@ -180,22 +186,27 @@ first_version (scalar m bits value) = refl
 first_version (send_close m) = refl
 first_version (recv_close m) = refl
 
-pub letter_honest : (endpoints a b : ℕ) (l : PlainLetter) → Honest endpoints (reading (made a b (spelling l)))
-letter_honest endpoints a b l = go (reading (made a b (spelling l))) (reads_made a b (fields_of l) (first_version l))
+small_made : (endpoints a : ℕ) → endpoints ≤ creation_limit → IsMade endpoints a → a < 2 ^ 32
+small_made endpoints a few is = let below : a < 1024 + endpoints = is.below in omega arith
+
+pub letter_honest : (endpoints a b : ℕ) (l : PlainLetter) → endpoints ≤ creation_limit → HonestLetter endpoints a l → Honest endpoints (reading (made a b (spelling l)))
+letter_honest endpoints a b l few is = go (reading (made a b (spelling l))) (reads_made a b (fields_of l) (first_version l))
   where
+    fields_honest : (k : PlainLetter) → HonestLetter endpoints a k → (s m : ℕ) → (a < 2 ^ 32 → s ≡ a) → ((fields_of k).channel < 2 ^ 32 → m ≡ (fields_of k).channel) →
+        HonestLetter endpoints s (letter_of (fields (fields_of k).version (fields_of k).kind (fields_of k).argument m (fields_of k).content))
+    fields_honest (connect n kind) k s m from number = (subst (IsMade endpoints) (sym (from (small_made endpoints a few k.0))) k.0, subst IsChannel (sym (number k.1.1)) k.1)
+    fields_honest other k s m from number = tt
+
     go : (r : Reading) → MadeReads a (fields_of l) r → Honest endpoints r
     go r (made_faulty w) = tt
-    go r (made_letter s d j from number) = tt
+    go r (made_letter s d m from number) = fields_honest l is s m from number
 
 pub announcing_honest : (endpoints d : ℕ) (a : Announcement) → endpoints ≤ creation_limit → IsMade endpoints a.address → Honest endpoints (reading (announcing d a))
 announcing_honest endpoints d a few is = go (reading (announcing d a)) (tells_made d a)
   where
-    small : a.address < 2 ^ 32
-    small = let below : a.address < 1024 + endpoints = is.below in omega arith
-
     go : (r : Reading) → Tells a.address r → Honest endpoints r
     go r (tells_faulty w) = tt
-    go r (tells_name bytes m create same) = subst (IsMade endpoints) (sym (same small)) is
+    go r (tells_name bytes m create same) = subst (IsMade endpoints) (sym (same (small_made endpoints a.address few is))) is
 
 -- it is no message
 pub announcing_silent : (sender receiver d : ℕ) (a : Announcement) → said_by sender receiver (reading (announcing d a)) ≡ []
@@ -221,10 +232,35 @@ letter_silent sender receiver a b l silent = go (reading (made a b (spelling l))
     go r (made_faulty w) = refl
     go r (made_letter s d m from number) = fields_silent l silent s d m
 
--- a reply says no message
-pub replying_silent : (sender receiver : ℕ) (r : Reply) → said_by sender receiver (reading (replying r)) ≡ []
-replying_silent sender receiver r = letter_silent sender receiver r.source r.destination (letter_by r.channel r.reason) (go r.reason)
+-- ---- a reply is read as one, or has a fault
+
+abbrev pub IsReply : Reading → Type 0
+IsReply (is_faulty w) = Unit {0}
+IsReply (says src dst (accept m)) = Unit {0}
+IsReply (says src dst (reject m why)) = Unit {0}
+IsReply other = ⊥
+
+pub replying_replies : (r : Reply) → IsReply (reading (replying r))
+replying_replies r = go r.reason
   where
-    go : (o : Option Reason) → IsSilent (letter_by r.channel o)
-    go None = tt
-    go (Some why) = tt
+    by : (o : Option Reason) (x : Reading) → MadeReads r.source (fields_of (letter_by r.channel o)) x → IsReply x
+    by o x (made_faulty w) = tt
+    by None x (made_letter s d m from number) = tt
+    by (Some why) x (made_letter s d m from number) = tt
+
+    go : (o : Option Reason) → IsReply (reading (made r.source r.destination (spelling (letter_by r.channel o))))
+    go o = by o (reading (made r.source r.destination (spelling (letter_by r.channel o)))) (reads_made r.source r.destination (fields_of (letter_by r.channel o)) (first_version (letter_by r.channel o)))
+
+pub reply_honest : (endpoints : ℕ) (r : Reading) → IsReply r → Honest endpoints r
+reply_honest endpoints (is_faulty w) is = tt
+reply_honest endpoints (announces text a create) is = absurd is
+reply_honest endpoints (says src dst (accept m)) is = tt
+reply_honest endpoints (says src dst (reject m why)) is = tt
+reply_honest endpoints (says src dst other) is = absurd is
+
+pub reply_silent : (sender receiver : ℕ) (r : Reading) → IsReply r → said_by sender receiver r ≡ []
+reply_silent sender receiver (is_faulty w) is = refl
+reply_silent sender receiver (announces text a create) is = refl
+reply_silent sender receiver (says src dst (accept m)) is = refl
+reply_silent sender receiver (says src dst (reject m why)) is = refl
+reply_silent sender receiver (says src dst other) is = absurd is

@@ -46,7 +46,7 @@ module _ (made : ℕ) (known : ℕ → ℕ → Type 0) (ns : List ℕ) where
   pub run_honest : (q : ℕ) (s : DomainState) (ds : List Deed) → made ≤ creation_limit → AllMayDo s ds → AllByRecursion (HearsDeed known) ds → (after_deeds s ds).endpoints_given ≤ made → Sound made known ns s → AllHonest (along (puts_by q) s ds)
   run_honest q s [] few may hears within sound = tt
   run_honest q s (d ∷ ds) few may hears within sound = all-append (λ f. Honest made (reading f)) (puts_by q s d) (along (puts_by q) (after_deed s d) ds)
-      (deed_honest made known ns s sound q d few may.0)
+      (deed_honest made known ns s sound q d few (omega (arith, given_deeds s (d ∷ ds))) may.0)
       (run_honest q (after_deed s d) ds few may.1 hears.1 within (sound_deed made known ns s sound d hears.0 (next_within s d ds within)))
 
 -- where anything may be known, all that is heard may be

@@ -38,7 +38,8 @@ use Rattle.board_model.proofs.OrderSerials.{Serials}
 use Rattle.board_model.proofs.OrderSound.{Sound as Queues, Bound, IsMessage, OnSome, sound_bound}
 use Rattle.board_model.proofs.OrderTakings.{taken_of, IsOld, all_old, none_taken, old_mapped, old_done, old_without, done_old, ended_old, handed_takes, waiter_takes, added_takes, given_takes}
 use Rattle.board_model.proofs.HonestSound.{own, IsPlain, Sound}
-use Rattle.board_model.proofs.HonestDeeds.{end_holds, not_some}
+use Rattle.board_model.proofs.HonestDeeds.{not_some}
+use Rattle.board_model.proofs.StateEnds.{end-holds}
 use Rattle.board_model.proofs.KeptItems.{weight, took, best_weight, passes-message, weight-set, weight-dropped, weight-queued, weight-best, weight-made, weight-gone}
 
 -- the messages of the frames that a deed takes
@@ -347,11 +348,11 @@ module _ (r : ℕ) (test : Message → Bool) where
         record { nothing_taken = ended_none (endpoint_of s e.address) ChanClosed; same = weight-dropped r test e.address (closed_end c) e s.endpoints own_it all }
 
     closed_leads : (side : Side) (at : Local) → Idles (at_end (live_at s at) (closing side))
-    closed_leads Sender at = end_holds Idles (mild_idles [] tt) (live_at s at) (closing Sender) (λ e c found has. mild_idles (closing Sender e c) (tt, (tt, tt)))
-    closed_leads Receiver at = end_holds Idles (mild_idles [] tt) (live_at s at) (closing Receiver) (λ e c found has. closed_receiver at e c found has)
+    closed_leads Sender at = end-holds Idles (mild_idles [] tt) (live_at s at) (closing Sender) (λ e c found has. mild_idles (closing Sender e c) (tt, (tt, tt)))
+    closed_leads Receiver at = end-holds Idles (mild_idles [] tt) (live_at s at) (closing Receiver) (λ e c found has. closed_receiver at e c found has)
 
     opened_leads : (at : Local) → Idles (at_end (live_at s at) (λ e c. buffer_used c.peer ∷ channel_set e.address (Some (opened_end c)) ∷ []))
-    opened_leads at = end_holds Idles (mild_idles [] tt) (live_at s at) (λ e c. buffer_used c.peer ∷ channel_set e.address (Some (opened_end c)) ∷ []) (λ e c found has. mild_idles (buffer_used c.peer ∷ channel_set e.address (Some (opened_end c)) ∷ []) (tt, (tt, tt)))
+    opened_leads at = end-holds Idles (mild_idles [] tt) (live_at s at) (λ e c. buffer_used c.peer ∷ channel_set e.address (Some (opened_end c)) ∷ []) (λ e c found has. mild_idles (buffer_used c.peer ∷ channel_set e.address (Some (opened_end c)) ∷ []) (tt, (tt, tt)))
 
     -- ---- each call
 
