@@ -108,7 +108,7 @@ module _ (made : ℕ) (known : ℕ → ℕ → Type 0) (ns : List ℕ) where
 
     -- ---- calls
 
-    own_made : (p : Endpoint → Bool) (e : Endpoint) → s.endpoints_given ≤ made → find p s.endpoints ≡ Some e → IsMade made e.address
+    pub own_made : (p : Endpoint → Bool) (e : Endpoint) → s.endpoints_given ≤ made → find p s.endpoints ≡ Some e → IsMade made e.address
     own_made p e within is = let k = own p 1024 (1024 + s.endpoints_given) s.endpoints e sound.rise is in let top : e.address < 1024 + s.endpoints_given = k.below in record { above = k.above; below = omega arith }
 
     success_fits : (node : ℕ) (call : DomainCall) → NoWord s node call → (changed_all s (success_changes s node call)).endpoints_given ≤ made → FitAll made known ns s (success_changes s node call)

@@ -11,6 +11,7 @@ pub mod DeedTraffic
 pub mod Headlines
 pub mod HonestBoard
 pub mod HonestDeeds
+pub mod HonestEnds
 pub mod HonestFrames
 pub mod HonestReads
 pub mod HonestRuns
