@@ -5,6 +5,7 @@ use Rattle.std.specs.Prelude.{◌==◌, ◌&&◌}
 use Rattle.std.specs.List.{AllByRecursion, flat_map}
 use Rattle.std.proofs.lemmas.Bool.{eqb-true, eq-eqb}
 use Rattle.mc_base.specs.NameMap.{Names, has_name, address_in}
+use Rattle.mc_base.specs.Letter.{connect}
 use Rattle.mc_base.specs.Reading.{Reading, is_faulty, announces, says, reading}
 use Rattle.mc_base.specs.declared.name.EndName.{EndName}
 use Rattle.board_model.specs.declared.scenario.DomainLine.{DomainLine}
@@ -29,7 +30,8 @@ use Rattle.board_model.proofs.WholeHas.{Has}
 use Rattle.board_model.proofs.WholeJoined.{joined_back, neighbours_join, rising_told}
 use Rattle.board_model.proofs.HonestFrames.{Honest}
 use Rattle.board_model.proofs.HonestSound.{PeerSound, Sound}
-use Rattle.board_model.proofs.HonestDeeds.{Hears, HearsDeed}
+use Rattle.board_model.proofs.HonestDeeds.{Hears, OfTaken, HearsDeed}
+use Rattle.board_model.proofs.HonestEnds.{HearsFar, HearsFarDeed, FarEnds, far_deeds}
 use Rattle.board_model.proofs.HonestRuns.{anything, hears_anything, sound_opening, sound_deeds, given_deeds, AllHonest, run_honest}
 use Rattle.board_model.proofs.KeptLanes.{IsOnce, IsFrom}
 use Rattle.board_model.proofs.KeptTells.{TellsDeeds, tells_deeds, numbers_of, after_run, OfJournal, of_journal}
@@ -108,22 +110,29 @@ module _ (s : Scenario) (js : List DomainJournal) (board : IsLinkedBoard s) (run
   heard q (announces text a there) honest = honest
   heard q (says src dst l) honest = tt
 
-  hears_all : (ns : List ℕ) (ds : List Deed) → AllByRecursion (IsFrom ns) ds → ((q : ℕ) → IsOnce ns q → AllByRecursion (λ f. Honest (made_at q) (reading f)) (flat_map (takes_by q) ds)) → AllByRecursion (HearsDeed may_know) ds
-  hears_all ns [] from all = tt
-  hears_all ns (d ∷ ds) from all = (one d from.0 (λ q once. (parts q once).0), hears_all ns ds from.1 (λ q once. (parts q once).1))
+  -- and a Connect comes from a real address
+  heard_far : (q : ℕ) (r : Reading) → Honest (made_at q) r → HearsFar may_know q r
+  heard_far q (is_faulty w) honest = tt
+  heard_far q (announces text a there) honest = tt
+  heard_far q (says src dst (connect m kind)) honest = honest
+  heard_far q (says src dst other) honest = tt
+
+  hears_all : (H : ℕ → Reading → Type 0) → ((q : ℕ) (r : Reading) → Honest (made_at q) r → H q r) → (ns : List ℕ) (ds : List Deed) → AllByRecursion (IsFrom ns) ds → ((q : ℕ) → IsOnce ns q → AllByRecursion (λ f. Honest (made_at q) (reading f)) (flat_map (takes_by q) ds)) → AllByRecursion (OfTaken H) ds
+  hears_all H hear ns [] from all = tt
+  hears_all H hear ns (d ∷ ds) from all = (one d from.0 (λ q once. (parts q once).0), hears_all H hear ns ds from.1 (λ q once. (parts q once).1))
     where
       parts : (q : ℕ) → IsOnce ns q → AllByRecursion (λ f. Honest (made_at q) (reading f)) (takes_by q d) × AllByRecursion (λ f. Honest (made_at q) (reading f)) (flat_map (takes_by q) ds)
       parts q once = all-parts (λ f. Honest (made_at q) (reading f)) (takes_by q d) (flat_map (takes_by q) ds) (all q once)
 
-      one : (e : Deed) → IsFrom ns e → ((q : ℕ) → IsOnce ns q → AllByRecursion (λ f. Honest (made_at q) (reading f)) (takes_by q e)) → HearsDeed may_know e
+      one : (e : Deed) → IsFrom ns e → ((q : ℕ) → IsOnce ns q → AllByRecursion (λ f. Honest (made_at q) (reading f)) (takes_by q e)) → OfTaken H e
       one (looks_back q n) is each = tt
       one (puts_owed q f) is each = tt
       one (looks_ahead q n) is each = tt
       one (calls node call a) is each = tt
       one (takes q name frame word) is each = at_it (q == q) (eq-eqb q q refl) (each q is)
         where
-          at_it : (b : Bool) → b ≡ true → AllByRecursion (λ f. Honest (made_at q) (reading f)) (frames_if b (frame ∷ [])) → Hears may_know q (reading frame)
-          at_it true is k = heard q (reading frame) k.0
+          at_it : (b : Bool) → b ≡ true → AllByRecursion (λ f. Honest (made_at q) (reading f)) (frames_if b (frame ∷ [])) → H q (reading frame)
+          at_it true is k = hear q (reading frame) k.0
           at_it false is k = absurd cc
 
   -- ---- each journal
@@ -134,19 +143,22 @@ module _ (s : Scenario) (js : List DomainJournal) (board : IsLinkedBoard s) (run
     pub found : IsFound js j
     pub deeds : OfJournal s board j
     pub hears : AllByRecursion (HearsDeed may_know) (deeds_of s j)
+    pub hears_far : AllByRecursion (HearsFarDeed may_know) (deeds_of s j)
 
   on_board : (j : DomainJournal) → IsDomainRun s j.line j.entries → IsFound js j × Has (λ e. e ≡ j.line) s.domains → OnBoard j
   on_board j is at =
       let told = tells_deeds s j board is in
       let deeds = of_journal s board j is in
+      let taken : (q : ℕ) → IsOnce (numbers_of s j.line) q → AllByRecursion (λ f. Honest (made_at q) (reading f)) (flat_map (takes_by q) (deeds_of s j)) = λ q once.
+      subst (AllByRecursion (λ f. Honest (made_at q) (reading f))) (told.takes q)
+      (once_holds (λ n. AllByRecursion (λ f. Honest (made_at n) (reading f)) (taken_from n j.entries)) q (numbers_of s j.line) (from_neighbours j at.0 at.1) once) in
       record {
         is_run = is;
         told = told;
         found = at.0;
         deeds = deeds;
-        hears = hears_all (numbers_of s j.line) (deeds_of s j) deeds.from (λ q once.
-            subst (AllByRecursion (λ f. Honest (made_at q) (reading f))) (told.takes q)
-            (once_holds (λ n. AllByRecursion (λ f. Honest (made_at n) (reading f)) (taken_from n j.entries)) q (numbers_of s j.line) (from_neighbours j at.0 at.1) once));
+        hears = hears_all (Hears may_know) heard (numbers_of s j.line) (deeds_of s j) deeds.from taken;
+        hears_far = hears_all (HearsFar may_know) heard_far (numbers_of s j.line) (deeds_of s j) deeds.from taken;
       }
 
   pub each_on_board : AllByRecursion OnBoard js
@@ -164,6 +176,18 @@ module _ (s : Scenario) (js : List DomainJournal) (board : IsLinkedBoard s) (run
       sound_deeds made may_know (numbers_of s j.line) (opened s j) before
       (all-parts (HearsDeed may_know) before after (subst (AllByRecursion (HearsDeed may_know)) is on.hears)).0 within
       (sound_opening made may_know j.line.domain j.line.nodes (neighbours s j.line))
+
+  -- so its channels know real addresses of their far ends
+  pub moment_far : (j : DomainJournal) → OnBoard j → (before after : List Deed) → deeds_of s j ≡ before ++ after → FarEnds may_know (after_deeds (opened s j) before)
+  moment_far j on before after is =
+      let made : ℕ = (left_in s j).endpoints_given in
+      let rest = given_deeds (after_deeds (opened s j) before) after in
+      let within : (after_deeds (opened s j) before).endpoints_given ≤ made
+      = omega (arith, rest, ap (λ ds. (after_deeds (opened s j) ds).endpoints_given) is, ap (λ (t : DomainState). t.endpoints_given) (after-join (opened s j) before after)) in
+      far_deeds may_know made (numbers_of s j.line) (opened s j) before (λ a own. subst (λ o. IsMade (made_in o) a) (sym on.found) own)
+      (all-parts (HearsDeed may_know) before after (subst (AllByRecursion (HearsDeed may_know)) is on.hears)).0
+      (all-parts (HearsFarDeed may_know) before after (subst (AllByRecursion (HearsFarDeed may_know)) is on.hears_far)).0 within
+      (sound_opening made may_know j.line.domain j.line.nodes (neighbours s j.line)) tt
 
   -- ---- an address that is known is real
 

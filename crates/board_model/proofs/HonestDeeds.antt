@@ -38,9 +38,13 @@ abbrev pub Hears : (ℕ → ℕ → Type 0) → ℕ → Reading → Type 0
 Hears known q (announces text a there) = known q a
 Hears known q other = Unit {0}
 
+-- what is asked of each frame that is taken, by its peer
+abbrev pub OfTaken : (ℕ → Reading → Type 0) → Deed → Type 0
+OfTaken H (takes q name frame word) = H q (reading frame)
+OfTaken H other = Unit {0}
+
 abbrev pub HearsDeed : (ℕ → ℕ → Type 0) → Deed → Type 0
-HearsDeed known (takes q name frame word) = Hears known q (reading frame)
-HearsDeed known other = Unit {0}
+HearsDeed known d = OfTaken (Hears known) d
 
 -- ---- the endpoint of a name
 

@@ -31,7 +31,7 @@ use Rattle.board_model.proofs.MessageAlls.{none-passes, all-append, all-filter, 
 use Rattle.board_model.proofs.MessageLists.{get-position}
 use Rattle.board_model.proofs.StateEnds.{end-holds}
 use Rattle.board_model.proofs.HonestSound.{PeerSound, Sound}
-use Rattle.board_model.proofs.HonestDeeds.{live_holds, NoWord, HearsDeed, own_made, sound_deed}
+use Rattle.board_model.proofs.HonestDeeds.{live_holds, NoWord, OfTaken, HearsDeed, own_made, sound_deed}
 use Rattle.board_model.proofs.HonestRuns.{given_deeds}
 
 -- what an end knows of its far end
@@ -48,8 +48,7 @@ HearsFar known q (says src dst (connect m k)) = known q src × IsChannel m
 HearsFar known q other = Unit {0}
 
 abbrev pub HearsFarDeed : (ℕ → ℕ → Type 0) → Deed → Type 0
-HearsFarDeed known (takes q name frame word) = HearsFar known q (reading frame)
-HearsFarDeed known other = Unit {0}
+HearsFarDeed known d = OfTaken (HearsFar known) d
 
 -- ---- the end that a letter leaves: none, or one with the same far end
 

@@ -30,7 +30,8 @@ use Rattle.board_model.proofs.HonestBoard.{made_at, may_know, OnBoard, each_on_b
 use Rattle.board_model.proofs.KeptDeeds.{brought_by}
 use Rattle.board_model.proofs.KeptRuns.{run_balanced}
 use Rattle.board_model.proofs.KeptLanes.{passing, passing-append, run_brings}
-use Rattle.board_model.proofs.KeptSends.{CanReach, run_sends}
+use Rattle.board_model.proofs.KeptSends.{run_sends}
+use Rattle.board_model.proofs.HonestPosts.{CanReach}
 use Rattle.board_model.proofs.KeptTells.{numbers_of, after_run}
 
 -- ---- sums over journals, and over lanes

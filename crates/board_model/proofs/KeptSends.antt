@@ -1,6 +1,6 @@
 -- What the frames that a domain puts say is what its sends had accepted, lane by lane: each frame of a send is read back, since the
 -- addresses that a domain has and knows are real.
-use Rattle.std.proofs.Common.{◌≡◌, ℕ, ◌+◌, ◌≤◌, ◌<◌, ◌^◌, Bool, true, false, not, cond, List, [], ◌∷◌, ◌++◌, find, length, map, Option, Some, None, refl, sym, ap, ◌∙◌, subst, arith}
+use Rattle.std.proofs.Common.{◌≡◌, ℕ, ◌+◌, ◌≤◌, Bool, true, false, not, cond, List, [], ◌∷◌, ◌++◌, length, map, Option, Some, None, refl, sym, ap, ◌∙◌, subst, arith}
 use Rattle.std.specs.Prelude.{count_by, is_some, option_map, unwrap_or, ◌==◌}
 use Rattle.std.specs.List.{AllByRecursion}
 use Rattle.std.proofs.lemmas.Bool.{ltb-false}
@@ -10,7 +10,6 @@ use Rattle.mc_base.specs.Frame.{made}
 use Rattle.mc_base.specs.Letter.{PlainLetter, msg, spelling}
 use Rattle.mc_base.specs.declared.channel.Side.{Side}
 use Rattle.mc_base.specs.declared.channel.Side.TheVariants.{Sender, Receiver}
-use Rattle.mc_base.specs.NameMap.{Names, has_name, address_in}
 use Rattle.mc_base.specs.Reading.{says, reading}
 use Rattle.mc_base.specs.declared.name.Local.{Local}
 use Rattle.mc_base.specs.declared.name.EndName.{EndName}
@@ -18,33 +17,29 @@ use Rattle.mc_base.specs.declared.refusal.Refusal.{Refusal}
 use Rattle.board_model.specs.LinkedBoard.{Differ}
 use Rattle.board_model.specs.DomainCall.{DomainCall, create_at, delete_at, lookup_of, send_from, receive_at, request_at, available_at, connect_from, open_at, close_at, test_of, cancel_of, turn_alone}
 use Rattle.board_model.specs.Journal.{PlainAnswer, refuses, agrees}
-use Rattle.board_model.specs.State.{ChannelEnd, Endpoint, Peer, DomainState, is_at, endpoint_at, address_at, live_at, peer_of, is_numbered}
-use Rattle.board_model.specs.Answer.{local, known_address, address_of, holds, words_of, refusal, success, answer_by, channel_at, over_channel, opening_letter, closing_letter, Post, put_of, success_posts, success_puts, unless_refused}
+use Rattle.board_model.specs.State.{ChannelEnd, Endpoint, DomainState, is_at, address_at, live_at}
+use Rattle.board_model.specs.Answer.{local, address_of, holds, words_of, refusal, success, answer_by, channel_at, over_channel, opening_letter, closing_letter, Post, put_of, success_posts, success_puts, unless_refused}
 use Rattle.board_model.specs.CallChanges.{at_live}
 use Rattle.board_model.specs.Deeds.{Deed, looks_back, puts_owed, looks_ahead, takes, calls, after_deed, after_deeds, MayDo, AllMayDo, along}
 use Rattle.board_model.specs.Messages.{Message, said_by, accepted_by}
 use Rattle.board_model.proofs.DeedRuns.{frames_if, frames_to, puts_by}
 use Rattle.board_model.proofs.ListsCounts.{count-append}
-use Rattle.board_model.proofs.MessageAlls.{none-passes, all-found}
+use Rattle.board_model.proofs.MessageAlls.{none-passes}
 use Rattle.board_model.proofs.MessageLists.{get-position, some-position}
 use Rattle.board_model.proofs.MessageCanSend.{send-found}
 use Rattle.board_model.proofs.MessageOnce.{total, total-same, total-zero, total-sum}
 use Rattle.board_model.proofs.HonestFrames.{IsSilent, letter_silent}
 use Rattle.board_model.proofs.HonestReads.{letter_back}
-use Rattle.board_model.proofs.HonestSound.{own, PeerSound, Sound}
+use Rattle.board_model.proofs.HonestPosts.{CanReach, FitsCall, own_reach, address_reach}
+use Rattle.board_model.proofs.HonestSound.{Sound}
 use Rattle.board_model.proofs.HonestDeeds.{NoWord, HearsDeed, OwedWell, owed_well, sound_deed}
 use Rattle.board_model.proofs.HonestRuns.{given_deeds}
 use Rattle.board_model.proofs.KeptLanes.{peer_once, passing, passing-append, one_frame, said_alone, lane_once}
 
 -- a call as a lawful scenario has it
 abbrev pub FitsDeed : Deed → Type 0
-FitsDeed (calls node (send_from port to priority bytes) a) = priority ≤ 3
+FitsDeed (calls node call a) = FitsCall call
 FitsDeed other = Unit {0}
-
--- an address that a frame can be sent to, so that it is read back
-pub record CanReach (a : ℕ) : Type 0 where
-  pub above : 1024 ≤ a
-  pub below : a < 2 ^ 32
 
 not_false : (b : Bool) → not b ≡ false → b ≡ true
 not_false true h = refl
@@ -52,39 +47,6 @@ not_false false h = absurd cc
 
 module _ (test : Message → Bool) (made_in : ℕ) (known : ℕ → ℕ → Type 0) (ns : List ℕ) (reach : (q a : ℕ) → known q a → CanReach a) (differ : Differ ns) (few : made_in ≤ creation_limit) where
   module _ (s : DomainState) (sound : Sound made_in known ns s) where
-    -- ---- addresses
-
-    own_reach : (p : Endpoint → Bool) (e : Endpoint) → find p s.endpoints ≡ Some e → CanReach e.address
-    own_reach p e is =
-        let k = own p 1024 (1024 + s.endpoints_given) s.endpoints e sound.rise is in
-        let top : e.address < 1024 + s.endpoints_given = k.below in
-        let most : s.endpoints_given ≤ 60000 = sound.few in
-        record { above = k.above; below = omega arith }
-
-    named_reach : (at : Local) (x : Option Endpoint) → find (is_at at) s.endpoints ≡ x → is_some (option_map (λ (e : Endpoint). e.address) x) ≡ true → CanReach (unwrap_or (option_map (λ (e : Endpoint). e.address) x) 0)
-    named_reach at None is some = absurd cc
-    named_reach at (Some e) is some = own_reach (is_at at) e is
-
-    names_reach : (q : ℕ) (n : EndName) (ks : Names) → AllByRecursion (λ k. known q k.1) ks → is_some (address_in n ks) ≡ true → CanReach (unwrap_or (address_in n ks) 0)
-    names_reach q n ks all some = go (find (has_name n) ks) refl some
-      where
-        go : (x : Option (EndName × ℕ)) → find (has_name n) ks ≡ x → is_some (option_map (λ (k : EndName × ℕ). k.1) x) ≡ true → CanReach (unwrap_or (option_map (λ (k : EndName × ℕ). k.1) x) 0)
-        go None is some = absurd cc
-        go (Some k) is some = reach q k.1 (all-found (λ (j : EndName × ℕ). known q j.1) (has_name n) ks k all is)
-
-    peers_reach : (n : EndName) (x : Option Peer) → find (is_numbered n.domain) s.peers ≡ x → is_some (known_address n x) ≡ true → CanReach (unwrap_or (known_address n x) 0)
-    peers_reach n None is some = absurd cc
-    peers_reach n (Some p) is some = names_reach p.number n p.known (all-found (PeerSound made_in known) (is_numbered n.domain) s.peers p sound.peers is).names some
-
-    address_reach : (n : EndName) → not (is_some (address_of s n)) ≡ false → CanReach (unwrap_or (address_of s n) 0)
-    address_reach n there =
-        go (n.domain == s.number) (endpoint_at s (local n.node n.port)) (peer_of s n.domain) (sym (get-position (is_at (local n.node n.port)) s.endpoints)) (sym (get-position (is_numbered n.domain) s.peers)) (not_false (is_some (address_of s n)) there)
-      where
-        go : (b : Bool) (x : Option Endpoint) (y : Option Peer) → find (is_at (local n.node n.port)) s.endpoints ≡ x → find (is_numbered n.domain) s.peers ≡ y → is_some (cond b (option_map (λ (e : Endpoint). e.address) x) (known_address n y)) ≡ true →
-            CanReach (unwrap_or (cond b (option_map (λ (e : Endpoint). e.address) x) (known_address n y)) 0)
-        go true x y ends peers some = named_reach (local n.node n.port) x ends some
-        go false x y ends peers some = peers_reach n y peers some
-
     -- ---- sends
 
     module _ (d node port : ℕ) (to : EndName) (priority : ℕ) (bytes : List ℕ) (low : priority ≤ 3) (free : refusal s node (send_from port to priority bytes) ≡ None) where
@@ -107,8 +69,8 @@ module _ (test : Message → Bool) (made_in : ℕ) (known : ℕ → ℕ → Type
       said None is some = absurd cc
       said (Some e) is some =
           let own_source : source ≡ e.address = ap (λ o. unwrap_or (option_map (λ (k : Endpoint). k.address) o) 0) (get-position (is_at at) s.endpoints ∙ is) in
-          let from : CanReach e.address = own_reach (is_at at) e is in
-          let into : CanReach target = address_reach to no_word.1.1.0 in
+          let from : CanReach e.address = own_reach made_in known ns reach s sound (is_at at) e is in
+          let into : CanReach target = address_reach made_in known ns reach s sound to no_word.1.1.0 in
           let back : reading (made e.address target (spelling (msg priority bytes))) ≡ says e.address target (msg priority bytes)
           = letter_back e.address target (msg priority bytes) (low, ltb-false item_size (length bytes) no_word.1.1.1.0) from.below into.above into.below in
           ap (λ r. count_by test (said_by d to.domain r)) (ap (λ a. reading (made a target (spelling (msg priority bytes)))) own_source ∙ back)

@@ -13,6 +13,7 @@ pub mod HonestBoard
 pub mod HonestDeeds
 pub mod HonestEnds
 pub mod HonestFrames
+pub mod HonestPosts
 pub mod HonestReads
 pub mod HonestRuns
 pub mod HonestSound
