@@ -1,17 +1,16 @@
 -- What a domain's ends of channels know of their far ends is as what it took says: an address that may be known of the peer, and the
 -- number of a channel.
-use Rattle.std.proofs.Common.{◌≡◌, ℕ, ◌+◌, ◌≤◌, ◌<◌, Bool, true, false, not, ◌&&◌, cond, List, [], ◌∷◌, ◌++◌, Option, Some, None, refl, sym, ap, ◌∙◌, subst, arith}
+use Rattle.std.proofs.Common.{◌≡◌, ℕ, ◌+◌, ◌≤◌, ◌<◌, Bool, true, false, not, ◌&&◌, cond, List, [], ◌∷◌, ◌++◌, Option, Some, None, refl, sym, ap, subst, arith}
 use Rattle.std.specs.Prelude.{find, ◌==◌, is_some, option_map, unwrap_or}
 use Rattle.std.specs.List.{AllByRecursion}
 use Rattle.std.proofs.lemmas.Bool.{leb-false, eqb-true}
-use Rattle.mc_base.specs.Letter.{PlainLetter, msg, connect, accept, reject, recv_open, send_open, packet, scalar, send_close, recv_close, IsChannel}
+use Rattle.mc_base.specs.Letter.{PlainLetter, connect, accept, reject, recv_open, send_open, packet, scalar, send_close, recv_close, IsChannel}
 use Rattle.mc_base.specs.NameMap.{Names, has_name, address_in}
-use Rattle.mc_base.specs.Reading.{Reading, is_faulty, announces, says, reading}
+use Rattle.mc_base.specs.Reading.{Reading, says, reading}
 use Rattle.mc_base.specs.declared.fate.Fate.{Fate}
 use Rattle.mc_base.specs.declared.fate.Fate.TheVariants as fate
 use Rattle.mc_base.specs.declared.name.Local.{Local}
 use Rattle.mc_base.specs.declared.name.EndName.{EndName}
-use Rattle.mc_base.specs.declared.channel.Kind.{Kind}
 use Rattle.mc_base.specs.declared.channel.Kind.TheVariants as kind
 use Rattle.mc_base.specs.declared.channel.Side.{Side}
 use Rattle.mc_base.specs.declared.channel.Side.TheVariants.{Sender, Receiver}
@@ -21,7 +20,7 @@ use Rattle.board_model.specs.Choice.{without_best}
 use Rattle.board_model.specs.DomainCall.{DomainCall, create_at, delete_at, lookup_of, send_from, receive_at, request_at, available_at, connect_from, open_at, close_at, test_of, cancel_of, turn_alone}
 use Rattle.board_model.specs.State.{connected, closed, Stage, ChannelEnd, Endpoint, Peer, DomainState, is_at, has_address_of, live_at, endpoint_at, peer_of, is_numbered}
 use Rattle.board_model.specs.Change.{Change, endpoint_made, endpoint_gone, item_queued, best_gone, channel_set, queue_dropped, item_handed, names_known, name_found, endpoint_with, with_queue, with_channel, without_queue, changed, changed_all}
-use Rattle.board_model.specs.ChannelEnds.{is_closed, is_connecting, same_kind, sends_to, hears_from, opened_end, closed_end, far_closed_end, EndRow, end_row, left_row, end_row_of}
+use Rattle.board_model.specs.ChannelEnds.{is_closed, is_connecting, same_kind, sends_to, hears_from, closed_end, far_closed_end, EndRow, end_row, left_row, end_row_of}
 use Rattle.board_model.specs.TakenFrames.{rejecting, accepting, acting, item_of, row_of}
 use Rattle.board_model.specs.Answer.{local, known_address, address_of, channel_limit, holds, words_of, refusal, unless_refused}
 use Rattle.board_model.specs.CallChanges.{closing, success_changes}

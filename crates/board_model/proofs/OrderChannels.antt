@@ -1,8 +1,8 @@
 -- What a frame's row does, whatever the frame says. A letter of a channel neither brings a message nor takes one, and completes no
 -- receive of one.
-use Rattle.std.proofs.Common.{◌≡◌, ℕ, Bool, true, false, not, cond, List, [], ◌∷◌, ◌++◌, length, map, find, Option, Some, None, refl, sym, ap, ◌∙◌, subst, arith}
-use Rattle.std.specs.Prelude.{◌==◌, ◌&&◌, ◌||◌, is_none, is_some}
-use Rattle.std.specs.List.{AllByRecursion, flat_map}
+use Rattle.std.proofs.Common.{◌≡◌, ℕ, Bool, true, false, not, cond, List, [], ◌∷◌, ◌++◌, length, Option, Some, None, refl, sym, ap, ◌∙◌, subst, arith}
+use Rattle.std.specs.Prelude.{◌==◌, ◌&&◌, ◌||◌, is_some}
+use Rattle.std.specs.List.{flat_map}
 use Rattle.std.proofs.lemmas.Bool.{eqb-true, and_parts}
 use Rattle.mc_base.specs.Letter.{PlainLetter, msg, connect, accept, reject, recv_open, send_open, packet, scalar, send_close, recv_close}
 use Rattle.mc_base.specs.FullName.{endpoint_named}
@@ -21,12 +21,12 @@ use Rattle.board_model.specs.Change.{frame_taken, channel_set, waiting_ended, co
 use Rattle.board_model.specs.ChannelEnds.{same_side, same_kind, is_closed, is_connecting, hears_from, sends_to, accepted_end, far_closed_end, data_rows}
 use Rattle.board_model.specs.Deeds.{Deed}
 use Rattle.board_model.specs.MessageOrder.{is_queued, item_said}
-use Rattle.board_model.specs.TakenFrames.{Row, row, last_row, first_row, row_of, names_of, is_busy, accepting, rejecting, connect_rows, rows_by, channel_rows, letter_rows, item_of}
+use Rattle.board_model.specs.TakenFrames.{row, last_row, first_row, row_of, names_of, is_busy, accepting, rejecting, connect_rows, rows_by, channel_rows, letter_rows, item_of}
 use Rattle.board_model.proofs.LaneRows.{by_rows}
 use Rattle.board_model.proofs.DeedRuns.{count_taken}
 use Rattle.board_model.proofs.OrderDeeds.{RowDoes, quiet_row, idle_row, named_rows, messages_do, queues, both_none}
 use Rattle.board_model.proofs.OrderEnds.{Follows, mute_sender, far_follows, end_bound, set_fits, set_same, item_same}
-use Rattle.board_model.proofs.OrderQueues.{messages_at, messages_none, queued_for, queued_same}
+use Rattle.board_model.proofs.OrderQueues.{messages_at, messages_none, queued_same}
 use Rattle.board_model.proofs.OrderRequests.{kept, turned, Settles, settles_nothing, settled_turns, ended_by}
 use Rattle.board_model.proofs.OrderSerials.{Differ}
 use Rattle.board_model.proofs.OrderSound.{Waits, Sound, is_mute, OnSome, Bound, FitsEnd, bound_empty, sound_change}

@@ -1,10 +1,9 @@
 -- What is queued where the end of a channel at an endpoint changes: no message, before and after.
-use Rattle.std.proofs.Common.{◌≡◌, ℕ, Bool, true, false, cond, List, [], ◌∷◌, ◌++◌, Option, Some, None, refl, sym, ap, ◌∙◌, subst}
-use Rattle.std.specs.Prelude.{◌&&◌, ◌||◌}
+use Rattle.std.proofs.Common.{◌≡◌, ℕ, Bool, true, false, cond, [], ◌∷◌, ◌++◌, Option, Some, None, refl, sym, ap, ◌∙◌, subst}
+use Rattle.std.specs.Prelude.{◌||◌}
 use Rattle.std.specs.List.{AllByRecursion}
-use Rattle.mc_base.specs.declared.channel.Side.{Side}
-use Rattle.mc_base.specs.declared.channel.Side.TheVariants.{Sender, Receiver}
-use Rattle.board_model.specs.State.{Stage, closed, Item, ChannelEnd, Endpoint, DomainState, has_address_of, endpoint_of}
+use Rattle.mc_base.specs.declared.channel.Side.TheVariants.{Sender}
+use Rattle.board_model.specs.State.{closed, Item, ChannelEnd, Endpoint, DomainState, has_address_of, endpoint_of}
 use Rattle.board_model.specs.Change.{channel_set, queue_dropped, item_queued, with_queue, with_channel, without_queue, changed}
 use Rattle.board_model.specs.ChannelEnds.{same_side, is_closed, closed_end, far_closed_end}
 use Rattle.board_model.proofs.OrderSound.{Sound, is_mute, IsMessage, Bound, FitsSound, bound_other, sound_bound}
