@@ -5,7 +5,7 @@ use Rattle.std.specs.List.{list_all}
 use Rattle.std.proofs.lemmas.List.Folds.{list_all-append}
 use Rattle.mc_base.specs.Limits.{asked_limit}
 use Rattle.board_model.specs.declared.form.ArgumentKind.{ArgumentKind}
-use Rattle.board_model.specs.declared.form.ArgumentKind.TheVariants.{Port, Name, Priority, Content, Maximum, Label}
+use Rattle.board_model.specs.declared.form.ArgumentKind.TheVariants.{Port, Name, Priority, Content, Maximum, ChannelKind, Label}
 use Rattle.board_model.specs.declared.form.Callee.{Callee}
 use Rattle.board_model.specs.declared.form.Callee.TheVariants as callee
 use Rattle.board_model.specs.declared.reason.LineReason.{LineReason}
@@ -79,6 +79,9 @@ call_from-checked (Name ∷ ks) bits (w ∷ ws) makes fit ends =
     plain_step Name ks bits w ws makes refl h.0 (call_from-checked ks 0 ws (makes (value Name w)) h.1 ends)
 call_from-checked (Priority ∷ ks) bits (w ∷ ws) makes fit ends = plain_step Priority ks bits w ws makes refl refl (call_from-checked ks 0 ws (makes (value Priority w)) fit ends)
 call_from-checked (Maximum ∷ ks) bits (w ∷ ws) makes fit ends = plain_step Maximum ks bits w ws makes refl refl (call_from-checked ks 0 ws (makes (value Maximum w)) fit ends)
+call_from-checked (ChannelKind ∷ ks) bits (w ∷ ws) makes fit ends =
+    let h = both_hold (argument_fits ChannelKind w) (arguments_fit ks ws) fit in
+    plain_step ChannelKind ks bits w ws makes refl h.0 (call_from-checked ks 0 ws (makes (value ChannelKind w)) h.1 ends)
 call_from-checked (Label ∷ ks) bits (w ∷ ws) makes fit ends =
     let h = both_hold (argument_fits Label w) (arguments_fit ks ws) fit in
     plain_step Label ks bits w ws makes refl h.0 (call_from-checked ks 0 ws (makes (value Label w)) h.1 ends)
@@ -91,6 +94,11 @@ call_by-row callee.MsgSend words = refl
 call_by-row callee.MsgRecv words = refl
 call_by-row callee.MsgRecvI words = refl
 call_by-row callee.MsgAvailable words = refl
+call_by-row callee.Connect words = refl
+call_by-row callee.OpenSend words = refl
+call_by-row callee.OpenRecv words = refl
+call_by-row callee.CloseSend words = refl
+call_by-row callee.CloseRecv words = refl
 call_by-row callee.Test words = refl
 call_by-row callee.Cancel words = refl
 call_by-row callee.Turn words = refl

@@ -6,8 +6,10 @@ use Rattle.std.proofs.lemmas.Bool.{and_from}
 use Rattle.std.proofs.lemmas.List.Folds.{list_all-append}
 use Rattle.mc_base.specs.Limits.{asked_limit}
 use Rattle.mc_base.specs.Text.{hex_text}
+use Rattle.mc_base.specs.declared.channel.Kind.{Kind}
+use Rattle.mc_base.specs.declared.channel.Kind.TheVariants as kind
 use Rattle.board_model.specs.declared.form.ArgumentKind.{ArgumentKind}
-use Rattle.board_model.specs.declared.form.ArgumentKind.TheVariants.{Port, Name, Priority, Content, Maximum, Label}
+use Rattle.board_model.specs.declared.form.ArgumentKind.TheVariants.{Port, Name, Priority, Content, Maximum, ChannelKind, Label}
 use Rattle.board_model.specs.declared.form.Callee.{Callee}
 use Rattle.board_model.specs.declared.form.Callee.TheVariants as callee
 use Rattle.board_model.specs.Grammar.{argument_text, argument_texts}
@@ -38,6 +40,7 @@ widest Name = 32
 widest Priority = 10
 widest Content = 18000
 widest Maximum = 10
+widest ChannelKind = 6
 widest Label = 16
 
 -- and the arguments of a form, each with a blank
@@ -60,6 +63,11 @@ row_plain callee.MsgSend = record { seen = refl; no_try = refl; named = refl; fe
 row_plain callee.MsgRecv = record { seen = refl; no_try = refl; named = refl; few = omega arith; ends = refl }
 row_plain callee.MsgRecvI = record { seen = refl; no_try = refl; named = refl; few = omega arith; ends = refl }
 row_plain callee.MsgAvailable = record { seen = refl; no_try = refl; named = refl; few = omega arith; ends = refl }
+row_plain callee.Connect = record { seen = refl; no_try = refl; named = refl; few = omega arith; ends = refl }
+row_plain callee.OpenSend = record { seen = refl; no_try = refl; named = refl; few = omega arith; ends = refl }
+row_plain callee.OpenRecv = record { seen = refl; no_try = refl; named = refl; few = omega arith; ends = refl }
+row_plain callee.CloseSend = record { seen = refl; no_try = refl; named = refl; few = omega arith; ends = refl }
+row_plain callee.CloseRecv = record { seen = refl; no_try = refl; named = refl; few = omega arith; ends = refl }
 row_plain callee.Test = record { seen = refl; no_try = refl; named = refl; few = omega arith; ends = refl }
 row_plain callee.Cancel = record { seen = refl; no_try = refl; named = refl; few = omega arith; ends = refl }
 row_plain callee.Turn = record { seen = refl; no_try = refl; named = refl; few = omega arith; ends = refl }
@@ -76,6 +84,10 @@ pub record IsTextOf (kind : ArgumentKind) (bits : ℕ) (v : Value kind) : Type 0
 
 one_number : (most n : ℕ) → n ≤ most → n < 2 ^ 64 → list_all is_number (numeral 0 most (decimal n) ∷ []) ≡ true
 one_number most n fits small = and_from (is_number (numeral 0 most (decimal n))) true (is_number-decimal 0 most n (omega arith) fits small) refl
+
+kind_text_of : (bits : ℕ) (k : Kind) → IsTextOf ChannelKind bits k
+kind_text_of bits kind.Packet = record { plain = record { is = refl; no_sign = refl; few = omega arith }; fits = refl; numbers = refl; bytes = refl; back = refl }
+kind_text_of bits kind.Scalar = record { plain = record { is = refl; no_sign = refl; few = omega arith }; fits = refl; numbers = refl; bytes = refl; back = refl }
 
 text_of : (kind : ArgumentKind) (bits : ℕ) (v : Value kind) → IsFit kind bits v → IsTextOf kind bits v
 text_of Port bits n h = record { plain = decimal-plain n (omega (arith, h)); fits = refl; numbers = one_number 65535 n (omega (arith, h)) (omega (arith, h)); bytes = refl; back = number-decimal n (omega (arith, h)) }
@@ -95,6 +107,7 @@ text_of Content bits bs h = record {
   back = bytes-hex bs h.1;
 }
 text_of Maximum bits n h = record { plain = decimal-plain n (omega (arith, h)); fits = refl; numbers = one_number asked_limit n h (omega (arith, h)); bytes = refl; back = number-decimal n (omega (arith, h)) }
+text_of ChannelKind bits k h = kind_text_of bits k
 text_of Label bits l h = record { plain = label-plain l.items h; fits = h; numbers = refl; bytes = refl; back = refl }
 
 -- ---- arguments as words
@@ -146,6 +159,7 @@ same_label Name w = refl
 same_label Priority w = refl
 same_label Content w = refl
 same_label Maximum w = refl
+same_label ChannelKind w = refl
 same_label Label w = refl
 
 pub same_labels : (ks : List ArgumentKind) (ws : List (List ℕ)) → arguments_fit ks ws ≡ true → arguments_labels ks (argument_texts ks (values ks ws)) ≡ arguments_labels ks ws

@@ -2,9 +2,9 @@
 -- Source: docs/FORMATS.md, "Scenario files".
 use Rattle.std.specs.Prelude.{ℕ, List, [], ◌∷◌, ◌++◌, codes, decimal, Option, None, Some}
 use Rattle.mc_base.specs.Text.{hex_text}
-use Rattle.board_model.specs.Grammar.{name_text}
+use Rattle.board_model.specs.Grammar.{name_text, kind_text}
 use Rattle.scenario_lang.specs.declared.canonical.Argument.{Argument}
-use Rattle.scenario_lang.specs.declared.canonical.Argument.TheVariants.{Number, Name, Content, Label}
+use Rattle.scenario_lang.specs.declared.canonical.Argument.TheVariants.{Number, Name, Content, ChannelKind, Label}
 
 -- what stands before a call for its label
 abbrev pub label_front : Option (List ℕ) → List ℕ
@@ -21,6 +21,7 @@ abbrev pub argument_word : Argument → List ℕ
 argument_word (Number n) = decimal n
 argument_word (Name name) = name_text name
 argument_word (Content bytes) = hex_text bytes.now
+argument_word (ChannelKind kind) = kind_text kind
 argument_word (Label label) = label.now
 
 -- and with a blank before it

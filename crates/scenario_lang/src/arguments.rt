@@ -2,13 +2,14 @@
 
 ghost use Rattle.std.specs.Prelude.{◌≡◌, ◌≤◌, length};
 ghost use Rattle.board_model.specs.declared.form.ArgumentKind.TheVariants as kind;
-ghost use Rattle.scenario_lang.specs.Reading.{Answers, Reads, seen, next_word, name_at, label_in, argument_in, call_in};
+ghost use Rattle.scenario_lang.specs.Reading.{Answers, Reads, seen, next_word, name_at, label_in, value_in, argument_in, call_in};
 
 use crate::fault::LineFault;
+use crate::kinds::kind_of;
 use crate::lines::name_parts;
 use crate::numerals::{bytes, is_label, number};
 use board_model::{Call, Callee, Label, LineReason, Seq};
-use mc_base::{EndName, MAX_ASKED, Priority};
+use mc_base::{EndName, Kind, MAX_ASKED, Priority};
 use std::alloc::Global;
 
 /// Words of arguments that are not read yet. Each method reads the next one.
@@ -85,6 +86,15 @@ impl<'w, 'a> Arguments<'w, 'a> {
         Ok(max as u32)
     }
 
+    /// Reads KIND.
+    #[tactic(auto, unfolding(crate::specs::Reading::argument_in))]
+    pub fn channel_kind(&mut self) -> Result<Kind, LineReason>
+        ensures { Reads (λ x. (x, seen self.new.rest.now)) result (argument_in kind.ChannelKind 0 (seen self.old.rest.now)) }
+    {
+        let word = self.word()?;
+        channel_kind(word)
+    }
+
     /// Reads LABEL.
     #[tactic(auto, unfolding(crate::specs::Reading::argument_in))]
     pub fn label(&mut self) -> Result<Label, LineReason>
@@ -111,6 +121,16 @@ fn name(word: &[u8]) -> Result<EndName, LineReason>
         node: node as u8,
         port: port as u16,
     })
+}
+
+/// Reads KIND.
+fn channel_kind(word: &[u8]) -> Result<Kind, LineReason>
+    ensures { Reads (λ kind. kind) result (value_in kind.ChannelKind 0 word.now) }
+{
+    match kind_of(word) {
+        Some(kind) => Ok(kind),
+        None => Err(LineReason::Form),
+    }
 }
 
 /// Copies the bytes of a label.
@@ -165,6 +185,25 @@ pub fn call(alloc: Global, callee: Callee, words: &[&[u8]]) -> Result<Call, Line
             max: arguments.maximum()?,
         }),
         Callee::MsgAvailable => Ok(Call::MsgAvailable {
+            port: arguments.port()?,
+        }),
+        Callee::Connect => Ok(Call::Connect {
+            port: arguments.port()?,
+            to: arguments.name()?,
+            kind: arguments.channel_kind()?,
+        }),
+        Callee::OpenSend => Ok(Call::OpenSend {
+            port: arguments.port()?,
+            kind: arguments.channel_kind()?,
+        }),
+        Callee::OpenRecv => Ok(Call::OpenRecv {
+            port: arguments.port()?,
+            kind: arguments.channel_kind()?,
+        }),
+        Callee::CloseSend => Ok(Call::CloseSend {
+            port: arguments.port()?,
+        }),
+        Callee::CloseRecv => Ok(Call::CloseRecv {
             port: arguments.port()?,
         }),
         Callee::Test => Ok(Call::Test {

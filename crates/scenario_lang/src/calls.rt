@@ -8,6 +8,7 @@ ghost use Rattle.scenario_lang.specs.Parts.{read_parts};
 use crate::arguments::{call, label};
 use crate::fault::LineFault;
 use crate::forms::next;
+use crate::kinds::kind_of;
 use crate::lines::{caller, name_parts};
 use crate::numerals::{is_label, number};
 use crate::table::{callee_of, row_of};
@@ -68,6 +69,7 @@ fn is_argument(kind: ArgumentKind, word: &[u8]) -> bool
 {
     match kind {
         ArgumentKind::Name => name_parts(word).is_some(),
+        ArgumentKind::ChannelKind => kind_of(word).is_some(),
         ArgumentKind::Label => is_label(word),
         _ => true,
     }

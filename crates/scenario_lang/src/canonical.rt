@@ -8,10 +8,11 @@ ghost use Rattle.board_model.specs.Forms.{form};
 ghost use Rattle.scenario_lang.specs.CallFronts.{label_front, tries_front, argument_word, blank_then};
 ghost use Rattle.board_model.specs.Grammar.{canonical, domain_text, link_text, call_text, call_words, caller_text, name_text, spaced, line_of};
 
-use self::Argument::{Content, Label, Name, Number};
+use self::Argument::{ChannelKind, Content, Label, Name, Number};
+use crate::kinds::kind_word;
 use crate::table::row_of;
 use board_model::{Call, CallLine, Callee, DomainLine, LinkLine, Scenario};
-use mc_base::EndName;
+use mc_base::{EndName, Kind};
 use outer_io::{Sink, Writer};
 
 /// Puts the canonical text of a scenario. It takes no memory.
@@ -117,6 +118,7 @@ enum Argument<'a> {
     Number(u64),
     Name(EndName),
     Content(&'a [u8]),
+    ChannelKind(Kind),
     Label(&'a [u8]),
 }
 
@@ -155,6 +157,23 @@ fn put_call<K: Sink>(out: &mut Writer<'_, K>, call: &Call)
         Call::MsgAvailable { port } => {
             put_form(out, Callee::MsgAvailable, &[Number(*port as u64)])
         }
+        Call::Connect { port, to, kind } => put_form(
+            out,
+            Callee::Connect,
+            &[Number(*port as u64), Name(*to), ChannelKind(*kind)],
+        ),
+        Call::OpenSend { port, kind } => put_form(
+            out,
+            Callee::OpenSend,
+            &[Number(*port as u64), ChannelKind(*kind)],
+        ),
+        Call::OpenRecv { port, kind } => put_form(
+            out,
+            Callee::OpenRecv,
+            &[Number(*port as u64), ChannelKind(*kind)],
+        ),
+        Call::CloseSend { port } => put_form(out, Callee::CloseSend, &[Number(*port as u64)]),
+        Call::CloseRecv { port } => put_form(out, Callee::CloseRecv, &[Number(*port as u64)]),
         Call::Test { label } => put_form(out, Callee::Test, &[Label(label.as_slice())]),
         Call::Cancel { label } => put_form(out, Callee::Cancel, &[Label(label.as_slice())]),
         Call::Turn => put_form(out, Callee::Turn, &[]),
@@ -186,6 +205,7 @@ fn put_argument<K: Sink>(out: &mut Writer<'_, K>, argument: Argument<'_>)
         Number(number) => out.put_number(number),
         Name(name) => put_name(out, name),
         Content(bytes) => out.put_hex(bytes),
+        ChannelKind(kind) => out.put(kind_word(kind)),
         Label(label) => out.put(label),
     }
 }

@@ -4,7 +4,7 @@ ghost use Rattle.std.specs.Prelude.{◌≡◌};
 ghost use Rattle.board_model.specs.Forms.{form, callee_of as call_with};
 ghost use Rattle.scenario_lang.specs.Table.{IsRow};
 
-use board_model::ArgumentKind::{self, Content, Label, Maximum, Name, Port, Priority};
+use board_model::ArgumentKind::{self, ChannelKind, Content, Label, Maximum, Name, Port, Priority};
 use board_model::Callee;
 
 /// The form of a call.
@@ -42,6 +42,11 @@ pub fn row_of(callee: Callee) -> CallRow
         Callee::MsgRecv => row(b"msg_recv", &[Port, Maximum], NO_LABEL, MAY_TRY),
         Callee::MsgRecvI => row(b"msg_recv_i", &[Port, Maximum], A_LABEL, MAY_TRY),
         Callee::MsgAvailable => row(b"msg_available", &[Port], NO_LABEL, MAY_TRY),
+        Callee::Connect => row(b"connect", &[Port, Name, ChannelKind], A_LABEL, MAY_TRY),
+        Callee::OpenSend => row(b"open_send", &[Port, ChannelKind], NO_LABEL, MAY_TRY),
+        Callee::OpenRecv => row(b"open_recv", &[Port, ChannelKind], NO_LABEL, MAY_TRY),
+        Callee::CloseSend => row(b"close_send", &[Port], NO_LABEL, MAY_TRY),
+        Callee::CloseRecv => row(b"close_recv", &[Port], NO_LABEL, MAY_TRY),
         Callee::Test => row(b"test", &[Label], NO_LABEL, MAY_TRY),
         Callee::Cancel => row(b"cancel", &[Label], NO_LABEL, MAY_TRY),
         Callee::Turn => row(b"turn", &[], NO_LABEL, MAY_TRY),
@@ -65,7 +70,7 @@ fn row(
 }
 
 /// Every call, in the order of the table.
-const CALLEES: [Callee; 10] = [
+const CALLEES: [Callee; 15] = [
     Callee::Create,
     Callee::Delete,
     Callee::Lookup,
@@ -73,6 +78,11 @@ const CALLEES: [Callee; 10] = [
     Callee::MsgRecv,
     Callee::MsgRecvI,
     Callee::MsgAvailable,
+    Callee::Connect,
+    Callee::OpenSend,
+    Callee::OpenRecv,
+    Callee::CloseSend,
+    Callee::CloseRecv,
     Callee::Test,
     Callee::Cancel,
     Callee::Turn,

@@ -10,5 +10,10 @@ returns-in-Name g c = rw c.in-Name.is (puts_then _ _ _ _ _ _ c.put.ensures c.put
 pub returns-in-Content : goal.returns-in-Content
 returns-in-Content g c = rw c.in-Content.is (puts_then _ _ _ _ _ _ c.put.ensures c.put_hex.ensures)
 
+pub returns-in-ChannelKind : goal.returns-in-ChannelKind
+returns-in-ChannelKind g c =
+    let word = rw c.kind_word.ensures at c.put-in-ChannelKind.ensures in
+    rw c.in-ChannelKind.is (puts_then _ _ _ _ _ _ c.put.ensures word)
+
 pub returns-in-Label : goal.returns-in-Label
 returns-in-Label g c = rw c.in-Label.is (puts_then _ _ _ _ _ _ c.put.ensures c.put-in-Label.ensures)
