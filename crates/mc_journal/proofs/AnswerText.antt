@@ -2,7 +2,7 @@
 use Rattle.std.proofs.Common.{◌≡◌, Bool, true, false, refl, List, ℕ, [], ◌∷◌, ◌++◌, length, append_assoc}
 use Rattle.std.specs.Prelude.{codes, decimal, nat_lt, if◌then◌else◌}
 use Rattle.mc_base.specs.Text.{hex_text}
-use Rattle.board_model.specs.Journal.{PlainResult, found_at, was_accepted, was_rejected, brought, ended_by, PlainAnswer, refuses, agrees, tells, gives, completes}
+use Rattle.board_model.specs.Journal.{PlainResult, found_at, was_accepted, was_rejected, brought, ended_by, PlainAnswer, refuses, agrees, tells, connects, gives, completes}
 use Rattle.board_model.specs.Grammar.{spaced, line_of}
 use Rattle.board_model.specs.Report.{answer_words, result_words}
 
@@ -11,6 +11,7 @@ pub line_of-answer : (number : List ℕ) (a : PlainAnswer) → line_of (codes "c
 line_of-answer number (refuses word) = simp append_assoc
 line_of-answer number agrees = simp append_assoc
 line_of-answer number (tells n) = simp append_assoc
+line_of-answer number (connects request channel) = simp append_assoc
 line_of-answer number (gives size bytes) = simp append_assoc
 line_of-answer number (completes place result) = simp append_assoc
 

@@ -1,16 +1,18 @@
 -- Answers are read as they are written, and nothing else is read.
 use Rattle.std.proofs.Common.{◌≡◌, ℕ, ◌^◌, ◌<◌, Bool, true, false, cond, List, [], ◌∷◌, ◌++◌, length, Option, Some, None, bytes_eq, refl, sym, ap, ap₂, ◌∙◌, arith}
 use Rattle.std.specs.Prelude.{decimal, codes, nat_lt, not, option_map}
+use Rattle.std.specs.List.{list_all}
 use Rattle.std.proofs.lemmas.Slice.Eq.{bytes_eq-Decides}
 use Rattle.mc_base.specs.declared.channel.Reason.TheVariants.{NoEndpoint, Connected, Busy}
 use Rattle.mc_base.specs.declared.refusal.Refusal.{Refusal}
 use Rattle.mc_base.specs.Text.{hex_text}
 use Rattle.board_model.specs.Grammar.{spaced}
 use Rattle.board_model.specs.Words.{refusal_text, reason_text}
-use Rattle.board_model.specs.Journal.{PlainResult, found_at, was_accepted, was_rejected, brought, ended_by, PlainAnswer, refuses, agrees, tells, gives, completes}
+use Rattle.board_model.specs.Journal.{PlainResult, found_at, was_accepted, was_rejected, brought, ended_by, PlainAnswer, refuses, agrees, tells, connects, gives, completes}
 use Rattle.board_model.specs.Report.{answer_words, result_words}
 use Rattle.board_model.proofs.WordDecimals.{decimal-is, decimal-read}
 use Rattle.mc_journal.specs.EntryText.{AreBytes, FitsResult, FitsAnswer}
+use Rattle.board_model.specs.Numerals.{is_other}
 use Rattle.board_model.specs.WordTables.{refusals, refusal_in, reasons, reason_in}
 use Rattle.mc_journal.specs.Readers.{cut_at, both, or_else, only, pair_in, count_in, long_in, bytes_in, sized, is_cut, is_whole, give, bring, cut_in, whole_in, result_word, result_after, result_by, result_in, ok_by, ok_in, answer_word, answer_after, answer_by, answer_in}
 use Rattle.mc_journal.proofs.AnswerText.{spaced-done}
@@ -18,7 +20,7 @@ use Rattle.mc_journal.proofs.Cuts.{cut-found}
 use Rattle.board_model.proofs.WordsRead.{found-is, refusal-read}
 use Rattle.mc_journal.proofs.RefusalsAlone.{refusal-alone}
 use Rattle.mc_journal.proofs.BytesRead.{bytes-are, bytes-read}
-use Rattle.mc_journal.proofs.PartsRead.{if_gives, map_gives, both_give, only_gives, cut-is, pair_gives, decimal-alone, decimal-cut, decimal-no_word, pair_read}
+use Rattle.mc_journal.proofs.PartsRead.{if_gives, map_gives, both_give, or_gives, only_gives, cut-is, pair_gives, decimal-alone, decimal-cut, decimal-no_word, pair_read}
 
 -- ---- words
 
@@ -66,18 +68,12 @@ brought_text true x is = ap (λ t. spaced (cond t (codes "truncated" ∷ decimal
 brought_text false x is = ap (λ t. spaced (cond t (codes "truncated" ∷ decimal x.0 ∷ hex_text x.1 ∷ []) (decimal x.0 ∷ hex_text x.1 ∷ []))) is
 
 result_word-is : (word : List ℕ) (r : PlainResult) → result_word word ≡ Some r → spaced (result_words r) ≡ word
-result_word-is word r e = number (option_map found_at (count_in word)) refl e
-  where
-    other : (r : PlainResult) → cond (bytes_eq word (codes "accepted")) (Some was_accepted) (option_map ended_by (refusal_in word)) ≡ Some r → spaced (result_words r) ≡ word
-    other = if_gives (bytes_eq word (codes "accepted")) (Some was_accepted) (option_map ended_by (refusal_in word)) (λ (r : PlainResult). spaced (result_words r) ≡ word)
-        (λ is r e. let same : was_accepted ≡ r = cc in ap (λ (s : PlainResult). spaced (result_words s)) (sym same) ∙ sym ((bytes_eq-Decides word (codes "accepted")).0 is))
-        (λ _. map_gives ended_by (refusal_in word) (λ (r : PlainResult). spaced (result_words r) ≡ word) (λ w h. refusal-is word w h))
-
-    number : (o : Option PlainResult) → option_map found_at (count_in word) ≡ o → or_else o (cond (bytes_eq word (codes "accepted")) (Some was_accepted) (option_map ended_by (refusal_in word))) ≡ Some r → spaced (result_words r) ≡ word
-    number None is e = other r e
-    number (Some s) is e =
-        let same : s ≡ r = cc in
-        map_gives found_at (count_in word) (λ (r : PlainResult). spaced (result_words r) ≡ word) (λ n h. count-is n word h) r (is ∙ ap (λ (x : PlainResult). Some x) same)
+result_word-is word =
+    or_gives (option_map found_at (count_in word)) _ (λ (r : PlainResult). spaced (result_words r) ≡ word)
+    (map_gives found_at (count_in word) (λ (r : PlainResult). spaced (result_words r) ≡ word) (λ n h. count-is n word h))
+    (if_gives (bytes_eq word (codes "accepted")) (Some was_accepted) (option_map ended_by (refusal_in word)) (λ (r : PlainResult). spaced (result_words r) ≡ word)
+    (λ is r e. let same : was_accepted ≡ r = cc in ap (λ (s : PlainResult). spaced (result_words s)) (sym same) ∙ sym ((bytes_eq-Decides word (codes "accepted")).0 is))
+    (λ _. map_gives ended_by (refusal_in word) (λ (r : PlainResult). spaced (result_words r) ≡ word) (λ w h. refusal-is word w h)))
 
 result_after-is : (head rest : List ℕ) (r : PlainResult) → result_after head rest ≡ Some r → spaced (result_words r) ≡ head ++ 32 ∷ rest
 unfolding sized_text
@@ -107,8 +103,11 @@ ok-is text a e = go (cut_at 32 text) refl e
   where
     go : (o : Option (List ℕ × List ℕ)) → cut_at 32 text ≡ o → ok_by text o ≡ Some a → spaced (answer_words a) ≡ codes "ok " ++ text
     go None is e = map_gives tells (long_in text) (λ (a : PlainAnswer). spaced (answer_words a) ≡ codes "ok " ++ text) (λ n h. ap (λ xs. codes "ok " ++ xs) (long-is n text h)) a e
-    go (Some y) is e = map_gives give (whole_in y.0 y.1) (λ (a : PlainAnswer). spaced (answer_words a) ≡ codes "ok " ++ text)
-        (λ x h. let b = whole-bytes y.0 y.1 x h in given_text false x b.0 ∙ ap (λ xs. codes "ok " ++ xs) (b.1 ∙ sym (cut-is 32 text y is))) a e
+    go (Some y) is e = or_gives (option_map give (whole_in y.0 y.1)) (both connects (long_in y.0) (count_in y.1)) (λ (a : PlainAnswer). spaced (answer_words a) ≡ codes "ok " ++ text)
+        (map_gives give (whole_in y.0 y.1) (λ (a : PlainAnswer). spaced (answer_words a) ≡ codes "ok " ++ text)
+        (λ x h. let b = whole-bytes y.0 y.1 x h in given_text false x b.0 ∙ ap (λ xs. codes "ok " ++ xs) (b.1 ∙ sym (cut-is 32 text y is))))
+        (both_give connects (long_in y.0) (count_in y.1) (λ (a : PlainAnswer). spaced (answer_words a) ≡ codes "ok " ++ text)
+        (λ n c h k. ap₂ (λ (p q : List ℕ). codes "ok " ++ (p ++ 32 ∷ q)) (long-is n y.0 h) (count-is c y.1 k) ∙ ap (λ xs. codes "ok " ++ xs) (sym (cut-is 32 text y is)))) a e
 
 answer_after-is : (head rest : List ℕ) (a : PlainAnswer) → answer_after head rest ≡ Some a → spaced (answer_words a) ≡ head ++ 32 ∷ rest
 unfolding sized_text
@@ -176,20 +175,32 @@ result-read (ended_by word) fits =
     ∙ ap (λ t. cond t (Some was_accepted) (option_map ended_by (refusal_in (refusal_text word)))) r.not_accepted
     ∙ ap (option_map ended_by) (refusal-read word)
 
-pub answer-read : (a : PlainAnswer) → FitsAnswer a → answer_in (spaced (answer_words a)) ≡ Some a
+-- a size and bytes are read before a request and a channel, where a text could be either
+ok-read : (first second : List ℕ) (o : Option (ℕ × List ℕ)) → list_all (is_other 32) first ≡ true → whole_in first second ≡ o → ok_in (first ++ 32 ∷ second) ≡ or_else (option_map give o) (both connects (long_in first) (count_in second))
+ok-read first second o alone is =
+    ap (ok_by (first ++ 32 ∷ second)) (cut-found 32 first second alone)
+    ∙ ap (λ (w : Option (ℕ × List ℕ)). or_else (option_map give w) (both connects (long_in first) (count_in second))) is
+
+-- an answer's text is read, as that answer or as another one with this text
+pub answer-read : (a : PlainAnswer) → FitsAnswer a → (b : PlainAnswer) × (answer_in (spaced (answer_words a)) ≡ Some b)
 answer-read (refuses word) fits =
-    let r = refusal-alone word in
-    ap (answer_by (refusal_text word)) r.alone
-    ∙ ap (λ t. cond t (Some agrees) (option_map refuses (refusal_in (refusal_text word)))) r.not_ok
-    ∙ ap (option_map refuses) (refusal-read word)
-answer-read agrees fits = refl
-answer-read (tells n) fits = ap (ok_by (decimal n)) (decimal-cut n fits) ∙ ap (option_map tells) (long-read n fits)
-answer-read (gives size bytes) fits = go (nat_lt (length bytes) size) refl
+    let r = refusal-alone word in (
+      refuses word,
+      ap (answer_by (refusal_text word)) r.alone
+          ∙ ap (λ t. cond t (Some agrees) (option_map refuses (refusal_in (refusal_text word)))) r.not_ok
+          ∙ ap (option_map refuses) (refusal-read word),
+    )
+answer-read agrees fits = (agrees, refl)
+answer-read (tells n) fits = (tells n, ap (ok_by (decimal n)) (decimal-cut n fits) ∙ ap (option_map tells) (long-read n fits))
+answer-read (connects request channel) fits = go (whole_in (decimal request) (decimal channel)) refl
+  where
+    go : (o : Option (ℕ × List ℕ)) → whole_in (decimal request) (decimal channel) ≡ o → (b : PlainAnswer) × (ok_in (decimal request ++ 32 ∷ decimal channel) ≡ Some b)
+    go None is = (connects request channel, ok-read (decimal request) (decimal channel) None (decimal-alone request fits.0) is ∙ ap₂ (both connects) (long-read request fits.0) (count-read channel fits.1))
+    go (Some x) is = (give x, ok-read (decimal request) (decimal channel) (Some x) (decimal-alone request fits.0) is)
+answer-read (gives size bytes) fits = (gives size bytes, go (nat_lt (length bytes) size) refl)
   where
     go : (t : Bool) → nat_lt (length bytes) size ≡ t → answer_in (spaced (cond t (codes "truncated") (codes "ok") ∷ decimal size ∷ hex_text bytes ∷ [])) ≡ Some (gives size bytes)
     go true is = ap (option_map give) (cut_in-read size bytes fits.0 fits.1 is)
-    go false is =
-        ap (ok_by (decimal size ++ 32 ∷ hex_text bytes)) (cut-found 32 (decimal size) (hex_text bytes) (decimal-alone size (omega (arith, fits.0))))
-        ∙ ap (option_map give) (whole_in-read size bytes fits.0 fits.1 is)
-answer-read (completes None result) fits = ap answer_in (spaced-done result) ∙ ap (option_map (completes None)) (result-read result fits)
+    go false is = ok-read (decimal size) (hex_text bytes) (Some (size, bytes)) (decimal-alone size (omega (arith, fits.0))) (whole_in-read size bytes fits.0 fits.1 is)
+answer-read (completes None result) fits = (completes None result, ap answer_in (spaced-done result) ∙ ap (option_map (completes None)) (result-read result fits))
 answer-read (completes (Some place) result) fits = absurd fits

@@ -42,6 +42,7 @@ kept_line-append bytes more (kept.Spin n word) within = refl
 kept_line-append bytes more (kept.Refused k word) within = refl
 kept_line-append bytes more (kept.Agreed k) within = refl
 kept_line-append bytes more (kept.Number k n) within = refl
+kept_line-append bytes more (kept.Channel k request channel) within = refl
 kept_line-append bytes more (kept.Bytes k size p) within = ap (λ (xs : List ℕ). call_line k (gives size xs)) (piece_of-append bytes more p within)
 kept_line-append bytes more (kept.Done k how) within = ap (λ (r : PlainResult). call_line k (completes None r)) (kept_result-append bytes more how within)
 
@@ -71,6 +72,7 @@ IsWithin-more m n (kept.Spin count word) le within = tt
 IsWithin-more m n (kept.Refused k word) le within = tt
 IsWithin-more m n (kept.Agreed k) le within = tt
 IsWithin-more m n (kept.Number k count) le within = tt
+IsWithin-more m n (kept.Channel k request channel) le within = tt
 IsWithin-more m n (kept.Bytes k size p) le within = omega arith
 IsWithin-more m n (kept.Done k how) le within = IsResultWithin-more m n how le within
 

@@ -7,7 +7,7 @@ use Rattle.mc_base.specs.declared.fate.Fate.{Fate}
 use Rattle.mc_base.specs.Text.{hex_text}
 use Rattle.board_model.specs.Grammar.{spaced}
 use Rattle.board_model.specs.Words.{refusal_text, fate_text}
-use Rattle.board_model.specs.Journal.{Taken, taken, PlainAnswer, refuses, agrees, tells, gives, completes, Line, idle_line, again_line, spin_line, turn_line, back_line, put_line, see_line, take_line, call_line}
+use Rattle.board_model.specs.Journal.{Taken, taken, PlainAnswer, refuses, agrees, tells, connects, gives, completes, Line, idle_line, again_line, spin_line, turn_line, back_line, put_line, see_line, take_line, call_line}
 use Rattle.board_model.specs.Report.{answer_words, line_words}
 use Rattle.board_model.proofs.WordDecimals.{decimal-is, decimal-read}
 use Rattle.mc_journal.specs.declared.forms.Form.{Form}
@@ -36,6 +36,7 @@ call_spaced : (k : ℕ) (a : PlainAnswer) → spaced (line_words (call_line k a)
 call_spaced k (refuses word) = refl
 call_spaced k agrees = refl
 call_spaced k (tells n) = refl
+call_spaced k (connects request channel) = refl
 call_spaced k (gives size bytes) = refl
 call_spaced k (completes place result) = refl
 
@@ -80,15 +81,19 @@ line-is text l e = go (cut_at 32 text) refl e
 taken-read : (frame : List ℕ) (f : Fate) → AreBytes frame → taken_in (hex_text frame ++ 32 ∷ fate_text f) ≡ Some (taken frame f)
 taken-read frame f are = pair_read bytes_in fate_in taken (hex_text frame) (fate_text f) frame f (bytes-alone frame are) (bytes-read frame are) (fate-read f)
 
-pub line-read : (l : Line) → IsEntryLine l → line_in (spaced (line_words l)) ≡ Some l
-line-read (idle_line n) fits = ap (option_map idle_line) (long-read n fits)
-line-read (again_line word) fits = ap (option_map again_line) (refusal-read word)
-line-read (spin_line n word) fits = pair_read long_in refusal_in spin_line (decimal n) (refusal_text word) n word (decimal-alone n fits) (long-read n fits) (refusal-read word)
-line-read turn_line fits = refl
-line-read (back_line peer n) fits = pair_read peer_in count_in back_line (decimal peer) (decimal n) peer n (peer-alone peer fits.0) (peer-read peer fits.0) (count-read n fits.1)
-line-read (put_line peer frame) fits = pair_read peer_in bytes_in put_line (decimal peer) (hex_text frame) peer frame (peer-alone peer fits.0) (peer-read peer fits.0) (bytes-read frame fits.1)
-line-read (see_line peer n) fits = pair_read peer_in count_in see_line (decimal peer) (decimal n) peer n (peer-alone peer fits.0) (peer-read peer fits.0) (count-read n fits.1)
-line-read (take_line peer frame fate) fits = pair_read peer_in taken_in takes (decimal peer) (hex_text frame ++ 32 ∷ fate_text fate) peer (taken frame fate) (peer-alone peer fits.0) (peer-read peer fits.0) (taken-read frame fate fits.1)
+-- a line's text is read, as that line or as another one with this text
+pub line-read : (l : Line) → IsEntryLine l → (k : Line) × (line_in (spaced (line_words l)) ≡ Some k)
+line-read (idle_line n) fits = (idle_line n, ap (option_map idle_line) (long-read n fits))
+line-read (again_line word) fits = (again_line word, ap (option_map again_line) (refusal-read word))
+line-read (spin_line n word) fits = (spin_line n word, pair_read long_in refusal_in spin_line (decimal n) (refusal_text word) n word (decimal-alone n fits) (long-read n fits) (refusal-read word))
+line-read turn_line fits = (turn_line, refl)
+line-read (back_line peer n) fits = (back_line peer n, pair_read peer_in count_in back_line (decimal peer) (decimal n) peer n (peer-alone peer fits.0) (peer-read peer fits.0) (count-read n fits.1))
+line-read (put_line peer frame) fits = (put_line peer frame, pair_read peer_in bytes_in put_line (decimal peer) (hex_text frame) peer frame (peer-alone peer fits.0) (peer-read peer fits.0) (bytes-read frame fits.1))
+line-read (see_line peer n) fits = (see_line peer n, pair_read peer_in count_in see_line (decimal peer) (decimal n) peer n (peer-alone peer fits.0) (peer-read peer fits.0) (count-read n fits.1))
+line-read (take_line peer frame fate) fits = (take_line peer frame fate, pair_read peer_in taken_in takes (decimal peer) (hex_text frame ++ 32 ∷ fate_text fate) peer (taken frame fate) (peer-alone peer fits.0) (peer-read peer fits.0) (taken-read frame fate fits.1))
 line-read (call_line number answer) fits =
-    ap line_in (call_spaced number answer)
-    ∙ pair_read count_in answer_in call_line (decimal number) (spaced (answer_words answer)) number answer (decimal-alone number (omega (arith, fits.0))) (count-read number fits.0) (answer-read answer fits.1)
+    let read = answer-read answer fits.1 in (
+      call_line number read.0,
+      ap line_in (call_spaced number answer)
+          ∙ pair_read count_in answer_in call_line (decimal number) (spaced (answer_words answer)) number read.0 (decimal-alone number (omega (arith, fits.0))) (count-read number fits.0) read.1,
+    )

@@ -8,7 +8,7 @@ use Rattle.std.proofs.lemmas.Slice.Eq.{bytes_eq-Decides}
 use Rattle.board_model.specs.FileWords.{is_digit, number_of}
 use Rattle.board_model.proofs.WordDecimals.{number_of-decimal, decimal-digits}
 use Rattle.board_model.specs.Numerals.{is_other}
-use Rattle.mc_journal.specs.Readers.{onto_first, cut_at, both, only, pair_by, pair_in}
+use Rattle.mc_journal.specs.Readers.{onto_first, cut_at, both, or_else, only, pair_by, pair_in}
 use Rattle.mc_journal.proofs.Cuts.{cut-found, cut-not}
 
 -- ---- what was read
@@ -29,6 +29,10 @@ both_give make (Some a) None P each c e = absurd cc
 both_give make (Some a) (Some b) P each c e =
     let same : make a b ≡ c = cc in
     subst P same (each a b refl refl)
+
+pub or_gives : {A : Type 0} (o p : Option A) (P : A → Type 0) → ((a : A) → o ≡ Some a → P a) → ((a : A) → p ≡ Some a → P a) → (a : A) → or_else o p ≡ Some a → P a
+or_gives (Some x) p P this other a e = this a e
+or_gives None p P this other a e = other a e
 
 pub only_gives : {A : Type 0} (test : A → Bool) (o : Option A) (a : A) → only test o ≡ Some a → (test a ≡ true) × (o ≡ Some a)
 only_gives test None a e = absurd cc

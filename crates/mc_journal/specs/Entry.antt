@@ -1,7 +1,7 @@
 -- The line that an entry of the code is, and what noting it does.
 -- Source: docs/FORMATS.md, "Journal text".
 use Rattle.std.specs.Prelude.{◌≡◌, ℕ, List, [], ◌∷◌, ◌++◌, length, None}
-use Rattle.board_model.specs.Journal.{Line, PlainResult, found_at, was_accepted, was_rejected, brought, ended_by, PlainAnswer, idle_line, again_line, spin_line, turn_line, back_line, put_line, see_line, take_line, call_line, refuses, agrees, tells, gives, completes, noted_idle, noted_again}
+use Rattle.board_model.specs.Journal.{Line, PlainResult, found_at, was_accepted, was_rejected, brought, ended_by, PlainAnswer, idle_line, again_line, spin_line, turn_line, back_line, put_line, see_line, take_line, call_line, refuses, agrees, tells, connects, gives, completes, noted_idle, noted_again}
 use Rattle.mc_journal.specs.declared.entry.Answer.{Answer}
 use Rattle.mc_journal.specs.declared.entry.Answer.TheVariants as answer
 use Rattle.mc_journal.specs.declared.entry.Told.{Told}
@@ -20,6 +20,7 @@ abbrev pub plain_answer : Answer → PlainAnswer
 plain_answer (answer.Refused word) = refuses word
 plain_answer answer.Ok = agrees
 plain_answer (answer.Number n) = tells n
+plain_answer (answer.Channel request channel) = connects request channel
 plain_answer (answer.Bytes size bytes) = gives size bytes.now
 plain_answer (answer.Done result) = completes None (result_of_told result)
 

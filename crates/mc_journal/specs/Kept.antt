@@ -2,7 +2,7 @@
 -- Source: the journal's own layout, of which nothing shows outside.
 use Rattle.std.specs.Prelude.{ℕ, ◌+◌, ◌≤◌, List, length, take, drop, None}
 use Rattle.std.specs.List.{AllByRecursion}
-use Rattle.board_model.specs.Journal.{Line, PlainResult, found_at, was_accepted, was_rejected, brought, ended_by, idle_line, again_line, spin_line, turn_line, back_line, put_line, see_line, take_line, call_line, refuses, agrees, tells, gives, completes}
+use Rattle.board_model.specs.Journal.{Line, PlainResult, found_at, was_accepted, was_rejected, brought, ended_by, idle_line, again_line, spin_line, turn_line, back_line, put_line, see_line, take_line, call_line, refuses, agrees, tells, connects, gives, completes}
 use Rattle.mc_journal.specs.declared.kept.Piece.{Piece}
 use Rattle.mc_journal.specs.declared.kept.KeptResult.{KeptResult}
 use Rattle.mc_journal.specs.declared.kept.KeptResult.TheVariants as result
@@ -31,6 +31,7 @@ kept_line bytes (kept.Spin n word) = spin_line n word
 kept_line bytes (kept.Refused k word) = call_line k (refuses word)
 kept_line bytes (kept.Agreed k) = call_line k agrees
 kept_line bytes (kept.Number k n) = call_line k (tells n)
+kept_line bytes (kept.Channel k request channel) = call_line k (connects request channel)
 kept_line bytes (kept.Bytes k size p) = call_line k (gives size (piece_of bytes p))
 kept_line bytes (kept.Done k how) = call_line k (completes None (kept_result bytes how))
 

@@ -5,7 +5,7 @@ use Rattle.std.specs.List.{list_all}
 use Rattle.std.specs.Str.{bytes_eq}
 use Rattle.board_model.specs.FileWords.{number_of, pairs_of, is_dash}
 use Rattle.board_model.specs.Numerals.{at_most}
-use Rattle.board_model.specs.Journal.{Taken, taken, PlainResult, found_at, was_accepted, was_rejected, brought, ended_by, PlainAnswer, refuses, agrees, tells, gives, completes, Line, idle_line, again_line, spin_line, back_line, put_line, see_line, take_line, call_line}
+use Rattle.board_model.specs.Journal.{Taken, taken, PlainResult, found_at, was_accepted, was_rejected, brought, ended_by, PlainAnswer, refuses, agrees, tells, connects, gives, completes, Line, idle_line, again_line, spin_line, back_line, put_line, see_line, take_line, call_line}
 use Rattle.mc_journal.specs.declared.forms.Form.{Form}
 use Rattle.mc_journal.specs.declared.forms.Form.TheVariants as form
 use Rattle.board_model.specs.WordTables.{refusal_in, fate_in, reason_in}
@@ -105,7 +105,7 @@ result_in text = result_by text (cut_at 32 text)
 
 abbrev pub ok_by : List ℕ → Option (List ℕ × List ℕ) → Option PlainAnswer
 ok_by text None = option_map tells (long_in text)
-ok_by text (Some x) = option_map give (whole_in x.0 x.1)
+ok_by text (Some x) = or_else (option_map give (whole_in x.0 x.1)) (both connects (long_in x.0) (count_in x.1))
 
 abbrev pub ok_in : List ℕ → Option PlainAnswer
 ok_in text = ok_by text (cut_at 32 text)

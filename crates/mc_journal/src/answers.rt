@@ -52,16 +52,21 @@ fn answer_behind<'a>(head: &[u8], rest: &[u8], room: &'a mut [u8]) -> Option<Ans
     }
 }
 
-/// What follows `ok`: a number, or a size and no fewer bytes.
+/// What follows `ok`: a number, a size and no fewer bytes, or else a request and a channel.
 fn ok_of<'a>(text: &[u8], room: &'a mut [u8]) -> Option<Answer<'a>>
     requires { length text.now ≤ length room.old }
     ensures { option_map plain_answer result ≡ ok_in text.now }
 {
     match cut(text) {
         None => Some(Answer::Number(number_to(u64::MAX, text)?)),
-        Some((size, spelled)) => {
-            let (size, bytes) = whole_bytes(size, spelled, room)?;
-            Some(Answer::Bytes { size, bytes })
+        Some((first, second)) => {
+            if let Some((size, bytes)) = whole_bytes(first, second, room) {
+                return Some(Answer::Bytes { size, bytes });
+            }
+            Some(Answer::Channel {
+                request: number_to(u64::MAX, first)?,
+                channel: count_of(second)?,
+            })
         }
     }
 }

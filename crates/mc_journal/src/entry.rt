@@ -24,6 +24,8 @@ pub enum Answer<'a> {
     Ok,
     /// `Ok` with one number.
     Number(u64),
+    /// The request of a connection, and the number of its channel, which its domain counts from 1.
+    Channel { request: u64, channel: u32 },
     /// The size of a message in bytes, and those of its bytes that the caller got.
     Bytes { size: u32, bytes: &'a [u8] },
     /// A request ended.

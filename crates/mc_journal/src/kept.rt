@@ -41,6 +41,7 @@ pub enum Kept {
     Refused(u32, Refusal),
     Agreed(u32),
     Number(u32, u64),
+    Channel(u32, u64, u32),
     Bytes(u32, u32, Piece),
     Done(u32, KeptResult),
 }
@@ -66,6 +67,7 @@ pub fn keep(bytes: &mut Vec<u8>, entry: Entry<'_>) -> Kept
             Answer::Refused(word) => Kept::Refused(number, word),
             Answer::Ok => Kept::Agreed(number),
             Answer::Number(n) => Kept::Number(number, n),
+            Answer::Channel { request, channel } => Kept::Channel(number, request, channel),
             Answer::Bytes { size, bytes: given } => Kept::Bytes(
                 number,
                 size,
@@ -141,6 +143,10 @@ pub fn entry_of(bytes: &[u8], kept: Kept) -> Entry<'_>
         Kept::Number(number, n) => Entry::Called {
             number,
             answer: Answer::Number(n),
+        },
+        Kept::Channel(number, request, channel) => Entry::Called {
+            number,
+            answer: Answer::Channel { request, channel },
         },
         Kept::Bytes(number, size, piece) => Entry::Called {
             number,

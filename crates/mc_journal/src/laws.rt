@@ -25,7 +25,7 @@ fn look_at_answer(answer: Answer<'_>)
 {
     match answer {
         Answer::Refused(_) | Answer::Ok => (),
-        Answer::Number(_) => (),
+        Answer::Number(_) | Answer::Channel { .. } => (),
         Answer::Bytes { bytes, .. } => look_at(bytes),
         Answer::Done(told) => look_at_result(told),
     }

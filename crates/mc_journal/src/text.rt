@@ -136,6 +136,7 @@ fn put_answer<K: Sink>(out: &mut Writer<'_, K>, answer: Answer<'_>)
         Answer::Refused(word) => out.put(refusal_word(word)),
         Answer::Ok => out.put(b"ok"),
         Answer::Number(n) => put_ok_number(out, n),
+        Answer::Channel { request, channel } => put_channel(out, request, channel),
         Answer::Bytes { size, bytes } => put_bytes(out, size, bytes),
         Answer::Done(told) => put_done(out, told),
     }
@@ -200,6 +201,15 @@ fn put_ok_number<K: Sink>(out: &mut Writer<'_, K>, n: u64)
 {
     out.put(b"ok ");
     out.put_number(n);
+}
+
+fn put_channel<K: Sink>(out: &mut Writer<'_, K>, request: u64, channel: u32)
+    ensures { Puts K.Sink out.old out.new (spaced (codes "ok" ∷ decimal request ∷ decimal channel ∷ [])) }
+{
+    out.put(b"ok ");
+    out.put_number(request);
+    out.put(b" ");
+    out.put_number(channel as u64);
 }
 
 /// A size and bytes: truncated where there are fewer bytes than the size.

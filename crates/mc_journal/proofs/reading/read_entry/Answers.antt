@@ -15,5 +15,5 @@ returns-in-Some-clause-entry c =
 pub returns-in-None-clause-refused : goal.returns-in-None-clause-refused
 returns-in-None-clause-refused c err l fits same =
     let text : spaced (line_words l) ≡ c.args.line.now = append_cancel_right (spaced (line_words l)) c.args.line.now (10 ∷ []) same in
-    let read = sym (line-read l fits) ∙ ap line_in text ∙ sym c.entry_of.ensures ∙ ap (option_map line_of_entry) c.in-None.is in
+    let read = sym (line-read l fits).1 ∙ ap line_in text ∙ sym c.entry_of.ensures ∙ ap (option_map line_of_entry) c.in-None.is in
     absurd cc
