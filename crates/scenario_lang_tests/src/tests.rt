@@ -229,8 +229,66 @@ static REFUSED_CALLS: [RefusedCall; 73] = [
     (b"0.0 cancel x y", LineReason::Form),
 ];
 
+/// The same for the lines of channels.
+static REFUSED_CHANNELS: [RefusedCall; 54] = [
+    (b"0.0 connect 1 0:0:2 packet", LineReason::Form),
+    (b"0.0 x = connect", LineReason::Form),
+    (b"0.0 x = connect 1", LineReason::Form),
+    (b"0.0 x = connect 1 0:0:2", LineReason::Form),
+    (b"0.0 x = connect 1 0:0:2 packet 1", LineReason::Form),
+    (b"0.0 x = connect 1 packet 0:0:2", LineReason::Form),
+    (b"0.0 x = connect 1 0:0 packet", LineReason::Form),
+    (b"0.0 x = connect 1 0:0:2 packets", LineReason::Form),
+    (b"0.0 x = connect 1 0:0:2 packe", LineReason::Form),
+    (b"0.0 x = connect 1 0:0:2 Packet", LineReason::Form),
+    (b"0.0 x = connect 1 0:0:2 SCALAR", LineReason::Form),
+    (b"0.0 x = connect 1 0:0:2 scalar8", LineReason::Form),
+    (b"0.0 x = connect 1 0:0:2 0", LineReason::Form),
+    (b"0.0 x = connect 1 0:0:2 -", LineReason::Form),
+    (b"0.0 x = connect 65536 8:0:2 none", LineReason::Form),
+    (b"0.0 x = connect 65536 0:0:2 packet", LineReason::Number),
+    (b"0.0 x = connect 1 8:0:2 scalar", LineReason::Number),
+    (b"0.0 x = connect 1 0:16:2 scalar", LineReason::Number),
+    (b"0.0 x = connect 1 0:0:65536 scalar", LineReason::Number),
+    (b"0.0 x = try 0 connect 1 0:0:2 scalar", LineReason::Number),
+    (b"1.0 x = connect 1 0:0:2 scalar", LineReason::Domain),
+    (b"0.0 open_send", LineReason::Form),
+    (b"0.0 open_send 1", LineReason::Form),
+    (b"0.0 open_send packet 1", LineReason::Form),
+    (b"0.0 open_send 1 packet scalar", LineReason::Form),
+    (b"0.0 open_send 1 datagram", LineReason::Form),
+    (b"0.0 open_send 65536 x", LineReason::Form),
+    (b"0.0 open_send 65536 packet", LineReason::Number),
+    (b"0.0 open_send 01 packet", LineReason::Number),
+    (b"1.0 open_send 1 packet", LineReason::Domain),
+    (b"0.0 x = open_send 1 packet", LineReason::Label),
+    (b"0.0 open_recv", LineReason::Form),
+    (b"0.0 open_recv 1", LineReason::Form),
+    (b"0.0 open_recv scalar 1", LineReason::Form),
+    (b"0.0 open_recv 1 scalar 8", LineReason::Form),
+    (b"0.0 open_recv 1 scalars", LineReason::Form),
+    (b"0.0 open_recv 65536 scalar", LineReason::Number),
+    (b"0.0 x = open_recv 1 scalar", LineReason::Label),
+    (b"0.0 close_send", LineReason::Form),
+    (b"0.0 close_send 1 packet", LineReason::Form),
+    (b"0.0 close_send 65536", LineReason::Number),
+    (b"0.0 close_send a", LineReason::Number),
+    (b"0.0 x = close_send 1", LineReason::Label),
+    (b"0.0 close_recv", LineReason::Form),
+    (b"0.0 close_recv 1 scalar", LineReason::Form),
+    (b"0.0 close_recv 65536", LineReason::Number),
+    (b"0.0 close_recv -", LineReason::Number),
+    (b"0.0 x = close_recv 1", LineReason::Label),
+    (b"0.0 Connect 1 0:0:2 packet", LineReason::Form),
+    (b"0.0 x = open 1 packet", LineReason::Form),
+    (b"0.0 close 1", LineReason::Form),
+    (b"0.0 open-send 1 packet", LineReason::Form),
+    (b"0.0 opensend 1 packet", LineReason::Form),
+    (b"0.0 close_sender 1", LineReason::Form),
+];
+
 /// Texts with labels, of which one is told or used where it may not.
-static REFUSED_LABELS: [Refusal; 8] = [
+static REFUSED_LABELS: [Refusal; 13] = [
     (
         b"domain 0 nodes 1 pool 1\n0.0 x = lookup 0:0:1\n0.0 x = lookup 0:0:1\n",
         3,
@@ -262,6 +320,31 @@ static REFUSED_LABELS: [Refusal; 8] = [
         LineReason::Label,
     ),
     (
+        b"domain 0 nodes 1 pool 1\n0.0 x = connect 1 0:0:2 packet\n0.0 x = connect 1 0:0:2 packet\n",
+        3,
+        LineReason::Label,
+    ),
+    (
+        b"domain 0 nodes 1 pool 1\n0.0 x = lookup 0:0:1\n0.0 x = connect 1 0:0:2 scalar\n",
+        3,
+        LineReason::Label,
+    ),
+    (
+        b"domain 0 nodes 1 pool 1\n0.0 test x\n0.0 x = connect 1 0:0:2 scalar\n",
+        2,
+        LineReason::Label,
+    ),
+    (
+        b"domain 0 nodes 1 pool 1\ndomain 1 nodes 1 pool 1\n0.0 x = connect 1 1:0:2 scalar\n1.0 cancel x\n",
+        4,
+        LineReason::Label,
+    ),
+    (
+        b"domain 0 nodes 1 pool 1\n0.0 x = connect 1 0:0:2 scalar\n0.0 open_send 1 scalar\n0.0 cancel y\n",
+        4,
+        LineReason::Label,
+    ),
+    (
         b"domain 0 nodes 1 pool 1\n0.0 test x\n0.0 create 65536\n",
         2,
         LineReason::Label,
@@ -276,7 +359,23 @@ static REFUSED_LABELS: [Refusal; 8] = [
 /// A text that is read, and its canonical text.
 type Read = (&'static [u8], &'static [u8]);
 
-static READ: [Read; 12] = [
+static READ: [Read; 16] = [
+    (
+        b"domain 0 nodes 1 pool 1\n0.0 x = connect 1 0:0:2 packet\n0.0 open_send 1 packet\n0.0 open_recv 2 packet\n0.0 close_send 1\n0.0 close_recv 2\n",
+        b"domain 0 nodes 1 pool 1\n0.0 x = connect 1 0:0:2 packet\n0.0 open_send 1 packet\n0.0 open_recv 2 packet\n0.0 close_send 1\n0.0 close_recv 2\n",
+    ),
+    (
+        b"domain 0 nodes 2 pool 1\r\n 0.1\tx =  try 7 connect 65535 7:15:0 scalar \n0.1 try 1 open_send 65535\tscalar\n0.1 try 4294967295 open_recv 0 scalar\n0.1 try 2 close_send 0\n0.1 try 3  close_recv 0",
+        b"domain 0 nodes 2 pool 1\n0.1 x = try 7 connect 65535 7:15:0 scalar\n0.1 try 1 open_send 65535 scalar\n0.1 try 4294967295 open_recv 0 scalar\n0.1 try 2 close_send 0\n0.1 try 3 close_recv 0\n",
+    ),
+    (
+        b"domain 0 nodes 1 pool 1\ndomain 1 nodes 1 pool 1\n0.0 x = connect 1 1:0:2 packet\n1.0 x = connect 2 0:0:1 scalar\n1.0 test x\n0.0 cancel x\n",
+        b"domain 0 nodes 1 pool 1\ndomain 1 nodes 1 pool 1\n0.0 x = connect 1 1:0:2 packet\n1.0 x = connect 2 0:0:1 scalar\n1.0 test x\n0.0 cancel x\n",
+    ),
+    (
+        b"domain 0 nodes 1 pool 1\n0.0 packet = connect 1 0:0:2 packet\n0.0 connect = connect 1 0:0:2 scalar\n0.0 test connect\n0.0 cancel packet\n",
+        b"domain 0 nodes 1 pool 1\n0.0 packet = connect 1 0:0:2 packet\n0.0 connect = connect 1 0:0:2 scalar\n0.0 test connect\n0.0 cancel packet\n",
+    ),
     (
         b"domain 0 nodes 1 pool 2\n0.0 create 1\n0.0 create 2\n0.0 msg_send 1 0:0:2 1 6869\n0.0 msg_recv 2 488\n",
         b"domain 0 nodes 1 pool 2\n0.0 create 1\n0.0 create 2\n0.0 msg_send 1 0:0:2 1 6869\n0.0 msg_recv 2 488\n",
@@ -386,7 +485,8 @@ fn assert_refused_calls(rt: &impl Abort, alloc: Global, rows: &[RefusedCall]) ->
 
 #[test]
 fn calls_are_refused_with_their_first_reason(rt: HostRuntime) -> Result<(), Fail> {
-    assert_refused_calls(&rt, rt.alloc(), &REFUSED_CALLS)
+    assert_refused_calls(&rt, rt.alloc(), &REFUSED_CALLS)?;
+    assert_refused_calls(&rt, rt.alloc(), &REFUSED_CHANNELS)
 }
 
 fn assert_read(rt: &impl Abort, alloc: Global, rows: &[Read]) {
