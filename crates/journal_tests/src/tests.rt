@@ -16,7 +16,7 @@ fn room_for(alloc: Global, line: &[u8]) -> Result<Vec<u8>, AllocError>
 }
 
 /// A line without its newline, and how its entry is shown.
-const ENTRIES: [(&str, &str); 42] = [
+const ENTRIES: [(&str, &str); 48] = [
     ("turn", "Turn"),
     ("idle 0", "Idle { turns: 0 }"),
     (
@@ -66,6 +66,30 @@ const ENTRIES: [(&str, &str); 42] = [
     (
         "call 3 ok 1 6667",
         "Called { number: 3, answer: Bytes { size: 1, bytes: [102, 103] } }",
+    ),
+    (
+        "call 3 ok 0 11",
+        "Called { number: 3, answer: Bytes { size: 0, bytes: [17] } }",
+    ),
+    (
+        "call 3 ok 5 1",
+        "Called { number: 3, answer: Channel { request: 5, channel: 1 } }",
+    ),
+    (
+        "call 3 ok 0 1",
+        "Called { number: 3, answer: Channel { request: 0, channel: 1 } }",
+    ),
+    (
+        "call 3 ok 3 6869",
+        "Called { number: 3, answer: Channel { request: 3, channel: 6869 } }",
+    ),
+    (
+        "call 3 ok 4294967296 12",
+        "Called { number: 3, answer: Channel { request: 4294967296, channel: 12 } }",
+    ),
+    (
+        "call 3 ok 18446744073709551615 4294967295",
+        "Called { number: 3, answer: Channel { request: 18446744073709551615, channel: 4294967295 } }",
     ),
     (
         "call 4 truncated 3 6869",
@@ -248,7 +272,7 @@ fn each_word_is_read_and_written(rt: HostRuntime) -> Result<(), Fail> {
 }
 
 /// Lines that are no entry, each a little off one that is.
-const NEAR_MISSES: [&str; 66] = [
+const NEAR_MISSES: [&str; 74] = [
     "",
     " ",
     "turns",
@@ -311,8 +335,16 @@ const NEAR_MISSES: [&str; 66] = [
     "call 1 ",
     "call 4294967296 ok",
     "call 1 ok 18446744073709551616",
-    "call 1 ok 3 6869",
-    "call 1 ok 4294967296 6869",
+    "call 1 ok 3 68ff",
+    "call 1 ok 4294967296 68ff",
+    "call 1 ok 18446744073709551616 1",
+    "call 1 ok 6 4294967296",
+    "call 1 ok 05 1",
+    "call 1 ok 5 01",
+    "call 1 ok 5 1 ",
+    "call 1 ok  5 1",
+    "call 1 ok 5 1 1",
+    "call 1 ok 5 -1",
     "call 1 truncated 2 6869",
     "call 1 truncated 2",
 ];
