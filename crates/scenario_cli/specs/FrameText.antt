@@ -8,17 +8,11 @@ use Rattle.mc_base.specs.Fault.{faults}
 use Rattle.mc_base.specs.FaultRow.{FaultRow, first}
 use Rattle.mc_base.specs.Announcement.{IsNs}
 use Rattle.mc_base.specs.Letter.{PlainLetter, msg, connect, accept, reject, recv_open, send_open, packet, scalar, send_close, recv_close, bytes_of_bits, IsLetter}
-use Rattle.mc_base.specs.declared.channel.Kind.{Kind}
-use Rattle.mc_base.specs.declared.channel.Kind.TheVariants.{Packet, Scalar}
 use Rattle.mc_base.specs.declared.fault.Fault.{Fault}
-use Rattle.board_model.specs.Grammar.{line_of}
+use Rattle.board_model.specs.Grammar.{kind_text, line_of}
 use Rattle.board_model.specs.Dealing.{fault_word}
 use Rattle.board_model.specs.Words.{fate_text, reason_text}
 use Rattle.scenario_cli.specs.Hex.{hex_fault, bytes_spelled}
-
-abbrev pub kind_text : Kind → List ℕ
-kind_text Packet = codes "packet"
-kind_text Scalar = codes "scalar"
 
 -- the words of a letter
 abbrev pub letter_words : PlainLetter → List (List ℕ)

@@ -8,13 +8,14 @@ ghost use Rattle.outer_io.specs.Faults.{HasCause};
 ghost use Rattle.outer_io.specs.Puts.{Puts};
 ghost use Rattle.outer_io.specs.Writes.{Writes};
 ghost use Rattle.board_model.specs.Grammar.{spaced};
-ghost use Rattle.scenario_cli.specs.FrameText.{kind_text, letter_words, announcement_words, right_line, wrong_line};
+ghost use Rattle.scenario_cli.specs.FrameText.{letter_words, announcement_words, right_line, wrong_line};
 ghost use Rattle.scenario_cli.specs.Content.{content_line};
 
 use crate::frame::content::Content;
-use mc_base::{Bits, Kind, Letter, NAME_SERVICE_ADDRESS, Ns};
+use mc_base::{Bits, Letter, NAME_SERVICE_ADDRESS, Ns};
 use mc_journal::reason_word;
 use outer_io::{Failed, Sink, Writer};
+use scenario_lang::kind_word;
 
 /// Writes the line of a sound frame.
 pub fn write_right<K: Sink>(content: Content<'_>, sink: &mut K) -> Result<(), Failed>
@@ -167,15 +168,6 @@ fn announcement_word(create: bool) -> &'static [u8]
         b"name create "
     } else {
         b"name destroy "
-    }
-}
-
-fn kind_word(kind: Kind) -> &'static [u8]
-    ensures { result.now ≡ kind_text kind }
-{
-    match kind {
-        Kind::Packet => b"packet",
-        Kind::Scalar => b"scalar",
     }
 }
 
