@@ -8,7 +8,8 @@ use Rattle.board_model.specs.Lists.{changed_first, with_rising, without}
 use Rattle.board_model.specs.State as state
 use Rattle.board_model.specs.State.{Item, Endpoint, message_at, has_item, DomainState, is_at, is_numbered, place_at, live_at, address_at, queue_in, queue_at}
 use Rattle.board_model.specs.Choice.{best}
-use Rattle.board_model.specs.DomainCall.{DomainCall, create_at, delete_at, send_from, receive_at, request_at, test_of}
+use Rattle.board_model.specs.DomainCall.{DomainCall, create_at, delete_at, send_from, receive_at, request_at, test_of, close_at}
+use Rattle.mc_base.specs.declared.channel.Side.TheVariants.{Receiver, Sender}
 use Rattle.board_model.specs.Answer.{local}
 use Rattle.board_model.specs.Change.{endpoint_gone, best_gone, request_added, waiting_ended, end_announced, ended_in, changed, changed_all}
 use Rattle.board_model.specs.CallChanges.{at_live, best_item, success_changes, success_returned}
@@ -89,5 +90,11 @@ returned-agrees u node (receive_at port max) = ap (λ o. option_to_list (best (�
     go : (o : Option Endpoint) → option_to_list (best (λ (i : Item). i.priority) (queue_in o)) ≡ at_live o (λ e. option_to_list (best_item e))
     go None = refl
     go (Some e) = refl
+returned-agrees u node (close_at port Receiver) = ap queue_in (at-live u (local node port)) ∙ go (live_at u (local node port))
+  where
+    go : (o : Option Endpoint) → queue_in o ≡ at_live o (λ e. e.queue)
+    go None = refl
+    go (Some e) = refl
+returned-agrees u node (close_at port Sender) = refl
 returned-agrees u node (test_of place) = refl
 returned-agrees u node other = refl

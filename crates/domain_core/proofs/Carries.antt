@@ -81,7 +81,7 @@ module _ {P : Type 0} (leads : ℕ → P → Bool) (n : ℕ) where
             → map (peer_seen v) (cond b (with_this e' p ∷ ps) (p ∷ changed_first leads_p (with_this e') ps)) ≡ map (peer_seen v) (p ∷ ps)
         go true here later =
             let is : p.ends ≡ e = cc in
-            ap (λ (l : LaneSeen). record { number = p.number; ends = l; known = p.known } ∷ map (peer_seen v) ps) (same ∙ sym (ap v is))
+            ap (λ (l : LaneSeen). record { number = p.number; ends = l; known = p.known; replies = p.replies } ∷ map (peer_seen v) ps) (same ∙ sym (ap v is))
         go false there later = ap (λ (qs : List (Peer LaneSeen)). peer_seen v p ∷ qs) (later there)
 
     module _ (b : Book) (r : Records) (q : Requests) (t : endpoint_table.Table) (ps : List (Peer P)) (has : find (leads n) (ends_of ps) ≡ Some e) where

@@ -8,8 +8,8 @@ use Rattle.mc_base.specs.declared.name.EndName.{EndName}
 use Rattle.mc_base.specs.declared.refusal.Refusal.{Refusal}
 use Rattle.mc_base.specs.declared.request.RequestId.{RequestId}
 use Rattle.mc_base.specs.declared.request.Slot.{Slot}
-use Rattle.board_model.specs.State.{Request, has_address, has_ended}
-use Rattle.board_model.specs.Change.{asks_for}
+use Rattle.board_model.specs.State.{Request, has_address, has_ended, Asked}
+use Rattle.board_model.specs.Change.{asks_for, all_done, connects_on}
 use Rattle.domain_core.specs.PlacedFrames.{found_for}
 use Rattle.domain_core.specs.PlacedCalls.{ended_by_word}
 use Rattle.buffer_book.specs.Book.{AllDiffer, Book}
@@ -155,6 +155,18 @@ may (waiters.Receives local) complete.Accepted a o ends among is = absurd ends
 may (waiters.Receives local) (complete.Rejected reason) a o ends among is = absurd ends
 may (waiters.Receives local) (complete.Message slot max) a o ends among is = absurd ends
 may (waiters.Receives local) (complete.Packet slot) a o ends among is = absurd ends
+may (waiters.Connects number) complete.Accepted (ask.Connect channel) o ends among is = tt
+may (waiters.Connects number) complete.Accepted (ask.Lookup other) o ends among is = absurd cc
+may (waiters.Connects number) complete.Accepted (ask.Message at max) o ends among is = absurd cc
+may (waiters.Connects number) complete.Accepted (ask.Packet at) o ends among is = absurd cc
+may (waiters.Connects number) (complete.Rejected reason) (ask.Connect channel) o ends among is = tt
+may (waiters.Connects number) (complete.Rejected reason) (ask.Lookup other) o ends among is = absurd cc
+may (waiters.Connects number) (complete.Rejected reason) (ask.Message at max) o ends among is = absurd cc
+may (waiters.Connects number) (complete.Rejected reason) (ask.Packet at) o ends among is = absurd cc
+may (waiters.Connects number) (complete.Address address) a o ends among is = absurd ends
+may (waiters.Connects number) (complete.Message slot max) a o ends among is = absurd ends
+may (waiters.Connects number) (complete.Packet slot) a o ends among is = absurd ends
+may (waiters.Connects number) (complete.Ended word) a o ends among is = absurd ends
 
 holds-none : (who : Waiters) (how : Complete) → MayEnd who how → slots_in (Some how) ≡ []
 holds-none (waiters.Lookups name) (complete.Address address) ends = refl
@@ -169,6 +181,12 @@ holds-none (waiters.Receives local) complete.Accepted ends = absurd ends
 holds-none (waiters.Receives local) (complete.Rejected reason) ends = absurd ends
 holds-none (waiters.Receives local) (complete.Message slot max) ends = absurd ends
 holds-none (waiters.Receives local) (complete.Packet slot) ends = absurd ends
+holds-none (waiters.Connects number) complete.Accepted ends = refl
+holds-none (waiters.Connects number) (complete.Rejected reason) ends = refl
+holds-none (waiters.Connects number) (complete.Address address) ends = absurd ends
+holds-none (waiters.Connects number) (complete.Message slot max) ends = absurd ends
+holds-none (waiters.Connects number) (complete.Packet slot) ends = absurd ends
+holds-none (waiters.Connects number) (complete.Ended word) ends = absurd ends
 
 one-receives : (who : Waiters) (how : Complete) (r : Standing) → MayEnd who how → IsReceive r → IsReceive (completed_with who how r)
 one-receives who how r ends is = go (has_none who r) refl
@@ -208,21 +226,35 @@ asks-map n (ask.Connect channel) = refl
 asks-map n (ask.Message at max) = refl
 asks-map n (ask.Packet at) = refl
 
-one-found : (b : Book) (n : EndName) (address : ℕ) (r : Standing) → request_in b (completed_with (waiters.Lookups n) (complete.Address address) r) ≡ found_for n address (request_in b r)
-one-found b n address r =
-    by (has_none (waiters.Lookups n) r)
-    ∙ ap (λ (x : Bool). cond (x && is_among (waiters.Lookups n) r.ask) (record (request_in b r) { outcome = Some (has_address address) }) (request_in b r)) (sym (none-map b r.complete))
-    ∙ ap (λ (x : Bool). cond (is_none (option_map (outcome_in b) r.complete) && x) (record (request_in b r) { outcome = Some (has_address address) }) (request_in b r)) (sym (asks-map n r.ask))
-  where
-    by : (x : Bool) → request_in b (cond x (complete_now (complete.Address address) r) r) ≡ cond x (record (request_in b r) { outcome = Some (has_address address) }) (request_in b r)
-    by true = refl
-    by false = refl
+connects-map : (n : ℕ) (a : Ask) → connects_on n (asked_in a) ≡ is_among (waiters.Connects n) a
+connects-map n (ask.Lookup name) = refl
+connects-map n (ask.Connect channel) = refl
+connects-map n (ask.Message at max) = refl
+connects-map n (ask.Packet at) = refl
+
+-- pending requests that ask so are complete
+module _ (b : Book) (who : Waiters) (how : Complete) (asks : Asked → Bool) (same : (a : Ask) → asks (asked_in a) ≡ is_among who a) where
+  one-done_with : (r : Standing) → request_in b (completed_with who how r) ≡ all_done asks (outcome_in b how) (request_in b r)
+  one-done_with r =
+      by (has_none who r)
+      ∙ ap (λ (x : Bool). cond (x && is_among who r.ask) (record (request_in b r) { outcome = Some (outcome_in b how) }) (request_in b r)) (sym (none-map b r.complete))
+      ∙ ap (λ (x : Bool). cond (is_none (option_map (outcome_in b) r.complete) && x) (record (request_in b r) { outcome = Some (outcome_in b how) }) (request_in b r)) (sym (same r.ask))
+    where
+      by : (x : Bool) → request_in b (cond x (complete_now how r) r) ≡ cond x (record (request_in b r) { outcome = Some (outcome_in b how) }) (request_in b r)
+      by true = refl
+      by false = refl
+
+  requests-done : (rs : List Standing) → requests_in b (map (completed_with who how) rs) ≡ map (all_done asks (outcome_in b how)) (requests_in b rs)
+  requests-done [] = refl
+  requests-done (r ∷ rs) =
+      ap (λ (x : Request). x ∷ requests_in b (map (completed_with who how) rs)) (one-done_with r)
+      ∙ ap (λ (xs : List Request). all_done asks (outcome_in b how) (request_in b r) ∷ xs) (requests-done rs)
 
 pub requests-found : (b : Book) (n : EndName) (address : ℕ) (rs : List Standing) → requests_in b (map (completed_with (waiters.Lookups n) (complete.Address address)) rs) ≡ map (found_for n address) (requests_in b rs)
-requests-found b n address [] = refl
-requests-found b n address (r ∷ rs) =
-    ap (λ (x : Request). x ∷ requests_in b (map (completed_with (waiters.Lookups n) (complete.Address address)) rs)) (one-found b n address r)
-    ∙ ap (λ (xs : List Request). found_for n address (request_in b r) ∷ xs) (requests-found b n address rs)
+requests-found b n address = requests-done b (waiters.Lookups n) (complete.Address address) (asks_for n) (asks-map n)
+
+pub requests-settled : (b : Book) (n : ℕ) (how : Complete) (rs : List Standing) → requests_in b (map (completed_with (waiters.Connects n) how) rs) ≡ map (all_done (connects_on n) (outcome_in b how)) (requests_in b rs)
+requests-settled b n how = requests-done b (waiters.Connects n) how (connects_on n) (connects-map n)
 
 one-ended : (b : Book) (word : Refusal) (at : Local) (r : Standing) → request_in b (completed_with (waiters.Receives at) (complete.Ended word) r) ≡ ended_by_word word at (request_in b r)
 one-ended b word at r =

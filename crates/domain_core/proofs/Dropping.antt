@@ -76,7 +76,7 @@ all-left p sound i (s ∷ ss) is =
     let p1 = done (oldest_dropped i s) p in
     let gives = gives-seen s p.peers sound.peers.rising (oldest_dropped-out p sound i s first) in
     let others : state_of p1 ≡ record (state_of p) { endpoints = endpoints_in p.book p1.records.endpoints }
-    = given-state Any (λ l. tt) plain p.book p.records p1.records p.requests p.requests p.table s p.peers p1.peers gives (oldest-more plain p.book p.records p.requests p.table p.peers i s sound first) sound.places refl in
+    = given-state Any (λ l. tt) plain p.book p.records p1.records p.requests p.requests p.table s p.peers p1.peers gives (oldest-more plain p.book p.records p.requests p.table p.peers i s sound first) sound.places refl refl in
     let one : (state_of p1).endpoints ≡ changed_at without_first i (state_of p).endpoints = ap (λ (x : DomainState). x.endpoints) others ∙ endpoints-oldest p.book p.records.endpoints i in
     let rest = all-left p1 (oldest_dropped-keeps p sound i s first) i ss (tail-of s ss p i p1 is (oldest_dropped-left p sound i s first)) in
     record {
@@ -149,7 +149,7 @@ module _ (p : Parts) (sound : Sound p) (at : Local) (i : ℕ) (there : place_at 
       ∙ ap (λ (t : Table). state_in plain p'.book r q t p'.peers) (deleted-is plain p'.book p'.records p'.requests p'.table p'.peers at i all.sound there')
       ∙ ended-state plain p'.book p'.book p'.records p'.requests q p'.table p'.peers p'.peers all.sound.peers.rising all.sound.tied r at i new.0 new.1 new.2
       (endpoints-without p'.book i p'.records.endpoints ∙ ap (λ (o : Option ℕ). without o s'.endpoints) (sym there'))
-      (requests-ended p'.book EndpInvalid at p'.requests.standing) refl refl
+      (requests-ended p'.book EndpInvalid at p'.requests.standing) refl refl refl
       ∙ ap (without_endpoint s' at) (new-address ∙ sym old-address)
       ∙ ap (λ (x : DomainState). without_endpoint x at (unwrap_or (address_at (state_of p) at) 0)) all.others
       ∙ ap left_with (ap (λ (o : Option ℕ). without o s'.endpoints) there' ∙ all.left ∙ ap (λ (o : Option ℕ). without o (state_of p).endpoints) (sym there))

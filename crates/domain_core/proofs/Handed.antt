@@ -14,7 +14,7 @@ use Rattle.request_set.specs.declared.ask.Ask.{Ask}
 use Rattle.request_set.specs.declared.ask.Complete.{Complete}
 use Rattle.request_set.specs.declared.ask.Complete.TheVariants as complete
 use Rattle.request_set.specs.Requests.{Standing}
-use Rattle.domain_core.specs.InBook.{content_in, item_at, outcome_in, priority_in, request_in, requests_in, source_in}
+use Rattle.domain_core.specs.InBook.{channel_in, content_in, item_at, outcome_in, priority_in, request_in, requests_in, source_in}
 use Rattle.domain_core.specs.InRequests.{handed_slots, slots_in}
 use Rattle.domain_core.specs.InPlaces.{is_of, is_same, times_in}
 use Rattle.domain_core.proofs.Books.{differ-back, queued-there}
@@ -26,7 +26,7 @@ one-slot : (s t : Slot) → times_in s (t ∷ []) ≡ 0 → is_same t s ≡ fals
 one-slot s t none = no-one (is_same t s) (let sum = count-cons (λ (x : Slot). is_same x s) t [] in omega (arith, sum, none))
 
 item-stays : (b : Book) (s t : Slot) (k : Option Kept) → times_in s (t ∷ []) ≡ 0 → item_at (with_place b s k) t ≡ item_at b t
-item-stays b s t k none = ap (λ (o : Option Kept). record { peer = t.peer; source = source_in o; priority = priority_in o; channel = None; content = content_in o; frames = [] }) (queued-there b s k t (differ-back t s (one-slot s t none)))
+item-stays b s t k none = ap (λ (o : Option Kept). record { peer = t.peer; source = source_in o; priority = priority_in o; channel = channel_in o; content = content_in o; frames = [] }) (queued-there b s k t (differ-back t s (one-slot s t none)))
 
 outcome-stays : (b : Book) (s : Slot) (k : Option Kept) (o : Option Complete) → times_in s (slots_in o) ≡ 0 → option_map (outcome_in (with_place b s k)) o ≡ option_map (outcome_in b) o
 outcome-stays b s k None none = refl

@@ -28,8 +28,8 @@ use Rattle.domain_core.specs.InBook.{endpoint_in, endpoints_in}
 use Rattle.domain_core.specs.InRequests.{AreReceives}
 use Rattle.domain_core.specs.Records.{Records}
 use Rattle.domain_core.specs.Table.{holding}
-use Rattle.domain_core.specs.Verdicts.{Fits, IsHanded, IsJudged, IsQueued, IsShort, IsVerdict, Shows, letter_row, message, message_in}
-use Rattle.domain_core.proofs.Readings.{Carries, message-is, message-read}
+use Rattle.domain_core.specs.Verdicts.{Fits, IsHanded, IsJudged, IsQueued, IsShort, IsVerdict, Shows, framed_item, item_with, letter_row}
+use Rattle.domain_core.proofs.Readings.{Carries, item-is, message-read}
 use Rattle.domain_core.proofs.Receives.{found-place, none-position, waiting-place}
 
 -- a name that is not known is not forgotten
@@ -112,13 +112,13 @@ module _ (b : Book) (r : Records) (q : Requests) (s : DomainState) (peer source 
     judged-other l other = ap (λ o. first_row (letter_rows s peer None source dst o (plain_letter l))) end_there ∙ ap first_row (other_rows l other s peer source dst the_one.0)
 
     module _ (l : PlainLetter) (priority : ℕ) (content : List ℕ) (is : l ≡ msg priority content) where
-      message_row : (w : Bool) → state.one_waits s the_one.0.local ≡ w → letter_row s peer source dst l ≡ first_row (row w fate.Handed (item_handed dst (message peer source priority content) ∷ []) ∷ last_row fate.Queued (item_queued dst (message peer source priority content) ∷ []))
+      message_row : (w : Bool) → state.one_waits s the_one.0.local ≡ w → letter_row s peer source dst l ≡ first_row (row w fate.Handed (item_handed dst (item_with peer source priority None content) ∷ []) ∷ last_row fate.Queued (item_queued dst (item_with peer source priority None content) ∷ []))
       message_row w waits =
           ap (letter_row s peer source dst) is
           ∙ ap (λ o. first_row (letter_rows s peer None source dst o (msg priority content))) end_there
-          ∙ ap (λ t. first_row (row t fate.Handed (item_handed dst (message peer source priority content) ∷ []) ∷ last_row fate.Queued (item_queued dst (message peer source priority content) ∷ []))) waits
+          ∙ ap (λ t. first_row (row t fate.Handed (item_handed dst (item_with peer source priority None content) ∷ []) ∷ last_row fate.Queued (item_queued dst (item_with peer source priority None content) ∷ []))) waits
 
-      pub judged-queued : None ≡ oldest_waiting q local → IsQueued s (letter_row s peer source dst l) (message peer source priority content) at
+      pub judged-queued : None ≡ oldest_waiting q local → IsQueued s (letter_row s peer source dst l) (item_with peer source priority None content) at
       judged-queued none = record {
         destination = dst;
         row_is = message_row false (one_waits_so ∙ ap is_some (none-position (waits_at local) q.standing (none_mapped (find (waits_at local) q.standing) none)));
@@ -126,7 +126,7 @@ module _ (b : Book) (r : Records) (q : Requests) (s : DomainState) (peer source 
         within = within_there;
       }
 
-      pub judged-handed : (id : RequestId) (max : ℕ) → AreReceives q → IsPending q id → Some id ≡ oldest_waiting q local → ((at : Local) × (option_map (λ r. r.ask) (request_of q id) ≡ Some (Message at max))) → IsHanded s q (letter_row s peer source dst l) (message peer source priority content) id max
+      pub judged-handed : (id : RequestId) (max : ℕ) → AreReceives q → IsPending q id → Some id ≡ oldest_waiting q local → ((at : Local) × (option_map (λ r. r.ask) (request_of q id) ≡ Some (Message at max))) → IsHanded s q (letter_row s peer source dst l) (item_with peer source priority None content) id max
       judged-handed id max receives pending oldest asks =
           let same = found-place (waits_at local) id q.standing receives.differ (sym oldest) in
           record {
@@ -149,16 +149,16 @@ module _ (s : DomainState) (peer src dst : ℕ) (names : Names) (q : Requests) (
   row_so : letter_row s peer src dst l ≡ row_of s peer None (reading frame)
   row_so = ap (row_of s peer None) is
 
-  carried : (priority : ℕ) (content : List ℕ) → l ≡ msg priority content → Carries frame src priority content
+  carried : (priority : ℕ) (content : List ℕ) → l ≡ msg priority content → Carries frame src priority None content
   carried priority content letter = message-read frame src dst priority content (ap (says src dst) (sym letter) ∙ is)
 
   pub judged-verdict : (v : Verdict) → IsJudged s peer src dst q l v → IsVerdict s peer names names q q frame v
   judged-verdict (verdict.Queued place priority size) j =
       let c = carried priority j.0 j.1 in
-      let item = message-is peer frame src priority j.0 c ∙ ap (message_in peer frame) (sym j.2) in
-      (subst (λ (x : Row). IsQueued s x (message_in peer frame size) place) row_so (subst (λ (i : Item). IsQueued s (letter_row s peer src dst l) i place) item j.3), subst (Fits frame) (sym j.2) c.fits, c.says, refl, refl)
+      let item = item-is peer frame src priority None j.0 c ∙ ap (framed_item peer frame) (sym j.2) in
+      (subst (λ (x : Row). IsQueued s x (framed_item peer frame size) place) row_so (subst (λ (i : Item). IsQueued s (letter_row s peer src dst l) i place) item j.3), subst (Fits frame) (sym j.2) c.fits, c.says, refl, refl)
   judged-verdict (verdict.Handed id max size) j =
       let c = carried j.0 j.1 j.2 in
-      let item = message-is peer frame src j.0 j.1 c ∙ ap (message_in peer frame) (sym j.3) in
-      (subst (λ (x : Row). IsHanded s q x (message_in peer frame size) id max) row_so (subst (λ (i : Item). IsHanded s q (letter_row s peer src dst l) i id max) item j.4), subst (Fits frame) (sym j.3) c.fits, refl, refl)
+      let item = item-is peer frame src j.0 None j.1 c ∙ ap (framed_item peer frame) (sym j.3) in
+      (subst (λ (x : Row). IsHanded s q x (framed_item peer frame size) id max) row_so (subst (λ (i : Item). IsHanded s q (letter_row s peer src dst l) i id max) item j.4), subst (Fits frame) (sym j.3) c.fits, refl, refl)
   judged-verdict (verdict.Returned fate) j = record { happens = []; row_is = sym row_so ∙ j.0; returned = j.1; heard = (refl, refl) }

@@ -36,6 +36,7 @@ pub mod PeerPlaces
 pub mod CountsFrom
 pub mod Sending
 pub mod Asking
+pub mod ChangedPeers
 pub mod Stepping
 pub mod Steps
 pub mod Meaning

@@ -257,7 +257,7 @@ module _ (p : Parts) (place : Option ℕ) where
         let step : message_ended place s ≡ ending place (slots_held p.requests place) = ap (ending place) (sym held) in
         record {
           state = ap (λ (c : Step). state_of (done c p)) (sym step)
-              ∙ given-state Any (λ l. tt) plain p.book p.records p.records p.requests (without_at p.requests place) p.table s p.peers _ (gives-seen s p.peers sound.peers.rising out) (ended-more p.records p.requests (without_at p.requests place) p.book s more) sound.places refl
+              ∙ given-state Any (λ l. tt) plain p.book p.records p.records p.requests (without_at p.requests place) p.table s p.peers _ (gives-seen s p.peers sound.peers.rising out) (ended-more p.records p.requests (without_at p.requests place) p.book s more) sound.places refl refl
               ∙ ap (λ (rs : List state.Request). record (state_of p) { requests = rs }) (map-without (request_in p.book) place p.requests.standing);
           slots = s ∷ [];
           returned = sym items;

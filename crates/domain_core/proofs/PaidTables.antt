@@ -9,10 +9,15 @@ use Rattle.endpoint_table.specs.declared.record.Record.{Record}
 use Rattle.endpoint_table.specs.declared.announced.Announced.{Announced}
 use Rattle.endpoint_table.specs.Table.{Owing, Table, tells_gone, owes_gone, is_in_use, told_oldest, paid_to}
 use Rattle.endpoint_table.proofs.RecordLemmas.{all-filter, rising-filter}
-use Rattle.domain_core.specs.Owed.{owed_by, paid_times}
+use Rattle.domain_core.specs.Owed.{owed_by}
 use Rattle.domain_core.specs.Peers.{ended_in}
 use Rattle.domain_core.specs.Records.{Records}
 use Rattle.domain_core.specs.Tied.{AreTied}
+
+-- a linked domain was told so many
+abbrev paid_times : ℕ → Table → ℕ → Table
+paid_times zero t peer = t
+paid_times (suc n) t peer = paid_times n (paid_to t peer) peer
 
 -- ---- what is owed
 

@@ -1,9 +1,11 @@
 -- A buffer that is queued or received: the table of endpoints after it, and the places.
 use Rattle.std.proofs.Common.{◌≡◌, ℕ, ◌+◌, ◌-◌, ◌<◌, ◌≤◌, Bool, true, false, List, [], ◌∷◌, ◌++◌, length, map, Option, None, Some, refl, sym, ap, ◌∙◌, subst, arith, take, drop, eq-eqb}
-use Rattle.std.specs.Prelude.{count_by, is_some, not, option_map, position, slice_get, slice_index, ◌==◌}
+use Rattle.std.specs.Prelude.{count_by, if◌then◌else◌, is_some, not, option_map, position, slice_get, slice_index, ◌==◌}
 use Rattle.std.proofs.lemmas.Bool.{eqb-true}
 use Rattle.std.proofs.lemmas.List.{drop-take, get_or-take, length-take, take-take}
+use Rattle.byteorder.specs.Endian.{little_number}
 use Rattle.byteorder.specs.Numbers.{little_from-take}
+use Rattle.mc_base.specs.Bytes.{number_at}
 use Rattle.mc_base.specs.Stored.{Stored}
 use Rattle.mc_base.specs.Frame.{source_of}
 use Rattle.mc_base.specs.declared.fate.Fate.{Fate}
@@ -26,11 +28,11 @@ use Rattle.domain_core.specs.declared.endpoints.Endpoint.{Endpoint}
 use Rattle.domain_core.specs.Table.{Held, with_held}
 use Rattle.domain_core.specs.Records.{Records, all_waiting, waiting_in, with_best_taken, with_waiting, with_waiting_at}
 use Rattle.domain_core.specs.Out.{Out}
-use Rattle.domain_core.specs.InBook.{content_in, endpoints_in, held_by, item_at, item_in, priority_in, request_in, requests_in, source_in, table_in}
+use Rattle.domain_core.specs.InBook.{channel_in, channel_of, content_in, endpoints_in, held_by, item_at, item_in, priority_in, priority_of, request_in, requests_in, source_in, table_in}
 use Rattle.domain_core.specs.InRequests.{AreReceives, handed_slots}
 use Rattle.domain_core.specs.InPlaces.{AreInPlaces, AreInPlacesBut, EachInPlace, KeepOthers, is_misplaced, one_if, slot_at, slots_of, times_in, times_waiting}
 use Rattle.domain_core.specs.Stores.{Stores}
-use Rattle.domain_core.specs.Verdicts.{message, message_in}
+use Rattle.domain_core.specs.Verdicts.{framed_item, item_with}
 use Rattle.domain_core.proofs.Handed.{requests-stay}
 use Rattle.domain_core.proofs.Placed.{HasMore, enqueued, enqueued-other, is-away, none-waits, queued-here}
 use Rattle.domain_core.proofs.Receives.{complete-at, complete_now, each-complete, handed-more, ids-stay, keys-stay, length-stays, map-changed}
@@ -52,10 +54,25 @@ source-in_buffer bytes len size fits =
     let bound : 0 + 4 ≤ len = omega (arith, length-take len bytes) in
     little_from-take 0 4 len bytes bound
 
-priority-in_buffer : (bytes : List ℕ) (len size : ℕ) → 24 + size ≤ length (take len bytes) → slice_index (take len bytes) 19 ≡ slice_index bytes 19
+kind-in_buffer : (bytes : List ℕ) (len size : ℕ) → 24 + size ≤ length (take len bytes) → slice_index (take len bytes) 18 ≡ slice_index bytes 18
+kind-in_buffer bytes len size fits =
+    let bound : 18 < len = omega (arith, length-take len bytes) in
+    get_or-take len bytes 18 0 bound
+
+priority-in_buffer : (bytes : List ℕ) (len size : ℕ) → 24 + size ≤ length (take len bytes) → priority_of (take len bytes) ≡ priority_of bytes
 priority-in_buffer bytes len size fits =
     let bound : 19 < len = omega (arith, length-take len bytes) in
-    get_or-take len bytes 19 0 bound
+    ap (λ (k : ℕ). if k == 1 then slice_index (take len bytes) 19 else 0) (kind-in_buffer bytes len size fits)
+    ∙ ap (λ (n : ℕ). if slice_index bytes 18 == 1 then n else 0) (get_or-take len bytes 19 0 bound)
+
+channel-in_buffer : (bytes : List ℕ) (len size : ℕ) → 24 + size ≤ length (take len bytes) → channel_of (take len bytes) ≡ channel_of bytes
+channel-in_buffer bytes len size fits =
+    let cut = length-take len bytes in
+    let split : len ≡ 20 + (len - 20) = omega (arith, cut) in
+    let bound : 0 + 4 ≤ len - 20 = omega (arith, cut) in
+    let number : number_at 20 4 (take len bytes) ≡ number_at 20 4 bytes = ap (λ (n : ℕ). number_at 20 4 (take n bytes)) split ∙ ap (little_number 4) (drop-take 20 (len - 20) bytes) ∙ little_from-take 0 4 (len - 20) (drop 20 bytes) bound in
+    ap (λ (k : ℕ). if k == 1 then None else Some (number_at 20 4 (take len bytes))) (kind-in_buffer bytes len size fits)
+    ∙ ap (λ (n : ℕ). if slice_index bytes 18 == 1 then None else Some n) number
 
 -- ---- a message is queued or handed
 
@@ -107,17 +124,18 @@ module _ (r : Records) (q : Requests) (b b' : Book) (p : Out) (peer : ℕ) (s : 
       ∙ ap (λ (rs : List state.Request). record { endpoints = endpoints_in b r.endpoints; requests = rs }) (requests-stay b s' (Some k) q.standing none-handed)
 
   -- the message of the frame, as many of whose bytes as it has stand in the buffer
-  message-is : message peer (source_of buffer.bytes) (slice_index buffer.bytes 19) (take size (drop 24 buffer.bytes)) ≡ message_in peer frame size
-  message-is =
-      ap (λ (n : ℕ). message peer n (slice_index buffer.bytes 19) (take size (drop 24 buffer.bytes))) (sym (source-in_buffer buffer.bytes len size fits))
-      ∙ ap (λ (n : ℕ). message peer (source_of frame) n (take size (drop 24 buffer.bytes))) (sym (priority-in_buffer buffer.bytes len size fits))
-      ∙ ap (λ (xs : List ℕ). message peer (source_of frame) (slice_index frame 19) xs) (sym (content-in_buffer buffer.bytes len size fits))
+  item-is : item_with peer (source_of buffer.bytes) (priority_of buffer.bytes) (channel_of buffer.bytes) (take size (drop 24 buffer.bytes)) ≡ framed_item peer frame size
+  item-is =
+      ap (λ (n : ℕ). item_with peer n (priority_of buffer.bytes) (channel_of buffer.bytes) (take size (drop 24 buffer.bytes))) (sym (source-in_buffer buffer.bytes len size fits))
+      ∙ ap (λ (n : ℕ). item_with peer (source_of frame) n (channel_of buffer.bytes) (take size (drop 24 buffer.bytes))) (sym (priority-in_buffer buffer.bytes len size fits))
+      ∙ ap (λ (o : Option ℕ). item_with peer (source_of frame) (priority_of frame) o (take size (drop 24 buffer.bytes))) (sym (channel-in_buffer buffer.bytes len size fits))
+      ∙ ap (λ (xs : List ℕ). item_with peer (source_of frame) (priority_of frame) (channel_of frame) xs) (sym (content-in_buffer buffer.bytes len size fits))
 
-  item-here : item_at (with_queued b s' k) s' ≡ message_in peer frame size
-  item-here = ap (λ (o : Option Kept). message peer (source_in o) (priority_in o) (content_in o)) here ∙ message-is
+  item-here : item_at (with_queued b s' k) s' ≡ framed_item peer frame size
+  item-here = ap (λ (o : Option Kept). item_with peer (source_in o) (priority_in o) (channel_in o) (content_in o)) here ∙ item-is
 
   -- the buffer holds the message
-  pub enqueued-stored : (fate : Fate) → message_in peer frame size ≡ item_of peer frame → Stores peer (buffer.number ∷ []) (taken frame fate ∷ []) b b'
+  pub enqueued-stored : (fate : Fate) → framed_item peer frame size ≡ item_of peer frame → Stores peer (buffer.number ∷ []) (taken frame fate ∷ []) b b'
   enqueued-stored fate item = subst (λ (x : Book). Stores peer (buffer.number ∷ []) (taken frame fate ∷ []) b x) (sym book-is) (record {
     stays = keeps-queued b s' (Some k) away;
     stored = (λ keeps. record { queued = ap (λ (o : Option Kept). is_some o) here; item = item-here ∙ item }, tt);
@@ -125,14 +143,14 @@ module _ (r : Records) (q : Requests) (b b' : Book) (p : Out) (peer : ℕ) (s : 
 
   -- ---- into a queue
 
-  module _ (r' : Records) (i priority : ℕ) (says : slice_index frame 19 ≡ priority) (records : r' ≡ with_waiting_at r i (waiting s priority)) where
+  module _ (r' : Records) (i priority : ℕ) (says : priority_of frame ≡ priority) (records : r' ≡ with_waiting_at r i (waiting s priority)) where
     abbrev w : Waiting
     w = waiting s' priority
 
     abbrev vs : List Waiting
     vs = all_waiting (changed_at (with_waiting w) i r.endpoints)
 
-    priority-is : priority ≡ slice_index buffer.bytes 19
+    priority-is : priority ≡ priority_of buffer.bytes
     priority-is = sym says ∙ priority-in_buffer buffer.bytes len size fits
 
     records-are : r' ≡ with_waiting_at r i w
@@ -143,7 +161,7 @@ module _ (r : Records) (q : Requests) (b b' : Book) (p : Out) (peer : ℕ) (s : 
 
     priorities : i < length r.endpoints → count_by (is_misplaced (with_queued b s' k)) vs ≡ 0
     priorities lt =
-        let matches : one_if (is_misplaced (with_queued b s' k) w) ≡ 0 = ap (λ (o : Option Kept). one_if (not (priority == priority_in o))) here ∙ matched priority (slice_index buffer.bytes 19) priority-is in
+        let matches : one_if (is_misplaced (with_queued b s' k) w) ≡ 0 = ap (λ (o : Option Kept). one_if (not (priority == priority_in o))) here ∙ matched priority (priority_of buffer.bytes) priority-is in
         omega (arith, waiting-more (is_misplaced (with_queued b s' k)) w r.endpoints i lt, misplaced-stay b s' (Some k) ws none-waiting, places.priorities, matches)
 
     queued-moved : (n : ℕ) (o : Out) → AreInPlaces n (with_waiting_at r i w) q (with_queued b s' k) o → AreInPlaces n r' q b' o
@@ -164,16 +182,16 @@ module _ (r : Records) (q : Requests) (b b' : Book) (p : Out) (peer : ℕ) (s : 
     pub queued-total : i < length r.endpoints → length (slots_of r' q) ≡ length (slots_of r q) + 1
     queued-total lt = ap (λ (x : Records). length (slots_of x q)) records-are ∙ length-more s' (slots ws ++ hs) (slots vs ++ hs) (more lt)
 
-    pub queued-table : table_in b' r' q ≡ with_held (table_in b r q) (record (held_by b r q) { endpoints = changed_at (queued_last (message_in peer frame size)) i (endpoints_in b r.endpoints) })
+    pub queued-table : table_in b' r' q ≡ with_held (table_in b r q) (record (held_by b r q) { endpoints = changed_at (queued_last (framed_item peer frame size)) i (endpoints_in b r.endpoints) })
     queued-table =
         let b'' = with_queued b s' k in
         let es = r.endpoints in
-        let item : item_in b'' w ≡ message peer (source_of buffer.bytes) (slice_index buffer.bytes 19) (take size (drop 24 buffer.bytes)) = ap (λ (o : Option Kept). message peer (source_in o) priority (content_in o)) here ∙ ap (λ (n : ℕ). message peer (source_of buffer.bytes) n (take size (drop 24 buffer.bytes))) priority-is in
+        let item : item_in b'' w ≡ item_with peer (source_of buffer.bytes) (priority_of buffer.bytes) (channel_of buffer.bytes) (take size (drop 24 buffer.bytes)) = ap (λ (o : Option Kept). item_with peer (source_in o) priority (channel_in o) (content_in o)) here ∙ ap (λ (n : ℕ). item_with peer (source_of buffer.bytes) n (channel_of buffer.bytes) (take size (drop 24 buffer.bytes))) priority-is in
         ap (λ (x : Records). table_in b' x q) records-are
         ∙ ap (λ (x : Book). table_in x (with_waiting_at r i w) q) book-is
         ∙ ap (λ (xs : List state.Endpoint). with_held (table_in b r q) (record { endpoints = xs; requests = requests_in b'' q.standing })) (endpoints-more b'' w es i)
         ∙ ap (λ (h : Held). with_held (table_in b r q) (record h { endpoints = changed_at (queued_last (item_in b'' w)) i h.endpoints })) stay
-        ∙ ap (λ (x : Item). with_held (table_in b r q) (record (held_by b r q) { endpoints = changed_at (queued_last x) i (endpoints_in b es) })) (item ∙ message-is)
+        ∙ ap (λ (x : Item). with_held (table_in b r q) (record (held_by b r q) { endpoints = changed_at (queued_last x) i (endpoints_in b es) })) (item ∙ item-is)
 
   -- ---- to a request
 
@@ -208,7 +226,7 @@ module _ (r : Records) (q : Requests) (b b' : Book) (p : Out) (peer : ℕ) (s : 
     pub handed-total : length (slots_of r q') ≡ length (slots_of r q) + 1
     handed-total = ap (λ (x : Requests). length (slots_of r x)) requests-are ∙ length-more s' (slots ws ++ hs) (slots ws ++ gs) one-handed
 
-    pub handed-table : table_in b' r q' ≡ with_held (table_in b r q) (record (held_by b r q) { requests = changed (complete_with (message_in peer frame size)) (position (is_id id) q.standing) (requests_in b q.standing) })
+    pub handed-table : table_in b' r q' ≡ with_held (table_in b r q) (record (held_by b r q) { requests = changed (complete_with (framed_item peer frame size)) (position (is_id id) q.standing) (requests_in b q.standing) })
     handed-table =
         let b'' = with_queued b s' k in
         let how : Complete = complete.Message s' max in

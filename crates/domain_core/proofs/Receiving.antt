@@ -47,12 +47,13 @@ module _ {L : Type 0} (M : L → List LaneMove → L → Type 0) (m-none : (l : 
   before = state_in v b r q t ps
 
   -- what is held is read as before, though a buffer is no more in the book
-  pub given-state : HasMore s (slots_of r' q') (slots_of r q) → AllByRecursion (InPlacesAt v b r q) ps → q'.given ≡ q.given → state_in v (with_away b s) r' q' t ps' ≡ record before { endpoints = endpoints_in b r'.endpoints; requests = requests_in b q'.standing }
-  given-state more places given =
+  pub given-state : HasMore s (slots_of r' q') (slots_of r q) → AllByRecursion (InPlacesAt v b r q) ps → q'.given ≡ q.given → r'.channels ≡ r.channels → state_in v (with_away b s) r' q' t ps' ≡ record before { endpoints = endpoints_in b r'.endpoints; requests = requests_in b q'.standing }
+  given-state more places given numbered =
       let p = gives.peer in
       let here = All-at (InPlacesAt v b r q) ps gives.place p places gives.there in
       let made : List state.Endpoint → List state.Peer → List state.Request → ℕ → DomainState = λ es xs rs n. record before { endpoints = es; peers = xs; requests = rs; requests_given = n } in
-      ap (λ (es : List state.Endpoint). made es (peers_in v t ps') (requests_in (with_away b s) q'.standing) q'.given) (left-endpoints r r' q q' b s more p.number (out_at v p) here)
+      ap (λ (n : ℕ). record (state_in v (with_away b s) r' q' t ps') { channels_given = n }) numbered
+      ∙ ap (λ (es : List state.Endpoint). made es (peers_in v t ps') (requests_in (with_away b s) q'.standing) q'.given) (left-endpoints r r' q q' b s more p.number (out_at v p) here)
       ∙ ap (λ (xs : List state.Peer). made (endpoints_in b r'.endpoints) xs (requests_in (with_away b s) q'.standing) q'.given) (given-peers M v s ps ps' gives t)
       ∙ ap (λ (rs : List state.Request). made (endpoints_in b r'.endpoints) (peers_in v t ps) rs q'.given) (left-requests r r' q q' b s more p.number (out_at v p) here)
       ∙ ap (λ (n : ℕ). made (endpoints_in b r'.endpoints) (peers_in v t ps) (requests_in b q'.standing) n) given

@@ -3,7 +3,6 @@ use Rattle.std.proofs.Common.{◌≡◌, ℕ, zero, suc, ◌<◌, Bool, true, fa
 use Rattle.std.specs.Prelude.{Contains, slice_get, slice_set, option_map, ◌==◌}
 use Rattle.std.specs.List.{AllByRecursion}
 use Rattle.std.proofs.lemmas.Option.{slice_get-map}
-use Rattle.mc_base.specs.NameMap.{Names}
 use Rattle.mc_base.specs.declared.request.Slot.{Slot}
 use Rattle.mc_base.specs.declared.refusal.Refusal.{Refusal}
 use Rattle.mc_base.specs.declared.request.RequestId.{RequestId}
@@ -25,8 +24,9 @@ use Rattle.domain_core.specs.Peers.{peer_in, peers_in, state_in}
 use Rattle.domain_core.specs.Sound.{AreRising, AreSound}
 use Rattle.domain_core.specs.CallSteps.{Acted, Acts, Succeeds}
 use Rattle.domain_core.specs.Parts.{Holding, Parts, Sound, holding_in, parts_in, peer_seen, peers_seen, plain, state_of}
-use Rattle.domain_core.specs.Steps.{Did, Step, all_moves, at_peer, book_after, done, done_all, moved_peer, names_told, peers_after, records_after, requests_after, step_moves, table_after, told_peer}
+use Rattle.domain_core.specs.Steps.{Did, Step, all_moves, at_peer, book_after, done, done_all, moved_peer, names_told, peers_after, records_after, reply_owed, reply_put, requests_after, step_moves, table_after, with_names, with_reply, with_reply_put}
 use Rattle.std.proofs.lemmas.List.{append-nil, append_assoc}
+use Rattle.domain_core.proofs.ChangedPeers.{changed-same, number-above}
 use Rattle.domain_core.proofs.Calling.{answer-done, answer-refused}
 use Rattle.domain_core.proofs.PeerPlaces.{peer-at}
 use Rattle.domain_core.proofs.Sending.{Outline, outline, same-sound}
@@ -59,11 +59,6 @@ others-stay d ms (p ∷ ps) above =
     let rest = others-stay d ms ps above.1 in
     cc
 
-pub number-at : {L : Type 0} (n : ℕ) (ps : List (Peer L)) (i : ℕ) (p : Peer L) → AllByRecursion (λ m. n < m) (numbers_of ps) → slice_get ps i ≡ Some p → n < p.number
-number-at n [] i p all there = absurd cc
-number-at n (x ∷ ps) zero p all there = let same : x ≡ p = cc in subst (λ (y : Peer _). n < y.number) same all.0
-number-at n (x ∷ ps) (suc i) p all there = number-at n ps i p all.1 there
-
 pub set-is-map : (d : ℕ) (ms : List LaneMove) (ps : List (Peer LaneSeen)) (i : ℕ) (p : Peer LaneSeen) → AreRising (numbers_of ps) → slice_get ps i ≡ Some p → p.number ≡ d → slice_set ps i (record p { ends = after_moves ms p.ends }) ≡ map (moved_peer (at_peer d ms)) ps
 set-is-map d ms [] i p rising there is = absurd cc
 set-is-map d ms (x ∷ ps) zero p rising there is =
@@ -74,7 +69,7 @@ set-is-map d ms (x ∷ ps) zero p rising there is =
     let rest = others-stay d ms ps (subst (λ (n : ℕ). AllByRecursion (λ m. n < m) (numbers_of ps)) number rising.0) in
     cc
 set-is-map d ms (x ∷ ps) (suc i) p rising there is =
-    let above = number-at x.number ps i p rising.0 there in
+    let above = number-above x.number ps i p rising.0 there in
     let here = moved-at d ms x false (ne_eqb d x.number (λ e. omega (arith, above, is, e))) in
     let rest = set-is-map d ms ps i p rising.1 there is in
     cc
@@ -138,7 +133,7 @@ module _ {L : Type 0} (v : L → LaneSeen) where
         (subst (λ (b : Bool). M x.ends (cond b ms []) e) (sym (eq-eqb d x.number (sym number))) (subst (λ (y : Peer L). M y.ends ms e) (sym same) moved), stay-moved ps (subst (λ (n : ℕ). AllByRecursion (λ m. n < m) (numbers_of (peers_seen v ps))) number rising.0))
     one-moved (x ∷ ps) (suc i) p e rising there is moved =
         let seen = slice_get-map (peer_seen v) ps i ∙ ap (option_map (peer_seen v)) there in
-        let above = number-at x.number (peers_seen v ps) i (peer_seen v p) rising.0 seen in
+        let above = number-above x.number (peers_seen v ps) i (peer_seen v p) rising.0 seen in
         (subst (λ (b : Bool). M x.ends (cond b ms []) x.ends) (sym (ne_eqb d x.number (λ e. omega (arith, above, is, e)))) (m-none x.ends), one-moved ps i p e rising.1 there is moved)
     -- a buffer was given back
 
@@ -187,12 +182,10 @@ pub moved-numbers : (moves : ℕ → List LaneMove) (ps : List (Peer LaneSeen)) 
 moved-numbers moves [] = refl
 moved-numbers moves (p ∷ ps) = ap (λ ns. p.number ∷ ns) (moved-numbers moves ps)
 
-told-numbers : (peer : ℕ) (names : Names) (ps : List (Peer LaneSeen)) → numbers_of (map (told_peer peer names) ps) ≡ numbers_of ps
-told-numbers peer names [] = refl
-told-numbers peer names (p ∷ ps) = ap (λ ns. p.number ∷ ns) (told-numbers peer names ps)
-
 pub step-numbers : (c : Step) (ps : List (Peer LaneSeen)) → numbers_of (peers_after c ps) ≡ numbers_of ps
-step-numbers (names_told peer names) ps = told-numbers peer names ps
+step-numbers (names_told peer names) ps = changed-same peer (with_names names) (λ p. p.number) (λ p. refl) ps
+step-numbers (reply_owed peer r) ps = changed-same peer (with_reply r) (λ p. p.number) (λ p. refl) ps
+step-numbers (reply_put peer frame) ps = changed-same peer (with_reply_put frame) (λ p. p.number) (λ p. refl) ps
 step-numbers other ps = moved-numbers (step_moves other) ps
 
 pub done-numbers : (cs : List Step) (p : Parts) → numbers_of (done_all cs p).peers ≡ numbers_of p.peers

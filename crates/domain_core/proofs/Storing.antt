@@ -6,7 +6,7 @@ use Rattle.mc_base.specs.declared.request.Slot.{Slot}
 use Rattle.board_model.specs.Journal.{Taken, taken}
 use Rattle.board_model.specs.Dealing.{keeps_buffer}
 use Rattle.buffer_book.specs.Book.{Book, IsAway, IsQueued, Kept, if_queued, queued_at, with_away, with_place}
-use Rattle.domain_core.specs.InBook.{content_in, item_at, priority_in, source_in}
+use Rattle.domain_core.specs.InBook.{channel_in, content_in, item_at, priority_in, source_in}
 use Rattle.domain_core.specs.InPlaces.{slot_at}
 use Rattle.domain_core.specs.Stores.{AreStored, IsStored, KeepsBut, KeepsQueued, Stores}
 use Rattle.domain_core.proofs.Books.{each-slot, queued-there}
@@ -31,7 +31,7 @@ keeps-both a b c first then s is = then s (still-queued a b s first is) ∙ firs
 
 -- what was stored stays
 pub item-same : (b b' : Book) (s : Slot) → queued_at b' s ≡ queued_at b s → item_at b' s ≡ item_at b s
-item-same b b' s same = ap (λ (o : Option Kept). record { peer = s.peer; source = source_in o; priority = priority_in o; channel = None; content = content_in o; frames = [] }) same
+item-same b b' s same = ap (λ (o : Option Kept). record { peer = s.peer; source = source_in o; priority = priority_in o; channel = channel_in o; content = content_in o; frames = [] }) same
 
 pub stays-stored : (peer n : ℕ) (frame : List ℕ) (b b' : Book) → KeepsQueued b b' → IsStored peer n frame b → IsStored peer n frame b'
 stays-stored peer n frame b b' keeps stored = record {

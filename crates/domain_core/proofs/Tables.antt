@@ -1,14 +1,19 @@
 -- Endpoints as the code keeps them, and as the definitions see them.
-use Rattle.std.proofs.Common.{◌≡◌, ℕ, zero, suc, ◌+◌, ◌<◌, ◌≤◌, Bool, false, cond, List, [], ◌∷◌, ◌++◌, length, map, Option, Some, None, refl, sym, ap, ◌∙◌, arith, get_or}
-use Rattle.std.specs.Prelude.{position, slice_set, slice_get, option_and_then}
+use Rattle.std.proofs.Common.{◌≡◌, ℕ, zero, suc, ◌+◌, ◌<◌, ◌≤◌, Bool, true, false, cond, List, [], ◌∷◌, ◌++◌, length, map, Option, Some, None, refl, sym, ap, ◌∙◌, arith, get_or}
+use Rattle.std.specs.Prelude.{is_none, is_some, position, slice_set, slice_get, option_map, ◌&&◌, if◌then◌else◌}
 use Rattle.std.specs.List.{position_from, remove, AllByRecursion}
 use Rattle.std.proofs.lemmas.Iterator.Adapters.{position_from-zero}
 use Rattle.board_model.specs.Lists.{changed_at, without_at}
 use Rattle.board_model.specs.Answer.{has_channel}
+use Rattle.board_model.specs.ChannelEnds.{is_closed}
+use Rattle.board_model.specs.State as state
+use Rattle.board_model.specs.State.{channel_in}
 use Rattle.board_model.specs.Choice.{without_best}
 use Rattle.buffer_book.specs.Book.{Book}
 use Rattle.domain_core.specs.declared.endpoints.Endpoint.{Endpoint}
-use Rattle.domain_core.specs.Records.{all_waiting, waiting_in, with_best_taken}
+use Rattle.packet_channel.specs.End.{end_of, kept_end, stage_of}
+use Rattle.packet_channel.specs.declared.channel.Channel.{Channel}
+use Rattle.domain_core.specs.Records.{all_waiting, kept, waiting_in, with_best_taken}
 use Rattle.domain_core.specs.InBook.{endpoints_in}
 use Rattle.domain_core.specs.InTable.{HaveRoom, HaveAddresses}
 use Rattle.domain_core.proofs.Waits.{waiting-within}
@@ -29,15 +34,33 @@ slice_get-read [] i x lt read = absurd (omega arith)
 slice_get-read (y ∷ ys) zero x lt read = ap (λ z. Some z) (sym read)
 slice_get-read (y ∷ ys) (suc i) x lt read = slice_get-read ys i x (omega arith) read
 
--- none has a channel
-channel-none : (b : Book) (es : List Endpoint) (i : ℕ) → has_channel (slice_get (endpoints_in b es) i) ≡ false
-channel-none b [] i = refl
-channel-none b (e ∷ es) zero = refl
-channel-none b (e ∷ es) (suc i) = channel-none b es i
+-- the end of a channel at a place, as the definitions see it
+pub channel-there : (b : Book) (es : List Endpoint) (i : ℕ) (c : Option Channel) → Some c ≡ option_map (λ (e : Endpoint). e.channel) (slice_get es i) → channel_in (slice_get (endpoints_in b es) i) ≡ option_map end_of c
+channel-there b [] i c is = absurd cc
+channel-there b (e ∷ es) zero c is = let same : c ≡ e.channel = cc in ap (option_map end_of) (sym same)
+channel-there b (e ∷ es) (suc i) c is = channel-there b es i c is
 
-pub channels-none : (b : Book) (es : List Endpoint) (o : Option ℕ) → has_channel (option_and_then (λ i. slice_get (endpoints_in b es) i) o) ≡ false
-channels-none b es None = refl
-channels-none b es (Some i) = channel-none b es i
+some-end : (o : Option Channel) → is_some (option_map end_of o) ≡ is_some o
+some-end None = refl
+some-end (Some c) = refl
+
+pub has-there : (b : Book) (es : List Endpoint) (i : ℕ) (has : Bool) → Some has ≡ option_map (λ (e : Endpoint). is_some e.channel) (slice_get es i) → has_channel (slice_get (endpoints_in b es) i) ≡ has
+has-there b [] i has is = absurd cc
+has-there b (e ∷ es) zero has is = let same : has ≡ is_some e.channel = cc in some-end e.channel ∙ sym same
+has-there b (e ∷ es) (suc i) has is = has-there b es i has is
+
+pub address-there : (b : Book) (es : List Endpoint) (i a : ℕ) → Some a ≡ option_map (λ (e : Endpoint). e.address) (slice_get es i) → Some a ≡ option_map (λ (e : state.Endpoint). e.address) (slice_get (endpoints_in b es) i)
+address-there b [] i a is = absurd cc
+address-there b (e ∷ es) zero a is = is
+address-there b (e ∷ es) (suc i) a is = address-there b es i a is
+
+-- an end is kept where its channel has not ended
+pub kept-is : (c : Channel) → option_map end_of (kept c) ≡ kept_end c
+kept-is c = go (is_closed (stage_of c.stage) && c.far_closed)
+  where
+    go : (b : Bool) → option_map end_of (if is_none (if b then None else Some (end_of c)) then None else Some c) ≡ (if b then None else Some (end_of c))
+    go true = refl
+    go false = refl
 
 -- ---- one endpoint changed
 
@@ -70,6 +93,11 @@ All-push P (y ∷ xs) x hs h = (hs.0, All-push P xs x hs.1 h)
 pub All-front : {X : Type 0} (P : X → Type 0) (xs : List X) (x : X) → AllByRecursion P (xs ++ x ∷ []) → AllByRecursion P xs × P x
 All-front P [] x h = (tt, h.0)
 All-front P (y ∷ xs) x h = let r = All-front P xs x h.1 in ((h.0, r.0), r.1)
+
+pub All-read : {X : Type 0} (P : X → Type 0) (xs : List X) (i : ℕ) (x : X) → i < length xs → x ≡ get_or xs i x → AllByRecursion P xs → P x
+All-read P [] i x lt read all = absurd (omega arith)
+All-read P (y ∷ ys) zero x lt read all = rw read all.0
+All-read P (y ∷ ys) (suc i) x lt read all = All-read P ys i x (omega arith) read all.1
 
 pub address-at : (es : List Endpoint) (i : ℕ) (e : Endpoint) → HaveAddresses es → i < length es → e ≡ get_or es i e → 1024 ≤ e.address
 address-at [] i e all lt read = absurd (omega arith)

@@ -25,7 +25,7 @@ use Rattle.domain_core.specs.declared.peer.Peer.{Peer}
 use Rattle.domain_core.specs.declared.requests.Waiters.TheVariants as waiters
 use Rattle.domain_core.specs.AllMoved.{ends_of}
 use Rattle.domain_core.specs.Doing.{Doing, Takes, ids_in}
-use Rattle.domain_core.specs.InBook.{endpoint_in}
+use Rattle.domain_core.specs.InBook.{endpoint_in, priority_of}
 use Rattle.domain_core.specs.InPlaces.{AreInPlaces, slot_at, slots_of}
 use Rattle.domain_core.specs.InRequests.{handed_slots, with_all_complete}
 use Rattle.domain_core.specs.LaneMoves.{LaneMove, receiver}
@@ -33,10 +33,11 @@ use Rattle.domain_core.specs.LaneSeen.{LaneSeen, after_move, after_moves}
 use Rattle.domain_core.specs.Parts.{Holding, Parts, Sound, holding_in, parts_in, peer_at, peer_seen, peers_seen, plain, state_of}
 use Rattle.domain_core.specs.Records.{Records, all_waiting, with_waiting_at}
 use Rattle.domain_core.specs.Sound.{out_at}
-use Rattle.domain_core.specs.Steps.{Step, all_moves, at_peer, done, done_all, frame_handed, frame_queued, frame_returned, moved_peer, name_told, names_told, step_moves, told_peer}
+use Rattle.domain_core.specs.Steps.{Step, all_moves, at_peer, changed_peer, done, done_all, frame_handed, frame_queued, frame_returned, moved_peer, name_told, names_told, step_moves, with_names}
 use Rattle.domain_core.specs.Stores.{AreStored, KeepsQueued, Stores}
-use Rattle.domain_core.specs.Verdicts.{Fits, IsHanded, IsHeard, IsQueued, IsReturned, Shows, message_in}
+use Rattle.domain_core.specs.Verdicts.{Fits, IsHanded, IsHeard, IsQueued, IsReturned, Shows, framed_item}
 use Rattle.domain_core.specs.VisitMoves.{taking}
+use Rattle.domain_core.proofs.ChangedPeers.{set-changed}
 use Rattle.domain_core.proofs.Completing.{ids-all}
 use Rattle.domain_core.proofs.PeerPlaces.{All-from}
 use Rattle.domain_core.proofs.PeersAt.{Fit, find-place, outs-room}
@@ -47,7 +48,7 @@ use Rattle.domain_core.proofs.Queuing.{enqueued-stored, handed-ids}
 use Rattle.domain_core.proofs.Stepping.{quiet-peers, seen-set, set-is-map}
 use Rattle.domain_core.proofs.Outs.{is-out}
 use Rattle.domain_core.proofs.Storing.{Stores-returned, keeps-none}
-use Rattle.domain_core.proofs.TurnMeaning.{frame_handed-is, frame_queued-is, frame_returned-is, name_told-is, names_told-is, told-set}
+use Rattle.domain_core.proofs.TurnMeaning.{frame_handed-is, frame_queued-is, frame_returned-is, name_told-is, names_told-is}
 use Rattle.domain_core.proofs.TurnSteps.{but-one, frame_handed-keeps, frame_queued-keeps, frame_returned-keeps, name_told-keeps, names_told-keeps}
 use Rattle.domain_core.proofs.Turning.{doing-by, peer-is, peers-are, seen-there}
 
@@ -75,22 +76,22 @@ get_set (z ∷ xs) zero x y there = refl
 get_set (z ∷ xs) (suc i) x y there = get_set xs i x y there
 
 module _ (p : Parts) (sound : Sound p) (i : ℕ) (x : Peer LaneSeen) (there : slice_get p.peers i ≡ Some x) where
-  told_stays : map (told_peer x.number x.known) p.peers ≡ p.peers
-  told_stays = sym (told-set p sound i x there x.known p.peers i sound.peers.rising there) ∙ set_itself p.peers i x there
+  told_stays : map (changed_peer x.number (with_names x.known)) p.peers ≡ p.peers
+  told_stays = sym (set-changed x.number (with_names x.known) p.peers i x sound.peers.rising there refl) ∙ set_itself p.peers i x there
 
   abbrev heard_parts : Names → Requests → Parts
-  heard_parts names q = record p { requests = q; peers = map (told_peer x.number names) p.peers }
+  heard_parts names q = record p { requests = q; peers = map (changed_peer x.number (with_names names)) p.peers }
 
   pub heard-done : (cs : List Change) (names : Names) (q : Requests) → IsHeard x.number cs x.known names p.requests q → done_all (heard_steps cs) p ≡ heard_parts names q
   heard-done [] names q is =
       ap (λ (ps : List (Peer LaneSeen)). record p { peers = ps }) (sym told_stays)
       ∙ ap (λ (ns : Names). heard_parts ns p.requests) (sym is.0) ∙ ap (heard_parts names) (sym is.1)
   heard-done (names_known n ms ∷ []) names q is =
-      ap (λ (m : ℕ). record p { peers = map (told_peer m ms) p.peers }) is.0
+      ap (λ (m : ℕ). record p { peers = map (changed_peer m (with_names ms)) p.peers }) is.0
       ∙ ap (λ (ns : Names). heard_parts ns p.requests) (sym is.1) ∙ ap (heard_parts names) (sym is.2)
   heard-done (names_known n ms ∷ name_found name address ∷ []) names q is =
-      ap (λ (ps : List (Peer LaneSeen)). record p { requests = with_all_complete p.requests (waiters.Lookups name) (complete.Address address); peers = ps }) (quiet-peers (map (told_peer n ms) p.peers))
-      ∙ ap (λ (m : ℕ). record p { requests = with_all_complete p.requests (waiters.Lookups name) (complete.Address address); peers = map (told_peer m ms) p.peers }) is.0
+      ap (λ (ps : List (Peer LaneSeen)). record p { requests = with_all_complete p.requests (waiters.Lookups name) (complete.Address address); peers = ps }) (quiet-peers (map (changed_peer n (with_names ms)) p.peers))
+      ∙ ap (λ (m : ℕ). record p { requests = with_all_complete p.requests (waiters.Lookups name) (complete.Address address); peers = map (changed_peer m (with_names ms)) p.peers }) is.0
       ∙ ap (λ (ns : Names). heard_parts ns (with_all_complete p.requests (waiters.Lookups name) (complete.Address address))) (sym is.1)
       ∙ ap (heard_parts names) (sym is.2)
   heard-done other names q is = absurd is
@@ -203,7 +204,7 @@ module _ {L : Type 0} (M : L → List LaneMove → L → Type 0) (m-none : (l : 
       kept-stored fate = enqueued-stored r q b b' _ n (slot_at n buffer.number) buffer size len (but-one old sound i y at buffer.number apart-then) refl book fits.short fits.inside fate (fits.whole n)
 
       -- its message is queued
-      module _ (j priority : ℕ) (is : IsQueued (state_of old) (row_of (state_of old) n None (reading frame)) (message_in n frame size) j) (says : slice_index frame 19 ≡ priority) (r' : Records) (q' : Requests) (records : r' ≡ with_waiting_at r j (waiting (slot_at n buffer.number) priority)) (requests : q' ≡ q) where
+      module _ (j priority : ℕ) (is : IsQueued (state_of old) (row_of (state_of old) n None (reading frame)) (framed_item n frame size) j) (says : priority_of frame ≡ priority) (r' : Records) (q' : Requests) (records : r' ≡ with_waiting_at r j (waiting (slot_at n buffer.number) priority)) (requests : q' ≡ q) where
         queued-after : parts_in v b' r' q' t (took_ps names) ≡ done (frame_queued n buffer len size j priority) old
         queued-after = let peers = took_peers names same in cc
 
@@ -213,12 +214,12 @@ module _ {L : Type 0} (M : L → List LaneMove → L → Type 0) (m-none : (l : 
         pub queued-takes : lines' ≡ lines ++ take_line n frame Queued ∷ [] → Takes M i 1 (holding_in v b r q t ps) (holding_in v b' r' q' t (took_ps names)) lines lines'
         queued-takes told =
             takes-one Queued (holding_in v b' r' q' t (took_ps names))
-            (kept-doing (frame_queued n buffer len size j priority) Queued (item_queued is.destination (message_in n frame size) ∷ []) b' r' q' names same refl queued-after is.row_is
+            (kept-doing (frame_queued n buffer len size j priority) Queued (item_queued is.destination (framed_item n frame size) ∷ []) b' r' q' names same refl queued-after is.row_is
             (frame_queued-is old sound i y at buffer len size apart-then fits.short fits.inside j priority is.destination says is.at) (kept-stored Queued).stays (ap (λ (z : Requests). map (λ c. c.id) z.standing) requests) refl)
             (kept-stored Queued).stored told
 
       -- it is handed to a request
-      module _ (id : RequestId) (max : ℕ) (is : IsHanded (state_of old) q (row_of (state_of old) n None (reading frame)) (message_in n frame size) id max) (q' : Requests) (requests : q' ≡ with_complete q id (complete.Message (slot_at n buffer.number) max)) where
+      module _ (id : RequestId) (max : ℕ) (is : IsHanded (state_of old) q (row_of (state_of old) n None (reading frame)) (framed_item n frame size) id max) (q' : Requests) (requests : q' ≡ with_complete q id (complete.Message (slot_at n buffer.number) max)) where
         handed-after : parts_in v b' r q' t (took_ps names) ≡ done (frame_handed n buffer len size id max) old
         handed-after = let peers = took_peers names same in cc
 
@@ -228,7 +229,7 @@ module _ {L : Type 0} (M : L → List LaneMove → L → Type 0) (m-none : (l : 
         pub handed-takes : lines' ≡ lines ++ take_line n frame Handed ∷ [] → Takes M i 1 (holding_in v b r q t ps) (holding_in v b' r q' t (took_ps names)) lines lines'
         handed-takes told =
             takes-one Handed (holding_in v b' r q' t (took_ps names))
-            (kept-doing (frame_handed n buffer len size id max) Handed (item_handed is.destination (message_in n frame size) ∷ []) b' r q' names same refl handed-after is.row_is
+            (kept-doing (frame_handed n buffer len size id max) Handed (item_handed is.destination (framed_item n frame size) ∷ []) b' r q' names same refl handed-after is.row_is
             (frame_handed-is old sound i y at buffer len size apart-then fits.short fits.inside id max is.destination is.endpoint is.pending is.named is.waits) (kept-stored Handed).stays
             (handed-ids r q b b' _ n (slot_at n buffer.number) buffer size len (but-one old sound i y at buffer.number apart-then) refl book fits.short fits.inside q' id max sound.receives is.pending requests) refl)
             (kept-stored Handed).stored told
@@ -268,12 +269,12 @@ module _ {L : Type 0} (M : L → List LaneMove → L → Type 0) (m-none : (l : 
 
       back-after : parts_in v b r q' t back_ps ≡ done_all (frame_returned n buffer.number frame ∷ heard_steps is.happens) old
       back-after =
-          let peers : peers_seen v back_ps ≡ map (told_peer n names) returned.peers =
+          let peers : peers_seen v back_ps ≡ map (changed_peer n (with_names names)) returned.peers =
           seen-set v ps i (record x { ends = e'; known = names })
           ∙ ap (λ (l : LaneSeen). slice_set (peers_seen v ps) i (record y { ends = l; known = names })) seen-both
           ∙ sym (set_twice (peers_seen v ps) i y' (record y' { known = names }))
           ∙ ap (λ (zs : List (Peer LaneSeen)). slice_set zs i (record y' { known = names })) set_peers
-          ∙ told-set returned sound' i y' there' names returned.peers i sound'.peers.rising there' in
+          ∙ set-changed n (with_names names) returned.peers i y' sound'.peers.rising there' refl in
           ap (λ (zs : List (Peer LaneSeen)). record old { requests = q'; peers = zs }) peers ∙ sym (heard-done returned sound' i y' there' is.happens names q' is.heard)
 
       pub back-keeps : Sound (parts_in v b r q' t back_ps)

@@ -26,7 +26,7 @@ use Rattle.domain_core.specs.AllMoved.{numbers_of}
 use Rattle.domain_core.specs.InBook.{endpoint_in, endpoints_in, requests_in}
 use Rattle.domain_core.specs.InRequests.{with_all_complete}
 use Rattle.domain_core.specs.Owed.{owed_by}
-use Rattle.domain_core.specs.Peers.{announcement_in, ended_in, peer_in, peers_in, state_in}
+use Rattle.domain_core.specs.Peers.{announcement_in, ended_in, peer_in, peers_in, state_in, reply_in}
 use Rattle.domain_core.specs.Records.{Records, new_record, with_record}
 use Rattle.domain_core.specs.Sound.{AreRising}
 use Rattle.domain_core.specs.Tied.{AreTied, linked_among}
@@ -80,7 +80,7 @@ each-there (n ∷ ns) = (
 
 module _ {L : Type 0} (v : L → LaneSeen) (t t' : Table) (a : Announced) (number : ℕ) (ns : List ℕ) (owing : t'.owing ≡ map (also_owing a) t.owing) (linked : map (λ (o : Owing). o.peer) t.owing ≡ linked_among number ns) where
   abbrev with_owed : Peer L → Option Owing → state.Peer
-  with_owed p o = record { number = p.number; size = (v p.ends).size_from; free = (v p.ends).free; shown = (v p.ends).shown; announcements = map announcement_in (owed_by o); replies = []; known = p.known }
+  with_owed p o = record { number = p.number; size = (v p.ends).size_from; free = (v p.ends).free; shown = (v p.ends).shown; announcements = map announcement_in (owed_by o); replies = map reply_in p.replies; known = p.known }
 
   one-more : (p : Peer L) (o : Option Owing) (b : Bool) → is_some o ≡ not b → with_owed p (option_map (also_owing a) o) ≡ cond b (with_owed p o) (record (with_owed p o) { announcements = map announcement_in (owed_by o) ++ announcement_in a ∷ [] })
   one-more p None true is = refl
@@ -145,9 +145,9 @@ module _ {L : Type 0} (v : L → LaneSeen) (b b' : Book) (r : Records) (q q' : R
 
   -- an endpoint is ended
   pub ended-state : (r' : Records) (at : Local) (i : ℕ) (e : Endpoint) → slice_get r.endpoints i ≡ Some e → e.local ≡ at
-      → endpoints_in b' r'.endpoints ≡ without (place_at s at) s.endpoints → requests_in b' q'.standing ≡ map (ended_by_word EndpInvalid at) s.requests → q'.given ≡ q.given → peers_in v (ended_table t e) ps' ≡ peers_in v (ended_table t e) ps
+      → endpoints_in b' r'.endpoints ≡ without (place_at s at) s.endpoints → requests_in b' q'.standing ≡ map (ended_by_word EndpInvalid at) s.requests → q'.given ≡ q.given → r'.channels ≡ r.channels → peers_in v (ended_table t e) ps' ≡ peers_in v (ended_table t e) ps
       → state_in v b' r' q' (ended_table t e) ps' ≡ without_endpoint s at e.address
-  ended-state r' at i e there local endpoints requests given peers =
+  ended-state r' at i e there local endpoints requests given numbered peers =
       let t' = ended_table t e in
       let a = gone_event e in
       let left : List state.Endpoint → List ℕ → List state.Peer → List state.Request → ℕ → DomainState = λ es gone xs rs n. record s { endpoints = es; ended = gone; peers = xs; requests = rs; requests_given = n } in
@@ -157,7 +157,8 @@ module _ {L : Type 0} (v : L → LaneSeen) (b b' : Book) (r : Records) (q q' : R
       let gone : ended_in t'.records ≡ filter (is_owed_end owed) (with_rising e.address s.ended) =
       ended-gone r t (numbers_of ps) i e tie there
       ∙ filter-same (λ x. list_any (owes_gone x) t'.owing) (is_owed_end owed) (told-ends t' a r.number refl (tied-ended r t (numbers_of ps) i e tie there).linked) (with_rising e.address s.ended) in
-      ap (λ (xs : List state.Endpoint). left xs (ended_in t'.records) (peers_in v t' ps') (requests_in b' q'.standing) q'.given) endpoints
+      ap (λ (n : ℕ). record (state_in v b' r' q' t' ps') { channels_given = n }) numbered
+      ∙ ap (λ (xs : List state.Endpoint). left xs (ended_in t'.records) (peers_in v t' ps') (requests_in b' q'.standing) q'.given) endpoints
       ∙ ap (λ (ns : List ℕ). left es ns (peers_in v t' ps') (requests_in b' q'.standing) q'.given) gone
       ∙ ap (λ (xs : List state.Peer). left es (filter (is_owed_end owed) (with_rising e.address s.ended)) xs (requests_in b' q'.standing) q'.given) (peers ∙ also t' a refl)
       ∙ ap (λ (xs : List state.Request). left es (filter (is_owed_end owed) (with_rising e.address s.ended)) owed xs q'.given) requests

@@ -1,8 +1,10 @@
 -- What the steps of a turn mean for the state: each is the changes of a deed.
-use Rattle.std.proofs.Common.{◌≡◌, ℕ, zero, suc, ◌+◌, ◌-◌, ◌<◌, ◌≤◌, Bool, false, cond, List, [], ◌∷◌, ◌++◌, length, map, drop, take, Option, Some, refl, sym, ap, ◌∙◌, subst, arith, eq-eqb, ne_eqb}
-use Rattle.std.specs.Prelude.{filter, find, position, slice_get, slice_index, slice_set, ◌==◌}
+use Rattle.domain_core.proofs.Filters.{filter-every}
+use Rattle.buffer_book.specs.Book.{Book}
+use Rattle.std.proofs.Common.{◌≡◌, ℕ, zero, suc, ◌+◌, ◌-◌, ◌<◌, ◌≤◌, Bool, true, false, cond, List, [], ◌∷◌, ◌++◌, length, map, drop, take, Option, Some, refl, sym, ap, ◌∙◌, subst, arith, eq-eqb, ne_eqb}
+use Rattle.std.specs.Prelude.{filter, find, option_map, position, slice_get, slice_index, slice_set, ◌==◌}
 use Rattle.std.specs.List.{AllByRecursion, list_any}
-use Rattle.std.proofs.lemmas.List.{drop-map}
+use Rattle.std.proofs.lemmas.List.{drop-map, length-map, map_push}
 use Rattle.mc_base.specs.NameMap.{Names}
 use Rattle.mc_base.specs.Stored.{Stored}
 use Rattle.mc_base.specs.declared.name.EndName.{EndName}
@@ -20,27 +22,41 @@ use Rattle.lane_end.specs.ReceiveMoves.{Gave, Took}
 use Rattle.lane_end.specs.ReceiveMoves as receiving
 use Rattle.lane_end.specs.SendMoves.{Looked, Sent}
 use Rattle.endpoint_table.specs.declared.announced.Announced.{Announced}
-use Rattle.endpoint_table.specs.Table.{Owing, Table, owes_gone, owing_to, paid_to}
+use Rattle.endpoint_table.specs.Table.{Owing, Table, owes_gone, owing_to, paid_to, is_in_use}
 use Rattle.request_set.specs.Requests.{IsPending, is_id}
+use Rattle.packet_channel.specs.End.{end_of}
+use Rattle.packet_channel.specs.declared.channel.Channel.{Channel}
+use Rattle.request_set.specs.declared.ask.Complete.{Complete}
+use Rattle.mc_base.specs.declared.name.Local.{Local}
+use Rattle.mc_base.specs.declared.refusal.Refusal.{Refusal}
+use Rattle.domain_core.specs.declared.endpoints.Endpoint.{Endpoint}
+use Rattle.domain_core.specs.declared.replies.Reply.{Reply}
+use Rattle.domain_core.specs.PlacedCalls.{ended_by_word}
+use Rattle.domain_core.specs.Records.{with_end}
 use Rattle.domain_core.specs.declared.peer.Peer.{Peer}
 use Rattle.domain_core.specs.AllMoved.{numbers_of}
-use Rattle.domain_core.specs.InBook.{endpoints_in}
+use Rattle.domain_core.specs.InBook.{endpoint_in, endpoints_in, outcome_in, priority_of}
 use Rattle.domain_core.specs.LaneMoves.{LaneMove, receiver, sender}
 use Rattle.domain_core.specs.LaneSeen.{LaneSeen, after_moves}
 use Rattle.domain_core.specs.Owed.{owed_by}
 use Rattle.domain_core.specs.Parts.{Parts, Sound, plain, state_of}
-use Rattle.domain_core.specs.Peers.{announcement_in, ended_in, peer_in, peers_in}
-use Rattle.domain_core.specs.Steps.{at_peer, done, frame_handed, frame_queued, frame_returned, looked_ahead, looked_back, moved_peer, name_told, names_told, owed_put, told_peer}
-use Rattle.domain_core.specs.Verdicts.{message_in}
+use Rattle.domain_core.specs.Peers.{announcement_in, ended_in, peer_in, peers_in, reply_in}
+use Rattle.domain_core.specs.Steps.{at_peer, changed_peer, channel_given, channel_set, connect_settled, done, frame_handed, frame_queued, frame_returned, looked_ahead, looked_back, moved_peer, name_told, names_told, owed_put, receives_ended, reply_owed, reply_put, with_names, with_reply, with_reply_put}
+use Rattle.domain_core.specs.Verdicts.{framed_item}
 use Rattle.domain_core.specs.InPlaces.{slot_at}
 use Rattle.domain_core.specs.Sound.{AreRising}
 use Rattle.domain_core.specs.Table as held
-use Rattle.domain_core.proofs.Completing.{requests-found}
+use Rattle.domain_core.proofs.ChangedPeers.{changed-same, set-changed}
+use Rattle.domain_core.proofs.Completing.{requests-ended, requests-found, requests-settled}
 use Rattle.domain_core.proofs.PaidTables.{filter-same, ended-left, owed-other, owed-own, paid-is, told-peers, told_times, with_owing}
 use Rattle.domain_core.proofs.PeersAt.{any-owed, changed-place, ends_at, numbers-set, owed-ends}
 use Rattle.domain_core.proofs.Queuing.{handed-table, queued-table}
-use Rattle.domain_core.proofs.Stepping.{number-at, quiet-peers, set-is-map}
+use Rattle.domain_core.proofs.Stepping.{quiet-peers, set-is-map}
 use Rattle.domain_core.proofs.TurnSteps.{but-one}
+
+not_none : {X : Type 0} (xs : List X) → 0 < length xs → (length xs == 0) ≡ false
+not_none [] some = absurd (omega (arith, some))
+not_none (x ∷ xs) some = grind arith
 
 module _ (p : Parts) (sound : Sound p) (i : ℕ) (x : Peer LaneSeen) (there : slice_get p.peers i ≡ Some x) where
   -- moves at the peer at a place change it alone
@@ -84,27 +100,14 @@ module _ (p : Parts) (sound : Sound p) (i : ℕ) (x : Peer LaneSeen) (there : sl
     abbrev x' : Peer LaneSeen
     x' = record x { ends = after_moves put x.ends }
 
-    some : (k : ℕ) → (suc k == 0) ≡ false
-    some k = grind arith
-
-    first : (q : state.Peer) → q.replies ≡ [] → first_put q ≡ record q { free = q.free - 1; announcements = drop 1 q.announcements }
-    first q none = go q.announcements refl
-      where
-        go : (owed : List Announcement) → q.announcements ≡ owed → first_put q ≡ record q { free = q.free - 1; announcements = drop 1 q.announcements }
-        go [] e =
-            ap (λ xs. cond (length xs == 0) (record q { free = q.free - 1; replies = drop 1 q.replies }) (record q { free = q.free - 1; announcements = drop 1 q.announcements })) e
-            ∙ ap (λ rs. record q { free = q.free - 1; replies = drop 1 rs }) none
-            ∙ ap (λ rs. record q { free = q.free - 1; replies = rs }) (sym none)
-            ∙ ap (λ xs. record q { free = q.free - 1; announcements = xs }) (e ∙ sym (ap (drop 1) e))
-        go (a ∷ rest) e =
-            ap (λ xs. cond (length xs == 0) (record q { free = q.free - 1; replies = drop 1 q.replies }) (record q { free = q.free - 1; announcements = drop 1 q.announcements })) e
-            ∙ ap (λ b. cond b (record q { free = q.free - 1; replies = drop 1 q.replies }) (record q { free = q.free - 1; announcements = drop 1 q.announcements })) (some (length rest))
+    first : (q : state.Peer) → (length q.announcements == 0) ≡ false → first_put q ≡ record q { free = q.free - 1; announcements = drop 1 q.announcements }
+    first q some = ap (λ b. cond b (record q { free = q.free - 1; replies = drop 1 q.replies }) (record q { free = q.free - 1; announcements = drop 1 q.announcements })) some
 
     announcements_so : map announcement_in (owed_by (find (λ (o : Owing). o.peer == n) owing)) ≡ drop 1 (map announcement_in (owed_by (owing_to p.table n)))
     announcements_so = ap (map announcement_in) (owed-own 1 n p.table.owing) ∙ sym (drop-map announcement_in 1 (owed_by (owing_to p.table n)))
 
-    peer_so : first_put (peer_in plain p.table x) ≡ peer_in plain paid x'
-    peer_so = first (peer_in plain p.table x) refl ∙ ap (λ (xs : List Announcement). record (peer_in plain paid x') { announcements = xs }) (sym announcements_so)
+    peer_so : 0 < length (owed_by (owing_to p.table n)) → first_put (peer_in plain p.table x) ≡ peer_in plain paid x'
+    peer_so some = first (peer_in plain p.table x) (not_none (map announcement_in (owed_by (owing_to p.table n))) (let long = length-map (owed_by (owing_to p.table n)) announcement_in in omega (arith, long, some))) ∙ ap (λ (xs : List Announcement). record (peer_in plain paid x') { announcements = xs }) (sym announcements_so)
 
     others_so : (z : Peer LaneSeen) → (z.number ≡ n → ⊥) → peer_in plain p.table z ≡ peer_in plain paid z
     others_so z differs = ap (λ (xs : List Announced). record (peer_in plain p.table z) { announcements = map announcement_in xs }) (sym (owed-other 1 n z.number p.table.owing differs))
@@ -112,8 +115,8 @@ module _ (p : Parts) (sound : Sound p) (i : ℕ) (x : Peer LaneSeen) (there : sl
     abbrev after : List (Peer LaneSeen)
     after = slice_set p.peers i x'
 
-    peers_so : changed_first (is_numbered n) first_put (peers_in plain p.table p.peers) ≡ peers_in plain paid after
-    peers_so = changed-place plain p.table paid first_put i p.peers x x' sound.peers.rising there peer_so others_so
+    peers_so : 0 < length (owed_by (owing_to p.table n)) → changed_first (is_numbered n) first_put (peers_in plain p.table p.peers) ≡ peers_in plain paid after
+    peers_so some = changed-place plain p.table paid first_put i p.peers x x' sound.peers.rising there (peer_so some) others_so
 
     ends_so : (a : ℕ) → is_owed_end (peers_in plain paid after) a ≡ list_any (owes_gone a) owing
     ends_so a =
@@ -127,49 +130,107 @@ module _ (p : Parts) (sound : Sound p) (i : ℕ) (x : Peer LaneSeen) (there : sl
     abbrev with_both : List ℕ → List state.Peer → state.DomainState
     with_both ended ps = record (state_of p) { ended = ended; peers = ps }
 
-    pub owed_put-is : state_of (done (owed_put x.number frame) p) ≡ changed (state_of p) (change.owed_put x.number)
-    owed_put-is =
+    pub owed_put-is : 0 < length (owed_by (owing_to p.table x.number)) → state_of (done (owed_put x.number frame) p) ≡ changed (state_of p) (change.owed_put x.number)
+    owed_put-is some =
         ap (λ (t : Table). state_of (record (done (owed_put x.number frame) p) { table = t })) paid_so
         ∙ ap (λ (ps : List (Peer LaneSeen)). with_both (ended_in paid.records) (peers_in plain paid ps)) (sym (set-is-map n put p.peers i x sound.peers.rising there refl))
         ∙ ap (λ (es : List ℕ). with_both es (peers_in plain paid after)) ended_so
-        ∙ ap (λ (ps : List state.Peer). with_both (filter (is_owed_end ps) (ended_in p.table.records)) ps) (sym peers_so)
+        ∙ ap (λ (ps : List state.Peer). with_both (filter (is_owed_end ps) (ended_in p.table.records)) ps) (sym (peers_so some))
 
-  -- ---- names that are known
+  -- ---- a change of the peer at a place
 
-  module _ (names : Names) where
-    told_above : (ps : List (Peer LaneSeen)) → AllByRecursion (λ n. x.number < n) (numbers_of ps) → map (told_peer x.number names) ps ≡ ps
-    told_above [] above = refl
-    told_above (y ∷ ps) above =
-        let here = ne_eqb x.number y.number (λ e. let lt = above.0 in omega (arith, lt, e)) in
-        ap (λ (b : Bool). record y { known = cond b names y.known } ∷ map (told_peer x.number names) ps) here ∙ ap (λ (ys : List (Peer LaneSeen)). y ∷ ys) (told_above ps above.1)
+  module _ (f : Peer LaneSeen → Peer LaneSeen) (g : state.Peer → state.Peer) (is : g (peer_in plain p.table x) ≡ peer_in plain p.table (f x)) where
+    changed_is : peers_in plain p.table (map (changed_peer x.number f) p.peers) ≡ changed_first (is_numbered x.number) g (peers_in plain p.table p.peers)
+    changed_is =
+        ap (peers_in plain p.table) (sym (set-changed x.number f p.peers i x sound.peers.rising there refl))
+        ∙ sym (changed-place plain p.table p.table g i p.peers x (f x) sound.peers.rising there is (λ z differs. refl))
 
-    pub told-set : (ps : List (Peer LaneSeen)) (j : ℕ) → AreRising (numbers_of ps) → slice_get ps j ≡ Some x → slice_set ps j (record x { known = names }) ≡ map (told_peer x.number names) ps
-    told-set [] j rising at = absurd cc
-    told-set (y ∷ ps) zero rising at =
-        let same : y ≡ x = cc in
-        let mine = eq-eqb x.number y.number (sym (ap (λ (z : Peer LaneSeen). z.number) same)) in
-        let tail = told_above ps (subst (λ (z : Peer LaneSeen). AllByRecursion (λ n. z.number < n) (numbers_of ps)) same rising.0) in
-        ap (λ (z : Peer LaneSeen). record z { known = names } ∷ ps) (sym same)
-        ∙ ap (λ (ys : List (Peer LaneSeen)). record y { known = names } ∷ ys) (sym tail)
-        ∙ ap (λ (b : Bool). record y { known = cond b names y.known } ∷ map (told_peer x.number names) ps) (sym mine)
-    told-set (y ∷ ps) (suc j) rising at =
-        let above = number-at y.number ps j x rising.0 at in
-        let here = ne_eqb x.number y.number (λ e. omega (arith, above, e)) in
-        ap (λ (ys : List (Peer LaneSeen)). y ∷ ys) (told-set ps j rising.1 at)
-        ∙ ap (λ (b : Bool). record y { known = cond b names y.known } ∷ map (told_peer x.number names) ps) (sym here)
+  pub names_told-is : (names : Names) → state_of (done (names_told x.number names) p) ≡ changed (state_of p) (names_known x.number names)
+  names_told-is names = ap with_all (changed_is (with_names names) (λ y. record y { known = names }) refl)
 
-    pub names_told-is : state_of (done (names_told x.number names) p) ≡ changed (state_of p) (names_known x.number names)
-    names_told-is =
-        ap with_all
-        (ap (peers_in plain p.table) (sym (told-set p.peers i sound.peers.rising there))
-        ∙ sym (changed-place plain p.table p.table (λ y. record y { known = names }) i p.peers x (record x { known = names }) sound.peers.rising there refl (λ z differs. refl)))
+  pub reply_owed-is : (r : Reply) → state_of (done (reply_owed x.number r) p) ≡ changed (state_of p) (change.reply_owed x.number (reply_in r))
+  reply_owed-is r = ap with_all (changed_is (with_reply r) (λ y. record y { replies = y.replies ++ reply_in r ∷ [] }) (ap (λ (rs : List state.Reply). record (peer_in plain p.table x) { replies = rs }) (sym (map_push reply_in x.replies r))))
+
+  -- ---- the oldest reply that is owed is put, where no announcement is owed
+
+  module _ (frame : List ℕ) (none : owed_by (owing_to p.table x.number) ≡ []) where
+    no_announcements : (length (map announcement_in (owed_by (owing_to p.table x.number))) == 0) ≡ true
+    no_announcements = ap (λ (xs : List Announced). length (map announcement_in xs) == 0) none
+
+    reply_so : first_put (peer_in plain p.table x) ≡ peer_in plain p.table (with_reply_put frame x)
+    reply_so =
+        let y = peer_in plain p.table x in
+        ap (λ b. cond b (record y { free = y.free - 1; replies = drop 1 y.replies }) (record y { free = y.free - 1; announcements = drop 1 y.announcements })) no_announcements
+        ∙ ap (λ (rs : List state.Reply). record y { free = y.free - 1; replies = rs }) (drop-map reply_in 1 x.replies)
+
+    abbrev replied : List (Peer LaneSeen)
+    replied = map (changed_peer x.number (with_reply_put frame)) p.peers
+
+    replied_so : peers_in plain p.table replied ≡ changed_first (is_numbered x.number) first_put (peers_in plain p.table p.peers)
+    replied_so = changed_is (with_reply_put frame) first_put reply_so
+
+    same_ends : (a : ℕ) → is_owed_end (peers_in plain p.table replied) a ≡ list_any (owes_gone a) p.table.owing
+    same_ends a =
+        owed-ends plain p.table a replied
+        ∙ ap (λ (ns : List ℕ). list_any (ends_at a p.table.owing) ns) (changed-same x.number (with_reply_put frame) (λ z. z.number) (λ z. refl) p.peers)
+        ∙ any-owed a p.records.number (numbers_of p.peers) p.table.owing sound.tied.linked sound.peers.rising
+
+    same_ended : ended_in p.table.records ≡ filter (is_owed_end (peers_in plain p.table replied)) (ended_in p.table.records)
+    same_ended =
+        ap ended_in (sym (filter-every (is_in_use p.table.owing) p.table.records sound.tied.used))
+        ∙ ended-left p.table.owing p.table.records
+        ∙ sym (filter-same (is_owed_end (peers_in plain p.table replied)) (λ a. list_any (owes_gone a) p.table.owing) same_ends (ended_in p.table.records))
+
+    abbrev with_ended : (List state.Peer → List ℕ) → List state.Peer → state.DomainState
+    with_ended ended ps = record (state_of p) { ended = ended ps; peers = ps }
+
+    pub reply_put-is : state_of (done (reply_put x.number frame) p) ≡ changed (state_of p) (change.owed_put x.number)
+    reply_put-is =
+        ap (λ (es : List ℕ). with_ended (λ k. es) (peers_in plain p.table replied)) same_ended
+        ∙ ap (λ (ps : List state.Peer). with_ended (λ qs. filter (is_owed_end qs) (ended_in p.table.records)) ps) replied_so
 
 pub name_told-is : (p : Parts) (name : EndName) (address : ℕ) → state_of (done (name_told name address) p) ≡ changed (state_of p) (name_found name address)
 name_told-is p name address =
     ap (λ (ps : List (Peer LaneSeen)). state_of (record (done (name_told name address) p) { peers = ps })) (quiet-peers p.peers)
     ∙ ap (λ (rs : List state.Request). record (state_of p) { requests = rs }) (requests-found p.book name address p.requests.standing)
 
--- ---- a frame is taken and its message kept
+-- ---- endpoints, channels and requests
+
+pub endpoints-set : (b : Book) (c : Option Channel) (es : List Endpoint) (j : ℕ) → endpoints_in b (changed_at (with_end c) j es) ≡ changed_at (change.with_channel (option_map end_of c)) j (endpoints_in b es)
+endpoints-set b c [] j = refl
+endpoints-set b c (e ∷ es) zero = refl
+endpoints-set b c (e ∷ es) (suc j) = ap (λ (xs : List state.Endpoint). endpoint_in b e ∷ xs) (endpoints-set b c es j)
+
+module _ (p : Parts) where
+  -- no peer moves
+  unmoved : (c : Parts → Parts) → state_of (record (c p) { peers = map (moved_peer (λ n. [])) p.peers }) ≡ state_of (record (c p) { peers = p.peers })
+  unmoved c = ap (λ (ps : List (Peer LaneSeen)). state_of (record (c p) { peers = ps })) (quiet-peers p.peers)
+
+  pub channel_set-is : (j address : ℕ) (c : Option Channel) → position (has_address_of address) (endpoints_in p.book p.records.endpoints) ≡ Some j → state_of (done (channel_set j c) p) ≡ changed (state_of p) (change.channel_set address (option_map end_of c))
+  channel_set-is j address c at =
+      unmoved (done (channel_set j c))
+      ∙ ap (λ (es : List state.Endpoint). record (state_of p) { endpoints = es })
+      (endpoints-set p.book c p.records.endpoints j
+      ∙ ap (λ (o : Option ℕ). lists.changed (change.with_channel (option_map end_of c)) o (endpoints_in p.book p.records.endpoints)) (sym at)
+      ∙ changed-position (has_address_of address) (change.with_channel (option_map end_of c)) (endpoints_in p.book p.records.endpoints))
+
+  pub channel_given-is : state_of (done channel_given p) ≡ changed (state_of p) change.channel_given
+  channel_given-is = unmoved (done channel_given)
+
+  pub connect_settled-is : (number : ℕ) (how : Complete) → state_of (done (connect_settled number how) p) ≡ changed (state_of p) (change.connect_settled number (outcome_in p.book how))
+  connect_settled-is number how =
+      unmoved (done (connect_settled number how))
+      ∙ ap (λ (rs : List state.Request). record (state_of p) { requests = rs }) (requests-settled p.book number how p.requests.standing)
+
+  pub receives_ended-is : (at : Local) (word : Refusal) (address : ℕ) (e : state.Endpoint) → endpoint_of (state_of p) address ≡ Some e → e.local ≡ at → state_of (done (receives_ended at word) p) ≡ changed (state_of p) (change.waiting_ended address word)
+  receives_ended-is at word address e there named =
+      unmoved (done (receives_ended at word))
+      ∙ ap (λ (rs : List state.Request). record (state_of p) { requests = rs })
+      (requests-ended p.book word at p.requests.standing
+      ∙ ap (λ (l : Local). map (ended_by_word word l) (state_of p).requests) (sym named)
+      ∙ ap (λ (o : Option state.Endpoint). change.ended_in o word (state_of p).requests) (sym there))
+
+-- ---- a frame is taken and its item kept
 
 module _ (p : Parts) (sound : Sound p) (i : ℕ) (x : Peer LaneSeen) (there : slice_get p.peers i ≡ Some x) (buffer : Stored) (len size : ℕ) (apart : AreApart x.ends.size_from (x.ends.out ++ buffer.number ∷ []))
     (small : size ≤ 488) (fits : 24 + size ≤ length (take len buffer.bytes)) where
@@ -177,12 +238,12 @@ module _ (p : Parts) (sound : Sound p) (i : ℕ) (x : Peer LaneSeen) (there : sl
   frame = take len buffer.bytes
 
   abbrev said : state.Item
-  said = message_in x.number frame size
+  said = framed_item x.number frame size
 
   pub shown_less : peers_in plain p.table (map (moved_peer (at_peer x.number (receiver (Took buffer.number frame) ∷ []))) p.peers) ≡ changed_first (is_numbered x.number) (λ y. record y { shown = y.shown - 1 }) (peers_in plain p.table p.peers)
   shown_less = one_changed p sound i x there (receiver (Took buffer.number frame) ∷ []) (λ y. record y { shown = y.shown - 1 }) refl
 
-  pub frame_queued-is : (j priority destination : ℕ) → slice_index frame 19 ≡ priority → position (has_address_of destination) (endpoints_in p.book p.records.endpoints) ≡ Some j
+  pub frame_queued-is : (j priority destination : ℕ) → priority_of frame ≡ priority → position (has_address_of destination) (endpoints_in p.book p.records.endpoints) ≡ Some j
       → state_of (done (frame_queued x.number buffer len size j priority) p) ≡ changed_all (state_of p) (frame_taken x.number ∷ item_queued destination said ∷ [])
   frame_queued-is j priority destination says at =
       let now = done (frame_queued x.number buffer len size j priority) p in

@@ -1,5 +1,5 @@
 -- The steps of a turn keep what the parts keep.
-use Rattle.std.proofs.Common.{◌≡◌, ℕ, zero, suc, ◌+◌, ◌<◌, ◌≤◌, Bool, true, false, cond, List, [], ◌∷◌, ◌++◌, length, map, take, Some, refl, sym, ap, ◌∙◌, subst, arith, eq-eqb}
+use Rattle.std.proofs.Common.{◌≡◌, ℕ, zero, suc, ◌+◌, ◌<◌, ◌≤◌, Bool, true, false, cond, List, [], ◌∷◌, ◌++◌, length, map, take, Some, refl, sym, ap, ◌∙◌, subst, arith, eq-eqb, Option}
 use Rattle.std.specs.Prelude.{Contains, option_map, slice_get, slice_index, nat_lt, ◌==◌}
 use Rattle.std.specs.List.{AllByRecursion}
 use Rattle.std.proofs.lemmas.List.{length-append}
@@ -23,19 +23,26 @@ use Rattle.request_set.specs.declared.ask.Ask.TheVariants as ask
 use Rattle.request_set.specs.declared.ask.Complete.TheVariants as complete
 use Rattle.request_set.specs.Requests.{IsPending, Requests, request_of}
 use Rattle.domain_core.specs.declared.endpoints.Endpoint.{Endpoint}
+use Rattle.packet_channel.specs.declared.channel.Channel.{Channel}
+use Rattle.mc_base.specs.declared.refusal.Refusal.{Refusal}
+use Rattle.request_set.specs.declared.ask.Complete.{Complete}
+use Rattle.domain_core.specs.declared.requests.Waiters.{Waiters}
+use Rattle.domain_core.specs.declared.replies.Reply.{Reply}
 use Rattle.domain_core.specs.declared.peer.Peer.{Peer}
 use Rattle.domain_core.specs.declared.requests.Waiters.TheVariants as waiters
 use Rattle.domain_core.specs.AllMoved.{numbers_of}
+use Rattle.domain_core.specs.InBook.{priority_of}
 use Rattle.domain_core.specs.InPlaces.{AreInPlaces, AreInPlacesBut, KeepOthers, slot_at, slots_of}
-use Rattle.domain_core.specs.InRequests.{AreReceives}
+use Rattle.domain_core.specs.InRequests.{AreReceives, MayEnd, handed_slots, with_all_complete}
 use Rattle.domain_core.specs.LaneMoves.{LaneMove, receiver, sender}
 use Rattle.domain_core.specs.LaneSeen.{LaneSeen, after_move, after_moves}
 use Rattle.domain_core.specs.Out.{Out, out_of}
 use Rattle.domain_core.specs.Parts.{Parts, Sound, plain}
-use Rattle.domain_core.specs.Records.{Records, all_waiting, with_waiting, with_waiting_at}
+use Rattle.domain_core.specs.Records.{Records, all_waiting, with_channel_at, with_channel_given, with_end, with_waiting, with_waiting_at}
 use Rattle.domain_core.specs.Sound.{ArePeers, AreRising, IsSized, buffers_count, out_at, outs_count}
-use Rattle.domain_core.specs.Steps.{at_peer, done, frame_handed, frame_queued, frame_returned, looked_ahead, looked_back, moved_peer, name_told, names_told, owed_put, told_peer}
+use Rattle.domain_core.specs.Steps.{at_peer, changed_peer, channel_given, channel_set, connect_settled, done, frame_handed, frame_queued, frame_returned, looked_ahead, looked_back, moved_peer, name_told, names_told, owed_put, receives_ended, reply_owed, reply_put, with_names, with_reply, with_reply_put}
 use Rattle.domain_core.specs.Tied.{AreTied, live_record}
+use Rattle.domain_core.proofs.ChangedPeers.{changed-same}
 use Rattle.domain_core.proofs.Completing.{handed-all, receives-all}
 use Rattle.domain_core.proofs.GivingLemmas.{All-at, SameEndpoints, same-endpoints, same-tied}
 use Rattle.domain_core.proofs.Outs.{taken-places}
@@ -85,27 +92,76 @@ owed_put-keeps p d frame sound =
 
 -- ---- names that are known, and lookups that are complete
 
-told_outlines : (d : ℕ) (names : Names) (ps : List (Peer LaneSeen)) → map (outline plain) (map (told_peer d names) ps) ≡ map (outline plain) ps
-told_outlines d names [] = refl
-told_outlines d names (x ∷ ps) = ap (λ os. outline plain x ∷ os) (told_outlines d names ps)
+-- a change of one peer that leaves its outline
+changed-keeps : (p : Parts) (d : ℕ) (f : Peer LaneSeen → Peer LaneSeen) → ((x : Peer LaneSeen) → outline plain (f x) ≡ outline plain x) → Sound p → Sound (record p { peers = map (changed_peer d f) p.peers })
+changed-keeps p d f same sound = same-sound plain plain p.book p.records p.requests p.table p.peers _ (changed-same d f (outline plain) same p.peers) sound
 
 pub names_told-keeps : (p : Parts) (d : ℕ) (names : Names) → Sound p → Sound (done (names_told d names) p)
-names_told-keeps p d names sound = same-sound plain plain p.book p.records p.requests p.table p.peers _ (told_outlines d names p.peers) sound
+names_told-keeps p d names sound = changed-keeps p d (with_names names) (λ x. refl) sound
+
+pub reply_owed-keeps : (p : Parts) (d : ℕ) (r : Reply) → Sound p → Sound (done (reply_owed d r) p)
+reply_owed-keeps p d r sound = changed-keeps p d (with_reply r) (λ x. refl) sound
+
+pub reply_put-keeps : (p : Parts) (d : ℕ) (frame : List ℕ) → Sound p → Sound (done (reply_put d frame) p)
+reply_put-keeps p d frame sound = changed-keeps p d (with_reply_put frame) (λ x. refl) sound
+
+-- requests that ask so are complete, and nothing moves
+module _ (p : Parts) (who : Waiters) (how : Complete) (ends : MayEnd who how) (sound : Sound p) where
+  pub completed-keeps : Sound (record p { requests = with_all_complete p.requests who how; peers = map (moved_peer (λ n. [])) p.peers })
+  completed-keeps =
+      let q' = with_all_complete p.requests who how in
+      let handed = handed-all who how p.requests.standing ends in
+      subst (λ (ps : List (Peer LaneSeen)). Sound (record p { requests = q'; peers = ps })) (sym (quiet-peers p.peers))
+      (record {
+        peers = sound.peers;
+        places = All-from (λ x. AreInPlaces x.number p.records p.requests p.book (out_at plain x)) (λ x. AreInPlaces x.number p.records q' p.book (out_at plain x)) (λ x placed. same-held p.records p.records p.requests q' p.book x.number (out_at plain x) refl handed placed) p.peers sound.places;
+        total = ap (λ hs. length (map (λ w. w.slot) (all_waiting p.records.endpoints) ++ hs)) handed ∙ sound.total;
+        room = sound.room;
+        receives = receives-all p.requests who how ends sound.receives;
+        tied = sound.tied;
+        given = sound.given;
+      })
 
 pub name_told-keeps : (p : Parts) (name : EndName) (address : ℕ) → Sound p → Sound (done (name_told name address) p)
-name_told-keeps p name address sound =
-    let q' = (done (name_told name address) p).requests in
-    let handed = handed-all (waiters.Lookups name) (complete.Address address) p.requests.standing tt in
-    subst (λ (ps : List (Peer LaneSeen)). Sound (record p { requests = q'; peers = ps })) (sym (quiet-peers p.peers))
+name_told-keeps p name address sound = completed-keeps p (waiters.Lookups name) (complete.Address address) tt sound
+
+pub receives_ended-keeps : (p : Parts) (at : Local) (word : Refusal) → Sound p → Sound (done (receives_ended at word) p)
+receives_ended-keeps p at word sound = completed-keeps p (waiters.Receives at) (complete.Ended word) tt sound
+
+pub connect_settled-keeps : (p : Parts) (number : ℕ) (how : Complete) → MayEnd (waiters.Connects number) how → Sound p → Sound (done (connect_settled number how) p)
+connect_settled-keeps p number how ends sound = completed-keeps p (waiters.Connects number) how ends sound
+
+-- ---- an endpoint's end of a channel
+
+live_set : (c : Option Channel) (j : ℕ) (es : List Endpoint) → map live_record (changed_at (with_end c) j es) ≡ map live_record es
+live_set c j [] = refl
+live_set c zero (e ∷ es) = refl
+live_set c (suc j) (e ∷ es) = ap (λ xs. live_record e ∷ xs) (live_set c j es)
+
+waiting_set : (c : Option Channel) (j : ℕ) (es : List Endpoint) → all_waiting (changed_at (with_end c) j es) ≡ all_waiting es
+waiting_set c j [] = refl
+waiting_set c zero (e ∷ es) = refl
+waiting_set c (suc j) (e ∷ es) = ap (λ ws. e.queue.waiting ++ ws) (waiting_set c j es)
+
+-- other endpoints, at which the same waits
+pub records-keep : (p : Parts) (r : Records) → SameEndpoints p.records r → all_waiting r.endpoints ≡ all_waiting p.records.endpoints → Sound p → Sound (record p { records = r; peers = map (moved_peer (λ n. [])) p.peers })
+records-keep p r same waits sound =
+    subst (λ (ps : List (Peer LaneSeen)). Sound (record p { records = r; peers = ps })) (sym (quiet-peers p.peers))
     (record {
-      peers = sound.peers;
-      places = All-from (λ x. AreInPlaces x.number p.records p.requests p.book (out_at plain x)) (λ x. AreInPlaces x.number p.records q' p.book (out_at plain x)) (λ x placed. same-held p.records p.records p.requests q' p.book x.number (out_at plain x) refl handed placed) p.peers sound.places;
-      total = ap (λ hs. length (map (λ w. w.slot) (all_waiting p.records.endpoints) ++ hs)) handed ∙ sound.total;
-      room = sound.room;
-      receives = receives-all p.requests (waiters.Lookups name) (complete.Address address) tt sound.receives;
-      tied = sound.tied;
-      given = sound.given;
+      peers = subst (λ (k : ℕ). ArePeers plain k p.peers) (sym same.number) sound.peers;
+      places = All-from (λ x. AreInPlaces x.number p.records p.requests p.book (out_at plain x)) (λ x. AreInPlaces x.number r p.requests p.book (out_at plain x)) (λ x placed. same-held p.records r p.requests p.requests p.book x.number (out_at plain x) waits refl placed) p.peers sound.places;
+      total = ap (λ ws. length (map (λ w. w.slot) ws ++ handed_slots p.requests.standing)) waits ∙ sound.total;
+      room = let room = sound.room in let room_same = same.room in omega (arith, room, room_same);
+      receives = sound.receives;
+      tied = same-tied p.records r p.table (numbers_of p.peers) same sound.tied;
+      given = let given = sound.given in let given_same = same.given in omega (arith, given, given_same);
     })
+
+pub channel_set-keeps : (p : Parts) (j : ℕ) (c : Option Channel) → Sound p → Sound (done (channel_set j c) p)
+channel_set-keeps p j c sound = records-keep p (with_channel_at p.records j c) (record { number = refl; given = refl; room = refl; live = live_set c j p.records.endpoints }) (waiting_set c j p.records.endpoints) sound
+
+pub channel_given-keeps : (p : Parts) → Sound p → Sound (done channel_given p)
+channel_given-keeps p sound = records-keep p (with_channel_given p.records) (record { number = refl; given = refl; room = refl; live = refl }) refl sound
 
 -- ---- a frame is taken from the peer at a place
 
@@ -213,7 +269,7 @@ module _ (p : Parts) (sound : Sound p) (i : ℕ) (x : Peer LaneSeen) (there : sl
   abbrev placed_but : AreInPlacesBut buffer.number x.number p.records p.requests p.book (out_of x.ends.size_from (x.ends.out ++ buffer.number ∷ []))
   placed_but = but-one p sound i x there buffer.number apart
 
-  pub frame_queued-keeps : (j priority : ℕ) → j < length p.records.endpoints → slice_index (take len buffer.bytes) 19 ≡ priority → Sound (done (frame_queued x.number buffer len size j priority) p)
+  pub frame_queued-keeps : (j priority : ℕ) → j < length p.records.endpoints → priority_of (take len buffer.bytes) ≡ priority → Sound (done (frame_queued x.number buffer len size j priority) p)
   frame_queued-keeps j priority within says =
       let now = done (frame_queued x.number buffer len size j priority) p in
       kept-sound p sound i x there buffer.number apart (take len buffer.bytes) now.book now.records now.requests (waiting-same p.records j (waiting (slot_at x.number buffer.number) priority))

@@ -1,4 +1,5 @@
 -- What is done at the peer at a place in a turn: from the ends of that peer to the steps, the deeds and the moves of the inside.
+use Rattle.lane_end.specs.SendMoves.{Sent}
 use Rattle.std.proofs.Common.{◌≡◌, ℕ, zero, suc, ◌+◌, ◌<◌, ◌≤◌, Bool, true, false, cond, List, [], ◌∷◌, ◌++◌, length, map, Some, refl, sym, ap, ◌∙◌, subst, arith, eq-eqb}
 use Rattle.std.specs.Prelude.{option_map, slice_get, slice_index_or, slice_set, ◌==◌}
 use Rattle.std.proofs.lemmas.List.{append-nil, length-map}
@@ -15,11 +16,11 @@ use Rattle.domain_core.specs.CallSteps.{Rests}
 use Rattle.domain_core.specs.Doing.{Doing, ids_in}
 use Rattle.domain_core.specs.InPlaces.{AreInPlaces}
 use Rattle.domain_core.specs.Sound.{AreRising, out_at}
-use Rattle.domain_core.specs.LaneMoves.{LaneMove}
+use Rattle.domain_core.specs.LaneMoves.{LaneMove, sender}
 use Rattle.domain_core.specs.LaneSeen.{LaneSeen, after_move, after_moves}
 use Rattle.domain_core.specs.Parts.{Holding, Parts, Sound, holding_in, nobody, parts_in, peer_at, peer_seen, peers_seen, plain, state_of}
 use Rattle.domain_core.specs.Records.{Records}
-use Rattle.domain_core.specs.Steps.{Did, Step, all_moves, at_peer, done, done_all, moved_peer, names_told, step_moves, told_peer}
+use Rattle.domain_core.specs.Steps.{Did, Step, all_moves, at_peer, done, done_all, changed_peer, moved_peer, names_told, reply_owed, reply_put, step_moves, with_names, with_reply, with_reply_put}
 use Rattle.domain_core.specs.Stores.{KeepsQueued}
 use Rattle.domain_core.proofs.CountsFrom.{both-are, lent-is, queued-is}
 use Rattle.domain_core.proofs.Outs.{held-are}
@@ -106,9 +107,26 @@ at-map f [] i lt = absurd (omega (arith, lt))
 at-map f (p ∷ ps) zero lt = refl
 at-map f (p ∷ ps) (suc i) lt = at-map f ps i (omega (arith, lt))
 
+-- a peer that changes moves its ends by these moves, and the others none
+changed-moved : (n : ℕ) (f : Peer LaneSeen → Peer LaneSeen) (ms : List LaneMove) → ((x : Peer LaneSeen) → (f x).ends ≡ after_moves ms x.ends) → (x : Peer LaneSeen) → (changed_peer n f x).ends ≡ after_moves (at_peer n ms x.number) x.ends
+changed-moved n f ms is x = go (n == x.number)
+  where
+    go : (b : Bool) → (cond b (f x) x).ends ≡ after_moves (cond b ms []) x.ends
+    go true = is x
+    go false = refl
+
+changed-ends : (n : ℕ) (f : Peer LaneSeen → Peer LaneSeen) → ((x : Peer LaneSeen) → (f x).ends ≡ x.ends) → (x : Peer LaneSeen) → (changed_peer n f x).ends ≡ x.ends
+changed-ends n f is x = go (n == x.number)
+  where
+    go : (b : Bool) → (cond b (f x) x).ends ≡ x.ends
+    go true = is x
+    go false = refl
+
 -- a step leaves the ends towards the peer at a place as its moves do
 one-end : (c : Step) (p : Parts) (i : ℕ) → i < length p.peers → (peer_at (done c p) i).ends ≡ after_moves (step_moves c (peer_at p i).number) (peer_at p i).ends
-one-end (names_told peer names) p i lt = ap (λ (x : Peer LaneSeen). x.ends) (at-map (told_peer peer names) p.peers i lt)
+one-end (names_told peer names) p i lt = ap (λ (x : Peer LaneSeen). x.ends) (at-map (changed_peer peer (with_names names)) p.peers i lt) ∙ changed-ends peer (with_names names) (λ x. refl) (peer_at p i)
+one-end (reply_owed peer r) p i lt = ap (λ (x : Peer LaneSeen). x.ends) (at-map (changed_peer peer (with_reply r)) p.peers i lt) ∙ changed-ends peer (with_reply r) (λ x. refl) (peer_at p i)
+one-end (reply_put peer frame) p i lt = ap (λ (x : Peer LaneSeen). x.ends) (at-map (changed_peer peer (with_reply_put frame)) p.peers i lt) ∙ changed-moved peer (with_reply_put frame) (sender (Sent frame) ∷ []) (λ x. refl) (peer_at p i)
 one-end other p i lt = ap (λ (x : Peer LaneSeen). x.ends) (at-map (moved_peer (step_moves other)) p.peers i lt)
 
 all-cons : (c : Step) (cs : List Step) (n : ℕ) → all_moves (c ∷ cs) n ≡ step_moves c n ++ all_moves cs n

@@ -2,7 +2,7 @@
 use Rattle.std.proofs.Common.{◌≡◌, ℕ, ◌+◌, ◌-◌, ◌<◌, ◌≤◌, Bool, true, false, List, [], ◌∷◌, ◌++◌, length, map, take, Some, None, refl, sym, ap, ◌∙◌, subst, arith, append_assoc, min}
 use Rattle.std.specs.Prelude.{not, ◌&&◌, ◌||◌, ◌==◌, if◌then◌else◌, slice_get}
 use Rattle.std.proofs.lemmas.Bool.{and_parts, eqb-true, true≢false}
-use Rattle.std.proofs.lemmas.List.{append-nil, length_push, map-append, take_min}
+use Rattle.std.proofs.lemmas.List.{append-nil, length_push, map-append, take_at, take_min}
 use Rattle.std.proofs.lemmas.Option.{slice_get-get_or}
 use Rattle.mc_base.specs.declared.fate.Fate.{Fate}
 use Rattle.lane_end.specs.SendMoves.{Looked}
@@ -16,16 +16,16 @@ use Rattle.board_model.specs.Turn.{nameless, takes_named}
 use Rattle.board_model.proofs.MessageLists.{get-position}
 use Rattle.domain_core.specs.Beginning.{beginning, look_lines}
 use Rattle.domain_core.specs.CallSteps.{Rests}
-use Rattle.domain_core.specs.Doing.{Doing, PutsDue, Takes, Visits}
+use Rattle.domain_core.specs.Doing.{Doing, PutsDue, Takes, Visits, owed_at}
 use Rattle.domain_core.specs.LaneMoves.{LaneMove, sender, receiver}
 use Rattle.domain_core.specs.LaneSeen.{LaneSeen, after_moves}
-use Rattle.domain_core.specs.Owed.{owed_frames, put_lines}
+use Rattle.domain_core.specs.Owed.{put_lines}
 use Rattle.domain_core.specs.Parts.{Holding, Sound, nobody, peer_at, plain, state_of}
 use Rattle.domain_core.specs.Peers.{peer_in}
 use Rattle.domain_core.specs.Sound.{IsSized}
 use Rattle.domain_core.specs.Stores.{AreStored, Stores}
 use Rattle.domain_core.specs.VisitMoves.{giving_back, putting, taking}
-use Rattle.domain_core.proofs.Owing.{free-put, owed-frames-are}
+use Rattle.domain_core.proofs.Owing.{free-put}
 use Rattle.domain_core.proofs.PeerPlaces.{All-at}
 use Rattle.domain_core.proofs.PeersAt.{find-place}
 use Rattle.domain_core.proofs.Storing.{Stores-more}
@@ -137,7 +137,7 @@ if-none false xs none = refl
 if-some : (n : Bool) (xs : List Line) → n ≡ true → (if n then [] else xs) ≡ []
 if-some n xs e = ap (λ (b : Bool). if b then [] else xs) e
 
--- announcements that are put
+-- owed frames that are put
 puts-told : (begun : Bool) (peer : ℕ) (fs : List (List ℕ)) → put_lines begun peer fs ≡ (if length fs == 0 then [] else beginning begun ++ map (put_line peer) fs)
 puts-told begun peer [] = refl
 puts-told begun peer (f ∷ fs) =
@@ -188,10 +188,10 @@ none-seen see ts many e =
     ap (λ (n : ℕ). n == 0) no_takes
 
 -- as many as are due are the first that are owed
-due-first : (free : ℕ) (fs owed : List (List ℕ)) → fs ≡ take (length fs) owed → length fs ≡ min 8 (min free (length owed)) → fs ≡ take (min 8 free) owed
-due-first free fs owed first many =
+due-first : (free : ℕ) (fs left owed : List (List ℕ)) → owed ≡ fs ++ left → length fs ≡ min 8 (min free (length owed)) → fs ≡ take (min 8 free) owed
+due-first free fs left owed are many =
     let same : length fs ≡ min (min 8 free) (length owed) = omega (arith, many) in
-    first ∙ ap (λ (n : ℕ). take n owed) same ∙ take_min (min 8 free) owed
+    sym (ap (take (length fs)) are ∙ take_at fs left (length fs) refl) ∙ ap (λ (n : ℕ). take n owed) same ∙ take_min (min 8 free) owed
 
 -- looks and owed frames change nothing of what is held
 held_same : (n peer back : ℕ) (fs : List (List ℕ)) (s : DomainState) → held_from n (after_deeds s (map (puts_owed peer) fs)) ≡ held_from n s
@@ -201,14 +201,14 @@ held_same n peer back (f ∷ fs) s = held_same n peer back fs (after_deed s (put
 module _ {L : Type 0} (M : L → List LaneMove → L → Type 0) (m-both : (a b c : L) (xs ys : List LaneMove) → M a xs b → M b ys c → M a (xs ++ ys) c) where
   -- a look at the buffers, what is put, a look at the frames, and what is taken, with the lines after each
   pub visited : (i back see count : ℕ) (begun begun1 begun2 begun3 : Bool) (a b c d e : Holding L) (ls ls1 ls2 ls3 ls4 : List Line) → i < length a.parts.peers → Sound a.parts
-      → Doing M (peer_at a.parts i).number (looks_back (peer_at a.parts i).number back ∷ []) (sender (Looked back) ∷ []) a b → (peer_at a.parts i).ends.free + back ≤ (peer_at a.parts i).ends.size_from → b.parts.table ≡ a.parts.table
+      → Doing M (peer_at a.parts i).number (looks_back (peer_at a.parts i).number back ∷ []) (sender (Looked back) ∷ []) a b → (peer_at a.parts i).ends.free + back ≤ (peer_at a.parts i).ends.size_from → owed_at b.parts i ≡ owed_at a.parts i
       → ls1 ≡ ls ++ look_lines begun (back_line (peer_at a.parts i).number) back → begun1 ≡ (begun || not (back == 0))
       → PutsDue M i begun1 begun2 b c ls1 ls2
       → Doing M (peer_at c.parts i).number (looks_ahead (peer_at c.parts i).number see ∷ []) (receiver (receiving.Looked see) ∷ []) c d → (peer_at c.parts i).ends.shown ≤ see → see + held_from (peer_at c.parts i).number (state_of c.parts) ≤ (peer_at c.parts i).ends.size_from
       → ls3 ≡ ls2 ++ look_lines begun2 (see_line (peer_at a.parts i).number) see → begun3 ≡ (begun2 || not (see == 0))
       → Takes M i count d e ls3 ls4 → count ≡ min 8 see
       → Visits M i begun begun3 a e ls ls4
-  visited i back see count begun begun1 begun2 begun3 a b c d e ls ls1 ls2 ls3 ls4 within sound looked_back fits table told1 begins1 due looked_ahead shown room told3 begins3 took counted =
+  visited i back see count begun begun1 begun2 begun3 a b c d e ls ls1 ls2 ls3 ls4 within sound looked_back fits owed_now told1 begins1 due looked_ahead shown room told3 begins3 took counted =
       let p = a.parts in
       let x = peer_at p i in
       let peer = x.number in
@@ -232,10 +232,9 @@ module _ {L : Type 0} (M : L → List LaneMove → L → Type 0) (m-both : (a b 
       let c_seen : (peer_at c.parts i).ends ≡ record (x.ends) { free = x.ends.free + back - length fs } = c_ends ∙ ap (after_moves (putting fs)) b_ends ∙ free-put fs (record (x.ends) { free = x.ends.free + back }) in
       let there : slice_get p.peers i ≡ Some x = slice_get-get_or p.peers i nobody within in
       let sized = All-at (IsSized plain) p.peers i x sound.peers.sizes there in
-      let owed_now : owed_frames b.parts.table (peer_at b.parts i).number ≡ owed_frames p.table peer = ap (λ (n : ℕ). owed_frames b.parts.table n) b_peer ∙ ap (λ t. owed_frames t peer) table in
       let free_now : (peer_at b.parts i).ends.free ≡ x.ends.free + back = ap (λ (l : LaneSeen). l.free) b_ends in
-      let first : fs ≡ take (length fs) (owed_frames p.table peer) = due.puts.first ∙ ap (take (length fs)) owed_now in
-      let many : length fs ≡ min 8 (min (x.ends.free + back) (length (owed_frames p.table peer))) = due.many ∙ ap (λ (os : List (List ℕ)). min 8 (min (peer_at b.parts i).ends.free (length os))) owed_now ∙ ap (λ (n : ℕ). min 8 (min n (length (owed_frames p.table peer)))) free_now in
+      let are : owed_at p i ≡ fs ++ owed_at c.parts i = sym owed_now ∙ due.puts.owed in
+      let many : length fs ≡ min 8 (min (x.ends.free + back) (length (owed_at p i))) = due.many ∙ ap (λ (os : List (List ℕ)). min 8 (min (peer_at b.parts i).ends.free (length os))) owed_now ∙ ap (λ (n : ℕ). min 8 (min n (length (owed_at p i)))) free_now in
       let held : held_from peer (state_of c.parts) ≡ held_from peer (state_of p) = ap (held_from peer) (puts.state ∙ ap (λ (s : DomainState). after_deeds s (map (puts_owed peer) fs)) looked_back.state) ∙ held_same peer peer back fs (after_deed (state_of p) (looks_back peer back)) in
       let takes_many : length took.takes ≡ min 8 see = took.many ∙ counted in
       let last : List Line = map (taken_line peer) took.takes in
@@ -253,7 +252,7 @@ module _ {L : Type 0} (M : L → List LaneMove → L → Type 0) (m-both : (a b 
           at = peer_in plain p.table x;
           known = get-position (is_numbered peer) (state_of p).peers ∙ find-place plain p.table i p.peers x sound.peers.rising there;
           back_fits = omega (arith, fits);
-          puts_due = due-first (x.ends.free + back) fs (owed_frames p.table peer) first many ∙ ap (take (min 8 (x.ends.free + back))) (sym (owed-frames-are p x));
+          puts_due = due-first (x.ends.free + back) fs (owed_at c.parts i) (owed_at p i) are many;
           sees_shown = let same = ap (λ (l : LaneSeen). l.shown) c_seen in omega (arith, shown, same);
           see_fits = let same = ap (λ (l : LaneSeen). l.size_from) c_seen in let number = ap (λ (n : ℕ). held_from n (state_of c.parts)) c_peer in omega (arith, room, same, held, number);
           takes_first = takes_many;

@@ -1,14 +1,16 @@
 -- What a domain does at one of its peers in a turn, from inside: its steps are these deeds, and these moves at the ends towards the peer.
 -- Source: docs/PROFILE.md, "A turn". The numbers of the buffers of taken frames, which no entry tells, stand beside them.
-use Rattle.std.specs.Prelude.{◌≡◌, ℕ, Bool, not, ◌||◌, ◌==◌, List, ◌++◌, length, map, min, take}
+use Rattle.std.specs.Prelude.{◌≡◌, ℕ, Bool, not, ◌||◌, ◌==◌, List, ◌++◌, length, map, min}
 use Rattle.mc_base.specs.declared.request.RequestId.{RequestId}
 use Rattle.board_model.specs.Deeds.{AllMayDo, Deed, after_deeds, puts_owed}
 use Rattle.board_model.specs.Journal.{Line, Taken, Visit, taken_line}
+use Rattle.board_model.specs.State.{owed_to}
 use Rattle.board_model.specs.Turn.{IsVisit, nameless, takes_named, turn_limit, visit_deeds}
 use Rattle.domain_core.specs.Beginning.{has_begun, told_of}
 use Rattle.domain_core.specs.LaneMoves.{LaneMove}
-use Rattle.domain_core.specs.Owed.{owed_frames, paid_times, put_lines}
-use Rattle.domain_core.specs.Parts.{Holding, Parts, peer_at, state_of}
+use Rattle.domain_core.specs.Owed.{put_lines}
+use Rattle.domain_core.specs.Peers.{peer_in}
+use Rattle.domain_core.specs.Parts.{Holding, Parts, peer_at, plain, state_of}
 use Rattle.domain_core.specs.Steps.{Did, Step, all_moves, at_peer}
 use Rattle.domain_core.specs.Stores.{AreStored, KeepsQueued}
 use Rattle.domain_core.specs.VisitMoves.{putting, taking, visit_moves}
@@ -35,18 +37,21 @@ pub record Takes {L : Type 0} (Moved : L → List LaneMove → L → Type 0) (pl
   pub stored : AreStored (peer_at old.parts place).number numbers takes new.parts.book
   pub told : lines' ≡ lines ++ map (taken_line (peer_at old.parts place).number) takes
 
--- the first frames that are owed to the peer at a place are put
+-- the frames that are owed to the peer at a place: announcements first, and then replies, the oldest first
+abbrev pub owed_at : Parts → ℕ → List (List ℕ)
+owed_at p i = owed_to p.table.domain (peer_in plain p.table (peer_at p i))
+
+-- the first of them are put
 pub record Puts {L : Type 0} (Moved : L → List LaneMove → L → Type 0) (place : ℕ) (begun : Bool) (frames : List (List ℕ)) (old new : Holding L) (lines lines' : List Line) : Type 0 where
-  pub first : frames ≡ take (length frames) (owed_frames old.parts.table (peer_at old.parts place).number)
+  pub owed : owed_at old.parts place ≡ frames ++ owed_at new.parts place
   pub doing : Doing Moved (peer_at old.parts place).number (map (puts_owed (peer_at old.parts place).number) frames) (putting frames) old new
-  pub table : new.parts.table ≡ paid_times (length frames) old.parts.table (peer_at old.parts place).number
   pub told : lines' ≡ lines ++ put_lines begun (peer_at old.parts place).number frames
 
 -- all that a visit must put: as many as are owed and as buffers are free, and not over 8
 pub record PutsDue {L : Type 0} (Moved : L → List LaneMove → L → Type 0) (place : ℕ) (begun begun' : Bool) (old new : Holding L) (lines lines' : List Line) : Type 0 where
   pub frames : List (List ℕ)
   pub puts : Puts Moved place begun frames old new lines lines'
-  pub many : length frames ≡ min turn_limit (min (peer_at old.parts place).ends.free (length (owed_frames old.parts.table (peer_at old.parts place).number)))
+  pub many : length frames ≡ min turn_limit (min (peer_at old.parts place).ends.free (length (owed_at old.parts place)))
   pub begins : begun' ≡ (begun || not (length frames == 0))
 
 -- a visit to the peer at a place, and its lines

@@ -1,12 +1,14 @@
 -- The endpoints and requests as the board's definitions see them: what waits or was handed is read in the book of buffers.
 -- Source: docs/PROFILE.md, "Messages" and "Requests". A message lies in the buffer of its frame, whose header names its
 -- source, and whose letter names its priority.
-use Rattle.std.specs.Prelude.{ℕ, List, [], map, slice_index, Option, None, Some, option_map}
+use Rattle.std.specs.Prelude.{ℕ, Bool, ◌==◌, List, [], map, slice_index, Option, None, Some, option_map, if◌then◌else◌}
+use Rattle.mc_base.specs.Bytes.{number_at}
 use Rattle.mc_base.specs.Frame.{source_of}
 use Rattle.mc_base.specs.declared.request.Slot.{Slot}
 use Rattle.board_model.specs.State as state
 use Rattle.buffer_book.specs.Book.{Book, Kept, content, queued_at}
 use Rattle.message_queue.specs.Queue.{Waiting, waiting}
+use Rattle.packet_channel.specs.End.{end_of}
 use Rattle.request_set.specs.declared.ask.Ask.{Ask}
 use Rattle.request_set.specs.declared.ask.Ask.TheVariants as ask
 use Rattle.request_set.specs.declared.ask.Complete.{Complete}
@@ -16,7 +18,7 @@ use Rattle.domain_core.specs.declared.endpoints.Endpoint.{Endpoint}
 use Rattle.domain_core.specs.Table.{Held, Table}
 use Rattle.domain_core.specs.Records.{Records}
 
--- the address that a buffer's frame came from, its content, and its priority
+-- the address that a buffer's frame came from, its content, its priority, and its channel or none
 abbrev pub source_in : Option Kept → ℕ
 source_in None = 0
 source_in (Some k) = source_of k.buffer.bytes
@@ -25,21 +27,35 @@ abbrev pub content_in : Option Kept → List ℕ
 content_in None = []
 content_in (Some k) = content k
 
--- byte 19 of a frame is the argument of its letter
+-- In a frame, byte 18 is the kind of its letter, byte 19 the argument, and the four bytes from 20 on are the channel. A message is of
+-- kind 1 and has its priority for argument; other items are of a channel, and of no priority
+abbrev pub is_message_frame : List ℕ → Bool
+is_message_frame frame = slice_index frame 18 == 1
+
+abbrev pub priority_of : List ℕ → ℕ
+priority_of frame = if is_message_frame frame then slice_index frame 19 else 0
+
+abbrev pub channel_of : List ℕ → Option ℕ
+channel_of frame = if is_message_frame frame then None else Some (number_at 20 4 frame)
+
 abbrev pub priority_in : Option Kept → ℕ
 priority_in None = 0
-priority_in (Some k) = slice_index k.buffer.bytes 19
+priority_in (Some k) = priority_of k.buffer.bytes
+
+abbrev pub channel_in : Option Kept → Option ℕ
+channel_in None = None
+channel_in (Some k) = channel_of k.buffer.bytes
 
 -- what waits in a buffer
 abbrev pub item_in : Book → Waiting → state.Item
-item_in b w = record { peer = w.slot.peer; source = source_in (queued_at b w.slot); priority = w.priority; channel = None; content = content_in (queued_at b w.slot); frames = [] }
+item_in b w = record { peer = w.slot.peer; source = source_in (queued_at b w.slot); priority = w.priority; channel = channel_in (queued_at b w.slot); content = content_in (queued_at b w.slot); frames = [] }
 
 -- what was handed in a buffer
 abbrev pub item_at : Book → Slot → state.Item
 item_at b slot = item_in b (waiting slot (priority_in (queued_at b slot)))
 
 abbrev pub endpoint_in : Book → Endpoint → state.Endpoint
-endpoint_in b e = record { local = e.local; address = e.address; queue = map (item_in b) e.queue.waiting; channel = None }
+endpoint_in b e = record { local = e.local; address = e.address; queue = map (item_in b) e.queue.waiting; channel = option_map end_of e.channel }
 
 abbrev pub endpoints_in : Book → List Endpoint → List state.Endpoint
 endpoints_in b es = map (endpoint_in b) es

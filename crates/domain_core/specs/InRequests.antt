@@ -1,7 +1,7 @@
 -- What the requests of a domain keep, the buffers that complete ones hold, and which of those that wait are complete at once.
--- Source: docs/PROFILE.md, "Requests". Only lookups and receives of messages stand; a complete receive holds its message until
+-- Source: docs/PROFILE.md, "Requests". Only lookups, connects and receives of messages stand; a complete receive holds its message until
 -- it is tested off.
-use Rattle.std.specs.Prelude.{◌≡◌, ◌≤◌, Bool, false, ◌&&◌, List, [], ◌∷◌, length, map, Option, None, Some, is_none, if◌then◌else◌}
+use Rattle.std.specs.Prelude.{◌≡◌, ◌≤◌, Bool, false, ◌&&◌, ◌==◌, List, [], ◌∷◌, length, map, Option, None, Some, is_none, if◌then◌else◌}
 use Rattle.std.specs.List.{AllByRecursion, flat_map}
 use Rattle.mc_base.specs.Limits.{request_limit}
 use Rattle.mc_base.specs.declared.request.Slot.{Slot}
@@ -25,13 +25,16 @@ abbrev pub handed_slots : List Standing → List Slot
 handed_slots rs = flat_map (λ r. slots_in r.complete) rs
 
 -- a receive of a message: pending, complete with a message of which as many bytes are given as it asks for, or ended with a
--- word; and a lookup: pending, or complete with an address
+-- word; a lookup: pending, or complete with an address; and a connect: pending, accepted, or rejected
 abbrev pub Receives : Ask → Option Complete → Type 0
 Receives (ask.Message at max) None = Unit {0}
 Receives (ask.Message at max) (Some (complete.Message slot most)) = most ≡ max
 Receives (ask.Message at max) (Some (complete.Ended word)) = Unit {0}
 Receives (ask.Lookup name) None = Unit {0}
 Receives (ask.Lookup name) (Some (complete.Address address)) = Unit {0}
+Receives (ask.Connect channel) None = Unit {0}
+Receives (ask.Connect channel) (Some complete.Accepted) = Unit {0}
+Receives (ask.Connect channel) (Some (complete.Rejected reason)) = Unit {0}
 Receives ask other = ⊥
 
 abbrev pub IsReceive : Standing → Type 0
@@ -50,6 +53,8 @@ abbrev pub is_among : Waiters → Ask → Bool
 is_among (waiters.Lookups name) (ask.Lookup other) = same_name name other
 is_among (waiters.Lookups name) other = false
 is_among (waiters.Receives at) a = receives_at at a
+is_among (waiters.Connects number) (ask.Connect other) = other == number
+is_among (waiters.Connects number) other = false
 
 -- those that are pending are complete
 abbrev pub completed_with : Waiters → Complete → Standing → Standing
@@ -62,4 +67,6 @@ with_all_complete q who how = record q { standing = map (completed_with who how)
 abbrev pub MayEnd : Waiters → Complete → Type 0
 MayEnd (waiters.Lookups name) (complete.Address address) = Unit {0}
 MayEnd (waiters.Receives at) (complete.Ended word) = Unit {0}
+MayEnd (waiters.Connects number) complete.Accepted = Unit {0}
+MayEnd (waiters.Connects number) (complete.Rejected reason) = Unit {0}
 MayEnd who how = ⊥

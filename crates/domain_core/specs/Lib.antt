@@ -8,6 +8,7 @@ pub mod Out
 pub mod VisitMoves
 pub mod Beginning
 pub mod Table
+pub mod InReplies
 pub mod Records
 pub mod InTable
 pub mod InBook

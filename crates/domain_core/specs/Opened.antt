@@ -18,12 +18,12 @@ placed number f own (l ∷ ls) = if nat_lt number l.peer then own ∷ map f (l �
 abbrev pub own_place : {S R : Type 0} → ℕ → List (Link S R) → ℕ
 own_place number ls = prefix_len (λ l. not (nat_lt number l.peer)) ls
 
--- the peer of a link, and the domain itself: no names are known of them
+-- the peer of a link, and the domain itself: no names are known of them, and no replies are owed to them
 abbrev pub linked_peer : {S R : Type 0} → Link S R → Peer (Ends S R)
-linked_peer l = record { number = l.peer; ends = Linked l; known = [] }
+linked_peer l = record { number = l.peer; ends = Linked l; known = []; replies = [] }
 
 abbrev pub own_peer : {S R : Type 0} → ℕ → Loop → Peer (Ends S R)
-own_peer number own = record { number = number; ends = Own own; known = [] }
+own_peer number own = record { number = number; ends = Own own; known = []; replies = [] }
 
 abbrev pub peers_opened : {S R : Type 0} → ℕ → Loop → List (Link S R) → List (Peer (Ends S R))
 peers_opened number own ls = placed number linked_peer (own_peer number own) ls

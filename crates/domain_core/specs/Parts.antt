@@ -16,7 +16,7 @@ use Rattle.domain_core.specs.Sound.{AreSound}
 
 -- what is seen of a peer and the ends towards it
 abbrev pub peer_seen : {L : Type 0} → (L → LaneSeen) → Peer L → Peer LaneSeen
-peer_seen v p = record { number = p.number; ends = v p.ends; known = p.known }
+peer_seen v p = record { number = p.number; ends = v p.ends; known = p.known; replies = p.replies }
 
 abbrev pub peers_seen : {L : Type 0} → (L → LaneSeen) → List (Peer L) → List (Peer LaneSeen)
 peers_seen v ps = map (peer_seen v) ps
@@ -42,7 +42,7 @@ Sound p = AreSound plain p.book p.records p.requests p.table p.peers
 
 -- the peer at a place, and none where there is no such place
 abbrev pub nobody : Peer LaneSeen
-nobody = record { number = 0; ends = record { size_to = 0; size_from = 0; free = 0; shown = 0; out = [] }; known = [] }
+nobody = record { number = 0; ends = record { size_to = 0; size_from = 0; free = 0; shown = 0; out = [] }; known = []; replies = [] }
 
 abbrev pub peer_at : Parts → ℕ → Peer LaneSeen
 peer_at p i = slice_index_or p.peers i nobody

@@ -11,6 +11,7 @@ use Rattle.endpoint_table.specs.Table as endpoint_table
 use Rattle.endpoint_table.specs.Table.{owing_to}
 use Rattle.domain_core.specs.LaneSeen.{LaneSeen}
 use Rattle.domain_core.specs.declared.peer.Peer.{Peer}
+use Rattle.domain_core.specs.declared.replies.Reply.{Reply}
 use Rattle.domain_core.specs.Records.{Records}
 use Rattle.domain_core.specs.InBook.{endpoints_in, requests_in}
 use Rattle.domain_core.specs.Owed.{owed_by}
@@ -19,9 +20,12 @@ use Rattle.domain_core.specs.Owed.{owed_by}
 abbrev pub announcement_in : Announced → Announcement
 announcement_in a = record { local = a.local; address = a.address; create = a.create }
 
--- a peer: no reply is ever owed to it
+abbrev pub reply_in : Reply → state.Reply
+reply_in r = record { source = r.source; destination = r.destination; channel = r.channel; reason = r.reason }
+
+-- a peer
 abbrev pub peer_in : {L : Type 0} → (L → LaneSeen) → endpoint_table.Table → Peer L → state.Peer
-peer_in v t p = record { number = p.number; size = (v p.ends).size_from; free = (v p.ends).free; shown = (v p.ends).shown; announcements = map announcement_in (owed_by (owing_to t p.number)); replies = []; known = p.known }
+peer_in v t p = record { number = p.number; size = (v p.ends).size_from; free = (v p.ends).free; shown = (v p.ends).shown; announcements = map announcement_in (owed_by (owing_to t p.number)); replies = map reply_in p.replies; known = p.known }
 
 abbrev pub peers_in : {L : Type 0} → (L → LaneSeen) → endpoint_table.Table → List (Peer L) → List state.Peer
 peers_in v t ps = map (peer_in v t) ps
@@ -30,6 +34,6 @@ peers_in v t ps = map (peer_in v t) ps
 abbrev pub ended_in : List Record → List ℕ
 ended_in records = map (λ r. r.address) (filter (λ r. not r.live) records)
 
--- what waits or was handed is read in the book of buffers. No channel is there, and no packet is lent
+-- what waits or was handed is read in the book of buffers. No packet is lent
 abbrev pub state_in : {L : Type 0} → (L → LaneSeen) → Book → Records → Requests → endpoint_table.Table → List (Peer L) → DomainState
-state_in v b r q t ps = record { number = t.domain; nodes = t.nodes; endpoints = endpoints_in b r.endpoints; ended = ended_in t.records; peers = peers_in v t ps; requests = requests_in b q.standing; lent = []; endpoints_given = t.given; channels_given = 0; requests_given = q.given; packets_lent = 0 }
+state_in v b r q t ps = record { number = t.domain; nodes = t.nodes; endpoints = endpoints_in b r.endpoints; ended = ended_in t.records; peers = peers_in v t ps; requests = requests_in b q.standing; lent = []; endpoints_given = t.given; channels_given = r.channels; requests_given = q.given; packets_lent = 0 }

@@ -5,8 +5,9 @@ use Rattle.mc_base.specs.Limits.{first_address}
 use Rattle.mc_base.specs.FullName.{end_name}
 use Rattle.mc_base.specs.declared.name.Local.{Local}
 use Rattle.mc_base.specs.declared.refusal.Refusal.{Refusal}
+use Rattle.mc_base.specs.declared.channel.Side.TheVariants.{Receiver}
 use Rattle.mc_base.specs.declared.refusal.Refusal.TheVariants.{EndpInvalid}
-use Rattle.board_model.specs.DomainCall.{DomainCall, create_at, delete_at, lookup_of, send_from, receive_at, request_at, available_at, test_of, cancel_of, turn_alone}
+use Rattle.board_model.specs.DomainCall.{DomainCall, delete_at, receive_at, close_at, test_of}
 use Rattle.board_model.specs.Lists.{changed, without, with_rising}
 use Rattle.board_model.specs.State.{DomainState, Endpoint, Item, Announcement, Peer, Asked, name_of, message_at, Outcome, has_address, has_item, has_ended, Request, request_at_place, place_at, address_at, queue_at, place_of_peer, waits_at}
 use Rattle.board_model.specs.Choice.{best, without_best}
@@ -59,22 +60,10 @@ with_request s asked outcome = record s { requests = s.requests ++ record { seri
 abbrev pub best_queued : DomainState → Local → Option Item
 best_queued s at = best (λ i. i.priority) (queue_at s at)
 
--- the effect of success
-abbrev pub success_effect : DomainState → ℕ → DomainCall → DomainState
-success_effect s node (create_at port) = with_endpoint s (local node port)
-success_effect s node (delete_at port) = without_endpoint s (local node port) (unwrap_or (address_at s (local node port)) 0)
-success_effect s node (lookup_of name) = with_request s (name_of name) (option_map has_address (address_of s name))
-success_effect s node (send_from port to priority bytes) = with_used s to.domain
-success_effect s node (receive_at port max) = with_received s (local node port)
-success_effect s node (request_at port max) = with_request (with_received s (local node port)) (message_at (local node port) max) (option_map has_item (best_queued s (local node port)))
-success_effect s node (available_at port) = s
-success_effect s node (test_of request) = record s { requests = without request s.requests }
-success_effect s node (cancel_of request) = record s { requests = without request s.requests }
-success_effect s node turn_alone = s
-
 -- the items whose buffers success gives back, in that order
 abbrev pub success_returns : DomainState → ℕ → DomainCall → List Item
 success_returns s node (delete_at port) = queue_at s (local node port)
+success_returns s node (close_at port Receiver) = queue_at s (local node port)
 success_returns s node (receive_at port max) = option_to_list (best_queued s (local node port))
 success_returns s node (test_of request) = held_by (request_at_place s request)
 success_returns s node other = []

@@ -1,28 +1,32 @@
 -- The endpoints of a domain, as the table of them is seen: their names and addresses, and the buffers that wait there.
 -- Source: docs/PROFILE.md, "A domain". Of a buffer that waits stand its slot and its priority here; what it holds is told
 -- in the book of buffers.
-use Rattle.std.specs.Prelude.{ℕ, ◌+◌, List, [], ◌∷◌, ◌++◌, map, slice_get, Option, None, Some}
+use Rattle.std.specs.Prelude.{ℕ, ◌+◌, List, [], ◌∷◌, ◌++◌, map, slice_get, Option, None, Some, is_none, if◌then◌else◌}
 use Rattle.std.specs.List.{flat_map}
 use Rattle.mc_base.specs.Limits.{first_address}
 use Rattle.mc_base.specs.declared.name.Local.{Local}
 use Rattle.mc_base.specs.declared.request.Slot.{Slot}
 use Rattle.message_queue.specs.Queue.{Waiting, empty_queue, pushed, popped_best, popped_oldest}
+use Rattle.packet_channel.specs.End.{kept_end}
+use Rattle.packet_channel.specs.declared.channel.Channel.{Channel}
 use Rattle.board_model.specs.Lists.{changed_at, without_at}
 use Rattle.domain_core.specs.declared.endpoints.Endpoint.{Endpoint}
 
--- the domain's number, its endpoints, how many were created, and for how many buffers each queue has room
+-- the domain's number, its endpoints, how many were created, how many channels were numbered, and for how many buffers each queue has
+-- room
 pub record Records : Type 0 where
   pub number : ℕ
   pub endpoints : List Endpoint
   pub given : ℕ
+  pub channels : ℕ
   pub room : ℕ
 
 abbrev pub opening_records : ℕ → ℕ → Records
-opening_records number room = record { number = number; endpoints = []; given = 0; room = room }
+opening_records number room = record { number = number; endpoints = []; given = 0; channels = 0; room = room }
 
 -- one more endpoint, at which nothing waits
 abbrev pub new_record : ℕ → Local → ℕ → Endpoint
-new_record room at address = record { local = at; address = address; queue = empty_queue room }
+new_record room at address = record { local = at; address = address; queue = empty_queue room; channel = None }
 
 abbrev pub with_record : Records → Local → Records
 with_record r at = record r { endpoints = r.endpoints ++ new_record r.room at (first_address + r.given) ∷ []; given = r.given + 1 }
@@ -51,6 +55,21 @@ with_oldest_taken_at r i = record r { endpoints = changed_at with_oldest_taken i
 -- the endpoint at a place is gone
 abbrev pub without_record_at : Records → ℕ → Records
 without_record_at r i = record r { endpoints = without_at i r.endpoints }
+
+-- an end of a channel, or none where both ends are closed
+abbrev pub kept : Channel → Option Channel
+kept c = if is_none (kept_end c) then None else Some c
+
+-- the endpoint at a place has this end of a channel, or none
+abbrev pub with_end : Option Channel → Endpoint → Endpoint
+with_end c e = record e { channel = c }
+
+abbrev pub with_channel_at : Records → ℕ → Option Channel → Records
+with_channel_at r i c = record r { endpoints = changed_at (with_end c) i r.endpoints }
+
+-- one channel more is numbered
+abbrev pub with_channel_given : Records → Records
+with_channel_given r = record r { channels = r.channels + 1 }
 
 -- what waits at an endpoint, and at all of them
 abbrev pub waiting_in : Option Endpoint → List Waiting

@@ -1,12 +1,13 @@
 -- The steps that a domain makes inside, and what each does to its parts and at the ends towards its peers.
 -- Source: docs/PROFILE.md, "Calls". A step names the place, the slot and the request that it is about, so that it tells the number of
 -- each buffer that is given back.
-use Rattle.std.specs.Prelude.{◌≡◌, ℕ, ◌+◌, ◌%◌, ◌^◌, ◌==◌, cond, List, [], ◌∷◌, ◌++◌, map, take, Option, Some}
+use Rattle.std.specs.Prelude.{◌≡◌, ℕ, ◌+◌, ◌%◌, ◌^◌, ◌==◌, cond, List, [], ◌∷◌, ◌++◌, drop, map, take, Option, Some}
 use Rattle.mc_base.specs.FullName.{end_name}
 use Rattle.mc_base.specs.NameMap.{Names}
 use Rattle.mc_base.specs.Stored.{Stored}
 use Rattle.mc_base.specs.declared.name.EndName.{EndName}
 use Rattle.mc_base.specs.declared.name.Local.{Local}
+use Rattle.mc_base.specs.declared.refusal.Refusal.{Refusal}
 use Rattle.mc_base.specs.declared.refusal.Refusal.TheVariants.{EndpInvalid}
 use Rattle.mc_base.specs.declared.request.RequestId.{RequestId}
 use Rattle.mc_base.specs.declared.request.Slot.{Slot}
@@ -22,23 +23,35 @@ use Rattle.request_set.specs.declared.ask.Complete.{Complete}
 use Rattle.request_set.specs.declared.ask.Complete.TheVariants as complete
 use Rattle.request_set.specs.Requests.{Requests, with_complete}
 use Rattle.message_queue.specs.Queue.{waiting}
-use Rattle.domain_core.specs.LaneSeen.{LaneSeen, after_moves}
+use Rattle.packet_channel.specs.declared.channel.Channel.{Channel}
+use Rattle.domain_core.specs.LaneSeen.{LaneSeen, after_move, after_moves}
 use Rattle.domain_core.specs.declared.peer.Peer.{Peer}
+use Rattle.domain_core.specs.declared.replies.Reply.{Reply}
 use Rattle.domain_core.specs.declared.requests.Waiters.TheVariants as waiters
 use Rattle.domain_core.specs.AllMoved.{AllMoved, numbers_of}
 use Rattle.domain_core.specs.InPlaces.{slot_at}
 use Rattle.domain_core.specs.InRequests.{with_all_complete}
 use Rattle.domain_core.specs.LaneMoves.{LaneMove, sender, receiver}
 use Rattle.domain_core.specs.Parts.{Holding, Parts}
-use Rattle.domain_core.specs.Records.{Records, with_best_taken_at, with_oldest_taken_at, with_record, with_waiting_at, without_record_at}
+use Rattle.domain_core.specs.Records.{Records, with_best_taken_at, with_channel_at, with_channel_given, with_oldest_taken_at, with_record, with_waiting_at, without_record_at}
 
 -- each peer, after the moves at the peer of its number
 abbrev pub moved_peer : (ℕ → List LaneMove) → Peer LaneSeen → Peer LaneSeen
 moved_peer moves p = record p { ends = after_moves (moves p.number) p.ends }
 
--- these names are known of the peer of this number
-abbrev pub told_peer : ℕ → Names → Peer LaneSeen → Peer LaneSeen
-told_peer peer names p = record p { known = cond (peer == p.number) names p.known }
+-- the peer of this number changes
+abbrev pub changed_peer : ℕ → (Peer LaneSeen → Peer LaneSeen) → Peer LaneSeen → Peer LaneSeen
+changed_peer peer f p = cond (peer == p.number) (f p) p
+
+-- these names are known of it; a reply more is owed to it; the oldest reply is put to it, in this frame
+abbrev pub with_names : Names → Peer LaneSeen → Peer LaneSeen
+with_names names p = record p { known = names }
+
+abbrev pub with_reply : Reply → Peer LaneSeen → Peer LaneSeen
+with_reply r p = record p { replies = p.replies ++ r ∷ [] }
+
+abbrev pub with_reply_put : List ℕ → Peer LaneSeen → Peer LaneSeen
+with_reply_put frame p = record p { ends = after_move (sender (Sent frame)) p.ends; replies = drop 1 p.replies }
 
 -- ---- steps
 
@@ -73,6 +86,15 @@ pub data Step : Type 0 where
   -- these names are known of a peer; lookups of a name are complete with its address
   names_told : ℕ → Names → Step
   name_told : EndName → ℕ → Step
+  -- the endpoint at a place has this end of a channel from now on, or none; the number of a channel is used
+  channel_set : ℕ → Option Channel → Step
+  channel_given : Step
+  -- connects on this channel are complete so; receives at an endpoint end with a word
+  connect_settled : ℕ → Complete → Step
+  receives_ended : Local → Refusal → Step
+  -- a reply is owed to a peer; the oldest that is owed is put, in this frame
+  reply_owed : ℕ → Reply → Step
+  reply_put : ℕ → List ℕ → Step
 
 abbrev pub book_after : Step → Book → Book
 book_after (best_dropped i s) b = with_away b s
@@ -89,6 +111,8 @@ records_after (best_dropped i s) r = with_best_taken_at r i
 records_after (oldest_dropped i s) r = with_oldest_taken_at r i
 records_after (receive_begun i s id at max) r = with_best_taken_at r i
 records_after (frame_queued peer buffer len size i priority) r = with_waiting_at r i (waiting (slot_at peer buffer.number) priority)
+records_after (channel_set i c) r = with_channel_at r i c
+records_after channel_given r = with_channel_given r
 records_after other r = r
 
 -- one request more, last, and one less
@@ -107,6 +131,8 @@ requests_after (request_ended place) q = without_at q place
 requests_after (message_ended place s) q = without_at q place
 requests_after (frame_handed peer buffer len size id max) q = with_complete q id (complete.Message (slot_at peer buffer.number) max)
 requests_after (name_told name address) q = with_all_complete q (waiters.Lookups name) (complete.Address address)
+requests_after (connect_settled number how) q = with_all_complete q (waiters.Connects number) how
+requests_after (receives_ended at word) q = with_all_complete q (waiters.Receives at) (complete.Ended word)
 requests_after other q = q
 
 abbrev pub table_after : Step → endpoint_table.Table → endpoint_table.Table
@@ -131,10 +157,13 @@ step_moves (looked_ahead peer count) n = at_peer peer (receiver (receiving.Looke
 step_moves (frame_queued peer buffer len size i priority) n = at_peer peer (receiver (Took buffer.number (take len buffer.bytes)) ∷ []) n
 step_moves (frame_handed peer buffer len size id max) n = at_peer peer (receiver (Took buffer.number (take len buffer.bytes)) ∷ []) n
 step_moves (frame_returned peer number frame) n = at_peer peer (receiver (Took number frame) ∷ receiver (Gave number) ∷ []) n
+step_moves (reply_put peer frame) n = at_peer peer (sender (Sent frame) ∷ []) n
 step_moves other n = []
 
 abbrev pub peers_after : Step → List (Peer LaneSeen) → List (Peer LaneSeen)
-peers_after (names_told peer names) ps = map (told_peer peer names) ps
+peers_after (names_told peer names) ps = map (changed_peer peer (with_names names)) ps
+peers_after (reply_owed peer r) ps = map (changed_peer peer (with_reply r)) ps
+peers_after (reply_put peer frame) ps = map (changed_peer peer (with_reply_put frame)) ps
 peers_after other ps = map (moved_peer (step_moves other)) ps
 
 -- what a step leaves of the parts, and what steps leave, one after the other

@@ -1,6 +1,6 @@
 -- What is to be done with a frame that is taken, by the row that it has.
 -- Source: docs/PROFILE.md, "What a domain does with a taken frame".
-use Rattle.std.specs.Prelude.{◌≡◌, ℕ, ◌+◌, ◌≤◌, ◌<◌, true, false, List, [], ◌∷◌, length, take, drop, position, slice_index, Some, None, option_map}
+use Rattle.std.specs.Prelude.{◌≡◌, ℕ, ◌+◌, ◌≤◌, ◌<◌, true, false, List, [], ◌∷◌, length, take, drop, position, Option, Some, None, option_map}
 use Rattle.mc_base.specs.Limits.{item_size}
 use Rattle.mc_base.specs.Frame.{source_of}
 use Rattle.mc_base.specs.Letter.{PlainLetter, msg}
@@ -21,7 +21,7 @@ use Rattle.request_set.specs.Requests.{IsPending, Requests, is_id, request_of}
 use Rattle.domain_core.specs.declared.dealing.Verdict.{Verdict}
 use Rattle.domain_core.specs.declared.dealing.Verdict.TheVariants as verdict
 use Rattle.domain_core.specs.declared.requests.Waiters.TheVariants as waiters
-use Rattle.domain_core.specs.InBook.{endpoints_in, requests_in}
+use Rattle.domain_core.specs.InBook.{channel_of, endpoints_in, priority_of, requests_in}
 use Rattle.domain_core.specs.InRequests.{with_all_complete}
 use Rattle.domain_core.specs.PlacedFrames.{item_of}
 use Rattle.domain_core.specs.Records.{Records}
@@ -67,12 +67,12 @@ pub record IsReturned (peer : ℕ) (its : Row) (fate : Fate) (names names' : Nam
 
 -- ---- letters
 
--- a message, and the one in a frame, whose content of this size lies behind 24 bytes of headers; byte 19 is the letter's argument
-abbrev pub message : ℕ → ℕ → ℕ → List ℕ → Item
-message peer source priority content = record { peer = peer; source = source; priority = priority; channel = None; content = content; frames = [] }
+-- an item, and the one in a frame, whose content of this size lies behind 24 bytes of headers
+abbrev pub item_with : ℕ → ℕ → ℕ → Option ℕ → List ℕ → Item
+item_with peer source priority channel content = record { peer = peer; source = source; priority = priority; channel = channel; content = content; frames = [] }
 
-abbrev pub message_in : ℕ → List ℕ → ℕ → Item
-message_in peer frame size = message peer (source_of frame) (slice_index frame 19) (take size (drop 24 frame))
+abbrev pub framed_item : ℕ → List ℕ → ℕ → Item
+framed_item peer frame size = item_with peer (source_of frame) (priority_of frame) (channel_of frame) (take size (drop 24 frame))
 
 -- the content of a message has its most bytes at most
 abbrev pub IsShort : PlainLetter → Type 0
@@ -84,8 +84,8 @@ abbrev pub letter_row : DomainState → ℕ → ℕ → ℕ → PlainLetter → 
 letter_row s peer source destination l = first_row (letter_rows s peer None source destination (endpoint_of s destination) l)
 
 abbrev pub IsJudged : DomainState → ℕ → ℕ → ℕ → Requests → PlainLetter → Verdict → Type 0
-IsJudged s peer source destination q l (verdict.Queued place priority size) = (content : List ℕ) × (l ≡ msg priority content) × (size ≡ length content) × IsQueued s (letter_row s peer source destination l) (message peer source priority content) place
-IsJudged s peer source destination q l (verdict.Handed id max size) = (priority : ℕ) × (content : List ℕ) × (l ≡ msg priority content) × (size ≡ length content) × IsHanded s q (letter_row s peer source destination l) (message peer source priority content) id max
+IsJudged s peer source destination q l (verdict.Queued place priority size) = (content : List ℕ) × (l ≡ msg priority content) × (size ≡ length content) × IsQueued s (letter_row s peer source destination l) (item_with peer source priority None content) place
+IsJudged s peer source destination q l (verdict.Handed id max size) = (priority : ℕ) × (content : List ℕ) × (l ≡ msg priority content) × (size ≡ length content) × IsHanded s q (letter_row s peer source destination l) (item_with peer source priority None content) id max
 IsJudged s peer source destination q l (verdict.Returned fate) = (letter_row s peer source destination l ≡ row true fate []) × (keeps_buffer fate ≡ false)
 
 -- ---- frames
@@ -94,11 +94,11 @@ IsJudged s peer source destination q l (verdict.Returned fate) = (letter_row s p
 pub record Fits (frame : List ℕ) (size : ℕ) : Type 0 where
   pub short : size ≤ item_size
   pub inside : 24 + size ≤ length frame
-  pub whole : (peer : ℕ) → message_in peer frame size ≡ item_of peer frame
+  pub whole : (peer : ℕ) → framed_item peer frame size ≡ item_of peer frame
 
 abbrev pub IsVerdict : DomainState → ℕ → Names → Names → Requests → Requests → List ℕ → Verdict → Type 0
-IsVerdict s peer names names' q q' frame (verdict.Queued place priority size) = IsQueued s (row_of s peer None (reading frame)) (message_in peer frame size) place × Fits frame size × (slice_index frame 19 ≡ priority) × (names' ≡ names) × (q' ≡ q)
-IsVerdict s peer names names' q q' frame (verdict.Handed id max size) = IsHanded s q (row_of s peer None (reading frame)) (message_in peer frame size) id max × Fits frame size × (names' ≡ names) × (q' ≡ q)
+IsVerdict s peer names names' q q' frame (verdict.Queued place priority size) = IsQueued s (row_of s peer None (reading frame)) (framed_item peer frame size) place × Fits frame size × (priority_of frame ≡ priority) × (names' ≡ names) × (q' ≡ q)
+IsVerdict s peer names names' q q' frame (verdict.Handed id max size) = IsHanded s q (row_of s peer None (reading frame)) (framed_item peer frame size) id max × Fits frame size × (names' ≡ names) × (q' ≡ q)
 IsVerdict s peer names names' q q' frame (verdict.Returned fate) = IsReturned peer (row_of s peer None (reading frame)) fate names names' q q'
 
 abbrev pub fate_of : Verdict → Fate

@@ -4,29 +4,31 @@ ghost use Rattle.std.specs.Prelude.{◌≡◌, ◌≤◌, ◌<◌, ◌+◌, [], 
 ghost use Rattle.std.specs.List.{AllByRecursion};
 ghost use Rattle.std.specs.Ordering.{nat_cmp};
 ghost use Rattle.mc_base.specs.Limits.{first_address};
-ghost use Rattle.board_model.specs.State.{address_at, endpoint_at, place_at, place_of_address};
-ghost use Rattle.board_model.specs.Answer.{has_channel};
+ghost use Rattle.board_model.specs.State.{address_at, place_at, place_of_address};
+ghost use Rattle.board_model.specs.Answer.{channel_limit};
 ghost use Rattle.board_model.specs.Choice.{best, oldest};
 ghost use Rattle.buffer_book.specs.Book.{Book};
 ghost use Rattle.message_queue.specs.Queue.{waiting};
 ghost use Rattle.domain_core.specs.Table.{holding};
-ghost use Rattle.domain_core.specs.Records.{all_waiting, opening_records, waiting_in, with_best_taken_at, with_oldest_taken_at, with_record, with_waiting_at, without_record_at};
+ghost use Rattle.domain_core.specs.Records.{all_waiting, kept, opening_records, waiting_in, with_best_taken_at, with_channel_at, with_channel_given, with_oldest_taken_at, with_record, with_waiting_at, without_record_at};
 ghost use Rattle.domain_core.specs.InBook.{endpoints_in};
-ghost use Rattle.domain_core.specs.InTable.{AreInOrder, IsSpare};
+ghost use Rattle.domain_core.specs.InTable.{AreInOrder, IsKept, IsSpare};
 ghost use Rattle.domain_core.specs.Tied.{live_record};
 
 use endpoint_table::EndpointTable;
 use mc_base::{FIRST_ADDRESS, Local, MAX_ENDPOINTS, NoMemory, Priority, Slot};
 use message_queue::MessageQueue;
+use packet_channel::Channel;
 use std::alloc::Global;
 use std::marker::Model;
 
-/// An endpoint, and the buffers that wait for it.
+/// An endpoint, the buffers that wait for it, and its end of a channel, which is none where both ends are closed.
 #[derive(Debug, Drop)]
 pub struct Endpoint {
     local: Local,
     address: u32,
     queue: MessageQueue,
+    channel: Option<Channel>,
 }
 
 /// The endpoints in the order in which they were created, and queues for those to come.
@@ -36,6 +38,7 @@ pub struct Endpoints {
     records: Vec<Endpoint>,
     spare: Vec<MessageQueue>,
     given: u32,
+    channels: u32,
     room: u32,
 }
 
@@ -64,6 +67,7 @@ impl Endpoints {
             records,
             spare: empty_queues(alloc, room)?,
             given: 0,
+            channels: 0,
             room,
         })
     }
@@ -80,7 +84,6 @@ impl Endpoints {
         requires live { filter (λ x. x.live) table.now.records ≡ map live_record self.now.endpoints }
         ensures place { (b : Book) → result ≡ place_at (holding (endpoints_in b self.now.endpoints)) at }
         ensures within { IfSome result (λ i. i < length self.now.endpoints) }
-        ensures channel { (b : Book) → has_channel (endpoint_at (holding (endpoints_in b self.now.endpoints)) at) ≡ false }
     {
         let address = table.find(at)?;
         place_with_address(&self.records, address)
@@ -92,7 +95,6 @@ impl Endpoints {
         ensures address { (b : Book) → result ≡ address_at (holding (endpoints_in b self.now.endpoints)) at }
         ensures live { (b : Book) → is_some result ≡ is_some (place_at (holding (endpoints_in b self.now.endpoints)) at) }
         ensures range { IfSome result (λ a. first_address ≤ a) }
-        ensures channel { (b : Book) → has_channel (endpoint_at (holding (endpoints_in b self.now.endpoints)) at) ≡ false }
     {
         let place = self.place_at(table, at)?;
         Some(self.records[place].address)
@@ -120,6 +122,7 @@ impl Endpoints {
                 local: at,
                 address,
                 queue,
+                channel: None,
             })
             .unwrap();
         self.given += 1;
@@ -175,6 +178,57 @@ impl Endpoints {
         self.records[place].local
     }
 
+    /// The address of the endpoint at a place.
+    pub fn address_of(&self, place: usize) -> u32
+        requires within { place < length self.now.endpoints }
+        ensures { Some result ≡ option_map (λ e. e.address) (slice_get self.now.endpoints place) }
+    {
+        self.records[place].address
+    }
+
+    /// Whether the endpoint at a place has a channel.
+    pub fn has_channel(&self, place: usize) -> bool
+        requires within { place < length self.now.endpoints }
+        ensures { Some result ≡ option_map (λ e. is_some e.channel) (slice_get self.now.endpoints place) }
+    {
+        self.records[place].channel.is_some()
+    }
+
+    /// The end of a channel of the endpoint at a place.
+    pub fn channel_at(&self, place: usize) -> Option<Channel>
+        requires within { place < length self.now.endpoints }
+        ensures there { Some result ≡ option_map (λ e. e.channel) (slice_get self.now.endpoints place) }
+        ensures kept { IsKept result }
+    {
+        self.records[place].channel
+    }
+
+    /// Sets the end of a channel of the endpoint at a place. It has none where both ends are closed.
+    pub fn set_channel(&mut self, place: usize, channel: Channel)
+        requires within { place < length self.old.endpoints }
+        ensures { self.new ≡ with_channel_at self.old place (kept channel) }
+    {
+        let endpoint = &mut self.records[place];
+        endpoint.channel = kept(channel);
+    }
+
+    /// Numbers a channel: 1, and one more for each that was numbered before.
+    pub fn number_channel(&mut self) -> u32
+        requires few { self.old.channels < channel_limit }
+        ensures number { result ≡ self.old.channels + 1 }
+        ensures numbered { self.new ≡ with_channel_given self.old }
+    {
+        self.channels += 1;
+        self.channels
+    }
+
+    /// How many channels were numbered.
+    pub fn channels_given(&self) -> u32
+        ensures { result ≡ self.now.channels }
+    {
+        self.channels
+    }
+
     /// How many messages wait at a place.
     pub fn queued_at(&self, place: usize) -> u32
         requires within { place < length self.now.endpoints }
@@ -190,6 +244,17 @@ impl Endpoints {
     {
         count_waiting(&self.records)
     }
+}
+
+/// An end of a channel, or none where both ends are closed.
+fn kept(channel: Channel) -> Option<Channel>
+    ensures same { result ≡ kept channel }
+    ensures kept { IsKept result }
+{
+    if channel.has_ended() {
+        return None;
+    }
+    Some(channel)
 }
 
 /// The place of the endpoint with an address, by binary search.

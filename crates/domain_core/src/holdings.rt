@@ -1,6 +1,6 @@
 //! The inside of a domain as one value, whose methods make its steps.
 
-ghost use Rattle.std.specs.Prelude.{◌≡◌, ◌↔◌, ◌+◌, ◌<◌, ◌≤◌, [], ◌∷◌, false, Contains, IfSome, IsNone, is_some, length, map};
+ghost use Rattle.std.specs.Prelude.{◌≡◌, ◌↔◌, ◌+◌, ◌<◌, ◌≤◌, [], ◌∷◌, Contains, IfSome, IsNone, Some, is_some, length, map};
 ghost use Rattle.board_model.specs.State.{address_at, endpoint_at, free_to, lent_from, place_at, place_of_peer, queued_from, queued_items};
 ghost use Rattle.board_model.specs.Answer.{address_of, has_channel};
 ghost use Rattle.domain_core.specs.Parts.{Sound, state_of};
@@ -80,21 +80,28 @@ impl<P: PeerLane> Holdings<P> {
     /// The place of the endpoint of this name.
     fn place_at(&self, at: Local) -> Option<usize>
         ensures place { result ≡ place_at (state_of self.now.parts) at }
-        ensures channel { has_channel (endpoint_at (state_of self.now.parts) at) ≡ false }
         ensures within { IfSome result (λ i. i < length self.now.parts.records.endpoints) }
         ensures sound { Sound self.now.parts }
     {
         self.endpoints.place_at(&self.table, at)
     }
 
-    /// The address of the endpoint of this name.
-    fn address_at(&self, at: Local) -> Option<u32>
-        ensures address { result ≡ address_at (state_of self.now.parts) at }
-        ensures live { is_some (place_at (state_of self.now.parts) at) ≡ is_some result }
-        ensures channel { has_channel (endpoint_at (state_of self.now.parts) at) ≡ false }
-        ensures sound { Sound self.now.parts }
+    /// Whether the endpoint of this name, which is at this place, has a channel.
+    fn has_channel(&self, at: Local, place: usize) -> bool
+        requires there { place_at (state_of self.now.parts) at ≡ Some place }
+        requires within { place < length self.now.parts.records.endpoints }
+        ensures { result ≡ has_channel (endpoint_at (state_of self.now.parts) at) }
     {
-        self.endpoints.address_at(&self.table, at)
+        self.endpoints.has_channel(place)
+    }
+
+    /// The address of the endpoint of this name, which is at this place.
+    fn address_at(&self, at: Local, place: usize) -> u32
+        requires there { place_at (state_of self.now.parts) at ≡ Some place }
+        requires within { place < length self.now.parts.records.endpoints }
+        ensures { Some result ≡ address_at (state_of self.now.parts) at }
+    {
+        self.endpoints.address_of(place)
     }
 
     /// The address of an endpoint: of this domain where it is live, of another where it is known.

@@ -20,6 +20,7 @@ mod own_lane;
 mod peer;
 mod peer_lane;
 mod peers;
+mod replies;
 mod requests;
 mod threads;
 
@@ -31,4 +32,5 @@ pub use link::Link;
 pub use mc_journal::{Answer, Entry, Journal, Told};
 pub use peer::Peer;
 pub use peer_lane::PeerLane;
+pub use replies::{Replies, Reply};
 pub use threads::{domain_may_cross_threads, domain_may_move, may_cross_threads};

@@ -11,6 +11,7 @@ use crate::link::Link;
 use crate::link_room::LinkRoom;
 use crate::own_lane::own_lane;
 use crate::peer::Peer;
+use crate::replies::Replies;
 use mc_base::NoMemory;
 use name_service::KnownNames;
 use std::alloc::Global;
@@ -71,6 +72,7 @@ pub fn peers_of<S: Drop, R: Drop>(
         number,
         ends: Ends::Own(own_lane(alloc, pool)?),
         known: KnownNames::new(alloc)?,
+        replies: Replies::new(alloc)?,
     };
     if peers.insert(place, own).is_err() {
         return Err(NoMemory);
@@ -109,6 +111,7 @@ fn linked_peers<S: Drop, R: Drop>(
         let peer = Peer {
             number: link.peer,
             known: KnownNames::new(alloc)?,
+            replies: Replies::new(alloc)?,
             ends: Ends::Linked(link),
         };
         if peers.push(peer).is_err() {

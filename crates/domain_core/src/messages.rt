@@ -1,38 +1,38 @@
-//! The content of messages, on its way into a buffer and out of one.
+//! Letters, and the content of messages, on their way into a buffer and out of one.
 
 ghost use Rattle.std.specs.Prelude.{◌≡◌, ◌≤◌, ◌<◌, ◌++◌, min, length, take, drop};
 ghost use Rattle.mc_base.specs.Frame.{made};
-ghost use Rattle.mc_base.specs.Letter.{spelling, msg};
+ghost use Rattle.mc_base.specs.Letter.{HasSpelling, plain_letter, spelling};
 
 use bridge_frame::write_letter;
-use mc_base::{FRAME_HEADER_SIZE, Got, LETTER_HEADER_SIZE, Letter, Priority};
+use mc_base::{FRAME_HEADER_SIZE, Got, LETTER_HEADER_SIZE, Letter};
 use rpmsg_frame::write_header;
 
 /// Where the content lies in the buffer of a message.
 pub const CONTENT: u32 = (FRAME_HEADER_SIZE + LETTER_HEADER_SIZE) as u32;
 
-/// Writes the frame of a message of at most 488 bytes, and answers its length. The rest of `out` stays.
-pub fn write(out: &mut [u8], source: u32, destination: u32, priority: Priority, bytes: &[u8]) -> u32
-    requires size { length bytes.now ≤ 488 }
+/// Writes the frame of a letter, and answers its length. The rest of `out` stays.
+pub fn write(out: &mut [u8], source: u32, destination: u32, letter: &Letter<'_>) -> u32
+    requires lawful { HasSpelling (plain_letter letter.now) }
+    requires short { length (spelling (plain_letter letter.now)) ≤ 496 }
     requires room { length out.old ≡ 512 }
-    ensures frame { take result out.new ≡ made source destination (spelling (msg priority bytes.now)) }
+    ensures frame { take result out.new ≡ made source destination (spelling (plain_letter letter.now)) }
     ensures some { 0 < result }
     ensures len { result ≤ 512 }
 {
-    let len = write_payload(out, priority, bytes);
+    let len = write_payload(out, letter);
     write_header(source, destination, len as u16, out);
     (FRAME_HEADER_SIZE + len) as u32
 }
 
-/// Writes the letter of a message where the payload of a frame lies, and answers its length.
-fn write_payload(out: &mut [u8], priority: Priority, bytes: &[u8]) -> usize
-    requires size { length bytes.now ≤ 488 }
+/// Writes a letter where the payload of a frame lies, and answers its length.
+fn write_payload(out: &mut [u8], letter: &Letter<'_>) -> usize
+    requires lawful { HasSpelling (plain_letter letter.now) }
     requires room { length out.old ≡ 512 }
-    ensures payload { let text = spelling (msg priority bytes.now) in drop 16 out.new ≡ text ++ drop (length text) (drop 16 out.old) }
-    ensures len { result ≡ length (spelling (msg priority bytes.now)) }
+    ensures payload { let text = spelling (plain_letter letter.now) in drop 16 out.new ≡ text ++ drop (length text) (drop 16 out.old) }
+    ensures len { result ≡ length (spelling (plain_letter letter.now)) }
 {
-    let letter = Letter::Msg { priority, bytes };
-    write_letter(&letter, &mut out[FRAME_HEADER_SIZE..])
+    write_letter(letter, &mut out[FRAME_HEADER_SIZE..])
 }
 
 /// Gives the first bytes of a message, as many as fit. The rest of `out` stays.

@@ -21,6 +21,8 @@ pub enum Waiters {
     Lookups(EndName),
     /// Receives at this endpoint.
     Receives(Local),
+    /// Connects on the channel of this number.
+    Connects(u32),
 }
 
 impl Waiters {
@@ -42,6 +44,7 @@ impl Waiters {
             (Waiters::Receives(local), Ask::Message(at, _) | Ask::Packet(at)) => {
                 at.node == local.node && at.port == local.port
             }
+            (Waiters::Connects(number), Ask::Connect(other)) => other == number,
             _ => false,
         }
     }

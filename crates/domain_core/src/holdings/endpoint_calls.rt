@@ -44,6 +44,9 @@ impl<P: PeerLane> Holdings<P> {
         let Some(place) = self.place_at(at) else {
             return Err(Refusal::EndpInvalid);
         };
+        if self.has_channel(at, place) {
+            return Err(Refusal::ChanConnected);
+        }
         let dropped = self.drop_all(place);
         self.remove_empty(place, at);
         Ok(dropped)

@@ -15,7 +15,7 @@ use crate::holdings::Holdings;
 use crate::messages::{give, write};
 use crate::peer_lane::PeerLane;
 use crate::peers::give_back;
-use mc_base::{BUFFER_SIZE, EndName, Got, ITEM_SIZE, Local, Priority, Refusal};
+use mc_base::{BUFFER_SIZE, EndName, Got, ITEM_SIZE, Letter, Local, Priority, Refusal};
 use mc_journal::{Entry, Journal};
 
 impl<P: PeerLane> Holdings<P> {
@@ -35,9 +35,13 @@ impl<P: PeerLane> Holdings<P> {
         ensures entry_room { journal.old.entry_room ≤ journal.new.entry_room + 1 }
         ensures byte_room { journal.old.byte_room ≤ journal.new.byte_room + 512 }
     {
-        let Some(source) = self.address_at(from) else {
+        let Some(place) = self.place_at(from) else {
             return Err(Refusal::EndpInvalid);
         };
+        if self.has_channel(from, place) {
+            return Err(Refusal::OnChannel);
+        }
+        let source = self.address_at(from, place);
         let Some(destination) = self.address_of(to) else {
             return Err(Refusal::PeerInvalid);
         };
@@ -48,7 +52,8 @@ impl<P: PeerLane> Holdings<P> {
             return Err(Refusal::NoBuffer);
         }
         let mut out = [0; BUFFER_SIZE];
-        let len = write(&mut out, source, destination, priority, bytes);
+        let letter = Letter::Msg { priority, bytes };
+        let len = write(&mut out, source, destination, &letter);
         let frame = &out[..len as usize];
         journal.note(Entry::Put {
             peer: to.domain,
@@ -68,6 +73,9 @@ impl<P: PeerLane> Holdings<P> {
         let Some(place) = self.place_at(at) else {
             return Err(Refusal::EndpInvalid);
         };
+        if self.has_channel(at, place) {
+            return Err(Refusal::OnChannel);
+        }
         let Some(got) = self.drop_best(at, place, out) else {
             return Err(Refusal::Empty);
         };
@@ -99,6 +107,9 @@ impl<P: PeerLane> Holdings<P> {
         let Some(place) = self.place_at(at) else {
             return Err(Refusal::EndpInvalid);
         };
+        if self.has_channel(at, place) {
+            return Err(Refusal::OnChannel);
+        }
         Ok(self.count_at(at, place))
     }
 

@@ -1,26 +1,30 @@
 //! What a linked domain is to be told: announcements of endpoints that are there or gone.
 
-ghost use Rattle.std.specs.Prelude.{◌≡◌, ◌≤◌, ◌<◌, ◌+◌, ◌∷◌, [], ℕ, List, IsTrue, Some, true, false, min, length, option_map, take};
+ghost use Rattle.std.specs.Prelude.{◌≡◌, ◌≤◌, ◌<◌, ◌+◌, ◌∷◌, [], ℕ, List, IsTrue, None, Some, true, false, min, length, option_map, slice_get, take};
 ghost use Rattle.mc_base.specs.Limits.{name_service_address};
 ghost use Rattle.mc_base.specs.Frame.{made};
 ghost use Rattle.mc_base.specs.Announcement.{announcement, is_name};
 ghost use Rattle.endpoint_table.specs.Table.{announcement_of, owed_to};
 ghost use Rattle.domain_core.specs.CallSteps.{Rests};
-ghost use Rattle.domain_core.specs.Doing.{Puts, PutsDue};
-ghost use Rattle.domain_core.specs.Owed.{owed_frames, room_for};
+ghost use Rattle.board_model.specs.State.{replying};
+ghost use Rattle.domain_core.specs.Doing.{Puts, PutsDue, owed_at};
+ghost use Rattle.domain_core.specs.Owed.{room_for};
 ghost use Rattle.domain_core.specs.Parts.{peer_at};
+ghost use Rattle.domain_core.specs.Peers.{reply_in};
 
 use crate::holdings::Holdings;
+use crate::messages::write;
 use crate::noting::begin_turn;
 use crate::peer_lane::PeerLane;
-use mc_base::{BUFFER_SIZE, NAME_SERVICE_ADDRESS, NS_SIZE, Ns, TURN_FRAMES};
+use crate::replies::Reply;
+use mc_base::{BUFFER_SIZE, Letter, NAME_SERVICE_ADDRESS, NS_SIZE, Ns, TURN_FRAMES};
 use mc_journal::{Entry, Journal};
 use name_service::write_ns;
 use rpmsg_frame::encode_into;
 
 impl<P: PeerLane> Holdings<P> {
-    /// Puts what is owed to the linked domain at a place, the oldest first: at most 8 announcements, as long as a buffer is free.
-    /// Returns whether the turn has begun.
+    /// Puts what is owed to the peer at a place: announcements first, and then replies, the oldest first. At most 8 are put, as long
+    /// as a buffer is free. Returns whether the turn has begun.
     pub fn put_owed(&mut self, journal: &mut Journal, place: usize, begun: bool) -> bool
         requires rests { Rests P.Moved self.old }
         requires within { place < length self.old.parts.peers }
@@ -40,15 +44,14 @@ impl<P: PeerLane> Holdings<P> {
         has_begun
     }
 
-    /// Puts the oldest announcement that is owed to the linked domain at a place, where one is owed and a buffer is free. Returns
-    /// whether it was put.
+    /// Puts what is owed first to the peer at a place, where something is owed and a buffer is free. Returns whether it was put.
     fn put_oldest(&mut self, journal: &mut Journal, place: usize, begun: bool) -> bool
         requires within { place < length self.old.parts.peers }
         requires entry_room { room_for begun ≤ journal.old.entry_room }
         requires byte_room { 512 ≤ journal.old.byte_room }
         ensures puts { result ≡ true → (frame : List ℕ) × Puts P.Moved place begun (frame ∷ []) self.old self.new journal.old.lines journal.new.lines }
         ensures free { result ≡ true → 0 < (peer_at self.old.parts place).ends.free }
-        ensures none { result ≡ false → min (length (owed_frames self.old.parts.table (peer_at self.old.parts place).number)) (peer_at self.old.parts place).ends.free ≡ 0 }
+        ensures none { result ≡ false → min (length (owed_at self.old.parts place)) (peer_at self.old.parts place).ends.free ≡ 0 }
         ensures stays { result ≡ false → self.new ≡ self.old }
         ensures journal { result ≡ false → journal.new ≡ journal.old }
         ensures entry_room { journal.old.entry_room ≤ journal.new.entry_room + room_for begun }
@@ -57,10 +60,14 @@ impl<P: PeerLane> Holdings<P> {
         if self.peers[place].ends.free_len() == 0 {
             return false;
         }
-        let Some(ns) = self.table.owed(self.peers[place].number) else {
+        if let Some(ns) = self.table.owed(self.peers[place].number) {
+            self.put_announcement(journal, place, begun, &ns);
+            return true;
+        }
+        let Some(reply) = self.peers[place].replies.first() else {
             return false;
         };
-        self.put_announcement(journal, place, begun, &ns);
+        self.put_reply(journal, place, begun, reply);
         true
     }
 
@@ -91,6 +98,61 @@ impl<P: PeerLane> Holdings<P> {
         });
         peer.ends.put(frame);
         self.table.paid(number);
+    }
+
+    /// Puts a reply, which is the oldest that is owed to the peer at a place, and no announcement is owed to it. It begins the
+    /// turn where no other entry did before.
+    #[cold]
+    #[inline(never)]
+    fn put_reply(&mut self, journal: &mut Journal, place: usize, begun: bool, reply: Reply)
+        requires within { place < length self.old.parts.peers }
+        requires free { 0 < (peer_at self.old.parts place).ends.free }
+        requires none { None ≡ owed_to self.old.parts.table (peer_at self.old.parts place).number }
+        requires oldest { Some reply ≡ slice_get (peer_at self.old.parts place).replies 0 }
+        requires lawful { 0 < reply.channel }
+        requires entry_room { room_for begun ≤ journal.old.entry_room }
+        requires byte_room { 512 ≤ journal.old.byte_room }
+        ensures puts { (frame : List ℕ) × Puts P.Moved place begun (frame ∷ []) self.old self.new journal.old.lines journal.new.lines }
+        ensures entry_room { journal.old.entry_room ≤ journal.new.entry_room + room_for begun }
+        ensures byte_room { journal.old.byte_room ≤ journal.new.byte_room + 512 }
+    {
+        let peer = &mut self.peers[place];
+        let number = peer.number;
+        begin_turn(journal, begun);
+        let mut out = [0; BUFFER_SIZE];
+        let len = write_reply(reply, &mut out);
+        let frame = &out[..len as usize];
+        journal.note(Entry::Put {
+            peer: number,
+            frame,
+        });
+        peer.ends.put(frame);
+        peer.replies.remove_first();
+    }
+}
+
+/// Writes the frame of a reply, and returns its length.
+fn write_reply(reply: Reply, out: &mut [u8]) -> u32
+    requires lawful { 0 < reply.channel }
+    requires room { length out.old ≡ 512 }
+    ensures frame { take result out.new ≡ replying (reply_in reply) }
+    ensures some { 0 < result }
+    ensures fits { result ≤ 512 }
+{
+    let channel = reply.channel;
+    match reply.reason {
+        None => write(
+            out,
+            reply.source,
+            reply.destination,
+            &Letter::Accept { channel },
+        ),
+        Some(reason) => write(
+            out,
+            reply.source,
+            reply.destination,
+            &Letter::Reject { channel, reason },
+        ),
     }
 }
 

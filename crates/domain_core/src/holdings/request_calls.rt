@@ -60,6 +60,9 @@ impl<P: PeerLane> Holdings<P> {
         let Some(place) = self.place_at(at) else {
             return Err(Refusal::EndpInvalid);
         };
+        if self.has_channel(at, place) {
+            return Err(Refusal::OnChannel);
+        }
         let Some(id) = self.begin_receive_at(at, place, max) else {
             return Err(Refusal::RequestLimit);
         };

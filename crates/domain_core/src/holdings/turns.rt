@@ -6,7 +6,7 @@ ghost use Rattle.board_model.specs.State.{held_from};
 ghost use Rattle.lane_end.specs.ReceiveMoves as receiving;
 ghost use Rattle.lane_end.specs.SendMoves.{Looked};
 ghost use Rattle.domain_core.specs.CallSteps.{Rests};
-ghost use Rattle.domain_core.specs.Doing.{Doing, Visits};
+ghost use Rattle.domain_core.specs.Doing.{Doing, Visits, owed_at};
 ghost use Rattle.domain_core.specs.LaneMoves.{receiver, sender};
 ghost use Rattle.domain_core.specs.Owed.{room_for};
 ghost use Rattle.domain_core.specs.Parts.{Sound, peer_at, shown, state_of};
@@ -97,7 +97,7 @@ impl<P: PeerLane> Holdings<P> {
         requires { place < length self.old.parts.peers }
         ensures doing { let peer = (peer_at self.old.parts place).number in Doing P.Moved peer (looks_back peer result ∷ []) (sender (Looked result) ∷ []) self.old self.new }
         ensures fits { (peer_at self.old.parts place).ends.free + result ≤ (peer_at self.old.parts place).ends.size_from }
-        ensures table { self.new.parts.table ≡ self.old.parts.table }
+        ensures owed { owed_at self.new.parts place ≡ owed_at self.old.parts place }
     {
         self.peers[place].ends.look_back()
     }

@@ -1,17 +1,17 @@
-use Rattle.std.proofs.Common.{rules, ◌≡◌, ◌<◌, ◌≤◌, ◌+◌, ◌++◌, ◌∷◌, [], List, length, arith, ap, ◌∙◌}
+use Rattle.std.proofs.Common.{rules, None, ◌≡◌, ◌<◌, ◌≤◌, ◌+◌, ◌++◌, ◌∷◌, [], List, length, arith, ap, ◌∙◌}
 use Rattle.std.proofs.lemmas.List.{length_push}
 use Rattle.endpoint_table.proofs.RecordLemmas.{all-weaken}
 use Rattle.message_queue.specs.Queue.{Queue}
 use Rattle.domain_core.specs.declared.endpoints.Endpoint.{Endpoint}
 use Rattle.domain_core.specs.Records.{Records, new_record, with_record}
-use Rattle.domain_core.specs.InTable.{IsSpare, records_of}
+use Rattle.domain_core.specs.InTable.{IsKept, IsSpare, records_of}
 use Rattle.domain_core.proofs.Addresses.{order-push}
 use Rattle.domain_core.proofs.Tables.{All-front, All-push}
 use Rattle.domain_core.proofs.endpoints.Endpoints.add.Goals as goal
 
 -- the record that is made
 abbrev made : goal.After-self-1 → Endpoint
-made c = record { local = c.args.at; address = 1024 + c.self.inside.given; queue = c.unwrap-queue.result }
+made c = record { local = c.args.at; address = 1024 + c.self.inside.given; queue = c.unwrap-queue.result; channel = None }
 
 popped : (c : goal.After-self-1) → c.self.inside.spare.items ≡ c.pop.new.self.items ++ c.unwrap-queue.result ∷ []
 popped c = search rules
@@ -33,6 +33,7 @@ invariant_of-self c =
       records = omega (arith, i.records, ap length (pushed c), length_push es (made c), ap length (popped c), length_push c.pop.new.self.items c.unwrap-queue.result);
       addresses = rw (pushed c) (All-push (λ (e : Endpoint). 1024 ≤ e.address) es (made c) i.addresses fresh);
       order = rw (pushed c) (order-push es (made c) i.order i.below);
+      ends = rw (pushed c) (All-push (λ (e : Endpoint). IsKept e.channel) es (made c) i.ends tt);
       below = rw (pushed c) (All-push (λ (e : Endpoint). e.address < 1024 + (c.self.inside.given + 1)) es (made c) (all-weaken (λ (e : Endpoint). e.address < 1024 + c.self.inside.given) (λ (e : Endpoint). e.address < 1024 + (c.self.inside.given + 1)) (λ e lt. omega (arith, lt)) es i.below) (omega arith));
       records_room = search rules;
       spare_room = search rules;

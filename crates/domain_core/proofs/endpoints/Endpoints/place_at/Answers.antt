@@ -5,7 +5,6 @@ use Rattle.domain_core.specs.Records.{Records}
 use Rattle.domain_core.specs.InBook.{endpoints_in}
 use Rattle.domain_core.specs.Tied.{live_record}
 use Rattle.domain_core.proofs.Addresses.{named, unnamed}
-use Rattle.domain_core.proofs.Tables.{channels-none}
 use Rattle.domain_core.proofs.Tying.{place-is}
 use Rattle.domain_core.proofs.endpoints.Endpoints.place_at.Goals as goal
 
@@ -15,11 +14,6 @@ pub returns-in_err-address-clause-place : goal.returns-in_err-address-clause-pla
 returns-in_err-address-clause-place c = λ b.
     let es = c.args.self.now.endpoints in
     c.from_residual.ensures ∙ sym (place-is b es c.args.at ∙ unnamed c.args.table.now.records es c.args.at c.requires.live c.in_err-address.ensures)
-
-pub returns-in_err-address-clause-channel : goal.returns-in_err-address-clause-channel
-returns-in_err-address-clause-channel c = λ b.
-    let es = c.args.self.now.endpoints in
-    channels-none b es (place_at (holding (endpoints_in b es)) c.args.at)
 
 -- ---- one has it
 
@@ -31,8 +25,3 @@ returns-clause-place c = λ b.
     c.place_with_address.ensures.place
     ∙ rw c.deref.ensures.value (named c.args.table.now.records es at c.in_ok-address.address live c.self.invariant.order c.in_ok-address.ensures ∙ sym (place-is b es at))
     ∙ ap (λ (r : Records). place_at (holding (endpoints_in b r.endpoints)) at) c.self.view_is
-
-pub returns-clause-channel : goal.returns-clause-channel
-returns-clause-channel c = λ b.
-    let es = c.args.self.now.endpoints in
-    channels-none b es (place_at (holding (endpoints_in b es)) c.args.at)

@@ -2,7 +2,7 @@ use Rattle.std.proofs.Common.{refl, rules, ◌<◌, ◌∙◌, List, ap, arith, 
 use Rattle.message_queue.specs.Queue.{Queue, waiting}
 use Rattle.domain_core.specs.declared.endpoints.Endpoint.{Endpoint}
 use Rattle.domain_core.specs.Records.{Records, all_waiting, with_waiting, with_waiting_at}
-use Rattle.domain_core.specs.InTable.{records_of}
+use Rattle.domain_core.specs.InTable.{IsKept, records_of}
 use Rattle.domain_core.proofs.Addresses.{all-written, order-written}
 use Rattle.domain_core.proofs.Tables.{changed-set, queue-within, room-at}
 use Rattle.domain_core.proofs.endpoints.Endpoints.queue_last.Goals as goal
@@ -13,7 +13,7 @@ invariant_of-self c =
     let i = c.self.invariant in
     let es = c.self.inside.records.items in
     let e = c.index_mut-endpoint.result.now in
-    let d : Endpoint = record { local = e.local; address = e.address; queue = c.push.new.self } in
+    let d : Endpoint = record { local = e.local; address = e.address; queue = c.push.new.self; channel = e.channel } in
     let lt : c.args.place < length es = omega (arith, c.requires.within, ap (λ (r : Records). length r.endpoints) c.self.view_is) in
     let read = c.index_mut-endpoint.ensures.value in
     record {
@@ -22,6 +22,7 @@ invariant_of-self c =
       records = search rules;
       addresses = all-written (λ (x : Endpoint). 1024 ≤ x.address) es c.args.place e d lt read (λ same. same) i.addresses;
       order = order-written es c.args.place e d lt read refl i.order;
+      ends = all-written (λ (x : Endpoint). IsKept x.channel) es c.args.place e d lt read (λ same. same) i.ends;
       below = all-written (λ (x : Endpoint). x.address < 1024 + c.self.inside.given) es c.args.place e d lt read (λ same. same) i.below;
       records_room = search rules;
       spare_room = i.spare_room;
@@ -41,7 +42,7 @@ returns c =
     let es = c.self.inside.records.items in
     let e = c.index_mut-endpoint.result.now in
     let w = waiting c.args.slot c.args.priority in
-    let d : Endpoint = record { local = e.local; address = e.address; queue = c.push.new.self } in
+    let d : Endpoint = record { local = e.local; address = e.address; queue = c.push.new.self; channel = e.channel } in
     let lt : c.args.place < length es = omega (arith, c.requires.within, ap (λ (r : Records). length r.endpoints) c.self.view_is) in
     let more = changed-set (with_waiting w) es c.args.place e d lt c.index_mut-endpoint.ensures.value (ap (λ (q : Queue). record e { queue = q }) c.push.ensures.last) in
     ap (λ (xs : List Endpoint). record (records_of c.self.inside) { endpoints = xs }) more

@@ -4,7 +4,7 @@ use Rattle.board_model.specs.Choice.{best}
 use Rattle.message_queue.specs.Queue.{Queue, Waiting, waiting}
 use Rattle.domain_core.specs.declared.endpoints.Endpoint.{Endpoint}
 use Rattle.domain_core.specs.Records.{Records, waiting_in, with_best_taken, with_best_taken_at}
-use Rattle.domain_core.specs.InTable.{records_of}
+use Rattle.domain_core.specs.InTable.{IsKept, records_of}
 use Rattle.domain_core.proofs.Addresses.{all-written, order-written}
 use Rattle.domain_core.proofs.Tables.{changed-set, slice_get-read}
 use Rattle.domain_core.proofs.endpoints.Endpoints.take_best.Goals as goal
@@ -15,7 +15,7 @@ invariant_of-self c =
     let i = c.self.invariant in
     let es = c.self.inside.records.items in
     let e = c.index_mut-endpoint.result.now in
-    let d : Endpoint = record { local = e.local; address = e.address; queue = c.pop_best.new.self } in
+    let d : Endpoint = record { local = e.local; address = e.address; queue = c.pop_best.new.self; channel = e.channel } in
     let lt : c.args.place < length es = omega (arith, c.requires.within, ap (λ (r : Records). length r.endpoints) c.self.view_is) in
     let read = c.index_mut-endpoint.ensures.value in
     record {
@@ -24,6 +24,7 @@ invariant_of-self c =
       records = search rules;
       addresses = all-written (λ (x : Endpoint). 1024 ≤ x.address) es c.args.place e d lt read (λ same. same) i.addresses;
       order = order-written es c.args.place e d lt read refl i.order;
+      ends = all-written (λ (x : Endpoint). IsKept x.channel) es c.args.place e d lt read (λ same. same) i.ends;
       below = all-written (λ (x : Endpoint). x.address < 1024 + c.self.inside.given) es c.args.place e d lt read (λ same. same) i.below;
       records_room = search rules;
       spare_room = i.spare_room;
@@ -41,7 +42,7 @@ pub returns-clause-rest : goal.returns-clause-rest
 returns-clause-rest c =
     let es = c.self.inside.records.items in
     let e = c.index_mut-endpoint.result.now in
-    let d : Endpoint = record { local = e.local; address = e.address; queue = c.pop_best.new.self } in
+    let d : Endpoint = record { local = e.local; address = e.address; queue = c.pop_best.new.self; channel = e.channel } in
     let lt : c.args.place < length es = omega (arith, c.requires.within, ap (λ (r : Records). length r.endpoints) c.self.view_is) in
     let less = changed-set with_best_taken es c.args.place e d lt c.index_mut-endpoint.ensures.value (ap (λ (q : Queue). record e { queue = q }) c.pop_best.ensures.rest) in
     ap (λ (xs : List Endpoint). record (records_of c.self.inside) { endpoints = xs }) less

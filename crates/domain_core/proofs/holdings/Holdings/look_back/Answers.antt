@@ -1,4 +1,4 @@
-use Rattle.std.proofs.Common.{◌≡◌, ◌<◌, ◌∷◌, [], ap, length, map, sym, subst, refl, Some}
+use Rattle.std.proofs.Common.{◌≡◌, ◌<◌, ◌∙◌, ◌∷◌, [], ap, length, map, sym, subst, refl, Some}
 use Rattle.std.specs.Prelude.{slice_get}
 use Rattle.std.specs.Prelude.{slice_set}
 use Rattle.lane_end.specs.SendMoves.{Looked}
@@ -6,12 +6,16 @@ use Rattle.board_model.specs.Deeds.{looks_back}
 use Rattle.domain_core.specs.LaneMoves.{sender}
 use Rattle.domain_core.specs.LaneSeen.{LaneSeen}
 use Rattle.domain_core.specs.declared.holdings.Holdings.TheInside.{Inside}
-use Rattle.domain_core.specs.Doing.{Doing}
-use Rattle.domain_core.specs.Parts.{Holding, Parts, Sound, holding_in, parts_in, peer_at, peer_seen, peers_seen}
+use Rattle.board_model.specs.State.{owed_to}
+use Rattle.domain_core.specs.declared.peer.Peer.{Peer}
+use Rattle.domain_core.specs.Peers.{peer_in}
+use Rattle.domain_core.specs.Doing.{Doing, owed_at}
+use Rattle.domain_core.specs.Parts.{Holding, Parts, Sound, holding_in, parts_in, peer_at, peer_seen, peers_seen, plain}
 use Rattle.domain_core.specs.Steps.{at_peer, moved_peer, looked_back}
+use Rattle.domain_core.proofs.Owing.{set-peer}
 use Rattle.domain_core.proofs.TurnMeaning.{looked_back-is}
 use Rattle.domain_core.proofs.TurnSteps.{looked_back-keeps}
-use Rattle.domain_core.proofs.Turning.{doing-by, peers-are, seen-there, there-read}
+use Rattle.domain_core.proofs.Turning.{doing-by, peer-is, peers-are, seen-there, there-read}
 use Rattle.domain_core.proofs.Storing.{keeps-none}
 use Rattle.domain_core.proofs.holdings.Holdings.look_back.Given.{Over}
 use Rattle.domain_core.proofs.holdings.Holdings.look_back.Goals as goal
@@ -47,3 +51,13 @@ returns-clause-doing g c =
     subst (λ (h : Holding g.row.P.Denot). Doing M (peer_at h.parts c.args.place).number (looks_back (peer_at h.parts c.args.place).number n ∷ []) (sender (Looked n) ∷ []) h new) c.self.view_is
     (doing-by M g.met.P.PeerLane.none (v g) d.book d.endpoints d.requests d.table d.peers.items c.self.invariant c.args.place x (there g c) c.look_back.new.self (sender (Looked c.look_back.result) ∷ []) c.look_back.ensures.seen c.look_back.ensures.moved
     (looked_back x.number n ∷ []) (λ k. looks_back k n ∷ []) new (λ k. refl) (ap (λ ps. record (p g d) { peers = ps }) (peers g c)) refl (tt, tt) (looked_back-is (p g d) c.self.invariant c.args.place (peer_seen (v g) x) (seen-there M g.met.P.PeerLane.none (v g) d.book d.endpoints d.requests d.table d.peers.items c.self.invariant c.args.place x (there g c)) n) (keeps-none d.book) refl)
+
+pub returns-clause-owed : goal.returns-clause-owed
+returns-clause-owed g c =
+    let d = c.self.inside in
+    let x = c.index_mut.result.now in
+    let ps = d.peers.items in
+    let set = set-peer (v g) ps c.args.place x (record x { ends = c.look_back.new.self }) (there g c) in
+    let was = peer-is g.P.PeerLane.Moved g.met.P.PeerLane.none (v g) d.book d.endpoints d.requests d.table ps c.self.invariant c.args.place x (there g c) in
+    subst (λ (h : Holding g.row.P.Denot). owed_at (parts_in (v g) d.book d.endpoints d.requests d.table (slice_set ps c.args.place (record x { ends = c.look_back.new.self }))) c.args.place ≡ owed_at h.parts c.args.place) c.self.view_is
+    (ap (λ (y : Peer LaneSeen). owed_to d.table.domain (peer_in plain d.table y)) set ∙ sym (ap (λ (y : Peer LaneSeen). owed_to d.table.domain (peer_in plain d.table y)) was))

@@ -1,19 +1,21 @@
-use Rattle.std.proofs.Common.{◌≡◌, ◌∙◌, ◌<◌, ◌++◌, ◌∷◌, [], List, ℕ, Some, ap, append_assoc, length, refl, subst, sym, take}
+use Rattle.std.proofs.Common.{◌≡◌, ◌∙◌, ◌<◌, ◌++◌, ◌∷◌, [], List, ℕ, Some, ap, append_assoc, arith, length, refl, subst, sym, take}
 use Rattle.std.specs.Prelude.{option_map, slice_get, slice_set}
 use Rattle.lane_end.specs.SendMoves.{Sent}
 use Rattle.board_model.specs.Deeds.{puts_owed}
 use Rattle.board_model.specs.Journal.{Line, put_line}
-use Rattle.endpoint_table.specs.Table.{announcement_of, owed_to, owing_to, paid_to}
+use Rattle.endpoint_table.specs.Table.{Table, announcement_of, owed_to, owing_to, paid_to}
+use Rattle.board_model.specs.State as state
 use Rattle.domain_core.specs.declared.peer.Peer.{Peer}
 use Rattle.domain_core.specs.declared.holdings.Holdings.TheInside.{Inside}
 use Rattle.domain_core.specs.Beginning.{beginning}
 use Rattle.domain_core.specs.Doing.{Puts}
 use Rattle.domain_core.specs.LaneMoves.{sender}
 use Rattle.domain_core.specs.LaneSeen.{LaneSeen}
-use Rattle.domain_core.specs.Owed.{owed_frames, put_lines}
-use Rattle.domain_core.specs.Parts.{Holding, Parts, Sound, holding_in, parts_in, peer_at, peer_seen}
+use Rattle.domain_core.specs.Owed.{owed_by, put_lines}
+use Rattle.domain_core.specs.Peers.{peer_in}
+use Rattle.domain_core.specs.Parts.{Holding, Parts, Sound, holding_in, parts_in, peer_at, peer_seen, plain}
 use Rattle.domain_core.specs.Steps.{done, owed_put}
-use Rattle.domain_core.proofs.Owing.{may-put, oldest-frame}
+use Rattle.domain_core.proofs.Owing.{IsOldest, announced-owed, may-put, oldest-frame, set-peer}
 use Rattle.domain_core.proofs.Storing.{keeps-none}
 use Rattle.domain_core.proofs.TurnMeaning.{owed_put-is}
 use Rattle.domain_core.proofs.TurnSteps.{owed_put-keeps}
@@ -61,16 +63,23 @@ returns-clause-puts g c =
     let oldest : Some (ns.name.items, ns.addr, ns.create) ≡ option_map (announcement_of d.table.domain) (owed_to d.table x.number) =
     subst (λ (n : ℕ). Some (ns.name.items, ns.addr, ns.create) ≡ option_map (announcement_of d.table.domain) (owed_to d.table n)) number
     (subst (λ (h : Holding g.row.P.Denot). Some (ns.name.items, ns.addr, ns.create) ≡ option_map (announcement_of h.parts.table.domain) (owed_to h.parts.table (peer_at h.parts c.args.place).number)) (sym c.self.view_is) c.requires.oldest) in
-    let first : f ∷ [] ≡ take 1 (owed_frames d.table x.number) = ap (λ (z : List ℕ). z ∷ []) c.announce-len.ensures.frame ∙ oldest-frame (owing_to d.table x.number) d.table.domain ns.addr ns.name.items ns.create oldest in
+    let first : IsOldest d.table.domain (owed_by (owing_to d.table x.number)) f = subst (IsOldest d.table.domain (owed_by (owing_to d.table x.number))) (sym c.announce-len.ensures.frame) (oldest-frame (owing_to d.table x.number) d.table.domain ns.addr ns.name.items ns.create oldest) in
+    let some : 0 < length (owed_by (owing_to d.table x.number)) = (let long = ap length first.are in omega (arith, long)) in
+    let owed = announced-owed d.table x.number x.replies f first in
+    let was = peer-is M g.met.P.PeerLane.none (v g) d.book d.endpoints d.requests d.table d.peers.items c.self.invariant c.args.place x (there g c) in
+    let now = set-peer (v g) d.peers.items c.args.place x (record x { ends = c.put.new.self }) (there g c) in
     let told = c.note.ensures.lines ∙ ap (λ (ls : List Line). ls ++ put_line x.number f ∷ []) c.begin_turn.ensures.lines ∙ append_assoc lines (beginning c.args.begun) (put_line x.number f ∷ []) in
     let doing = doing-by M g.met.P.PeerLane.none (v g) d.book d.endpoints d.requests d.table d.peers.items c.self.invariant c.args.place x (there g c) c.put.new.self (sender (Sent f) ∷ []) c.put.ensures.seen c.put.ensures.moved
-    (owed_put x.number f ∷ []) (λ k. puts_owed k f ∷ []) new (λ k. refl) (after g c) refl (may-put (p g d) c.self.invariant c.args.place (peer_seen (v g) x) seen f first, tt) (owed_put-is (p g d) c.self.invariant c.args.place (peer_seen (v g) x) seen f) (keeps-none d.book) refl in
+    (owed_put x.number f ∷ []) (λ k. puts_owed k f ∷ []) new (λ k. refl) (after g c) refl (may-put (p g d) c.self.invariant c.args.place (peer_seen (v g) x) seen f _ owed, tt) (owed_put-is (p g d) c.self.invariant c.args.place (peer_seen (v g) x) seen f some) (keeps-none d.book) refl in
     subst (λ (h : Holding g.row.P.Denot). (z : List ℕ) × Puts M c.args.place c.args.begun (z ∷ []) h new lines c.note.new.self.lines) c.self.view_is (
       f,
       record {
-        first = subst (λ (n : ℕ). f ∷ [] ≡ take 1 (owed_frames d.table n)) (sym number) first;
+        owed =
+            ap (λ (y : Peer LaneSeen). state.owed_to d.table.domain (peer_in plain d.table y)) was
+            ∙ owed
+            ∙ ap (λ (t : Table). f ∷ state.owed_to t.domain (peer_in plain t (peer_seen (v g) (record x { ends = c.put.new.self })))) (sym c.paid.ensures)
+            ∙ ap (λ (y : Peer LaneSeen). f ∷ state.owed_to c.paid.new.self.domain (peer_in plain c.paid.new.self y)) (sym now);
         doing = doing;
-        table = subst (λ (n : ℕ). c.paid.new.self ≡ paid_to d.table n) (sym number) c.paid.ensures;
         told = subst (λ (n : ℕ). c.note.new.self.lines ≡ lines ++ put_lines c.args.begun n (f ∷ [])) (sym number) told;
       },
     )

@@ -27,8 +27,8 @@ framed : (g : Over) (c : goal.After-put g) → success_puts (state_of c.args.sel
 framed g c =
     let s = state_of c.args.self.now.parts in
     let text = spelling (msg c.args.priority c.args.bytes.now) in
-    ap (λ (o : Option ℕ). (c.args.to.domain, made (unwrap_or o 0) (unwrap_or (address_of s c.args.to) 0) text) ∷ []) (sym c.in-Some.ensures.address)
-    ∙ ap (λ (o : Option ℕ). (c.args.to.domain, made c.in-Some.source (unwrap_or o 0) text) ∷ []) (sym c.in-Some-address_of.ensures)
+    ap (λ (o : Option ℕ). (c.args.to.domain, made (unwrap_or o 0) (unwrap_or (address_of s c.args.to) 0) text) ∷ []) (sym c.address_at-source.ensures)
+    ∙ ap (λ (o : Option ℕ). (c.args.to.domain, made c.address_at-source.result (unwrap_or o 0) text) ∷ []) (sym c.in-Some-address_of.ensures)
     ∙ ap (λ (f : List ℕ). (c.args.to.domain, f) ∷ []) (sym c.write-len.ensures.frame)
 
 pub returns-clause-acts : goal.returns-clause-acts

@@ -3,14 +3,12 @@ use Rattle.std.specs.Prelude.{◌==◌, not, ◌||◌}
 use Rattle.std.proofs.lemmas.List.{length_push}
 use Rattle.board_model.specs.Deeds.{puts_owed}
 use Rattle.board_model.specs.Journal.{Line}
-use Rattle.endpoint_table.specs.Table.{Table}
 use Rattle.mc_journal.specs.Written.{Written}
-use Rattle.domain_core.specs.Doing.{Puts}
+use Rattle.domain_core.specs.Doing.{Puts, owed_at}
 use Rattle.domain_core.specs.LaneSeen.{LaneSeen}
-use Rattle.domain_core.specs.Owed.{owed_frames}
 use Rattle.domain_core.specs.Parts.{Holding, peer_at}
 use Rattle.domain_core.specs.VisitMoves.{putting}
-use Rattle.domain_core.proofs.Owing.{Puts-more, all-due, eight-due, first-within, free-put, owed-left, puts-none, some-put}
+use Rattle.domain_core.proofs.Owing.{Puts-more, all-due, eight-due, free-put, puts-none, some-put}
 use Rattle.domain_core.proofs.Turning.{did-numbers, doing-ends, same-length, same-number}
 use Rattle.domain_core.proofs.holdings.Holdings.put_owed.Goals as goal
 
@@ -58,17 +56,14 @@ returns-then-not-put_oldest-clause-puts g c =
     let p = c.args.self.now.parts in
     let peer = (peer_at p c.args.place).number in
     let free0 = (peer_at p c.args.place).ends.free in
-    let owed = owed_frames p.table peer in
-    let within = first-within was.0 owed was.1.first in
-    let same : (peer_at c.loop.self.parts c.args.place).number ≡ peer = same-number p c.loop.self.parts c.args.place (did-numbers M was.1.doing.steps c.args.self.now c.loop.self was.1.doing.did) in
-    let left : owed_frames c.loop.self.parts.table (peer_at c.loop.self.parts c.args.place).number ≡ drop (length was.0) owed = ap (λ (n : ℕ). owed_frames c.loop.self.parts.table n) same ∙ ap (λ (x : Table). owed_frames x peer) was.1.table ∙ owed-left (length was.0) p.table peer in
+    let left = owed_at c.loop.self.parts c.args.place in
     let free : (peer_at c.loop.self.parts c.args.place).ends.free ≡ free0 - length was.0 = ap (λ (l : LaneSeen). l.free) (doing-ends M (map (puts_owed peer) was.0) (putting was.0) c.args.self.now c.loop.self c.args.place c.requires.within was.1.doing ∙ free-put was.0 (peer_at p c.args.place).ends) in
-    let none : min (length (drop (length was.0) owed)) (free0 - length was.0) ≡ 0 = sym (ap (λ (xs : List (List ℕ)). min (length xs) (peer_at c.loop.self.parts c.args.place).ends.free) left ∙ ap (λ (k : ℕ). min (length (drop (length was.0) owed)) k) free) ∙ e.none miss in
+    let none : min (length left) (free0 - length was.0) ≡ 0 = sym (ap (λ (k : ℕ). min (length left) k) free) ∙ e.none miss in
     record {
       frames = was.0;
       puts = subst (λ (h : Holding g.row.P.Denot). Puts M c.args.place c.args.begun was.0 c.args.self.now h c.args.journal.now.lines c.put_oldest.new.journal.lines) (sym (e.stays miss))
           (subst (λ (ls : List Line). Puts M c.args.place c.args.begun was.0 c.args.self.now c.loop.self c.args.journal.now.lines ls) (sym (ap (λ (j : Written). j.lines) (e.journal miss))) was.1);
-      many = all-due (length was.0) free0 owed (omega (arith, was.2, c.loop-test.true)) (omega (arith, i.free, was.2)) none within;
+      many = all-due free0 was.0 (owed_at p c.args.place) left was.1.owed (omega (arith, was.2, c.loop-test.true)) (omega (arith, i.free, was.2)) none;
       begins = i.begins ∙ ap (λ (k : ℕ). c.args.begun || not (k == 0)) (sym was.2);
     }
 
@@ -77,10 +72,9 @@ returns-after-loop-clause-puts g c =
     let i = c.loop.invariant in
     let was = i.puts in
     let p = c.args.self.now.parts in
-    let owed = owed_frames p.table (peer_at p c.args.place).number in
     record {
       frames = was.0;
       puts = was.1;
-      many = eight-due (length was.0) (peer_at p c.args.place).ends.free owed (omega (arith, was.2, c.loop-test.false, c.loop.auto.counter-end)) (omega (arith, i.free, was.2)) (first-within was.0 owed was.1.first);
+      many = eight-due (peer_at p c.args.place).ends.free was.0 (owed_at p c.args.place) (owed_at c.loop.self.parts c.args.place) was.1.owed (omega (arith, was.2, c.loop-test.false, c.loop.auto.counter-end)) (omega (arith, i.free, was.2));
       begins = i.begins ∙ ap (λ (k : ℕ). c.args.begun || not (k == 0)) (sym was.2);
     }

@@ -65,6 +65,6 @@ returns-clause-visits g c =
     let number = c.number_at-peer.ensures.number in
     visited g.P.PeerLane.Moved g.met.P.PeerLane.both c.args.place c.look_back-back.result c.look_ahead-see.result c.min-count.result c.args.begun c.note_back-begun.result c.put_owed-begun.result c.note_see-begun.result c.args.self.now c.look_back-back.new.self c.put_owed-begun.new.self c.look_ahead-see.new.self c.take_frames.new.self
     c.args.journal.now.lines c.note_back-begun.new.journal.lines c.put_owed-begun.new.journal.lines c.note_see-begun.new.journal.lines c.take_frames.new.journal.lines c.requires.within c.number_at-peer.ensures.sound
-    back.doing back.fits back.table (c.note_back-begun.ensures.lines ∙ ap (λ (n : ℕ). c.args.journal.now.lines ++ look_lines c.args.begun (back_line n) c.look_back-back.result) number) c.note_back-begun.ensures.begins
+    back.doing back.fits back.owed (c.note_back-begun.ensures.lines ∙ ap (λ (n : ℕ). c.args.journal.now.lines ++ look_lines c.args.begun (back_line n) c.look_back-back.result) number) c.note_back-begun.ensures.begins
     c.put_owed-begun.ensures.puts ahead.doing ahead.more ahead.fits (c.note_see-begun.ensures.lines ∙ ap (λ (n : ℕ). c.put_owed-begun.new.journal.lines ++ look_lines c.put_owed-begun.result (see_line n) c.look_ahead-see.result) number) c.note_see-begun.ensures.begins
     c.take_frames.ensures.takes c.min-count.ensures

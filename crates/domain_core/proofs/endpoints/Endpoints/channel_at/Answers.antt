@@ -1,0 +1,12 @@
+use Rattle.std.proofs.Common.{List, ap, arith, length, ◌<◌}
+use Rattle.domain_core.specs.declared.endpoints.Endpoint.{Endpoint}
+use Rattle.domain_core.specs.InTable.{IsKept}
+use Rattle.domain_core.specs.Records.{Records}
+use Rattle.domain_core.proofs.Tables.{All-read}
+use Rattle.domain_core.proofs.endpoints.Endpoints.channel_at.Goals as goal
+
+pub returns-clause-kept : goal.returns-clause-kept
+returns-clause-kept c =
+    let es = c.self.inside.records.items in
+    let lt : c.args.place < length es = omega (arith, c.requires.within, ap (λ (r : Records). length r.endpoints) c.self.view_is) in
+    All-read (λ (e : Endpoint). IsKept e.channel) es c.args.place c.index.result.now lt c.index.ensures c.self.invariant.ends

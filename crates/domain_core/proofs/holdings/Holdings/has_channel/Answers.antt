@@ -1,0 +1,15 @@
+use Rattle.std.proofs.Common.{◌≡◌, ◌∙◌, ℕ, Option, Some, ap, sym, subst}
+use Rattle.std.specs.Prelude.{option_and_then, slice_get}
+use Rattle.board_model.specs.Answer.{has_channel}
+use Rattle.board_model.specs.State.{endpoint_at, place_at}
+use Rattle.domain_core.specs.Parts.{Holding, parts_in, state_of}
+use Rattle.domain_core.proofs.Tables.{has-there}
+use Rattle.domain_core.proofs.holdings.Holdings.has_channel.Goals as goal
+
+pub returns : goal.returns
+returns g c =
+    let d = c.self.inside in
+    let p = parts_in g.P.PeerLane.seen d.book d.endpoints d.requests d.table d.peers.items in
+    let there = subst (λ (x : Holding g.row.P.Denot). place_at (state_of x.parts) c.args.at ≡ Some c.args.place) (sym c.self.view_is) c.requires.there in
+    sym (ap (λ (o : Option ℕ). has_channel (option_and_then (λ i. slice_get (state_of p).endpoints i) o)) there ∙ has-there d.book d.endpoints.endpoints c.args.place c.has_channel.result c.has_channel.ensures)
+    ∙ ap (λ x. has_channel (endpoint_at (state_of x.parts) c.args.at)) c.self.view_is

@@ -1,0 +1,91 @@
+//! The replies that are owed to a peer.
+
+ghost use Rattle.std.specs.Prelude.{◌≡◌, ◌<◌, ◌==◌, [], ◌∷◌, ◌++◌, IfOk, IfSome, drop, length, nat_le, slice_get};
+ghost use Rattle.board_model.specs.TakenFrames.{reply_limit};
+
+use mc_base::{MAX_OWED_REPLIES, NoMemory, Reason};
+use std::alloc::Global;
+use std::collections::VecDeque;
+use std::marker::Model;
+
+/// The answer to a Connect, from the address that it named to the one that it came from: an Accept of the channel, or a Reject
+/// with its reason.
+#[derive(Clone, Copy, Debug, PartialEq, Eq)]
+pub struct Reply {
+    pub source: u32,
+    pub destination: u32,
+    pub channel: u32,
+    pub reason: Option<Reason>,
+}
+
+/// The replies that are owed to a peer, the oldest first: at most 64. They take memory where they are made, and none later.
+#[derive(Debug, Drop)]
+pub struct Replies {
+    owed: VecDeque<Reply>,
+}
+
+impl Model for Replies {
+    ghost use Rattle.std.specs.Prelude.{List};
+    ghost use Rattle.domain_core.specs.declared.replies.Reply.{Reply};
+    ghost use Rattle.domain_core.specs.InReplies.{AreLawful};
+
+    ghost Value = { List Reply };
+
+    ghost view = { λ r. r.owed.items };
+
+    ghost invariant = { AreLawful };
+}
+
+impl Replies {
+    /// No replies, and room for 64.
+    ///
+    /// # Errors
+    ///
+    /// `NoMemory` where the room cannot be reserved.
+    pub fn new(alloc: Global) -> Result<Replies, NoMemory>
+        ensures { IfOk result (λ r. r ≡ []) }
+    {
+        let Ok(owed) = VecDeque::with_capacity(alloc, MAX_OWED_REPLIES) else {
+            return Err(NoMemory);
+        };
+        Ok(Replies { owed })
+    }
+
+    /// Whether none is owed.
+    pub fn is_empty(&self) -> bool
+        ensures { result ≡ (length self.now == 0) }
+    {
+        self.owed.is_empty()
+    }
+
+    /// Whether 64 are owed.
+    pub fn is_full(&self) -> bool
+        ensures { result ≡ nat_le reply_limit (length self.now) }
+    {
+        self.owed.len() >= MAX_OWED_REPLIES
+    }
+
+    /// The oldest one.
+    pub fn first(&self) -> Option<Reply>
+        ensures first { result ≡ slice_get self.now 0 }
+        ensures lawful { IfSome result (λ r. 0 < r.channel) }
+    {
+        Some(*self.owed.front()?)
+    }
+
+    /// Owes one more, the last.
+    pub fn push(&mut self, reply: Reply)
+        requires few { length self.old < reply_limit }
+        requires lawful { 0 < reply.channel }
+        ensures { self.new ≡ self.old ++ reply ∷ [] }
+    {
+        self.owed.push_back_reserved(reply);
+    }
+
+    /// Removes the oldest one.
+    pub fn remove_first(&mut self)
+        ensures { self.new ≡ drop 1 self.old }
+    {
+        self.owed.pop_front();
+    }
+}
