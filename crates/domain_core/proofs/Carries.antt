@@ -15,9 +15,9 @@ use Rattle.domain_core.specs.declared.ends.Ends.TheVariants.{Own, Linked}
 use Rattle.domain_core.specs.declared.link.Link.{Link}
 use Rattle.domain_core.specs.declared.peer.Peer.{Peer}
 use Rattle.domain_core.specs.AllMoved.{ends_of}
-use Rattle.domain_core.specs.Carried.{AreJoinedEnds, EndsMeet, MayMeet, FirstMeet, PeersMeet, with_ends, with_peer}
+use Rattle.domain_core.specs.Carried.{AreJoinedEnds, EndsMeet, MayMeet, FirstMeet, with_ends, with_peer}
 use Rattle.domain_core.specs.Carrying.{AreJoined, AreLinked, LinksMeet, Carries, leads_to, link_to, with_link}
-use Rattle.domain_core.specs.Parts.{Holding, holding_in, parts_in, peer_seen, Parts}
+use Rattle.domain_core.specs.Parts.{Holding, holding_in, parts_in, peer_seen}
 use Rattle.domain_core.specs.Records.{Records}
 
 some-is : {A : Type 0} (o : Option A) (x y : A) → o ≡ Some x → o ≡ Some y → x ≡ y

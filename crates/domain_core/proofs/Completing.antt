@@ -8,7 +8,7 @@ use Rattle.mc_base.specs.declared.name.EndName.{EndName}
 use Rattle.mc_base.specs.declared.refusal.Refusal.{Refusal}
 use Rattle.mc_base.specs.declared.request.RequestId.{RequestId}
 use Rattle.mc_base.specs.declared.request.Slot.{Slot}
-use Rattle.board_model.specs.State.{Request, has_address, has_ended, Asked}
+use Rattle.board_model.specs.State.{Request, has_ended, Asked}
 use Rattle.board_model.specs.Change.{asks_for, all_done, connects_on}
 use Rattle.domain_core.specs.PlacedFrames.{found_for}
 use Rattle.domain_core.specs.PlacedCalls.{ended_by_word}

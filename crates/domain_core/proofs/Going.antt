@@ -1,5 +1,5 @@
 -- What a domain keeps through any of its calls: its number, and that the ends of a link to another still fit together.
-use Rattle.std.proofs.Common.{◌≡◌, ℕ, Bool, true, false, cond, List, [], ◌∷◌, ◌++◌, Option, Some, None, refl, sym, ap, ◌∙◌, subst}
+use Rattle.std.proofs.Common.{◌≡◌, ℕ, Bool, true, false, cond, List, [], ◌∷◌, ◌++◌, Option, Some, refl, sym, ap, ◌∙◌, subst}
 use Rattle.std.specs.Prelude.{◌==◌}
 use Rattle.mc_base.specs.declared.request.RequestId.{RequestId}
 use Rattle.board_model.specs.DomainCall.{DomainCall}
@@ -16,8 +16,8 @@ use Rattle.lane_end.specs.AnySender.{AnySends, AnySends-none, AnySends-both}
 use Rattle.lane_end.specs.AnyReceiver.{AnyReceives, AnyReceives-none, AnyReceives-both}
 use Rattle.lane_end.specs.AnyLane.{AreEndsOfOneRing}
 use Rattle.lane_end.proofs.AnyLaneLemmas.{ends-stay}
-use Rattle.lane_end.specs.PlainSender.{Sender, Sends, MaySend, sender_after}
-use Rattle.lane_end.specs.PlainReceiver.{Receiver, Receives, MayReceive, receiver_after}
+use Rattle.lane_end.specs.PlainSender.{Sends, MaySend, sender_after}
+use Rattle.lane_end.specs.PlainReceiver.{Receives, MayReceive, receiver_after}
 use Rattle.lane_end.proofs.LaneLemmas.{stay-one-lane}
 use Rattle.domain_core.specs.declared.ends.Ends.{Ends}
 use Rattle.domain_core.specs.declared.ends.Ends.TheVariants.{Own, Linked}

@@ -45,9 +45,11 @@ pub mod CallsAgree
 pub mod StateFits
 pub mod Readings
 pub mod Judging
+pub mod Acting
 pub mod TurnSteps
 pub mod TurnMeaning
 pub mod Turning
+pub mod Effects
 pub mod Taking
 pub mod Owing
 pub mod Visiting

@@ -1,5 +1,5 @@
 -- Announcements and replies that are owed and put.
-use Rattle.std.proofs.Common.{◌≡◌, ℕ, zero, suc, ◌+◌, ◌-◌, ◌≤◌, Bool, true, false, cond, List, [], ◌∷◌, ◌++◌, length, map, take, drop, Option, None, Some, refl, sym, ap, ◌∙◌, subst, arith, min, append_assoc}
+use Rattle.std.proofs.Common.{◌≡◌, ℕ, zero, suc, ◌+◌, ◌-◌, ◌≤◌, Bool, true, false, cond, List, [], ◌∷◌, ◌++◌, length, map, drop, Option, None, Some, refl, sym, ap, ◌∙◌, subst, arith, min, append_assoc}
 use Rattle.std.specs.Prelude.{◌==◌, not, ◌||◌, find, option_map, option_and_then, slice_get, slice_index_or, slice_set}
 use Rattle.std.proofs.lemmas.List.{append-nil, length-append, map-append}
 use Rattle.board_model.specs.Journal.{Line, put_line, turn_line}

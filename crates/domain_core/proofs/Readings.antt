@@ -1,15 +1,15 @@
 -- What a frame that brings an item has in its bytes.
-use Rattle.std.proofs.Common.{◌≡◌, ℕ, ◌+◌, ◌-◌, ◌≤◌, Bool, true, false, cond, List, [], ◌∷◌, length, Option, Some, None, refl, sym, ap, ◌∙◌, subst, arith, take, drop, eqb-true}
-use Rattle.std.specs.Prelude.{if◌then◌else◌, is_some, nat_le, nat_lt, not, option_map, slice_index, ◌==◌}
-use Rattle.byteorder.specs.Endian.{little_number}
+use Rattle.std.proofs.Common.{◌≡◌, ℕ, ◌+◌, ◌-◌, ◌≤◌, Bool, true, false, cond, List, [], ◌∷◌, length, Option, Some, None, refl, sym, ap, ◌∙◌, subst, arith, take, drop, eqb-true, ◌<◌}
+use Rattle.std.specs.Prelude.{if◌then◌else◌, is_some, nat_le, nat_lt, not, option_map, slice_index, ◌==◌, ◌||◌}
+use Rattle.byteorder.specs.Endian.{little_bytes, little_number}
 use Rattle.byteorder.specs.Numbers.{little_from-take}
 use Rattle.std.proofs.lemmas.List.{drop-drop, drop-take, get_or-drop, get_or-take, length-drop, length-take}
 use Rattle.mc_base.specs.Bytes.{number_at}
 use Rattle.mc_base.specs.Fault.{fault, payload_faults}
 use Rattle.mc_base.specs.FaultRow.{FaultRow, first, first_fault, row, widened}
 use Rattle.mc_base.specs.Frame.{destination_of, payload_length_of, payload_of, source_of}
-use Rattle.mc_base.specs.Letter.{Fields, PlainLetter, accept, connect, msg, packet, recv_close, recv_open, reject, scalar, send_close, send_open}
-use Rattle.mc_base.specs.LetterFaults.{allows, fields_in, form_of, letter_faults}
+use Rattle.mc_base.specs.Letter.{Fields, PlainLetter, accept, connect, msg, packet, recv_close, recv_open, reject, scalar, send_close, send_open, bytes_of_bits}
+use Rattle.mc_base.specs.LetterFaults.{allows, fields_in, form_of, letter_faults, a_width}
 use Rattle.mc_base.specs.Announcement.{announcement_faults}
 use Rattle.mc_base.specs.Reading.{announced_in, bits_of_bytes, kind_numbered, letter_of, reading, reading_by, reason_numbered, says}
 use Rattle.mc_base.specs.declared.fault.Fault.{Fault}
@@ -20,7 +20,12 @@ use Rattle.mc_base.specs.declared.fault.NsFault.TheVariants.{NsSize, NsFlags, Ns
 use Rattle.board_model.specs.Dealing.{fault_word, keeps_buffer}
 use Rattle.domain_core.specs.InBook.{channel_of, priority_of}
 use Rattle.domain_core.specs.PlacedFrames.{item_of}
-use Rattle.domain_core.specs.Verdicts.{Fits, framed_item, item_with}
+use Rattle.board_model.specs.State.{Item}
+use Rattle.board_model.specs.TakenFrames as taken
+use Rattle.bridge_frame.proofs.Bytes.{little_bytes-little_number}
+use Rattle.mc_base.specs.declared.channel.Bits.{Bits}
+use Rattle.mc_base.specs.declared.channel.Bits.TheVariants.{B8, B16, B32, B64}
+use Rattle.domain_core.specs.Verdicts.{Fits, IsItem, IsShort, framed_item, item_with}
 
 pub none-from : {X : Type 0} (o : Option X) → ((x : X) → o ≡ Some x → ⊥) → o ≡ None
 none-from None h = refl
@@ -64,6 +69,7 @@ pub record Lies (frame : List ℕ) : Type 0 where
   pub content : (fields_in (payload_of frame)).content ≡ take (length (fields_in (payload_of frame)).content) (drop 24 frame)
   pub inside : 24 + length (fields_in (payload_of frame)).content ≤ length frame
   pub allowed : allows (form_of (fields_in (payload_of frame)).kind) (λ form. form.content (fields_in (payload_of frame))) ≡ true
+  pub numbered : allows (form_of (fields_in (payload_of frame)).kind) (λ form. form.channel (fields_in (payload_of frame)).channel) ≡ true
   pub argued : allows (form_of (fields_in (payload_of frame)).kind) (λ form. form.argument (fields_in (payload_of frame)).argument) ≡ true
 
 not_lt : (a b : ℕ) → nat_lt a b ≡ false → b ≤ a
@@ -117,17 +123,11 @@ sound-lies frame none to_endpoint =
       content = ap (λ (k : ℕ). drop 8 (take k (drop 16 frame))) n ∙ drop-take 8 (length (drop 8 payload)) (drop 16 frame) ∙ ap (take (length (drop 8 payload))) (drop-drop 8 16 frame);
       inside = omega (arith, n, header, within);
       allowed = not_not _ size.0;
+      numbered = not_not _ channel.0;
       argued = not_not _ argument.0;
     }
 
--- ---- the fields of a letter that is an item, by its kind
-
--- the kind is this, and the other fields are these
-pub record HasFields (f : Fields) (kind argument channel : ℕ) (content : List ℕ) : Type 0 where
-  pub kind_is : (f.kind == kind) ≡ true
-  pub argument_is : f.argument ≡ argument
-  pub channel_is : f.channel ≡ channel
-  pub content_is : f.content ≡ content
+-- ---- the fields of a letter, by its kind
 
 module _ (f : Fields) where
   abbrev by_tests : Bool → Bool → Bool → Bool → Bool → Bool → Bool → Bool → Bool → PlainLetter
@@ -142,22 +142,31 @@ module _ (f : Fields) where
       (cond eight (scalar f.channel (bits_of_bytes f.argument) (number_at 0 f.argument f.content))
       (cond nine (send_close f.channel) (recv_close f.channel)))))))))
 
-  only_first : (p : ℕ) (c : List ℕ) (one two three four five six seven eight nine : Bool) → by_tests one two three four five six seven eight nine ≡ msg p c → (one ≡ true) × (f.argument ≡ p) × (f.content ≡ c)
-  only_first p c true two three four five six seven eight nine is = (refl, cc, cc)
-  only_first p c false true three four five six seven eight nine is = absurd cc
-  only_first p c false false true four five six seven eight nine is = absurd cc
-  only_first p c false false false true five six seven eight nine is = absurd cc
-  only_first p c false false false false true six seven eight nine is = absurd cc
-  only_first p c false false false false false true seven eight nine is = absurd cc
-  only_first p c false false false false false false true eight nine is = absurd cc
-  only_first p c false false false false false false false true nine is = absurd cc
-  only_first p c false false false false false false false false true is = absurd cc
-  only_first p c false false false false false false false false false is = absurd cc
+  -- what the fields are, where the letter is a Connect or brings an item; the tests are those of kinds 1, 2, 7 and 8
+  abbrev ReadsBy : Bool → Bool → Bool → Bool → PlainLetter → Type 0
+  ReadsBy one two seven eight (msg p c) = (one ≡ true) × (f.argument ≡ p) × (f.content ≡ c)
+  ReadsBy one two seven eight (connect n k) = (two ≡ true) × (f.channel ≡ n)
+  ReadsBy one two seven eight (packet n c) = (seven ≡ true) × (f.channel ≡ n) × (f.content ≡ c)
+  ReadsBy one two seven eight (scalar n bits v) = (eight ≡ true) × (f.channel ≡ n) × (bits_of_bytes f.argument ≡ bits) × (number_at 0 f.argument f.content ≡ v)
+  ReadsBy one two seven eight other = Unit {0}
 
-  pub message-fields : (p : ℕ) (c : List ℕ) → letter_of f ≡ msg p c → HasFields f 1 p f.channel c
-  message-fields p c is =
-      let m = only_first p c (f.kind == 1) (f.kind == 2) (f.kind == 3) (f.kind == 4) (f.kind == 5) (f.kind == 6) (f.kind == 7) (f.kind == 8) (f.kind == 9) is in
-      record { kind_is = m.0; argument_is = m.1; channel_is = refl; content_is = m.2 }
+  reads_by : (one two three four five six seven eight nine : Bool) → ReadsBy one two seven eight (by_tests one two three four five six seven eight nine)
+  reads_by true two three four five six seven eight nine = (refl, refl, refl)
+  reads_by false true three four five six seven eight nine = (refl, refl)
+  reads_by false false true four five six seven eight nine = tt
+  reads_by false false false true five six seven eight nine = tt
+  reads_by false false false false true six seven eight nine = tt
+  reads_by false false false false false true seven eight nine = tt
+  reads_by false false false false false false true eight nine = (refl, refl, refl)
+  reads_by false false false false false false false true nine = (refl, refl, refl, refl)
+  reads_by false false false false false false false false true = tt
+  reads_by false false false false false false false false false = tt
+
+  abbrev Reads : PlainLetter → Type 0
+  Reads l = ReadsBy (f.kind == 1) (f.kind == 2) (f.kind == 7) (f.kind == 8) l
+
+  letter-reads : (l : PlainLetter) → letter_of f ≡ l → Reads l
+  letter-reads l is = subst Reads is (reads_by (f.kind == 1) (f.kind == 2) (f.kind == 3) (f.kind == 4) (f.kind == 5) (f.kind == 6) (f.kind == 7) (f.kind == 8) (f.kind == 9))
 
 -- ---- an item in a frame
 
@@ -182,48 +191,161 @@ framed-whole frame lies peer size is =
     ∙ ap (λ (a : ℕ). item_with peer (source_of frame) (if slice_index payload 2 == 1 then a else 0) (if slice_index payload 2 == 1 then None else Some (number_at 20 4 frame)) (drop 8 payload)) (sym lies.argument)
     ∙ ap (λ (n : ℕ). item_with peer (source_of frame) (if slice_index payload 2 == 1 then slice_index payload 3 else 0) (if slice_index payload 2 == 1 then None else Some n) (drop 8 payload)) (sym lies.channel)
 
--- a frame without a fault to an endpoint, whose letter is this message
-sound_carries : (frame : List ℕ) (priority : ℕ) (content : List ℕ) → fault frame ≡ None → (destination_of frame == 53) ≡ false → letter_of (fields_in (payload_of frame)) ≡ msg priority content → Carries frame (source_of frame) priority None content
-sound_carries frame priority content none to_endpoint is =
-    let lies = sound-lies frame none to_endpoint in
-    let m = message-fields (fields_in (payload_of frame)) priority content is in
-    let kind : (slice_index frame 18 == 1) ≡ true = sym (ap (λ (k : ℕ). k == 1) lies.kind) ∙ m.kind_is in
-    let kind_is : (fields_in (payload_of frame)).kind ≡ 1 = eqb-true (fields_in (payload_of frame)).kind 1 m.kind_is in
-    let long = ap length m.content_is in
-    let short : length (fields_in (payload_of frame)).content ≤ 488 = not_le _ 488 (sym (ap (λ k. allows (form_of k) (λ form. form.content (fields_in (payload_of frame)))) kind_is) ∙ lies.allowed) in
-    let inside = lies.inside in
-    record {
-      from = refl;
-      says = ap (λ (b : Bool). if b then slice_index frame 19 else 0) kind ∙ sym lies.argument ∙ m.argument_is;
-      on = ap (λ (b : Bool). if b then None else Some (number_at 20 4 frame)) kind;
-      fits = record {
-        short = omega (arith, short, long);
-        inside = omega (arith, inside, long);
-        whole = λ peer. framed-whole frame lies peer (length content) (sym long);
-      };
-      content_is = ap (λ (n : ℕ). take n (drop 24 frame)) (sym long) ∙ sym lies.content ∙ m.content_is;
-    }
+-- each byte is one
+abbrev pub AreBytes : List ℕ → Type 0
+AreBytes xs = (i : ℕ) → slice_index xs i < 256
 
-module _ (frame : List ℕ) (source destination priority : ℕ) (content : List ℕ) where
-  by_destination : (b : Bool) → (destination_of frame == 53) ≡ b → fault frame ≡ None → says source destination (msg priority content) ≡ cond b (announced_in (payload_of frame)) (says (source_of frame) (destination_of frame) (letter_of (fields_in (payload_of frame)))) → Carries frame source priority None content
+-- a width of a scalar is that of its bits
+width-back : (a : ℕ) → a_width a ≡ true → bytes_of_bits (bits_of_bytes a) ≡ a
+width-back a is = one (a == 1) refl
+  where
+    four : (b : Bool) → (a == 4) ≡ b → (a == 1) ≡ false → (a == 2) ≡ false → bytes_of_bits (if b then B32 else B64) ≡ a
+    four true e f g = sym (eqb-true a 4 e)
+    four false e f g =
+        let left : (a == 8) ≡ true = sym (ap (λ (b : Bool). b || ((a == 2) || ((a == 4) || (a == 8)))) f ∙ ap (λ (b : Bool). b || ((a == 4) || (a == 8))) g ∙ ap (λ (b : Bool). b || (a == 8)) e) ∙ is in
+        sym (eqb-true a 8 left)
+
+    two : (b : Bool) → (a == 2) ≡ b → (a == 1) ≡ false → bytes_of_bits (if b then B16 else (if a == 4 then B32 else B64)) ≡ a
+    two true e f = sym (eqb-true a 2 e)
+    two false e f = four (a == 4) refl f e
+
+    one : (b : Bool) → (a == 1) ≡ b → bytes_of_bits (if b then B8 else (if a == 2 then B16 else (if a == 4 then B32 else B64))) ≡ a
+    one true e = sym (eqb-true a 1 e)
+    one false e = two (a == 2) refl e
+
+module _ (frame : List ℕ) (lies : Lies frame) where
+  abbrev fs : Fields
+  fs = fields_in (payload_of frame)
+
+  fits_so : (n : ℕ) → n ≡ length fs.content → n ≤ 488 → Fits frame n
+  fits_so n is short = record {
+    short = short;
+    inside = let inside = lies.inside in omega (arith, inside, is);
+    whole = λ peer. framed-whole frame lies peer n is;
+  }
+
+  -- a message
+  carries-message : (priority : ℕ) (content : List ℕ) → Reads fs (msg priority content) → Carries frame (source_of frame) priority None content
+  carries-message priority content reads =
+      let kind : (slice_index frame 18 == 1) ≡ true = sym (ap (λ (k : ℕ). k == 1) lies.kind) ∙ reads.0 in
+      let kind_is : fs.kind ≡ 1 = eqb-true fs.kind 1 reads.0 in
+      let long = ap length reads.2 in
+      let short : length fs.content ≤ 488 = not_le _ 488 (sym (ap (λ k. allows (form_of k) (λ form. form.content fs)) kind_is) ∙ lies.allowed) in
+      record {
+        from = refl;
+        says = ap (λ (b : Bool). if b then slice_index frame 19 else 0) kind ∙ sym lies.argument ∙ reads.1;
+        on = ap (λ (b : Bool). if b then None else Some (number_at 20 4 frame)) kind;
+        fits = fits_so (length content) (sym long) (omega (arith, short, long));
+        content_is = ap (λ (n : ℕ). take n (drop 24 frame)) (sym long) ∙ sym lies.content ∙ reads.2;
+      }
+
+  -- an item of a channel
+  module _ (k : ℕ) (other : (k == 1) ≡ false) (kind_is : fs.kind ≡ k) (n : ℕ) (channel_is : fs.channel ≡ n) where
+    kind_so : (slice_index frame 18 == 1) ≡ false
+    kind_so = ap (λ (x : ℕ). x == 1) (sym lies.kind ∙ kind_is) ∙ other
+
+    carries-channel : (content : List ℕ) → content ≡ fs.content → length fs.content ≤ 488 → Carries frame (source_of frame) 0 (Some n) content
+    carries-channel content is short =
+        let long = ap length is in
+        record {
+          from = refl;
+          says = ap (λ (b : Bool). if b then slice_index frame 19 else 0) kind_so;
+          on = ap (λ (b : Bool). if b then None else Some (number_at 20 4 frame)) kind_so ∙ ap (λ (x : ℕ). Some x) (sym lies.channel ∙ channel_is);
+          fits = fits_so (length content) long (omega (arith, short, long));
+          content_is = ap (λ (x : ℕ). take x (drop 24 frame)) long ∙ sym lies.content ∙ sym is;
+        }
+
+  carries-packet : (n : ℕ) (content : List ℕ) → Reads fs (packet n content) → Carries frame (source_of frame) 0 (Some n) content
+  carries-packet n content reads =
+      let kind_is : fs.kind ≡ 7 = eqb-true fs.kind 7 reads.0 in
+      carries-channel 7 refl kind_is n reads.1 content (sym reads.2) (not_le _ 488 (sym (ap (λ k. allows (form_of k) (λ form. form.content fs)) kind_is) ∙ lies.allowed))
+
+  carries-scalar : AreBytes frame → (n : ℕ) (bits : Bits) (v : ℕ) → Reads fs (scalar n bits v) → Carries frame (source_of frame) 0 (Some n) (little_bytes (bytes_of_bits bits) v)
+  carries-scalar bytes n bits v reads =
+      let kind_is : fs.kind ≡ 8 = eqb-true fs.kind 8 reads.0 in
+      let w = fs.argument in
+      let long : length fs.content ≡ w = eqb-true (length fs.content) w (sym (ap (λ k. allows (form_of k) (λ form. form.content fs)) kind_is) ∙ lies.allowed) in
+      let wide : a_width w ≡ true = sym (ap (λ k. allows (form_of k) (λ form. form.argument w)) kind_is) ∙ lies.argued in
+      let back : bytes_of_bits bits ≡ w = ap bytes_of_bits (sym reads.2) ∙ width-back w wide in
+      let lower : w ≤ 8 = width-most w wide in
+      let inside = lies.inside in
+      let behind = length-drop 24 frame in
+      let number : v ≡ little_number w (drop 24 frame) = sym reads.3 ∙ ap (little_number w) (lies.content ∙ ap (λ (x : ℕ). take x (drop 24 frame)) long) ∙ little_from-take 0 w w (drop 24 frame) (omega arith) in
+      let whole : little_bytes w (little_number w (drop 24 frame)) ≡ take w (drop 24 frame) = little_bytes-little_number w (drop 24 frame) (omega (arith, inside, behind, long)) (λ i. let at = get_or-drop 24 frame i 0 in let byte = bytes (24 + i) in omega (arith, at, byte)) in
+      let is : little_bytes (bytes_of_bits bits) v ≡ fs.content = ap (λ (x : ℕ). little_bytes x v) back ∙ ap (little_bytes w) number ∙ whole ∙ sym (lies.content ∙ ap (λ (x : ℕ). take x (drop 24 frame)) long) in
+      carries-channel 8 refl kind_is n reads.1 (little_bytes (bytes_of_bits bits) v) is (omega (arith, long, lower))
+    where
+      width-most : (a : ℕ) → a_width a ≡ true → a ≤ 8
+      width-most a is = let same = width-back a is in bound (bits_of_bytes a) same
+        where
+          bound : (b : Bits) → bytes_of_bits b ≡ a → a ≤ 8
+          bound B8 e = omega (arith, e)
+          bound B16 e = omega (arith, e)
+          bound B32 e = omega (arith, e)
+          bound B64 e = omega (arith, e)
+
+  -- the content is short, and a channel has a number
+  short-letter : (l : PlainLetter) → Reads fs l → IsShort l
+  short-letter (msg priority content) reads = (carries-message priority content reads).fits.short
+  short-letter (packet n content) reads = (carries-packet n content reads).fits.short
+  short-letter (connect n kind) reads =
+      let kind_is : fs.kind ≡ 2 = eqb-true fs.kind 2 reads.0 in
+      let some : not (fs.channel == 0) ≡ true = sym (ap (λ k. allows (form_of k) (λ form. form.channel fs.channel)) kind_is) ∙ lies.numbered in
+      positive n (ap (λ (x : ℕ). not (x == 0)) (sym reads.1) ∙ some)
+    where
+      positive : (x : ℕ) → not (x == 0) ≡ true → 0 < x
+      positive x e = grind arith
+  short-letter other reads = tt
+
+-- ---- a frame that says a letter
+
+-- the frame has no fault, and this letter is in its fields
+pub record SaysLetter (frame : List ℕ) (source : ℕ) (l : PlainLetter) : Type 0 where
+  pub lies : Lies frame
+  pub from : source_of frame ≡ source
+  pub reads : Reads (fields_in (payload_of frame)) l
+
+module _ (frame : List ℕ) (source destination : ℕ) (l : PlainLetter) where
+  by_destination : (b : Bool) → (destination_of frame == 53) ≡ b → fault frame ≡ None → says source destination l ≡ cond b (announced_in (payload_of frame)) (says (source_of frame) (destination_of frame) (letter_of (fields_in (payload_of frame)))) → SaysLetter frame source l
   by_destination true e none is = absurd cc
   by_destination false e none is =
       let from : source_of frame ≡ source = cc in
-      let letter : letter_of (fields_in (payload_of frame)) ≡ msg priority content = cc in
-      subst (λ s. Carries frame s priority None content) from (sound_carries frame priority content none e letter)
+      let letter : letter_of (fields_in (payload_of frame)) ≡ l = cc in
+      record { lies = sound-lies frame none e; from = from; reads = letter-reads (fields_in (payload_of frame)) l letter }
 
-  by_fault : (o : Option Fault) → fault frame ≡ o → says source destination (msg priority content) ≡ reading_by o frame → Carries frame source priority None content
+  by_fault : (o : Option Fault) → fault frame ≡ o → says source destination l ≡ reading_by o frame → SaysLetter frame source l
   by_fault (Some f) e is = absurd cc
   by_fault None e is = by_destination (destination_of frame == 53) refl e is
 
-  pub message-read : says source destination (msg priority content) ≡ reading frame → Carries frame source priority None content
+  pub letter-read : says source destination l ≡ reading frame → SaysLetter frame source l
   unfolding reading
-  message-read is = by_fault (fault frame) refl is
+  letter-read is = by_fault (fault frame) refl is
+
+  pub short-read : says source destination l ≡ reading frame → IsShort l
+  short-read is = let r = letter-read is in short-letter frame r.lies l r.reads
 
 -- it is the item in the frame
-pub item-is : (peer : ℕ) (frame : List ℕ) (source priority : ℕ) (channel : Option ℕ) (content : List ℕ) → Carries frame source priority channel content → item_with peer source priority channel content ≡ framed_item peer frame (length content)
-item-is peer frame source priority channel content c =
-    ap (λ s. item_with peer s priority channel content) (sym c.from)
-    ∙ ap (λ k. item_with peer (source_of frame) k channel content) (sym c.says)
-    ∙ ap (λ k. item_with peer (source_of frame) (priority_of frame) k content) (sym c.on)
-    ∙ ap (item_with peer (source_of frame) (priority_of frame) (channel_of frame)) (sym c.content_is)
+pub record CarriesItem (frame : List ℕ) (peer : ℕ) (item : Item) : Type 0 where
+  pub is : item ≡ framed_item peer frame (length item.content)
+  pub fits : Fits frame (length item.content)
+  pub says : priority_of frame ≡ item.priority
+
+carried : (peer : ℕ) (frame : List ℕ) (source source' priority : ℕ) (channel : Option ℕ) (content : List ℕ) → source' ≡ source → Carries frame source' priority channel content → CarriesItem frame peer (item_with peer source priority channel content)
+carried peer frame source source' priority channel content from c = record {
+  is =
+      ap (λ s. item_with peer s priority channel content) (sym (c.from ∙ from))
+      ∙ ap (λ k. item_with peer (source_of frame) k channel content) (sym c.says)
+      ∙ ap (λ k. item_with peer (source_of frame) (priority_of frame) k content) (sym c.on)
+      ∙ ap (item_with peer (source_of frame) (priority_of frame) (channel_of frame)) (sym c.content_is);
+  fits = c.fits;
+  says = c.says;
+}
+
+pub item-read : (peer : ℕ) (frame : List ℕ) → AreBytes frame → (source destination : ℕ) (l : PlainLetter) → says source destination l ≡ reading frame → IsItem l → CarriesItem frame peer (taken.item_of peer None source l)
+item-read peer frame bytes source destination l is item = go l (letter-read frame source destination l is) item
+  where
+    go : (l : PlainLetter) → SaysLetter frame source l → IsItem l → CarriesItem frame peer (taken.item_of peer None source l)
+    go (msg priority content) r item = carried peer frame source (source_of frame) priority None content r.from (carries-message frame r.lies priority content r.reads)
+    go (packet n content) r item = carried peer frame source (source_of frame) 0 (Some n) content r.from (carries-packet frame r.lies n content r.reads)
+    go (scalar n bits v) r item = carried peer frame source (source_of frame) 0 (Some n) (little_bytes (bytes_of_bits bits) v) r.from (carries-scalar frame r.lies bytes n bits v r.reads)
+    go other r item = absurd item

@@ -1,13 +1,14 @@
 -- Endpoints as the code keeps them, and as the definitions see them.
+use Rattle.mc_base.specs.declared.channel.Kind.{Kind}
 use Rattle.std.proofs.Common.{◌≡◌, ℕ, zero, suc, ◌+◌, ◌<◌, ◌≤◌, Bool, true, false, cond, List, [], ◌∷◌, ◌++◌, length, map, Option, Some, None, refl, sym, ap, ◌∙◌, arith, get_or}
 use Rattle.std.specs.Prelude.{is_none, is_some, position, slice_set, slice_get, option_map, ◌&&◌, if◌then◌else◌}
 use Rattle.std.specs.List.{position_from, remove, AllByRecursion}
 use Rattle.std.proofs.lemmas.Iterator.Adapters.{position_from-zero}
 use Rattle.board_model.specs.Lists.{changed_at, without_at}
 use Rattle.board_model.specs.Answer.{has_channel}
-use Rattle.board_model.specs.ChannelEnds.{is_closed}
+use Rattle.board_model.specs.ChannelEnds.{is_closed, accepted_end}
 use Rattle.board_model.specs.State as state
-use Rattle.board_model.specs.State.{channel_in}
+use Rattle.board_model.specs.State.{channel_in, ChannelEnd}
 use Rattle.board_model.specs.Choice.{without_best}
 use Rattle.buffer_book.specs.Book.{Book}
 use Rattle.domain_core.specs.declared.endpoints.Endpoint.{Endpoint}
@@ -40,7 +41,7 @@ channel-there b [] i c is = absurd cc
 channel-there b (e ∷ es) zero c is = let same : c ≡ e.channel = cc in ap (option_map end_of) (sym same)
 channel-there b (e ∷ es) (suc i) c is = channel-there b es i c is
 
-some-end : (o : Option Channel) → is_some (option_map end_of o) ≡ is_some o
+pub some-end : (o : Option Channel) → is_some (option_map end_of o) ≡ is_some o
 some-end None = refl
 some-end (Some c) = refl
 
@@ -61,6 +62,14 @@ kept-is c = go (is_closed (stage_of c.stage) && c.far_closed)
     go : (b : Bool) → option_map end_of (if is_none (if b then None else Some (end_of c)) then None else Some c) ≡ (if b then None else Some (end_of c))
     go true = refl
     go false = refl
+
+-- one that was accepted has not ended
+pub kept-new : (c : Channel) {kind : Kind} {owner number peer address : ℕ} → end_of c ≡ accepted_end kind owner number peer address → kept c ≡ Some c
+kept-new c is = go (is_closed (stage_of c.stage) && c.far_closed) (ap (λ (e : ChannelEnd). is_closed e.stage && e.far_closed) is)
+  where
+    go : (b : Bool) → b ≡ false → (if is_none (if b then None else Some (end_of c)) then None else Some c) ≡ Some c
+    go false e = refl
+    go true e = absurd cc
 
 -- ---- one endpoint changed
 

@@ -1,7 +1,7 @@
 -- A frame that is taken, by the verdict on it.
 use Rattle.std.proofs.Common.{◌≡◌, ℕ, zero, suc, ◌<◌, Bool, true, List, [], ◌∷◌, ◌++◌, length, map, take, Some, None, refl, sym, ap, ◌∙◌, subst, arith}
-use Rattle.std.specs.Prelude.{Contains, if◌then◌else◌, slice_get, slice_index, slice_set}
-use Rattle.std.proofs.lemmas.List.{append-nil, length-append, length-map}
+use Rattle.std.specs.Prelude.{Contains, if◌then◌else◌, slice_get, slice_set}
+use Rattle.std.proofs.lemmas.List.{length-append, length-map}
 use Rattle.mc_base.specs.NameMap.{Names}
 use Rattle.mc_base.specs.Reading.{reading}
 use Rattle.mc_base.specs.Stored.{Stored}
@@ -10,60 +10,50 @@ use Rattle.mc_base.specs.declared.fate.Fate.TheVariants.{Queued, Handed}
 use Rattle.mc_base.specs.declared.request.RequestId.{RequestId}
 use Rattle.lane_end.specs.Numbers.{AreApart}
 use Rattle.lane_end.specs.ReceiveMoves.{Gave, Took}
-use Rattle.board_model.specs.Change.{Change, changed_all, frame_taken, item_handed, item_queued, name_found, names_known}
+use Rattle.board_model.specs.Change.{Change, changed_all, frame_taken, item_handed, item_queued}
 use Rattle.board_model.specs.Dealing.{keeps_buffer}
 use Rattle.board_model.specs.Deeds.{takes}
 use Rattle.board_model.specs.Journal.{Line, take_line, taken}
 use Rattle.board_model.specs.State.{DomainState}
-use Rattle.board_model.specs.TakenFrames.{Row, names_of, row, row_of}
+use Rattle.board_model.specs.TakenFrames.{Row, names_of, replies_to, row, row_of}
 use Rattle.buffer_book.specs.Book.{Book, IsAway, queued_in, with_queued}
 use Rattle.endpoint_table.specs.Table as endpoint_table
 use Rattle.message_queue.specs.Queue.{waiting}
 use Rattle.request_set.specs.declared.ask.Complete.TheVariants as complete
 use Rattle.request_set.specs.Requests.{Requests, with_complete}
 use Rattle.domain_core.specs.declared.peer.Peer.{Peer}
-use Rattle.domain_core.specs.declared.requests.Waiters.TheVariants as waiters
+use Rattle.domain_core.specs.declared.replies.Reply.{Reply}
+use Rattle.domain_core.specs.Peers.{reply_in}
 use Rattle.domain_core.specs.AllMoved.{ends_of}
 use Rattle.domain_core.specs.Doing.{Doing, Takes, ids_in}
 use Rattle.domain_core.specs.InBook.{endpoint_in, priority_of}
 use Rattle.domain_core.specs.InPlaces.{AreInPlaces, slot_at, slots_of}
-use Rattle.domain_core.specs.InRequests.{handed_slots, with_all_complete}
+use Rattle.domain_core.specs.InRequests.{handed_slots}
 use Rattle.domain_core.specs.LaneMoves.{LaneMove, receiver}
 use Rattle.domain_core.specs.LaneSeen.{LaneSeen, after_move, after_moves}
 use Rattle.domain_core.specs.Parts.{Holding, Parts, Sound, holding_in, parts_in, peer_at, peer_seen, peers_seen, plain, state_of}
 use Rattle.domain_core.specs.Records.{Records, all_waiting, with_waiting_at}
 use Rattle.domain_core.specs.Sound.{out_at}
-use Rattle.domain_core.specs.Steps.{Step, all_moves, at_peer, changed_peer, done, done_all, frame_handed, frame_queued, frame_returned, moved_peer, name_told, names_told, step_moves, with_names}
+use Rattle.domain_core.specs.Steps.{Step, at_peer, changed_peer, done, done_all, frame_handed, frame_queued, frame_returned, moved_peer, step_moves}
 use Rattle.domain_core.specs.Stores.{AreStored, KeepsQueued, Stores}
-use Rattle.domain_core.specs.Verdicts.{Fits, IsHanded, IsHeard, IsQueued, IsReturned, Shows, framed_item}
+use Rattle.domain_core.specs.Verdicts.{Desk, Effect, Fits, IsHanded, IsQueued, IsReturned, Shows, desk, effect_changes, framed_item}
 use Rattle.domain_core.specs.VisitMoves.{taking}
 use Rattle.domain_core.proofs.ChangedPeers.{set-changed}
-use Rattle.domain_core.proofs.Completing.{ids-all}
+use Rattle.domain_core.proofs.Effects.{effect-done, effect-ids, effect-is, effect-keeps, effect-moves, effect_steps, placed-same, with_left}
 use Rattle.domain_core.proofs.PeerPlaces.{All-from}
 use Rattle.domain_core.proofs.PeersAt.{Fit, find-place, outs-room}
 use Rattle.domain_core.proofs.Placed.{is-away}
 use Rattle.domain_core.proofs.Slots.{length-all}
 use Rattle.lane_end.proofs.CountLemmas.{length-apart}
 use Rattle.domain_core.proofs.Queuing.{enqueued-stored, handed-ids}
-use Rattle.domain_core.proofs.Stepping.{quiet-peers, seen-set, set-is-map}
+use Rattle.domain_core.proofs.Stepping.{seen-set, set-is-map}
 use Rattle.domain_core.proofs.Outs.{is-out}
 use Rattle.domain_core.proofs.Storing.{Stores-returned, keeps-none}
-use Rattle.domain_core.proofs.TurnMeaning.{frame_handed-is, frame_queued-is, frame_returned-is, name_told-is, names_told-is}
-use Rattle.domain_core.proofs.TurnSteps.{but-one, frame_handed-keeps, frame_queued-keeps, frame_returned-keeps, name_told-keeps, names_told-keeps}
+use Rattle.domain_core.proofs.TurnMeaning.{frame_handed-is, frame_queued-is, frame_returned-is}
+use Rattle.domain_core.proofs.TurnSteps.{but-one, frame_handed-keeps, frame_queued-keeps, frame_returned-keeps}
 use Rattle.domain_core.proofs.Turning.{doing-by, peer-is, peers-are, seen-there}
 
--- ---- what an announcement changes
-
-abbrev pub heard_steps : List Change → List Step
-heard_steps [] = []
-heard_steps (names_known n names ∷ cs) = names_told n names ∷ heard_steps cs
-heard_steps (name_found name address ∷ cs) = name_told name address ∷ heard_steps cs
-heard_steps (other ∷ cs) = heard_steps cs
-
-set_itself : {X : Type 0} (xs : List X) (i : ℕ) (x : X) → slice_get xs i ≡ Some x → slice_set xs i x ≡ xs
-set_itself [] i x there = refl
-set_itself {X} (y ∷ xs) zero x there = let same : y ≡ x = cc in ap (λ (z : X). z ∷ xs) (sym same)
-set_itself {X} (y ∷ xs) (suc i) x there = ap (λ (zs : List X). y ∷ zs) (set_itself xs i x there)
+-- ---- lists
 
 set_twice : {X : Type 0} (xs : List X) (i : ℕ) (x y : X) → slice_set (slice_set xs i x) i y ≡ slice_set xs i y
 set_twice [] i x y = refl
@@ -75,58 +65,11 @@ get_set [] i x y there = absurd cc
 get_set (z ∷ xs) zero x y there = refl
 get_set (z ∷ xs) (suc i) x y there = get_set xs i x y there
 
-module _ (p : Parts) (sound : Sound p) (i : ℕ) (x : Peer LaneSeen) (there : slice_get p.peers i ≡ Some x) where
-  told_stays : map (changed_peer x.number (with_names x.known)) p.peers ≡ p.peers
-  told_stays = sym (set-changed x.number (with_names x.known) p.peers i x sound.peers.rising there refl) ∙ set_itself p.peers i x there
-
-  abbrev heard_parts : Names → Requests → Parts
-  heard_parts names q = record p { requests = q; peers = map (changed_peer x.number (with_names names)) p.peers }
-
-  pub heard-done : (cs : List Change) (names : Names) (q : Requests) → IsHeard x.number cs x.known names p.requests q → done_all (heard_steps cs) p ≡ heard_parts names q
-  heard-done [] names q is =
-      ap (λ (ps : List (Peer LaneSeen)). record p { peers = ps }) (sym told_stays)
-      ∙ ap (λ (ns : Names). heard_parts ns p.requests) (sym is.0) ∙ ap (heard_parts names) (sym is.1)
-  heard-done (names_known n ms ∷ []) names q is =
-      ap (λ (m : ℕ). record p { peers = map (changed_peer m (with_names ms)) p.peers }) is.0
-      ∙ ap (λ (ns : Names). heard_parts ns p.requests) (sym is.1) ∙ ap (heard_parts names) (sym is.2)
-  heard-done (names_known n ms ∷ name_found name address ∷ []) names q is =
-      ap (λ (ps : List (Peer LaneSeen)). record p { requests = with_all_complete p.requests (waiters.Lookups name) (complete.Address address); peers = ps }) (quiet-peers (map (changed_peer n (with_names ms)) p.peers))
-      ∙ ap (λ (m : ℕ). record p { requests = with_all_complete p.requests (waiters.Lookups name) (complete.Address address); peers = map (changed_peer m (with_names ms)) p.peers }) is.0
-      ∙ ap (λ (ns : Names). heard_parts ns (with_all_complete p.requests (waiters.Lookups name) (complete.Address address))) (sym is.1)
-      ∙ ap (heard_parts names) (sym is.2)
-  heard-done other names q is = absurd is
-
-  pub heard-keeps : (cs : List Change) (names : Names) (q : Requests) → IsHeard x.number cs x.known names p.requests q → Sound (done_all (heard_steps cs) p)
-  heard-keeps [] names q is = sound
-  heard-keeps (names_known n ms ∷ []) names q is = names_told-keeps p n ms sound
-  heard-keeps (names_known n ms ∷ name_found name address ∷ []) names q is = name_told-keeps (done (names_told n ms) p) name address (names_told-keeps p n ms sound)
-  heard-keeps other names q is = absurd is
-
-  pub heard-is : (cs : List Change) (names : Names) (q : Requests) → IsHeard x.number cs x.known names p.requests q → state_of (done_all (heard_steps cs) p) ≡ changed_all (state_of p) cs
-  heard-is [] names q is = refl
-  heard-is (names_known n ms ∷ []) names q is = subst (λ (m : ℕ). state_of (done_all (heard_steps (names_known m ms ∷ [])) p) ≡ changed_all (state_of p) (names_known m ms ∷ [])) (sym is.0) (names_told-is p sound i x there ms)
-  heard-is (names_known n ms ∷ name_found name address ∷ []) names q is =
-      name_told-is (done (names_told n ms) p) name address
-      ∙ ap (λ (s : DomainState). changed_all s (name_found name address ∷ []))
-      (subst (λ (m : ℕ). state_of (done (names_told m ms) p) ≡ changed_all (state_of p) (names_known m ms ∷ [])) (sym is.0) (names_told-is p sound i x there ms))
-  heard-is other names q is = absurd is
-
-  pub heard-moves : (cs : List Change) (names : Names) (q : Requests) → IsHeard x.number cs x.known names p.requests q → (c : Step) (n : ℕ) → all_moves (c ∷ heard_steps cs) n ≡ step_moves c n
-  heard-moves [] names q is c n = refl
-  heard-moves (names_known m ms ∷ []) names q is c n = append-nil (step_moves c n)
-  heard-moves (names_known m ms ∷ name_found name address ∷ []) names q is c n = append-nil (step_moves c n)
-  heard-moves other names q is c n = absurd is
-
-  pub heard-ids : (cs : List Change) (names : Names) (q : Requests) → IsHeard x.number cs x.known names p.requests q → map (λ r. r.id) q.standing ≡ map (λ r. r.id) p.requests.standing
-  heard-ids [] names q is = ap (λ (z : Requests). map (λ r. r.id) z.standing) is.1
-  heard-ids (names_known n ms ∷ []) names q is = ap (λ (z : Requests). map (λ r. r.id) z.standing) is.2
-  heard-ids (names_known n ms ∷ name_found name address ∷ []) names q is = ap (λ (z : Requests). map (λ r. r.id) z.standing) is.2 ∙ ids-all (waiters.Lookups name) (complete.Address address) p.requests.standing
-  heard-ids other names q is = absurd is
-
-ends-known : {L : Type 0} (ps : List (Peer L)) (i : ℕ) (x : Peer L) (e : L) (names names' : Names) → ends_of (slice_set ps i (record x { ends = e; known = names })) ≡ ends_of (slice_set ps i (record x { ends = e; known = names' }))
-ends-known [] i x e names names' = refl
-ends-known (z ∷ ps) zero x e names names' = refl
-ends-known {L} (z ∷ ps) (suc i) x e names names' = ap (λ (es : List L). z.ends ∷ es) (ends-known ps i x e names names')
+-- what is seen of the ends is the same, whatever is known of the peer and owed to it
+ends-known : {L : Type 0} (ps : List (Peer L)) (i : ℕ) (x : Peer L) (e : L) (names : Names) (rs : List Reply) → ends_of (slice_set ps i (record x { ends = e; known = names; replies = rs })) ≡ ends_of (slice_set ps i (record x { ends = e }))
+ends-known [] i x e names rs = refl
+ends-known (z ∷ ps) zero x e names rs = refl
+ends-known {L} (z ∷ ps) (suc i) x e names rs = ap (λ (es : List L). z.ends ∷ es) (ends-known ps i x e names rs)
 
 -- ---- the frame
 
@@ -147,8 +90,10 @@ module _ {L : Type 0} (M : L → List LaneMove → L → Type 0) (m-none : (l : 
   at : slice_get (peers_seen v ps) i ≡ Some (peer_seen v x)
   at = seen-there M m-none v b r q t ps sound i x there
 
-  pub shows : Shows (state_of old) n b r q x.known
-  shows = record { endpoints = refl; requests = refl; known = ap names_of (find-place plain t i (peers_seen v ps) (peer_seen v x) sound.peers.rising at) }
+  pub shows : Shows (state_of old) n b (desk r q x.known x.replies)
+  shows =
+      let found = find-place plain t i (peers_seen v ps) (peer_seen v x) sound.peers.rising at in
+      record { endpoints = refl; requests = refl; known = ap names_of found; owed = ap replies_to found ∙ length-map x.replies reply_in }
 
   module _ (e : L) (seen : v e ≡ after_move (receiver (Took buffer.number frame)) (v x.ends)) (moved : M x.ends (receiver (Took buffer.number frame) ∷ []) e) (apart : AreApart (v e).size_from (v e).out) where
     pub apart-then : AreApart (v x.ends).size_from ((v x.ends).out ++ buffer.number ∷ [])
@@ -169,21 +114,21 @@ module _ {L : Type 0} (M : L → List LaneMove → L → Type 0) (m-none : (l : 
         let room = sound.room in
         omega (arith, most, out, more, both, total, room)
 
-    abbrev took_ps : Names → List (Peer L)
-    took_ps names = slice_set ps i (record x { ends = e; known = names })
+    abbrev took_ps : Names → List Reply → List (Peer L)
+    took_ps names rs = slice_set ps i (record x { ends = e; known = names; replies = rs })
 
-    took_peers : (names : Names) → names ≡ x.known → peers_seen v (took_ps names) ≡ map (moved_peer (at_peer n (receiver (Took buffer.number frame) ∷ []))) (peers_seen v ps)
-    took_peers names same = ap (λ (ns : Names). peers_seen v (took_ps ns)) same ∙ peers-are M m-none v b r q t ps sound i x there e (receiver (Took buffer.number frame) ∷ []) seen moved
+    took_peers : (names : Names) (rs : List Reply) → names ≡ x.known → rs ≡ x.replies → peers_seen v (took_ps names rs) ≡ map (moved_peer (at_peer n (receiver (Took buffer.number frame) ∷ []))) (peers_seen v ps)
+    took_peers names rs same same_rs = ap (λ (ns : Names). peers_seen v (took_ps ns rs)) same ∙ ap (λ (zs : List Reply). peers_seen v (took_ps x.known zs)) same_rs ∙ peers-are M m-none v b r q t ps sound i x there e (receiver (Took buffer.number frame) ∷ []) seen moved
 
     -- it is kept: its word, its changes, and the step that it is
-    kept-doing : (c : Step) (fate : Fate) (happens : List Change) (b' : Book) (r' : Records) (q' : Requests) (names : Names) → names ≡ x.known → (step_moves c ≡ at_peer n (receiver (Took buffer.number frame) ∷ []))
-        → parts_in v b' r' q' t (took_ps names) ≡ done c old → row_of (state_of old) n None (reading frame) ≡ row true fate happens → state_of (done c old) ≡ changed_all (state_of old) (frame_taken n ∷ happens) → KeepsQueued b b' → ids_in (parts_in v b' r' q' t (took_ps names)) ≡ ids_in old
-        → keeps_buffer fate ≡ true → Doing M (peer_at old i).number (takes (peer_at old i).number None frame fate ∷ []) (taking (buffer.number ∷ []) (taken frame fate ∷ [])) (holding_in v b r q t ps) (holding_in v b' r' q' t (took_ps names))
-    kept-doing c fate happens b' r' q' names same moves after is means stays ids kept =
-        subst (λ (ms : List LaneMove). Doing M (peer_at old i).number (takes (peer_at old i).number None frame fate ∷ []) ms (holding_in v b r q t ps) (holding_in v b' r' q' t (took_ps names)))
+    kept-doing : (c : Step) (fate : Fate) (happens : List Change) (b' : Book) (r' : Records) (q' : Requests) (names : Names) (rs : List Reply) (applies : Bool) → (step_moves c ≡ at_peer n (receiver (Took buffer.number frame) ∷ []))
+        → parts_in v b' r' q' t (took_ps names rs) ≡ done c old → row_of (state_of old) n None (reading frame) ≡ row applies fate happens → state_of (done c old) ≡ changed_all (state_of old) (frame_taken n ∷ happens) → KeepsQueued b b' → ids_in (parts_in v b' r' q' t (took_ps names rs)) ≡ ids_in old
+        → keeps_buffer fate ≡ true → Doing M (peer_at old i).number (takes (peer_at old i).number None frame fate ∷ []) (taking (buffer.number ∷ []) (taken frame fate ∷ [])) (holding_in v b r q t ps) (holding_in v b' r' q' t (took_ps names rs))
+    kept-doing c fate happens b' r' q' names rs applies moves after is means stays ids kept =
+        subst (λ (ms : List LaneMove). Doing M (peer_at old i).number (takes (peer_at old i).number None frame fate ∷ []) ms (holding_in v b r q t ps) (holding_in v b' r' q' t (took_ps names rs)))
         (ap (λ (k : Bool). receiver (Took buffer.number frame) ∷ ((if k then [] else receiver (Gave buffer.number) ∷ []) ++ [])) (sym kept))
-        (doing-by M m-none v b r q t ps sound i x there e (receiver (Took buffer.number frame) ∷ []) seen moved (c ∷ []) (λ k. takes k None frame fate ∷ []) (holding_in v b' r' q' t (took_ps names))
-        (λ k. ap (λ (f : ℕ → List LaneMove). f k) moves) after (ap (λ (ns : Names). ends_of (took_ps ns)) same) (ap (λ (z : Row). z.word) is, tt) (means ∙ ap (λ (z : Row). changed_all (state_of old) (frame_taken n ∷ z.happens)) (sym is)) stays ids)
+        (doing-by M m-none v b r q t ps sound i x there e (receiver (Took buffer.number frame) ∷ []) seen moved (c ∷ []) (λ k. takes k None frame fate ∷ []) (holding_in v b' r' q' t (took_ps names rs))
+        (λ k. ap (λ (f : ℕ → List LaneMove). f k) moves) after (ends-known ps i x e names rs) (ap (λ (z : Row). z.word) is, tt) (means ∙ ap (λ (z : Row). changed_all (state_of old) (frame_taken n ∷ z.happens)) (sym is)) stays ids)
 
     takes-one : (fate : Fate) (new : Holding L) → Doing M (peer_at old i).number (takes (peer_at old i).number None frame fate ∷ []) (taking (buffer.number ∷ []) (taken frame fate ∷ [])) (holding_in v b r q t ps) new → AreStored n (buffer.number ∷ []) (taken frame fate ∷ []) new.parts.book
         → lines' ≡ lines ++ take_line n frame fate ∷ [] → Takes M i 1 (holding_in v b r q t ps) new lines lines'
@@ -199,37 +144,37 @@ module _ {L : Type 0} (M : L → List LaneMove → L → Type 0) (m-none : (l : 
           told = subst (λ (k : ℕ). lines' ≡ lines ++ take_line k frame fate ∷ []) number told;
         }
 
-    module _ (size : ℕ) (fits : Fits frame size) (b' : Book) (book : b' ≡ with_queued b (slot_at n buffer.number) (queued_in buffer 24 size)) (names : Names) (same : names ≡ x.known) where
+    module _ (size : ℕ) (fits : Fits frame size) (b' : Book) (book : b' ≡ with_queued b (slot_at n buffer.number) (queued_in buffer 24 size)) (names : Names) (same : names ≡ x.known) (rs : List Reply) (same_rs : rs ≡ x.replies) where
       kept-stored : (fate : Fate) → Stores n (buffer.number ∷ []) (taken frame fate ∷ []) b b'
       kept-stored fate = enqueued-stored r q b b' _ n (slot_at n buffer.number) buffer size len (but-one old sound i y at buffer.number apart-then) refl book fits.short fits.inside fate (fits.whole n)
 
       -- its message is queued
       module _ (j priority : ℕ) (is : IsQueued (state_of old) (row_of (state_of old) n None (reading frame)) (framed_item n frame size) j) (says : priority_of frame ≡ priority) (r' : Records) (q' : Requests) (records : r' ≡ with_waiting_at r j (waiting (slot_at n buffer.number) priority)) (requests : q' ≡ q) where
-        queued-after : parts_in v b' r' q' t (took_ps names) ≡ done (frame_queued n buffer len size j priority) old
-        queued-after = let peers = took_peers names same in cc
+        queued-after : parts_in v b' r' q' t (took_ps names rs) ≡ done (frame_queued n buffer len size j priority) old
+        queued-after = let peers = took_peers names rs same same_rs in cc
 
-        pub queued-keeps : Sound (parts_in v b' r' q' t (took_ps names))
+        pub queued-keeps : Sound (parts_in v b' r' q' t (took_ps names rs))
         queued-keeps = subst Sound (sym queued-after) (frame_queued-keeps old sound i y at buffer len size apart-then fits.short fits.inside j priority (let within = is.within in let long = length-map r.endpoints (endpoint_in b) in omega (arith, within, long)) says)
 
-        pub queued-takes : lines' ≡ lines ++ take_line n frame Queued ∷ [] → Takes M i 1 (holding_in v b r q t ps) (holding_in v b' r' q' t (took_ps names)) lines lines'
+        pub queued-takes : lines' ≡ lines ++ take_line n frame Queued ∷ [] → Takes M i 1 (holding_in v b r q t ps) (holding_in v b' r' q' t (took_ps names rs)) lines lines'
         queued-takes told =
-            takes-one Queued (holding_in v b' r' q' t (took_ps names))
-            (kept-doing (frame_queued n buffer len size j priority) Queued (item_queued is.destination (framed_item n frame size) ∷ []) b' r' q' names same refl queued-after is.row_is
+            takes-one Queued (holding_in v b' r' q' t (took_ps names rs))
+            (kept-doing (frame_queued n buffer len size j priority) Queued (item_queued is.destination (framed_item n frame size) ∷ []) b' r' q' names rs is.applies refl queued-after is.row_is
             (frame_queued-is old sound i y at buffer len size apart-then fits.short fits.inside j priority is.destination says is.at) (kept-stored Queued).stays (ap (λ (z : Requests). map (λ c. c.id) z.standing) requests) refl)
             (kept-stored Queued).stored told
 
       -- it is handed to a request
-      module _ (id : RequestId) (max : ℕ) (is : IsHanded (state_of old) q (row_of (state_of old) n None (reading frame)) (framed_item n frame size) id max) (q' : Requests) (requests : q' ≡ with_complete q id (complete.Message (slot_at n buffer.number) max)) where
-        handed-after : parts_in v b' r q' t (took_ps names) ≡ done (frame_handed n buffer len size id max) old
-        handed-after = let peers = took_peers names same in cc
+      module _ (id : RequestId) (max : ℕ) (is : IsHanded (state_of old) q (row_of (state_of old) n None (reading frame)) (framed_item n frame size) id max) (r' : Records) (q' : Requests) (records : r' ≡ r) (requests : q' ≡ with_complete q id (complete.Message (slot_at n buffer.number) max)) where
+        handed-after : parts_in v b' r' q' t (took_ps names rs) ≡ done (frame_handed n buffer len size id max) old
+        handed-after = let peers = took_peers names rs same same_rs in cc
 
-        pub handed-keeps : Sound (parts_in v b' r q' t (took_ps names))
+        pub handed-keeps : Sound (parts_in v b' r' q' t (took_ps names rs))
         handed-keeps = subst Sound (sym handed-after) (frame_handed-keeps old sound i y at buffer len size apart-then fits.short fits.inside id max is.pending is.asks)
 
-        pub handed-takes : lines' ≡ lines ++ take_line n frame Handed ∷ [] → Takes M i 1 (holding_in v b r q t ps) (holding_in v b' r q' t (took_ps names)) lines lines'
+        pub handed-takes : lines' ≡ lines ++ take_line n frame Handed ∷ [] → Takes M i 1 (holding_in v b r q t ps) (holding_in v b' r' q' t (took_ps names rs)) lines lines'
         handed-takes told =
-            takes-one Handed (holding_in v b' r q' t (took_ps names))
-            (kept-doing (frame_handed n buffer len size id max) Handed (item_handed is.destination (framed_item n frame size) ∷ []) b' r q' names same refl handed-after is.row_is
+            takes-one Handed (holding_in v b' r' q' t (took_ps names rs))
+            (kept-doing (frame_handed n buffer len size id max) Handed (item_handed is.destination (framed_item n frame size) ∷ []) b' r' q' names rs is.applies refl handed-after is.row_is
             (frame_handed-is old sound i y at buffer len size apart-then fits.short fits.inside id max is.destination is.endpoint is.pending is.named is.waits) (kept-stored Handed).stays
             (handed-ids r q b b' _ n (slot_at n buffer.number) buffer size len (but-one old sound i y at buffer.number apart-then) refl book fits.short fits.inside q' id max sound.receives is.pending requests) refl)
             (kept-stored Handed).stored told
@@ -238,13 +183,16 @@ module _ {L : Type 0} (M : L → List LaneMove → L → Type 0) (m-none : (l : 
     pub given-out : Contains (v e).out buffer.number
     given-out = subst (λ (l : LaneSeen). Contains l.out buffer.number) (sym seen) (is-out n r q b _ buffer.number (but-one old sound i y at buffer.number apart-then))
 
-    module _ (m-both : (a b c : L) (xs ys : List LaneMove) → M a xs b → M b ys c → M a (xs ++ ys) c) (e' : L) (seen' : v e' ≡ after_move (receiver (Gave buffer.number)) (v e)) (moved' : M e (receiver (Gave buffer.number) ∷ []) e') (fate : Fate) (names : Names) (q' : Requests)
-        (is : IsReturned n (row_of (state_of old) n None (reading frame)) fate x.known names q q') where
+    module _ (m-both : (a b c : L) (xs ys : List LaneMove) → M a xs b → M b ys c → M a (xs ++ ys) c) (e' : L) (seen' : v e' ≡ after_move (receiver (Gave buffer.number)) (v e)) (moved' : M e (receiver (Gave buffer.number) ∷ []) e') (fate : Fate) (d' : Desk)
+        (is : IsReturned (state_of old) n (row_of (state_of old) n None (reading frame)) fate (desk r q x.known x.replies) d') where
       abbrev both : List LaneMove
       both = receiver (Took buffer.number frame) ∷ receiver (Gave buffer.number) ∷ []
 
+      abbrev does : Effect
+      does = is.effect
+
       abbrev back_ps : List (Peer L)
-      back_ps = slice_set ps i (record x { ends = e'; known = names })
+      back_ps = slice_set ps i (record x { ends = e'; known = d'.names; replies = d'.replies })
 
       seen-both : v e' ≡ after_moves both (v x.ends)
       seen-both = seen' ∙ ap (after_move (receiver (Gave buffer.number))) seen
@@ -267,30 +215,36 @@ module _ {L : Type 0} (M : L → List LaneMove → L → Type 0) (m-none : (l : 
       there' : slice_get returned.peers i ≡ Some y'
       there' = subst (λ (zs : List (Peer LaneSeen)). slice_get zs i ≡ Some y') set_peers (get_set (peers_seen v ps) i y y' at)
 
-      back-after : parts_in v b r q' t back_ps ≡ done_all (frame_returned n buffer.number frame ∷ heard_steps is.happens) old
+      back-peers : peers_seen v back_ps ≡ map (changed_peer n (with_left does)) returned.peers
+      back-peers =
+          seen-set v ps i (record x { ends = e'; known = d'.names; replies = d'.replies })
+          ∙ ap (λ (l : LaneSeen). slice_set (peers_seen v ps) i (record y { ends = l; known = d'.names; replies = d'.replies })) seen-both
+          ∙ ap (λ (z : Desk). slice_set (peers_seen v ps) i (record y' { known = z.names; replies = z.replies })) is.left
+          ∙ sym (set_twice (peers_seen v ps) i y' (with_left does y'))
+          ∙ ap (λ (zs : List (Peer LaneSeen)). slice_set zs i (with_left does y')) set_peers
+          ∙ set-changed n (with_left does) returned.peers i y' sound'.peers.rising there' refl
+
+      back-after : parts_in v b d'.records d'.requests t back_ps ≡ done_all (frame_returned n buffer.number frame ∷ effect_steps n does) old
       back-after =
-          let peers : peers_seen v back_ps ≡ map (changed_peer n (with_names names)) returned.peers =
-          seen-set v ps i (record x { ends = e'; known = names })
-          ∙ ap (λ (l : LaneSeen). slice_set (peers_seen v ps) i (record y { ends = l; known = names })) seen-both
-          ∙ sym (set_twice (peers_seen v ps) i y' (record y' { known = names }))
-          ∙ ap (λ (zs : List (Peer LaneSeen)). slice_set zs i (record y' { known = names })) set_peers
-          ∙ set-changed n (with_names names) returned.peers i y' sound'.peers.rising there' refl in
-          ap (λ (zs : List (Peer LaneSeen)). record old { requests = q'; peers = zs }) peers ∙ sym (heard-done returned sound' i y' there' is.happens names q' is.heard)
+          ap (λ (zs : List (Peer LaneSeen)). record old { records = d'.records; requests = d'.requests; peers = zs }) back-peers
+          ∙ ap (λ (z : Desk). record old { records = z.records; requests = z.requests; peers = map (changed_peer n (with_left does)) returned.peers }) is.left
+          ∙ sym (effect-done returned n does)
 
-      pub back-keeps : Sound (parts_in v b r q' t back_ps)
-      back-keeps = subst Sound (sym back-after) (heard-keeps returned sound' i y' there' is.happens names q' is.heard)
+      pub back-keeps : Sound (parts_in v b d'.records d'.requests t back_ps)
+      back-keeps = subst Sound (sym back-after) (effect-keeps returned n sound' does)
 
-      back-state : state_of (done_all (frame_returned n buffer.number frame ∷ heard_steps is.happens) old) ≡ changed_all (state_of old) (frame_taken n ∷ (row_of (state_of old) n None (reading frame)).happens)
+      back-state : state_of (done_all (frame_returned n buffer.number frame ∷ effect_steps n does) old) ≡ changed_all (state_of old) (frame_taken n ∷ (row_of (state_of old) n None (reading frame)).happens)
       back-state =
-          heard-is returned sound' i y' there' is.happens names q' is.heard
-          ∙ ap (λ (s : DomainState). changed_all s is.happens) (frame_returned-is old sound i y at buffer.number frame)
+          effect-is returned n sound' i y' there' refl does (placed-same (state_of old) (state_of returned) refl does is.placed)
+          ∙ ap (λ (s : DomainState). changed_all s (effect_changes n does)) (frame_returned-is old sound i y at buffer.number frame)
           ∙ ap (λ (z : Row). changed_all (state_of old) (frame_taken n ∷ z.happens)) (sym is.row_is)
 
-      pub back-takes : lines' ≡ lines ++ take_line n frame fate ∷ [] → Takes M i 1 (holding_in v b r q t ps) (holding_in v b r q' t back_ps) lines lines'
+      pub back-takes : lines' ≡ lines ++ take_line n frame fate ∷ [] → Takes M i 1 (holding_in v b r q t ps) (holding_in v b d'.records d'.requests t back_ps) lines lines'
       back-takes told =
-          takes-one fate (holding_in v b r q' t back_ps)
-          (subst (λ (ms : List LaneMove). Doing M (peer_at old i).number (takes (peer_at old i).number None frame fate ∷ []) ms (holding_in v b r q t ps) (holding_in v b r q' t back_ps))
+          takes-one fate (holding_in v b d'.records d'.requests t back_ps)
+          (subst (λ (ms : List LaneMove). Doing M (peer_at old i).number (takes (peer_at old i).number None frame fate ∷ []) ms (holding_in v b r q t ps) (holding_in v b d'.records d'.requests t back_ps))
           (ap (λ (k : Bool). receiver (Took buffer.number frame) ∷ ((if k then [] else receiver (Gave buffer.number) ∷ []) ++ [])) (sym is.returned))
-          (doing-by M m-none v b r q t ps sound i x there e' both seen-both moved-both (frame_returned n buffer.number frame ∷ heard_steps is.happens) (λ k. takes k None frame fate ∷ []) (holding_in v b r q' t back_ps)
-          (heard-moves returned sound' i y' there' is.happens names q' is.heard (frame_returned n buffer.number frame)) back-after (ends-known ps i x e' names x.known) (ap (λ (z : Row). z.word) is.row_is, tt) back-state (keeps-none b) (heard-ids returned sound' i y' there' is.happens names q' is.heard)))
+          (doing-by M m-none v b r q t ps sound i x there e' both seen-both moved-both (frame_returned n buffer.number frame ∷ effect_steps n does) (λ k. takes k None frame fate ∷ []) (holding_in v b d'.records d'.requests t back_ps)
+          (effect-moves n does (frame_returned n buffer.number frame)) back-after (ends-known ps i x e' d'.names d'.replies) (ap (λ (z : Row). z.word) is.row_is, tt) back-state (keeps-none b)
+          (ap (λ (z : Desk). map (λ c. c.id) z.requests.standing) is.left ∙ effect-ids does q)))
           (Stores-returned n buffer.number frame fate b is.returned).stored told

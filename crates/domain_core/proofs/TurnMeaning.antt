@@ -1,9 +1,9 @@
 -- What the steps of a turn mean for the state: each is the changes of a deed.
 use Rattle.domain_core.proofs.Filters.{filter-every}
 use Rattle.buffer_book.specs.Book.{Book}
-use Rattle.std.proofs.Common.{◌≡◌, ℕ, zero, suc, ◌+◌, ◌-◌, ◌<◌, ◌≤◌, Bool, true, false, cond, List, [], ◌∷◌, ◌++◌, length, map, drop, take, Option, Some, refl, sym, ap, ◌∙◌, subst, arith, eq-eqb, ne_eqb}
-use Rattle.std.specs.Prelude.{filter, find, option_map, position, slice_get, slice_index, slice_set, ◌==◌}
-use Rattle.std.specs.List.{AllByRecursion, list_any}
+use Rattle.std.proofs.Common.{◌≡◌, ℕ, zero, suc, ◌+◌, ◌-◌, ◌<◌, ◌≤◌, true, false, cond, List, [], ◌∷◌, ◌++◌, length, map, drop, take, Option, Some, refl, sym, ap, ◌∙◌, arith}
+use Rattle.std.specs.Prelude.{filter, find, option_map, position, slice_get, slice_set, ◌==◌}
+use Rattle.std.specs.List.{list_any}
 use Rattle.std.proofs.lemmas.List.{drop-map, length-map, map_push}
 use Rattle.mc_base.specs.NameMap.{Names}
 use Rattle.mc_base.specs.Stored.{Stored}
@@ -44,7 +44,6 @@ use Rattle.domain_core.specs.Peers.{announcement_in, ended_in, peer_in, peers_in
 use Rattle.domain_core.specs.Steps.{at_peer, changed_peer, channel_given, channel_set, connect_settled, done, frame_handed, frame_queued, frame_returned, looked_ahead, looked_back, moved_peer, name_told, names_told, owed_put, receives_ended, reply_owed, reply_put, with_names, with_reply, with_reply_put}
 use Rattle.domain_core.specs.Verdicts.{framed_item}
 use Rattle.domain_core.specs.InPlaces.{slot_at}
-use Rattle.domain_core.specs.Sound.{AreRising}
 use Rattle.domain_core.specs.Table as held
 use Rattle.domain_core.proofs.ChangedPeers.{changed-same, set-changed}
 use Rattle.domain_core.proofs.Completing.{requests-ended, requests-found, requests-settled}

@@ -1,6 +1,6 @@
 -- The steps of a turn keep what the parts keep.
 use Rattle.std.proofs.Common.{◌≡◌, ℕ, zero, suc, ◌+◌, ◌<◌, ◌≤◌, Bool, true, false, cond, List, [], ◌∷◌, ◌++◌, length, map, take, Some, refl, sym, ap, ◌∙◌, subst, arith, eq-eqb, Option}
-use Rattle.std.specs.Prelude.{Contains, option_map, slice_get, slice_index, nat_lt, ◌==◌}
+use Rattle.std.specs.Prelude.{Contains, option_map, slice_get, nat_lt, ◌==◌}
 use Rattle.std.specs.List.{AllByRecursion}
 use Rattle.std.proofs.lemmas.List.{length-append}
 use Rattle.mc_base.specs.NameMap.{Names}

@@ -1,6 +1,6 @@
 -- The ends and the peers of two domains that are carried, found by the numbers of the domains.
 -- Source: the code that carries.
-use Rattle.std.specs.Prelude.{◌≡◌, ℕ, Bool, List, Option, Some, find, position}
+use Rattle.std.specs.Prelude.{◌≡◌, ℕ, Bool, List, Some, find, position}
 use Rattle.board_model.specs.Lists.{changed}
 use Rattle.domain_core.specs.declared.ends.Ends.{Ends}
 use Rattle.domain_core.specs.declared.ends.Ends.TheVariants.{Linked}

@@ -27,6 +27,7 @@ pub mod Parts
 pub mod Steps
 pub mod CallSteps
 pub mod Verdicts
+pub mod Accepting
 pub mod Doing
 pub mod HoldingParts
 pub mod GivingBack

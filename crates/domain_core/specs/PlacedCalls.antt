@@ -1,6 +1,6 @@
 -- What a call's success changes at once, by places. It is what the board's definitions say one change after the other (`CallsAgree`).
 -- Source: docs/PROFILE.md, "Calls".
-use Rattle.std.specs.Prelude.{ℕ, ◌+◌, ◌-◌, ◌%◌, ◌^◌, true, false, ◌==◌, List, [], ◌∷◌, ◌++◌, map, Option, None, Some, option_map, option_to_list, unwrap_or, if◌then◌else◌}
+use Rattle.std.specs.Prelude.{ℕ, ◌+◌, ◌-◌, ◌%◌, ◌^◌, true, false, ◌==◌, List, [], ◌∷◌, ◌++◌, map, Option, None, Some, option_to_list, if◌then◌else◌}
 use Rattle.mc_base.specs.Limits.{first_address}
 use Rattle.mc_base.specs.FullName.{end_name}
 use Rattle.mc_base.specs.declared.name.Local.{Local}
@@ -9,9 +9,9 @@ use Rattle.mc_base.specs.declared.channel.Side.TheVariants.{Receiver}
 use Rattle.mc_base.specs.declared.refusal.Refusal.TheVariants.{EndpInvalid}
 use Rattle.board_model.specs.DomainCall.{DomainCall, delete_at, receive_at, close_at, test_of}
 use Rattle.board_model.specs.Lists.{changed, without, with_rising}
-use Rattle.board_model.specs.State.{DomainState, Endpoint, Item, Announcement, Peer, Asked, name_of, message_at, Outcome, has_address, has_item, has_ended, Request, request_at_place, place_at, address_at, queue_at, place_of_peer, waits_at}
+use Rattle.board_model.specs.State.{DomainState, Endpoint, Item, Announcement, Peer, Asked, Outcome, has_ended, Request, request_at_place, place_at, queue_at, place_of_peer, waits_at}
 use Rattle.board_model.specs.Choice.{best, without_best}
-use Rattle.board_model.specs.Answer.{local, address_of}
+use Rattle.board_model.specs.Answer.{local}
 use Rattle.board_model.specs.CallChanges.{held_by}
 use Rattle.domain_core.specs.PlacedFrames.{with_found}
 use Rattle.domain_core.specs.PlacedVisits.{with_peers}

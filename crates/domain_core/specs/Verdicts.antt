@@ -1,69 +1,181 @@
 -- What is to be done with a frame that is taken, by the row that it has.
 -- Source: docs/PROFILE.md, "What a domain does with a taken frame".
-use Rattle.std.specs.Prelude.{◌≡◌, ℕ, ◌+◌, ◌≤◌, ◌<◌, true, false, List, [], ◌∷◌, length, take, drop, position, Option, Some, None, option_map}
+use Rattle.std.specs.Prelude.{◌≡◌, ℕ, ◌+◌, ◌≤◌, ◌<◌, Bool, true, false, List, [], ◌∷◌, ◌++◌, length, take, drop, position, slice_get, Option, Some, None, option_map}
 use Rattle.mc_base.specs.Limits.{item_size}
 use Rattle.mc_base.specs.Frame.{source_of}
-use Rattle.mc_base.specs.Letter.{PlainLetter, msg}
+use Rattle.mc_base.specs.Letter.{PlainLetter, msg, packet, scalar, connect}
 use Rattle.mc_base.specs.NameMap.{Names}
 use Rattle.mc_base.specs.Reading.{reading}
+use Rattle.mc_base.specs.declared.channel.Reason.{Reason}
 use Rattle.mc_base.specs.declared.fate.Fate.{Fate}
 use Rattle.mc_base.specs.declared.fate.Fate.TheVariants.{Queued, Handed}
+use Rattle.mc_base.specs.declared.name.EndName.{EndName}
 use Rattle.mc_base.specs.declared.name.Local.{Local}
+use Rattle.mc_base.specs.declared.refusal.Refusal.TheVariants.{ChanClosed}
 use Rattle.mc_base.specs.declared.request.RequestId.{RequestId}
-use Rattle.board_model.specs.Change.{Change, item_handed, item_queued, name_found, names_known}
+use Rattle.board_model.specs.Change.{Change, channel_set, connect_settled, item_handed, item_queued, name_found, names_known, reply_owed, waiting_ended}
 use Rattle.board_model.specs.Dealing.{keeps_buffer}
-use Rattle.board_model.specs.State.{DomainState, Endpoint, Item, endpoint_of, has_address_of, peer_at, waits_at}
-use Rattle.board_model.specs.TakenFrames.{Row, first_row, letter_rows, names_of, row, row_of}
+use Rattle.board_model.specs.State.{DomainState, Endpoint, Item, Outcome, endpoint_of, has_address_of, is_accepted, is_rejected, peer_at, waits_at}
+use Rattle.board_model.specs.TakenFrames as taken
+use Rattle.board_model.specs.TakenFrames.{Row, first_row, letter_rows, names_of, replies_to, row, row_of}
 use Rattle.buffer_book.specs.Book.{Book}
+use Rattle.packet_channel.specs.End.{end_of}
+use Rattle.packet_channel.specs.declared.channel.Channel.{Channel}
 use Rattle.request_set.specs.declared.ask.Ask.TheVariants.{Message}
+use Rattle.request_set.specs.declared.ask.Complete.{Complete}
 use Rattle.request_set.specs.declared.ask.Complete.TheVariants as complete
-use Rattle.request_set.specs.Requests.{IsPending, Requests, is_id, request_of}
+use Rattle.request_set.specs.Requests.{IsPending, Requests, is_id, oldest_waiting, request_of}
 use Rattle.domain_core.specs.declared.dealing.Verdict.{Verdict}
 use Rattle.domain_core.specs.declared.dealing.Verdict.TheVariants as verdict
+use Rattle.domain_core.specs.declared.replies.Reply.{Reply}
 use Rattle.domain_core.specs.declared.requests.Waiters.TheVariants as waiters
 use Rattle.domain_core.specs.InBook.{channel_of, endpoints_in, priority_of, requests_in}
 use Rattle.domain_core.specs.InRequests.{with_all_complete}
+use Rattle.domain_core.specs.Peers.{reply_in}
 use Rattle.domain_core.specs.PlacedFrames.{item_of}
-use Rattle.domain_core.specs.Records.{Records}
+use Rattle.domain_core.specs.Records.{Records, with_channel_at}
 
--- a state with these endpoints and requests, in which these names are known of a peer
-pub record Shows (s : DomainState) (peer : ℕ) (b : Book) (r : Records) (q : Requests) (names : Names) : Type 0 where
-  pub endpoints : s.endpoints ≡ endpoints_in b r.endpoints
-  pub requests : s.requests ≡ requests_in b q.standing
-  pub known : names_of (peer_at s peer) ≡ names
+-- what a frame that is taken may change beside its buffer: the endpoints, the requests, and the names and replies of its peer
+pub record Desk : Type 0 where
+  pub records : Records
+  pub requests : Requests
+  pub names : Names
+  pub replies : List Reply
+
+abbrev pub desk : Records → Requests → Names → List Reply → Desk
+desk r q names replies = record { records = r; requests = q; names = names; replies = replies }
+
+-- a state with these endpoints and requests, in which these names are known of a peer and as many replies are owed to it
+pub record Shows (s : DomainState) (peer : ℕ) (b : Book) (d : Desk) : Type 0 where
+  pub endpoints : s.endpoints ≡ endpoints_in b d.records.endpoints
+  pub requests : s.requests ≡ requests_in b d.requests.standing
+  pub known : names_of (peer_at s peer) ≡ d.names
+  pub owed : replies_to (peer_at s peer) ≡ length d.replies
 
 -- ---- verdicts, by the row of the frame
 
 -- an item is last in the queue at a place
 pub record IsQueued (s : DomainState) (its : Row) (item : Item) (place : ℕ) : Type 0 where
   pub destination : ℕ
-  pub row_is : its ≡ row true Queued (item_queued destination item ∷ [])
+  pub applies : Bool
+  pub row_is : its ≡ row applies Queued (item_queued destination item ∷ [])
   pub at : position (has_address_of destination) s.endpoints ≡ Some place
   pub within : place < length s.endpoints
 
 -- a pending receive, of so many bytes at most, is complete with an item
 pub record IsHanded (s : DomainState) (q : Requests) (its : Row) (item : Item) (id : RequestId) (max : ℕ) : Type 0 where
   pub destination : ℕ
-  pub row_is : its ≡ row true Handed (item_handed destination item ∷ [])
+  pub applies : Bool
+  pub row_is : its ≡ row applies Handed (item_handed destination item ∷ [])
   pub endpoint : Endpoint
   pub named : endpoint_of s destination ≡ Some endpoint
   pub waits : position (waits_at endpoint.local) s.requests ≡ position (is_id id) q.standing
   pub pending : IsPending q id
   pub asks : (at : Local) × (option_map (λ r. r.ask) (request_of q id) ≡ Some (Message at max))
 
--- names and requests after what an announcement changes
-abbrev pub IsHeard : ℕ → List Change → Names → Names → Requests → Requests → Type 0
-IsHeard peer [] names names' q q' = (names' ≡ names) × (q' ≡ q)
-IsHeard peer (names_known n ms ∷ []) names names' q q' = (n ≡ peer) × (names' ≡ ms) × (q' ≡ q)
-IsHeard peer (names_known n ms ∷ name_found name address ∷ []) names names' q q' = (n ≡ peer) × (names' ≡ ms) × (q' ≡ with_all_complete q (waiters.Lookups name) (complete.Address address))
-IsHeard peer other names names' q q' = ⊥
+-- ---- what else a frame does, whose buffer is given back
+
+pub data Effect : Type 0 where
+  nothing : Effect
+  -- these names are known of its peer from then on; and lookups of one are complete with its address
+  tells : Names → Effect
+  finds : Names → EndName → ℕ → Effect
+  -- a reply is owed to its peer; and the endpoint at a place, which has this address, has this channel
+  replies : Reply → Effect
+  accepts : ℕ → ℕ → Channel → Reply → Effect
+  -- the endpoint at a place, which has this address, has this channel or none; and connects on a channel are accepted, or rejected for a
+  -- reason; or receives at its name end
+  sets : ℕ → ℕ → Option Channel → Effect
+  settles : ℕ → ℕ → Option Channel → ℕ → Option Reason → Effect
+  ends : ℕ → ℕ → Option Channel → Local → Effect
+
+abbrev pub settled : Option Reason → Complete
+settled None = complete.Accepted
+settled (Some reason) = complete.Rejected reason
+
+abbrev pub outcome_by : Option Reason → Outcome
+outcome_by None = is_accepted
+outcome_by (Some reason) = is_rejected reason
+
+abbrev pub left_at : ℕ → Option Channel → Change
+left_at address c = channel_set address (option_map end_of c)
+
+abbrev pub effect_changes : ℕ → Effect → List Change
+effect_changes peer nothing = []
+effect_changes peer (tells names) = names_known peer names ∷ []
+effect_changes peer (finds names name address) = names_known peer names ∷ name_found name address ∷ []
+effect_changes peer (replies r) = reply_owed peer (reply_in r) ∷ []
+effect_changes peer (accepts place address c r) = left_at address (Some c) ∷ reply_owed peer (reply_in r) ∷ []
+effect_changes peer (sets place address c) = left_at address c ∷ []
+effect_changes peer (settles place address c number how) = left_at address c ∷ connect_settled number (outcome_by how) ∷ []
+effect_changes peer (ends place address c at) = waiting_ended address ChanClosed ∷ left_at address c ∷ []
+
+-- what it leaves
+abbrev pub records_left : Effect → Records → Records
+records_left (accepts place address c r) rs = with_channel_at rs place (Some c)
+records_left (sets place address c) rs = with_channel_at rs place c
+records_left (settles place address c number how) rs = with_channel_at rs place c
+records_left (ends place address c at) rs = with_channel_at rs place c
+records_left other rs = rs
+
+abbrev pub requests_left : Effect → Requests → Requests
+requests_left (finds names name address) q = with_all_complete q (waiters.Lookups name) (complete.Address address)
+requests_left (settles place address c number how) q = with_all_complete q (waiters.Connects number) (settled how)
+requests_left (ends place address c at) q = with_all_complete q (waiters.Receives at) (complete.Ended ChanClosed)
+requests_left other q = q
+
+abbrev pub names_left : Effect → Names → Names
+names_left (tells names) ns = names
+names_left (finds names name address) ns = names
+names_left other ns = ns
+
+abbrev pub replies_left : Effect → List Reply → List Reply
+replies_left (replies r) rs = rs ++ r ∷ []
+replies_left (accepts place address c r) rs = rs ++ r ∷ []
+replies_left other rs = rs
+
+abbrev pub left_by : Effect → Desk → Desk
+left_by e d = desk (records_left e d.records) (requests_left e d.requests) (names_left e d.names) (replies_left e d.replies)
+
+-- the endpoint with the address is at the place, and has this name
+abbrev pub IsThere : DomainState → ℕ → ℕ → Type 0
+IsThere s address place = position (has_address_of address) s.endpoints ≡ Some place
+
+pub record IsNamed (s : DomainState) (address : ℕ) (at : Local) : Type 0 where
+  pub endpoint : Endpoint
+  pub there : endpoint_of s address ≡ Some endpoint
+  pub named : endpoint.local ≡ at
+
+abbrev pub IsPlaced : DomainState → Effect → Type 0
+IsPlaced s (accepts place address c r) = IsThere s address place
+IsPlaced s (sets place address c) = IsThere s address place
+IsPlaced s (settles place address c number how) = IsThere s address place
+IsPlaced s (ends place address c at) = IsThere s address place × IsNamed s address at
+IsPlaced s other = Unit {0}
 
 -- the buffer is given back
-pub record IsReturned (peer : ℕ) (its : Row) (fate : Fate) (names names' : Names) (q q' : Requests) : Type 0 where
+pub record IsReturned (s : DomainState) (peer : ℕ) (its : Row) (fate : Fate) (d d' : Desk) : Type 0 where
+  pub effect : Effect
+  pub applies : Bool
+  pub row_is : its ≡ row applies fate (effect_changes peer effect)
+  pub returned : keeps_buffer fate ≡ false
+  pub placed : IsPlaced s effect
+  pub left : d' ≡ left_by effect d
+
+-- ---- announcements
+
+-- names and requests after what an announcement changes
+abbrev pub Changes : ℕ → List Change → Names → Names → Requests → Requests → Type 0
+Changes peer [] names names' q q' = (names' ≡ names) × (q' ≡ q)
+Changes peer (names_known n ms ∷ []) names names' q q' = (n ≡ peer) × (names' ≡ ms) × (q' ≡ q)
+Changes peer (names_known n ms ∷ name_found name address ∷ []) names names' q q' = (n ≡ peer) × (names' ≡ ms) × (q' ≡ with_all_complete q (waiters.Lookups name) (complete.Address address))
+Changes peer other names names' q q' = ⊥
+
+pub record IsHeard (peer : ℕ) (its : Row) (fate : Fate) (names names' : Names) (q q' : Requests) : Type 0 where
   pub happens : List Change
   pub row_is : its ≡ row true fate happens
   pub returned : keeps_buffer fate ≡ false
-  pub heard : IsHeard peer happens names names' q q'
+  pub changes : Changes peer happens names names' q q'
 
 -- ---- letters
 
@@ -74,32 +186,63 @@ item_with peer source priority channel content = record { peer = peer; source = 
 abbrev pub framed_item : ℕ → List ℕ → ℕ → Item
 framed_item peer frame size = item_with peer (source_of frame) (priority_of frame) (channel_of frame) (take size (drop 24 frame))
 
--- the content of a message has its most bytes at most
+-- letters that bring an item, which has its most bytes at most
+abbrev pub IsItem : PlainLetter → Type 0
+IsItem (msg priority content) = Unit {0}
+IsItem (packet number content) = Unit {0}
+IsItem (scalar number bits value) = Unit {0}
+IsItem other = ⊥
+
 abbrev pub IsShort : PlainLetter → Type 0
 IsShort (msg priority content) = length content ≤ item_size
+IsShort (packet number content) = length content ≤ item_size
+IsShort (connect number kind) = 0 < number
 IsShort other = Unit {0}
 
 -- the row of a letter from a peer, and the verdict on it
 abbrev pub letter_row : DomainState → ℕ → ℕ → ℕ → PlainLetter → Row
 letter_row s peer source destination l = first_row (letter_rows s peer None source destination (endpoint_of s destination) l)
 
-abbrev pub IsJudged : DomainState → ℕ → ℕ → ℕ → Requests → PlainLetter → Verdict → Type 0
-IsJudged s peer source destination q l (verdict.Queued place priority size) = (content : List ℕ) × (l ≡ msg priority content) × (size ≡ length content) × IsQueued s (letter_row s peer source destination l) (item_with peer source priority None content) place
-IsJudged s peer source destination q l (verdict.Handed id max size) = (priority : ℕ) × (content : List ℕ) × (l ≡ msg priority content) × (size ≡ length content) × IsHanded s q (letter_row s peer source destination l) (item_with peer source priority None content) id max
-IsJudged s peer source destination q l (verdict.Returned fate) = (letter_row s peer source destination l ≡ row true fate []) × (keeps_buffer fate ≡ false)
+abbrev pub IsJudged : DomainState → ℕ → ℕ → ℕ → PlainLetter → Verdict → Desk → Desk → Type 0
+IsJudged s peer source destination l (verdict.Queued place priority size) d d' =
+    IsItem l × (size ≡ length (taken.item_of peer None source l).content) × (priority ≡ (taken.item_of peer None source l).priority) × IsQueued s (letter_row s peer source destination l) (taken.item_of peer None source l) place × (d' ≡ d)
+IsJudged s peer source destination l (verdict.Handed id max size) d d' =
+    IsItem l × (size ≡ length (taken.item_of peer None source l).content) × IsHanded s d.requests (letter_row s peer source destination l) (taken.item_of peer None source l) id max × (d' ≡ d)
+IsJudged s peer source destination l (verdict.Returned fate) d d' = IsReturned s peer (letter_row s peer source destination l) fate d d'
+
+-- an item of this size comes to the endpoint at a place: the oldest receive that waits there gets it, or the queue
+abbrev pub local_of : Records → ℕ → Option Local
+local_of r place = option_map (λ e. e.local) (slice_get r.endpoints place)
+
+pub record Waits (q : Requests) (local : Option Local) (id : RequestId) (max : ℕ) : Type 0 where
+  pub at : Local
+  pub there : local ≡ Some at
+  pub oldest : Some id ≡ oldest_waiting q at
+  pub pending : IsPending q id
+  pub asks : (l : Local) × (option_map (λ r. r.ask) (request_of q id) ≡ Some (Message l max))
+
+pub record NoneWaits (q : Requests) (local : Option Local) : Type 0 where
+  pub at : Local
+  pub there : local ≡ Some at
+  pub none : None ≡ oldest_waiting q at
+
+abbrev pub Brings : Records → Requests → ℕ → ℕ → ℕ → Verdict → Type 0
+Brings r q place priority size (verdict.Queued i p n) = (i ≡ place) × (p ≡ priority) × (n ≡ size) × NoneWaits q (local_of r place)
+Brings r q place priority size (verdict.Handed id max n) = (n ≡ size) × Waits q (local_of r place) id max
+Brings r q place priority size (verdict.Returned fate) = ⊥
 
 -- ---- frames
 
--- the message of a frame has this size and lies within it
+-- the item of a frame has this size and lies within it
 pub record Fits (frame : List ℕ) (size : ℕ) : Type 0 where
   pub short : size ≤ item_size
   pub inside : 24 + size ≤ length frame
   pub whole : (peer : ℕ) → framed_item peer frame size ≡ item_of peer frame
 
-abbrev pub IsVerdict : DomainState → ℕ → Names → Names → Requests → Requests → List ℕ → Verdict → Type 0
-IsVerdict s peer names names' q q' frame (verdict.Queued place priority size) = IsQueued s (row_of s peer None (reading frame)) (framed_item peer frame size) place × Fits frame size × (priority_of frame ≡ priority) × (names' ≡ names) × (q' ≡ q)
-IsVerdict s peer names names' q q' frame (verdict.Handed id max size) = IsHanded s q (row_of s peer None (reading frame)) (framed_item peer frame size) id max × Fits frame size × (names' ≡ names) × (q' ≡ q)
-IsVerdict s peer names names' q q' frame (verdict.Returned fate) = IsReturned peer (row_of s peer None (reading frame)) fate names names' q q'
+abbrev pub IsVerdict : DomainState → ℕ → List ℕ → Verdict → Desk → Desk → Type 0
+IsVerdict s peer frame (verdict.Queued place priority size) d d' = IsQueued s (row_of s peer None (reading frame)) (framed_item peer frame size) place × Fits frame size × (priority_of frame ≡ priority) × (d' ≡ d)
+IsVerdict s peer frame (verdict.Handed id max size) d d' = IsHanded s d.requests (row_of s peer None (reading frame)) (framed_item peer frame size) id max × Fits frame size × (d' ≡ d)
+IsVerdict s peer frame (verdict.Returned fate) d d' = IsReturned s peer (row_of s peer None (reading frame)) fate d d'
 
 abbrev pub fate_of : Verdict → Fate
 fate_of (verdict.Queued place priority size) = Queued

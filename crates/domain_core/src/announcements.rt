@@ -4,7 +4,7 @@ ghost use Rattle.std.specs.Prelude.{◌≡◌};
 ghost use Rattle.mc_base.specs.FullName.{endpoint_named};
 ghost use Rattle.board_model.specs.TakenFrames.{first_row, name_rows};
 ghost use Rattle.domain_core.specs.InRequests.{AreReceives};
-ghost use Rattle.domain_core.specs.Verdicts.{IsReturned};
+ghost use Rattle.domain_core.specs.Verdicts.{IsHeard};
 
 use crate::requests::{Waiters, complete_all};
 use mc_base::{Fate, Full, Ns};
@@ -18,7 +18,7 @@ use request_set::{Complete, RequestSet};
 /// that is gone was not known.
 pub fn hear(known: &mut KnownNames, requests: &mut RequestSet, peer: u8, ns: &Ns) -> Fate
     requires { AreReceives requests.old }
-    ensures { IsReturned peer (first_row (name_rows peer known.old (endpoint_named ns.now.name.items) ns.now.addr ns.now.create)) result known.old known.new requests.old requests.new }
+    ensures { IsHeard peer (first_row (name_rows peer known.old (endpoint_named ns.now.name.items) ns.now.addr ns.now.create)) result known.old known.new requests.old requests.new }
 {
     let Some(name) = endpoint_named(ns.name.as_slice()) else {
         return Fate::ForeignName;

@@ -1,16 +1,22 @@
 //! What becomes of a frame that is taken.
 
-ghost use Rattle.std.specs.Prelude.{◌≡◌, ℕ, map};
+ghost use Rattle.std.specs.Prelude.{◌≡◌, ◌<◌, length};
 ghost use Rattle.mc_base.specs.Letter.{plain_letter};
 ghost use Rattle.mc_base.specs.NameMap.{Names};
 ghost use Rattle.buffer_book.specs.Book.{Book};
 ghost use Rattle.board_model.specs.State.{DomainState};
 ghost use Rattle.domain_core.specs.InRequests.{AreReceives};
-ghost use Rattle.domain_core.specs.Verdicts.{IsJudged, IsShort, IsVerdict, Shows, fate_of};
+ghost use Rattle.domain_core.specs.Verdicts.{Brings, IsJudged, IsShort, IsVerdict, Shows, desk, fate_of};
+
+mod connects;
+mod letters;
 
 use crate::announcements::hear;
+use crate::dealing::connects::answer_connect;
+use crate::dealing::letters::act;
 use crate::endpoints::Endpoints;
 use crate::fates::fault_fate;
+use crate::replies::Replies;
 use crate::requests::oldest_receive;
 use mc_base::{Fate, Letter, Priority, RequestId};
 use name_service::{KnownNames, Said, read_frame};
@@ -19,13 +25,13 @@ use request_set::RequestSet;
 /// What is to be done with a frame.
 #[derive(Clone, Copy)]
 pub enum Verdict {
-    /// Its message is last in the queue of the endpoint at a place.
+    /// Its item is last in the queue of the endpoint at a place.
     Queued {
         place: usize,
         priority: Priority,
         size: u32,
     },
-    /// The pending receive of this id, which asks for so many bytes at most, is complete with its message.
+    /// The pending receive of this id, which asks for so many bytes at most, is complete with its item.
     Handed {
         id: RequestId,
         max: u32,
@@ -48,38 +54,80 @@ impl Verdict {
     }
 }
 
+/// Where a letter comes from, and where it goes.
+#[derive(Clone, Copy)]
+pub struct Way {
+    peer: u8,
+    source: u32,
+    destination: u32,
+}
+
 /// Deals with a frame from a peer, which may have any bytes, and returns what is to be done with its buffer. `known` are the
-/// names that are known of this peer; only announcements change them, and the requests that look them up.
+/// names that are known of this peer, and `replies` those that are owed to it.
 pub fn deal(
-    endpoints: &Endpoints,
+    endpoints: &mut Endpoints,
     requests: &mut RequestSet,
     known: &mut KnownNames,
+    replies: &mut Replies,
     peer: u8,
     frame: &[u8],
 ) -> Verdict
     requires { AreReceives requests.old }
-    ensures { (b : Book) (s : DomainState) → Shows s peer b endpoints.now requests.old known.old → IsVerdict s peer known.old known.new requests.old requests.new frame.now result }
+    ensures { (b : Book) (s : DomainState) → Shows s peer b (desk endpoints.old requests.old known.old replies.old) → IsVerdict s peer frame.now result (desk endpoints.old requests.old known.old replies.old) (desk endpoints.new requests.new known.new replies.new) }
 {
     match read_frame(frame) {
         Said::Faulty(fault) => Verdict::Returned(fault_fate(fault)),
         Said::Announces(ns) => Verdict::Returned(hear(known, requests, peer, &ns)),
-        Said::Sends { dst, letter, .. } => judge(endpoints, requests, dst, &letter),
+        Said::Sends { src, dst, letter } => {
+            let way = Way {
+                peer,
+                source: src,
+                destination: dst,
+            };
+            judge(endpoints, requests, replies, way, &letter)
+        }
     }
 }
 
-/// The verdict on a letter to an address.
-fn judge(endpoints: &Endpoints, requests: &RequestSet, dst: u32, letter: &Letter<'_>) -> Verdict
-    requires receives { AreReceives requests.now }
+/// The verdict on a letter.
+fn judge(
+    endpoints: &mut Endpoints,
+    requests: &mut RequestSet,
+    replies: &mut Replies,
+    way: Way,
+    letter: &Letter<'_>,
+) -> Verdict
+    requires receives { AreReceives requests.old }
     requires short { IsShort (plain_letter letter.now) }
-    ensures { (b : Book) (s : DomainState) (peer source : ℕ) (names : Names) → Shows s peer b endpoints.now requests.now names → IsJudged s peer source dst requests.now (plain_letter letter.now) result }
+    ensures { (b : Book) (s : DomainState) (names : Names) → Shows s way.peer b (desk endpoints.old requests.old names replies.old) → IsJudged s way.peer way.source way.destination (plain_letter letter.now) result (desk endpoints.old requests.old names replies.old) (desk endpoints.new requests.new names replies.new) }
 {
-    let Some(place) = endpoints.place_of_address(dst) else {
+    if let Letter::Connect { channel, kind } = *letter {
+        return Verdict::Returned(answer_connect(endpoints, requests, replies, way, channel, kind));
+    }
+    let Some(place) = endpoints.place_of_address(way.destination) else {
         return Verdict::Returned(Fate::NoEndpoint);
     };
     let Letter::Msg { priority, bytes } = *letter else {
-        return Verdict::Returned(Fate::State);
+        return act(endpoints, requests, way.peer, place, letter);
     };
-    let size = bytes.len() as u32;
+    if endpoints.has_channel(place) {
+        return Verdict::Returned(Fate::OnChannel);
+    }
+    bring(endpoints, requests, place, priority, bytes.len() as u32)
+}
+
+/// Brings an item to the endpoint at a place: to the oldest receive that waits there, or to the queue.
+pub(crate) fn bring(
+    endpoints: &Endpoints,
+    requests: &RequestSet,
+    place: usize,
+    priority: Priority,
+    size: u32,
+) -> Verdict
+    requires receives { AreReceives requests.now }
+    requires within { place < length endpoints.now.endpoints }
+    ensures { Brings endpoints.now requests.now place priority size result }
+{
     match oldest_receive(requests, endpoints.local_at(place)) {
         Some((id, max)) => Verdict::Handed { id, max, size },
         None => Verdict::Queued {

@@ -46,9 +46,10 @@ impl<P: PeerLane> Holdings<P> {
         let (buffer, len) = peer.ends.take();
         let (frame, _) = buffer.bytes().split_at(len as usize);
         let verdict = deal(
-            &self.endpoints,
+            &mut self.endpoints,
             &mut self.requests,
             &mut peer.known,
+            &mut peer.replies,
             number,
             frame,
         );

@@ -7,5 +7,5 @@ returns-else-forget c = record {
   happens = [];
   row_is = search (rules, tests);
   returned = refl;
-  heard = (c.forget.ensures.forgotten ∙ none-forgotten c.in-Some.name c.args.known.now (sym c.forget.ensures.known ∙ c.if-forget.false), refl);
+  changes = (c.forget.ensures.forgotten ∙ none-forgotten c.in-Some.name c.args.known.now (sym c.forget.ensures.known ∙ c.if-forget.false), refl);
 }

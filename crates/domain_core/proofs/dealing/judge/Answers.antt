@@ -1,41 +1,63 @@
-use Rattle.std.proofs.Common.{◌∙◌, ap, arith, length, refl, sym, ◌≤◌}
-use Rattle.mc_base.specs.Letter.{plain_letter}
-use Rattle.std.specs.Prelude.{option_map}
-use Rattle.domain_core.proofs.Judging.{judged-handed, judged-nobody, judged-other, judged-queued, one-there}
+use Rattle.std.proofs.Common.{◌∙◌, ap, refl, sym, subst, true}
+use Rattle.mc_base.specs.Letter.{msg, plain_letter}
+use Rattle.board_model.specs.TakenFrames.{message_item}
+use Rattle.std.specs.Prelude.{None}
+use Rattle.domain_core.specs.Verdicts.{IsJudged, desk, letter_row, nothing}
+use Rattle.domain_core.proofs.Acting.{acted-judged, nobody-row, of-channel}
+use Rattle.domain_core.proofs.Judging.{brought-judged, has-read, message-row, no-channel, nobody-there, on-channel, one-there, some-channel}
 use Rattle.domain_core.proofs.Readings.{none-from}
 use Rattle.domain_core.proofs.dealing.judge.Goals as goal
 
-pub returns-in_default : goal.returns-in_default
-returns-in_default c = λ b s peer source names shows.
-    (judged-nobody b c.args.endpoints.now c.args.requests.now s peer source names shows c.args.dst (plain_letter c.args.letter.now) (sym (none-from c.place_of_address.result c.in_default.not-Some) ∙ c.place_of_address.ensures.place b), refl)
+pub returns-in_default-place_of_address : goal.returns-in_default-place_of_address
+returns-in_default-place_of_address c = λ b s names shows.
+    let way = c.args.way in
+    let d = desk c.args.endpoints.now c.args.requests.now names c.args.replies.now in
+    let none = sym (none-from c.place_of_address.result c.in_default-place_of_address.not-Some) ∙ c.place_of_address.ensures.place b in
+    record {
+      effect = nothing;
+      applies = true;
+      row_is = nobody-row c.args.letter.now c.in_default.not-Connect s way.peer way.source way.destination (nobody-there b d s way.peer shows way.destination none);
+      returned = refl;
+      placed = tt;
+      left = refl;
+    }
 
 pub returns-in_default-letter : goal.returns-in_default-letter
-returns-in_default-letter c = λ b s peer source names shows.
-    let r = c.args.endpoints.now in
-    let there = one-there r.endpoints c.in-Some.place c.in-Some.ensures.within in
-    (judged-other b r c.args.requests.now s peer source names shows c.args.dst c.in-Some.place there.0.local (c.in-Some.ensures.place b) (sym (ap (option_map (λ e. e.local)) there.1)) c.args.letter.now c.in_default-letter.not-Msg, refl)
+returns-in_default-letter c = λ b s names shows.
+    let way = c.args.way in
+    let d = desk c.args.endpoints.now c.args.requests.now names c.args.replies.now in
+    let at = c.in-Some.place in
+    let one = one-there c.args.endpoints.now.endpoints at c.in-Some.ensures.within in
+    let of = of-channel c.args.letter.now c.in_default-letter.not-Msg c.in_default.not-Connect in
+    acted-judged b d s way.peer shows way.source way.destination at one.0 (c.in-Some.ensures.place b) one.1 (plain_letter c.args.letter.now) of c.requires.receives c.act.new.endpoints c.act.new.requests c.act.result c.act.ensures
 
-pub overflow_cast-size : goal.overflow_cast-size
-overflow_cast-size c =
-    let short : length c.in-Msg.bytes.now ≤ 488 = rw c.in-Msg.is at c.requires.short in
-    omega (arith, short)
+pub returns-then-has_channel : goal.returns-then-has_channel
+returns-then-has_channel c = λ b s names shows.
+    let way = c.args.way in
+    let d = desk c.args.endpoints.now c.args.requests.now names c.args.replies.now in
+    let at = c.in-Some.place in
+    let one = one-there c.args.endpoints.now.endpoints at c.in-Some.ensures.within in
+    let some = some-channel one.0.channel (has-read c.args.endpoints.now.endpoints at one.0 one.1 c.has_channel.result c.has_channel.ensures ∙ c.if-has_channel.true) in
+    record {
+      effect = nothing;
+      applies = true;
+      row_is =
+          ap (λ l. letter_row s way.peer way.source way.destination l) (ap plain_letter c.in-Msg.is)
+          ∙ on-channel b d s way.peer shows way.destination at one.0 (c.in-Some.ensures.place b) one.1 way.source c.in-Msg.priority c.in-Msg.bytes.now some.0 some.1;
+      returned = refl;
+      placed = tt;
+      left = refl;
+    }
 
-pub returns-in-Some-oldest_receive : goal.returns-in-Some-oldest_receive
-returns-in-Some-oldest_receive c = λ b s peer source names shows.
-    let e = c.in-Some-oldest_receive.ensures in
-    let l = ap plain_letter c.in-Msg.is in (
-      c.in-Msg.priority,
-      c.in-Msg.bytes.now,
-      l,
-      refl,
-      judged-handed b c.args.endpoints.now c.args.requests.now s peer source names shows c.args.dst c.in-Some.place c.local_at.result (c.in-Some.ensures.place b) c.local_at.ensures (plain_letter c.args.letter.now) c.in-Msg.priority c.in-Msg.bytes.now l c.in-Some-oldest_receive.id c.in-Some-oldest_receive.max c.requires.receives e.pending e.oldest e.asks,
-    )
-
-pub returns-in-None : goal.returns-in-None
-returns-in-None c = λ b s peer source names shows.
-    let l = ap plain_letter c.in-Msg.is in (
-      c.in-Msg.bytes.now,
-      l,
-      refl,
-      judged-queued b c.args.endpoints.now c.args.requests.now s peer source names shows c.args.dst c.in-Some.place c.local_at.result (c.in-Some.ensures.place b) c.local_at.ensures (plain_letter c.args.letter.now) c.in-Msg.priority c.in-Msg.bytes.now l c.in-None.ensures.oldest,
-    )
+pub returns : goal.returns
+returns c = λ b s names shows.
+    let way = c.args.way in
+    let d = desk c.args.endpoints.now c.args.requests.now names c.args.replies.now in
+    let at = c.in-Some.place in
+    let one = one-there c.args.endpoints.now.endpoints at c.in-Some.ensures.within in
+    let l = msg c.in-Msg.priority c.in-Msg.bytes.now in
+    let item = message_item way.peer None way.source c.in-Msg.priority c.in-Msg.bytes.now in
+    let none = no-channel one.0.channel (has-read c.args.endpoints.now.endpoints at one.0 one.1 c.has_channel.result c.has_channel.ensures ∙ c.if-has_channel.false) in
+    let row = message-row b d s way.peer shows way.destination at one.0 (c.in-Some.ensures.place b) one.1 way.source c.in-Msg.priority c.in-Msg.bytes.now none in
+    subst (λ m. IsJudged s way.peer way.source way.destination m c.bring.result d d) (sym (ap plain_letter c.in-Msg.is))
+    (brought-judged b d s way.peer shows way.destination at one.0 (c.in-Some.ensures.place b) one.1 (letter_row s way.peer way.source way.destination l) item row way.source l refl refl tt c.requires.receives c.in-Msg.priority _ refl refl c.bring.result c.bring.ensures)

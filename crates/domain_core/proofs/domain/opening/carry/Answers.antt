@@ -1,4 +1,4 @@
-use Rattle.std.proofs.Common.{◌≡◌, subst, sym}
+use Rattle.std.proofs.Common.{subst, sym}
 use Rattle.lane_end.specs.PlainSender.{Sender}
 use Rattle.lane_end.specs.PlainReceiver.{Receiver}
 use Rattle.lane_end.specs.PlainLane.{AreOneLane, shuttled_sender}

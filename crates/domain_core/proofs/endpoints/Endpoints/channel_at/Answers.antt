@@ -1,4 +1,4 @@
-use Rattle.std.proofs.Common.{List, ap, arith, length, ◌<◌}
+use Rattle.std.proofs.Common.{ap, arith, length, ◌<◌}
 use Rattle.domain_core.specs.declared.endpoints.Endpoint.{Endpoint}
 use Rattle.domain_core.specs.InTable.{IsKept}
 use Rattle.domain_core.specs.Records.{Records}

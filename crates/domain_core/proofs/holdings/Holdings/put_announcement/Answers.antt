@@ -3,7 +3,7 @@ use Rattle.std.specs.Prelude.{option_map, slice_get, slice_set}
 use Rattle.lane_end.specs.SendMoves.{Sent}
 use Rattle.board_model.specs.Deeds.{puts_owed}
 use Rattle.board_model.specs.Journal.{Line, put_line}
-use Rattle.endpoint_table.specs.Table.{Table, announcement_of, owed_to, owing_to, paid_to}
+use Rattle.endpoint_table.specs.Table.{Table, announcement_of, owed_to, owing_to}
 use Rattle.board_model.specs.State as state
 use Rattle.domain_core.specs.declared.peer.Peer.{Peer}
 use Rattle.domain_core.specs.declared.holdings.Holdings.TheInside.{Inside}

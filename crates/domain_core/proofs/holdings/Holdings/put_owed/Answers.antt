@@ -1,4 +1,4 @@
-use Rattle.std.proofs.Common.{◌≡◌, ◌+◌, ◌-◌, ◌∙◌, ◌++◌, ◌∷◌, [], ℕ, List, length, drop, map, min, rules, refl, subst, sym, ap, arith}
+use Rattle.std.proofs.Common.{◌≡◌, ◌+◌, ◌-◌, ◌∙◌, ◌++◌, ◌∷◌, [], ℕ, List, length, map, min, rules, refl, subst, sym, ap, arith}
 use Rattle.std.specs.Prelude.{◌==◌, not, ◌||◌}
 use Rattle.std.proofs.lemmas.List.{length_push}
 use Rattle.board_model.specs.Deeds.{puts_owed}
@@ -9,7 +9,7 @@ use Rattle.domain_core.specs.LaneSeen.{LaneSeen}
 use Rattle.domain_core.specs.Parts.{Holding, peer_at}
 use Rattle.domain_core.specs.VisitMoves.{putting}
 use Rattle.domain_core.proofs.Owing.{Puts-more, all-due, eight-due, free-put, puts-none, some-put}
-use Rattle.domain_core.proofs.Turning.{did-numbers, doing-ends, same-length, same-number}
+use Rattle.domain_core.proofs.Turning.{did-numbers, doing-ends, same-length}
 use Rattle.domain_core.proofs.holdings.Holdings.put_owed.Goals as goal
 
 pub loop-init : goal.loop-init

@@ -1,0 +1,75 @@
+//! Connects that are answered.
+
+ghost use Rattle.std.specs.Prelude.{◌≡◌, ◌<◌, Some, length};
+ghost use Rattle.mc_base.specs.NameMap.{Names};
+ghost use Rattle.buffer_book.specs.Book.{Book};
+ghost use Rattle.board_model.specs.State.{DomainState, endpoint_of};
+ghost use Rattle.board_model.specs.TakenFrames.{connect_rows, first_row};
+ghost use Rattle.domain_core.specs.Accepting.{Accepts, busy_at};
+ghost use Rattle.domain_core.specs.Verdicts.{IsReturned, Shows, desk};
+
+use crate::dealing::Way;
+use crate::endpoints::Endpoints;
+use crate::replies::{Replies, Reply};
+use mc_base::{Fate, Kind, Reason};
+use packet_channel::Channel;
+use request_set::RequestSet;
+
+/// Owes the answer to a Connect, and returns the word for it. Nothing is owed where 64 replies to its peer are.
+pub fn answer_connect(
+    endpoints: &mut Endpoints,
+    requests: &RequestSet,
+    replies: &mut Replies,
+    way: Way,
+    channel: u32,
+    kind: Kind,
+) -> Fate
+    requires numbered { 0 < channel }
+    ensures { (b : Book) (s : DomainState) (names : Names) → Shows s way.peer b (desk endpoints.old requests.now names replies.old) → IsReturned s way.peer (first_row (connect_rows s way.peer way.source way.destination (endpoint_of s way.destination) channel kind)) result (desk endpoints.old requests.now names replies.old) (desk endpoints.new requests.now names replies.new) }
+{
+    if replies.is_full() {
+        return Fate::RepliesFull;
+    }
+    let reason = match endpoints.place_of_address(way.destination) {
+        None => Some(Reason::NoEndpoint),
+        Some(place) => {
+            let end = Channel::accepted(way.peer, channel, kind, way.peer, way.source);
+            accept(endpoints, requests, place, end)
+        }
+    };
+    replies.push(Reply {
+        source: way.destination,
+        destination: way.source,
+        channel,
+        reason,
+    });
+    Fate::Owed
+}
+
+/// Lets the endpoint at a place have a channel, or returns why not.
+fn accept(
+    endpoints: &mut Endpoints,
+    requests: &RequestSet,
+    place: usize,
+    end: Channel,
+) -> Option<Reason>
+    requires within { place < length endpoints.old.endpoints }
+    ensures { Accepts endpoints.old requests.now place end result endpoints.new }
+{
+    if endpoints.has_channel(place) {
+        return Some(Reason::Connected);
+    }
+    if is_busy(endpoints, requests, place) {
+        return Some(Reason::Busy);
+    }
+    endpoints.set_channel(place, end);
+    None
+}
+
+/// Whether an item or a receive waits at the endpoint at a place.
+fn is_busy(endpoints: &Endpoints, requests: &RequestSet, place: usize) -> bool
+    requires within { place < length endpoints.now.endpoints }
+    ensures { Some result ≡ busy_at endpoints.now requests.now place }
+{
+    endpoints.queued_at(place) != 0 || requests.waiting(endpoints.local_at(place)).is_some()
+}
