@@ -26,3 +26,8 @@ next_journal (d ∷ ds) (k ∷ js) (suc i) n m j same within is read =
 pub journals-more : (ds : List DomainLine) (js : List Written) (i n m : ℕ) (j : Written) → length js ≡ length ds → i < length (map (λ d. d.domain) ds) → n ≡ get_or (map (λ d. d.domain) ds) i m → j ≡ get_or js i j
     → journals_text (take (i + 1) ds) (lines_in (take (i + 1) js)) ≡ journals_text (take i ds) (lines_in (take i js)) ++ (line_of (codes "journal" ∷ decimal n ∷ []) ++ lines_text j.lines)
 journals-more ds js i n m j same within is read = ap (λ k. journals_text (take k ds) (lines_in (take k js))) (add-one i) ∙ next_journal ds js i n m j same within is read
+
+-- ---- the line of a channel, piece by piece
+
+pub channel-line : (owner number words : List ℕ) → (codes "channel " ++ (owner ++ 32 ∷ (number ++ 32 ∷ words))) ++ 10 ∷ [] ≡ codes "channel " ++ (owner ++ (codes " " ++ (number ++ (codes " " ++ (words ++ 10 ∷ [])))))
+channel-line owner number words = simp append_assoc

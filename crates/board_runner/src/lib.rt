@@ -27,8 +27,8 @@ mod tally;
 mod threads;
 mod wires;
 
-pub use board_model::{LanePlaces, Totals};
+pub use board_model::{ChannelTotals, LanePlaces, Totals};
 pub use gate::{Gate, NoGate};
-pub use outcome::{ChannelTotals, Outcome};
+pub use outcome::Outcome;
 pub use report::write_report;
 pub use serial::run_serial;

@@ -1,16 +1,8 @@
 //! What a run leaves.
 
-use board_model::{LanePlaces, Seq, Totals};
+use board_model::{ChannelTotals, LanePlaces, Seq, Totals};
 use domain_core::Journal;
 use split_ring::Closed;
-
-/// What became of the items of a channel, which the domain `owner` numbered.
-#[derive(Clone, Copy, Debug, PartialEq, Eq)]
-pub struct ChannelTotals {
-    pub owner: u8,
-    pub number: u32,
-    pub totals: Totals,
-}
 
 /// What a run left: the journal of each domain in rising number, the rings, of which a serial run closes none, where the buffers of
 /// each lane are, what became of the items of each channel, of which there are none yet, and what became of the messages. All

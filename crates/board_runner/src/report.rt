@@ -7,18 +7,18 @@ ghost use Rattle.outer_io.specs.Writes.{Writes};
 ghost use Rattle.outer_io.specs.Puts.{Puts};
 ghost use Rattle.board_model.specs.Scenario.{rising};
 ghost use Rattle.board_model.specs.Grammar.{line_of};
-ghost use Rattle.board_model.specs.Report.{report_of, serial, journals_text, lines_text, messages_text, places_text};
+ghost use Rattle.board_model.specs.Report.{report_of, serial, journals_text, lines_text, totals_words, channel_text, messages_text, places_text};
 ghost use Rattle.board_runner.specs.Outcome.{lines_in};
 ghost use Rattle.board_runner.specs.Told.{IsToldByText};
 
 use crate::Outcome;
 use crate::board::rising_numbers;
-use board_model::{LanePlaces, Scenario, Totals};
+use board_model::{ChannelTotals, LanePlaces, Scenario, Totals};
 use mc_journal::{Journal, put_entries};
 use outer_io::{Failed, Sink, Writer};
 use scenario_lang::put_scenario;
 
-/// Writes the report: the scenario, the journal of each domain, and what became of messages and buffers. It goes to the
+/// Writes the report: the scenario, the journal of each domain, and what became of the items of channels, of messages and of buffers. It goes to the
 /// sink piece by piece and takes no memory. Some text tells the scenario, of whatever length, and the outcome has one journal
 /// for each of its domains, in rising number.
 /// `Failed` comes where a write failed; a proper prefix of the report was written then.
@@ -29,9 +29,9 @@ pub fn write_report<K: Sink>(
 ) -> Result<(), Failed>
     requires told { IsToldByText scenario.now }
     requires one_each { length outcome.now.journals ≡ length scenario.now.domains }
-    ensures bytes { Writes (K.written sink.old) (K.written sink.new) result (report_of serial scenario.now (lines_in outcome.now.journals) [] outcome.now.messages outcome.now.places []) }
+    ensures bytes { Writes (K.written sink.old) (K.written sink.new) result (report_of serial scenario.now (lines_in outcome.now.journals) outcome.now.channels outcome.now.messages outcome.now.places []) }
     ensures cause { HasCause (K.faults sink.old) (K.faults sink.new) result }
-    ensures room { (n : ℕ) → K.takes sink.old n → length (report_of serial scenario.now (lines_in outcome.now.journals) [] outcome.now.messages outcome.now.places []) ≤ n → IsOk result }
+    ensures room { (n : ℕ) → K.takes sink.old n → length (report_of serial scenario.now (lines_in outcome.now.journals) outcome.now.channels outcome.now.messages outcome.now.places []) ≤ n → IsOk result }
 {
     let mut out = Writer::new(sink);
     put_report(&mut out, scenario, outcome);
@@ -41,11 +41,12 @@ pub fn write_report<K: Sink>(
 fn put_report<K: Sink>(out: &mut Writer<'_, K>, scenario: &Scenario, outcome: &Outcome)
     requires told { IsToldByText scenario.now }
     requires one_each { length outcome.now.journals ≡ length scenario.now.domains }
-    ensures { Puts K.Sink out.old out.new (report_of serial scenario.now (lines_in outcome.now.journals) [] outcome.now.messages outcome.now.places []) }
+    ensures { Puts K.Sink out.old out.new (report_of serial scenario.now (lines_in outcome.now.journals) outcome.now.channels outcome.now.messages outcome.now.places []) }
 {
     out.put(b"mcapi-report 1 serial\n");
     put_scenario(out, scenario);
     put_journals(out, scenario, outcome.journals.as_slice());
+    put_channels(out, outcome.channels.as_slice());
     put_messages(out, &outcome.messages);
     put_lanes(out, outcome.places.as_slice());
     out.put(b"end\n");
@@ -73,10 +74,37 @@ fn put_journal<K: Sink>(out: &mut Writer<'_, K>, domain: u8, journal: &Journal)
     put_entries(out, journal);
 }
 
+fn put_channels<K: Sink>(out: &mut Writer<'_, K>, channels: &[ChannelTotals])
+    ensures { Puts K.Sink out.old out.new (flat_map channel_text channels.now) }
+{
+    for channel in channels {
+        put_channel(out, channel);
+    }
+}
+
+fn put_channel<K: Sink>(out: &mut Writer<'_, K>, channel: &ChannelTotals)
+    ensures { Puts K.Sink out.old out.new (channel_text channel.now) }
+{
+    out.put(b"channel ");
+    out.put_number(channel.owner as u64);
+    out.put(b" ");
+    out.put_number(channel.number as u64);
+    out.put(b" ");
+    put_totals(out, &channel.totals);
+}
+
 fn put_messages<K: Sink>(out: &mut Writer<'_, K>, totals: &Totals)
     ensures { Puts K.Sink out.old out.new (messages_text totals.now) }
 {
-    out.put(b"messages accepted ");
+    out.put(b"messages ");
+    put_totals(out, totals);
+}
+
+/// Puts what became of items or messages, and a newline.
+fn put_totals<K: Sink>(out: &mut Writer<'_, K>, totals: &Totals)
+    ensures { Puts K.Sink out.old out.new (line_of (totals_words totals.now)) }
+{
+    out.put(b"accepted ");
     out.put_number(totals.accepted);
     out.put(b" taken ");
     out.put_number(totals.taken);
