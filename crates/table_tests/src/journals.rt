@@ -94,10 +94,14 @@ fn tries_after_one_idle_turn_are_joined(rt: HostRuntime) -> Result<(), Fail> {
     assert_shown(&rt, rt.alloc(), &journal, &JOINED_TRIES)
 }
 
-const ANSWERS: [Answer<'static>; 9] = [
+const ANSWERS: [Answer<'static>; 10] = [
     Answer::Refused(Refusal::Empty),
     Answer::Ok,
     Answer::Number(1024),
+    Answer::Channel {
+        request: 5,
+        channel: 65_535,
+    },
     Answer::Bytes {
         size: 5,
         bytes: b"he",
@@ -112,10 +116,11 @@ const ANSWERS: [Answer<'static>; 9] = [
     Answer::Done(Told::Ended(Refusal::ChanClosed)),
 ];
 
-const NOTED_ANSWERS: [&str; 9] = [
+const NOTED_ANSWERS: [&str; 10] = [
     "Called { number: 1, answer: Refused(Empty) }",
     "Called { number: 1, answer: Ok }",
     "Called { number: 1, answer: Number(1024) }",
+    "Called { number: 1, answer: Channel { request: 5, channel: 65535 } }",
     "Called { number: 1, answer: Bytes { size: 5, bytes: [104, 101] } }",
     "Called { number: 1, answer: Done(Address(1030)) }",
     "Called { number: 1, answer: Done(Accepted) }",
