@@ -1,6 +1,6 @@
 //! What becomes of the frames of a linked domain, whatever bytes they have.
 
-ghost use Rattle.std.specs.Prelude.{◌≡◌, ◌≤◌, ◌<◌, ◌∷◌, [], IfOk, IsTrue, length};
+ghost use Rattle.std.specs.Prelude.{◌≡◌, ◌≤◌, ◌<◌, ◌+◌, ◌∷◌, [], IfOk, IsTrue, length};
 ghost use Rattle.lane_end.specs.PlainLane.{AreOneLane};
 ghost use Rattle.lane_end.specs.AnySender as any_sender;
 ghost use Rattle.lane_end.specs.AnyReceiver as any_receiver;
@@ -21,9 +21,11 @@ enum Given {
     Name(&'static [u8], u32, u8),
     /// The creation of endpoint 1:0:N, where N is from 10 to 99, at an address.
     Port(u8, u32),
+    /// A letter from address 1030 to an address: its kind, argument and channel, and its content of two bytes at most.
+    Sent(u32, u8, u8, u8, &'static [u8]),
 }
 
-use Given::{Frame, Name, Port};
+use Given::{Frame, Name, Port, Sent};
 
 /// A frame to the name service with an announcement.
 fn announced(name: &[u8], addr: u32, flags: u8) -> [u8; 56] {
@@ -43,6 +45,23 @@ fn port_announced(port: u8, addr: u32) -> [u8; 56] {
     let mut frame = announced(b"mcapi:1:0:", addr, 0);
     frame[26] = b'0' + port / 10 % 10;
     frame[27] = b'0' + port % 10;
+    frame
+}
+
+/// A frame with a letter. It may have bytes behind the letter.
+fn lettered(to: u32, kind: u8, argument: u8, channel: u8, content: &[u8]) -> [u8; 26] {
+    let mut frame = [0; 26];
+    LittleEndian::write_u32(&mut frame, 1030);
+    LittleEndian::write_u32(&mut frame[4..], to);
+    frame[12] = 8 + content.len().min(2) as u8;
+    frame[16] = 0x4d;
+    frame[17] = 1;
+    frame[18] = kind;
+    frame[19] = argument;
+    frame[20] = channel;
+    for (to, b) in frame[24..].iter_mut().zip(content) {
+        *to = *b;
+    }
     frame
 }
 
@@ -71,6 +90,9 @@ impl Feed {
                 Frame(bytes) => self.give(bytes),
                 Name(name, addr, flags) => self.give(&announced(name, addr, flags)),
                 Port(port, addr) => self.give(&port_announced(port, addr)),
+                Sent(to, kind, argument, channel, content) => {
+                    self.give(&lettered(to, kind, argument, channel, content));
+                }
             }
         }
     }
@@ -284,7 +306,7 @@ static DEALT: [Row; 31] = [
     (Name(b"mcapi:1:0:2", 1032, 0), Fate::Acted),
     (Name(b"mcapi:1:0:2", 1032, 1), Fate::Acted),
     (Name(b"mcapi:1:0:2", 1032, 1), Fate::UnknownName),
-    // Messages to an address that nobody has, and to the endpoint, and another letter.
+    // Messages to an address that nobody has, and to the endpoint, and a Connect to it, which is busy.
     (
         Frame(
             b"\x06\x04\x00\x00\x01\x04\x00\x00\x00\x00\x00\x00\x0a\x00\x00\x00\x4d\x01\x01\x00\x00\x00\x00\x00\x07\x07",
@@ -301,7 +323,7 @@ static DEALT: [Row; 31] = [
         Frame(
             b"\x06\x04\x00\x00\x00\x04\x00\x00\x00\x00\x00\x00\x08\x00\x00\x00\x4d\x01\x02\x00\x01\x00\x00\x00",
         ),
-        Fate::State,
+        Fate::Owed,
     ),
     (
         Frame(
@@ -386,5 +408,122 @@ fn sixty_five_names_of_a_peer(rt: HostRuntime) -> Result<(), Fail> {
     assert_of(Noted::open(rt.alloc(), &rows), |noted| {
         assert_dealt(&rt, noted, &rows)?;
         assert_all_known(&rt, noted, &KNOWN)
+    })
+}
+
+/// Letters of channels. The endpoint is there when the ninth is taken, and its address is 1024.
+static OF_CHANNELS: [Row; 29] = [
+    // Connects to no endpoint.
+    (Sent(1024, 2, 0, 9, b""), Fate::Owed),
+    (Sent(1024, 2, 0, 9, b""), Fate::Owed),
+    (Sent(1024, 2, 0, 9, b""), Fate::Owed),
+    (Sent(1024, 2, 0, 9, b""), Fate::Owed),
+    (Sent(1024, 2, 0, 9, b""), Fate::Owed),
+    (Sent(1024, 2, 0, 9, b""), Fate::Owed),
+    (Sent(1024, 2, 0, 9, b""), Fate::Owed),
+    (Sent(1024, 2, 0, 9, b""), Fate::Owed),
+    // Letters to an endpoint without a channel, and to none.
+    (Sent(1024, 6, 0, 1, b""), Fate::State),
+    (Sent(1025, 7, 0, 1, b"ab"), Fate::NoEndpoint),
+    (Sent(1025, 3, 0, 1, b""), Fate::NoEndpoint),
+    (Sent(1025, 2, 0, 1, b""), Fate::Owed),
+    // A Connect that is accepted, and one more.
+    (Sent(1024, 2, 0, 1, b""), Fate::Owed),
+    (Sent(1024, 2, 0, 2, b""), Fate::Owed),
+    // A message, and what is of another channel or kind.
+    (Sent(1024, 1, 0, 0, b"ab"), Fate::OnChannel),
+    (Sent(1024, 7, 0, 2, b"ab"), Fate::State),
+    (Sent(1024, 8, 2, 1, b"ab"), Fate::State),
+    (Sent(1024, 7, 0, 1, b"ab"), Fate::Queued),
+    (Sent(1024, 6, 0, 1, b""), Fate::Acted),
+    (Sent(1024, 6, 0, 1, b""), Fate::State),
+    // Letters for a sender.
+    (Sent(1024, 3, 0, 1, b""), Fate::State),
+    (Sent(1024, 4, 3, 1, b""), Fate::State),
+    (Sent(1024, 5, 0, 1, b""), Fate::State),
+    (Sent(1024, 10, 0, 1, b""), Fate::State),
+    // The far end closes.
+    (Sent(1024, 9, 0, 2, b""), Fate::State),
+    (Sent(1024, 9, 0, 1, b""), Fate::Acted),
+    (Sent(1024, 9, 0, 1, b""), Fate::State),
+    (Sent(1024, 7, 0, 1, b"cd"), Fate::State),
+    (Sent(1024, 6, 0, 1, b""), Fate::State),
+];
+
+/// The kind, argument and channel of a reply, and the lowest byte of the address that it comes from.
+type Replied = (u8, u8, u8, u8);
+
+const REPLIES: [Replied; 11] = [
+    (4, 1, 9, 0),
+    (4, 1, 9, 0),
+    (4, 1, 9, 0),
+    (4, 1, 9, 0),
+    (4, 1, 9, 0),
+    (4, 1, 9, 0),
+    (4, 1, 9, 0),
+    (4, 1, 9, 0),
+    (4, 1, 1, 1),
+    (3, 0, 1, 0),
+    (4, 2, 2, 0),
+];
+
+/// The first frame is an announcement, which goes before the replies.
+fn assert_replies(rt: &impl Abort, journal: &Journal, due: &[Replied]) {
+    let mut put = 0;
+    for i in 0..journal.len() {
+        if let Some(Entry::Put { frame, .. }) = journal.entry(i) {
+            assert!(rt; is_put(due, put, frame), "frame {put}");
+            put += 1;
+        }
+    }
+    assert!(rt; put == due.len() + 1);
+}
+
+/// Whether the frame of this number is the announcement or such a reply to address 1030.
+fn is_put(due: &[Replied], number: usize, frame: &[u8]) -> bool
+    ensures { IsTrue result → number < length due.now + 1 }
+{
+    let Some(at) = number.checked_sub(1) else {
+        return frame.len() == 56;
+    };
+    let Some((kind, argument, channel, source)) = due.get(at) else {
+        return false;
+    };
+    frame.len() == 24
+        && frame[4..8] == [6, 4, 0, 0]
+        && frame[18] == *kind
+        && frame[19] == *argument
+        && frame[20] == *channel
+        && frame[0] == *source
+}
+
+const REFUSED_ON_CHANNEL: [Answered; 2] = [
+    (Receive(1, 488, 0), Err(Refusal::OnChannel)),
+    (Send(1, 1, 0, 0, 2), Err(Refusal::OnChannel)),
+];
+
+/// Asserts how Connects were answered, and what is refused at the endpoint that has the channel.
+fn assert_connected(rt: &impl Abort, noted: &mut Noted) -> Result<(), Fail> {
+    assert_replies(rt, &noted.journal, &REPLIES);
+    assert!(rt; noted.domain.places(1) == Some(Places { queue: 1, lent: 0 }));
+    assert_answers(
+        rt,
+        &mut noted.domain,
+        &mut noted.journal,
+        &REFUSED_ON_CHANNEL,
+    )?;
+    noted.journal.reserve(160, 67_584)?;
+    let ended = noted
+        .domain
+        .delete(&mut noted.journal, Local { node: 0, port: 1 });
+    assert!(rt; ended == Err(Refusal::ChanConnected));
+    Ok(())
+}
+
+#[test]
+fn each_letter_of_a_channel_has_its_word(rt: HostRuntime) -> Result<(), Fail> {
+    assert_of(Noted::open(rt.alloc(), &OF_CHANNELS), |noted| {
+        assert_dealt(&rt, noted, &OF_CHANNELS)?;
+        assert_connected(&rt, noted)
     })
 }
