@@ -25,7 +25,7 @@ use Rattle.board_model.specs.TakenFrames as taken
 use Rattle.bridge_frame.proofs.Bytes.{little_bytes-little_number}
 use Rattle.mc_base.specs.declared.channel.Bits.{Bits}
 use Rattle.mc_base.specs.declared.channel.Bits.TheVariants.{B8, B16, B32, B64}
-use Rattle.domain_core.specs.Verdicts.{Fits, IsItem, IsShort, framed_item, item_with}
+use Rattle.domain_core.specs.Verdicts.{Fits, IsItem, IsInBounds, framed_item, item_with}
 
 pub none-from : {X : Type 0} (o : Option X) → ((x : X) → o ≡ Some x → ⊥) → o ≡ None
 none-from None h = refl
@@ -285,7 +285,7 @@ module _ (frame : List ℕ) (lies : Lies frame) where
           bound B64 e = omega (arith, e)
 
   -- the content is short, and a channel has a number
-  short-letter : (l : PlainLetter) → Reads fs l → IsShort l
+  short-letter : (l : PlainLetter) → Reads fs l → IsInBounds l
   short-letter (msg priority content) reads = (carries-message priority content reads).fits.short
   short-letter (packet n content) reads = (carries-packet n content reads).fits.short
   short-letter (connect n kind) reads =
@@ -321,7 +321,7 @@ module _ (frame : List ℕ) (source destination : ℕ) (l : PlainLetter) where
   unfolding reading
   letter-read is = by_fault (fault frame) refl is
 
-  pub short-read : says source destination l ≡ reading frame → IsShort l
+  pub short-read : says source destination l ≡ reading frame → IsInBounds l
   short-read is = let r = letter-read is in short-letter frame r.lies l r.reads
 
 -- it is the item in the frame

@@ -16,6 +16,7 @@ use Rattle.request_set.specs.declared.ask.Complete.TheVariants as complete
 use Rattle.request_set.specs.Requests.{Requests, oldest_waiting}
 use Rattle.domain_core.specs.declared.dealing.Verdict.{Verdict}
 use Rattle.domain_core.specs.declared.dealing.Verdict.TheVariants as verdict
+use Rattle.domain_core.specs.declared.endpoints.Endpoint.{Endpoint}
 use Rattle.domain_core.specs.declared.requests.Waiters.TheVariants as waiters
 use Rattle.domain_core.specs.InRequests.{with_all_complete}
 use Rattle.domain_core.specs.Records.{Records, kept, with_channel_at}
@@ -27,12 +28,16 @@ use Rattle.domain_core.specs.Verdicts.{Brings, local_of}
 abbrev pub has_end : Records → ℕ → Option Bool
 has_end r place = option_map (λ e. is_some e.channel) (slice_get r.endpoints place)
 
+abbrev pub is_busy : Requests → Endpoint → Bool
+is_busy q e = not (length e.queue.waiting == 0) || is_some (oldest_waiting q e.local)
+
 abbrev pub busy_at : Records → Requests → ℕ → Option Bool
-busy_at r q place = option_map (λ e. not (length e.queue.waiting == 0) || is_some (oldest_waiting q e.local)) (slice_get r.endpoints place)
+busy_at r q place = option_map (is_busy q) (slice_get r.endpoints place)
 
 -- it has this channel from then on, or there is a reason why not
 abbrev pub Accepts : Records → Requests → ℕ → Channel → Option Reason → Records → Type 0
-Accepts r q place end None r' = (Some false ≡ has_end r place) × (Some false ≡ busy_at r q place) × (r' ≡ with_channel_at r place (kept end))
+Accepts r q place end None r' =
+    (Some false ≡ has_end r place) × (Some false ≡ busy_at r q place) × (r' ≡ with_channel_at r place (kept end))
 Accepts r q place end (Some reason.Connected) r' = (Some true ≡ has_end r place) × (r' ≡ r)
 Accepts r q place end (Some reason.Busy) r' = (Some false ≡ has_end r place) × (Some true ≡ busy_at r q place) × (r' ≡ r)
 Accepts r q place end (Some reason.NoEndpoint) r' = ⊥

@@ -6,6 +6,7 @@ use Rattle.mc_base.specs.Frame.{source_of}
 use Rattle.mc_base.specs.Letter.{PlainLetter, msg, packet, scalar, connect}
 use Rattle.mc_base.specs.NameMap.{Names}
 use Rattle.mc_base.specs.Reading.{reading}
+use Rattle.mc_base.specs.declared.channel.Kind.{Kind}
 use Rattle.mc_base.specs.declared.channel.Reason.{Reason}
 use Rattle.mc_base.specs.declared.fate.Fate.{Fate}
 use Rattle.mc_base.specs.declared.fate.Fate.TheVariants.{Queued, Handed}
@@ -17,7 +18,7 @@ use Rattle.board_model.specs.Change.{Change, channel_set, connect_settled, item_
 use Rattle.board_model.specs.Dealing.{keeps_buffer}
 use Rattle.board_model.specs.State.{DomainState, Endpoint, Item, Outcome, endpoint_of, has_address_of, is_accepted, is_rejected, peer_at, waits_at}
 use Rattle.board_model.specs.TakenFrames as taken
-use Rattle.board_model.specs.TakenFrames.{Row, first_row, letter_rows, names_of, replies_to, row, row_of}
+use Rattle.board_model.specs.TakenFrames.{Row, connect_rows, first_row, letter_rows, names_of, replies_to, row, row_of}
 use Rattle.buffer_book.specs.Book.{Book}
 use Rattle.packet_channel.specs.End.{end_of}
 use Rattle.packet_channel.specs.declared.channel.Channel.{Channel}
@@ -27,6 +28,7 @@ use Rattle.request_set.specs.declared.ask.Complete.TheVariants as complete
 use Rattle.request_set.specs.Requests.{IsPending, Requests, is_id, oldest_waiting, request_of}
 use Rattle.domain_core.specs.declared.dealing.Verdict.{Verdict}
 use Rattle.domain_core.specs.declared.dealing.Verdict.TheVariants as verdict
+use Rattle.domain_core.specs.declared.dealing.Way.{Way}
 use Rattle.domain_core.specs.declared.replies.Reply.{Reply}
 use Rattle.domain_core.specs.declared.requests.Waiters.TheVariants as waiters
 use Rattle.domain_core.specs.InBook.{channel_of, endpoints_in, priority_of, requests_in}
@@ -44,6 +46,10 @@ pub record Desk : Type 0 where
 
 abbrev pub desk : Records → Requests → Names → List Reply → Desk
 desk r q names replies = record { records = r; requests = q; names = names; replies = replies }
+
+-- the same with any names
+abbrev pub beside : Records → Requests → List Reply → Names → Desk
+beside r q replies names = desk r q names replies
 
 -- a state with these endpoints and requests, in which these names are known of a peer and as many replies are owed to it
 pub record Shows (s : DomainState) (peer : ℕ) (b : Book) (d : Desk) : Type 0 where
@@ -186,18 +192,19 @@ item_with peer source priority channel content = record { peer = peer; source = 
 abbrev pub framed_item : ℕ → List ℕ → ℕ → Item
 framed_item peer frame size = item_with peer (source_of frame) (priority_of frame) (channel_of frame) (take size (drop 24 frame))
 
--- letters that bring an item, which has its most bytes at most
+-- letters that bring an item
 abbrev pub IsItem : PlainLetter → Type 0
 IsItem (msg priority content) = Unit {0}
 IsItem (packet number content) = Unit {0}
 IsItem (scalar number bits value) = Unit {0}
 IsItem other = ⊥
 
-abbrev pub IsShort : PlainLetter → Type 0
-IsShort (msg priority content) = length content ≤ item_size
-IsShort (packet number content) = length content ≤ item_size
-IsShort (connect number kind) = 0 < number
-IsShort other = Unit {0}
+-- an item has its most bytes at most, and a Connect's channel has a number
+abbrev pub IsInBounds : PlainLetter → Type 0
+IsInBounds (msg priority content) = length content ≤ item_size
+IsInBounds (packet number content) = length content ≤ item_size
+IsInBounds (connect number kind) = 0 < number
+IsInBounds other = Unit {0}
 
 -- the row of a letter from a peer, and the verdict on it
 abbrev pub letter_row : DomainState → ℕ → ℕ → ℕ → PlainLetter → Row
@@ -205,9 +212,11 @@ letter_row s peer source destination l = first_row (letter_rows s peer None sour
 
 abbrev pub IsJudged : DomainState → ℕ → ℕ → ℕ → PlainLetter → Verdict → Desk → Desk → Type 0
 IsJudged s peer source destination l (verdict.Queued place priority size) d d' =
-    IsItem l × (size ≡ length (taken.item_of peer None source l).content) × (priority ≡ (taken.item_of peer None source l).priority) × IsQueued s (letter_row s peer source destination l) (taken.item_of peer None source l) place × (d' ≡ d)
+    IsItem l × (size ≡ length (taken.item_of peer None source l).content) × (priority ≡ (taken.item_of peer None source l).priority)
+    × IsQueued s (letter_row s peer source destination l) (taken.item_of peer None source l) place × (d' ≡ d)
 IsJudged s peer source destination l (verdict.Handed id max size) d d' =
-    IsItem l × (size ≡ length (taken.item_of peer None source l).content) × IsHanded s d.requests (letter_row s peer source destination l) (taken.item_of peer None source l) id max × (d' ≡ d)
+    IsItem l × (size ≡ length (taken.item_of peer None source l).content)
+    × IsHanded s d.requests (letter_row s peer source destination l) (taken.item_of peer None source l) id max × (d' ≡ d)
 IsJudged s peer source destination l (verdict.Returned fate) d d' = IsReturned s peer (letter_row s peer source destination l) fate d d'
 
 -- an item of this size comes to the endpoint at a place: the oldest receive that waits there gets it, or the queue
@@ -231,6 +240,10 @@ Brings r q place priority size (verdict.Queued i p n) = (i ≡ place) × (p ≡ 
 Brings r q place priority size (verdict.Handed id max n) = (n ≡ size) × Waits q (local_of r place) id max
 Brings r q place priority size (verdict.Returned fate) = ⊥
 
+-- the row of a Connect
+abbrev pub connect_row : DomainState → Way → ℕ → Kind → Row
+connect_row s way number kind = first_row (connect_rows s way.peer way.source way.destination (endpoint_of s way.destination) number kind)
+
 -- ---- frames
 
 -- the item of a frame has this size and lies within it
@@ -243,6 +256,19 @@ abbrev pub IsVerdict : DomainState → ℕ → List ℕ → Verdict → Desk →
 IsVerdict s peer frame (verdict.Queued place priority size) d d' = IsQueued s (row_of s peer None (reading frame)) (framed_item peer frame size) place × Fits frame size × (priority_of frame ≡ priority) × (d' ≡ d)
 IsVerdict s peer frame (verdict.Handed id max size) d d' = IsHanded s d.requests (row_of s peer None (reading frame)) (framed_item peer frame size) id max × Fits frame size × (d' ≡ d)
 IsVerdict s peer frame (verdict.Returned fate) d d' = IsReturned s peer (row_of s peer None (reading frame)) fate d d'
+
+-- ---- what is said of functions: in each state with what they have
+
+abbrev pub Deals : ℕ → List ℕ → Verdict → Desk → Desk → Type 0
+Deals peer frame v d d' = (b : Book) (s : DomainState) → Shows s peer b d → IsVerdict s peer frame v d d'
+
+abbrev pub Judges : Way → PlainLetter → Verdict → (Names → Desk) → (Names → Desk) → Type 0
+Judges way l v d d' = (b : Book) (s : DomainState) (names : Names) → Shows s way.peer b (d names)
+    → IsJudged s way.peer way.source way.destination l v (d names) (d' names)
+
+abbrev pub Answers : Way → ℕ → Kind → Fate → (Names → Desk) → (Names → Desk) → Type 0
+Answers way number kind fate d d' = (b : Book) (s : DomainState) (names : Names) → Shows s way.peer b (d names)
+    → IsReturned s way.peer (connect_row s way number kind) fate (d names) (d' names)
 
 abbrev pub fate_of : Verdict → Fate
 fate_of (verdict.Queued place priority size) = Queued

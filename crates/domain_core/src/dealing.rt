@@ -2,11 +2,8 @@
 
 ghost use Rattle.std.specs.Prelude.{◌≡◌, ◌<◌, length};
 ghost use Rattle.mc_base.specs.Letter.{plain_letter};
-ghost use Rattle.mc_base.specs.NameMap.{Names};
-ghost use Rattle.buffer_book.specs.Book.{Book};
-ghost use Rattle.board_model.specs.State.{DomainState};
 ghost use Rattle.domain_core.specs.InRequests.{AreReceives};
-ghost use Rattle.domain_core.specs.Verdicts.{Brings, IsJudged, IsShort, IsVerdict, Shows, desk, fate_of};
+ghost use Rattle.domain_core.specs.Verdicts.{Brings, Deals, IsInBounds, Judges, beside, desk, fate_of};
 
 mod connects;
 mod letters;
@@ -73,7 +70,7 @@ pub fn deal(
     frame: &[u8],
 ) -> Verdict
     requires { AreReceives requests.old }
-    ensures { (b : Book) (s : DomainState) → Shows s peer b (desk endpoints.old requests.old known.old replies.old) → IsVerdict s peer frame.now result (desk endpoints.old requests.old known.old replies.old) (desk endpoints.new requests.new known.new replies.new) }
+    ensures { let old = desk endpoints.old requests.old known.old replies.old in Deals peer frame.now result old (desk endpoints.new requests.new known.new replies.new) }
 {
     match read_frame(frame) {
         Said::Faulty(fault) => Verdict::Returned(fault_fate(fault)),
@@ -98,8 +95,8 @@ fn judge(
     letter: &Letter<'_>,
 ) -> Verdict
     requires receives { AreReceives requests.old }
-    requires short { IsShort (plain_letter letter.now) }
-    ensures { (b : Book) (s : DomainState) (names : Names) → Shows s way.peer b (desk endpoints.old requests.old names replies.old) → IsJudged s way.peer way.source way.destination (plain_letter letter.now) result (desk endpoints.old requests.old names replies.old) (desk endpoints.new requests.new names replies.new) }
+    requires short { IsInBounds (plain_letter letter.now) }
+    ensures { let old = beside endpoints.old requests.old replies.old in Judges way (plain_letter letter.now) result old (beside endpoints.new requests.new replies.new) }
 {
     if let Letter::Connect { channel, kind } = *letter {
         return Verdict::Returned(answer_connect(endpoints, requests, replies, way, channel, kind));

@@ -1,12 +1,8 @@
 //! Connects that are answered.
 
 ghost use Rattle.std.specs.Prelude.{◌≡◌, ◌<◌, Some, length};
-ghost use Rattle.mc_base.specs.NameMap.{Names};
-ghost use Rattle.buffer_book.specs.Book.{Book};
-ghost use Rattle.board_model.specs.State.{DomainState, endpoint_of};
-ghost use Rattle.board_model.specs.TakenFrames.{connect_rows, first_row};
 ghost use Rattle.domain_core.specs.Accepting.{Accepts, busy_at};
-ghost use Rattle.domain_core.specs.Verdicts.{IsReturned, Shows, desk};
+ghost use Rattle.domain_core.specs.Verdicts.{Answers, beside};
 
 use crate::dealing::Way;
 use crate::endpoints::Endpoints;
@@ -16,6 +12,7 @@ use packet_channel::Channel;
 use request_set::RequestSet;
 
 /// Owes the answer to a Connect, and returns the word for it. Nothing is owed where 64 replies to its peer are.
+#[inline(never)] // Frames of messages, which come more often, stay short.
 pub fn answer_connect(
     endpoints: &mut Endpoints,
     requests: &RequestSet,
@@ -25,7 +22,7 @@ pub fn answer_connect(
     kind: Kind,
 ) -> Fate
     requires numbered { 0 < channel }
-    ensures { (b : Book) (s : DomainState) (names : Names) → Shows s way.peer b (desk endpoints.old requests.now names replies.old) → IsReturned s way.peer (first_row (connect_rows s way.peer way.source way.destination (endpoint_of s way.destination) channel kind)) result (desk endpoints.old requests.now names replies.old) (desk endpoints.new requests.now names replies.new) }
+    ensures { let old = beside endpoints.old requests.now replies.old in Answers way channel kind result old (beside endpoints.new requests.now replies.new) }
 {
     if replies.is_full() {
         return Fate::RepliesFull;

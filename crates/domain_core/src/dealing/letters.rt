@@ -4,7 +4,7 @@ ghost use Rattle.std.specs.Prelude.{◌≡◌, ◌<◌, length};
 ghost use Rattle.mc_base.specs.Letter.{plain_letter};
 ghost use Rattle.domain_core.specs.Accepting.{Hears, settled_by, size_of};
 ghost use Rattle.domain_core.specs.InRequests.{AreReceives};
-ghost use Rattle.domain_core.specs.Verdicts.{IsShort};
+ghost use Rattle.domain_core.specs.Verdicts.{IsInBounds};
 
 use crate::dealing::{Verdict, bring};
 use crate::endpoints::Endpoints;
@@ -14,6 +14,7 @@ use request_set::{Complete, RequestSet};
 
 /// Does what a letter from a peer asks for at the channel of the endpoint at a place, and returns the verdict on it. Connects
 /// that wait for an answer are complete with it, and receives that wait end where the sender closes.
+#[inline(never)] // Frames of messages, which come more often, stay short.
 pub fn act(
     endpoints: &mut Endpoints,
     requests: &mut RequestSet,
@@ -23,7 +24,7 @@ pub fn act(
 ) -> Verdict
     requires receives { AreReceives requests.old }
     requires within { place < length endpoints.old.endpoints }
-    requires short { IsShort (plain_letter letter.now) }
+    requires short { IsInBounds (plain_letter letter.now) }
     ensures { Hears endpoints.old endpoints.new requests.old requests.new peer place (plain_letter letter.now) result }
 {
     let Some(mut channel) = endpoints.channel_at(place) else {
@@ -45,7 +46,7 @@ pub fn act(
 
 /// How many bytes the item of a letter has.
 fn size_of(letter: &Letter<'_>) -> u32
-    requires { IsShort (plain_letter letter.now) }
+    requires { IsInBounds (plain_letter letter.now) }
     ensures { result ≡ size_of (plain_letter letter.now) }
 {
     match *letter {
