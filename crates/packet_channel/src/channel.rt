@@ -39,7 +39,8 @@ pub struct Channel {
 impl Channel {
     /// Makes the sender's end of a channel whose Connect is put.
     pub fn connecting(owner: u8, number: u32, kind: Kind, peer: u8, peer_addr: u32) -> Channel
-        ensures { end_of result ≡ connecting_end kind owner number peer peer_addr }
+        ensures end { end_of result ≡ connecting_end kind owner number peer peer_addr }
+        ensures number { result.number ≡ number }
     {
         Channel {
             side: Side::Sender,
@@ -56,7 +57,8 @@ impl Channel {
 
     /// Makes the receiver's end of a channel whose Connect is accepted.
     pub fn accepted(owner: u8, number: u32, kind: Kind, peer: u8, peer_addr: u32) -> Channel
-        ensures { end_of result ≡ accepted_end kind owner number peer peer_addr }
+        ensures end { end_of result ≡ accepted_end kind owner number peer peer_addr }
+        ensures number { result.number ≡ number }
     {
         Channel {
             side: Side::Receiver,

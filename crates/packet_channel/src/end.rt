@@ -90,7 +90,8 @@ impl Channel {
 
     /// Opens the end. `may_open` has to allow it.
     pub fn opened(&mut self)
-        ensures { end_of self.new ≡ opened_end (end_of self.old) }
+        ensures opened { end_of self.new ≡ opened_end (end_of self.old) }
+        ensures number { self.new.number ≡ self.old.number }
     {
         self.stage = Stage::Open;
     }
@@ -99,6 +100,7 @@ impl Channel {
     pub fn closed(&mut self) -> bool
         ensures ended { result ≡ is_none (closed_end (end_of self.old)) }
         ensures left { kept_end self.new ≡ closed_end (end_of self.old) }
+        ensures number { self.new.number ≡ self.old.number }
     {
         self.stage = Stage::Closed;
         self.far_closed

@@ -16,6 +16,7 @@ impl Channel {
     pub fn letter(&mut self, from: u8, letter: &Letter<'_>) -> Fate
         ensures word { result ≡ (end_row_of from (kept_end self.old) (plain_letter letter.now)).word }
         ensures left { kept_end self.new ≡ (end_row_of from (kept_end self.old) (plain_letter letter.now)).leaves }
+        ensures number { self.new.number ≡ self.old.number }
     {
         if !self.is_for(from, letter) {
             return Fate::State;

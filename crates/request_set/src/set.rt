@@ -1,6 +1,6 @@
 //! The requests of a domain.
 
-ghost use Rattle.std.specs.Prelude.{◌≡◌, ◌≢◌, ◌≤◌, ◌+◌, ◌↔◌, ◌&&◌, ◌==◌, IsErr, IsSome, IfOk, IfSome, OnOk, OnErr, Some, is_none, length, find, position, option_map};
+ghost use Rattle.std.specs.Prelude.{◌≡◌, ◌≢◌, ◌≤◌, ◌+◌, ◌↔◌, ◌&&◌, ◌==◌, IsErr, IsSome, IfOk, IfSome, OnOk, OnErr, Some, is_none, length, nat_le, find, position, option_map};
 ghost use Rattle.std.specs.List.{AllByRecursion};
 ghost use Rattle.mc_base.specs.Limits.{request_limit, no_key};
 ghost use Rattle.request_set.specs.Requests.{Requests, no_requests, keys, request_of, IsPending, with_request, without_request, with_complete, receives_at, waits_at, oldest_waiting, listed, tested, cancelled, progress_of, is_done, first_done};
@@ -106,6 +106,13 @@ impl RequestSet {
         self.order.push(key);
         self.given = serial.wrapping_add(1);
         Ok(RequestId { key, serial })
+    }
+
+    /// Whether 64 requests exist.
+    pub fn is_full(&self) -> bool
+        ensures { result ≡ nat_le request_limit (length self.now.standing) }
+    {
+        self.order.len() >= MAX_REQUESTS
     }
 
     /// Ends a request that is complete, and returns how.

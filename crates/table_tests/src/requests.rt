@@ -182,9 +182,11 @@ fn is_last(set: &RequestSet, serial: u64) -> bool {
 fn sixty_four_stand_and_no_more(rt: HostRuntime) -> Result<(), Fail> {
     let mut set = RequestSet::new(rt.alloc())?;
     let mut ids = Vec::new(rt.alloc());
+    assert!(rt; !set.is_full());
     assert_answers(&rt, &mut set, &mut ids, &FULL)?;
+    assert!(rt; set.is_full());
     assert_answers(&rt, &mut set, &mut ids, &LIMIT)?;
-    assert!(rt; is_last(&set, 64));
+    assert!(rt; is_last(&set, 64) && set.is_full());
     Ok(())
 }
 

@@ -37,5 +37,5 @@ returns c = λ b s names shows.
           ap (λ r. desk r q names c.push.new.self) w.endpoints-is
           ∙ ap (desk w.accept-reason.new.endpoints q names) (c.push.ensures ∙ ap (λ (o : Option Reason). d.replies ++ record { source = way.destination; destination = way.source; channel = number; reason = o } ∷ []) w.reason-is) in
           subst (λ (x : Desk). IsReturned s way.peer its Owed d x) (sym is)
-          (connect-answered b d s way.peer shows way.source way.destination number c.args.kind room at one.0 (w.in-Some.ensures.place b) one.1 w.accepted-end.result w.accepted-end.ensures w.accept-reason.result w.accept-reason.new.endpoints w.accept-reason.ensures)
+          (connect-answered b d s way.peer shows way.source way.destination number c.args.kind room at one.0 (w.in-Some.ensures.place b) one.1 w.accepted-end.result w.accepted-end.ensures.end w.accept-reason.result w.accept-reason.new.endpoints w.accept-reason.ensures)
     ]
