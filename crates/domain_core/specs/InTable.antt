@@ -38,6 +38,14 @@ IsKept (Some c) = kept_end c ≡ Some (end_of c)
 abbrev pub HaveKept : List Endpoint → Type 0
 HaveKept es = AllByRecursion (λ e. IsKept e.channel) es
 
+-- and it has a number, which is not 0
+abbrev pub IsNumbered : Option Channel → Type 0
+IsNumbered None = Unit {0}
+IsNumbered (Some c) = 0 < c.number
+
+abbrev pub HaveNumbers : List Endpoint → Type 0
+HaveNumbers es = AllByRecursion (λ e. IsNumbered e.channel) es
+
 -- the table has queues for 64 endpoints, with or without an owner
 pub record HasQueues (t : Inside) : Type 0 where
   pub rooms : HaveRoom t.room t.records.items
@@ -46,6 +54,7 @@ pub record HasQueues (t : Inside) : Type 0 where
   pub addresses : HaveAddresses t.records.items
   pub order : AreInOrder t.records.items
   pub ends : HaveKept t.records.items
+  pub numbered : HaveNumbers t.records.items
   -- the address that comes next is above them
   pub below : AllByRecursion (λ e. e.address < first_address + t.given) t.records.items
   pub records_room : record_limit ≤ vec_capacity t.records

@@ -11,6 +11,7 @@ pub mod Table
 pub mod InReplies
 pub mod Records
 pub mod InTable
+pub mod Hearing
 pub mod InBook
 pub mod InRequests
 pub mod InPlaces

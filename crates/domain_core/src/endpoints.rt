@@ -1,26 +1,30 @@
 //! The endpoints of a domain and their queues.
 
-ghost use Rattle.std.specs.Prelude.{◌≡◌, ◌≤◌, ◌<◌, ◌+◌, [], false, IfOk, IfSome, IsNone, ◌^◌, ◌==◌, filter, length, map, sum_by, is_some, position, slice_get, Some, option_map, vec_capacity};
+ghost use Rattle.std.specs.Prelude.{◌≡◌, ◌≤◌, ◌<◌, ◌+◌, [], false, IfOk, IfSome, IsNone, ◌^◌, ◌==◌, filter, find, length, map, sum_by, is_some, position, slice_get, Some, nat_le, option_map, vec_capacity};
 ghost use Rattle.std.specs.List.{AllByRecursion};
 ghost use Rattle.std.specs.Ordering.{nat_cmp};
 ghost use Rattle.mc_base.specs.Limits.{first_address};
-ghost use Rattle.board_model.specs.State.{address_at, place_at, place_of_address};
+ghost use Rattle.board_model.specs.State.{address_at, place_at, place_of_address, queue_in};
 ghost use Rattle.board_model.specs.Answer.{channel_limit};
 ghost use Rattle.board_model.specs.Choice.{best, oldest};
 ghost use Rattle.buffer_book.specs.Book.{Book};
 ghost use Rattle.message_queue.specs.Queue.{waiting};
+ghost use Rattle.domain_core.specs.Hearing.{hears, hears_at};
 ghost use Rattle.domain_core.specs.Table.{holding};
 ghost use Rattle.domain_core.specs.Records.{all_waiting, kept, opening_records, waiting_in, with_best_taken_at, with_channel_at, with_channel_given, with_oldest_taken_at, with_record, with_waiting_at, without_record_at};
 ghost use Rattle.domain_core.specs.InBook.{endpoints_in};
-ghost use Rattle.domain_core.specs.InTable.{AreInOrder, IsKept, IsSpare};
+ghost use Rattle.domain_core.specs.InTable.{AreInOrder, IsKept, IsNumbered, IsSpare};
 ghost use Rattle.domain_core.specs.Tied.{live_record};
 
 use endpoint_table::EndpointTable;
-use mc_base::{FIRST_ADDRESS, Local, MAX_ENDPOINTS, NoMemory, Priority, Slot};
+use mc_base::{FIRST_ADDRESS, Local, MAX_ENDPOINTS, NoMemory, Priority, Side, Slot};
 use message_queue::MessageQueue;
 use packet_channel::Channel;
 use std::alloc::Global;
 use std::marker::Model;
+
+/// The most channels that a domain ever numbers.
+const MAX_CHANNELS: u32 = 65_535;
 
 /// An endpoint, the buffers that wait for it, and its end of a channel, which is none where both ends are closed.
 #[derive(Debug, Drop)]
@@ -29,6 +33,20 @@ pub struct Endpoint {
     address: u32,
     queue: MessageQueue,
     channel: Option<Channel>,
+}
+
+impl Endpoint {
+    /// Whether it has the receiver's end of a channel.
+    fn hears(&self, owner: u8, number: u32) -> bool
+        ensures { result ≡ hears_at owner number self.now }
+    {
+        match self.channel {
+            Some(end) => {
+                end.side == Side::Receiver && (end.number == number && end.owner == owner)
+            }
+            None => false,
+        }
+    }
 }
 
 /// The endpoints in the order in which they were created, and queues for those to come.
@@ -199,6 +217,7 @@ impl Endpoints {
         requires within { place < length self.now.endpoints }
         ensures there { Some result ≡ option_map (λ e. e.channel) (slice_get self.now.endpoints place) }
         ensures kept { IsKept result }
+        ensures numbered { IsNumbered result }
     {
         self.records[place].channel
     }
@@ -206,6 +225,7 @@ impl Endpoints {
     /// Sets the end of a channel of the endpoint at a place. It has none where both ends are closed.
     pub fn set_channel(&mut self, place: usize, channel: Channel)
         requires within { place < length self.old.endpoints }
+        requires numbered { 0 < channel.number }
         ensures { self.new ≡ with_channel_at self.old place (kept channel) }
     {
         let endpoint = &mut self.records[place];
@@ -220,6 +240,13 @@ impl Endpoints {
     {
         self.channels += 1;
         self.channels
+    }
+
+    /// Whether all numbers of channels are used.
+    pub fn is_out_of_numbers(&self) -> bool
+        ensures { result ≡ nat_le channel_limit self.now.channels }
+    {
+        self.channels >= MAX_CHANNELS
     }
 
     /// How many channels were numbered.
@@ -237,6 +264,16 @@ impl Endpoints {
         self.records[place].queue.len()
     }
 
+    /// How many items are queued at the receiver's end of a channel, 0 where there is none.
+    pub fn queued_on(&self, owner: u8, number: u32) -> u32
+        ensures { (b : Book) → result ≡ length (queue_in (find (hears owner number) (endpoints_in b self.now.endpoints))) }
+    {
+        match place_with_channel(&self.records, owner, number) {
+            Some(place) => self.records[place].queue.len(),
+            None => 0,
+        }
+    }
+
     /// How many messages wait.
     pub fn queued(&self) -> usize
         requires { length (all_waiting self.now.endpoints) < 2 ^ 64 }
@@ -248,8 +285,10 @@ impl Endpoints {
 
 /// An end of a channel, or none where both ends are closed.
 fn kept(channel: Channel) -> Option<Channel>
+    requires numbered { 0 < channel.number }
     ensures same { result ≡ kept channel }
     ensures kept { IsKept result }
+    ensures numbered { IsNumbered result }
 {
     if channel.has_ended() {
         return None;
@@ -272,6 +311,18 @@ fn place_with_address(records: &[Endpoint], address: u32) -> Option<usize>
         Ok(place) => Some(place),
         Err(_) => None,
     }
+}
+
+/// The place of the endpoint with the receiver's end of a channel.
+fn place_with_channel(records: &[Endpoint], owner: u8, number: u32) -> Option<usize>
+    ensures place { result ≡ position (hears_at owner number) records.now }
+    ensures within { IfSome result (λ i. i < length records.now) }
+{
+    records.iter().position(
+        |e|
+            ensures { result ≡ hears_at owner number e.now }
+        { e.hears(owner, number) },
+    )
 }
 
 fn count_waiting(records: &[Endpoint]) -> usize

@@ -51,6 +51,7 @@ fn accept(
     end: Channel,
 ) -> Option<Reason>
     requires within { place < length endpoints.old.endpoints }
+    requires numbered { 0 < end.number }
     ensures { Accepts endpoints.old requests.now place end result endpoints.new }
 {
     if endpoints.has_channel(place) {

@@ -4,7 +4,7 @@ use Rattle.endpoint_table.proofs.RecordLemmas.{all-weaken}
 use Rattle.message_queue.specs.Queue.{Queue}
 use Rattle.domain_core.specs.declared.endpoints.Endpoint.{Endpoint}
 use Rattle.domain_core.specs.Records.{Records, new_record, with_record}
-use Rattle.domain_core.specs.InTable.{IsKept, IsSpare, records_of}
+use Rattle.domain_core.specs.InTable.{IsKept, IsSpare, records_of, IsNumbered}
 use Rattle.domain_core.proofs.Addresses.{order-push}
 use Rattle.domain_core.proofs.Tables.{All-front, All-push}
 use Rattle.domain_core.proofs.endpoints.Endpoints.add.Goals as goal
@@ -34,6 +34,7 @@ invariant_of-self c =
       addresses = rw (pushed c) (All-push (λ (e : Endpoint). 1024 ≤ e.address) es (made c) i.addresses fresh);
       order = rw (pushed c) (order-push es (made c) i.order i.below);
       ends = rw (pushed c) (All-push (λ (e : Endpoint). IsKept e.channel) es (made c) i.ends tt);
+      numbered = rw (pushed c) (All-push (λ (e : Endpoint). IsNumbered e.channel) es (made c) i.numbered tt);
       below = rw (pushed c) (All-push (λ (e : Endpoint). e.address < 1024 + (c.self.inside.given + 1)) es (made c) (all-weaken (λ (e : Endpoint). e.address < 1024 + c.self.inside.given) (λ (e : Endpoint). e.address < 1024 + (c.self.inside.given + 1)) (λ e lt. omega (arith, lt)) es i.below) (omega arith));
       records_room = search rules;
       spare_room = search rules;

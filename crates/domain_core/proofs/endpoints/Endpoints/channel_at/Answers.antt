@@ -1,6 +1,6 @@
 use Rattle.std.proofs.Common.{ap, arith, length, ◌<◌}
 use Rattle.domain_core.specs.declared.endpoints.Endpoint.{Endpoint}
-use Rattle.domain_core.specs.InTable.{IsKept}
+use Rattle.domain_core.specs.InTable.{IsKept, IsNumbered}
 use Rattle.domain_core.specs.Records.{Records}
 use Rattle.domain_core.proofs.Tables.{All-read}
 use Rattle.domain_core.proofs.endpoints.Endpoints.channel_at.Goals as goal
@@ -10,3 +10,9 @@ returns-clause-kept c =
     let es = c.self.inside.records.items in
     let lt : c.args.place < length es = omega (arith, c.requires.within, ap (λ (r : Records). length r.endpoints) c.self.view_is) in
     All-read (λ (e : Endpoint). IsKept e.channel) es c.args.place c.index.result.now lt c.index.ensures c.self.invariant.ends
+
+pub returns-clause-numbered : goal.returns-clause-numbered
+returns-clause-numbered c =
+    let es = c.self.inside.records.items in
+    let lt : c.args.place < length es = omega (arith, c.requires.within, ap (λ (r : Records). length r.endpoints) c.self.view_is) in
+    All-read (λ (e : Endpoint). IsNumbered e.channel) es c.args.place c.index.result.now lt c.index.ensures c.self.invariant.numbered

@@ -2,7 +2,7 @@ use Rattle.std.proofs.Common.{refl, rules, ◌<◌, ◌∙◌, List, ap, arith, 
 use Rattle.message_queue.specs.Queue.{Queue, waiting}
 use Rattle.domain_core.specs.declared.endpoints.Endpoint.{Endpoint}
 use Rattle.domain_core.specs.Records.{Records, all_waiting, with_waiting, with_waiting_at}
-use Rattle.domain_core.specs.InTable.{IsKept, records_of}
+use Rattle.domain_core.specs.InTable.{IsKept, records_of, IsNumbered}
 use Rattle.domain_core.proofs.Addresses.{all-written, order-written}
 use Rattle.domain_core.proofs.Tables.{changed-set, queue-within, room-at}
 use Rattle.domain_core.proofs.endpoints.Endpoints.queue_last.Goals as goal
@@ -23,6 +23,7 @@ invariant_of-self c =
       addresses = all-written (λ (x : Endpoint). 1024 ≤ x.address) es c.args.place e d lt read (λ same. same) i.addresses;
       order = order-written es c.args.place e d lt read refl i.order;
       ends = all-written (λ (x : Endpoint). IsKept x.channel) es c.args.place e d lt read (λ same. same) i.ends;
+      numbered = all-written (λ (x : Endpoint). IsNumbered x.channel) es c.args.place e d lt read (λ same. same) i.numbered;
       below = all-written (λ (x : Endpoint). x.address < 1024 + c.self.inside.given) es c.args.place e d lt read (λ same. same) i.below;
       records_room = search rules;
       spare_room = i.spare_room;

@@ -6,7 +6,7 @@ use Rattle.message_queue.specs.Queue.{Waiting, empty_queue}
 use Rattle.board_model.specs.Lists.{without_at}
 use Rattle.domain_core.specs.declared.endpoints.Endpoint.{Endpoint}
 use Rattle.domain_core.specs.Records.{Records, waiting_in, without_record_at}
-use Rattle.domain_core.specs.InTable.{AreInOrder, IsKept, IsSpare, records_of}
+use Rattle.domain_core.specs.InTable.{AreInOrder, IsKept, IsSpare, records_of, IsNumbered}
 use Rattle.domain_core.proofs.Addresses.{order-without}
 use Rattle.domain_core.proofs.Tables.{All-push, All-without, length-without, removed, room-at, slice_get-read}
 use Rattle.domain_core.proofs.endpoints.Endpoints.remove.Goals as goal
@@ -42,6 +42,7 @@ invariant_of-self c =
       addresses = subst (AllByRecursion (λ (e : Endpoint). 1024 ≤ e.address)) (sym (less c)) (All-without (λ (e : Endpoint). 1024 ≤ e.address) place es i.addresses);
       order = subst AreInOrder (sym (less c)) (order-without place es i.order);
       ends = subst (AllByRecursion (λ (e : Endpoint). IsKept e.channel)) (sym (less c)) (All-without (λ (e : Endpoint). IsKept e.channel) place es i.ends);
+      numbered = subst (AllByRecursion (λ (e : Endpoint). IsNumbered e.channel)) (sym (less c)) (All-without (λ (e : Endpoint). IsNumbered e.channel) place es i.numbered);
       below = subst (AllByRecursion (λ (e : Endpoint). e.address < 1024 + c.self.inside.given)) (sym (less c)) (All-without (λ (e : Endpoint). e.address < 1024 + c.self.inside.given) place es i.below);
       records_room = search rules;
       spare_room = search rules;

@@ -3,7 +3,7 @@ use Rattle.std.specs.Prelude.{Option}
 use Rattle.packet_channel.specs.declared.channel.Channel.{Channel}
 use Rattle.domain_core.specs.declared.endpoints.Endpoint.{Endpoint}
 use Rattle.domain_core.specs.Records.{Records, kept, with_channel_at, with_end}
-use Rattle.domain_core.specs.InTable.{IsKept, records_of}
+use Rattle.domain_core.specs.InTable.{IsKept, records_of, IsNumbered}
 use Rattle.domain_core.proofs.Addresses.{all-written, order-written}
 use Rattle.domain_core.proofs.Tables.{changed-set}
 use Rattle.domain_core.proofs.endpoints.Endpoints.set_channel.Goals as goal
@@ -23,6 +23,7 @@ invariant_of-self c =
       addresses = all-written (λ (x : Endpoint). 1024 ≤ x.address) es c.args.place e d lt read (λ same. same) i.addresses;
       order = order-written es c.args.place e d lt read refl i.order;
       ends = all-written (λ (x : Endpoint). IsKept x.channel) es c.args.place e d lt read (λ same. c.kept-endpoint.ensures.kept) i.ends;
+      numbered = all-written (λ (x : Endpoint). IsNumbered x.channel) es c.args.place e d lt read (λ same. c.kept-endpoint.ensures.numbered) i.numbered;
       below = all-written (λ (x : Endpoint). x.address < 1024 + c.self.inside.given) es c.args.place e d lt read (λ same. same) i.below;
       records_room = search rules;
       spare_room = i.spare_room;

@@ -4,7 +4,7 @@ use Rattle.board_model.specs.Choice.{best}
 use Rattle.message_queue.specs.Queue.{Queue, Waiting, waiting}
 use Rattle.domain_core.specs.declared.endpoints.Endpoint.{Endpoint}
 use Rattle.domain_core.specs.Records.{Records, waiting_in, with_best_taken, with_best_taken_at}
-use Rattle.domain_core.specs.InTable.{IsKept, records_of}
+use Rattle.domain_core.specs.InTable.{IsKept, records_of, IsNumbered}
 use Rattle.domain_core.proofs.Addresses.{all-written, order-written}
 use Rattle.domain_core.proofs.Tables.{changed-set, slice_get-read}
 use Rattle.domain_core.proofs.endpoints.Endpoints.take_best.Goals as goal
@@ -25,6 +25,7 @@ invariant_of-self c =
       addresses = all-written (λ (x : Endpoint). 1024 ≤ x.address) es c.args.place e d lt read (λ same. same) i.addresses;
       order = order-written es c.args.place e d lt read refl i.order;
       ends = all-written (λ (x : Endpoint). IsKept x.channel) es c.args.place e d lt read (λ same. same) i.ends;
+      numbered = all-written (λ (x : Endpoint). IsNumbered x.channel) es c.args.place e d lt read (λ same. same) i.numbered;
       below = all-written (λ (x : Endpoint). x.address < 1024 + c.self.inside.given) es c.args.place e d lt read (λ same. same) i.below;
       records_room = search rules;
       spare_room = i.spare_room;
