@@ -23,7 +23,7 @@ at-live : (s : DomainState) (at : Local) → state.endpoint_at s at ≡ live_at 
 at-live s at = get-position (is_at at) s.endpoints
 
 -- where a name has a place, there is its endpoint
-there_at : (u : DomainState) (at : Local) (i : ℕ) → place_at u at ≡ Some i → (e : Endpoint) × (live_at u at ≡ Some e)
+pub there_at : (u : DomainState) (at : Local) (i : ℕ) → place_at u at ≡ Some i → (e : Endpoint) × (live_at u at ≡ Some e)
 there_at u at i there = go (live_at u at) (sym (some-position (is_at at) u.endpoints) ∙ ap is_some there)
   where
     go : (o : Option Endpoint) → is_some o ≡ is_some (Some i) → (e : Endpoint) × (o ≡ Some e)

@@ -42,6 +42,11 @@ use Rattle.domain_core.proofs.TiedStates.{ended-state}
 
 -- ---- one is dropped
 
+gone-changed : (f : state.Endpoint → state.Endpoint) → ((e : state.Endpoint) → f (without_first e) ≡ f e) → (i : ℕ) (es : List state.Endpoint) → changed_at f i (changed_at without_first i es) ≡ changed_at f i es
+gone-changed f same i [] = refl
+gone-changed f same zero (e ∷ es) = ap (λ (x : state.Endpoint). x ∷ es) (same e)
+gone-changed f same (suc i) (e ∷ es) = ap (λ (xs : List state.Endpoint). e ∷ xs) (gone-changed f same i es)
+
 gone-removed : (i : ℕ) (es : List state.Endpoint) → without_at i (changed_at without_first i es) ≡ without_at i es
 gone-removed i [] = refl
 gone-removed zero (e ∷ es) = refl
@@ -61,16 +66,20 @@ keeps-then s ss a b c first then t is other =
 -- ---- all are dropped
 
 -- what is left: only what waited at the place is gone
-record IsLeft (p p' : Parts) (i : ℕ) (ss : List Slot) : Type 0 where
-  sound : Sound p'
-  others : state_of p' ≡ record (state_of p) { endpoints = (state_of p').endpoints }
-  left : without_at i (state_of p').endpoints ≡ without_at i (state_of p).endpoints
-  address : option_map (λ (e : Endpoint). e.address) (slice_get p'.records.endpoints i) ≡ option_map (λ (e : Endpoint). e.address) (slice_get p.records.endpoints i)
-  stays : KeepsBut ss p.book p'.book
-  requests : p'.requests ≡ p.requests
+pub record IsLeft (p p' : Parts) (i : ℕ) (ss : List Slot) : Type 0 where
+  pub sound : Sound p'
+  -- nothing waits there
+  pub none : slots_at p'.records i ≡ []
+  -- nor does it matter for what leaves nothing there
+  pub dropped : (f : state.Endpoint → state.Endpoint) → ((e : state.Endpoint) → f (without_first e) ≡ f e) → changed_at f i (state_of p').endpoints ≡ changed_at f i (state_of p).endpoints
+  pub others : state_of p' ≡ record (state_of p) { endpoints = (state_of p').endpoints }
+  pub left : without_at i (state_of p').endpoints ≡ without_at i (state_of p).endpoints
+  pub address : option_map (λ (e : Endpoint). e.address) (slice_get p'.records.endpoints i) ≡ option_map (λ (e : Endpoint). e.address) (slice_get p.records.endpoints i)
+  pub stays : KeepsBut ss p.book p'.book
+  pub requests : p'.requests ≡ p.requests
 
-all-left : (p : Parts) → Sound p → (i : ℕ) (ss : List Slot) → slots_at p.records i ≡ ss → IsLeft p (done_all (drops i ss) p) i ss
-all-left p sound i [] is = record { sound = sound; others = refl; left = refl; address = refl; stays = keeps-but_none p.book; requests = refl }
+pub all-left : (p : Parts) → Sound p → (i : ℕ) (ss : List Slot) → slots_at p.records i ≡ ss → IsLeft p (done_all (drops i ss) p) i ss
+all-left p sound i [] is = record { sound = sound; none = is; dropped = λ f same. refl; others = refl; left = refl; address = refl; stays = keeps-but_none p.book; requests = refl }
 all-left p sound i (s ∷ ss) is =
     let first = first-there p i s ss is in
     let p1 = done (oldest_dropped i s) p in
@@ -81,6 +90,8 @@ all-left p sound i (s ∷ ss) is =
     let rest = all-left p1 (oldest_dropped-keeps p sound i s first) i ss (tail-of s ss p i p1 is (oldest_dropped-left p sound i s first)) in
     record {
       sound = rest.sound;
+      none = rest.none;
+      dropped = λ f same. rest.dropped f same ∙ ap (changed_at f i) one ∙ gone-changed f same i (state_of p).endpoints;
       others = rest.others ∙ ap (λ (x : DomainState). record x { endpoints = (state_of (done_all (drops i ss) p1)).endpoints }) others;
       left = rest.left ∙ ap (without_at i) one ∙ gone-removed i (state_of p).endpoints;
       address = rest.address ∙ same-address i p.records.endpoints;
@@ -94,11 +105,11 @@ all-left p sound i (s ∷ ss) is =
 -- ---- and then the endpoint is gone
 
 -- the moves of the droppings, at a peer
-moves-cons : (c : Step) (cs : List Step) (last : Step) (n : ℕ) → all_moves (c ∷ (cs ++ last ∷ [])) n ≡ step_moves c n ++ all_moves (cs ++ last ∷ []) n
+pub moves-cons : (c : Step) (cs : List Step) (last : Step) (n : ℕ) → all_moves (c ∷ (cs ++ last ∷ [])) n ≡ step_moves c n ++ all_moves (cs ++ last ∷ []) n
 moves-cons c [] last n = refl
 moves-cons c (d ∷ cs) last n = refl
 
-drops-moves : (i : ℕ) (ss : List Slot) (last : Step) (n : ℕ) → step_moves last n ≡ [] → all_moves (drops i ss ++ last ∷ []) n ≡ giving (buffers_of n ss)
+pub drops-moves : (i : ℕ) (ss : List Slot) (last : Step) (n : ℕ) → step_moves last n ≡ [] → all_moves (drops i ss ++ last ∷ []) n ≡ giving (buffers_of n ss)
 drops-moves i [] last n none = none
 drops-moves i (s ∷ ss) last n none = moves-cons (oldest_dropped i s) (drops i ss) last n ∙ ap (λ (ms : List LaneMove). step_moves (oldest_dropped i s) n ++ ms) (drops-moves i ss last n none) ∙ by (s.peer == n)
   where

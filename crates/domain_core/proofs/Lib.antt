@@ -40,6 +40,7 @@ pub mod ChangedPeers
 pub mod Stepping
 pub mod Steps
 pub mod Meaning
+pub mod Channels
 pub mod Dropping
 pub mod CallsAgree
 pub mod StateFits
@@ -48,6 +49,7 @@ pub mod Judging
 pub mod Acting
 pub mod TurnSteps
 pub mod TurnMeaning
+pub mod ChannelMeaning
 pub mod Turning
 pub mod Effects
 pub mod Taking

@@ -98,6 +98,10 @@ module _ (p : Parts) (n : ℕ) (frame : List ℕ) where
       ap (λ (ps : List (Peer LaneSeen)). state_in plain p.book p.records p.requests p.table ps) (sym (set-is-map n put p.peers i at.0 sound.peers.rising at.1 at.2))
       ∙ state-sent plain p.book p.records p.requests p.table p.peers i at.0 (after_moves put at.0.ends) n there at.1 refl refl refl
 
+pub not-zero : (n : ℕ) → (n ≡ 0 → ⊥) → 0 < n
+not-zero zero some = absurd (some refl)
+not-zero (suc n) some = omega arith
+
 -- a lane of which a buffer is free is there
 pub free-place : (p : Parts) (n : ℕ) → 0 < free_to (state_of p) n → (i : ℕ) × (Some i ≡ position (λ (x : Peer LaneSeen). x.number == n) p.peers)
 free-place p n free = by (position (λ (x : Peer LaneSeen). x.number == n) p.peers) refl
@@ -148,7 +152,7 @@ module _ (p : Parts) (sound : Sound p) (i : ℕ) (s : Slot) (first : Some s ≡ 
 
 -- ---- an endpoint is gone, at which nothing waits
 
-no-slots : (ws : List Waiting) → map (λ (w : Waiting). w.slot) ws ≡ [] → ws ≡ []
+pub no-slots : (ws : List Waiting) → map (λ (w : Waiting). w.slot) ws ≡ [] → ws ≡ []
 no-slots [] e = refl
 no-slots (w ∷ ws) e = absurd cc
 

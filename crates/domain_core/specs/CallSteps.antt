@@ -2,18 +2,26 @@
 -- Source: docs/PROFILE.md, "Calls". The id of a new request, which no state tells, stands beside the call.
 use Rattle.std.specs.Prelude.{◌≡◌, ℕ, ◌+◌, List, [], ◌∷◌, ◌++◌, length, map, slice_get, Option, None, Some, option_and_then, option_map, option_to_list, IfSome}
 use Rattle.mc_base.specs.Limits.{first_address}
+use Rattle.mc_base.specs.declared.channel.Side.{Side}
+use Rattle.mc_base.specs.declared.channel.Side.TheVariants.{Receiver, Sender}
 use Rattle.mc_base.specs.declared.name.Local.{Local}
 use Rattle.mc_base.specs.declared.refusal.Refusal.{Refusal}
+use Rattle.mc_base.specs.declared.refusal.Refusal.TheVariants.{ChanClosed}
 use Rattle.mc_base.specs.declared.request.RequestId.{RequestId}
 use Rattle.mc_base.specs.declared.request.Slot.{Slot}
-use Rattle.board_model.specs.Answer.{address_of, answer, local, refusal, success_puts}
+use Rattle.board_model.specs.Answer.{address_of, answer, channel_at, local, refusal, success_puts}
+use Rattle.board_model.specs.ChannelEnds.{closed_end, opened_end}
 use Rattle.board_model.specs.Choice.{best}
-use Rattle.board_model.specs.DomainCall.{DomainCall, create_at, delete_at, lookup_of, send_from, receive_at, request_at, test_of, cancel_of}
+use Rattle.board_model.specs.DomainCall.{DomainCall, create_at, delete_at, lookup_of, send_from, receive_at, request_at, connect_from, open_at, close_at, test_of, cancel_of}
 use Rattle.board_model.specs.Change.{changed_all}
-use Rattle.board_model.specs.CallChanges.{success_changes, success_returned}
+use Rattle.board_model.specs.CallChanges.{new_sender, success_changes, success_returned}
 use Rattle.board_model.specs.Journal.{PlainAnswer}
 use Rattle.board_model.specs.Lists.{without}
-use Rattle.board_model.specs.State.{place_at}
+use Rattle.board_model.specs.State as state
+use Rattle.board_model.specs.State.{ChannelEnd, DomainState, closed, connected, connecting, opened, place_at}
+use Rattle.packet_channel.specs.declared.channel.Channel.{Channel}
+use Rattle.packet_channel.specs.declared.channel.Stage.{Stage}
+use Rattle.packet_channel.specs.declared.channel.Stage.TheVariants as stage
 use Rattle.request_set.specs.declared.ask.Ask.TheVariants as ask
 use Rattle.request_set.specs.declared.ask.Complete.TheVariants as complete
 use Rattle.request_set.specs.Requests.{Requests}
@@ -24,7 +32,7 @@ use Rattle.domain_core.specs.InRequests.{slots_in}
 use Rattle.domain_core.specs.LaneMoves.{LaneMove}
 use Rattle.domain_core.specs.Parts.{Holding, Parts, state_of}
 use Rattle.domain_core.specs.Records.{slots_at, waiting_in}
-use Rattle.domain_core.specs.Steps.{Did, Step, all_moves, best_dropped, done_all, endpoint_gone, endpoint_made, frame_put, message_ended, oldest_dropped, receive_begun, request_begun, request_ended}
+use Rattle.domain_core.specs.Steps.{Did, Step, all_moves, best_dropped, channel_given, channel_set, done_all, endpoint_gone, endpoint_made, frame_put, message_ended, oldest_dropped, receive_begun, receives_ended, request_begun, request_ended}
 use Rattle.domain_core.specs.Stores.{KeepsBut}
 
 -- steps that hang on what is there
@@ -57,6 +65,30 @@ abbrev pub ending : Option ℕ → List Slot → Step
 ending place [] = request_ended place
 ending place (s ∷ ss) = message_ended place s
 
+-- an end of a channel, as a domain has it
+abbrev pub stage_from : state.Stage → Stage
+stage_from connecting = stage.Connecting
+stage_from connected = stage.Connected
+stage_from opened = stage.Open
+stage_from closed = stage.Closed
+
+abbrev pub as_channel : ChannelEnd → Channel
+as_channel e = record { side = e.side; kind = e.kind; owner = e.owner; number = e.number; peer = e.peer; peer_addr = e.peer_address; stage = stage_from e.stage; far_open = e.far_open; far_closed = e.far_closed }
+
+-- a receiver's end that closes: the receives that wait there end, and all that is queued there is dropped
+abbrev pub emptying : Side → ℕ → Local → List Slot → List Step
+emptying Sender i at slots = []
+emptying Receiver i at slots = receives_ended at ChanClosed ∷ drops i slots
+
+-- what was done for it
+abbrev pub Empties : {L : Type 0} → (L → List LaneMove → L → Type 0) → Side → ℕ → Local → Holding L → Holding L → Type 0
+Empties Moved Sender i at old new = new ≡ old
+Empties Moved Receiver i at old new = Did Moved (emptying Receiver i at (slots_at old.parts.records i)) old new
+
+-- what is done at a place with the end of a channel that the endpoint of a name has
+abbrev pub at_its_end : DomainState → Local → (ℕ → ChannelEnd → List Step) → List Step
+at_its_end s at f = if_some (place_at s at) (λ i. if_some (channel_at s at) (f i))
+
 -- the steps of a call's success
 abbrev pub call_steps : Parts → ℕ → DomainCall → Option RequestId → List Step
 call_steps p node (create_at port) given = endpoint_made p.table.domain (local node port) (first_address + p.table.given) ∷ []
@@ -65,6 +97,21 @@ call_steps p node (lookup_of name) given = if_some given (λ id. request_begun i
 call_steps p node (send_from port to priority bytes) given = putting_all (success_puts (state_of p) node (send_from port to priority bytes))
 call_steps p node (receive_at port max) given = if_some (place_at (state_of p) (local node port)) (λ i. if_some (best_slot p i) (λ s. best_dropped i s ∷ []))
 call_steps p node (request_at port max) given = if_some given (λ id. if_some (place_at (state_of p) (local node port)) (λ i. receiving i (best_slot p i) id (local node port) max ∷ []))
+call_steps p node (connect_from port to kind) given = if_some given (λ id. if_some (place_at (state_of p) (local node port)) (λ i.
+    putting_all (success_puts (state_of p) node (connect_from port to kind))
+    ++ channel_set i (Some (as_channel (new_sender (state_of p) to kind)))
+    ∷ request_begun id (ask.Connect ((state_of p).channels_given + 1)) None
+    ∷ channel_given
+    ∷ []))
+call_steps p node (open_at port side kind) given = at_its_end (state_of p) (local node port) (λ i c.
+    putting_all (success_puts (state_of p) node (open_at port side kind))
+    ++ channel_set i (Some (as_channel (opened_end c)))
+    ∷ [])
+call_steps p node (close_at port side) given = at_its_end (state_of p) (local node port) (λ i c.
+    putting_all (success_puts (state_of p) node (close_at port side))
+    ++ (emptying side i (local node port) (slots_at p.records i)
+    ++ channel_set i (option_map as_channel (closed_end c))
+    ∷ []))
 call_steps p node (test_of place) given = ending place (slots_held p.requests place) ∷ []
 call_steps p node (cancel_of place) given = request_ended place ∷ []
 call_steps p node other given = []

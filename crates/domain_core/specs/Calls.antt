@@ -3,6 +3,8 @@
 -- effect of the call.
 use Rattle.std.specs.Prelude.{◌≡◌, ◌≢◌, ◌≤◌, ℕ, List, ◌∷◌, ◌++◌, length, map, take, drop, Contains, IfSome, Option, None, Some, option_to_list, Result, Ok, Err}
 use Rattle.mc_base.specs.Limits.{no_key}
+use Rattle.mc_base.specs.declared.channel.Side.{Side}
+use Rattle.mc_base.specs.declared.channel.Side.TheVariants.{Receiver, Sender}
 use Rattle.mc_base.specs.declared.refusal.Refusal.{Refusal}
 use Rattle.mc_base.specs.declared.refusal.Refusal.TheVariants.{Pending}
 use Rattle.mc_base.specs.declared.request.Done.{Done}
@@ -11,7 +13,7 @@ use Rattle.mc_base.specs.declared.request.Got.{Got}
 use Rattle.mc_base.specs.declared.request.RequestId.{RequestId}
 use Rattle.mc_base.specs.declared.request.Slot.{Slot}
 use Rattle.board_model.specs.DomainCall.{DomainCall, test_of, cancel_of}
-use Rattle.board_model.specs.Journal.{Line, Visit, turned, noted_all, PlainResult, found_at, was_accepted, was_rejected, brought, ended_by, PlainAnswer, refuses, agrees, tells, gives, completes}
+use Rattle.board_model.specs.Journal.{Line, Visit, turned, noted_all, PlainResult, found_at, was_accepted, was_rejected, brought, ended_by, PlainAnswer, refuses, agrees, tells, gives, completes, connects}
 use Rattle.board_model.specs.Lists.{without}
 use Rattle.board_model.specs.State.{DomainState}
 use Rattle.board_model.specs.Answer.{answer, puts, refusal, unless_refused}
@@ -88,6 +90,21 @@ requested (Err word) = refuses word
 abbrev pub given : Result RequestId Refusal → Option RequestId
 given (Ok id) = Some id
 given (Err word) = None
+
+-- a connect is told by the serial of its request and the number of its channel
+abbrev pub connected : Result (RequestId × ℕ) Refusal → PlainAnswer
+connected (Ok (id, number)) = connects id.serial number
+connected (Err word) = refuses word
+
+abbrev pub given_by : Result (RequestId × ℕ) Refusal → Option RequestId
+given_by (Ok (id, number)) = Some id
+given_by (Err word) = None
+
+-- only at a receiver's end items are dropped
+abbrev pub closed : Side → Result ℕ Refusal → PlainAnswer
+closed Sender (Ok count) = agrees
+closed Receiver (Ok count) = tells count
+closed side (Err word) = refuses word
 
 abbrev pub available : Result ℕ Refusal → PlainAnswer
 available (Ok count) = tells count

@@ -10,6 +10,7 @@ mod letters;
 
 use crate::announcements::hear;
 use crate::dealing::connects::answer_connect;
+pub use crate::dealing::connects::is_busy;
 use crate::dealing::letters::act;
 use crate::endpoints::Endpoints;
 use crate::fates::fault_fate;

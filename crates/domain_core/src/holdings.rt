@@ -2,10 +2,15 @@
 
 ghost use Rattle.std.specs.Prelude.{◌≡◌, ◌↔◌, ◌+◌, ◌<◌, ◌≤◌, [], ◌∷◌, Contains, IfSome, IsNone, Some, is_some, length, map};
 ghost use Rattle.board_model.specs.State.{address_at, endpoint_at, free_to, lent_from, place_at, place_of_peer, queued_from, queued_items};
+ghost use Rattle.mc_base.specs.Frame.{made};
+ghost use Rattle.mc_base.specs.Letter.{HasSpelling, plain_letter, spelling};
 ghost use Rattle.board_model.specs.Answer.{address_of, has_channel};
+ghost use Rattle.board_model.specs.Journal.{noted_all};
+ghost use Rattle.board_model.specs.Serial.{put_entry};
 ghost use Rattle.domain_core.specs.Parts.{Sound, state_of};
 ghost use Rattle.domain_core.specs.Steps.{Did, frame_put};
 
+mod channel_calls;
 mod endpoint_calls;
 mod message_calls;
 mod opening;
@@ -15,13 +20,15 @@ mod taking;
 mod turns;
 
 use crate::endpoints::Endpoints;
+use crate::messages::write;
 use crate::peer::Peer;
 use crate::peer_lane::PeerLane;
 use crate::peers::place_of;
 use crate::requests::messages_handed_from;
 use buffer_book::{BufferBook, Places};
 use endpoint_table::EndpointTable;
-use mc_base::{EndName, Local};
+use mc_base::{BUFFER_SIZE, EndName, Letter, Local};
+use mc_journal::{Entry, Journal};
 pub use opening::carry;
 use request_set::RequestSet;
 use std::marker::Model;
@@ -127,6 +134,35 @@ impl<P: PeerLane> Holdings<P> {
             return 0;
         };
         self.peers[place].ends.free_len()
+    }
+
+    /// Notes the frame of a letter, from one address to another, and puts it to a peer.
+    fn put_letter(
+        &mut self,
+        journal: &mut Journal,
+        number: u8,
+        source: u32,
+        destination: u32,
+        letter: &Letter<'_>,
+    )
+        requires free { 0 < free_to (state_of self.old.parts) number }
+        requires lawful { HasSpelling (plain_letter letter.now) }
+        requires short { length (spelling (plain_letter letter.now)) ≤ 496 }
+        requires entry_room { 1 ≤ journal.old.entry_room }
+        requires byte_room { 512 ≤ journal.old.byte_room }
+        ensures did { Did P.Moved (frame_put number (made source destination (spelling (plain_letter letter.now))) ∷ []) self.old self.new }
+        ensures told { journal.new.lines ≡ noted_all journal.old.lines (put_entry (number, made source destination (spelling (plain_letter letter.now))) ∷ []) }
+        ensures entry_room { journal.old.entry_room ≤ journal.new.entry_room + 1 }
+        ensures byte_room { journal.old.byte_room ≤ journal.new.byte_room + 512 }
+    {
+        let mut out = [0; BUFFER_SIZE];
+        let len = write(&mut out, source, destination, letter);
+        let frame = &out[..len as usize];
+        journal.note(Entry::Put {
+            peer: number,
+            frame,
+        });
+        self.put(number, frame);
     }
 
     /// Puts a frame to a peer.

@@ -65,7 +65,7 @@ fn accept(
 }
 
 /// Whether an item or a receive waits at the endpoint at a place.
-fn is_busy(endpoints: &Endpoints, requests: &RequestSet, place: usize) -> bool
+pub fn is_busy(endpoints: &Endpoints, requests: &RequestSet, place: usize) -> bool
     requires within { place < length endpoints.now.endpoints }
     ensures { Some result ≡ busy_at endpoints.now requests.now place }
 {

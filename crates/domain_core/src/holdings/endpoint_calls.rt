@@ -53,7 +53,7 @@ impl<P: PeerLane> Holdings<P> {
     }
 
     /// Drops all messages that wait at a place, the oldest first, and answers how many.
-    fn drop_all(&mut self, place: usize) -> u32
+    pub(super) fn drop_all(&mut self, place: usize) -> u32
         requires within { place < length self.old.parts.records.endpoints }
         ensures count { result ≡ length (slots_at self.old.parts.records place) }
         ensures none { slots_at self.new.parts.records place ≡ [] }

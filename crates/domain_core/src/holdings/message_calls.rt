@@ -12,11 +12,11 @@ ghost use Rattle.domain_core.specs.Parts.{state_of};
 ghost use Rattle.domain_core.specs.Steps.{Did};
 
 use crate::holdings::Holdings;
-use crate::messages::{give, write};
+use crate::messages::give;
 use crate::peer_lane::PeerLane;
 use crate::peers::give_back;
-use mc_base::{BUFFER_SIZE, EndName, Got, ITEM_SIZE, Letter, Local, Priority, Refusal};
-use mc_journal::{Entry, Journal};
+use mc_base::{EndName, Got, ITEM_SIZE, Letter, Local, Priority, Refusal};
+use mc_journal::Journal;
 
 impl<P: PeerLane> Holdings<P> {
     /// `msg_send` after its turn.
@@ -51,15 +51,8 @@ impl<P: PeerLane> Holdings<P> {
         if self.free_to(to.domain) == 0 {
             return Err(Refusal::NoBuffer);
         }
-        let mut out = [0; BUFFER_SIZE];
         let letter = Letter::Msg { priority, bytes };
-        let len = write(&mut out, source, destination, &letter);
-        let frame = &out[..len as usize];
-        journal.note(Entry::Put {
-            peer: to.domain,
-            frame,
-        });
-        self.put(to.domain, frame);
+        self.put_letter(journal, to.domain, source, destination, &letter);
         Ok(())
     }
 

@@ -35,7 +35,7 @@ impl<P: PeerLane> Holdings<P> {
     }
 
     /// Begins a request that holds no message, or answers `None` where 64 stand.
-    fn begin_request(&mut self, ask: Ask, how: Option<Complete>) -> Option<RequestId>
+    pub(super) fn begin_request(&mut self, ask: Ask, how: Option<Complete>) -> Option<RequestId>
         requires may { Receives ask how }
         requires quiet { slots_in how ≡ [] }
         ensures none { IsNone result → nat_le request_limit (length (state_of self.old.parts).requests) ≡ true }

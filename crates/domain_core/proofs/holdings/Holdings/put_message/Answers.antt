@@ -1,4 +1,4 @@
-use Rattle.std.proofs.Common.{◌≡◌, ◌<◌, ◌∙◌, ℕ, zero, suc, List, ◌∷◌, [], ap, sym, refl, subst, map, take, None, Option, rules, arith}
+use Rattle.std.proofs.Common.{◌≡◌, ◌<◌, ◌∙◌, ℕ, List, ◌∷◌, [], ap, sym, refl, subst, map, None, Option, rules}
 use Rattle.std.specs.Prelude.{unwrap_or}
 use Rattle.mc_base.specs.Frame.{made}
 use Rattle.mc_base.specs.Letter.{spelling, msg}
@@ -11,25 +11,20 @@ use Rattle.domain_core.specs.Steps.{Did, Step}
 use Rattle.domain_core.specs.CallSteps.{putting_all}
 use Rattle.domain_core.proofs.Calling.{puts-done}
 use Rattle.domain_core.proofs.Meaning.{send-means}
-use Rattle.domain_core.proofs.Steps.{free-place}
+use Rattle.domain_core.proofs.Steps.{free-place, not-zero}
 use Rattle.domain_core.proofs.Stepping.{acts-done}
 use Rattle.domain_core.proofs.holdings.Holdings.put_message.Given.{Over}
 use Rattle.domain_core.proofs.holdings.Holdings.put_message.Goals as goal
 
-not-zero : (n : ℕ) → (n ≡ 0 → ⊥) → 0 < n
-not-zero zero some = absurd (some refl)
-not-zero (suc n) some = omega arith
-
-unrefused : (g : Over) (c : goal.After-put g) → refusal (state_of c.args.self.now.parts) c.args.from.node (send_from c.args.from.port c.args.to c.args.priority c.args.bytes.now) ≡ None
+unrefused : (g : Over) (c : goal.After-put_letter g) → refusal (state_of c.args.self.now.parts) c.args.from.node (send_from c.args.from.port c.args.to c.args.priority c.args.bytes.now) ≡ None
 unrefused g c = search rules
 
-framed : (g : Over) (c : goal.After-put g) → success_puts (state_of c.args.self.now.parts) c.args.from.node (send_from c.args.from.port c.args.to c.args.priority c.args.bytes.now) ≡ (c.args.to.domain, take c.write-len.result c.write-len.new.out) ∷ []
+framed : (g : Over) (c : goal.After-put_letter g) → success_puts (state_of c.args.self.now.parts) c.args.from.node (send_from c.args.from.port c.args.to c.args.priority c.args.bytes.now) ≡ (c.args.to.domain, made c.address_at-source.result c.in-Some-address_of.destination (spelling (msg c.args.priority c.args.bytes.now))) ∷ []
 framed g c =
     let s = state_of c.args.self.now.parts in
     let text = spelling (msg c.args.priority c.args.bytes.now) in
     ap (λ (o : Option ℕ). (c.args.to.domain, made (unwrap_or o 0) (unwrap_or (address_of s c.args.to) 0) text) ∷ []) (sym c.address_at-source.ensures)
     ∙ ap (λ (o : Option ℕ). (c.args.to.domain, made c.address_at-source.result (unwrap_or o 0) text) ∷ []) (sym c.in-Some-address_of.ensures)
-    ∙ ap (λ (f : List ℕ). (c.args.to.domain, f) ∷ []) (sym c.write-len.ensures.frame)
 
 pub returns-clause-acts : goal.returns-clause-acts
 returns-clause-acts g c =
@@ -37,9 +32,9 @@ returns-clause-acts g c =
     let call = send_from c.args.from.port c.args.to c.args.priority c.args.bytes.now in
     let free = subst (λ (n : ℕ). 0 < n) c.free_to.ensures (not-zero c.free_to.result c.if-free_to-eq0.false) in
     let at = free-place old.parts c.args.to.domain free in
-    acts-done g.P.PeerLane.Moved c.args.from.node call old c.put.new.self agrees None (unrefused g c) refl
+    acts-done g.P.PeerLane.Moved c.args.from.node call old c.put_letter.new.self agrees None (unrefused g c) refl
     (record {
-      did = subst (λ (cs : List Step). Did g.P.PeerLane.Moved cs old c.put.new.self) (sym (ap putting_all (framed g c))) c.put.ensures;
+      did = subst (λ (cs : List Step). Did g.P.PeerLane.Moved cs old c.put_letter.new.self) (sym (ap putting_all (framed g c))) c.put_letter.ensures.did;
       means = send-means old.parts c.in-Some.ensures.sound c.args.from.node c.args.from.port c.args.to c.args.priority c.args.bytes.now at.0 at.1;
     })
 
@@ -47,5 +42,5 @@ pub returns-clause-told : goal.returns-clause-told
 returns-clause-told g c =
     let s = state_of c.args.self.now.parts in
     let call = send_from c.args.from.port c.args.to c.args.priority c.args.bytes.now in
-    c.note.ensures.lines
+    c.put_letter.ensures.told
     ∙ ap (λ (ps : List (ℕ × List ℕ)). noted_all c.args.journal.now.lines (map put_entry ps)) (sym (puts-done s c.args.from.node call (unrefused g c) ∙ framed g c))

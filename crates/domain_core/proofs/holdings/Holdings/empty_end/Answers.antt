@@ -1,0 +1,24 @@
+use Rattle.std.proofs.Common.{◌∷◌, [], List, ap, refl, sym, subst}
+use Rattle.mc_base.specs.declared.channel.Side.{Side}
+use Rattle.mc_base.specs.declared.refusal.Refusal.TheVariants.{ChanClosed}
+use Rattle.mc_base.specs.declared.request.Slot.{Slot}
+use Rattle.domain_core.specs.CallSteps.{Empties, drops}
+use Rattle.domain_core.specs.Parts.{Parts}
+use Rattle.domain_core.specs.Records.{slots_at}
+use Rattle.domain_core.specs.Steps.{Did, receives_ended}
+use Rattle.domain_core.proofs.Stepping.{did-then}
+use Rattle.domain_core.proofs.holdings.Holdings.empty_end.Goals as goal
+
+pub returns-in-Sender-clause-did : goal.returns-in-Sender-clause-did
+returns-in-Sender-clause-did g c = subst (λ (side : Side). Empties g.P.PeerLane.Moved side c.args.place c.args.at c.args.self.now c.args.self.now) (sym c.in-Sender.is) refl
+
+pub returns-in-Receiver-clause-did : goal.returns-in-Receiver-clause-did
+returns-in-Receiver-clause-did g c =
+    let M = g.P.PeerLane.Moved in
+    let i = c.args.place in
+    let old = c.args.self.now in
+    let mid = c.end_receives.new.self in
+    let new = c.drop_all.new.self in
+    let dropped = subst (λ (ss : List Slot). Did M (drops i ss) mid new) (ap (λ (x : Parts). slots_at x.records i) c.end_receives.ensures.parts) c.drop_all.ensures.did in
+    subst (λ (side : Side). Empties M side i c.args.at old new) (sym c.in-Receiver.is)
+    (did-then M g.met.P.PeerLane.both (receives_ended c.args.at ChanClosed ∷ []) (drops i (slots_at old.parts.records i)) old mid new c.end_receives.ensures dropped)

@@ -1,0 +1,24 @@
+use Rattle.std.proofs.Common.{◌∷◌, [], sym, subst}
+use Rattle.domain_core.specs.LaneSeen.{LaneSeen}
+use Rattle.domain_core.specs.declared.holdings.Holdings.TheInside.{Inside}
+use Rattle.domain_core.specs.Parts.{Holding, Parts, holding_in, parts_in, peers_seen}
+use Rattle.domain_core.specs.Steps.{Did, channel_given}
+use Rattle.domain_core.proofs.Stepping.{quiet-moved, quiet-peers}
+use Rattle.domain_core.proofs.holdings.Holdings.use_number.Given.{Over}
+use Rattle.domain_core.proofs.holdings.Holdings.use_number.Goals as goal
+
+abbrev v : (g : Over) → (g.row.P.Denot → LaneSeen)
+v g = g.P.PeerLane.seen
+
+abbrev p : (g : Over) → Inside g.row.P.Denot → Parts
+p g d = parts_in (v g) d.book d.endpoints d.requests d.table d.peers.items
+
+pub returns : goal.returns
+returns g c =
+    let d = c.self.inside in
+    let M = g.P.PeerLane.Moved in
+    let r = c.number_channel.ensures.numbered in
+    let ps = sym (quiet-peers (peers_seen (v g) d.peers.items)) in
+    let now = holding_in (v g) d.book c.number_channel.new.self d.requests d.table d.peers.items in
+    let did : Did M (channel_given ∷ []) (holding_in (v g) d.book d.endpoints d.requests d.table d.peers.items) now = record { parts = cc; moved = quiet-moved M g.met.P.PeerLane.none (v g) d.peers.items } in
+    subst (λ (x : Holding g.row.P.Denot). Did M (channel_given ∷ []) x now) c.self.view_is did
