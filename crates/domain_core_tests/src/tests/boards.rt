@@ -6,16 +6,20 @@ ghost use Rattle.lane_end.specs.Loop.{new_loop};
 ghost use Rattle.domain_core.specs.Going.{PlainGoes};
 ghost use Rattle.linked_pair.specs.Links.{IsOpen};
 
-use super::steps::Said::{Address, Held, Idle, Message, Number};
-use super::steps::Step::{Available, Begin, Cancel, Delete, Lookup, Plain, Test, Turn};
+use super::steps::Said::{Accepted, Address, Connected, Held, Idle, Message, Number, Rejected};
+use super::steps::Step::{
+    Available, Begin, Cancel, CloseRecv, CloseSend, Connect, Delete, Lookup, OpenRecv, OpenSend,
+    Plain, Test, Turn,
+};
 use super::steps::{self, Step, stepped};
 use super::*;
 use domain_core::{carry, domains_stay_linked};
 use linked_pair::{PlainDomain, PlainLink, plain_link};
-use mc_base::RequestId;
+use mc_base::{Kind, Reason, RequestId};
 use std::marker::Model;
 
 mod announcements;
+mod channels;
 mod messages;
 
 /// What one of the domains does, that their link is carried, or what is asked of them.

@@ -5,8 +5,9 @@ ghost use Rattle.domain_core.specs.Ends.{EndsMoved};
 ghost use Rattle.domain_core.specs.Going.{Goes};
 
 use super::*;
-use mc_base::Done;
+use mc_base::{Done, Kind, Reason};
 
+mod channels;
 mod endpoints;
 mod requests;
 
@@ -23,6 +24,14 @@ pub enum Step {
     Lookup(u8, u16),
     /// Asks how many messages wait at a port.
     Available(u16),
+    /// Connects a port to a port of a domain.
+    Connect(u16, u8, u16, Kind),
+    /// Opens the sender's end at a port, and the receiver's.
+    OpenSend(u16, Kind),
+    OpenRecv(u16, Kind),
+    /// Closes the sender's end at a port, and the receiver's.
+    CloseSend(u16),
+    CloseRecv(u16),
     /// Tests a request. The message that comes has this byte throughout.
     Test(u64, u8),
     /// Cancels a request.
@@ -31,7 +40,10 @@ pub enum Step {
     Turn,
 }
 
-use Step::{Available, Begin, Cancel, Delete, Lookup, Plain, Test, Turn};
+use Step::{
+    Available, Begin, Cancel, CloseRecv, CloseSend, Connect, Delete, Lookup, OpenRecv, OpenSend,
+    Plain, Test, Turn,
+};
 
 /// What a call tells that is not refused.
 #[derive(Clone, Copy, PartialEq, Eq)]
@@ -42,6 +54,12 @@ pub enum Said {
     Message(u32, u32),
     /// The address of the endpoint that was looked up.
     Address(u32),
+    /// The serial of a connect's request, and the number of its channel.
+    Connected(u64, u32),
+    /// A connection was accepted.
+    Accepted,
+    /// A connection was rejected.
+    Rejected(Reason),
     /// The word that a request ended with.
     Ended(Refusal),
     /// Whether a turn was idle.
@@ -50,7 +68,7 @@ pub enum Said {
     Held(u32, u32),
 }
 
-use Said::{Address, Ended, Idle, Message, Number};
+use Said::{Accepted, Address, Connected, Ended, Idle, Message, Number, Rejected};
 
 /// What a call answers.
 pub type Answered = Result<Said, Refusal>;
@@ -94,6 +112,27 @@ pub fn stepped<S: SendEnd, R: RecvEnd>(
             let answer = domain.msg_available(journal, Local { node: 0, port });
             Ok(Some(number(answer)))
         }
+        Connect(port, peer, to, kind) => {
+            let from = Local { node: 0, port };
+            let answer = domain.connect(journal, from, end_at(peer, to), kind);
+            connected(ids, answer)
+        }
+        OpenSend(port, kind) => {
+            let answer = domain.open_send(journal, Local { node: 0, port }, kind);
+            Ok(Some(answer.map(|()| Number(0))))
+        }
+        OpenRecv(port, kind) => {
+            let answer = domain.open_recv(journal, Local { node: 0, port }, kind);
+            Ok(Some(answer.map(|()| Number(0))))
+        }
+        CloseSend(port) => {
+            let answer = domain.close_send(journal, Local { node: 0, port });
+            Ok(Some(answer.map(|()| Number(0))))
+        }
+        CloseRecv(port) => {
+            let answer = domain.close_recv(journal, Local { node: 0, port });
+            Ok(Some(number(answer)))
+        }
         Test(serial, byte) => Ok(tested(domain, journal, id_of(ids, serial), byte)),
         Cancel(serial) => {
             let answer = domain.cancel(journal, id_of(ids, serial));
@@ -123,6 +162,22 @@ fn begun(
     }
 }
 
+/// Keeps the id of a connect's request.
+fn connected(
+    ids: &mut Vec<RequestId>,
+    answer: Result<(RequestId, u32), Refusal>,
+) -> Result<Option<Answered>, NoMemory> {
+    match answer {
+        Ok((id, number)) => {
+            if ids.push(id).is_err() {
+                return Err(NoMemory);
+            }
+            Ok(Some(Ok(Connected(id.serial, number))))
+        }
+        Err(word) => Ok(Some(Err(word))),
+    }
+}
+
 /// Tests a request. What lies behind the bytes that are given must stay.
 fn tested<S: SendEnd, R: RecvEnd>(
     domain: &mut Domain<S, R>,
@@ -139,6 +194,8 @@ fn tested<S: SendEnd, R: RecvEnd>(
     let (answer, given) = match answer {
         Ok(Done::Message(got)) => (Ok(Message(got.size, got.given)), got.given),
         Ok(Done::Address(address)) => (Ok(Address(address)), 0),
+        Ok(Done::Accepted) => (Ok(Accepted), 0),
+        Ok(Done::Rejected(reason)) => (Ok(Rejected(reason)), 0),
         Ok(Done::Ended(word)) => (Ok(Ended(word)), 0),
         Ok(_) => return None,
         Err(word) => (Err(word), 0),

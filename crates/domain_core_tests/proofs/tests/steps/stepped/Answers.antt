@@ -18,3 +18,18 @@ returns-in-Cancel g c = ends-go g.S.SendEnd.Moved g.R.RecvEnd.Moved g.met.S.Send
 
 pub returns-in-Turn : goal.returns-in-Turn
 returns-in-Turn g c = ends-go g.S.SendEnd.Moved g.R.RecvEnd.Moved g.met.S.SendEnd.both g.met.R.RecvEnd.both _ _ _ _ _ _ _ _ c.turn.ensures.call
+
+pub returns-in-Connect : goal.returns-in-Connect
+returns-in-Connect g c = ends-go g.S.SendEnd.Moved g.R.RecvEnd.Moved g.met.S.SendEnd.both g.met.R.RecvEnd.both _ _ _ _ _ _ _ _ c.connect-answer.ensures.call
+
+pub returns-in-OpenSend : goal.returns-in-OpenSend
+returns-in-OpenSend g c = ends-go g.S.SendEnd.Moved g.R.RecvEnd.Moved g.met.S.SendEnd.both g.met.R.RecvEnd.both _ _ _ _ _ _ _ _ c.open_send-answer.ensures.call
+
+pub returns-in-OpenRecv : goal.returns-in-OpenRecv
+returns-in-OpenRecv g c = ends-go g.S.SendEnd.Moved g.R.RecvEnd.Moved g.met.S.SendEnd.both g.met.R.RecvEnd.both _ _ _ _ _ _ _ _ c.open_recv-answer.ensures.call
+
+pub returns-in-CloseSend : goal.returns-in-CloseSend
+returns-in-CloseSend g c = ends-go g.S.SendEnd.Moved g.R.RecvEnd.Moved g.met.S.SendEnd.both g.met.R.RecvEnd.both _ _ _ _ _ _ _ _ c.close_send-answer.ensures.call
+
+pub returns-in-CloseRecv : goal.returns-in-CloseRecv
+returns-in-CloseRecv g c = ends-go g.S.SendEnd.Moved g.R.RecvEnd.Moved g.met.S.SendEnd.both g.met.R.RecvEnd.both _ _ _ _ _ _ _ _ c.close_recv-answer.ensures.call

@@ -1,0 +1,52 @@
+//! Channels between linked domains.
+
+use super::*;
+use Kind::{Packet, Scalar};
+
+const OVER_A_LINK: [Row; 19] = [
+    (Three(Plain(Create(0, 1))), Ok(Number(1024))),
+    (Four(Plain(Create(0, 1))), Ok(Number(1024))),
+    (Four(Turn), Ok(Idle(false))),
+    CARRIED,
+    (Three(Connect(1, 4, 1, Packet)), Ok(Connected(0, 1))),
+    CARRIED,
+    (Four(Turn), Ok(Idle(false))),
+    (Four(Turn), Ok(Idle(false))),
+    (Three(Test(0, 0)), Err(Refusal::Pending)),
+    CARRIED,
+    (Three(Test(0, 0)), Ok(Accepted)),
+    (Three(OpenSend(1, Packet)), Ok(Number(0))),
+    (Four(OpenRecv(1, Packet)), Ok(Number(0))),
+    CARRIED,
+    (Three(CloseSend(1)), Ok(Number(0))),
+    CARRIED,
+    (Four(CloseRecv(1)), Ok(Number(0))),
+    CARRIED,
+    // The channel ended, and the next has another number.
+    (Three(Connect(1, 4, 1, Scalar)), Ok(Connected(1, 2))),
+];
+
+#[test]
+fn a_channel_goes_over_a_link(rt: HostRuntime) -> Result<(), Fail> {
+    assert_all(&rt, rt.alloc(), 8, &OVER_A_LINK)
+}
+
+const TO_NO_ENDPOINT: [Row; 12] = [
+    (Three(Plain(Create(0, 1))), Ok(Number(1024))),
+    (Four(Plain(Create(0, 1))), Ok(Number(1024))),
+    (Four(Turn), Ok(Idle(false))),
+    CARRIED,
+    (Three(Connect(1, 4, 1, Packet)), Ok(Connected(0, 1))),
+    (Four(Delete(0, 1)), Ok(Number(0))),
+    CARRIED,
+    (Four(Turn), Ok(Idle(false))),
+    (Four(Turn), Ok(Idle(false))),
+    CARRIED,
+    (Three(Test(0, 0)), Ok(Rejected(Reason::NoEndpoint))),
+    (Three(Delete(0, 1)), Ok(Number(0))),
+];
+
+#[test]
+fn a_connect_comes_to_no_endpoint(rt: HostRuntime) -> Result<(), Fail> {
+    assert_all(&rt, rt.alloc(), 8, &TO_NO_ENDPOINT)
+}
