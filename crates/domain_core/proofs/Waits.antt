@@ -1,9 +1,9 @@
 -- What waits at endpoints: how much, and what the book of buffers says of it.
-use Rattle.std.proofs.Common.{◌≡◌, ℕ, zero, suc, ◌+◌, ◌<◌, ◌≤◌, Bool, true, cond, List, [], ◌∷◌, ◌++◌, length, map, Option, Some, refl, sym, ap, ◌∙◌, arith, length-append}
-use Rattle.std.specs.Prelude.{count_by, option_map, option_to_list, slice_get, sum_by}
+use Rattle.std.proofs.Common.{◌≡◌, ℕ, zero, suc, ◌+◌, ◌<◌, ◌≤◌, Bool, true, cond, List, [], ◌∷◌, ◌++◌, length, map, Option, Some, None, refl, sym, ap, ◌∙◌, arith, length-append}
+use Rattle.std.specs.Prelude.{count_by, is_none, option_map, option_to_list, slice_get, sum_by}
+use Rattle.std.proofs.lemmas.Bool.{cond_both}
 use Rattle.std.proofs.lemmas.List.{length-map, map-append, map_push}
-use Rattle.std.proofs.lemmas.List.Concat.{length-flat_map}
-use Rattle.std.proofs.lemmas.List.Sums.{sum_by_push}
+use Rattle.std.proofs.lemmas.List.Sums.{sum_by-cons, sum_by_push}
 use Rattle.board_model.specs.Lists.{changed_at}
 use Rattle.board_model.specs.State as state
 use Rattle.board_model.specs.State.{Item, is_from, queue_in}
@@ -16,7 +16,10 @@ use Rattle.board_model.proofs.MessageBest.{best-map, count-best, without_best-ma
 use Rattle.mc_base.specs.declared.request.Slot.{Slot}
 use Rattle.buffer_book.specs.Book.{Book, Kept, with_place}
 use Rattle.message_queue.specs.Queue.{Waiting}
+use Rattle.packet_channel.specs.End.{end_of}
+use Rattle.packet_channel.specs.declared.channel.Channel.{Channel}
 use Rattle.domain_core.specs.declared.endpoints.Endpoint.{Endpoint}
+use Rattle.domain_core.specs.Hearing.{messages_at, messages_waiting}
 use Rattle.domain_core.specs.Table.{items_in}
 use Rattle.domain_core.specs.Records.{all_waiting, waiting_in, with_best_taken, with_waiting}
 use Rattle.domain_core.specs.InBook.{channel_in, content_in, endpoint_in, endpoints_in, item_in, source_in}
@@ -60,8 +63,13 @@ waiting-within [] i = omega arith
 waiting-within (e ∷ es) zero = omega (arith, length-append e.queue.waiting (all_waiting es))
 waiting-within (e ∷ es) (suc i) = omega (arith, waiting-within es i, length-append e.queue.waiting (all_waiting es))
 
-pub sum-waiting : (es : List Endpoint) → sum_by (λ (e : Endpoint). length e.queue.waiting) es ≡ length (all_waiting es)
-sum-waiting es = sym (length-flat_map (λ (e : Endpoint). e.queue.waiting) es)
+-- the messages among it are no more
+messages-few : (e : Endpoint) → messages_waiting e ≤ length e.queue.waiting
+messages-few e = cond_both (is_none e.channel) (length e.queue.waiting) 0 (λ n. n ≤ length e.queue.waiting) (λ k. omega arith) (λ k. omega arith)
+
+pub messages-within : (es : List Endpoint) → sum_by messages_waiting es ≤ length (all_waiting es)
+messages-within [] = omega arith
+messages-within (e ∷ es) = omega (arith, sum_by-cons messages_waiting e es, messages-few e, messages-within es, length-append e.queue.waiting (all_waiting es))
 
 -- ---- what waits, by the book
 
@@ -115,8 +123,17 @@ pub items-are : (b : Book) (es : List Endpoint) → items_in (endpoints_in b es)
 items-are b [] = refl
 items-are b (e ∷ es) = ap (λ (xs : List Item). map (item_in b) e.queue.waiting ++ xs) (items-are b es) ∙ sym (map-append (item_in b) e.queue.waiting (all_waiting es))
 
-pub length-items : (b : Book) (es : List Endpoint) → length (items_in (endpoints_in b es)) ≡ length (all_waiting es)
-length-items b es = ap length (items-are b es) ∙ length-map (all_waiting es) (item_in b)
+-- and the messages among them
+messages_same : (b : Book) (e : Endpoint) → messages_at (endpoint_in b e) ≡ messages_waiting e
+messages_same b e = go e.channel
+  where
+    go : (c : Option Channel) → cond (is_none (option_map end_of c)) (length (map (item_in b) e.queue.waiting)) 0 ≡ cond (is_none c) (length e.queue.waiting) 0
+    go None = length-map e.queue.waiting (item_in b)
+    go (Some c) = refl
+
+pub messages-in : (b : Book) (es : List Endpoint) → sum_by messages_at (endpoints_in b es) ≡ sum_by messages_waiting es
+messages-in b [] = refl
+messages-in b (e ∷ es) = omega (arith, sum_by-cons messages_at (endpoint_in b e) (endpoints_in b es), sum_by-cons messages_waiting e es, messages_same b e, messages-in b es)
 
 -- those from a peer are as many as its slots that wait
 pub items-from : (b : Book) (number : ℕ) (es : List Endpoint) → count_by (is_from number) (items_in (endpoints_in b es)) ≡ count_by (λ (w : Waiting). is_of number w.slot) (all_waiting es)

@@ -1,10 +1,11 @@
 //! A domain, and its calls.
 
-ghost use Rattle.std.specs.Prelude.{◌≡◌, ◌≤◌, ◌+◌, IfOk, IfSome, IsNone, OnErr, ◌↔◌, None, Contains, length, drop, map, is_some};
+ghost use Rattle.std.specs.Prelude.{◌≡◌, ◌≤◌, ◌+◌, IfOk, IfSome, IsNone, OnErr, ◌↔◌, None, Contains, length, drop, map, is_some, sum_by};
 ghost use Rattle.board_model.specs.DomainCall.{create_at, delete_at, lookup_of, turn_alone, send_from, receive_at, request_at, available_at, test_of, cancel_of};
 ghost use Rattle.board_model.specs.Journal.{agrees};
-ghost use Rattle.board_model.specs.State.{lent_from, queued_from, queued_items, place_of_peer};
+ghost use Rattle.board_model.specs.State.{lent_from, queued_from, place_of_peer};
 ghost use Rattle.domain_core.specs.Ends.{EndsMoved};
+ghost use Rattle.domain_core.specs.Hearing.{messages_at};
 ghost use Rattle.domain_core.specs.Room.{call_entries, call_bytes};
 ghost use Rattle.domain_core.specs.DomainView.{place_of_id};
 ghost use Rattle.domain_core.specs.Turned.{MakesTurn};
@@ -247,9 +248,9 @@ impl<S: SendEnd, R: RecvEnd> Domain<S, R> {
         self.inside.places(peer)
     }
 
-    /// How many messages are queued on all endpoints.
+    /// How many messages are queued on all endpoints. An endpoint with a channel has only items of it.
     pub fn messages_queued(&self) -> u32
-        ensures { result ≡ length (queued_items self.now.state) }
+        ensures { result ≡ sum_by messages_at self.now.state.endpoints }
     {
         self.inside.messages_queued()
     }

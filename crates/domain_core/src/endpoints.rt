@@ -9,7 +9,7 @@ ghost use Rattle.board_model.specs.Answer.{channel_limit};
 ghost use Rattle.board_model.specs.Choice.{best, oldest};
 ghost use Rattle.buffer_book.specs.Book.{Book};
 ghost use Rattle.message_queue.specs.Queue.{waiting};
-ghost use Rattle.domain_core.specs.Hearing.{hears, hears_at};
+ghost use Rattle.domain_core.specs.Hearing.{hears, hears_at, messages_waiting};
 ghost use Rattle.domain_core.specs.Table.{holding};
 ghost use Rattle.domain_core.specs.Records.{all_waiting, kept, opening_records, waiting_in, with_best_taken_at, with_channel_at, with_channel_given, with_oldest_taken_at, with_record, with_waiting_at, without_record_at};
 ghost use Rattle.domain_core.specs.InBook.{endpoints_in};
@@ -274,12 +274,13 @@ impl Endpoints {
         }
     }
 
-    /// How many messages wait.
+    /// How many messages wait. They do at endpoints without a channel.
     pub fn queued(&self) -> usize
         requires { length (all_waiting self.now.endpoints) < 2 ^ 64 }
-        ensures { result ≡ length (all_waiting self.now.endpoints) }
+        ensures count { result ≡ sum_by messages_waiting self.now.endpoints }
+        ensures most { result ≤ length (all_waiting self.now.endpoints) }
     {
-        count_waiting(&self.records)
+        count_messages(&self.records)
     }
 }
 
@@ -325,11 +326,22 @@ fn place_with_channel(records: &[Endpoint], owner: u8, number: u32) -> Option<us
     )
 }
 
-fn count_waiting(records: &[Endpoint]) -> usize
-    requires { sum_by (λ e. length e.queue.waiting) records.now < 2 ^ 64 }
-    ensures { result ≡ sum_by (λ e. length e.queue.waiting) records.now }
+fn count_messages(records: &[Endpoint]) -> usize
+    requires { sum_by messages_waiting records.now < 2 ^ 64 }
+    ensures { result ≡ sum_by messages_waiting records.now }
 {
-    records.iter().map(|e| e.queue.len() as usize).sum()
+    records.iter().map(|e| messages_at(e)).sum()
+}
+
+/// How many messages wait at an endpoint. At one with a channel only its items do.
+fn messages_at(endpoint: &Endpoint) -> usize
+    ensures { result ≡ messages_waiting endpoint.now }
+{
+    if endpoint.channel.is_none() {
+        endpoint.queue.len() as usize
+    } else {
+        0
+    }
 }
 
 /// The queues of all endpoints that there can be.

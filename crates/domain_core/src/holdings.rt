@@ -1,12 +1,13 @@
 //! The inside of a domain as one value, whose methods make its steps.
 
-ghost use Rattle.std.specs.Prelude.{◌≡◌, ◌↔◌, ◌+◌, ◌<◌, ◌≤◌, [], ◌∷◌, Contains, IfSome, IsNone, Some, is_some, length, map};
-ghost use Rattle.board_model.specs.State.{address_at, endpoint_at, free_to, lent_from, place_at, place_of_peer, queued_from, queued_items};
+ghost use Rattle.std.specs.Prelude.{◌≡◌, ◌↔◌, ◌+◌, ◌<◌, ◌≤◌, [], ◌∷◌, Contains, IfSome, IsNone, Some, is_some, length, map, sum_by};
+ghost use Rattle.board_model.specs.State.{address_at, endpoint_at, free_to, lent_from, place_at, place_of_peer, queued_from};
 ghost use Rattle.mc_base.specs.Frame.{made};
 ghost use Rattle.mc_base.specs.Letter.{HasSpelling, plain_letter, spelling};
 ghost use Rattle.board_model.specs.Answer.{address_of, has_channel};
 ghost use Rattle.board_model.specs.Journal.{noted_all};
 ghost use Rattle.board_model.specs.Serial.{put_entry};
+ghost use Rattle.domain_core.specs.Hearing.{messages_at};
 ghost use Rattle.domain_core.specs.Parts.{Sound, state_of};
 ghost use Rattle.domain_core.specs.Steps.{Did, frame_put};
 
@@ -79,7 +80,7 @@ impl<P: PeerLane> Holdings<P> {
 
     /// How many messages are queued on all endpoints.
     pub fn messages_queued(&self) -> u32
-        ensures { result ≡ length (queued_items (state_of self.now.parts)) }
+        ensures { result ≡ sum_by messages_at (state_of self.now.parts).endpoints }
     {
         self.endpoints.queued() as u32
     }

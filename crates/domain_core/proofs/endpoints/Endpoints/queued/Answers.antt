@@ -1,16 +1,23 @@
-use Rattle.std.proofs.Common.{◌∙◌, ap, arith, length}
+use Rattle.std.proofs.Common.{◌∙◌, ap, arith, length, sum_by}
+use Rattle.domain_core.specs.Hearing.{messages_waiting}
 use Rattle.domain_core.specs.Records.{Records, all_waiting}
-use Rattle.domain_core.proofs.Waits.{sum-waiting}
+use Rattle.domain_core.proofs.Waits.{messages-within}
 use Rattle.domain_core.proofs.endpoints.Endpoints.queued.Goals as goal
 
-pub count_waiting-requires : goal.count_waiting-requires
-count_waiting-requires c =
-    let is = sum-waiting c.self.inside.records.items in
+pub count_messages-requires : goal.count_messages-requires
+count_messages-requires c =
+    let most = messages-within c.self.inside.records.items in
     let total = ap (λ (r : Records). length (all_waiting r.endpoints)) c.self.view_is in
-    rw c.deref.ensures.value (omega (arith, is, total, c.requires))
+    rw c.deref.ensures.value (omega (arith, most, total, c.requires))
 
-pub returns : goal.returns
-returns c =
-    c.count_waiting.ensures
-    ∙ rw c.deref.ensures.value (sum-waiting c.self.inside.records.items)
-    ∙ ap (λ (r : Records). length (all_waiting r.endpoints)) c.self.view_is
+pub returns-clause-count : goal.returns-clause-count
+returns-clause-count c =
+    c.count_messages.ensures
+    ∙ rw c.deref.ensures.value (ap (λ (r : Records). sum_by messages_waiting r.endpoints) c.self.view_is)
+
+pub returns-clause-most : goal.returns-clause-most
+returns-clause-most c =
+    let most = messages-within c.self.inside.records.items in
+    let total = ap (λ (r : Records). length (all_waiting r.endpoints)) c.self.view_is in
+    let counted = rw c.deref.ensures.value at c.count_messages.ensures in
+    omega (arith, most, total, counted)

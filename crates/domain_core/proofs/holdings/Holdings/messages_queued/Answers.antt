@@ -1,8 +1,8 @@
-use Rattle.std.proofs.Common.{◌∙◌, ap, sym, arith, length}
-use Rattle.board_model.specs.State.{queued_items}
+use Rattle.std.proofs.Common.{◌∙◌, ap, sym, arith, sum_by}
+use Rattle.domain_core.specs.Hearing.{messages_at}
 use Rattle.domain_core.specs.Parts.{peers_seen, plain, state_of}
 use Rattle.domain_core.proofs.CountsFrom.{waiting-fits}
-use Rattle.domain_core.proofs.Waits.{length-items}
+use Rattle.domain_core.proofs.Waits.{messages-in}
 use Rattle.domain_core.proofs.holdings.Holdings.messages_queued.Goals as goal
 
 pub queued-requires : goal.queued-requires
@@ -17,8 +17,9 @@ overflow_cast-result g c =
     let d = c.self.inside in
     let v = g.P.PeerLane.seen in
     let fits = waiting-fits plain d.book d.endpoints d.requests d.table (peers_seen v d.peers.items) c.self.invariant in
-    omega (arith, fits, c.queued.ensures)
+    omega (arith, fits, c.queued.ensures.most)
 
 pub returns : goal.returns
 returns g c =
-    c.queued.ensures ∙ sym (length-items c.self.inside.book c.self.inside.endpoints.endpoints) ∙ ap (λ x. length (queued_items (state_of x.parts))) c.self.view_is
+    c.queued.ensures.count ∙ sym (messages-in c.self.inside.book c.self.inside.endpoints.endpoints)
+    ∙ ap (λ x. sum_by messages_at (state_of x.parts).endpoints) c.self.view_is
