@@ -1,22 +1,25 @@
 -- The answer of a call: the first refusal whose condition holds, or else the answer of success.
 -- Source: docs/PROFILE.md, "Calls" and "Words of refusal". E is the endpoint of the line's domain, node and port.
 use Rattle.std.specs.Prelude.{ℕ, ◌+◌, Bool, true, false, not, ◌||◌, List, [], ◌∷◌, map, length, take, nat_lt, nat_le, ◌==◌, find, Option, None, Some, is_some, unwrap_or, if◌then◌else◌}
+use Rattle.byteorder.specs.Endian.{little_number}
 use Rattle.mc_base.specs.Limits.{item_size, first_address, record_limit, creation_limit, request_limit}
 use Rattle.mc_base.specs.NameMap.{address_in}
 use Rattle.mc_base.specs.Frame.{made}
-use Rattle.mc_base.specs.Letter.{PlainLetter, spelling, msg, connect, send_open, recv_open, send_close, recv_close}
+use Rattle.mc_base.specs.Letter.{PlainLetter, spelling, bytes_of_bits, msg, connect, packet, scalar, send_open, recv_open, send_close, recv_close}
 use Rattle.mc_base.specs.declared.name.Local.{Local}
 use Rattle.mc_base.specs.declared.name.EndName.{EndName}
 use Rattle.mc_base.specs.declared.channel.Kind.{Kind}
+use Rattle.mc_base.specs.declared.channel.Kind.TheVariants.{Packet, Scalar}
+use Rattle.mc_base.specs.declared.channel.Bits.{Bits}
 use Rattle.mc_base.specs.declared.channel.Side.{Side}
 use Rattle.mc_base.specs.declared.channel.Side.TheVariants.{Sender, Receiver}
 use Rattle.mc_base.specs.declared.refusal.Refusal.{Refusal}
-use Rattle.mc_base.specs.declared.refusal.Refusal.TheVariants.{NodeInvalid, ExistsAlready, EndpLimit, AddressSpent, EndpInvalid, PeerInvalid, OnChannel, ChanConnected, EndpBusy, ChanLimit, NotConnected, ChanDirection, ChanType, ChanClosed, AlreadyOpen, MsgSize, NoBuffer, Empty, RequestLimit, RequestInvalid, Pending, TooLate}
-use Rattle.board_model.specs.DomainCall.{DomainCall, create_at, delete_at, lookup_of, send_from, receive_at, request_at, available_at, connect_from, open_at, close_at, test_of, cancel_of, turn_alone}
+use Rattle.mc_base.specs.declared.refusal.Refusal.TheVariants.{NodeInvalid, ExistsAlready, EndpLimit, AddressSpent, EndpInvalid, PeerInvalid, OnChannel, ChanConnected, EndpBusy, ChanLimit, NotConnected, ChanDirection, ChanType, ChanClosed, AlreadyOpen, NotOpen, MsgSize, PktSize, SclSize, BufInvalid, NoBuffer, Empty, RequestLimit, RequestInvalid, Pending, TooLate}
+use Rattle.board_model.specs.DomainCall.{DomainCall, create_at, delete_at, lookup_of, send_from, receive_at, request_at, available_at, connect_from, open_at, packet_from, lend_at, packet_request_at, release_of, scalar_from, scalar_at, close_at, test_of, cancel_of, turn_alone}
 use Rattle.board_model.specs.Journal.{PlainResult, found_at, was_accepted, was_rejected, brought, ended_by, PlainAnswer, refuses, agrees, tells, connects, gives, completes}
-use Rattle.board_model.specs.State.{DomainState, Item, ChannelEnd, Endpoint, Peer, Asked, message_at, Outcome, has_address, is_accepted, is_rejected, has_item, has_ended, Request, request_at_place, place_at, endpoint_at, live_at, address_at, channel_in, queue_at, one_waits, peer_of, free_to}
-use Rattle.board_model.specs.Choice.{best}
-use Rattle.board_model.specs.ChannelEnds.{EndCall, opens, closes, end_refuses}
+use Rattle.board_model.specs.State.{DomainState, Item, ChannelEnd, Endpoint, Peer, Asked, message_at, Outcome, has_address, is_accepted, is_rejected, has_item, has_ended, Request, LentPacket, request_at_place, packet_at_place, place_at, endpoint_at, live_at, address_at, channel_in, queue_at, one_waits, peer_of, free_to}
+use Rattle.board_model.specs.Choice.{best, oldest}
+use Rattle.board_model.specs.ChannelEnds.{EndCall, opens, sends, receives, closes, end_refuses}
 
 -- E
 abbrev pub local : ℕ → ℕ → Local
@@ -33,6 +36,12 @@ port_of (request_at port max) = port
 port_of (available_at port) = port
 port_of (connect_from port to kind) = port
 port_of (open_at port side kind) = port
+port_of (packet_from port bytes) = port
+port_of (lend_at port) = port
+port_of (packet_request_at port) = port
+port_of (release_of place) = 0
+port_of (scalar_from port bits value) = port
+port_of (scalar_at port bits) = port
 port_of (close_at port side) = port
 port_of (test_of request) = 0
 port_of (cancel_of request) = 0
@@ -62,11 +71,16 @@ named s other = None
 
 -- ---- E's channel
 
--- what a call asks of E's channel, or none where it asks nothing of it
-abbrev pub end_call : DomainCall → Option EndCall
-end_call (open_at port side kind) = Some (opens side kind)
-end_call (close_at port side) = Some (closes side)
-end_call other = None
+-- what a call asks of E's channel, with so many items in E's queue, or none where it asks nothing of it
+abbrev pub end_call : ℕ → DomainCall → Option EndCall
+end_call queued (open_at port side kind) = Some (opens side kind)
+end_call queued (packet_from port bytes) = Some (sends Packet)
+end_call queued (lend_at port) = Some (receives Packet queued)
+end_call queued (packet_request_at port) = Some (receives Packet queued)
+end_call queued (scalar_from port bits value) = Some (sends Scalar)
+end_call queued (scalar_at port bits) = Some (receives Scalar queued)
+end_call queued (close_at port side) = Some (closes side)
+end_call queued other = None
 
 -- without a channel a call at one is not connected, and no other word holds
 abbrev pub lacks_end : Refusal → Bool
@@ -125,8 +139,19 @@ abbrev pub is_complete : Option Request → Bool
 is_complete None = false
 is_complete (Some r) = is_some r.outcome
 
+-- the lent packet that a call names, where there is one
+abbrev pub packet_named : DomainState → DomainCall → Option LentPacket
+packet_named s (release_of place) = packet_at_place s place
+packet_named s other = None
+
+-- the front item has another size than the scalar that is asked for
+abbrev pub is_of_other_size : DomainCall → List Item → Bool
+is_of_other_size (scalar_at port bits) (i ∷ is) = not (length i.content == bytes_of_bits bits)
+is_of_other_size call queue = false
+
 abbrev pub content_size : DomainCall → ℕ
 content_size (send_from port to priority bytes) = length bytes
+content_size (packet_from port bytes) = length bytes
 content_size other = 0
 
 -- the letters that success puts, and their frames, each with its peer
@@ -134,6 +159,8 @@ abbrev pub success_posts : DomainState → ℕ → DomainCall → List Post
 success_posts s node (send_from port to priority bytes) = post to.domain (unwrap_or (address_at s (local node port)) 0) (unwrap_or (address_of s to) 0) (msg priority bytes) ∷ []
 success_posts s node (connect_from port to kind) = post to.domain (unwrap_or (address_at s (local node port)) 0) (unwrap_or (address_of s to) 0) (connect (s.channels_given + 1) kind) ∷ []
 success_posts s node (open_at port side kind) = over_end s (local node port) (opening_letter side)
+success_posts s node (packet_from port bytes) = over_end s (local node port) (λ number. packet number bytes)
+success_posts s node (scalar_from port bits value) = over_end s (local node port) (λ number. scalar number bits value)
 success_posts s node (close_at port side) = over_end s (local node port) (closing_letter side)
 success_posts s node other = []
 
@@ -161,12 +188,16 @@ holds s node call OnChannel = has_channel (endpoint_at s (here node call))
 holds s node call ChanConnected = has_channel (endpoint_at s (here node call))
 holds s node call EndpBusy = not (length (queue_at s (here node call)) == 0) || one_waits s (here node call)
 holds s node call ChanLimit = nat_le channel_limit s.channels_given
-holds s node call NotConnected = holds_at_end (end_call call) (channel_at s (here node call)) NotConnected
-holds s node call ChanDirection = holds_at_end (end_call call) (channel_at s (here node call)) ChanDirection
-holds s node call ChanType = holds_at_end (end_call call) (channel_at s (here node call)) ChanType
-holds s node call ChanClosed = holds_at_end (end_call call) (channel_at s (here node call)) ChanClosed
-holds s node call AlreadyOpen = holds_at_end (end_call call) (channel_at s (here node call)) AlreadyOpen
+holds s node call NotConnected = holds_at_end (end_call (length (queue_at s (here node call))) call) (channel_at s (here node call)) NotConnected
+holds s node call ChanDirection = holds_at_end (end_call (length (queue_at s (here node call))) call) (channel_at s (here node call)) ChanDirection
+holds s node call ChanType = holds_at_end (end_call (length (queue_at s (here node call))) call) (channel_at s (here node call)) ChanType
+holds s node call ChanClosed = holds_at_end (end_call (length (queue_at s (here node call))) call) (channel_at s (here node call)) ChanClosed
+holds s node call AlreadyOpen = holds_at_end (end_call (length (queue_at s (here node call))) call) (channel_at s (here node call)) AlreadyOpen
+holds s node call NotOpen = holds_at_end (end_call (length (queue_at s (here node call))) call) (channel_at s (here node call)) NotOpen
 holds s node call MsgSize = nat_lt item_size (content_size call)
+holds s node call PktSize = nat_lt item_size (content_size call)
+holds s node call SclSize = is_of_other_size call (queue_at s (here node call))
+holds s node call BufInvalid = not (is_some (packet_named s call))
 holds s node call NoBuffer = lacks_buffers s (success_puts s node call)
 holds s node call Empty = length (queue_at s (here node call)) == 0
 holds s node call RequestLimit = nat_le request_limit (length s.requests)
@@ -186,6 +217,12 @@ words_of (request_at port max) = EndpInvalid ∷ OnChannel ∷ RequestLimit ∷ 
 words_of (available_at port) = EndpInvalid ∷ OnChannel ∷ []
 words_of (connect_from port to kind) = EndpInvalid ∷ ChanConnected ∷ EndpBusy ∷ PeerInvalid ∷ ChanLimit ∷ RequestLimit ∷ NoBuffer ∷ []
 words_of (open_at port side kind) = EndpInvalid ∷ NotConnected ∷ ChanDirection ∷ ChanType ∷ ChanClosed ∷ AlreadyOpen ∷ NoBuffer ∷ []
+words_of (packet_from port bytes) = EndpInvalid ∷ NotConnected ∷ ChanDirection ∷ ChanType ∷ ChanClosed ∷ NotOpen ∷ PktSize ∷ NoBuffer ∷ []
+words_of (lend_at port) = EndpInvalid ∷ NotConnected ∷ ChanDirection ∷ ChanType ∷ ChanClosed ∷ NotOpen ∷ Empty ∷ []
+words_of (packet_request_at port) = EndpInvalid ∷ NotConnected ∷ ChanDirection ∷ ChanType ∷ ChanClosed ∷ NotOpen ∷ RequestLimit ∷ []
+words_of (release_of place) = BufInvalid ∷ []
+words_of (scalar_from port bits value) = EndpInvalid ∷ NotConnected ∷ ChanDirection ∷ ChanType ∷ ChanClosed ∷ NotOpen ∷ NoBuffer ∷ []
+words_of (scalar_at port bits) = EndpInvalid ∷ NotConnected ∷ ChanDirection ∷ ChanType ∷ ChanClosed ∷ NotOpen ∷ Empty ∷ SclSize ∷ []
 words_of (close_at port side) = EndpInvalid ∷ NotConnected ∷ ChanDirection ∷ ChanClosed ∷ NoBuffer ∷ []
 words_of (test_of request) = RequestInvalid ∷ Pending ∷ []
 words_of (cancel_of request) = RequestInvalid ∷ TooLate ∷ []
@@ -194,6 +231,15 @@ words_of turn_alone = []
 -- the first word that holds
 abbrev pub refusal : DomainState → ℕ → DomainCall → Option Refusal
 refusal s node call = find (holds s node call) (words_of call)
+
+-- all bytes of the packet that is taken, and the value of the scalar
+abbrev pub lent_whole : Option Item → PlainAnswer
+lent_whole None = refuses Empty
+lent_whole (Some i) = gives (length i.content) i.content
+
+abbrev pub value_of : Bits → Option Item → PlainAnswer
+value_of bits None = refuses Empty
+value_of bits (Some i) = tells (little_number (bytes_of_bits bits) i.content)
 
 -- at most so many first bytes of the item that is taken
 abbrev pub given : ℕ → Option Item → PlainAnswer
@@ -229,6 +275,12 @@ success s node (request_at port max) = tells s.requests_given
 success s node (available_at port) = tells (length (queue_at s (local node port)))
 success s node (connect_from port to kind) = connects s.requests_given (s.channels_given + 1)
 success s node (open_at port side kind) = agrees
+success s node (packet_from port bytes) = agrees
+success s node (lend_at port) = lent_whole (oldest (queue_at s (local node port)))
+success s node (packet_request_at port) = tells s.requests_given
+success s node (release_of place) = agrees
+success s node (scalar_from port bits value) = agrees
+success s node (scalar_at port bits) = value_of bits (oldest (queue_at s (local node port)))
 success s node (close_at port Sender) = agrees
 success s node (close_at port Receiver) = tells (length (queue_at s (local node port)))
 success s node (test_of request) = completes None (result_of (request_at_place s request))

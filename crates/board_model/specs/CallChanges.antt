@@ -8,10 +8,10 @@ use Rattle.mc_base.specs.declared.channel.Kind.{Kind}
 use Rattle.mc_base.specs.declared.channel.Side.{Side}
 use Rattle.mc_base.specs.declared.channel.Side.TheVariants.{Sender, Receiver}
 use Rattle.mc_base.specs.declared.refusal.Refusal.TheVariants.{EndpInvalid, ChanClosed}
-use Rattle.board_model.specs.Choice.{best}
-use Rattle.board_model.specs.DomainCall.{DomainCall, create_at, delete_at, lookup_of, send_from, receive_at, request_at, available_at, connect_from, open_at, close_at, test_of, cancel_of, turn_alone}
-use Rattle.board_model.specs.State.{Item, ChannelEnd, Endpoint, Request, name_of, channel_of, message_at, has_address, has_item, item_in, DomainState, live_at, request_at_place}
-use Rattle.board_model.specs.Change.{Change, endpoint_made, endpoint_gone, best_gone, channel_set, queue_dropped, request_added, waiting_ended, name_found, request_gone, end_announced, buffer_used, channel_given, changed_all}
+use Rattle.board_model.specs.Choice.{best, oldest}
+use Rattle.board_model.specs.DomainCall.{DomainCall, create_at, delete_at, lookup_of, send_from, receive_at, request_at, available_at, connect_from, open_at, packet_from, lend_at, packet_request_at, release_of, scalar_from, scalar_at, close_at, test_of, cancel_of, turn_alone}
+use Rattle.board_model.specs.State.{Item, ChannelEnd, Endpoint, Asked, Outcome, Request, LentPacket, name_of, channel_of, message_at, packet_at, has_address, has_item, item_in, DomainState, live_at, request_at_place, packet_at_place}
+use Rattle.board_model.specs.Change.{Change, endpoint_made, endpoint_gone, best_gone, oldest_gone, channel_set, queue_dropped, request_added, waiting_ended, name_found, request_gone, end_announced, buffer_used, packet_lent, packet_gone, channel_given, changed_all}
 use Rattle.board_model.specs.ChannelEnds.{connecting_end, opened_end, closed_end}
 use Rattle.board_model.specs.Answer.{local, address_of, refusal, unless_refused}
 
@@ -42,6 +42,19 @@ abbrev pub closing : Side → Endpoint → ChannelEnd → List Change
 closing Sender e c = buffer_used c.peer ∷ channel_set e.address (closed_end c) ∷ []
 closing Receiver e c = buffer_used c.peer ∷ waiting_ended e.address ChanClosed ∷ queue_dropped e.address (closed_end c) ∷ []
 
+-- a packet that a receive takes is lent, and so is one whose request is tested
+abbrev pub lending : Option Item → List Change
+lending None = []
+lending (Some i) = packet_lent i ∷ []
+
+abbrev pub lent_by : Asked → Option Outcome → List Change
+lent_by (packet_at at) (Some (has_item i)) = packet_lent i ∷ []
+lent_by asked outcome = []
+
+abbrev pub lent_by_test : Option Request → List Change
+lent_by_test None = []
+lent_by_test (Some r) = lent_by r.asked r.outcome
+
 -- what happens by success
 abbrev pub success_changes : DomainState → ℕ → DomainCall → List Change
 success_changes s node (create_at port) =
@@ -69,8 +82,17 @@ success_changes s node (connect_from port to kind) = at_live (live_at s (local n
     ∷ channel_given
     ∷ [])
 success_changes s node (open_at port side kind) = at_end (live_at s (local node port)) (λ e c. buffer_used c.peer ∷ channel_set e.address (Some (opened_end c)) ∷ [])
+success_changes s node (packet_from port bytes) = at_end (live_at s (local node port)) (λ e c. buffer_used c.peer ∷ [])
+success_changes s node (lend_at port) = at_live (live_at s (local node port)) (λ e. oldest_gone e.address ∷ lending (oldest e.queue))
+success_changes s node (packet_request_at port) = at_live (live_at s (local node port)) (λ e.
+    oldest_gone e.address
+    ∷ request_added (packet_at e.local) (option_map has_item (oldest e.queue))
+    ∷ [])
+success_changes s node (release_of place) = packet_gone place ∷ []
+success_changes s node (scalar_from port bits value) = at_end (live_at s (local node port)) (λ e c. buffer_used c.peer ∷ [])
+success_changes s node (scalar_at port bits) = at_live (live_at s (local node port)) (λ e. oldest_gone e.address ∷ [])
 success_changes s node (close_at port side) = at_end (live_at s (local node port)) (closing side)
-success_changes s node (test_of request) = request_gone request ∷ []
+success_changes s node (test_of request) = request_gone request ∷ lent_by_test (request_at_place s request)
 success_changes s node (cancel_of request) = request_gone request ∷ []
 success_changes s node turn_alone = []
 
@@ -81,15 +103,25 @@ call_changes s node call = unless_refused (refusal s node call) [] (success_chan
 abbrev pub effect : DomainState → ℕ → DomainCall → DomainState
 effect s node call = changed_all s (call_changes s node call)
 
--- the item that a request holds
+-- the item of a lent packet, and the message that a request holds. A packet that a request holds is lent when it is tested
+abbrev pub item_lent : Option LentPacket → List Item
+item_lent None = []
+item_lent (Some p) = p.item ∷ []
+
+abbrev pub message_held : Asked → Option Outcome → List Item
+message_held (packet_at at) outcome = []
+message_held asked outcome = item_in outcome
+
 abbrev pub held_by : Option Request → List Item
 held_by None = []
-held_by (Some r) = item_in r.outcome
+held_by (Some r) = message_held r.asked r.outcome
 
 -- the items whose buffers success gives back, in that order
 abbrev pub success_returned : DomainState → ℕ → DomainCall → List Item
 success_returned s node (delete_at port) = at_live (live_at s (local node port)) (λ e. e.queue)
 success_returned s node (receive_at port max) = at_live (live_at s (local node port)) (λ e. option_to_list (best_item e))
+success_returned s node (release_of place) = item_lent (packet_at_place s place)
+success_returned s node (scalar_at port bits) = at_live (live_at s (local node port)) (λ e. option_to_list (oldest e.queue))
 success_returned s node (close_at port Receiver) = at_live (live_at s (local node port)) (λ e. e.queue)
 success_returned s node (test_of request) = held_by (request_at_place s request)
 success_returned s node other = []

@@ -10,15 +10,16 @@ use Rattle.mc_base.specs.declared.name.EndName.{EndName}
 use Rattle.mc_base.specs.declared.refusal.Refusal.{Refusal}
 use Rattle.board_model.specs.Lists.{without, changed_first, with_rising}
 use Rattle.board_model.specs.Choice.{without_best}
-use Rattle.board_model.specs.State.{Item, ChannelEnd, Endpoint, Asked, name_of, channel_of, Outcome, has_address, has_item, has_ended, Request, Announcement, Reply, Peer, DomainState, has_address_of, endpoint_of, waits_at, is_numbered, is_owed_end}
+use Rattle.board_model.specs.State.{Item, ChannelEnd, Endpoint, Asked, name_of, channel_of, Outcome, has_address, has_item, has_ended, Request, LentPacket, Announcement, Reply, Peer, DomainState, has_address_of, endpoint_of, waits_at, is_numbered, is_owed_end}
 
 pub data Change : Type 0 where
   -- an endpoint of this name is made; the one with this address is gone, with all that is queued there
   endpoint_made : Local → Change
   endpoint_gone : ℕ → Change
-  -- at the endpoint with this address an item is last in the queue, or the oldest of the best priority is gone from it
+  -- at the endpoint with this address an item is last in the queue, or the oldest of the best priority, or the oldest, is gone from it
   item_queued : ℕ → Item → Change
   best_gone : ℕ → Change
+  oldest_gone : ℕ → Change
   -- the endpoint with this address has this channel from now on, or none; or that, and nothing is queued there any longer
   channel_set : ℕ → Option ChannelEnd → Change
   queue_dropped : ℕ → Option ChannelEnd → Change
@@ -47,6 +48,9 @@ pub data Change : Type 0 where
   names_known : ℕ → Names → Change
   -- one buffer of the lane to the peer is used
   buffer_used : ℕ → Change
+  -- a packet is lent, and the one at this place is no longer
+  packet_lent : Item → Change
+  packet_gone : Option ℕ → Change
   -- the number of a channel is used
   channel_given : Change
 
@@ -73,6 +77,7 @@ endpoints_after (endpoint_made at) s = s.endpoints ++ endpoint_with s at ∷ []
 endpoints_after (endpoint_gone a) s = filter (λ e. not (has_address_of a e)) s.endpoints
 endpoints_after (item_queued a i) s = at_address a (with_queue (λ q. q ++ i ∷ [])) s.endpoints
 endpoints_after (best_gone a) s = at_address a (with_queue (without_best (λ i. i.priority))) s.endpoints
+endpoints_after (oldest_gone a) s = at_address a (with_queue (drop 1)) s.endpoints
 endpoints_after (channel_set a c) s = at_address a (with_channel c) s.endpoints
 endpoints_after (queue_dropped a c) s = at_address a (without_queue c) s.endpoints
 endpoints_after other s = s.endpoints
@@ -139,6 +144,13 @@ peers_after (names_known n names) s = at_peer n (λ p. record p { known = names 
 peers_after (buffer_used n) s = at_peer n (λ p. record p { free = p.free - 1 }) s.peers
 peers_after other s = s.peers
 
+-- ---- lent packets
+
+abbrev pub lent_after : Change → DomainState → List LentPacket
+lent_after (packet_lent i) s = s.lent ++ record { serial = s.packets_lent; item = i } ∷ []
+lent_after (packet_gone place) s = without place s.lent
+lent_after other s = s.lent
+
 -- ---- records of endpoints that are gone, and counts
 
 -- a record is in use until every linked domain was announced that its endpoint is gone
@@ -161,6 +173,10 @@ abbrev pub requests_given_after : Change → ℕ → ℕ
 requests_given_after (request_added asked o) n = (n + 1) % 2 ^ 64
 requests_given_after other n = n
 
+abbrev pub packets_lent_after : Change → ℕ → ℕ
+packets_lent_after (packet_lent i) n = (n + 1) % 2 ^ 64
+packets_lent_after other n = n
+
 -- ---- the state after a change, and after changes one after the other
 
 abbrev pub changed : DomainState → Change → DomainState
@@ -171,11 +187,11 @@ changed s c = record {
   ended = ended_after c s;
   peers = peers_after c s;
   requests = requests_after c s;
-  lent = s.lent;
+  lent = lent_after c s;
   endpoints_given = endpoints_given_after c s.endpoints_given;
   channels_given = channels_given_after c s.channels_given;
   requests_given = requests_given_after c s.requests_given;
-  packets_lent = s.packets_lent;
+  packets_lent = packets_lent_after c s.packets_lent;
 }
 
 abbrev pub changed_all : DomainState → List Change → DomainState

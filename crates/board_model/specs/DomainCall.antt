@@ -1,11 +1,12 @@
--- Calls as a domain knows them: requests are named by their places among those that stand, and no label is left.
+-- Calls as a domain knows them: requests are named by their places among those that stand, lent packets by theirs, and no label is left.
 -- Source: docs/PROFILE.md, "Calls".
 use Rattle.std.specs.Prelude.{ℕ, List, Option}
 use Rattle.mc_base.specs.declared.name.EndName.{EndName}
 use Rattle.mc_base.specs.declared.channel.Kind.{Kind}
+use Rattle.mc_base.specs.declared.channel.Bits.{Bits}
 use Rattle.mc_base.specs.declared.channel.Side.{Side}
 
--- the port at which a call is made comes first; a request that does not stand is none
+-- the port at which a call is made comes first; a request or packet that does not exist is none
 pub data DomainCall : Type 0 where
   create_at : ℕ → DomainCall
   delete_at : ℕ → DomainCall
@@ -16,6 +17,12 @@ pub data DomainCall : Type 0 where
   available_at : ℕ → DomainCall
   connect_from : ℕ → EndName → Kind → DomainCall
   open_at : ℕ → Side → Kind → DomainCall
+  packet_from : ℕ → List ℕ → DomainCall
+  lend_at : ℕ → DomainCall
+  packet_request_at : ℕ → DomainCall
+  release_of : Option ℕ → DomainCall
+  scalar_from : ℕ → Bits → ℕ → DomainCall
+  scalar_at : ℕ → Bits → DomainCall
   close_at : ℕ → Side → DomainCall
   test_of : Option ℕ → DomainCall
   cancel_of : Option ℕ → DomainCall

@@ -8,7 +8,7 @@ use Rattle.board_model.specs.declared.scenario.Scenario.{Scenario}
 use Rattle.board_model.specs.Lists.{IsPrefix}
 use Rattle.board_model.specs.Scenario.{lanes}
 use Rattle.board_model.specs.Board.{DomainJournal}
-use Rattle.board_model.specs.Channels.{items_accepted, items_taken, items_left}
+use Rattle.board_model.specs.Channels.{items_accepted, items_taken, items_left, ItemsArrive, DroppedOrQueued, ClosesTellDropped}
 use Rattle.board_model.specs.Messages.{Message, accepted, messages_queued, messages_in_ring}
 use Rattle.board_model.specs.Drops.{dropped}
 use Rattle.board_model.specs.Takings.{messages_taken}
@@ -28,6 +28,11 @@ pub record Headline (s : Scenario) (js : List DomainJournal) : Type 0 where
   -- a delete answers how many messages it dropped
   pub deletes_tell_dropped : AllByRecursion (DeletesTellDropped s) js
   pub cancelled_nothing : AllByRecursion (CancelledTookNothing s) js
+  -- and so does a receiver's close of the items of its channel
+  pub closes_tell_dropped : AllByRecursion (ClosesTellDropped s) js
   pub items_kept : (sender channel : ℕ) → items_accepted s js sender channel ≡ items_taken s js sender channel ++ items_left s js sender channel
+  -- each item that was accepted is queued, handed or dropped by its receiver, as soon as its frame is taken
+  pub items_arrive : (sender channel : ℕ) → ItemsArrive s js sender channel
+  pub dropped_or_queued : (sender channel : ℕ) → DroppedOrQueued s js sender channel
   pub messages_kept : NoMessageLost s js
   pub buffers_kept : AllByRecursion (EveryBuffer s js) (lanes s)

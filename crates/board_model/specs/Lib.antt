@@ -28,6 +28,7 @@ pub mod Step
 pub mod Run
 pub mod Traffic
 pub mod Board
+pub mod ChannelLaws
 pub mod Channels
 pub mod JournalDeeds
 pub mod Honesty

@@ -10,7 +10,7 @@ use Rattle.mc_base.specs.declared.fate.Fate.TheVariants.{Queued, Handed}
 use Rattle.board_model.specs.declared.scenario.Scenario.{Scenario}
 use Rattle.board_model.specs.DomainCall.{delete_at, receive_at, test_of}
 use Rattle.board_model.specs.Journal.{found_at, brought, ended_by, PlainAnswer, refuses, tells, gives, completes}
-use Rattle.board_model.specs.State.{DomainState, Item, Endpoint, Asked, name_of, message_at, Request, live_at, endpoint_of, oldest_waiting, request_at_place}
+use Rattle.board_model.specs.State.{DomainState, Item, Endpoint, Asked, name_of, message_at, packet_at, Request, live_at, endpoint_of, oldest_waiting, request_at_place}
 use Rattle.board_model.specs.Choice.{best}
 use Rattle.board_model.specs.Answer.{local}
 use Rattle.board_model.specs.Board.{DomainJournal}
@@ -18,7 +18,7 @@ use Rattle.board_model.specs.TakenFrames.{message_item}
 use Rattle.board_model.specs.CallChanges.{at_live}
 use Rattle.board_model.specs.Deeds.{Deed, takes, calls, after_deeds, along, EachDeed}
 use Rattle.board_model.specs.JournalDeeds.{deeds_of, opened}
-use Rattle.board_model.specs.Takings.{Taking, takings_by, took_something, cancelled_in}
+use Rattle.board_model.specs.Takings.{Taking, is_message_taking, takings_by, took_something, cancelled_in}
 
 -- ---- what stands at an endpoint: the messages that came to its address with the word queued, and were neither taken nor dropped
 
@@ -76,7 +76,7 @@ pub record TakesWhatComes (start : DomainState) (before : List Deed) (d : Deed) 
   pub waits : waiting_first (after_deeds start before) t.address ≡ t.request
 
 abbrev pub EachBest : DomainState → List Deed → Deed → Type 0
-EachBest start before d = AllByRecursion (λ t. (best (λ i. i.priority) (standing start before t.address) ≡ Some t.item) ⊎ TakesWhatComes start before d t) (takings_by (after_deeds start before) d)
+EachBest start before d = AllByRecursion (λ t. (best (λ i. i.priority) (standing start before t.address) ≡ Some t.item) ⊎ TakesWhatComes start before d t) (filter is_message_taking (takings_by (after_deeds start before) d))
 
 -- the size of the item, and its first bytes, as many as the receive asks for
 pub record Gives (max : ℕ) (i : Item) (size : ℕ) (bytes : List ℕ) : Type 0 where
@@ -119,7 +119,21 @@ TellsAddress took (completes None (found_at address)) = took ≡ []
 TellsAddress took (refuses word) = took ≡ []
 TellsAddress took other = ⊥
 
+-- of a request for a packet: the packet that it took, whole, or, by a word, that it took none
+pub record TellsWhole (took : List Item) (size : ℕ) (bytes : List ℕ) : Type 0 where
+  pub item : Item
+  pub taken : took ≡ item ∷ []
+  pub whole : size ≡ length item.content
+  pub all : bytes ≡ item.content
+
+abbrev pub TellsPacket : List Item → PlainAnswer → Type 0
+TellsPacket took (completes None (brought size bytes)) = TellsWhole took size bytes
+TellsPacket took (completes None (ended_by word)) = took ≡ []
+TellsPacket took (refuses word) = took ≡ []
+TellsPacket took other = ⊥
+
 abbrev pub TellsAsked : Asked → List Item → PlainAnswer → Type 0
+TellsAsked (packet_at at) took a = TellsPacket took a
 TellsAsked (message_at at max) took a = TellsMessage max took a
 TellsAsked (name_of name) took a = TellsAddress took a
 TellsAsked other took a = took ≡ []

@@ -201,6 +201,16 @@ one_waits s local = list_any (waits_at local) s.requests
 abbrev pub oldest_waiting : DomainState → Local → Option Request
 oldest_waiting s local = find (waits_at local) s.requests
 
+-- the lent packet at a place, and the place of the one with this serial
+abbrev pub packet_at_place : DomainState → Option ℕ → Option LentPacket
+packet_at_place s place = option_and_then (λ i. slice_get s.lent i) place
+
+abbrev pub is_lent_as : ℕ → LentPacket → Bool
+is_lent_as serial p = p.serial == serial
+
+abbrev pub place_of_packet : DomainState → ℕ → Option ℕ
+place_of_packet s serial = position (is_lent_as serial) s.lent
+
 -- its place
 abbrev pub place_of_waiting : DomainState → Local → Option ℕ
 place_of_waiting s local = position (waits_at local) s.requests
