@@ -20,6 +20,8 @@ pub data Change : Type 0 where
   item_queued : ℕ → Item → Change
   best_gone : ℕ → Change
   oldest_gone : ℕ → Change
+  -- an item that comes to the endpoint with this address, whose end of the channel is closed, is lost
+  item_lost : ℕ → Item → Change
   -- the endpoint with this address has this channel from now on, or none; or that, and nothing is queued there any longer
   channel_set : ℕ → Option ChannelEnd → Change
   queue_dropped : ℕ → Option ChannelEnd → Change

@@ -16,7 +16,7 @@ use Rattle.mc_base.specs.declared.channel.Reason.{Reason}
 use Rattle.mc_base.specs.declared.channel.Reason.TheVariants as reason
 use Rattle.mc_base.specs.declared.refusal.Refusal.TheVariants.{ChanClosed}
 use Rattle.board_model.specs.State.{Item, ChannelEnd, Endpoint, is_accepted, is_rejected, Reply, Peer, DomainState, endpoint_of, one_waits, peer_at}
-use Rattle.board_model.specs.Change.{Change, channel_set, item_queued, item_handed, waiting_ended, name_found, connect_settled, reply_owed, names_known}
+use Rattle.board_model.specs.Change.{Change, channel_set, item_queued, item_handed, item_lost, waiting_ended, name_found, connect_settled, reply_owed, names_known}
 use Rattle.board_model.specs.ChannelEnds.{accepted_end, end_rows}
 use Rattle.board_model.specs.Dealing.{fault_word}
 
@@ -120,13 +120,15 @@ acting destination left (reject number reason) = channel_set destination left �
 acting destination left (send_close number) = waiting_ended destination ChanClosed ∷ channel_set destination left ∷ []
 acting destination left other = channel_set destination left ∷ []
 
--- a row of the end's table as rows of the domain's: an item that is queued there is handed to the oldest receive that waits
+-- a row of the end's table as rows of the domain's: an item that is queued there is handed to the oldest receive that waits, and one that
+-- comes after the close is lost
 abbrev pub rows_by : DomainState → ℕ → Endpoint → Item → PlainLetter → Bool → Option ChannelEnd → Fate → List Row
 rows_by s destination e i l applies left fate.Queued =
     row (applies && one_waits s e.local) fate.Handed (item_handed destination i ∷ [])
     ∷ row applies fate.Queued (item_queued destination i ∷ [])
     ∷ []
 rows_by s destination e i l applies left fate.Acted = row applies fate.Acted (acting destination left l) ∷ []
+rows_by s destination e i l applies left fate.Closed = row applies fate.Closed (item_lost destination i ∷ []) ∷ []
 rows_by s destination e i l applies left word = row applies word [] ∷ []
 
 abbrev pub channel_rows : DomainState → ℕ → ℕ → Endpoint → Option ChannelEnd → Item → PlainLetter → List Row
