@@ -7,7 +7,7 @@ use Rattle.board_model.specs.declared.scenario.Call.{Call}
 use Rattle.board_model.specs.declared.scenario.Call.TheVariants.{Create, Delete, Lookup, MsgSend, MsgRecv, MsgRecvI, MsgAvailable, Connect, OpenSend, OpenRecv, CloseSend, CloseRecv, Test, Cancel, Turn}
 use Rattle.board_model.specs.declared.scenario.CallLine.{CallLine}
 use Rattle.board_model.specs.Scenario.{label_in}
-use Rattle.board_model.specs.DomainCall.{DomainCall, create_at, delete_at, lookup_of, send_from, receive_at, request_at, available_at, connect_from, open_at, close_at, test_of, cancel_of, turn_alone}
+use Rattle.board_model.specs.DomainCall.{DomainCall, create_at, delete_at, lookup_of, send_from, receive_at, request_at, available_at, connect_from, open_at, packet_request_at, close_at, test_of, cancel_of, turn_alone}
 use Rattle.board_model.specs.State.{DomainState, place_of_request}
 use Rattle.board_model.specs.Answer.{refusal, unless_refused}
 
@@ -47,6 +47,7 @@ abbrev pub success_request : DomainState → DomainCall → Option ℕ
 success_request s (lookup_of name) = Some s.requests_given
 success_request s (request_at port max) = Some s.requests_given
 success_request s (connect_from port to kind) = Some s.requests_given
+success_request s (packet_request_at port) = Some s.requests_given
 success_request s other = None
 
 abbrev pub request_given : DomainState → ℕ → DomainCall → Option ℕ
