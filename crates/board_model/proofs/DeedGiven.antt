@@ -26,7 +26,8 @@ use Rattle.board_model.proofs.UnnamedCalls.{answer-unnamed}
 use Rattle.board_model.proofs.DeedJoins.{along-join}
 use Rattle.board_model.proofs.RunDeeds.{AllAllowed, allowed-all, left-leads}
 use Rattle.board_model.proofs.MessageAlls.{all-append}
-use Rattle.board_model.proofs.DeedHeld.{HasName, Held, deeds-held, returned-count, none-returned}
+use Rattle.board_model.proofs.DeedHeld.{IsOne, HasName, deeds-held, returned-count, none-returned}
+use Rattle.board_model.proofs.ItemsHeld.{Held}
 
 -- how many buffers of taken frames are given back at once
 abbrev at_once : List Taken → ℕ
@@ -113,7 +114,7 @@ module _ (p : ℕ) where
   -- ---- an entry
 
   module _ (lines : List CallLine) where
-    entry_given : (before : List PlainEntry) (r : RunState) (t : DomainState) (e : PlainEntry) → r.state ≡ unnamed t → Held t → Allowed lines r e → length (along (names_given p) t (entry_deeds lines before r e)) ≡ given_in lines r p e
+    entry_given : (before : List PlainEntry) (r : RunState) (t : DomainState) (e : PlainEntry) → r.state ≡ unnamed t → Held IsOne t → Allowed lines r e → length (along (names_given p) t (entry_deeds lines before r e)) ≡ given_in lines r p e
     entry_given before r t (turned vs) same held allowed = turn_given before vs t
     entry_given before r t (put q frame) same held allowed = refl
     entry_given before r t (again word) same held allowed =
@@ -131,7 +132,7 @@ module _ (p : ℕ) where
 
     -- ---- a run
 
-    pub run-given : (before : List PlainEntry) (r : RunState) (t : DomainState) (es : List PlainEntry) → r.state ≡ unnamed t → Held t → AllAllowed lines r es →
+    pub run-given : (before : List PlainEntry) (r : RunState) (t : DomainState) (es : List PlainEntry) → r.state ≡ unnamed t → Held IsOne t → AllAllowed lines r es →
         length (along (names_given p) t (deeds_along lines before r es)) ≡ given lines r p es
     run-given before r t [] same held allowed = refl
     run-given before r t (e ∷ es) same held allowed =
@@ -143,8 +144,8 @@ module _ (p : ℕ) where
         (run-given (before ++ e ∷ []) (after lines r e) (after_deeds t ds) es (left-leads lines before r t e same allowed.0) (deeds-held t ds (entry-names lines before r e) held) allowed.1))
 
 -- the state at the opening holds nothing
-pub opened-held : (s : Scenario) (j : DomainJournal) → Held (opened s j)
-opened-held s j = record { queued = tt; lent = tt }
+pub opened-held : (s : Scenario) (j : DomainJournal) → Held IsOne (opened s j)
+opened-held s j = record { queued = tt; lent = tt; packets = tt }
 
 pub given_are : (s : Scenario) (j : DomainJournal) → IsLinkedBoard s → IsDomainRun s j.line j.entries → (peer : ℕ) → length (places_given s j peer) ≡ given (script s j.line.domain) (start s j.line) peer j.entries
 given_are s j board run peer =

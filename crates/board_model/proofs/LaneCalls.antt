@@ -1,5 +1,6 @@
 -- Calls of a domain: what they take of the items that are held.
-use Rattle.std.proofs.Common.{◌≡◌, ℕ, zero, suc, ◌+◌, Bool, true, false, not, cond, List, [], ◌∷◌, ◌++◌, find, Option, Some, None, count_by, flat_map, slice_get, option_map, option_and_then, option_to_list, refl, sym, ap, ◌∙◌, subst, arith}
+use Rattle.std.proofs.Common.{◌≡◌, ℕ, zero, suc, ◌+◌, Bool, true, false, not, cond, List, [], ◌∷◌, ◌++◌, find, Option, Some, None, count_by, flat_map, map, drop, slice_get, option_map, option_and_then, option_to_list, refl, sym, ap, ◌∙◌, subst, arith}
+use Rattle.std.proofs.lemmas.List.{map-append}
 use Rattle.std.proofs.lemmas.List.Concat.{flat_map-append}
 use Rattle.mc_base.specs.Limits.{first_address}
 use Rattle.mc_base.specs.FullName.{end_name}
@@ -7,15 +8,15 @@ use Rattle.mc_base.specs.declared.name.Local.{Local}
 use Rattle.mc_base.specs.declared.channel.Side.TheVariants.{Sender, Receiver}
 use Rattle.mc_base.specs.declared.refusal.Refusal.{Refusal}
 use Rattle.mc_base.specs.declared.refusal.Refusal.TheVariants as word
-use Rattle.board_model.specs.DomainCall.{DomainCall, create_at, delete_at, lookup_of, send_from, receive_at, request_at, available_at, connect_from, open_at, close_at, test_of, cancel_of, turn_alone}
+use Rattle.board_model.specs.DomainCall.{DomainCall, create_at, delete_at, lookup_of, send_from, receive_at, request_at, available_at, connect_from, open_at, packet_from, lend_at, packet_request_at, release_of, scalar_from, scalar_at, close_at, test_of, cancel_of, turn_alone}
 use Rattle.board_model.specs.Lists.{without_first, without}
-use Rattle.board_model.specs.State.{DomainState, ChannelEnd, Endpoint, Item, Request, name_of, channel_of, message_at, has_address, has_item, item_in, request_at_place, is_at, has_address_of, live_at, endpoint_of, channel_in}
-use Rattle.board_model.specs.Choice.{without_best}
+use Rattle.board_model.specs.State.{DomainState, ChannelEnd, Endpoint, Item, Request, LentPacket, Asked, Outcome, name_of, channel_of, message_at, packet_at, has_address, is_accepted, is_rejected, has_item, has_ended, item_in, request_at_place, is_at, has_address_of, live_at, endpoint_of, channel_in}
+use Rattle.board_model.specs.Choice.{without_best, oldest}
 use Rattle.board_model.specs.ChannelEnds.{EndCall, opened_end, closed_end, closes}
 use Rattle.board_model.specs.Answer.{local, end_holds, holds, words_of, is_complete, refusal, unless_refused, address_of}
-use Rattle.board_model.specs.Change.{Change, endpoint_gone, best_gone, channel_set, request_added, waiting_ended, end_announced, buffer_used, channel_given, endpoint_with, with_queue, without_queue, changed, changed_all}
-use Rattle.board_model.specs.CallChanges.{at_live, at_channel, at_end, new_sender, closing, best_item, success_changes, effect, held_by, success_returned, returned}
-use Rattle.board_model.proofs.ListsCounts.{count-append, find-none}
+use Rattle.board_model.specs.Change.{Change, endpoint_gone, best_gone, oldest_gone, channel_set, request_added, request_gone, waiting_ended, end_announced, buffer_used, packet_lent, packet_gone, channel_given, endpoint_with, with_queue, without_queue, changed, changed_all}
+use Rattle.board_model.specs.CallChanges.{at_live, at_channel, at_end, new_sender, closing, lending, lent_by, lent_by_test, best_item, success_changes, effect, item_lent, message_held, held_by, success_returned, returned}
+use Rattle.board_model.proofs.ListsCounts.{count-cons, count-append, find-none}
 use Rattle.board_model.proofs.MessageBest.{count-best}
 use Rattle.board_model.proofs.StateEnds.{Ends, by_address, end-holds}
 use Rattle.board_model.proofs.LaneTakes.{held, count-first, pending_holds, asked_items, lent_counts, found_asked, ended_asked, ended-holds, set-holds}
@@ -56,8 +57,13 @@ address_asked : (o : Option ℕ) → item_in (option_map has_address o) ≡ []
 address_asked None = refl
 address_asked (Some a) = refl
 
+-- the item that a request holds
+abbrev whole : Option Request → List Item
+whole None = []
+whole (Some r) = item_in r.outcome
+
 -- what the request at a place holds is gone with it
-ended_counts : (w : Item → Bool) (o : Option ℕ) (rs : List Request) → count_by w (asked_items (without o rs)) + count_by w (held_by (option_and_then (λ i. slice_get rs i) o)) ≡ count_by w (asked_items rs)
+ended_counts : (w : Item → Bool) (o : Option ℕ) (rs : List Request) → count_by w (asked_items (without o rs)) + count_by w (whole (option_and_then (λ i. slice_get rs i) o)) ≡ count_by w (asked_items rs)
 ended_counts w None rs = omega arith
 ended_counts w (Some i) [] = refl
 ended_counts w (Some zero) (r ∷ rs) = omega (arith, count-append w (item_in r.outcome) (asked_items rs))
@@ -65,14 +71,54 @@ ended_counts w (Some (suc i)) (r ∷ rs) =
     omega (arith, count-append w (item_in r.outcome) (asked_items (without (Some i) rs)), count-append w (item_in r.outcome) (asked_items rs), ended_counts w (Some i) rs)
 
 -- a request that is cancelled is pending, and holds nothing
-pending_none : (o : Option Request) → is_complete o ≡ false → held_by o ≡ []
+pending_none : (o : Option Request) → is_complete o ≡ false → whole o ≡ []
 pending_none None e = refl
 pending_none (Some r) e = pending_holds r.outcome (ap not e)
 
-pub cancelled_holds : (s : DomainState) (node : ℕ) (request : Option ℕ) → refusal s node (cancel_of request) ≡ None → held_by (request_at_place s request) ≡ []
+cancelled_holds : (s : DomainState) (node : ℕ) (request : Option ℕ) → refusal s node (cancel_of request) ≡ None → whole (request_at_place s request) ≡ []
 cancelled_holds s node request e =
     let t = find-none (holds s node (cancel_of request)) (words_of (cancel_of request)) e in
     pending_none (request_at_place s request) t.1.0
+
+-- ---- lent packets
+
+-- the packet at a place is gone
+released_counts : (w : Item → Bool) (o : Option ℕ) (ps : List LentPacket) → count_by w (map (λ p. p.item) (without o ps)) + count_by w (item_lent (option_and_then (λ i. slice_get ps i) o)) ≡ count_by w (map (λ p. p.item) ps)
+released_counts w None ps = omega arith
+released_counts w (Some i) [] = refl
+released_counts w (Some zero) (p ∷ ps) = omega (arith, count-cons w p.item (map (λ (q : LentPacket). q.item) ps), count-cons w p.item [])
+released_counts w (Some (suc i)) (p ∷ ps) =
+    omega (arith, count-cons w p.item (map (λ (q : LentPacket). q.item) (without (Some i) ps)), count-cons w p.item (map (λ (q : LentPacket). q.item) ps), released_counts w (Some i) ps)
+
+module _ (w : Item → Bool) (t : DomainState) where
+  lent_holds : (i : Item) → held w (changed t (packet_lent i)) ≡ held w t + count_by w (i ∷ [])
+  lent_holds i =
+      let p : LentPacket = record { serial = t.packets_lent; item = i } in
+      let more : count_by w (map (λ (q : LentPacket). q.item) (t.lent ++ p ∷ [])) ≡ count_by w (map (λ (q : LentPacket). q.item) t.lent) + count_by w (i ∷ []) = ap (count_by w) (map-append (λ (q : LentPacket). q.item) t.lent (p ∷ [])) ∙ count-append w (map (λ (q : LentPacket). q.item) t.lent) (i ∷ []) in
+      omega (arith, more, lent_counts w t, lent_counts w (changed t (packet_lent i)))
+
+  lending_counts : (o : Option Item) → held w (changed_all t (lending o)) ≡ held w t + count_by w (option_to_list o)
+  lending_counts None = omega arith
+  lending_counts (Some i) = lent_holds i
+
+  -- a test lends the packet of its request, or gives back the message
+  lent_by_counts : (asked : Asked) (o : Option Outcome) → held w (changed_all t (lent_by asked o)) + count_by w (message_held asked o) ≡ held w t + count_by w (item_in o)
+  lent_by_counts (packet_at at) None = omega arith
+  lent_by_counts (packet_at at) (Some (has_address a)) = omega arith
+  lent_by_counts (packet_at at) (Some is_accepted) = omega arith
+  lent_by_counts (packet_at at) (Some (is_rejected why)) = omega arith
+  lent_by_counts (packet_at at) (Some (has_item i)) = omega (arith, lent_holds i)
+  lent_by_counts (packet_at at) (Some (has_ended word)) = omega arith
+  lent_by_counts asked o = refl
+
+  tested_counts : (o : Option Request) → held w (changed_all t (lent_by_test o)) + count_by w (held_by o) ≡ held w t + count_by w (whole o)
+  tested_counts None = refl
+  tested_counts (Some r) = lent_by_counts r.asked r.outcome
+
+-- the oldest is gone
+count-oldest : (w : Item → Bool) (q : List Item) → count_by w (drop 1 q) + count_by w (option_to_list (oldest q)) ≡ count_by w q
+count-oldest w [] = refl
+count-oldest w (i ∷ q) = omega (arith, count-cons w i q, count-cons w i [])
 
 -- ---- an end of a channel
 
@@ -101,6 +147,13 @@ module _ (w : Item → Bool) (s : DomainState) (ends : Ends s) where
       let less = count-first w (λ (x : Endpoint). x.queue) (has_address_of e.address) (with_queue (without_best (λ i. i.priority))) 0 (count_by w (option_to_list (best_item e))) e s.endpoints found (omega (arith, count-best w (λ (i : Item). i.priority) e.queue)) in
       omega (arith, less)
 
+  -- its oldest is gone
+  oldest_counts : (at : Local) (e : Endpoint) → live_at s at ≡ Some e → held w (changed s (oldest_gone e.address)) + count_by w (option_to_list (oldest e.queue)) ≡ held w s
+  oldest_counts at e live =
+      let found : endpoint_of s e.address ≡ Some e = (by_address at s.endpoints e ends.apart live).found in
+      let less = count-first w (λ (x : Endpoint). x.queue) (has_address_of e.address) (with_queue (drop 1)) 0 (count_by w (option_to_list (oldest e.queue))) e s.endpoints found (omega (arith, count-oldest w e.queue)) in
+      omega (arith, less)
+
   deleted_counts : (at : Local) (e : Endpoint) → live_at s at ≡ Some e →
       held w (changed_all s (waiting_ended e.address word.EndpInvalid ∷ endpoint_gone e.address ∷ end_announced (record { local = e.local; address = e.address; create = false }) ∷ [])) + count_by w e.queue ≡ held w s
   deleted_counts at e live =
@@ -126,6 +179,10 @@ module _ (w : Item → Bool) (s : DomainState) (ends : Ends s) where
   -- a channel that is set keeps what is queued
   end_counts : (f : Endpoint → ChannelEnd → Option ChannelEnd) (o : Option Endpoint) → held w (changed_all s (at_end o (λ e c. buffer_used c.peer ∷ channel_set e.address (f e c) ∷ []))) + 0 ≡ held w s
   end_counts f o = end-holds (λ cs. held w (changed_all s cs) + 0 ≡ held w s) (omega arith) o (λ e c. buffer_used c.peer ∷ channel_set e.address (f e c) ∷ []) (λ e c live has. omega (arith, set-holds w (changed s (buffer_used c.peer)) e.address (f e c)))
+
+  -- and so does a frame that is put
+  used_counts : (o : Option Endpoint) → held w (changed_all s (at_end o (λ e c. buffer_used c.peer ∷ []))) + 0 ≡ held w s
+  used_counts o = end-holds (λ cs. held w (changed_all s cs) + 0 ≡ held w s) (omega arith) o (λ e c. buffer_used c.peer ∷ []) (λ e c live has. omega arith)
 
   live_counts : (node : ℕ) (at : Local) (f : Endpoint → List Change) (q : Endpoint → List Item) → ((e : Endpoint) → live_at s at ≡ Some e → held w (changed_all s (f e)) + count_by w (q e) ≡ held w s) → held w (changed_all s (at_live (live_at s at) f)) + count_by w (at_live (live_at s at) q) ≡ held w s
   live_counts node at f q each = go (live_at s at) refl
@@ -166,13 +223,33 @@ module _ (w : Item → Bool) (s : DomainState) (ends : Ends s) where
           let t : DomainState = changed u (request_added (channel_of (s.channels_given + 1)) None) in
           omega (arith, set-holds w (changed s (buffer_used to.domain)) e.address (Some (new_sender s to kind)), lent_counts w u, lent_counts w t, asked_counts w s.requests r)
   success_counts node (open_at port side kind) e = end_counts (λ e c. Some (opened_end c)) (live_at s (local node port))
+  success_counts node (packet_from port bytes) e = used_counts (live_at s (local node port))
+  success_counts node (lend_at port) e = go (live_at s (local node port)) refl
+    where
+      go : (o : Option Endpoint) → live_at s (local node port) ≡ o → held w (changed_all s (at_live o (λ e. oldest_gone e.address ∷ lending (oldest e.queue)))) + 0 ≡ held w s
+      go None is = omega arith
+      go (Some e) is = omega (arith, oldest_counts (local node port) e is, lending_counts w (changed s (oldest_gone e.address)) (oldest e.queue))
+  success_counts node (packet_request_at port) e = go (live_at s (local node port)) refl
+    where
+      go : (o : Option Endpoint) → live_at s (local node port) ≡ o → held w (changed_all s (at_live o (λ e. oldest_gone e.address ∷ request_added (packet_at e.local) (option_map has_item (oldest e.queue)) ∷ []))) + 0 ≡ held w s
+      go None is = omega arith
+      go (Some e) is =
+          let u : DomainState = changed s (oldest_gone e.address) in
+          let r : Request = record { serial = s.requests_given; asked = packet_at e.local; outcome = option_map has_item (oldest e.queue) } in
+          let t : DomainState = changed u (request_added (packet_at e.local) (option_map has_item (oldest e.queue))) in
+          omega (arith, oldest_counts (local node port) e is, lent_counts w u, lent_counts w t, asked_counts w s.requests r, ap (count_by w) (item_asked (oldest e.queue)))
+  success_counts node (release_of place) e = omega (arith, released_counts w place s.lent, lent_counts w s, lent_counts w (changed s (packet_gone place)))
+  success_counts node (scalar_from port bits value) e = used_counts (live_at s (local node port))
+  success_counts node (scalar_at port bits) e = live_counts node (local node port) (λ e. oldest_gone e.address ∷ []) (λ e. option_to_list (oldest e.queue)) (λ e is. oldest_counts (local node port) e is)
   success_counts node (close_at port Sender) e = end_counts (λ e c. closed_end c) (live_at s (local node port))
   success_counts node (close_at port Receiver) e =
       let words = find-none (holds s node (close_at port Receiver)) (words_of (close_at port Receiver)) e in
       let there = end-there (closes Receiver) (live_at s (local node port)) words.1.0 in
       subst (λ o. held w (changed_all s (at_end o (closing Receiver))) + count_by w (at_live o (λ e. e.queue)) ≡ held w s) (sym there.live)
       (subst (λ c. held w (changed_all s (at_channel c (closing Receiver there.end))) + count_by w there.end.queue ≡ held w s) (sym there.has) (dropped_counts (local node port) there.end there.channel there.live))
-  success_counts node (test_of request) e = omega (arith, ended_counts w request s.requests, lent_counts w s, lent_counts w (changed_all s (success_changes s node (test_of request))))
+  success_counts node (test_of request) e =
+      let u : DomainState = changed s (request_gone request) in
+      omega (arith, tested_counts w u (request_at_place s request), ended_counts w request s.requests, lent_counts w s, lent_counts w u)
   success_counts node (cancel_of request) e =
       omega (arith, ended_counts w request s.requests, lent_counts w s, lent_counts w (changed_all s (success_changes s node (cancel_of request))), ap (count_by w) (cancelled_holds s node request e))
   success_counts node turn_alone e = omega arith

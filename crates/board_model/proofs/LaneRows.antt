@@ -23,7 +23,7 @@ use Rattle.mc_base.specs.declared.channel.Reason.{Reason}
 use Rattle.mc_base.specs.declared.channel.Reason.TheVariants as reason
 use Rattle.mc_base.specs.declared.refusal.Refusal.TheVariants.{ChanClosed}
 use Rattle.board_model.specs.State.{connected, ChannelEnd, is_accepted, is_rejected, Endpoint, DomainState, endpoint_of, one_waits, peer_at}
-use Rattle.board_model.specs.Change.{Change, channel_set, item_queued, item_handed, waiting_ended, name_found, connect_settled, names_known}
+use Rattle.board_model.specs.Change.{Change, channel_set, item_queued, item_handed, item_lost, waiting_ended, name_found, connect_settled, names_known}
 use Rattle.board_model.specs.ChannelEnds.{is_connecting, is_closed, same_kind, sends_to, hears_from, far_closed_end, end_row, left_row, end_row_of}
 use Rattle.board_model.specs.Dealing.{fault_word, frame_word, letter_word, ns_word, keeps_buffer}
 use Rattle.board_model.specs.TakenFrames.{Row, row, last_row, first_row, names_of, name_rows, rejecting, accepting, is_busy, connect_rows, item_of, message_rows, acting, channel_rows, letter_rows, row_of}
@@ -79,14 +79,21 @@ Carried peer e (packet number content) = (c : ChannelEnd) × (e.channel ≡ Some
 Carried peer e (scalar number bits value) = (c : ChannelEnd) × (e.channel ≡ Some c) × (end_row_of peer (Some c) (scalar number bits value) ≡ end_row true fate.Queued (Some c))
 Carried peer e other = ⊥
 
--- nothing; it learns a name, or forgets one; it hands an item to a receive that waits, or queues it; it owes a rejection, or accepts a
--- channel; or a letter acts on a channel
+-- an item of a channel comes to an end that is closed
+abbrev pub Late : ℕ → Endpoint → PlainLetter → Type 0
+Late peer e (packet number content) = (c : ChannelEnd) × (e.channel ≡ Some c) × (end_row_of peer (Some c) (packet number content) ≡ end_row true fate.Closed (Some c))
+Late peer e (scalar number bits value) = (c : ChannelEnd) × (e.channel ≡ Some c) × (end_row_of peer (Some c) (scalar number bits value) ≡ end_row true fate.Closed (Some c))
+Late peer e other = ⊥
+
+-- nothing; it learns a name, or forgets one; it hands an item to a receive that waits, or queues it, or loses it; it owes a rejection, or
+-- accepts a channel; or a letter acts on a channel
 pub data Deals (s : DomainState) (peer : ℕ) (name : Option ℕ) (frame : Reading) (r : Row) : Type 0 where
   stays : r.happens ≡ [] → keeps_buffer r.word ≡ false → Deals s peer name frame r
   learns : (text : List ℕ) (n : EndName) (a : ℕ) (names : Names) → frame ≡ announces text a true → names ≡ learned n a (names_of (peer_at s peer)) → r.happens ≡ names_known peer names ∷ name_found n a ∷ [] → keeps_buffer r.word ≡ false → Deals s peer name frame r
   forgets : (text : List ℕ) (n : EndName) (a : ℕ) (names : Names) → frame ≡ announces text a false → names ≡ forgotten n (names_of (peer_at s peer)) → r.happens ≡ names_known peer names ∷ [] → keeps_buffer r.word ≡ false → Deals s peer name frame r
   hands : (source at : ℕ) (l : PlainLetter) (e : Endpoint) → frame ≡ says source at l → endpoint_of s at ≡ Some e → Carried peer e l → one_waits s e.local ≡ true → r.happens ≡ item_handed at (item_of peer name source l) ∷ [] → r.word ≡ fate.Handed → Deals s peer name frame r
   queues : (source at : ℕ) (l : PlainLetter) (e : Endpoint) → frame ≡ says source at l → endpoint_of s at ≡ Some e → Carried peer e l → one_waits s e.local ≡ false → r.happens ≡ item_queued at (item_of peer name source l) ∷ [] → r.word ≡ fate.Queued → Deals s peer name frame r
+  loses : (source at : ℕ) (l : PlainLetter) (e : Endpoint) → frame ≡ says source at l → endpoint_of s at ≡ Some e → Late peer e l → r.happens ≡ item_lost at (item_of peer name source l) ∷ [] → r.word ≡ fate.Closed → Deals s peer name frame r
   rejects : (source at number : ℕ) (kind : Kind) (why : Reason) → frame ≡ says source at (connect number kind) → r.happens ≡ rejecting peer source at number why → keeps_buffer r.word ≡ false → Deals s peer name frame r
   accepts : (source at number : ℕ) (kind : Kind) (e : Endpoint) → frame ≡ says source at (connect number kind) → endpoint_of s at ≡ Some e → e.channel ≡ None → is_busy s e ≡ false → r.happens ≡ accepting peer source at number kind → keeps_buffer r.word ≡ false → Deals s peer name frame r
   acts : (source at : ℕ) (l : PlainLetter) (e : Endpoint) (c : ChannelEnd) (left : Option ChannelEnd) → frame ≡ says source at l → endpoint_of s at ≡ Some e → e.channel ≡ Some c → end_row_of peer (Some c) l ≡ end_row true fate.Acted left → r.happens ≡ acting at left l → keeps_buffer r.word ≡ false → Deals s peer name frame r
@@ -157,11 +164,11 @@ module _ (s : DomainState) (peer : ℕ) (name : Option ℕ) where
           ((λ on. acts source destination l e c left refl found has (is ∙ ap (λ b. cond b (end_row b fate.Acted left) (left_row (Some c))) on) refl refl), (λ off. stays refl refl))
 
       -- an item of the channel comes, is too late, or is out of place
-      comes_or_stays : (closed applies : Bool) → (end_row_of peer (Some c) l ≡ end_row true fate.Queued (Some c) → Carried peer e l) → end_row_of peer (Some c) l ≡ cond closed (end_row closed fate.Closed (Some c)) (cond applies (end_row applies fate.Queued (Some c)) (left_row (Some c))) →
-          Rows (row closed fate.Closed [] ∷ row (applies && one_waits s e.local) fate.Handed (item_handed destination (item_of peer name source l) ∷ []) ∷ row applies fate.Queued (item_queued destination (item_of peer name source l) ∷ []) ∷ last_row fate.State [])
-      comes_or_stays closed applies carried is =
-          by_rows (Deals s peer name (says source destination l)) (row closed fate.Closed [] ∷ row (applies && one_waits s e.local) fate.Handed (item_handed destination (item_of peer name source l) ∷ []) ∷ row applies fate.Queued (item_queued destination (item_of peer name source l) ∷ []) ∷ last_row fate.State []) (
-            (λ too_late. stays refl refl),
+      comes_or_stays : (closed applies : Bool) → (end_row_of peer (Some c) l ≡ end_row true fate.Queued (Some c) → Carried peer e l) → (end_row_of peer (Some c) l ≡ end_row true fate.Closed (Some c) → Late peer e l) → end_row_of peer (Some c) l ≡ cond closed (end_row closed fate.Closed (Some c)) (cond applies (end_row applies fate.Queued (Some c)) (left_row (Some c))) →
+          Rows (row closed fate.Closed (item_lost destination (item_of peer name source l) ∷ []) ∷ row (applies && one_waits s e.local) fate.Handed (item_handed destination (item_of peer name source l) ∷ []) ∷ row applies fate.Queued (item_queued destination (item_of peer name source l) ∷ []) ∷ last_row fate.State [])
+      comes_or_stays closed applies carried late is =
+          by_rows (Deals s peer name (says source destination l)) (row closed fate.Closed (item_lost destination (item_of peer name source l) ∷ []) ∷ row (applies && one_waits s e.local) fate.Handed (item_handed destination (item_of peer name source l) ∷ []) ∷ row applies fate.Queued (item_queued destination (item_of peer name source l) ∷ []) ∷ last_row fate.State []) (
+            (λ too_late. loses source destination l e refl found (late (is ∙ ap (λ x. cond x (end_row x fate.Closed (Some c)) (cond applies (end_row applies fate.Queued (Some c)) (left_row (Some c)))) too_late)) refl refl),
             (λ in_time. (
               (λ both. let parts = and_parts applies (one_waits s e.local) both in hands source destination l e refl found (taken in_time parts.0) parts.1 refl refl),
               (λ not_both. ((λ on. queues source destination l e refl found (taken in_time on) (ap (λ b. b && one_waits s e.local) (sym on) ∙ not_both) refl refl), (λ off. stays refl refl))),
@@ -185,8 +192,8 @@ module _ (s : DomainState) (peer : ℕ) (name : Option ℕ) where
     channels_deal e (Some c) (recv_close number) found has = acts_or_stays (recv_close number) e c found has (sends_to peer number c && not c.far_closed) (far_closed_end c) refl
     channels_deal e (Some c) (send_open number) found has = acts_or_stays (send_open number) e c found has (hears_from peer number c && (not c.far_open && not c.far_closed)) (Some (record c { far_open = true })) refl
     channels_deal e (Some c) (send_close number) found has = acts_or_stays (send_close number) e c found has (hears_from peer number c && not c.far_closed) (far_closed_end c) refl
-    channels_deal e (Some c) (packet number content) found has = comes_or_stays (packet number content) e c found has (late kind.Packet c number) (comes kind.Packet c number) (λ is. (c, has, is)) refl
-    channels_deal e (Some c) (scalar number bits value) found has = comes_or_stays (scalar number bits value) e c found has (late kind.Scalar c number) (comes kind.Scalar c number) (λ is. (c, has, is)) refl
+    channels_deal e (Some c) (packet number content) found has = comes_or_stays (packet number content) e c found has (late kind.Packet c number) (comes kind.Packet c number) (λ is. (c, has, is)) (λ is. (c, has, is)) refl
+    channels_deal e (Some c) (scalar number bits value) found has = comes_or_stays (scalar number bits value) e c found has (late kind.Scalar c number) (comes kind.Scalar c number) (λ is. (c, has, is)) (λ is. (c, has, is)) refl
     channels_deal e (Some c) (msg priority content) found has = stays refl refl
     channels_deal e (Some c) (connect number kind) found has = stays refl refl
 

@@ -24,7 +24,7 @@ use Rattle.mc_base.specs.NameMap.{Names}
 use Rattle.board_model.proofs.ListsMapped.{any-found}
 use Rattle.board_model.proofs.MessageAlls.{found-passes}
 use Rattle.board_model.proofs.LanePeers.{read_of, Keeps, read-all, cond-keeps, peer-changed}
-use Rattle.board_model.proofs.LaneRows.{Deals, stays, learns, forgets, hands, queues, rejects, accepts, acts, acting-all, row-deals}
+use Rattle.board_model.proofs.LaneRows.{Deals, stays, learns, forgets, hands, queues, loses, rejects, accepts, acts, acting-all, row-deals}
 use Rattle.board_model.proofs.VisitLooks.{after_takes, HaveWords}
 
 -- ---- items that are held
@@ -168,6 +168,7 @@ module _ (w : Item → Bool) (b : Bool) (s : DomainState) (peer : ℕ) (frame : 
       one_comes (ap (λ cs. held w (changed_all u cs)) is ∙ (item_handed_holds w u at (item_of peer None source l) e found waits ∙ ap (λ c. held w s + one_if c) (counts source l))) (ap keeps_buffer word)
   row_counts (queues source at l e says found carried none is word) =
       one_comes (ap (λ cs. held w (changed_all u cs)) is ∙ (item_queued_holds w u at (item_of peer None source l) e found ∙ ap (λ c. held w s + one_if c) (counts source l))) (ap keeps_buffer word)
+  row_counts (loses source at l e says found late is word) = none_comes (ap (λ cs. held w (changed_all u cs)) is) (ap keeps_buffer word)
   row_counts (rejects source at number kind why says is gives) = none_comes (ap (λ cs. held w (changed_all u cs)) is) gives
   row_counts (accepts source at number kind e says found none free is gives) = none_comes (ap (λ cs. held w (changed_all u cs)) is ∙ set-holds w u at (Some (accepted_end kind peer number peer source))) gives
   row_counts (acts source at l e c left says found has row is gives) = none_comes (ap (λ cs. held w (changed_all u cs)) is ∙ acting_holds w u at left l) gives
@@ -216,6 +217,7 @@ module _ {X : Type 0} (g : Peer → X) (knows : (p : Peer) (names : Names) → g
   row_keeps s d n peer frame r (forgets text m a names says named is gives) = subst (AllByRecursion (Keeps g d n)) (sym is) ((λ p. cond-keeps g (peer == n) p (record p { known = names }) (knows p names)), tt)
   row_keeps s d n peer frame r (hands source at l e says found carried waits is word) = subst (AllByRecursion (Keeps g d n)) (sym is) ((λ p. refl), tt)
   row_keeps s d n peer frame r (queues source at l e says found carried none is word) = subst (AllByRecursion (Keeps g d n)) (sym is) ((λ p. refl), tt)
+  row_keeps s d n peer frame r (loses source at l e says found late is word) = subst (AllByRecursion (Keeps g d n)) (sym is) ((λ p. refl), tt)
   row_keeps s d n peer frame r (rejects source at number kind why says is gives) = subst (AllByRecursion (Keeps g d n)) (sym is) (reply_keeps d n peer _, tt)
   row_keeps s d n peer frame r (accepts source at number kind e says found none free is gives) = subst (AllByRecursion (Keeps g d n)) (sym is) ((λ p. refl), (reply_keeps d n peer _, tt))
   row_keeps s d n peer frame r (acts source at l e c left says found has row is gives) = subst (AllByRecursion (Keeps g d n)) (sym is) (acting-all (Keeps g d n) at left (λ p. refl) (λ m p. refl) (λ m why p. refl) (λ p. refl) l)

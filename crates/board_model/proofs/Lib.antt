@@ -109,6 +109,7 @@ pub mod WordsRead
 pub mod JournalReading
 pub mod JournalVisits
 pub mod JournalJoins
+pub mod ItemsHeld
 pub mod JournalFollows
 pub mod JournalPartsJoined
 pub mod JournalHaveParts

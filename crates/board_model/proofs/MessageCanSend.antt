@@ -2,10 +2,10 @@
 use Rattle.std.proofs.Common.{◌≡◌, ℕ, ◌+◌, true, false, List, [], ◌∷◌, map, Option, Some, None, refl, sym, ap, ◌∙◌}
 use Rattle.std.specs.Prelude.{find, option_map, is_some, unwrap_or, nat_lt}
 use Rattle.std.specs.List.{AllByRecursion}
-use Rattle.mc_base.specs.Letter.{PlainLetter, msg, connect}
+use Rattle.mc_base.specs.Letter.{PlainLetter, msg, connect, packet, scalar}
 use Rattle.mc_base.specs.declared.name.EndName.{EndName}
 use Rattle.mc_base.specs.declared.refusal.Refusal.{Refusal}
-use Rattle.board_model.specs.DomainCall.{DomainCall, send_from, connect_from, open_at, close_at}
+use Rattle.board_model.specs.DomainCall.{DomainCall, send_from, connect_from, open_at, packet_from, scalar_from, close_at}
 use Rattle.board_model.specs.State.{DomainState, ChannelEnd, Endpoint, Peer, address_at, is_numbered, live_at, channel_in, peer_of}
 use Rattle.board_model.specs.Answer.{local, address_of, post, put_of, over_channel, opening_letter, closing_letter, lacks_buffers, holds, words_of, refusal, success_puts, puts, unless_refused}
 use Rattle.board_model.proofs.MessageLists.{get-position}
@@ -33,6 +33,10 @@ found_of s node (send_from port to priority bytes) None is = one_found s (put_of
 found_of s node (connect_from port to kind) None is = one_found s (put_of (post to.domain (unwrap_or (address_at s (local node port)) 0) (unwrap_or (address_of s to) 0) (connect (s.channels_given + 1) kind))) (none-passes (holds s node (connect_from port to kind)) (words_of (connect_from port to kind)) is).1.1.1.1.1.1.0
 found_of s node (open_at port side kind) None is =
     over_found s (live_at s (local node port)) (channel_in (live_at s (local node port))) (opening_letter side) (none-passes (holds s node (open_at port side kind)) (words_of (open_at port side kind)) is).1.1.1.1.1.1.0
+found_of s node (packet_from port bytes) None is =
+    over_found s (live_at s (local node port)) (channel_in (live_at s (local node port))) (λ number. packet number bytes) (none-passes (holds s node (packet_from port bytes)) (words_of (packet_from port bytes)) is).1.1.1.1.1.1.1.0
+found_of s node (scalar_from port bits value) None is =
+    over_found s (live_at s (local node port)) (channel_in (live_at s (local node port))) (λ number. scalar number bits value) (none-passes (holds s node (scalar_from port bits value)) (words_of (scalar_from port bits value)) is).1.1.1.1.1.1.0
 found_of s node (close_at port side) None is =
     over_found s (live_at s (local node port)) (channel_in (live_at s (local node port))) (closing_letter side) (none-passes (holds s node (close_at port side)) (words_of (close_at port side)) is).1.1.1.1.0
 found_of s node other None is = tt

@@ -1,14 +1,14 @@
 -- What holds of every state of a run: endpoints have addresses of their own, and peers keep their numbers.
-use Rattle.std.proofs.Common.{Option, Some, true, cond, ap₂, ◌≡◌, ℕ, ◌+◌, ◌-◌, ◌<◌, Bool, false, not, List, [], ◌∷◌, ◌++◌, map, drop, length, None, refl, sym, ap, ◌∙◌, subst, arith}
+use Rattle.std.proofs.Common.{◌⊎◌, inl, inr, Option, Some, true, cond, ap₂, ◌≡◌, ℕ, ◌+◌, ◌-◌, ◌<◌, Bool, false, not, List, [], ◌∷◌, ◌++◌, map, drop, length, None, refl, sym, ap, ◌∙◌, subst, arith}
 use Rattle.std.specs.Prelude.{filter, find, ◌==◌, is_some}
 use Rattle.std.specs.List.{AllByRecursion}
 use Rattle.std.proofs.lemmas.Bool.{and_parts, cond_both, eqb-true, eq-eqb, ne_eqb}
 use Rattle.mc_base.specs.Limits.{first_address}
 use Rattle.mc_base.specs.declared.name.Local.{Local}
 use Rattle.board_model.specs.Lists.{changed_first, without_first}
-use Rattle.board_model.specs.State.{ChannelEnd, Endpoint, Announcement, Peer, DomainState, is_at, has_address_of, is_numbered, place_at, live_at}
-use Rattle.board_model.specs.Change.{Change, endpoint_made, endpoint_gone, item_queued, best_gone, channel_set, queue_dropped, request_added, item_handed, waiting_ended, name_found, connect_settled, request_gone, end_announced, reply_owed, owed_put, buffers_back, frames_shown, frame_taken, names_known, buffer_used, channel_given, endpoint_with, with_channel, without_queue, with_queue, also_owed, first_put, peers_after, changed, changed_all}
-use Rattle.board_model.specs.CallChanges.{at_channel, at_end}
+use Rattle.board_model.specs.State.{Item, ChannelEnd, Endpoint, Asked, packet_at, Outcome, has_address, is_accepted, is_rejected, has_item, has_ended, Request, Announcement, Peer, DomainState, is_at, has_address_of, is_numbered, place_at, live_at}
+use Rattle.board_model.specs.Change.{Change, endpoint_made, endpoint_gone, item_queued, best_gone, oldest_gone, item_lost, channel_set, queue_dropped, request_added, item_handed, waiting_ended, name_found, connect_settled, request_gone, end_announced, reply_owed, owed_put, buffers_back, frames_shown, frame_taken, names_known, buffer_used, packet_lent, packet_gone, channel_given, endpoint_with, with_channel, without_queue, with_queue, also_owed, first_put, peers_after, changed, changed_all}
+use Rattle.board_model.specs.CallChanges.{at_channel, at_end, lending, lent_by, lent_by_test}
 use Rattle.board_model.specs.Choice.{without_best}
 use Rattle.board_model.proofs.MessageAlls.{all-append, all-changed-first, all-filter, all-found, all-weaken}
 use Rattle.board_model.proofs.MessageLists.{some-position}
@@ -102,6 +102,8 @@ ends-changed s (endpoint_made at) ends = ends_made s at ends
 ends-changed s (endpoint_gone a) ends = ends_gone s a ends
 ends-changed s (item_queued a i) ends = let more = ends_one s a (with_queue (λ q. q ++ i ∷ [])) (λ e. refl) ends in record { apart = more.apart; below = more.below }
 ends-changed s (best_gone a) ends = let less = ends_one s a (with_queue (without_best (λ i. i.priority))) (λ e. refl) ends in record { apart = less.apart; below = less.below }
+ends-changed s (oldest_gone a) ends = let less = ends_one s a (with_queue (drop 1)) (λ e. refl) ends in record { apart = less.apart; below = less.below }
+ends-changed s (item_lost a i) ends = record { apart = ends.apart; below = ends.below }
 ends-changed s (channel_set a c) ends = let other = ends_one s a (with_channel c) (λ e. refl) ends in record { apart = other.apart; below = other.below }
 ends-changed s (queue_dropped a c) ends = let other = ends_one s a (without_queue c) (λ e. refl) ends in record { apart = other.apart; below = other.below }
 ends-changed s (request_added asked o) ends = record { apart = ends.apart; below = ends.below }
@@ -118,6 +120,8 @@ ends-changed s (frames_shown n count) ends = record { apart = ends.apart; below 
 ends-changed s (frame_taken n) ends = record { apart = ends.apart; below = ends.below }
 ends-changed s (names_known n names) ends = record { apart = ends.apart; below = ends.below }
 ends-changed s (buffer_used n) ends = record { apart = ends.apart; below = ends.below }
+ends-changed s (packet_lent i) ends = record { apart = ends.apart; below = ends.below }
+ends-changed s (packet_gone place) ends = record { apart = ends.apart; below = ends.below }
 ends-changed s channel_given ends = record { apart = ends.apart; below = ends.below }
 
 pub ends-all : (s : DomainState) (cs : List Change) → Ends s → Ends (changed_all s cs)
@@ -196,6 +200,33 @@ end-holds P none (Some e) f each = go e.channel refl
     go : (c : Option ChannelEnd) → e.channel ≡ c → P (at_channel c (f e))
     go None has = none
     go (Some c) has = each e c refl has
+
+-- what holds of each packet that is lent holds of what a receive and a test lend
+pub lending-holds : (P : Change → Type 0) → ((i : Item) → P (packet_lent i)) → (o : Option Item) → AllByRecursion P (lending o)
+lending-holds P each None = tt
+lending-holds P each (Some i) = (each i, tt)
+
+-- a test lends nothing, or one packet
+pub tested-are : (o : Option Request) → (lent_by_test o ≡ []) ⊎ ((i : Item) × (lent_by_test o ≡ packet_lent i ∷ []))
+tested-are None = inl refl
+tested-are (Some r) = go r.asked r.outcome
+  where
+    go : (asked : Asked) (o : Option Outcome) → (lent_by asked o ≡ []) ⊎ ((i : Item) × (lent_by asked o ≡ packet_lent i ∷ []))
+    go (packet_at at) None = inl refl
+    go (packet_at at) (Some (has_address a)) = inl refl
+    go (packet_at at) (Some is_accepted) = inl refl
+    go (packet_at at) (Some (is_rejected why)) = inl refl
+    go (packet_at at) (Some (has_item i)) = inr (i, refl)
+    go (packet_at at) (Some (has_ended word)) = inl refl
+    go asked o = inl refl
+
+pub tested-holds : (P : Change → Type 0) → ((i : Item) → P (packet_lent i)) → (o : Option Request) → AllByRecursion P (lent_by_test o)
+tested-holds P each o = elim (tested-are o) [ inl none ↦ subst (AllByRecursion P) (sym none) tt | inr one ↦ subst (AllByRecursion P) (sym one.1) (each one.0, tt) ]
+
+-- changes that each keep a part of the state keep it together
+pub all-same : {X : Type 0} (f : DomainState → X) (cs : List Change) → AllByRecursion (λ c. (t : DomainState) → f (changed t c) ≡ f t) cs → (t : DomainState) → f (changed_all t cs) ≡ f t
+all-same f [] same t = refl
+all-same f (c ∷ cs) same t = all-same f cs same.1 (changed t c) ∙ same.0 t
 
 pub not_there : (u : DomainState) (at : Local) → is_some (place_at u at) ≡ false → live_at u at ≡ None
 not_there u at none = go (live_at u at) (sym (some-position (is_at at) u.endpoints))

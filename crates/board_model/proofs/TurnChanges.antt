@@ -1,19 +1,20 @@
--- What a turn may change: items come, names are known and found, channels change, replies are owed, frames are shown and taken, and buffers are used and come back.
+-- What a turn may change: items come or are lost, names are known and found, channels change, replies are owed, frames are shown and taken, and buffers are used and come back.
 use Rattle.std.proofs.Common.{◌≡◌, ℕ, List, [], ◌∷◌, None, refl, sym, ap, ◌∙◌, subst}
 use Rattle.std.specs.List.{AllByRecursion}
 use Rattle.mc_base.specs.Reading.{Reading, reading}
 use Rattle.board_model.specs.Journal.{Visit, Taken}
 use Rattle.board_model.specs.State.{DomainState}
-use Rattle.board_model.specs.Change.{Change, channel_set, item_queued, item_handed, waiting_ended, name_found, connect_settled, reply_owed, owed_put, buffers_back, frames_shown, frame_taken, names_known, changed, changed_all}
+use Rattle.board_model.specs.Change.{Change, channel_set, item_queued, item_handed, item_lost, waiting_ended, name_found, connect_settled, reply_owed, owed_put, buffers_back, frames_shown, frame_taken, names_known, changed, changed_all}
 use Rattle.board_model.specs.TakenFrames.{Row, row_of}
 use Rattle.board_model.specs.Deeds.{takes, after_deed}
 use Rattle.board_model.specs.Turn.{after_visit, after_turn}
-use Rattle.board_model.proofs.LaneRows.{Deals, stays, learns, forgets, hands, queues, rejects, accepts, acts, acting-all, row-deals}
+use Rattle.board_model.proofs.LaneRows.{Deals, stays, learns, forgets, hands, queues, loses, rejects, accepts, acts, acting-all, row-deals}
 use Rattle.board_model.proofs.VisitLooks.{after_looks, after_takes, visit-after, looks-keep}
 
 abbrev pub IsOfTurn : Change → Type 0
 IsOfTurn (item_queued a i) = Unit {0}
 IsOfTurn (item_handed a i) = Unit {0}
+IsOfTurn (item_lost a i) = Unit {0}
 IsOfTurn (channel_set a c) = Unit {0}
 IsOfTurn (waiting_ended a word) = Unit {0}
 IsOfTurn (name_found n a) = Unit {0}
@@ -38,6 +39,7 @@ module _ {X : Type 0} (f : DomainState → X) (same : (s : DomainState) (c : Cha
   row_of_turn s peer frame r (forgets text n a names says named is gives) = subst (AllByRecursion IsOfTurn) (sym is) (tt, tt)
   row_of_turn s peer frame r (hands source at l e says found carried waits is word) = subst (AllByRecursion IsOfTurn) (sym is) (tt, tt)
   row_of_turn s peer frame r (queues source at l e says found carried none is word) = subst (AllByRecursion IsOfTurn) (sym is) (tt, tt)
+  row_of_turn s peer frame r (loses source at l e says found late is word) = subst (AllByRecursion IsOfTurn) (sym is) (tt, tt)
   row_of_turn s peer frame r (rejects source at number kind why says is gives) = subst (AllByRecursion IsOfTurn) (sym is) (tt, tt)
   row_of_turn s peer frame r (accepts source at number kind e says found none free is gives) = subst (AllByRecursion IsOfTurn) (sym is) (tt, (tt, tt))
   row_of_turn s peer frame r (acts source at l e c left says found has row is gives) = subst (AllByRecursion IsOfTurn) (sym is) (acting-all IsOfTurn at left tt (λ n. tt) (λ n why. tt) tt l)

@@ -3,22 +3,23 @@ use Rattle.std.proofs.Common.{◌≡◌, ℕ, ◌+◌, true, false, not, ◌||�
 use Rattle.std.specs.Prelude.{nat_le, option_map, ◌==◌, is_some, unwrap_or}
 use Rattle.std.proofs.lemmas.List.{length-map}
 use Rattle.mc_base.specs.Limits.{record_limit, request_limit}
-use Rattle.mc_base.specs.Letter.{PlainLetter, msg, connect}
+use Rattle.mc_base.specs.Letter.{PlainLetter, msg, connect, packet, scalar}
 use Rattle.mc_base.specs.declared.name.Local.{Local}
 use Rattle.mc_base.specs.declared.name.EndName.{EndName}
+use Rattle.mc_base.specs.declared.channel.Bits.{Bits}
 use Rattle.mc_base.specs.declared.channel.Side.{Side}
 use Rattle.mc_base.specs.declared.channel.Side.TheVariants.{Sender, Receiver}
 use Rattle.mc_base.specs.declared.refusal.Refusal.{Refusal}
-use Rattle.mc_base.specs.declared.refusal.Refusal.TheVariants.{ExistsAlready, EndpLimit, EndpInvalid, PeerInvalid, OnChannel, ChanConnected, EndpBusy, NotConnected, ChanDirection, ChanType, ChanClosed, AlreadyOpen, NoBuffer, Empty, RequestLimit, RequestInvalid, Pending, TooLate}
-use Rattle.board_model.specs.State.{Item, ChannelEnd, Endpoint, Outcome, has_address, is_accepted, is_rejected, has_item, has_ended, Asked, name_of, channel_of, message_at, Request, DomainState, is_at, live_at, endpoint_at, address_at, channel_in, queue_in, queue_at, request_at_place, peer_of}
-use Rattle.board_model.specs.Choice.{best}
-use Rattle.board_model.specs.DomainCall.{DomainCall, create_at, delete_at, lookup_of, send_from, receive_at, request_at, available_at, connect_from, open_at, close_at, test_of, cancel_of, turn_alone}
+use Rattle.mc_base.specs.declared.refusal.Refusal.TheVariants.{ExistsAlready, EndpLimit, EndpInvalid, PeerInvalid, OnChannel, ChanConnected, EndpBusy, NotConnected, ChanDirection, ChanType, ChanClosed, AlreadyOpen, NotOpen, SclSize, BufInvalid, NoBuffer, Empty, RequestLimit, RequestInvalid, Pending, TooLate}
+use Rattle.board_model.specs.State.{Item, ChannelEnd, Endpoint, Outcome, has_address, is_accepted, is_rejected, has_item, has_ended, Asked, name_of, channel_of, message_at, packet_at, Request, DomainState, is_at, live_at, endpoint_at, address_at, channel_in, queue_in, queue_at, request_at_place, packet_at_place, peer_of}
+use Rattle.board_model.specs.Choice.{best, oldest}
+use Rattle.board_model.specs.DomainCall.{DomainCall, create_at, delete_at, lookup_of, send_from, receive_at, request_at, available_at, connect_from, open_at, packet_from, lend_at, packet_request_at, release_of, scalar_from, scalar_at, close_at, test_of, cancel_of, turn_alone}
 use Rattle.board_model.specs.Journal.{refuses, tells, completes}
-use Rattle.board_model.specs.Answer.{local, here, known_address, address_of, has_channel, named, end_call, holds_at_end, channel_at, post, put_of, over_channel, over_end, opening_letter, closing_letter, request_named, is_complete, success_posts, success_puts, lacks_buffers, holds, words_of, refusal, given, result_by, result_of, success, answer_by, answer, unless_refused, puts}
-use Rattle.board_model.specs.Change.{Change, endpoint_gone, best_gone, channel_set, request_added, waiting_ended, end_announced, buffer_used, channel_given}
+use Rattle.board_model.specs.Answer.{local, here, known_address, address_of, has_channel, named, end_call, holds_at_end, channel_at, post, put_of, over_channel, over_end, opening_letter, closing_letter, request_named, is_complete, packet_named, is_of_other_size, success_posts, success_puts, lacks_buffers, holds, words_of, refusal, lent_whole, value_of, given, result_by, result_of, success, answer_by, answer, unless_refused, puts}
+use Rattle.board_model.specs.Change.{Change, endpoint_gone, best_gone, oldest_gone, channel_set, request_added, waiting_ended, request_gone, end_announced, buffer_used, channel_given}
 use Rattle.board_model.specs.ChannelEnds.{connecting_end, opened_end}
-use Rattle.board_model.specs.CallChanges.{at_live, at_channel, at_end, new_sender, closing, best_item, success_changes, call_changes}
-use Rattle.board_model.proofs.DeedRuns.{unnamed_item, unnamed_end, unnamed_outcome, unnamed_request, unnamed}
+use Rattle.board_model.specs.CallChanges.{at_live, at_channel, at_end, new_sender, closing, lending, lent_by, lent_by_test, best_item, success_changes, call_changes}
+use Rattle.board_model.proofs.DeedRuns.{unnamed_item, unnamed_end, unnamed_outcome, unnamed_request, unnamed_packet, unnamed}
 use Rattle.board_model.proofs.MessageAlls.{none-passes}
 use Rattle.board_model.proofs.MessageBest.{best-none}
 use Rattle.board_model.proofs.MessageLists.{get-position}
@@ -90,6 +91,21 @@ addressed_unnamed s (send_from port to priority bytes) = address_of_unnamed s to
 addressed_unnamed s (connect_from port to kind) = address_of_unnamed s to
 addressed_unnamed s other = refl
 
+-- ---- lent packets
+
+pub packet-unnamed : (s : DomainState) (place : Option ℕ) → packet_at_place (unnamed s) place ≡ option_map unnamed_packet (packet_at_place s place)
+packet-unnamed s None = refl
+packet-unnamed s (Some i) = get-mapped unnamed_packet s.lent i
+
+packet_named_unnamed : (s : DomainState) (call : DomainCall) → packet_named (unnamed s) call ≡ option_map unnamed_packet (packet_named s call)
+packet_named_unnamed s (release_of place) = packet-unnamed s place
+packet_named_unnamed s other = refl
+
+size_unnamed : (call : DomainCall) (q : List Item) → is_of_other_size call (map unnamed_item q) ≡ is_of_other_size call q
+size_unnamed (scalar_at port bits) [] = refl
+size_unnamed (scalar_at port bits) (i ∷ q) = refl
+size_unnamed other q = refl
+
 -- ---- words of refusal
 
 pub posts-unnamed : (s : DomainState) (node : ℕ) (call : DomainCall) → success_posts (unnamed s) node call ≡ success_posts s node call
@@ -98,6 +114,8 @@ posts-unnamed s node (send_from port to priority bytes) =
 posts-unnamed s node (connect_from port to kind) =
     ap₂ (λ from at. post to.domain (unwrap_or from 0) (unwrap_or at 0) (connect (s.channels_given + 1) kind) ∷ []) (address_unnamed s (local node port)) (address_of_unnamed s to)
 posts-unnamed s node (open_at port side kind) = over_end_unnamed s (local node port) (opening_letter side)
+posts-unnamed s node (packet_from port bytes) = over_end_unnamed s (local node port) (λ number. packet number bytes)
+posts-unnamed s node (scalar_from port bits value) = over_end_unnamed s (local node port) (λ number. scalar number bits value)
 posts-unnamed s node (close_at port side) = over_end_unnamed s (local node port) (closing_letter side)
 posts-unnamed s node other = refl
 
@@ -109,8 +127,8 @@ lacks_unnamed s [] = refl
 lacks_unnamed s (p ∷ ps) = refl
 
 module _ (s : DomainState) (node : ℕ) (call : DomainCall) where
-  at_end_unnamed : (word : Refusal) → holds_at_end (end_call call) (channel_at (unnamed s) (here node call)) word ≡ holds_at_end (end_call call) (channel_at s (here node call)) word
-  at_end_unnamed word = ap (λ c. holds_at_end (end_call call) c word) (channel-unnamed s (here node call))
+  at_end_unnamed : (word : Refusal) → holds_at_end (end_call (length (queue_at (unnamed s) (here node call))) call) (channel_at (unnamed s) (here node call)) word ≡ holds_at_end (end_call (length (queue_at s (here node call))) call) (channel_at s (here node call)) word
+  at_end_unnamed word = ap₂ (λ n c. holds_at_end (end_call n call) c word) (queue_length s (here node call)) (channel-unnamed s (here node call))
 
   holds_unnamed : (word : Refusal) → holds (unnamed s) node call word ≡ holds s node call word
   holds_unnamed ExistsAlready = ap is_some (place-unnamed s (here node call))
@@ -125,6 +143,9 @@ module _ (s : DomainState) (node : ℕ) (call : DomainCall) where
   holds_unnamed ChanType = at_end_unnamed ChanType
   holds_unnamed ChanClosed = at_end_unnamed ChanClosed
   holds_unnamed AlreadyOpen = at_end_unnamed AlreadyOpen
+  holds_unnamed NotOpen = at_end_unnamed NotOpen
+  holds_unnamed SclSize = ap (is_of_other_size call) (queue-unnamed s (here node call)) ∙ size_unnamed call (queue_at s (here node call))
+  holds_unnamed BufInvalid = ap (λ o. not (is_some o)) (packet_named_unnamed s call) ∙ ap not (is_some-map unnamed_packet (packet_named s call))
   holds_unnamed NoBuffer = ap (lacks_buffers (unnamed s)) (success_puts_unnamed s node call) ∙ lacks_unnamed s (success_puts s node call)
   holds_unnamed Empty = ap (λ n. n == 0) (queue_length s (here node call))
   holds_unnamed RequestLimit = ap (λ n. nat_le request_limit n) (length-map s.requests unnamed_request)
@@ -157,6 +178,18 @@ given_unnamed : (max : ℕ) (o : Option Item) → given max (option_map unnamed_
 given_unnamed max None = refl
 given_unnamed max (Some i) = refl
 
+whole_unnamed : (q : List Item) → lent_whole (oldest (map unnamed_item q)) ≡ lent_whole (oldest q)
+whole_unnamed [] = refl
+whole_unnamed (i ∷ q) = refl
+
+value_unnamed : (bits : Bits) (q : List Item) → value_of bits (oldest (map unnamed_item q)) ≡ value_of bits (oldest q)
+value_unnamed bits [] = refl
+value_unnamed bits (i ∷ q) = refl
+
+pub oldest-unnamed : (q : List Item) → oldest (map unnamed_item q) ≡ option_map unnamed_item (oldest q)
+oldest-unnamed [] = refl
+oldest-unnamed (i ∷ q) = refl
+
 pub best-unnamed : (q : List Item) → best (λ (i : Item). i.priority) (map unnamed_item q) ≡ option_map unnamed_item (best (λ i. i.priority) q)
 best-unnamed q = best-mapped unnamed_item (λ i. i.priority) (λ i. refl) q
 
@@ -173,6 +206,12 @@ module _ (s : DomainState) (node : ℕ) where
   success_unnamed (available_at port) = ap tells (queue_length s (local node port))
   success_unnamed (connect_from port to kind) = refl
   success_unnamed (open_at port side kind) = refl
+  success_unnamed (packet_from port bytes) = refl
+  success_unnamed (lend_at port) = ap (λ q. lent_whole (oldest q)) (queue-unnamed s (local node port)) ∙ whole_unnamed (queue_at s (local node port))
+  success_unnamed (packet_request_at port) = refl
+  success_unnamed (release_of place) = refl
+  success_unnamed (scalar_from port bits value) = refl
+  success_unnamed (scalar_at port bits) = ap (λ q. value_of bits (oldest q)) (queue-unnamed s (local node port)) ∙ value_unnamed bits (queue_at s (local node port))
   success_unnamed (close_at port Sender) = refl
   success_unnamed (close_at port Receiver) = ap tells (queue_length s (local node port))
   success_unnamed (test_of request) = ap (λ o. completes None (result_of o)) (request-unnamed s request) ∙ ap (completes None) (result_of_unnamed (request_at_place s request))
@@ -214,6 +253,23 @@ module _ (s : DomainState) (node : ℕ) where
   found_unnamed None = refl
   found_unnamed (Some a) = refl
 
+  lending_unnamed : (a : ℕ) (q : List Item) → map unnamed_change (oldest_gone a ∷ lending (oldest q)) ≡ oldest_gone a ∷ lending (oldest (map unnamed_item q))
+  lending_unnamed a [] = refl
+  lending_unnamed a (i ∷ q) = refl
+
+  lent_unnamed : (asked : Asked) (o : Option Outcome) → map unnamed_change (lent_by asked o) ≡ lent_by asked (option_map unnamed_outcome o)
+  lent_unnamed (packet_at at) None = refl
+  lent_unnamed (packet_at at) (Some (has_address a)) = refl
+  lent_unnamed (packet_at at) (Some is_accepted) = refl
+  lent_unnamed (packet_at at) (Some (is_rejected reason)) = refl
+  lent_unnamed (packet_at at) (Some (has_item i)) = refl
+  lent_unnamed (packet_at at) (Some (has_ended word)) = refl
+  lent_unnamed asked o = refl
+
+  tested_unnamed : (o : Option Request) → map unnamed_change (lent_by_test o) ≡ lent_by_test (option_map unnamed_request o)
+  tested_unnamed None = refl
+  tested_unnamed (Some r) = lent_unnamed r.asked r.outcome
+
   changes_unnamed : (call : DomainCall) → map unnamed_change (success_changes s node call) ≡ success_changes (unnamed s) node call
   changes_unnamed (create_at port) = refl
   changes_unnamed (delete_at port) =
@@ -230,8 +286,16 @@ module _ (s : DomainState) (node : ℕ) where
       at_unnamed (λ e. buffer_used to.domain ∷ channel_set e.address (Some (new_sender s to kind)) ∷ request_added (channel_of (s.channels_given + 1)) None ∷ channel_given ∷ []) (λ e. refl) (local node port)
       ∙ ap (λ (a : Option ℕ). at_live (live_at (unnamed s) (local node port)) (λ e. buffer_used to.domain ∷ channel_set e.address (Some (connecting_end kind s.number (s.channels_given + 1) to.domain (unwrap_or a 0))) ∷ request_added (channel_of (s.channels_given + 1)) None ∷ channel_given ∷ [])) (sym (address_of_unnamed s to))
   changes_unnamed (open_at port side kind) = end_unnamed_at (λ e c. buffer_used c.peer ∷ channel_set e.address (Some (opened_end c)) ∷ []) (λ e c. refl) (local node port)
+  changes_unnamed (packet_from port bytes) = end_unnamed_at (λ e c. buffer_used c.peer ∷ []) (λ e c. refl) (local node port)
+  changes_unnamed (lend_at port) = at_unnamed (λ e. oldest_gone e.address ∷ lending (oldest e.queue)) (λ e. lending_unnamed e.address e.queue) (local node port)
+  changes_unnamed (packet_request_at port) =
+      at_unnamed (λ e. oldest_gone e.address ∷ request_added (packet_at e.local) (option_map has_item (oldest e.queue)) ∷ [])
+      (λ e. ap (λ o. oldest_gone e.address ∷ request_added (packet_at e.local) o ∷ []) (item_unnamed (oldest e.queue) ∙ ap (option_map has_item) (sym (oldest-unnamed e.queue)))) (local node port)
+  changes_unnamed (release_of place) = refl
+  changes_unnamed (scalar_from port bits value) = end_unnamed_at (λ e c. buffer_used c.peer ∷ []) (λ e c. refl) (local node port)
+  changes_unnamed (scalar_at port bits) = at_unnamed (λ e. oldest_gone e.address ∷ []) (λ e. refl) (local node port)
   changes_unnamed (close_at port side) = end_unnamed_at (closing side) (closing_unnamed side) (local node port)
-  changes_unnamed (test_of request) = refl
+  changes_unnamed (test_of request) = ap (λ cs. request_gone request ∷ cs) (tested_unnamed (request_at_place s request) ∙ ap lent_by_test (sym (request-unnamed s request)))
   changes_unnamed (cancel_of request) = refl
   changes_unnamed turn_alone = refl
 
@@ -251,6 +315,17 @@ refused-is u node word call is = go (refusal u node call) refl is
     gives_none max None told = refl
     gives_none max (Some i) told = absurd cc
 
+    lends_none : (q : List Item) → refuses word ≡ lent_whole (oldest q) → q ≡ []
+    lends_none [] told = refl
+    lends_none (i ∷ q) told = absurd cc
+
+    value_none : (bits : Bits) (q : List Item) → refuses word ≡ value_of bits (oldest q) → q ≡ []
+    value_none bits [] told = refl
+    value_none bits (i ∷ q) told = absurd cc
+
+    not_empty : (q : List Item) → q ≡ [] → (length q == 0) ≡ false → ⊥
+    not_empty q empty some = let no_way : (length q == 0) ≡ true = ap (λ (xs : List Item). length xs == 0) empty in absurd cc
+
     -- a receive that is not refused finds something queued
     never : (call : DomainCall) → refusal u node call ≡ None → refuses word ≡ success u node call → ⊥
     never (receive_at port max) none told =
@@ -258,6 +333,8 @@ refused-is u node word call is = go (refusal u node call) refl is
         let empty : q ≡ [] = best-none (λ (i : Item). i.priority) (queue_at u (local node port)) (gives_none max (best (λ i. i.priority) (queue_at u (local node port))) told) in
         let some : (length (queue_at u (local node port)) == 0) ≡ false = (none-passes (holds u node (receive_at port max)) (words_of (receive_at port max)) none).1.1.0 in
         absurd (let no_way : (length q == 0) ≡ true = ap (λ (xs : List Item). length xs == 0) empty in cc)
+    never (lend_at port) none told = absurd (not_empty (queue_at u (local node port)) (lends_none (queue_at u (local node port)) told) (none-passes (holds u node (lend_at port)) (words_of (lend_at port)) none).1.1.1.1.1.1.0)
+    never (scalar_at port bits) none told = absurd (not_empty (queue_at u (local node port)) (value_none bits (queue_at u (local node port)) told) (none-passes (holds u node (scalar_at port bits)) (words_of (scalar_at port bits)) none).1.1.1.1.1.1.0)
     never (create_at port) none told = absurd cc
     never (delete_at port) none told = absurd cc
     never (lookup_of name) none told = absurd cc
@@ -266,6 +343,10 @@ refused-is u node word call is = go (refusal u node call) refl is
     never (available_at port) none told = absurd cc
     never (connect_from port to kind) none told = absurd cc
     never (open_at port side kind) none told = absurd cc
+    never (packet_from port bytes) none told = absurd cc
+    never (packet_request_at port) none told = absurd cc
+    never (release_of place) none told = absurd cc
+    never (scalar_from port bits value) none told = absurd cc
     never (close_at port Sender) none told = absurd cc
     never (close_at port Receiver) none told = absurd cc
     never (test_of request) none told = absurd cc

@@ -1,5 +1,5 @@
 -- A state but for the names of frames: what is looked up in it, and how it changes.
-use Rattle.std.proofs.Common.{◌≡◌, ℕ, Bool, true, false, not, ◌&&◌, cond, List, [], ◌∷◌, ◌++◌, map, Option, Some, None, refl, sym, ap, ◌∙◌}
+use Rattle.std.proofs.Common.{◌≡◌, ℕ, Bool, true, false, not, ◌&&◌, cond, List, [], ◌∷◌, ◌++◌, map, drop, Option, Some, None, refl, sym, ap, ◌∙◌}
 use Rattle.std.specs.Prelude.{option_map, is_none}
 use Rattle.std.proofs.lemmas.List.{map-append}
 use Rattle.std.proofs.lemmas.Simd.{map-map}
@@ -7,8 +7,8 @@ use Rattle.mc_base.specs.declared.name.Local.{Local}
 use Rattle.mc_base.specs.declared.refusal.Refusal.{Refusal}
 use Rattle.board_model.specs.State.{Item, Endpoint, Asked, Outcome, has_address, has_item, has_ended, Request, DomainState, is_at, has_address_of, live_at, endpoint_of, place_at, receives_at, waits_at, one_waits}
 use Rattle.board_model.specs.Choice.{without_best}
-use Rattle.board_model.specs.Change.{Change, endpoint_made, endpoint_gone, item_queued, best_gone, channel_set, queue_dropped, request_added, item_handed, waiting_ended, name_found, connect_settled, request_gone, end_announced, reply_owed, owed_put, buffers_back, frames_shown, frame_taken, names_known, buffer_used, channel_given, endpoint_with, with_queue, with_channel, without_queue, asks_for, connects_on, done_with, all_done, handed_in, ended_in, changed, changed_all}
-use Rattle.board_model.proofs.DeedRuns.{unnamed_item, unnamed_end, unnamed_outcome, unnamed_request, unnamed}
+use Rattle.board_model.specs.Change.{Change, endpoint_made, endpoint_gone, item_queued, best_gone, oldest_gone, item_lost, channel_set, queue_dropped, request_added, item_handed, waiting_ended, name_found, connect_settled, request_gone, end_announced, reply_owed, owed_put, buffers_back, frames_shown, frame_taken, names_known, buffer_used, packet_lent, packet_gone, channel_given, endpoint_with, with_queue, with_channel, without_queue, asks_for, connects_on, done_with, all_done, handed_in, ended_in, changed, changed_all}
+use Rattle.board_model.proofs.DeedRuns.{unnamed_item, unnamed_end, unnamed_outcome, unnamed_request, unnamed_packet, unnamed}
 use Rattle.board_model.proofs.ListsMapped.{is_none-map, find-mapped, position-mapped, filter-mapped, any-mapped, changed_first-mapped, without-mapped, map-alike, without_best-mapped}
 
 -- ---- what is looked up
@@ -35,6 +35,8 @@ unnamed_change (item_queued a i) = item_queued a (unnamed_item i)
 unnamed_change (request_added asked o) = request_added asked (option_map unnamed_outcome o)
 unnamed_change (item_handed a i) = item_handed a (unnamed_item i)
 unnamed_change (connect_settled n o) = connect_settled n (unnamed_outcome o)
+unnamed_change (item_lost a i) = item_lost a (unnamed_item i)
+unnamed_change (packet_lent i) = packet_lent (unnamed_item i)
 unnamed_change other = other
 
 -- ---- endpoints
@@ -44,6 +46,13 @@ queue_more i e = ap (λ q. record e { queue = q }) (sym (map-append unnamed_item
 
 queue_less : (e : Endpoint) → with_queue (without_best (λ i. i.priority)) (unnamed_end e) ≡ unnamed_end (with_queue (without_best (λ i. i.priority)) e)
 queue_less e = ap (λ q. record e { queue = q }) (without_best-mapped unnamed_item (λ i. i.priority) (λ i. refl) e.queue)
+
+rest_unnamed : (q : List Item) → drop 1 (map unnamed_item q) ≡ map unnamed_item (drop 1 q)
+rest_unnamed [] = refl
+rest_unnamed (i ∷ q) = refl
+
+queue_rest : (e : Endpoint) → with_queue (drop 1) (unnamed_end e) ≡ unnamed_end (with_queue (drop 1) e)
+queue_rest e = ap (λ q. record e { queue = q }) (rest_unnamed e.queue)
 
 -- ---- requests
 
@@ -90,6 +99,9 @@ module _ (s : DomainState) where
   unnamed-changed (best_gone a) =
       ap (λ es. record (changed (unnamed s) (best_gone a)) { endpoints = es })
       (sym (changed_first-mapped unnamed_end (has_address_of a) (has_address_of a) (λ e. refl) (with_queue (without_best (λ i. i.priority))) (with_queue (without_best (λ i. i.priority))) queue_less s.endpoints))
+  unnamed-changed (oldest_gone a) =
+      ap (λ es. record (changed (unnamed s) (oldest_gone a)) { endpoints = es }) (sym (changed_first-mapped unnamed_end (has_address_of a) (has_address_of a) (λ e. refl) (with_queue (drop 1)) (with_queue (drop 1)) queue_rest s.endpoints))
+  unnamed-changed (item_lost a i) = refl
   unnamed-changed (channel_set a c) =
       ap (λ es. record (changed (unnamed s) (channel_set a c)) { endpoints = es })
       (sym (changed_first-mapped unnamed_end (has_address_of a) (has_address_of a) (λ e. refl) (with_channel c) (with_channel c) (λ e. refl) s.endpoints))
@@ -116,6 +128,9 @@ module _ (s : DomainState) where
   unnamed-changed (frame_taken n) = refl
   unnamed-changed (names_known n names) = refl
   unnamed-changed (buffer_used n) = refl
+  unnamed-changed (packet_lent i) =
+      ap (λ ps. record (changed (unnamed s) (packet_lent (unnamed_item i))) { lent = ps }) (map-append unnamed_packet s.lent (record { serial = s.packets_lent; item = i } ∷ []))
+  unnamed-changed (packet_gone place) = ap (λ ps. record (changed (unnamed s) (packet_gone place)) { lent = ps }) (sym (without-mapped unnamed_packet place s.lent))
   unnamed-changed channel_given = refl
 
 pub unnamed-all : (s : DomainState) (cs : List Change) → unnamed (changed_all s cs) ≡ changed_all (unnamed s) (map unnamed_change cs)

@@ -8,16 +8,17 @@ use Rattle.mc_base.specs.declared.channel.Side.TheVariants.{Sender, Receiver}
 use Rattle.mc_base.specs.declared.refusal.Refusal.{Refusal}
 use Rattle.mc_base.specs.declared.refusal.Refusal.TheVariants.{EndpInvalid}
 use Rattle.board_model.specs.Journal.{Visit, Taken}
-use Rattle.board_model.specs.State.{DomainState, ChannelEnd, Endpoint, Peer, channel_of, message_at, has_item, live_at, peer_at, peer_of, free_to}
-use Rattle.board_model.specs.DomainCall.{DomainCall, create_at, delete_at, lookup_of, send_from, receive_at, request_at, available_at, connect_from, open_at, close_at, test_of, cancel_of, turn_alone}
+use Rattle.board_model.specs.State.{DomainState, ChannelEnd, Endpoint, Peer, channel_of, message_at, packet_at, has_item, live_at, request_at_place, peer_at, peer_of, free_to}
+use Rattle.board_model.specs.DomainCall.{DomainCall, create_at, delete_at, lookup_of, send_from, receive_at, request_at, available_at, connect_from, open_at, packet_from, lend_at, packet_request_at, release_of, scalar_from, scalar_at, close_at, test_of, cancel_of, turn_alone}
 use Rattle.board_model.specs.Answer.{local, refusal, unless_refused}
+use Rattle.board_model.specs.Choice.{oldest}
 use Rattle.board_model.specs.ChannelEnds.{opened_end}
-use Rattle.board_model.specs.Change.{Change, endpoint_gone, best_gone, channel_set, request_added, waiting_ended, end_announced, buffer_used, channel_given}
-use Rattle.board_model.specs.CallChanges.{at_live, new_sender, closing, best_item, success_changes, call_changes, effect}
+use Rattle.board_model.specs.Change.{Change, endpoint_gone, best_gone, oldest_gone, channel_set, request_added, waiting_ended, end_announced, buffer_used, channel_given}
+use Rattle.board_model.specs.CallChanges.{at_live, new_sender, closing, lending, best_item, success_changes, call_changes, effect}
 use Rattle.board_model.specs.Deeds.{Deed, happens_by, after_deed, after_deeds}
 use Rattle.board_model.specs.Serial.{looks_deeds}
 use Rattle.board_model.specs.Turn.{nameless, takes_named}
-use Rattle.board_model.proofs.StateEnds.{numbers-all, end-holds}
+use Rattle.board_model.proofs.StateEnds.{numbers-all, end-holds, lending-holds, tested-holds}
 use Rattle.board_model.proofs.LanePeers.{peer_found, read_of, Keeps, read-all, size-all, cond-keeps, owed-shown, free-at}
 use Rattle.board_model.proofs.VisitLooks.{after_looks, after_takes, looked, looks-peer}
 use Rattle.board_model.proofs.LaneTakes.{takes-free, shown_in, takes-shown}
@@ -91,8 +92,15 @@ module _ (s : DomainState) (node n : ℕ) where
       live_shown (live_at s (local node port)) (λ e. buffer_used to.domain ∷ channel_set e.address (Some (new_sender s to kind)) ∷ request_added (channel_of (s.channels_given + 1)) None ∷ channel_given ∷ [])
       (λ e. (used_shown to.domain, ((λ p. refl), ((λ p. refl), ((λ p. refl), tt)))))
   success_shown (open_at port side kind) = end-holds KeepShown tt (live_at s (local node port)) (λ e c. buffer_used c.peer ∷ channel_set e.address (Some (opened_end c)) ∷ []) (λ e c live has. (used_shown c.peer, ((λ p. refl), tt)))
+  success_shown (packet_from port bytes) = end-holds KeepShown tt (live_at s (local node port)) (λ e c. buffer_used c.peer ∷ []) (λ e c live has. (used_shown c.peer, tt))
+  success_shown (lend_at port) = live_shown (live_at s (local node port)) (λ e. oldest_gone e.address ∷ lending (oldest e.queue)) (λ e. ((λ p. refl), lending-holds (Keeps (λ p. p.shown) s.number n) (λ i p. refl) (oldest e.queue)))
+  success_shown (packet_request_at port) =
+      live_shown (live_at s (local node port)) (λ e. oldest_gone e.address ∷ request_added (packet_at e.local) (option_map has_item (oldest e.queue)) ∷ []) (λ e. ((λ p. refl), ((λ p. refl), tt)))
+  success_shown (release_of place) = ((λ p. refl), tt)
+  success_shown (scalar_from port bits value) = end-holds KeepShown tt (live_at s (local node port)) (λ e c. buffer_used c.peer ∷ []) (λ e c live has. (used_shown c.peer, tt))
+  success_shown (scalar_at port bits) = live_shown (live_at s (local node port)) (λ e. oldest_gone e.address ∷ []) (λ e. ((λ p. refl), tt))
   success_shown (close_at port side) = end-holds KeepShown tt (live_at s (local node port)) (closing side) (λ e c live has. closing_shown side e c)
-  success_shown (test_of request) = ((λ p. refl), tt)
+  success_shown (test_of request) = ((λ p. refl), tested-holds (Keeps (λ p. p.shown) s.number n) (λ i p. refl) (request_at_place s request))
   success_shown (cancel_of request) = ((λ p. refl), tt)
   success_shown turn_alone = tt
 
