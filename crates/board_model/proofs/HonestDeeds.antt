@@ -1,32 +1,32 @@
 -- Each deed keeps what holds of a domain, and what a deed puts is honest, whatever the domain takes.
-use Rattle.std.proofs.Common.{◌≡◌, ℕ, ◌+◌, ◌≤◌, ◌<◌, Bool, false, not, cond, List, [], ◌∷◌, map, Option, Some, None, refl, sym, ◌∙◌, subst, arith}
+use Rattle.std.proofs.Common.{◌≡◌, ℕ, ◌+◌, ◌≤◌, ◌<◌, ◌⊎◌, inl, inr, Bool, false, not, cond, List, [], ◌∷◌, map, Option, Some, None, refl, sym, ◌∙◌, subst, arith}
 use Rattle.std.specs.Prelude.{find, ◌==◌, nat_lt, is_some, option_map, unwrap_or}
 use Rattle.std.specs.List.{AllByRecursion}
 use Rattle.std.proofs.lemmas.Bool.{cond_both, leb-false, eqb-true}
 use Rattle.mc_base.specs.Limits.{creation_limit}
 use Rattle.mc_base.specs.NameMap.{Names, rank, has_name, learned}
 use Rattle.mc_base.specs.Reading.{Reading, announces, reading}
-use Rattle.mc_base.specs.Letter.{PlainLetter, accept, reject, send_close}
+use Rattle.mc_base.specs.Letter.{PlainLetter, accept, reject, packet, scalar, send_close}
 use Rattle.mc_base.specs.declared.channel.Side.{Side}
 use Rattle.mc_base.specs.declared.channel.Side.TheVariants.{Sender, Receiver}
 use Rattle.mc_base.specs.declared.name.EndName.{EndName}
 use Rattle.mc_base.specs.declared.refusal.Refusal.{Refusal}
 use Rattle.mc_base.specs.declared.name.Local.{Local}
 use Rattle.board_model.specs.Honesty.{IsMade}
-use Rattle.board_model.specs.DomainCall.{DomainCall, create_at, delete_at, lookup_of, send_from, receive_at, request_at, available_at, connect_from, open_at, close_at, test_of, cancel_of, turn_alone}
-use Rattle.board_model.specs.State.{ChannelEnd, Endpoint, Announcement, Reply, Peer, DomainState, is_at, live_at, place_at, address_at, peer_at, is_numbered, announcing, replying, owed_to}
-use Rattle.board_model.specs.Change.{Change, item_queued, item_handed, names_known, name_found, changed_all}
+use Rattle.board_model.specs.DomainCall.{DomainCall, create_at, delete_at, lookup_of, send_from, receive_at, request_at, available_at, connect_from, open_at, packet_from, lend_at, packet_request_at, release_of, scalar_from, scalar_at, close_at, test_of, cancel_of, turn_alone}
+use Rattle.board_model.specs.State.{Item, ChannelEnd, Endpoint, Announcement, Reply, Peer, DomainState, is_at, live_at, place_at, address_at, peer_at, is_numbered, request_at_place, announcing, replying, owed_to}
+use Rattle.board_model.specs.Change.{Change, item_queued, item_handed, item_lost, packet_lent, names_known, name_found, changed_all}
 use Rattle.board_model.specs.TakenFrames.{Row, names_of, rejecting, accepting, acting, item_of, row_of}
 use Rattle.board_model.specs.Messages.{said_by}
 use Rattle.board_model.specs.Answer.{local, holds, words_of, refusal, unless_refused, channel_at, channel_limit, over_channel, opening_letter, closing_letter, Post, put_of, success_posts, success_puts, puts}
-use Rattle.board_model.specs.CallChanges.{at_live, closing, success_changes}
+use Rattle.board_model.specs.CallChanges.{at_live, closing, lending, lent_by_test, success_changes}
 use Rattle.board_model.specs.Deeds.{Deed, looks_back, puts_owed, looks_ahead, takes, calls, happens_by, after_deed, MayDo}
 use Rattle.board_model.proofs.DeedRuns.{frames_if, frames_to, puts_by}
 use Rattle.board_model.proofs.ListsApart.{all-map}
 use Rattle.board_model.proofs.MessageAlls.{none-passes, all-append, all-filter, all-found, all-weaken, found-passes}
 use Rattle.board_model.proofs.MessageLists.{get-position, some-position}
-use Rattle.board_model.proofs.LaneRows.{Deals, stays, learns, forgets, hands, queues, rejects, accepts, acts, row-deals}
-use Rattle.board_model.proofs.StateEnds.{there_is, end-holds}
+use Rattle.board_model.proofs.LaneRows.{Deals, stays, learns, forgets, hands, queues, loses, rejects, accepts, acts, row-deals}
+use Rattle.board_model.proofs.StateEnds.{there_is, end-holds, tested-are}
 use Rattle.board_model.proofs.HonestFrames.{HonestLetter, Honest, letter_honest, announcing_honest, announcing_silent, replying_replies, reply_honest, reply_silent}
 use Rattle.board_model.proofs.HonestSound.{own, PeerSound, Sound, FitAll, given_changes, sound_changes}
 
@@ -106,6 +106,7 @@ module _ (made : ℕ) (known : ℕ → ℕ → Type 0) (ns : List ℕ) where
             by (names_known q names ∷ []) happens (subst (KnownOf q) (sym forgotten_so) (all-filter (λ (k : EndName × ℕ). known q k.1) (λ k. not (has_name n k)) (names_of (peer_at s q)) (names_known_of q)), tt)
         go (hands source at l e is found carried waits happens word) = by (item_handed at (item_of q name source l) ∷ []) happens (tt, tt)
         go (queues source at l e is found carried none happens word) = by (item_queued at (item_of q name source l) ∷ []) happens (tt, tt)
+        go (loses source at l e is found late happens word) = by (item_lost at (item_of q name source l) ∷ []) happens (tt, tt)
         go (rejects source at number kind why is happens word) = by (rejecting q source at number why) happens (tt, tt)
         go (accepts source at number kind e is found free idle happens word) = by (accepting q source at number kind) happens (tt, (tt, tt))
         go (acts source at l e c left is found has row happens word) = by (acting at left l) happens (acts_fit t at left l)
@@ -114,6 +115,14 @@ module _ (made : ℕ) (known : ℕ → ℕ → Type 0) (ns : List ℕ) where
 
     pub own_made : (p : Endpoint → Bool) (e : Endpoint) → s.endpoints_given ≤ made → find p s.endpoints ≡ Some e → IsMade made e.address
     own_made p e within is = let k = own p 1024 (1024 + s.endpoints_given) s.endpoints e sound.rise is in let top : e.address < 1024 + s.endpoints_given = k.below in record { above = k.above; below = omega arith }
+
+    lending_fits : (t : DomainState) (o : Option Item) → FitAll made known ns t (lending o)
+    lending_fits t None = tt
+    lending_fits t (Some i) = (tt, tt)
+
+    tested_fits : (t : DomainState) (lent : List Change) → (lent ≡ []) ⊎ ((i : Item) × (lent ≡ packet_lent i ∷ [])) → FitAll made known ns t lent
+    tested_fits t lent (inl none) = subst (FitAll made known ns t) (sym none) tt
+    tested_fits t lent (inr one) = subst (FitAll made known ns t) (sym one.1) (tt, tt)
 
     success_fits : (node : ℕ) (call : DomainCall) → NoWord s node call → (changed_all s (success_changes s node call)).endpoints_given ≤ made → FitAll made known ns s (success_changes s node call)
     success_fits node (create_at port) no_word within =
@@ -130,12 +139,18 @@ module _ (made : ℕ) (known : ℕ → ℕ → Type 0) (ns : List ℕ) where
     success_fits node (available_at port) no_word within = tt
     success_fits node (connect_from port to kind) no_word within = live_holds (FitAll made known ns s) tt (live_at s (local node port)) _ (λ e is. (tt, (tt, (tt, (tt, tt)))))
     success_fits node (open_at port side kind) no_word within = end-holds (FitAll made known ns s) tt (live_at s (local node port)) _ (λ e c is has. (tt, (tt, tt)))
+    success_fits node (packet_from port bytes) no_word within = end-holds (FitAll made known ns s) tt (live_at s (local node port)) _ (λ e c is has. (tt, tt))
+    success_fits node (lend_at port) no_word within = live_holds (FitAll made known ns s) tt (live_at s (local node port)) _ (λ e is. (tt, lending_fits _ _))
+    success_fits node (packet_request_at port) no_word within = live_holds (FitAll made known ns s) tt (live_at s (local node port)) _ (λ e is. (tt, (tt, tt)))
+    success_fits node (release_of place) no_word within = (tt, tt)
+    success_fits node (scalar_from port bits value) no_word within = end-holds (FitAll made known ns s) tt (live_at s (local node port)) _ (λ e c is has. (tt, tt))
+    success_fits node (scalar_at port bits) no_word within = live_holds (FitAll made known ns s) tt (live_at s (local node port)) _ (λ e is. (tt, tt))
     success_fits node (close_at port side) no_word within = end-holds (FitAll made known ns s) tt (live_at s (local node port)) (closing side) (λ e c is has. closes_fit side e c)
       where
         closes_fit : (side : Side) (e : Endpoint) (c : ChannelEnd) → FitAll made known ns s (closing side e c)
         closes_fit Sender e c = (tt, (tt, tt))
         closes_fit Receiver e c = (tt, (tt, (tt, tt)))
-    success_fits node (test_of request) no_word within = (tt, tt)
+    success_fits node (test_of request) no_word within = (tt, tested_fits _ (lent_by_test (request_at_place s request)) (tested-are (request_at_place s request)))
     success_fits node (cancel_of request) no_word within = (tt, tt)
     success_fits node turn_alone no_word within = tt
 
@@ -205,6 +220,8 @@ module _ (made : ℕ) (known : ℕ → ℕ → Type 0) (ns : List ℕ) where
         let less : s.channels_given < 65535 = leb-false channel_limit s.channels_given no_word.1.1.1.1.0 in
         ((own_address (local node port) within no_word.0, (omega arith, omega arith)), tt)
     posts_honest node (open_at port side kind) no_word within = over_honest (live_at s (local node port)) (channel_at s (local node port)) (opening_letter side) (opening_honest side)
+    posts_honest node (packet_from port bytes) no_word within = over_honest (live_at s (local node port)) (channel_at s (local node port)) (λ number. packet number bytes) (λ src n. tt)
+    posts_honest node (scalar_from port bits value) no_word within = over_honest (live_at s (local node port)) (channel_at s (local node port)) (λ number. scalar number bits value) (λ src n. tt)
     posts_honest node (close_at port side) no_word within = over_honest (live_at s (local node port)) (channel_at s (local node port)) (closing_letter side) (closing_honest side)
     posts_honest node other no_word within = tt
 

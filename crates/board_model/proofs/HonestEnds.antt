@@ -1,6 +1,6 @@
 -- What a domain's ends of channels know of their far ends is as what it took says: an address that may be known of the peer, and the
 -- number of a channel.
-use Rattle.std.proofs.Common.{◌≡◌, ℕ, ◌+◌, ◌≤◌, ◌<◌, Bool, true, false, not, ◌&&◌, cond, List, [], ◌∷◌, ◌++◌, Option, Some, None, refl, sym, ap, subst, arith}
+use Rattle.std.proofs.Common.{◌≡◌, ℕ, ◌+◌, ◌≤◌, ◌<◌, Bool, true, false, not, ◌&&◌, cond, List, [], ◌∷◌, ◌++◌, drop, Option, Some, None, refl, sym, ap, subst, arith}
 use Rattle.std.specs.Prelude.{find, ◌==◌, is_some, option_map, unwrap_or}
 use Rattle.std.specs.List.{AllByRecursion}
 use Rattle.std.proofs.lemmas.Bool.{leb-false, eqb-true}
@@ -17,18 +17,18 @@ use Rattle.mc_base.specs.declared.channel.Side.TheVariants.{Sender, Receiver}
 use Rattle.mc_base.specs.declared.refusal.Refusal.{Refusal}
 use Rattle.board_model.specs.Honesty.{IsMade}
 use Rattle.board_model.specs.Choice.{without_best}
-use Rattle.board_model.specs.DomainCall.{DomainCall, create_at, delete_at, lookup_of, send_from, receive_at, request_at, available_at, connect_from, open_at, close_at, test_of, cancel_of, turn_alone}
+use Rattle.board_model.specs.DomainCall.{DomainCall, create_at, delete_at, lookup_of, send_from, receive_at, request_at, available_at, connect_from, open_at, packet_from, lend_at, packet_request_at, release_of, scalar_from, scalar_at, close_at, test_of, cancel_of, turn_alone}
 use Rattle.board_model.specs.State.{connected, closed, Stage, ChannelEnd, Endpoint, Peer, DomainState, is_at, has_address_of, live_at, endpoint_at, peer_of, is_numbered}
-use Rattle.board_model.specs.Change.{Change, endpoint_made, endpoint_gone, item_queued, best_gone, channel_set, queue_dropped, item_handed, names_known, name_found, endpoint_with, with_queue, with_channel, without_queue, changed, changed_all}
+use Rattle.board_model.specs.Change.{Change, endpoint_made, endpoint_gone, item_queued, best_gone, oldest_gone, channel_set, queue_dropped, item_handed, item_lost, names_known, name_found, endpoint_with, with_queue, with_channel, without_queue, changed, changed_all}
 use Rattle.board_model.specs.ChannelEnds.{is_closed, is_connecting, same_kind, sends_to, hears_from, closed_end, far_closed_end, EndRow, end_row, left_row, end_row_of}
 use Rattle.board_model.specs.TakenFrames.{rejecting, accepting, acting, item_of, row_of}
 use Rattle.board_model.specs.Answer.{local, known_address, address_of, channel_limit, holds, words_of, refusal, unless_refused}
 use Rattle.board_model.specs.CallChanges.{closing, success_changes}
 use Rattle.board_model.specs.Deeds.{Deed, looks_back, puts_owed, looks_ahead, takes, calls, happens_by, after_deed, after_deeds}
-use Rattle.board_model.proofs.LaneRows.{Deals, stays, learns, forgets, hands, queues, rejects, accepts, acts, acting-all, row-deals}
+use Rattle.board_model.proofs.LaneRows.{Deals, stays, learns, forgets, hands, queues, loses, rejects, accepts, acts, acting-all, row-deals}
 use Rattle.board_model.proofs.MessageAlls.{none-passes, all-append, all-filter, all-found, all-changed-first, found-passes}
 use Rattle.board_model.proofs.MessageLists.{get-position}
-use Rattle.board_model.proofs.StateEnds.{end-holds}
+use Rattle.board_model.proofs.StateEnds.{end-holds, lending-holds, tested-holds}
 use Rattle.board_model.proofs.HonestSound.{PeerSound, Sound}
 use Rattle.board_model.proofs.HonestDeeds.{live_holds, NoWord, OfTaken, HearsDeed, own_made, sound_deed}
 use Rattle.board_model.proofs.HonestRuns.{given_deeds}
@@ -144,6 +144,7 @@ module _ (known : ℕ → ℕ → Type 0) where
   far_change s (endpoint_gone a) fits far = all-filter OfEnd (λ e. not (has_address_of a e)) s.endpoints far
   far_change s (item_queued a i) fits far = all-changed-first OfEnd (has_address_of a) (with_queue (λ q. q ++ i ∷ [])) s.endpoints far (λ e is real. real)
   far_change s (best_gone a) fits far = all-changed-first OfEnd (has_address_of a) (with_queue (without_best (λ i. i.priority))) s.endpoints far (λ e is real. real)
+  far_change s (oldest_gone a) fits far = all-changed-first OfEnd (has_address_of a) (with_queue (drop 1)) s.endpoints far (λ e is real. real)
   far_change s (channel_set a c) fits far = all-changed-first OfEnd (has_address_of a) (with_channel c) s.endpoints far (λ e is real. fits)
   far_change s (queue_dropped a c) fits far = all-changed-first OfEnd (has_address_of a) (without_queue c) s.endpoints far (λ e is real. fits)
   far_change s other fits far = far
@@ -170,6 +171,7 @@ module _ (known : ℕ → ℕ → Type 0) where
         go (forgets text n a names is forgotten_so happens word) = by (names_known q names ∷ []) happens (tt, tt)
         go (hands source at l e is found carried waits happens word) = by (item_handed at (item_of q name source l) ∷ []) happens (tt, tt)
         go (queues source at l e is found carried none happens word) = by (item_queued at (item_of q name source l) ∷ []) happens (tt, tt)
+        go (loses source at l e is found late happens word) = by (item_lost at (item_of q name source l) ∷ []) happens (tt, tt)
         go (rejects source at number k why is happens word) = by (rejecting q source at number why) happens (tt, tt)
         go (accepts source at number k e is found free idle happens word) = by (accepting q source at number k) happens (subst (HearsFar known q) is hears, (tt, tt))
         go (acts source at l e c left is found has row happens word) =
@@ -194,8 +196,14 @@ module _ (known : ℕ → ℕ → Type 0) where
           let far_address : known to.domain (unwrap_or (address_of s to) 0) = address_holds made known ns s sound known (λ p e is. own_known e.address (own_made made known ns s sound p e within is)) (λ q a is. is) to no_word.1.1.1.0 in
           live_holds (AllByRecursion FitsFar) tt (live_at s (local node port)) _ (λ e is. (tt, ((far_address, (omega arith, omega arith)), (tt, (tt, tt)))))
       success_far node (open_at port side k) no_word = end-holds (AllByRecursion FitsFar) tt (live_at s (local node port)) _ (λ e c is has. (tt, (end_real (is_at (local node port)) e c is has, tt)))
+      success_far node (packet_from port bytes) no_word = end-holds (AllByRecursion FitsFar) tt (live_at s (local node port)) _ (λ e c is has. (tt, tt))
+      success_far node (lend_at port) no_word = live_holds (AllByRecursion FitsFar) tt (live_at s (local node port)) _ (λ e is. (tt, lending-holds FitsFar (λ i. tt) _))
+      success_far node (packet_request_at port) no_word = live_holds (AllByRecursion FitsFar) tt (live_at s (local node port)) _ (λ e is. (tt, (tt, tt)))
+      success_far node (release_of place) no_word = (tt, tt)
+      success_far node (scalar_from port bits value) no_word = end-holds (AllByRecursion FitsFar) tt (live_at s (local node port)) _ (λ e c is has. (tt, tt))
+      success_far node (scalar_at port bits) no_word = live_holds (AllByRecursion FitsFar) tt (live_at s (local node port)) _ (λ e is. (tt, tt))
       success_far node (close_at port side) no_word = end-holds (AllByRecursion FitsFar) tt (live_at s (local node port)) (closing side) (λ e c is has. closes_far side e c (end_real (is_at (local node port)) e c is has))
-      success_far node (test_of request) no_word = (tt, tt)
+      success_far node (test_of request) no_word = (tt, tested-holds FitsFar (λ i. tt) _)
       success_far node (cancel_of request) no_word = (tt, tt)
       success_far node turn_alone no_word = tt
 

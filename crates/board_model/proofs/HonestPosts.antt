@@ -1,17 +1,17 @@
 -- Each letter that a call posts is read back: it goes from an address of the domain's own to one that it knows, and a channel's number
 -- is one.
-use Rattle.std.proofs.Common.{◌≡◌, ℕ, ◌+◌, ◌≤◌, ◌<◌, ◌^◌, Bool, false, not, List, find, length, Option, Some, None, refl, sym, ◌∙◌, subst, arith}
+use Rattle.std.proofs.Common.{◌≡◌, ℕ, ◌+◌, ◌*◌, ◌≤◌, ◌<◌, ◌^◌, Bool, false, not, List, find, length, Option, Some, None, refl, sym, ◌∙◌, subst, arith}
 use Rattle.std.specs.Prelude.{is_some, option_map, unwrap_or}
 use Rattle.std.specs.List.{AllByRecursion}
 use Rattle.std.proofs.lemmas.Bool.{leb-false, ltb-false}
 use Rattle.mc_base.specs.Limits.{item_size}
-use Rattle.mc_base.specs.Letter.{PlainLetter, msg, connect, IsChannel, HasSpelling}
+use Rattle.mc_base.specs.Letter.{PlainLetter, bytes_of_bits, msg, connect, packet, scalar, IsChannel, HasSpelling}
 use Rattle.mc_base.specs.Reading.{says, reading}
 use Rattle.mc_base.specs.declared.name.Local.{Local}
 use Rattle.mc_base.specs.declared.name.EndName.{EndName}
 use Rattle.mc_base.specs.declared.channel.Side.{Side}
 use Rattle.mc_base.specs.declared.channel.Side.TheVariants.{Sender, Receiver}
-use Rattle.board_model.specs.DomainCall.{DomainCall, send_from, connect_from, open_at, close_at}
+use Rattle.board_model.specs.DomainCall.{DomainCall, send_from, connect_from, open_at, packet_from, scalar_from, close_at}
 use Rattle.board_model.specs.State.{ChannelEnd, Endpoint, DomainState, is_at, place_at, address_at, live_at, channel_in}
 use Rattle.board_model.specs.Answer.{local, address_of, channel_limit, over_channel, over_end, opening_letter, closing_letter, Post, post, put_of, success_posts}
 use Rattle.board_model.proofs.MessageAlls.{all-found}
@@ -27,9 +27,10 @@ pub record CanReach (a : ℕ) : Type 0 where
   pub above : 1024 ≤ a
   pub below : a < 2 ^ 32
 
--- a call as a lawful scenario has it
+-- a call as a lawful scenario has it: a scalar's value fits its bits
 abbrev pub FitsCall : DomainCall → Type 0
 FitsCall (send_from port to priority bytes) = priority ≤ 3
+FitsCall (scalar_from port bits value) = value < 2 ^ (8 * bytes_of_bits bits)
 FitsCall other = Unit {0}
 
 -- the frame says the letter
@@ -83,5 +84,7 @@ module _ (made : ℕ) (known : ℕ → ℕ → Type 0) (ns : List ℕ) (reach : 
         let less : s.channels_given < 65535 = leb-false channel_limit s.channels_given no_word.1.1.1.1.0 in
         (reads_post (post to.domain (unwrap_or (address_at s (local node port)) 0) (unwrap_or (address_of s to) 0) (connect (s.channels_given + 1) kind)) (here_reach (local node port) no_word.0) (address_reach to no_word.1.1.1.0) (omega arith, omega arith), tt)
     posts_read node (open_at port side kind) fits no_word = end_reads (local node port) (opening_letter side) (opening_spelled side)
+    posts_read node (packet_from port bytes) fits no_word = end_reads (local node port) (λ number. packet number bytes) (λ n is. (is, ltb-false item_size (length bytes) no_word.1.1.1.1.1.1.0))
+    posts_read node (scalar_from port bits value) fits no_word = end_reads (local node port) (λ number. scalar number bits value) (λ n is. (is, fits))
     posts_read node (close_at port side) fits no_word = end_reads (local node port) (closing_letter side) (closing_spelled side)
     posts_read node other fits no_word = tt

@@ -23,7 +23,7 @@ new_numbers [] = refl
 new_numbers (k ∷ ks) = ap (λ ms. k.number ∷ ms) (new_numbers ks)
 
 pub sound_opening : (made : ℕ) (known : ℕ → ℕ → Type 0) (number nodes : ℕ) (ks : List Neighbour) → Sound made known (map (λ k. k.number) ks) (opening number nodes ks)
-sound_opening made known number nodes ks = record { rise = omega arith; few = omega arith; apart = tt; peers = new_sound made known ks; numbers = new_numbers ks; plain = tt }
+sound_opening made known number nodes ks = record { rise = omega arith; few = omega arith; apart = tt; peers = new_sound made known ks; numbers = new_numbers ks }
 
 -- ---- a run
 

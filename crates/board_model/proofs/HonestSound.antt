@@ -1,18 +1,16 @@
 -- What holds of a domain at each moment of its run: its endpoints' addresses rise and their names are apart, its peers keep their
 -- numbers, what it owes is honest, and what it knows of names is as what it took says.
-use Rattle.std.proofs.Common.{◌≡◌, ℕ, ◌+◌, ◌-◌, ◌≤◌, ◌<◌, Bool, true, false, not, cond, List, [], ◌∷◌, ◌++◌, map, drop, length, Option, Some, None, refl, sym, ap, ◌∙◌, subst, arith}
-use Rattle.std.specs.Prelude.{find, ◌==◌, ◌&&◌, is_none}
+use Rattle.std.proofs.Common.{◌≡◌, ℕ, ◌+◌, ◌-◌, ◌≤◌, ◌<◌, Bool, true, false, not, cond, List, [], ◌∷◌, ◌++◌, map, drop, length, Some, None, refl, sym, ap, ◌∙◌, subst, arith}
+use Rattle.std.specs.Prelude.{find, ◌==◌}
 use Rattle.std.specs.List.{AllByRecursion}
 use Rattle.std.proofs.lemmas.Bool.{cond_both, eqb-true, eq-eqb, ne_eqb}
 use Rattle.mc_base.specs.Limits.{creation_limit}
 use Rattle.mc_base.specs.NameMap.{Names}
-use Rattle.mc_base.specs.declared.refusal.Refusal.{Refusal}
 use Rattle.board_model.specs.Honesty.{IsMade}
-use Rattle.board_model.specs.Lists.{without}
 use Rattle.board_model.specs.Choice.{without_best}
-use Rattle.board_model.specs.State.{Item, Endpoint, Asked, name_of, channel_of, message_at, Outcome, has_address, has_item, has_ended, Request, Announcement, Peer, DomainState, waits_at, is_at, has_address_of, endpoint_of, is_numbered}
-use Rattle.board_model.specs.Change.{Change, endpoint_made, endpoint_gone, item_queued, best_gone, channel_set, queue_dropped, end_announced, reply_owed, channel_given, owed_put, buffers_back, frames_shown, frame_taken, names_known, buffer_used, request_added, item_handed, waiting_ended, name_found, connect_settled, request_gone, done_with, all_done, asks_for, connects_on, handed_in, ended_in, endpoint_with, with_queue, with_channel, without_queue, at_address, at_peer, also_owed, first_put, changed, changed_all}
-use Rattle.board_model.proofs.MessageAlls.{none-passes, all-append, all-changed-first, all-drop, all-without, found-passes}
+use Rattle.board_model.specs.State.{Endpoint, Announcement, Peer, DomainState, is_at, has_address_of, is_numbered}
+use Rattle.board_model.specs.Change.{Change, endpoint_made, endpoint_gone, item_queued, best_gone, oldest_gone, channel_set, queue_dropped, end_announced, reply_owed, owed_put, buffers_back, frames_shown, frame_taken, names_known, buffer_used, endpoint_with, with_queue, with_channel, without_queue, at_address, at_peer, also_owed, first_put, changed, changed_all}
+use Rattle.board_model.proofs.MessageAlls.{none-passes, all-append, all-changed-first, all-drop, found-passes}
 use Rattle.board_model.proofs.StateEnds.{numbers-kept}
 use Rattle.board_model.proofs.OrderSound.{Rise, rise_changed, rise_fewer, rise_more, Apart, apart_changed, apart_fewer, apart_more}
 
@@ -44,33 +42,6 @@ own p lo hi (x ∷ xs) e rise is = go (p x) is (λ k. own p (x.address + 1) hi x
         let differs : (x.address == e.address) ≡ false = ne_eqb x.address e.address (λ same. absurd (omega arith)) in
         record { above = omega arith; below = k.below; found = ap (λ b. cond b (Some x) (find (has_address_of e.address) xs)) differs ∙ k.found }
 
--- ---- requests ask for names, channels and messages alone, as no call asks for more
-
-abbrev pub IsPlain : Asked → Type 0
-IsPlain (name_of n) = Unit {0}
-IsPlain (channel_of n) = Unit {0}
-IsPlain (message_at at max) = Unit {0}
-IsPlain other = ⊥
-
-abbrev pub ArePlain : List Request → Type 0
-ArePlain rs = AllByRecursion (λ r. IsPlain r.asked) rs
-
-plain_if : (b : Bool) (o : Outcome) (r : Request) → IsPlain r.asked → IsPlain (cond b (done_with o r) r).asked
-plain_if true o r is = is
-plain_if false o r is = is
-
-plain_mapped : (f : Request → Request) → ((r : Request) → IsPlain r.asked → IsPlain (f r).asked) → (rs : List Request) → ArePlain rs → ArePlain (map f rs)
-plain_mapped f keep [] all = tt
-plain_mapped f keep (r ∷ rs) all = (keep r all.0, plain_mapped f keep rs all.1)
-
-plain_handed : (x : Option Endpoint) (i : Item) (rs : List Request) → ArePlain rs → ArePlain (handed_in x i rs)
-plain_handed None i rs all = all
-plain_handed (Some e) i rs all = all-changed-first (λ (r : Request). IsPlain r.asked) (waits_at e.local) (done_with (has_item i)) rs all (λ r is plain. plain)
-
-plain_ended : (x : Option Endpoint) (w : Refusal) (rs : List Request) → ArePlain rs → ArePlain (ended_in x w rs)
-plain_ended None w rs all = all
-plain_ended (Some e) w rs all = plain_mapped (λ r. cond (waits_at e.local r) (done_with (has_ended w) r) r) (λ r is. plain_if (waits_at e.local r) (has_ended w) r is) rs all
-
 -- ---- the state
 
 -- what is owed to a peer, and what is known of it: `made` is the number of endpoints that the domain makes in all, and `known` says
@@ -85,7 +56,6 @@ pub record Sound (made : ℕ) (known : ℕ → ℕ → Type 0) (ns : List ℕ) (
   pub apart : Apart s.endpoints
   pub peers : AllByRecursion (PeerSound made known) s.peers
   pub numbers : map (λ p. p.number) s.peers ≡ ns
-  pub plain : ArePlain s.requests
 
 -- the number of endpoints made only rises
 given_change : (s : DomainState) (c : Change) → s.endpoints_given ≤ (changed s c).endpoints_given
@@ -109,7 +79,6 @@ module _ (made : ℕ) (known : ℕ → ℕ → Type 0) (ns : List ℕ) where
   Fits s (endpoint_made at) = (find (is_at at) s.endpoints ≡ None) × (s.endpoints_given < creation_limit)
   Fits s (end_announced a) = IsMade made a.address
   Fits s (names_known q ks) = Names_of q ks
-  Fits s (request_added asked o) = IsPlain asked
   Fits s other = Unit {0}
 
   also_sound : (d : ℕ) (a : Announcement) (p : Peer) → IsMade made a.address → OfPeer p → OfPeer (also_owed d a p)
@@ -129,9 +98,8 @@ module _ (made : ℕ) (known : ℕ → ℕ → Type 0) (ns : List ℕ) where
     peer_changed : (q : ℕ) (f : Peer → Peer) → ((p : Peer) → is_numbered q p ≡ true → OfPeer p → OfPeer (f p)) → AllByRecursion OfPeer (at_peer q f s.peers)
     peer_changed q f keep = all-changed-first OfPeer (is_numbered q) f s.peers sound.peers (λ p is well. keep p (found-passes (is_numbered q) s.peers p is) well)
 
-    by_peer : (q : ℕ) (f : Peer → Peer) → ((p : Peer) → is_numbered q p ≡ true → OfPeer p → OfPeer (f p)) → (c : Change) → (changed s c).endpoints ≡ s.endpoints → (changed s c).endpoints_given ≡ s.endpoints_given → (changed s c).peers ≡ at_peer q f s.peers → (changed s c).requests ≡ s.requests → Sound made known ns (changed s c)
-    by_peer q f keep c ends given peers requests = record {
-      plain = rw requests sound.plain;
+    by_peer : (q : ℕ) (f : Peer → Peer) → ((p : Peer) → is_numbered q p ≡ true → OfPeer p → OfPeer (f p)) → (c : Change) → (changed s c).endpoints ≡ s.endpoints → (changed s c).endpoints_given ≡ s.endpoints_given → (changed s c).peers ≡ at_peer q f s.peers → Sound made known ns (changed s c)
+    by_peer q f keep c ends given peers = record {
       rise = rw (ends, given) sound.rise;
       few = rw given sound.few;
       apart = rw ends sound.apart;
@@ -139,9 +107,8 @@ module _ (made : ℕ) (known : ℕ → ℕ → Type 0) (ns : List ℕ) where
       numbers = numbers-kept s c ∙ sound.numbers;
     }
 
-    by_end : (a : ℕ) (f : Endpoint → Endpoint) → ((e : Endpoint) → (f e).address ≡ e.address) → ((e : Endpoint) → (f e).local ≡ e.local) → (c : Change) → (changed s c).endpoints ≡ at_address a f s.endpoints → (changed s c).endpoints_given ≡ s.endpoints_given → (changed s c).peers ≡ s.peers → (changed s c).requests ≡ s.requests → Sound made known ns (changed s c)
-    by_end a f address name c ends given peers requests = record {
-      plain = rw requests sound.plain;
+    by_end : (a : ℕ) (f : Endpoint → Endpoint) → ((e : Endpoint) → (f e).address ≡ e.address) → ((e : Endpoint) → (f e).local ≡ e.local) → (c : Change) → (changed s c).endpoints ≡ at_address a f s.endpoints → (changed s c).endpoints_given ≡ s.endpoints_given → (changed s c).peers ≡ s.peers → Sound made known ns (changed s c)
+    by_end a f address name c ends given peers = record {
       rise = rw (ends, given) (rise_changed (has_address_of a) f address 1024 (1024 + s.endpoints_given) s.endpoints sound.rise);
       few = rw given sound.few;
       apart = rw ends (apart_changed (has_address_of a) f name s.endpoints sound.apart);
@@ -149,14 +116,13 @@ module _ (made : ℕ) (known : ℕ → ℕ → Type 0) (ns : List ℕ) where
       numbers = numbers-kept s c ∙ sound.numbers;
     }
 
-    by_requests : (rs : List Request) (c : Change) → (changed s c).endpoints ≡ s.endpoints → (changed s c).endpoints_given ≡ s.endpoints_given → (changed s c).peers ≡ s.peers → (changed s c).requests ≡ rs → ArePlain rs → Sound made known ns (changed s c)
-    by_requests rs c ends given peers requests plain = record {
+    by_others : (c : Change) → (changed s c).endpoints ≡ s.endpoints → (changed s c).endpoints_given ≡ s.endpoints_given → (changed s c).peers ≡ s.peers → Sound made known ns (changed s c)
+    by_others c ends given peers = record {
       rise = rw (ends, given) sound.rise;
       few = rw given sound.few;
       apart = rw ends sound.apart;
       peers = rw peers sound.peers;
       numbers = numbers-kept s c ∙ sound.numbers;
-      plain = rw requests plain;
     }
 
     pub sound_change : (c : Change) → Fits s c → Sound made known ns (changed s c)
@@ -166,7 +132,6 @@ module _ (made : ℕ) (known : ℕ → ℕ → Type 0) (ns : List ℕ) where
       apart = apart_more s.endpoints (endpoint_with s at) sound.apart (none-passes (is_at at) s.endpoints fits.0);
       peers = sound.peers;
       numbers = sound.numbers;
-      plain = sound.plain;
     }
     sound_change (endpoint_gone a) fits = record {
       rise = rise_fewer (λ e. not (has_address_of a e)) 1024 (1024 + s.endpoints_given) s.endpoints sound.rise;
@@ -174,30 +139,22 @@ module _ (made : ℕ) (known : ℕ → ℕ → Type 0) (ns : List ℕ) where
       apart = apart_fewer (λ e. not (has_address_of a e)) s.endpoints sound.apart;
       peers = sound.peers;
       numbers = sound.numbers;
-      plain = sound.plain;
     }
-    sound_change (item_queued a i) fits = by_end a (with_queue (λ q. q ++ i ∷ [])) (λ e. refl) (λ e. refl) (item_queued a i) refl refl refl refl
-    sound_change (best_gone a) fits = by_end a (with_queue (without_best (λ i. i.priority))) (λ e. refl) (λ e. refl) (best_gone a) refl refl refl refl
-    sound_change (channel_set a c) fits = by_end a (with_channel c) (λ e. refl) (λ e. refl) (channel_set a c) refl refl refl refl
-    sound_change (queue_dropped a c) fits = by_end a (without_queue c) (λ e. refl) (λ e. refl) (queue_dropped a c) refl refl refl refl
-    sound_change (reply_owed q w) fits = by_peer q (λ p. record p { replies = p.replies ++ w ∷ [] }) (λ p is well. record { announced = well.announced; names = well.names }) (reply_owed q w) refl refl refl refl
-    sound_change channel_given fits = by_requests s.requests channel_given refl refl refl refl sound.plain
-    sound_change (end_announced a) fits = record { rise = sound.rise; few = sound.few; apart = sound.apart; peers = all_also s.number a s.peers fits sound.peers; numbers = numbers-kept s (end_announced a) ∙ sound.numbers; plain = sound.plain }
-    sound_change (owed_put q) fits = by_peer q first_put (λ p is well. put_sound p well) (owed_put q) refl refl refl refl
-    sound_change (buffers_back q n) fits = by_peer q (λ p. record p { free = p.free + n }) (λ p is well. record { announced = well.announced; names = well.names }) (buffers_back q n) refl refl refl refl
-    sound_change (frames_shown q n) fits = by_peer q (λ p. record p { shown = n }) (λ p is well. record { announced = well.announced; names = well.names }) (frames_shown q n) refl refl refl refl
-    sound_change (frame_taken q) fits = by_peer q (λ p. record p { shown = p.shown - 1 }) (λ p is well. record { announced = well.announced; names = well.names }) (frame_taken q) refl refl refl refl
-    sound_change (buffer_used q) fits = by_peer q (λ p. record p { free = p.free - 1 }) (λ p is well. record { announced = well.announced; names = well.names }) (buffer_used q) refl refl refl refl
+    sound_change (item_queued a i) fits = by_end a (with_queue (λ q. q ++ i ∷ [])) (λ e. refl) (λ e. refl) (item_queued a i) refl refl refl
+    sound_change (best_gone a) fits = by_end a (with_queue (without_best (λ i. i.priority))) (λ e. refl) (λ e. refl) (best_gone a) refl refl refl
+    sound_change (oldest_gone a) fits = by_end a (with_queue (drop 1)) (λ e. refl) (λ e. refl) (oldest_gone a) refl refl refl
+    sound_change (channel_set a c) fits = by_end a (with_channel c) (λ e. refl) (λ e. refl) (channel_set a c) refl refl refl
+    sound_change (queue_dropped a c) fits = by_end a (without_queue c) (λ e. refl) (λ e. refl) (queue_dropped a c) refl refl refl
+    sound_change (reply_owed q w) fits = by_peer q (λ p. record p { replies = p.replies ++ w ∷ [] }) (λ p is well. record { announced = well.announced; names = well.names }) (reply_owed q w) refl refl refl
+    sound_change (end_announced a) fits = record { rise = sound.rise; few = sound.few; apart = sound.apart; peers = all_also s.number a s.peers fits sound.peers; numbers = numbers-kept s (end_announced a) ∙ sound.numbers }
+    sound_change (owed_put q) fits = by_peer q first_put (λ p is well. put_sound p well) (owed_put q) refl refl refl
+    sound_change (buffers_back q n) fits = by_peer q (λ p. record p { free = p.free + n }) (λ p is well. record { announced = well.announced; names = well.names }) (buffers_back q n) refl refl refl
+    sound_change (frames_shown q n) fits = by_peer q (λ p. record p { shown = n }) (λ p is well. record { announced = well.announced; names = well.names }) (frames_shown q n) refl refl refl
+    sound_change (frame_taken q) fits = by_peer q (λ p. record p { shown = p.shown - 1 }) (λ p is well. record { announced = well.announced; names = well.names }) (frame_taken q) refl refl refl
+    sound_change (buffer_used q) fits = by_peer q (λ p. record p { free = p.free - 1 }) (λ p is well. record { announced = well.announced; names = well.names }) (buffer_used q) refl refl refl
     sound_change (names_known q ks) fits = by_peer q (λ p. record p { known = ks })
-        (λ p is well. record { announced = well.announced; names = subst (λ n. Names_of n ks) (sym (eqb-true p.number q is)) fits }) (names_known q ks) refl refl refl refl
-    sound_change (request_added asked o) fits = by_requests (s.requests ++ record { serial = s.requests_given; asked = asked; outcome = o } ∷ []) (request_added asked o) refl refl refl refl (all-append (λ (r : Request). IsPlain r.asked) s.requests (record { serial = s.requests_given; asked = asked; outcome = o } ∷ []) sound.plain (fits, tt))
-    sound_change (item_handed a i) fits = by_requests (handed_in (endpoint_of s a) i s.requests) (item_handed a i) refl refl refl refl (plain_handed (endpoint_of s a) i s.requests sound.plain)
-    sound_change (waiting_ended a w) fits = by_requests (ended_in (endpoint_of s a) w s.requests) (waiting_ended a w) refl refl refl refl (plain_ended (endpoint_of s a) w s.requests sound.plain)
-    sound_change (name_found n a) fits = by_requests (map (all_done (asks_for n) (has_address a)) s.requests) (name_found n a) refl refl refl refl
-        (plain_mapped (all_done (asks_for n) (has_address a)) (λ r is. plain_if (is_none r.outcome && asks_for n r.asked) (has_address a) r is) s.requests sound.plain)
-    sound_change (connect_settled n o) fits = by_requests (map (all_done (connects_on n) o) s.requests) (connect_settled n o) refl refl refl refl
-        (plain_mapped (all_done (connects_on n) o) (λ r is. plain_if (is_none r.outcome && connects_on n r.asked) o r is) s.requests sound.plain)
-    sound_change (request_gone place) fits = by_requests (without place s.requests) (request_gone place) refl refl refl refl (all-without (λ (r : Request). IsPlain r.asked) place s.requests sound.plain)
+        (λ p is well. record { announced = well.announced; names = subst (λ n. Names_of n ks) (sym (eqb-true p.number q is)) fits }) (names_known q ks) refl refl refl
+    sound_change other fits = by_others other refl refl refl
 
   abbrev pub FitAll : DomainState → List Change → Type 0
   FitAll s [] = Unit {0}
