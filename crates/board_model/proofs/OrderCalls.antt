@@ -1,5 +1,5 @@
--- What taken frames and calls do to what is queued.
-use Rattle.std.proofs.Common.{◌≡◌, inl, inr, ℕ, ◌+◌, ◌-◌, ◌≤◌, Bool, true, false, not, cond, List, [], ◌∷◌, ◌++◌, map, find, flat_map, length, Option, Some, None, option_map, option_to_list, refl, sym, ap, ap₂, ◌∙◌, subst, arith}
+-- What taken frames and calls do to the messages that are queued.
+use Rattle.std.proofs.Common.{◌≡◌, ◌⊎◌, inl, inr, ℕ, ◌+◌, ◌-◌, ◌≤◌, Bool, true, false, not, cond, List, [], ◌∷◌, ◌++◌, map, filter, drop, find, flat_map, length, Option, Some, None, option_map, option_to_list, refl, sym, ap, ap₂, ◌∙◌, subst, arith}
 use Rattle.std.specs.Prelude.{◌==◌, ◌&&◌, ◌||◌, is_none, is_some}
 use Rattle.std.specs.List.{AllByRecursion}
 use Rattle.std.proofs.lemmas.Bool.{eqb-true, eq-eqb, and_parts}
@@ -11,33 +11,38 @@ use Rattle.mc_base.specs.declared.name.Local.{Local}
 use Rattle.mc_base.specs.declared.name.EndName.{EndName}
 use Rattle.mc_base.specs.declared.fate.Fate.{Fate}
 use Rattle.mc_base.specs.declared.channel.Kind.{Kind}
+use Rattle.mc_base.specs.declared.channel.Kind.TheVariants.{Packet, Scalar}
+use Rattle.mc_base.specs.declared.channel.Bits.{Bits}
 use Rattle.mc_base.specs.declared.channel.Side.{Side}
 use Rattle.mc_base.specs.declared.channel.Side.TheVariants.{Sender, Receiver}
 use Rattle.mc_base.specs.declared.refusal.Refusal.{Refusal}
 use Rattle.mc_base.specs.declared.refusal.Refusal.TheVariants.{EndpInvalid, NotConnected, ChanDirection, ChanClosed}
-use Rattle.board_model.specs.DomainCall.{DomainCall, create_at, delete_at, lookup_of, send_from, receive_at, request_at, available_at, connect_from, open_at, close_at, test_of, cancel_of, turn_alone}
+use Rattle.board_model.specs.DomainCall.{DomainCall, create_at, delete_at, lookup_of, send_from, receive_at, request_at, available_at, connect_from, open_at, packet_from, lend_at, packet_request_at, release_of, scalar_from, scalar_at, close_at, test_of, cancel_of, turn_alone}
 use Rattle.board_model.specs.Journal.{PlainAnswer, refuses, agrees}
-use Rattle.board_model.specs.Choice.{least, best, without_best}
-use Rattle.board_model.specs.State.{Item, ChannelEnd, Endpoint, Asked, name_of, channel_of, message_at, Outcome, has_address, has_item, Request, DomainState, is_at, has_address_of, live_at, place_at, endpoint_at, queue_at, endpoint_of, queue_in, channel_in, one_waits, receives_at}
-use Rattle.board_model.specs.Answer.{local, holds, words_of, refusal, success, answer, answer_by, unless_refused, given as given_first, address_of, has_channel, channel_at, end_holds, holds_at_end}
-use Rattle.board_model.specs.Change.{Change, end_announced, asks_for, all_done, best_gone, channel_set, queue_dropped, request_added, endpoint_gone, waiting_ended, ended_in, with_queue, with_channel, buffer_used, channel_given, changed, changed_all}
-use Rattle.board_model.specs.ChannelEnds.{EndCall, opens, closes, same_side, opened_end, closed_end}
-use Rattle.board_model.specs.CallChanges.{at_live, at_channel, at_end, best_item, new_sender, closing, success_changes, call_changes}
+use Rattle.board_model.specs.Choice.{least, best, without_best, oldest}
+use Rattle.board_model.specs.State.{Item, ChannelEnd, Endpoint, Asked, name_of, channel_of, message_at, packet_at, Outcome, has_address, has_item, Request, DomainState, is_at, has_address_of, live_at, place_at, endpoint_at, queue_at, endpoint_of, request_at_place, queue_in, channel_in, one_waits, receives_at}
+use Rattle.board_model.specs.Answer.{local, holds, words_of, refusal, success, answer, answer_by, unless_refused, lent_whole, value_of, given as given_first, address_of, has_channel, channel_at, end_holds, holds_at_end}
+use Rattle.board_model.specs.Change.{Change, end_announced, asks_for, all_done, best_gone, oldest_gone, channel_set, queue_dropped, request_added, request_gone, endpoint_gone, waiting_ended, ended_in, with_queue, with_channel, buffer_used, packet_lent, packet_gone, channel_given, at_address, changed, changed_all}
+use Rattle.board_model.specs.ChannelEnds.{EndCall, opens, sends, receives, closes, same_side, opened_end, closed_end}
+use Rattle.board_model.specs.CallChanges.{at_live, at_channel, at_end, best_item, new_sender, closing, lending, lent_by_test, success_changes, call_changes}
 use Rattle.board_model.specs.TakenFrames.{row_of}
 use Rattle.board_model.specs.Deeds.{Deed, takes, calls, happens_by, after_deed}
-use Rattle.board_model.specs.Takings.{Taking, taking, answered_by}
+use Rattle.board_model.specs.Takings.{Taking, taking, is_message_taking, answered_by}
 use Rattle.board_model.specs.MessageOrder.{is_handed, item_said, came_to, items_at, dropped_at, dropped_from, gone_from}
 use Rattle.board_model.proofs.DeedRuns.{count_taken}
+use Rattle.board_model.proofs.ItemsHeld.{Held, queue_holds}
+use Rattle.board_model.proofs.MessageAlls.{all-filter}
+use Rattle.board_model.proofs.StateEnds.{tested-are}
 use Rattle.board_model.proofs.MessageLists.{get-position, some-position, best_is, without_best_is}
 use Rattle.board_model.proofs.MessageBest.{best-none}
 use Rattle.board_model.proofs.OrderChannels.{no_length, either_none, row_does}
 use Rattle.board_model.proofs.OrderDeeds.{Takes, RowHands, Does, queues}
-use Rattle.board_model.proofs.OrderEnds.{Follows, mute_sender, closed_follows, end_bound, set_fits, set_same, dropped_same}
+use Rattle.board_model.proofs.OrderEnds.{Follows, mute_sender, closed_follows, end_bound, none_queued, set_fits, set_same, dropped_same, oldest_same}
 use Rattle.board_model.proofs.OrderItems.{IsPast, IsNext, all_past_more, next_past_after, Apart, left_of, left_none, left_all, left_self, left_first, all_none_next, found_all}
 use Rattle.board_model.proofs.OrderQueues.{messages_at, messages_of, messages_none, queued_for, queued_same, queued_made, queued_gone, queued_best}
 use Rattle.board_model.proofs.OrderRequests.{RequestsBy, kept, turned, gone, given, found_turns, ended_by, items_one, no_items}
 use Rattle.board_model.proofs.OrderSerials.{Serials, given_by_all, serials_changes}
-use Rattle.board_model.proofs.OrderSound.{Apart as NamesApart, all_changed, Waits, Sound, Bound, bound_empty, MayAsk, FitAllSound, sound_change, sound_changes, sound_own}
+use Rattle.board_model.proofs.OrderSound.{all_changed, only_at, Sound, CameOn, came-no-message, Bound, bound_empty, MayAsk, FitAllSound, sound_change, sound_changes, sound_own}
 use Rattle.board_model.proofs.OrderTakings.{taken_of, IsOld, all_old, none_taken, done_old, ended_old, old_without, added_takes}
 
 -- a call that is not refused
@@ -52,6 +57,7 @@ pub record Moment (room : ℕ) (before : List Deed) (s : DomainState) : Type 0 w
   pub serials : Serials room s
   pub items : (b : ℕ) → AllByRecursion (IsPast before) (queued_for s b)
   pub apart : (b : ℕ) → Apart (queued_for s b)
+  pub held : Held (IsPast before) s
 
 -- ---- frames
 
@@ -86,8 +92,8 @@ takes_does room before s peer name frame word moment is named =
         | inr one ↦ inr (one.0, came b ∙ one.1, one.2, gone b ∙ ap (flat_map (items_at b)) one.3, after one.0 one.2 one.4)
       ];
       gone = λ b. all_of (λ i. IsNext before i × (i.peer ≡ peer)) (IsPast (before ++ d ∷ [])) (λ i k. after i k.0 k.1) (gone_from b s d) (both b);
-      takes_best = subst (AllByRecursion (Takes s d)) (sym does.takings) (all_of (RowHands s peer name (reading frame) (row_of s peer name (reading frame)).word) (Takes s d)
-          (λ t h. inr (record { nothing_queued = h.nothing_queued; comes = ap (λ w. cond (is_handed w) (item_said t.address peer name (reading frame)) []) (sym is) ∙ h.comes; waits = h.waits })) does.taken does.hands);
+      takes_best = subst (λ ts. AllByRecursion (Takes s d) (filter is_message_taking ts)) (sym does.takings) (all_of (RowHands s peer name (reading frame) (row_of s peer name (reading frame)).word) (Takes s d)
+          (λ t h. inr (record { nothing_queued = h.nothing_queued; comes = ap (λ w. cond (is_handed w) (item_said t.address peer name (reading frame)) []) (sym is) ∙ h.comes; waits = h.waits })) (filter is_message_taking does.taken) does.hands);
       requests = subst (λ ts. RequestsBy s (after_deed s d).requests ts (after_deed s d).requests_given) (sym does.takings) does.requests;
     }
 
@@ -151,13 +157,17 @@ refused_dropped b s node other w = refl
 abbrev pub gone_of : List Taking → (ℕ → List Item) → ℕ → List Item
 gone_of ts dropped b = flat_map (items_at b) ts ++ dropped b
 
+-- the best that is queued is taken
+abbrev pub IsBest : DomainState → Taking → Type 0
+IsBest s t = best (λ i. i.priority) (queued_for s t.address) ≡ Some t.item
+
 pub record Effect (before : List Deed) (s : DomainState) (cs : List Change) (answered : List Taking) (dropped : ℕ → List Item) : Type 0 where
   pub fits : FitAllSound s cs
   pub completed : List Taking
   pub takings : taken_of s (changed_all s cs).requests ≡ completed
   pub queue : (b : ℕ) → queued_for (changed_all s cs) b ≡ left_of (gone_of (answered ++ completed) dropped b) (queued_for s b)
   pub past : (b : ℕ) → AllByRecursion (IsPast before) (gone_of (answered ++ completed) dropped b)
-  pub best_first : AllByRecursion (λ t. best (λ i. i.priority) (queued_for s t.address) ≡ Some t.item) (answered ++ completed)
+  pub best_first : AllByRecursion (IsBest s) (filter is_message_taking (answered ++ completed))
   pub requests : RequestsBy s (changed_all s cs).requests (answered ++ completed) (changed_all s cs).requests_given
 
 pub effect_does : (room : ℕ) (before : List Deed) (s : DomainState) (moment : Moment room before s) (node : ℕ) (call : DomainCall) (a : PlainAnswer) (cs : List Change) (answered : List Taking) (dropped : ℕ → List Item) →
@@ -175,8 +185,8 @@ effect_does room before s moment node call a cs answered dropped happens answers
       queue = λ b. ap (λ t. queued_for t b) after ∙ (effect.queue b ∙ (ap (λ g. left_of g (queued_for s b)) (sym (gone b)) ∙ sym (append-nil (left_of (gone_from b s d) (queued_for s b)))));
       comes = λ b. inl refl;
       gone = λ b. subst (AllByRecursion (IsPast (before ++ d ∷ []))) (sym (gone b)) (all_past_more before d (gone_of (answered ++ effect.completed) dropped b) (effect.past b));
-      takes_best = subst (AllByRecursion (Takes s d)) (sym (ap₂ (λ xs ys. xs ++ ys) answers (ap (λ t. taken_of s t.requests) after ∙ effect.takings)))
-          (all_of (λ t. best (λ i. i.priority) (queued_for s t.address) ≡ Some t.item) (Takes s d) (λ t is. inl is) (answered ++ effect.completed) effect.best_first);
+      takes_best = subst (λ ts. AllByRecursion (Takes s d) (filter is_message_taking ts)) (sym (ap₂ (λ xs ys. xs ++ ys) answers (ap (λ t. taken_of s t.requests) after ∙ effect.takings)))
+          (all_of (IsBest s) (Takes s d) (λ t is. inl is) (filter is_message_taking (answered ++ effect.completed)) effect.best_first);
       requests = subst (λ ts. RequestsBy s (after_deed s d).requests ts (after_deed s d).requests_given) (sym (ap₂ (λ xs ys. xs ++ ys) answers (ap (λ t. taken_of s t.requests) after ∙ effect.takings)))
           (subst (λ t. RequestsBy s t.requests (answered ++ effect.completed) t.requests_given) (sym after) effect.requests);
     }
@@ -192,6 +202,11 @@ quiet before s cs fits old same requests = record {
   best_first = tt;
   requests = requests;
 }
+
+-- a test gives no request
+test_given : (lent : List Change) → (lent ≡ []) ⊎ ((i : Item) × (lent ≡ packet_lent i ∷ [])) → given_by_all lent ≡ 0
+test_given lent (inl none) = ap given_by_all none
+test_given lent (inr one) = ap given_by_all one.1
 
 module _ (room : ℕ) (before : List Deed) (s : DomainState) (moment : Moment room before s) (node : ℕ) where
   -- ---- refused
@@ -223,8 +238,17 @@ module _ (room : ℕ) (before : List Deed) (s : DomainState) (moment : Moment ro
   turn_does : Does room before s (calls node turn_alone agrees)
   turn_does = quiet_does turn_alone agrees refl refl (λ b. refl) (omega arith) (quiet before s [] tt (all_old s) (λ b. refl) (kept [] (λ k. refl)))
 
+  test_effect : (place : Option ℕ) (lent : List Change) → (lent ≡ []) ⊎ ((i : Item) × (lent ≡ packet_lent i ∷ [])) → Effect before s (request_gone place ∷ lent) [] (λ b. [])
+  test_effect place lent (inl none) = subst (λ cs. Effect before s (request_gone place ∷ cs) [] (λ b. [])) (sym none) (quiet before s (request_gone place ∷ []) (tt, tt) (old_without s place s.requests (all_old s)) (λ b. refl) (gone place))
+  test_effect place lent (inr one) = subst (λ cs. Effect before s (request_gone place ∷ cs) [] (λ b. [])) (sym one.1) (quiet before s (request_gone place ∷ packet_lent one.0 ∷ []) (tt, (tt, tt)) (old_without s place s.requests (all_old s)) (λ b. refl) (gone place))
+
   test_does : (place : Option ℕ) → refusal s node (test_of place) ≡ None → Does room before s (calls node (test_of place) (success s node (test_of place)))
-  test_does place is = quiet_does (test_of place) (success s node (test_of place)) is refl (λ b. refl) (omega arith) (quiet before s (success_changes s node (test_of place)) (tt, tt) (old_without s place s.requests (all_old s)) (λ b. refl) (gone place))
+  test_does place is =
+      let tested = tested-are (request_at_place s place) in
+      quiet_does (test_of place) (success s node (test_of place)) is refl (λ b. refl) (omega (arith, test_given (lent_by_test (request_at_place s place)) tested)) (test_effect place (lent_by_test (request_at_place s place)) tested)
+
+  release_does : (place : Option ℕ) → refusal s node (release_of place) ≡ None → Does room before s (calls node (release_of place) agrees)
+  release_does place is = quiet_does (release_of place) agrees is refl (λ b. refl) (omega arith) (quiet before s (packet_gone place ∷ []) (tt, tt) (all_old s) (λ b. refl) (kept [] (λ k. refl)))
 
   cancel_does : (place : Option ℕ) → refusal s node (cancel_of place) ≡ None → Does room before s (calls node (cancel_of place) agrees)
   cancel_does place is = quiet_does (cancel_of place) agrees is refl (λ b. refl) (omega arith) (quiet before s (success_changes s node (cancel_of place)) (tt, tt) (old_without s place s.requests (all_old s)) (λ b. refl) (gone place))
@@ -327,7 +351,7 @@ module _ (room : ℕ) (before : List Deed) (s : DomainState) (moment : Moment ro
     takings = none_taken s s.requests (all_old s);
     queue = λ b. best_left e at i found free is b ∙ ap (λ g. left_of g (queued_for s b)) (sym (one_gone (taking None e.address i) b));
     past = λ b. subst (AllByRecursion (IsPast before)) (sym (one_gone (taking None e.address i) b)) (best_past e at i found free is b);
-    best_first = (best_queued e at i found free is, tt);
+    best_first = all-filter (IsBest s) is_message_taking (taking None e.address i ∷ []) (best_queued e at i found free is, tt);
     requests = kept (taking None e.address i ∷ []) (λ k. refl);
   }
 
@@ -363,22 +387,6 @@ module _ (room : ℕ) (before : List Deed) (s : DomainState) (moment : Moment ro
 
   -- ---- request
 
-  -- where a name is that of an endpoint, whatever holds of that one holds of all with the name
-  only_at : (P : Endpoint → Type 0) (at : Local) (es : List Endpoint) (e : Endpoint) → NamesApart es → find (is_at at) es ≡ Some e → P e → AllByRecursion (λ f. is_at at f ≡ true → P f) es
-  only_at P at [] e apart found holds = tt
-  only_at P at (x ∷ xs) e apart found holds = go (is_at at x) refl found (λ k. only_at P at xs e apart.1 k holds)
-    where
-      away : (f : Endpoint) → is_at at x ≡ true → is_at x.local f ≡ false → is_at at f ≡ true → ⊥
-      away f here other there = grind (arith, eqb-true, eq-eqb, here, other, there)
-
-      others : is_at at x ≡ true → (fs : List Endpoint) → AllByRecursion (λ f. is_at x.local f ≡ false) fs → AllByRecursion (λ f. is_at at f ≡ true → P f) fs
-      others here [] all = tt
-      others here (f ∷ fs) all = ((λ there. absurd (away f here all.0 there)), others here fs all.1)
-
-      go : (b : Bool) → is_at at x ≡ b → cond b (Some x) (find (is_at at) xs) ≡ Some e → (find (is_at at) xs ≡ Some e → AllByRecursion (λ f. is_at at f ≡ true → P f) xs) → (is_at at x ≡ true → P x) × AllByRecursion (λ f. is_at at f ≡ true → P f) xs
-      go true here k later = let same : x ≡ e = cc in ((λ there. subst P (sym same) holds), others here xs apart.0)
-      go false here k later = ((λ there. absurd cc), later k)
-
   -- an endpoint is found by its own name
   own_name : (at : Local) (es : List Endpoint) (e : Endpoint) → find (is_at at) es ≡ Some e → (e.local.node ≡ at.node) × (e.local.port ≡ at.port)
   own_name at [] e found = absurd cc
@@ -397,24 +405,27 @@ module _ (room : ℕ) (before : List Deed) (s : DomainState) (moment : Moment ro
       ap₂ (λ n p. find (λ x. x.local.node == n && x.local.port == p) s.endpoints) names.0 names.1 ∙ found
 
   -- none waits that is complete at once; and where nothing is queued one may wait
-  not_waiting : (at : Local) (max : ℕ) (i : Item) (es : List Endpoint) → AllByRecursion (MayAsk (message_at at max) (Some (has_item i))) es
-  not_waiting at max i [] = tt
-  not_waiting at max i (e ∷ es) = ((λ h. absurd cc), not_waiting at max i es)
+  not_waiting : (asked : Asked) (i : Item) (es : List Endpoint) → AllByRecursion (MayAsk asked (Some (has_item i))) es
+  not_waiting asked i [] = tt
+  not_waiting asked i (e ∷ es) = ((λ h. absurd cc), not_waiting asked i es)
 
-  is_turned : (f : Endpoint) (at : Local) (max : ℕ) → receives_at f.local (message_at at max) ≡ is_at at f
-  is_turned f at max = grind (arith, eqb-true, eq-eqb)
+  message_turned : (f : Endpoint) (at : Local) (max : ℕ) → receives_at f.local (message_at at max) ≡ is_at at f
+  message_turned f at max = grind (arith, eqb-true, eq-eqb)
 
-  may_wait : (e : Endpoint) (at : Local) (max : ℕ) → live_at s at ≡ Some e → e.channel ≡ None → e.queue ≡ [] → AllByRecursion (MayAsk (message_at e.local max) None) (changed s (best_gone e.address)).endpoints
-  may_wait e at max found free empty =
-      all_changed (λ f. is_at e.local f ≡ true → (f.queue ≡ []) × (f.channel ≡ None)) (MayAsk (message_at e.local max) None) (has_address_of e.address) (with_queue (without_best (λ i. i.priority)))
-      (λ f none h. none (sym (is_turned f e.local max) ∙ h)) s.endpoints
-      (λ f at_f none h. let here = none (sym (is_turned f e.local max) ∙ h) in (ap (without_best (λ i. i.priority)) here.0, here.1))
-      (only_at (λ f. (f.queue ≡ []) × (f.channel ≡ None)) e.local s.endpoints e moment.sound.apart (found_own at e found) (empty, free))
+  packet_turned : (f : Endpoint) (at : Local) → receives_at f.local (packet_at at) ≡ is_at at f
+  packet_turned f at = grind (arith, eqb-true, eq-eqb)
+
+  may_wait : (e : Endpoint) (at : Local) (asked : Asked) (g : List Item → List Item) → g [] ≡ [] → ((f : Endpoint) → receives_at f.local asked ≡ is_at e.local f) → live_at s at ≡ Some e → e.queue ≡ [] → AllByRecursion (MayAsk asked None) (at_address e.address (with_queue g) s.endpoints)
+  may_wait e at asked g still named_at found empty =
+      all_changed (λ f. is_at e.local f ≡ true → f.queue ≡ []) (MayAsk asked None) (has_address_of e.address) (with_queue g)
+      (λ f none h. none (sym (named_at f) ∙ h)) s.endpoints
+      (λ f at_f none h. ap g (none (sym (named_at f) ∙ h)) ∙ still)
+      (only_at (λ f. f.queue ≡ []) e.local s.endpoints e moment.sound.apart (found_own at e found) empty)
 
   request_effect : (e : Endpoint) (at : Local) (max : ℕ) → live_at s at ≡ Some e → e.channel ≡ None → (x : Option Item) → best_item e ≡ x → Effect before s (best_gone e.address ∷ request_added (message_at e.local max) (option_map has_item x) ∷ []) [] (λ b. [])
   request_effect e at max found free None none =
       let empty : e.queue ≡ [] = best-none (λ i. i.priority) e.queue none in
-      quiet before s (best_gone e.address ∷ request_added (message_at e.local max) None ∷ []) (tt, (may_wait e at max found free empty, tt)) (old_last _ (inl refl) s.requests (all_old s))
+      quiet before s (best_gone e.address ∷ request_added (message_at e.local max) None ∷ []) (tt, (may_wait e at (message_at e.local max) (without_best (λ i. i.priority)) refl (λ f. message_turned f e.local max) found empty, tt)) (old_last _ (inl refl) s.requests (all_old s))
       (λ b. queued_best s e.address b ∙ same b (e.address == b) refl) (given (message_at e.local max) None [] tt (λ k. sym (no_items (s.requests_given == k))))
     where
       same : (b : ℕ) (c : Bool) → (e.address == b) ≡ c → cond c (without_best (λ i. i.priority) (queued_for s b)) (queued_for s b) ≡ queued_for s b
@@ -423,12 +434,12 @@ module _ (room : ℕ) (before : List Deed) (s : DomainState) (moment : Moment ro
           ap (without_best (λ i. i.priority)) here ∙ sym here
       same b false is = refl
   request_effect e at max found free (Some i) is = record {
-    fits = (tt, (not_waiting e.local max i (changed s (best_gone e.address)).endpoints, tt));
+    fits = (tt, (not_waiting (message_at e.local max) i (changed s (best_gone e.address)).endpoints, tt));
     completed = taking (Some s.requests_given) e.address i ∷ [];
     takings = added_takes s (message_at e.local max) (Some (has_item i)) moment.serials.below ∙ ap (λ o. map (λ a. taking (Some s.requests_given) a i) (at_live o (λ f. f.address ∷ []))) (found_own at e found);
     queue = λ b. best_left e at i found free is b ∙ ap (λ g. left_of g (queued_for s b)) (sym (one_gone (taking (Some s.requests_given) e.address i) b));
     past = λ b. subst (AllByRecursion (IsPast before)) (sym (one_gone (taking (Some s.requests_given) e.address i) b)) (best_past e at i found free is b);
-    best_first = (best_queued e at i found free is, tt);
+    best_first = all-filter (IsBest s) is_message_taking (taking (Some s.requests_given) e.address i ∷ []) (best_queued e at i found free is, tt);
     requests = given (message_at e.local max) (Some (has_item i)) (taking (Some s.requests_given) e.address i ∷ []) tt (λ k. items_one k s.requests_given e.address i);
   }
 
@@ -444,14 +455,11 @@ module _ (room : ℕ) (before : List Deed) (s : DomainState) (moment : Moment ro
 
   -- ---- connect
 
-  own_local : (at : Local) (e : Endpoint) → live_at s at ≡ Some e → e.local ≡ at
-  own_local at e found = let names = own_name at s.endpoints e found in ap₂ (λ n p. record { node = n; port = p }) names.0 names.1
-
-  connect_effect : (e : Endpoint) (at : Local) (peer number : ℕ) (c : ChannelEnd) → live_at s at ≡ Some e → e.queue ≡ [] → (Waits e.local s.requests → ⊥) → Effect before s (buffer_used peer ∷ channel_set e.address (Some c) ∷ request_added (channel_of number) None ∷ channel_given ∷ []) [] (λ b. [])
-  connect_effect e at peer number c found none still =
+  connect_effect : (e : Endpoint) (at : Local) (peer number : ℕ) (c : ChannelEnd) → live_at s at ≡ Some e → e.queue ≡ [] → Effect before s (buffer_used peer ∷ channel_set e.address (Some c) ∷ request_added (channel_of number) None ∷ channel_given ∷ []) [] (λ b. [])
+  connect_effect e at peer number c found none =
       let t : DomainState = changed s (buffer_used peer) in
       quiet before s (buffer_used peer ∷ channel_set e.address (Some c) ∷ request_added (channel_of number) None ∷ channel_given ∷ [])
-      (tt, ((λ f is. let same : e ≡ f = one f is in subst (λ x. Bound s.requests x.local x.queue (Some c)) same (bound_empty s.requests e.local e.queue none still (Some c))), (not_received (channel_of number) (λ l. refl) None (changed t (channel_set e.address (Some c))).endpoints, (tt, tt))))
+      (tt, ((λ f is. let same : e ≡ f = one f is in subst (λ x. Bound x.queue (Some c)) same (bound_empty e.queue none (Some c))), (not_received (channel_of number) (λ l. refl) None (changed t (channel_set e.address (Some c))).endpoints, (tt, tt))))
       (old_last _ (inl refl) s.requests (all_old s))
       (λ b. queued_same (with_channel (Some c)) (λ x. refl) t e.address b (λ f is. let same : e ≡ f = one f is in subst (λ (x : Endpoint). [] ≡ messages_at x.channel x.queue) same (sym (ap (messages_at e.channel) none ∙ messages_none e.channel))))
       (given (channel_of number) None [] tt (λ k. sym (no_items (s.requests_given == k))))
@@ -465,10 +473,9 @@ module _ (room : ℕ) (before : List Deed) (s : DomainState) (moment : Moment ro
       let e = live_here s (local node port) words.0 in
       let idle = either_none (not (length (queue_at s (local node port)) == 0)) (one_waits s (local node port)) words.1.1.0 in
       let none : e.0.queue ≡ [] = sym (ap queue_in (live_found s (local node port) ∙ e.1)) ∙ no_length (queue_at s (local node port)) idle.0 in
-      let still : one_waits s e.0.local ≡ false = ap (one_waits s) (own_local (local node port) e.0 e.1) ∙ idle.1 in
       effect_does room before s moment node (connect_from port to kind) (success s node (connect_from port to kind)) (connect_changes (Some e.0)) [] (λ b. [])
       (ap (λ o. unless_refused o [] (success_changes s node (connect_from port to kind))) is ∙ ap connect_changes e.1) refl (λ b. refl) (omega arith)
-      (connect_effect e.0 (local node port) to.domain (s.channels_given + 1) (new_sender s to kind) e.1 none (λ w. absurd cc))
+      (connect_effect e.0 (local node port) to.domain (s.channels_given + 1) (new_sender s to kind) e.1 none)
     where
       connect_changes : Option Endpoint → List Change
       connect_changes o = at_live o (λ e. buffer_used to.domain ∷ channel_set e.address (Some (new_sender s to kind)) ∷ request_added (channel_of (s.channels_given + 1)) None ∷ channel_given ∷ [])
@@ -492,15 +499,10 @@ module _ (room : ℕ) (before : List Deed) (s : DomainState) (moment : Moment ro
     dropped_effect w d =
         let t : DomainState = changed used (waiting_ended e.address w) in
         let sure : Sound t = sound_change used used_sound (waiting_ended e.address w) tt in
-        quiet before s (buffer_used peer ∷ waiting_ended e.address w ∷ queue_dropped e.address d ∷ [])
-        (tt, (tt, ((λ f is waits. let same : e ≡ f = one f is in subst (λ x. Waits x.local t.requests → ⊥) same (end_bound t sure e.address e here_own c ends).0 waits), tt)))
-        (ended_old s (endpoint_of s e.address) w) (λ b. dropped_same t sure e.address e here_own c ends d b) (ended_by s (endpoint_of s e.address) w)
-      where
-        one : (f : Endpoint) → endpoint_of s e.address ≡ Some f → e ≡ f
-        one f is = let both : Some e ≡ Some f = sym here_own ∙ is in cc
+        quiet before s (buffer_used peer ∷ waiting_ended e.address w ∷ queue_dropped e.address d ∷ []) (tt, (tt, (tt, tt))) (ended_old s (endpoint_of s e.address) w) (λ b. dropped_same t sure e.address e here_own c ends d b) (ended_by s (endpoint_of s e.address) w)
 
   opened_follows : (c : ChannelEnd) → Follows c (Some (opened_end c))
-  opened_follows c m = mute_sender c (go (same_side c.side Sender) m)
+  opened_follows c = (refl, refl, λ m. mute_sender c (go (same_side c.side Sender) m))
     where
       go : (b : Bool) → (b || false) ≡ true → b ≡ true
       go true h = refl
@@ -536,6 +538,150 @@ module _ (room : ℕ) (before : List Deed) (s : DomainState) (moment : Moment ro
       (ap (λ o. unless_refused o [] (success_changes s node (close_at port Receiver))) is ∙ end_changes (closing Receiver) (local node port) e.0 c.0 e.1 c.1) refl (λ b. refl) (omega arith)
       (dropped_effect e.0 (local node port) e.1 c.0 c.1 c.0.peer ChanClosed (closed_end c.0))
 
+  -- ---- sends
+
+  put_effect : (peer : ℕ) → Effect before s (buffer_used peer ∷ []) [] (λ b. [])
+  put_effect peer = quiet before s (buffer_used peer ∷ []) (tt, tt) (all_old s) (λ b. refl) (kept [] (λ k. refl))
+
+  packet_does : (port : ℕ) (bytes : List ℕ) → refusal s node (packet_from port bytes) ≡ None → Does room before s (calls node (packet_from port bytes) agrees)
+  packet_does port bytes is =
+      let words = none_holds (holds s node (packet_from port bytes)) (words_of (packet_from port bytes)) is in
+      let e = live_here s (local node port) words.0 in
+      let c = end_here s (local node port) e.0 (sends Packet) e.1 words.1.0 in
+      effect_does room before s moment node (packet_from port bytes) agrees (buffer_used c.0.peer ∷ []) [] (λ b. [])
+      (ap (λ o. unless_refused o [] (success_changes s node (packet_from port bytes))) is ∙ end_changes (λ e c. buffer_used c.peer ∷ []) (local node port) e.0 c.0 e.1 c.1) refl (λ b. refl) (omega arith) (put_effect c.0.peer)
+
+  scalar_does : (port : ℕ) (bits : Bits) (value : ℕ) → refusal s node (scalar_from port bits value) ≡ None → Does room before s (calls node (scalar_from port bits value) agrees)
+  scalar_does port bits value is =
+      let words = none_holds (holds s node (scalar_from port bits value)) (words_of (scalar_from port bits value)) is in
+      let e = live_here s (local node port) words.0 in
+      let c = end_here s (local node port) e.0 (sends Scalar) e.1 words.1.0 in
+      effect_does room before s moment node (scalar_from port bits value) agrees (buffer_used c.0.peer ∷ []) [] (λ b. [])
+      (ap (λ o. unless_refused o [] (success_changes s node (scalar_from port bits value))) is ∙ end_changes (λ e c. buffer_used c.peer ∷ []) (local node port) e.0 c.0 e.1 c.1) refl (λ b. refl) (omega arith) (put_effect c.0.peer)
+
+  -- ---- the oldest of a channel is gone
+
+  oldest_found : (at : Local) (e : Endpoint) → live_at s at ≡ Some e → oldest (queue_at s at) ≡ oldest e.queue
+  oldest_found at e found = ap (λ o. oldest (queue_in o)) (live_found s at ∙ found)
+
+  some_oldest : (e : Endpoint) (at : Local) → live_at s at ≡ Some e → (length (queue_at s at) == 0) ≡ false → (i : Item) × (oldest e.queue ≡ Some i)
+  some_oldest e at found full = go e.queue (subst (λ q. (length q == 0) ≡ false) (ap queue_in (live_found s at ∙ found)) full)
+    where
+      go : (q : List Item) → (length q == 0) ≡ false → (i : Item) × (oldest q ≡ Some i)
+      go [] h = absurd (zero_full h)
+      go (i ∷ q) h = (i, refl)
+
+  module _ (e : Endpoint) (at : Local) (found : live_at s at ≡ Some e) (c : ChannelEnd) (ends : e.channel ≡ Some c) where
+    own_end : endpoint_of s e.address ≡ Some e
+    own_end = sound_own s moment.sound at e found
+
+    oldest_kept : (b : ℕ) → queued_for (changed s (oldest_gone e.address)) b ≡ queued_for s b
+    oldest_kept b = oldest_same s moment.sound e.address e own_end c ends b
+
+    module _ (i : Item) (is : oldest e.queue ≡ Some i) where
+      oldest_so : (P : Item → Type 0) → AllByRecursion P e.queue → P i
+      oldest_so P all = go e.queue is all
+        where
+          go : (q : List Item) → oldest q ≡ Some i → AllByRecursion P q → P i
+          go [] h all = absurd cc
+          go (x ∷ q) h all = let same : x ≡ i = cc in subst P same all.0
+
+      oldest_left : (b : ℕ) → queued_for s b ≡ left_of (cond (e.address == b) (i ∷ []) []) (queued_for s b)
+      oldest_left b = go (e.address == b) refl
+        where
+          go : (x : Bool) → (e.address == b) ≡ x → queued_for s b ≡ left_of (cond x (i ∷ []) []) (queued_for s b)
+          go true same =
+              let empty : queued_for s b ≡ [] = ap (queued_for s) (sym (eqb-true e.address b same)) ∙ none_queued s moment.sound e.address e own_end c ends in
+              empty ∙ sym (ap (left_of (i ∷ [])) empty)
+          go false other = sym (left_none (queued_for s b))
+
+      oldest_past : (b : ℕ) → AllByRecursion (IsPast before) (cond (e.address == b) (i ∷ []) [])
+      oldest_past b = go (e.address == b)
+        where
+          go : (x : Bool) → AllByRecursion (IsPast before) (cond x (i ∷ []) [])
+          go true = (oldest_so (IsPast before) (queue_holds (IsPast before) s moment.held node at e found), tt)
+          go false = tt
+
+      -- it is no message
+      no_message : (request : Option ℕ) → filter is_message_taking (taking request e.address i ∷ []) ≡ []
+      no_message request = ap (λ (b : Bool). cond b (taking request e.address i ∷ []) []) (came-no-message c i (oldest_so (CameOn c) (end_bound s moment.sound e.address e own_end c ends).1))
+
+      -- a receive that answers, and may lend what it took
+      at_once_effect : (more : List Change) → FitAllSound (changed s (oldest_gone e.address)) more → taken_of s (changed_all s (oldest_gone e.address ∷ more)).requests ≡ [] → ((b : ℕ) → queued_for (changed_all s (oldest_gone e.address ∷ more)) b ≡ queued_for (changed s (oldest_gone e.address)) b) →
+          RequestsBy s (changed_all s (oldest_gone e.address ∷ more)).requests (taking None e.address i ∷ []) (changed_all s (oldest_gone e.address ∷ more)).requests_given → Effect before s (oldest_gone e.address ∷ more) (taking None e.address i ∷ []) (λ b. [])
+      at_once_effect more fits none same requests = record {
+        fits = (tt, fits);
+        completed = [];
+        takings = none;
+        queue = λ b. same b ∙ (oldest_kept b ∙ (oldest_left b ∙ ap (λ g. left_of g (queued_for s b)) (sym (one_gone (taking None e.address i) b))));
+        past = λ b. subst (AllByRecursion (IsPast before)) (sym (one_gone (taking None e.address i) b)) (oldest_past b);
+        best_first = subst (AllByRecursion (IsBest s)) (sym (no_message None)) tt;
+        requests = requests;
+      }
+
+      lend_effect : Effect before s (oldest_gone e.address ∷ packet_lent i ∷ []) (taking None e.address i ∷ []) (λ b. [])
+      lend_effect = at_once_effect (packet_lent i ∷ []) (tt, tt) (none_taken s s.requests (all_old s)) (λ b. refl) (kept (taking None e.address i ∷ []) (λ k. refl))
+
+      value_effect : Effect before s (oldest_gone e.address ∷ []) (taking None e.address i ∷ []) (λ b. [])
+      value_effect = at_once_effect [] tt (none_taken s s.requests (all_old s)) (λ b. refl) (kept (taking None e.address i ∷ []) (λ k. refl))
+
+    packet_effect : (x : Option Item) → oldest e.queue ≡ x → Effect before s (oldest_gone e.address ∷ request_added (packet_at e.local) (option_map has_item x) ∷ []) [] (λ b. [])
+    packet_effect None none =
+        quiet before s (oldest_gone e.address ∷ request_added (packet_at e.local) None ∷ [])
+        (tt, (may_wait e at (packet_at e.local) (drop 1) refl (λ f. packet_turned f e.local) found (empty e.queue none), tt)) (old_last _ (inl refl) s.requests (all_old s)) oldest_kept (given (packet_at e.local) None [] tt (λ k. sym (no_items (s.requests_given == k))))
+      where
+        empty : (q : List Item) → oldest q ≡ None → q ≡ []
+        empty [] h = refl
+        empty (i ∷ q) h = absurd cc
+    packet_effect (Some i) is = record {
+      fits = (tt, (not_waiting (packet_at e.local) i (changed s (oldest_gone e.address)).endpoints, tt));
+      completed = taking (Some s.requests_given) e.address i ∷ [];
+      takings = added_takes s (packet_at e.local) (Some (has_item i)) moment.serials.below ∙ ap (λ o. map (λ a. taking (Some s.requests_given) a i) (at_live o (λ f. f.address ∷ []))) (found_own at e found);
+      queue = λ b. oldest_kept b ∙ (oldest_left i is b ∙ ap (λ g. left_of g (queued_for s b)) (sym (one_gone (taking (Some s.requests_given) e.address i) b)));
+      past = λ b. subst (AllByRecursion (IsPast before)) (sym (one_gone (taking (Some s.requests_given) e.address i) b)) (oldest_past i is b);
+      best_first = subst (AllByRecursion (IsBest s)) (sym (no_message i is (Some s.requests_given))) tt;
+      requests = given (packet_at e.local) (Some (has_item i)) (taking (Some s.requests_given) e.address i ∷ []) tt (λ k. items_one k s.requests_given e.address i);
+    }
+
+  lend_does : (port : ℕ) → refusal s node (lend_at port) ≡ None → Does room before s (calls node (lend_at port) (success s node (lend_at port)))
+  lend_does port is =
+      let words = none_holds (holds s node (lend_at port)) (words_of (lend_at port)) is in
+      let e = live_here s (local node port) words.0 in
+      let c = end_here s (local node port) e.0 (receives Packet (length (queue_at s (local node port)))) e.1 words.1.0 in
+      let i = some_oldest e.0 (local node port) e.1 words.1.1.1.1.1.1.0 in
+      effect_does room before s moment node (lend_at port) (success s node (lend_at port)) (oldest_gone e.0.address ∷ packet_lent i.0 ∷ []) (taking None e.0.address i.0 ∷ []) (λ b. [])
+      (ap (λ o. unless_refused o [] (success_changes s node (lend_at port))) is ∙ (ap lend_changes e.1 ∙ ap (λ x. oldest_gone e.0.address ∷ lending x) i.1))
+      (ap (λ x. answered_by s (calls node (lend_at port) (lent_whole x))) (oldest_found (local node port) e.0 e.1 ∙ i.1) ∙ (ap (λ o. at_live o (λ f. map (taking None f.address) (option_to_list (oldest f.queue)))) e.1 ∙ ap (λ x. map (taking None e.0.address) (option_to_list x)) i.1))
+      (λ b. refl) (omega arith) (lend_effect e.0 (local node port) e.1 c.0 c.1 i.0 i.1)
+    where
+      lend_changes : Option Endpoint → List Change
+      lend_changes o = at_live o (λ e. oldest_gone e.address ∷ lending (oldest e.queue))
+
+  value_does : (port : ℕ) (bits : Bits) → refusal s node (scalar_at port bits) ≡ None → Does room before s (calls node (scalar_at port bits) (success s node (scalar_at port bits)))
+  value_does port bits is =
+      let words = none_holds (holds s node (scalar_at port bits)) (words_of (scalar_at port bits)) is in
+      let e = live_here s (local node port) words.0 in
+      let c = end_here s (local node port) e.0 (receives Scalar (length (queue_at s (local node port)))) e.1 words.1.0 in
+      let i = some_oldest e.0 (local node port) e.1 words.1.1.1.1.1.1.0 in
+      effect_does room before s moment node (scalar_at port bits) (success s node (scalar_at port bits)) (oldest_gone e.0.address ∷ []) (taking None e.0.address i.0 ∷ []) (λ b. [])
+      (ap (λ o. unless_refused o [] (success_changes s node (scalar_at port bits))) is ∙ ap value_changes e.1)
+      (ap (λ x. answered_by s (calls node (scalar_at port bits) (value_of bits x))) (oldest_found (local node port) e.0 e.1 ∙ i.1) ∙ (ap (λ o. at_live o (λ f. map (taking None f.address) (option_to_list (oldest f.queue)))) e.1 ∙ ap (λ x. map (taking None e.0.address) (option_to_list x)) i.1))
+      (λ b. refl) (omega arith) (value_effect e.0 (local node port) e.1 c.0 c.1 i.0 i.1)
+    where
+      value_changes : Option Endpoint → List Change
+      value_changes o = at_live o (λ e. oldest_gone e.address ∷ [])
+
+  packet_request_does : (port : ℕ) → refusal s node (packet_request_at port) ≡ None → 1 ≤ room → Does room before s (calls node (packet_request_at port) (success s node (packet_request_at port)))
+  packet_request_does port is fits =
+      let words = none_holds (holds s node (packet_request_at port)) (words_of (packet_request_at port)) is in
+      let e = live_here s (local node port) words.0 in
+      let c = end_here s (local node port) e.0 (receives Packet (length (queue_at s (local node port)))) e.1 words.1.0 in
+      effect_does room before s moment node (packet_request_at port) (success s node (packet_request_at port)) (packet_changes (Some e.0)) [] (λ b. [])
+      (ap (λ o. unless_refused o [] (success_changes s node (packet_request_at port))) is ∙ ap packet_changes e.1) refl (λ b. refl) (omega arith) (packet_effect e.0 (local node port) e.1 c.0 c.1 (oldest e.0.queue) refl)
+    where
+      packet_changes : Option Endpoint → List Change
+      packet_changes o = at_live o (λ e. oldest_gone e.address ∷ request_added (packet_at e.local) (option_map has_item (oldest e.queue)) ∷ [])
+
   -- ---- all calls
 
   pub success_does : (call : DomainCall) → refusal s node call ≡ None → succeeds (calls node call (success s node call)) ≤ room → Does room before s (calls node call (success s node call))
@@ -548,6 +694,12 @@ module _ (room : ℕ) (before : List Deed) (s : DomainState) (moment : Moment ro
   success_does (available_at port) is fits = available_does port is
   success_does (connect_from port to kind) is fits = connect_does port to kind is fits
   success_does (open_at port side kind) is fits = open_does port side kind is
+  success_does (packet_from port bytes) is fits = packet_does port bytes is
+  success_does (lend_at port) is fits = lend_does port is
+  success_does (packet_request_at port) is fits = packet_request_does port is fits
+  success_does (release_of place) is fits = release_does place is
+  success_does (scalar_from port bits value) is fits = scalar_does port bits value is
+  success_does (scalar_at port bits) is fits = value_does port bits is
   success_does (close_at port side) is fits = close_does port side is
   success_does (test_of place) is fits = test_does place is
   success_does (cancel_of place) is fits = cancel_does place is
@@ -597,8 +749,18 @@ success_given s node (request_at port max) = live_given (live_at s (local node p
 success_given s node (available_at port) = omega arith
 success_given s node (connect_from port to kind) = live_given (live_at s (local node port)) (λ e. buffer_used to.domain ∷ channel_set e.address (Some (new_sender s to kind)) ∷ request_added (channel_of (s.channels_given + 1)) None ∷ channel_given ∷ []) 1 (λ e. omega arith)
 success_given s node (open_at port side kind) = zero_less (end_given (live_at s (local node port)) (λ e c. buffer_used c.peer ∷ channel_set e.address (Some (opened_end c)) ∷ []) (λ e c. omega arith))
+success_given s node (packet_from port bytes) = zero_less (end_given (live_at s (local node port)) (λ e c. buffer_used c.peer ∷ []) (λ e c. omega arith))
+success_given s node (lend_at port) = zero_less (live_given (live_at s (local node port)) (λ e. oldest_gone e.address ∷ lending (oldest e.queue)) 0 (λ e. lends_given e.address (oldest e.queue)))
+  where
+    lends_given : (a : ℕ) (o : Option Item) → given_by_all (oldest_gone a ∷ lending o) ≤ 0
+    lends_given a None = omega arith
+    lends_given a (Some i) = omega arith
+success_given s node (packet_request_at port) = live_given (live_at s (local node port)) (λ e. oldest_gone e.address ∷ request_added (packet_at e.local) (option_map has_item (oldest e.queue)) ∷ []) 1 (λ e. omega arith)
+success_given s node (release_of place) = omega arith
+success_given s node (scalar_from port bits value) = zero_less (end_given (live_at s (local node port)) (λ e c. buffer_used c.peer ∷ []) (λ e c. omega arith))
+success_given s node (scalar_at port bits) = zero_less (live_given (live_at s (local node port)) (λ e. oldest_gone e.address ∷ []) 0 (λ e. omega arith))
 success_given s node (close_at port side) = zero_less (end_given (live_at s (local node port)) (closing side) (closing_given side))
-success_given s node (test_of place) = omega arith
+success_given s node (test_of place) = omega (arith, test_given (lent_by_test (request_at_place s place)) (tested-are (request_at_place s place)))
 success_given s node (cancel_of place) = omega arith
 success_given s node turn_alone = omega arith
 

@@ -101,6 +101,8 @@ module _ (start : DomainState) (before : List Deed) (s : DomainState) (differ : 
   tells_held : (asked : Asked) (o : Outcome) (k : ℕ) → FitsAsked asked (Some o) → taken_for start before k ≡ item_held (Some o) → TellsAsked asked (taken_for start before k) (completes None (result_by asked (Some o)))
   tells_held (message_at at max) (has_item i) k fits is = record { item = i; taken = is; gives = record { whole = refl; first = refl } }
   tells_held (message_at at max) (has_ended w) k fits is = is
+  tells_held (packet_at at) (has_item i) k fits is = record { item = i; taken = is; whole = refl; all = refl }
+  tells_held (packet_at at) (has_ended w) k fits is = is
   tells_held (name_of n) (has_address a) k fits is = is
   tells_held (channel_of n) is_accepted k fits is = is
   tells_held (channel_of n) (is_rejected why) k fits is = is

@@ -1,5 +1,5 @@
--- What each deed does to what is queued at each address, and which items are gone from it: one record for all deeds.
-use Rattle.std.proofs.Common.{◌≡◌, ◌⊎◌, inl, inr, ℕ, ◌-◌, Bool, true, false, cond, List, [], ◌∷◌, ◌++◌, map, find, flat_map, Option, Some, None, option_map, refl, sym, ap, ◌∙◌, subst, arith}
+-- What each deed does to the messages that are queued at each address, and which items are gone from it: one record for all deeds.
+use Rattle.std.proofs.Common.{◌≡◌, ◌⊎◌, inl, inr, ℕ, ◌-◌, Bool, true, false, cond, List, [], ◌∷◌, ◌++◌, map, filter, find, flat_map, Option, Some, None, option_map, refl, sym, ap, ◌∙◌, subst, arith}
 use Rattle.std.specs.Prelude.{◌==◌, ◌&&◌, ◌||◌, is_none, option_and_then, option_to_list}
 use Rattle.std.specs.List.{AllByRecursion, list_any}
 use Rattle.std.proofs.lemmas.Bool.{eqb-true, eq-eqb, and_parts}
@@ -14,18 +14,19 @@ use Rattle.board_model.specs.State.{Item, ChannelEnd, Endpoint, Asked, name_of, 
 use Rattle.board_model.specs.Change.{item_queued, item_handed, name_found, names_known, frame_taken, handed_in, all_done, asks_for, changed, changed_all}
 use Rattle.board_model.specs.TakenFrames.{Row, row, first_row, name_rows, message_rows, letter_rows, message_item}
 use Rattle.board_model.specs.Deeds.{Deed, looks_back, puts_owed, looks_ahead, happens_by, after_deed}
-use Rattle.board_model.specs.Takings.{Taking, taking, takings_by, asked_address}
+use Rattle.board_model.specs.Takings.{Taking, taking, is_message_taking, takings_by, asked_address}
 use Rattle.mc_base.specs.declared.name.Local.{Local}
 use Rattle.board_model.specs.Choice.{best}
 use Rattle.board_model.specs.CallChanges.{at_live}
 use Rattle.board_model.specs.MessageOrder.{is_handed, comes_now, waiting_first, item_said, is_queued, came_to, items_at, dropped_from, gone_from}
 use Rattle.board_model.proofs.LaneRows.{by_rows}
 use Rattle.board_model.proofs.DeedRuns.{count_taken}
+use Rattle.board_model.proofs.MessageAlls.{all-filter}
 use Rattle.board_model.proofs.OrderItems.{IsPast, IsNext, left_of, left_none}
 use Rattle.board_model.proofs.OrderQueues.{messages_at, messages_of, messages_none, queued_for, queued_item}
-use Rattle.board_model.proofs.OrderRequests.{RequestsBy, kept, turned, handed, FitsAsked, NoneBy, items_by, items_one, found_turns}
+use Rattle.board_model.proofs.OrderRequests.{RequestsBy, kept, turned, handed, NoneBy, items_by, items_one, found_turns}
 use Rattle.board_model.proofs.OrderSerials.{Differ, Below, Serials, given_by_all, serials_changes}
-use Rattle.board_model.proofs.OrderSound.{Apart as NamesApart, sound_quiet, Sound, FitAllSound, FitsEnd, sound_changes}
+use Rattle.board_model.proofs.OrderSound.{sound_quiet, sound_named, Sound, FitAllSound, FitsEnd, sound_changes}
 use Rattle.board_model.proofs.OrderTakings.{found_pends, taken_of, IsOld, all_old, none_taken, done_old, handed_takes, waiter_takes}
 
 -- at most one item comes, and then none is gone
@@ -47,7 +48,7 @@ pub record Does (room : ℕ) (before : List Deed) (s : DomainState) (d : Deed) :
   pub queue : (b : ℕ) → queued_for (after_deed s d) b ≡ left_of (gone_from b s d) (queued_for s b) ++ came_to b s d
   pub comes : (b : ℕ) → Comes before d (came_to b s d) (gone_from b s d)
   pub gone : (b : ℕ) → AllByRecursion (IsPast (before ++ d ∷ [])) (gone_from b s d)
-  pub takes_best : AllByRecursion (Takes s d) (takings_by s d)
+  pub takes_best : AllByRecursion (Takes s d) (filter is_message_taking (takings_by s d))
   pub requests : RequestsBy s (after_deed s d).requests (takings_by s d) (after_deed s d).requests_given
 
 -- ---- a deed by which nothing is taken or dropped
@@ -64,7 +65,7 @@ still room before s d sound serials taken dropped came same requests = record {
   queue = λ b. same b ∙ (sym (left_none (queued_for s b)) ∙ (ap (λ g. left_of g (queued_for s b)) (sym (gone_none b s d taken (dropped b))) ∙ (sym (append-nil (left_of (gone_from b s d) (queued_for s b))) ∙ ap (λ c. left_of (gone_from b s d) (queued_for s b) ++ c) (sym (came b)))));
   comes = λ b. inl (came b);
   gone = λ b. subst (AllByRecursion (IsPast (before ++ d ∷ []))) (sym (gone_none b s d taken (dropped b))) tt;
-  takes_best = subst (AllByRecursion (Takes s d)) (sym taken) tt;
+  takes_best = subst (λ ts. AllByRecursion (Takes s d) (filter is_message_taking ts)) (sym taken) tt;
   requests = subst (λ ts. RequestsBy s (after_deed s d).requests ts (after_deed s d).requests_given) (sym taken) requests;
 }
 
@@ -94,14 +95,6 @@ pub both_none : (b : Bool) → cond {A = List Item} b [] [] ≡ []
 both_none true = refl
 both_none false = refl
 
-found_in_all : (P : Endpoint → Type 0) (p : Endpoint → Bool) (es : List Endpoint) (e : Endpoint) → find p es ≡ Some e → AllByRecursion P es → P e
-found_in_all P p [] e found all = absurd cc
-found_in_all P p (x ∷ xs) e found all = go (p x) found (λ k. found_in_all P p xs e k all.1)
-  where
-    go : (b : Bool) → cond b (Some x) (find p xs) ≡ Some e → (find p xs ≡ Some e → P e) → P e
-    go true k later = let is : x ≡ e = cc in subst P is all.0
-    go false k later = later k
-
 found_any : (p : Request → Bool) (rs : List Request) (r : Request) → find p rs ≡ Some r → list_any p rs ≡ true
 found_any p [] r found = absurd cc
 found_any p (x ∷ xs) r found = go (p x) found (λ k. found_any p xs r k)
@@ -118,26 +111,18 @@ own_address a (x ∷ xs) e found = go (has_address_of a x) refl found (λ k. own
     go true is k later = let same : x ≡ e = cc in subst (λ y. y.address ≡ a) same (eqb-true x.address a is)
     go false is k later = later k
 
--- the endpoint at which the oldest that waits asks is the one that waits
-found_named : (at : Local) (es : List Endpoint) (e : Endpoint) → NamesApart es → (p : Endpoint → Bool) → find p es ≡ Some e → (e.local.node == at.node && e.local.port == at.port) ≡ true → find (is_at at) es ≡ Some e
-found_named at [] e apart p found same = absurd cc
-found_named at (x ∷ xs) e apart p found same = go (p x) found (λ k. found_named at xs e apart.1 p k same) (λ k. found_in_all (λ f. is_at x.local f ≡ false) p xs e k apart.0)
+-- a request that waits at an endpoint asks there
+pub asked_there : (s : DomainState) (l : Local) (asked : Asked) (e : Endpoint) → receives_at l asked ≡ true → ((at : Local) → is_at at e ≡ true → live_at s at ≡ Some e) → e.local ≡ l → asked_address s asked ≡ e.address ∷ []
+asked_there s l asked e waits find_it same = go asked waits
   where
-    away : is_at x.local e ≡ false → is_at at x ≡ false
-    away other = grind (arith, eqb-true, eq-eqb, same, other)
+    turned : (at : Local) → (at.node == l.node && at.port == l.port) ≡ true → is_at at e ≡ true
+    turned at h = grind (arith, eqb-true, eq-eqb, h, same)
 
-    go : (b : Bool) → cond b (Some x) (find p xs) ≡ Some e → (find p xs ≡ Some e → find (is_at at) xs ≡ Some e) → (find p xs ≡ Some e → is_at x.local e ≡ false) → cond (is_at at x) (Some x) (find (is_at at) xs) ≡ Some e
-    go true k later other = let is : x ≡ e = cc in ap (λ (b : Bool). cond b (Some x) (find (is_at at) xs)) (subst (λ y. (y.local.node == at.node && y.local.port == at.port) ≡ true) (sym is) same) ∙ ap (λ y. Some y) is
-    go false k later other = ap (λ (b : Bool). cond b (Some x) (find (is_at at) xs)) (away (other k)) ∙ later k
-
-asked_waits : (s : DomainState) (l : Local) (asked : Asked) (e : Endpoint) → receives_at l asked ≡ true → ((at : Local) → (l.node == at.node && l.port == at.port) ≡ true → live_at s at ≡ Some e) → (asked_address s asked ≡ e.address ∷ []) ⊎ ((at : Local) × (asked ≡ packet_at at))
-asked_waits s l (message_at at max) e waits find_it = inl (ap (λ o. at_live o (λ f. f.address ∷ [])) (find_it at (turned waits)))
-  where
-    turned : (at.node == l.node && at.port == l.port) ≡ true → (l.node == at.node && l.port == at.port) ≡ true
-    turned h = grind (arith, eqb-true, eq-eqb, h)
-asked_waits s l (packet_at at) e waits find_it = inr (at, refl)
-asked_waits s l (name_of n) e waits find_it = absurd cc
-asked_waits s l (channel_of n) e waits find_it = absurd cc
+    go : (asked : Asked) → receives_at l asked ≡ true → asked_address s asked ≡ e.address ∷ []
+    go (message_at at max) waits = ap (λ o. at_live o (λ f. f.address ∷ [])) (find_it at (turned at waits))
+    go (packet_at at) waits = ap (λ o. at_live o (λ f. f.address ∷ [])) (find_it at (turned at waits))
+    go (name_of n) waits = absurd cc
+    go (channel_of n) waits = absurd cc
 
 -- what the item is that a frame queues
 abbrev pub queues : ℕ → ℕ → Option ℕ → Reading → Fate → List Item
@@ -161,7 +146,7 @@ pub record RowDoes (before : List Deed) (s : DomainState) (peer : ℕ) (name : O
   pub next : AllByRecursion (λ t. IsNext before t.item × (t.item.peer ≡ peer)) taken
   pub queue : (b : ℕ) → queued_for (after_row s peer r) b ≡ queued_for s b ++ queues b peer name rd r.word
   pub comes : (b : ℕ) → (queues b peer name rd r.word ≡ []) ⊎ ((i : Item) × (queues b peer name rd r.word ≡ i ∷ []) × IsNext before i × (taken ≡ []) × (i.peer ≡ peer))
-  pub hands : AllByRecursion (RowHands s peer name rd r.word) taken
+  pub hands : AllByRecursion (RowHands s peer name rd r.word) (filter is_message_taking taken)
   pub requests : RequestsBy s (after_row s peer r).requests taken (after_row s peer r).requests_given
 
 module _ (before : List Deed) (s : DomainState) (sound : Sound s) (differ : Differ s.requests) (peer : ℕ) (name : Option ℕ) where
@@ -206,6 +191,41 @@ module _ (before : List Deed) (s : DomainState) (sound : Sound s) (differ : Diff
     (λ off. ((λ on. name_row text address false _ tt refl (all_old s) (λ b. refl) (kept [] (λ k. refl))), (λ off2. name_row text address false (forgotten_row n known) (tt, tt) refl (all_old s) (λ b. refl) (kept [] (λ k. refl))))),
   )
 
+  -- ---- an item that is handed to the oldest that waits
+
+  module _ (i : Item) (next : IsNext before i) (its_peer : i.peer ≡ peer) (destination : ℕ) (e : Endpoint) (found : endpoint_of s destination ≡ Some e) where
+    asks_here : (r : Request) → oldest_waiting s e.local ≡ Some r → asked_address s r.asked ≡ e.address ∷ []
+    asks_here r is =
+        let pends = and_parts (is_none r.outcome) (receives_at e.local r.asked) (found_pends e.local s.requests r is) in
+        asked_there s e.local r.asked e pends.1 (λ at same. sound_named s sound at (has_address_of destination) e found same) refl
+
+    waiter_next : (o : Option Request) → AllByRecursion (λ t. IsNext before t.item × (t.item.peer ≡ peer)) (waiter_takes s i o)
+    waiter_next None = tt
+    waiter_next (Some r) = go (asked_address s r.asked)
+      where
+        go : (addresses : List ℕ) → AllByRecursion (λ t. IsNext before t.item × (t.item.peer ≡ peer)) (map (λ a. taking (Some r.serial) a i) addresses)
+        go [] = tt
+        go (a ∷ rest) = ((next, its_peer), go rest)
+
+    pub handed_row : (rd : Reading) (applies : Bool) → AllByRecursion (RowHands s peer name rd Handed) (filter is_message_taking (waiter_takes s i (oldest_waiting s e.local))) → RowDoes before s peer name rd (row applies Handed (item_handed destination i ∷ []))
+    handed_row rd applies hands = record {
+      fits = (tt, tt);
+      gives_none = refl;
+      taken = waiter_takes s i (oldest_waiting s e.local);
+      takings = ap (λ o. taken_of s (handed_in o i s.requests)) found ∙ handed_takes s e i differ;
+      next = waiter_next (oldest_waiting s e.local);
+      queue = λ b. sym (append-nil (queued_for s b));
+      comes = λ b. inl refl;
+      hands = hands;
+      requests = subst (λ o. RequestsBy s (handed_in o i s.requests) (waiter_takes s i (oldest_waiting s e.local)) s.requests_given) (sym found) (handed e.local i (waiter_takes s i (oldest_waiting s e.local)) none_waits one_waits_here);
+    }
+      where
+        none_waits : find (waits_at e.local) s.requests ≡ None → NoneBy (waiter_takes s i (oldest_waiting s e.local))
+        none_waits is k = ap (λ o. items_by k (waiter_takes s i o)) is
+
+        one_waits_here : (r : Request) → find (waits_at e.local) s.requests ≡ Some r → (k : ℕ) → items_by k (waiter_takes s i (oldest_waiting s e.local)) ≡ cond (r.serial == k) (i ∷ []) []
+        one_waits_here r is k = ap (λ o. items_by k (waiter_takes s i o)) is ∙ (ap (λ xs. items_by k (map (λ a. taking (Some r.serial) a i) xs)) (asks_here r is) ∙ items_one k r.serial e.address i)
+
   -- ---- messages
 
   module _ (source destination priority : ℕ) (content : List ℕ) (named : name ≡ Some (count_taken peer before)) where
@@ -218,55 +238,22 @@ module _ (before : List Deed) (s : DomainState) (sound : Sound s) (differ : Diff
     abbrev says_it : Reading
     says_it = says source destination (msg priority content)
 
-    waiter_next : (o : Option Request) → AllByRecursion (λ t. IsNext before t.item × (t.item.peer ≡ peer)) (waiter_takes s item o)
-    waiter_next None = tt
-    waiter_next (Some r) = go (asked_address s r.asked)
-      where
-        go : (addresses : List ℕ) → AllByRecursion (λ t. IsNext before t.item × (t.item.peer ≡ peer)) (map (λ a. taking (Some r.serial) a item) addresses)
-        go [] = tt
-        go (a ∷ rest) = ((item_next, refl), go rest)
-
     waiter_hands : (e : Endpoint) → endpoint_of s destination ≡ Some e → (o : Option Request) → oldest_waiting s e.local ≡ o → AllByRecursion (RowHands s peer name says_it Handed) (waiter_takes s item o)
     waiter_hands e found None is = tt
     waiter_hands e found (Some r) is =
-        let pends = and_parts (is_none r.outcome) (receives_at e.local r.asked) (found_pends e.local s.requests r is) in
         let address : e.address ≡ destination = own_address destination s.endpoints e found in
-        elim (asked_waits s e.local r.asked e pends.1 (λ at same. found_named at s.endpoints e sound.apart (has_address_of destination) found same)) [
-          | inl there ↦ subst (λ xs. AllByRecursion (RowHands s peer name says_it Handed) (map (λ a. taking (Some r.serial) a item) xs)) (sym (there ∙ ap (λ a. a ∷ []) address)) (
-            record {
-              nothing_queued = ap messages_of found ∙ (ap (messages_at e.channel) (sound_quiet s sound destination e found (found_any (waits_at e.local) s.requests r is)) ∙ messages_none e.channel);
-              comes = ap (λ (b : Bool). cond b (item ∷ []) []) (eq-eqb destination destination refl);
-              waits = ap (λ o. option_map (λ x. x.serial) (option_and_then (λ x. oldest_waiting s x.local) o)) found ∙ ap (λ o. option_map (λ x. x.serial) o) is;
-            },
-            tt,
-          )
-          | inr other ↦ subst (λ xs. AllByRecursion (RowHands s peer name says_it Handed) (map (λ a. taking (Some r.serial) a item) xs)) (sym (ap (asked_address s) other.1)) tt
-        ]
+        subst (λ xs. AllByRecursion (RowHands s peer name says_it Handed) (map (λ a. taking (Some r.serial) a item) xs)) (sym (asks_here item item_next refl destination e found r is ∙ ap (λ a. a ∷ []) address)) (
+          record {
+            nothing_queued = ap messages_of found ∙ (ap (messages_at e.channel) (sound_quiet s sound destination e found (found_any (waits_at e.local) s.requests r is)) ∙ messages_none e.channel);
+            comes = ap (λ (b : Bool). cond b (item ∷ []) []) (eq-eqb destination destination refl);
+            waits = ap (λ o. option_map (λ x. x.serial) (option_and_then (λ x. oldest_waiting s x.local) o)) found ∙ ap (λ o. option_map (λ x. x.serial) o) is;
+          },
+          tt,
+        )
 
-    handed_row : (e : Endpoint) → endpoint_of s destination ≡ Some e → (applies : Bool) → RowDoes before s peer name says_it (row applies Handed (item_handed destination item ∷ []))
-    handed_row e found applies = record {
-      fits = (tt, tt);
-      gives_none = refl;
-      taken = waiter_takes s item (oldest_waiting s e.local);
-      takings = ap (λ o. taken_of s (handed_in o item s.requests)) found ∙ handed_takes s e item differ;
-      next = waiter_next (oldest_waiting s e.local);
-      queue = λ b. sym (append-nil (queued_for s b));
-      comes = λ b. inl refl;
-      hands = waiter_hands e found (oldest_waiting s e.local) refl;
-      requests = subst (λ o. RequestsBy s (handed_in o item s.requests) (waiter_takes s item (oldest_waiting s e.local)) s.requests_given) (sym found) (handed e.local item (waiter_takes s item (oldest_waiting s e.local)) none_waits one_waits_here);
-    }
-      where
-        none_waits : find (waits_at e.local) s.requests ≡ None → NoneBy (waiter_takes s item (oldest_waiting s e.local))
-        none_waits is k = ap (λ o. items_by k (waiter_takes s item o)) is
-
-        one_waits_here : (r : Request) → find (waits_at e.local) s.requests ≡ Some r → FitsAsked r.asked r.outcome → (k : ℕ) → items_by k (waiter_takes s item (oldest_waiting s e.local)) ≡ cond (r.serial == k) (item ∷ []) []
-        one_waits_here r is fits k =
-            let pends = and_parts (is_none r.outcome) (receives_at e.local r.asked) (found_pends e.local s.requests r is) in
-            ap (λ o. items_by k (waiter_takes s item o)) is
-            ∙ elim (asked_waits s e.local r.asked e pends.1 (λ at same. found_named at s.endpoints e sound.apart (has_address_of destination) found same)) [
-              | inl there ↦ ap (λ xs. items_by k (map (λ a. taking (Some r.serial) a item) xs)) there ∙ items_one k r.serial e.address item
-              | inr other ↦ absurd (subst (λ a. FitsAsked a r.outcome) other.1 fits)
-            ]
+    message_handed : (e : Endpoint) → endpoint_of s destination ≡ Some e → (applies : Bool) → RowDoes before s peer name says_it (row applies Handed (item_handed destination item ∷ []))
+    message_handed e found applies =
+        handed_row item item_next refl destination e found says_it applies (all-filter (RowHands s peer name says_it Handed) is_message_taking (waiter_takes s item (oldest_waiting s e.local)) (waiter_hands e found (oldest_waiting s e.local) refl))
 
     abbrev taken_none : List Taking
     taken_none = []
@@ -298,4 +285,4 @@ module _ (before : List Deed) (s : DomainState) (sound : Sound s) (differ : Diff
       where
         at : (c : Option ChannelEnd) → e.channel ≡ c → RowDoes before s peer name says_it (first_row (message_rows s destination e c item))
         at (Some c) is = idle_row says_it true OnChannel (λ b. refl)
-        at None free = by_rows (RowDoes before s peer name says_it) (message_rows s destination e None item) ((λ on. handed_row e found (one_waits s e.local)), (λ off. queued_row e found free off))
+        at None free = by_rows (RowDoes before s peer name says_it) (message_rows s destination e None item) ((λ on. message_handed e found (one_waits s e.local)), (λ off. queued_row e found free off))

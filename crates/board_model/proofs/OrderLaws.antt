@@ -15,7 +15,7 @@ use Rattle.board_model.specs.Answer.{local, has_channel, holds, words_of, refusa
 use Rattle.board_model.specs.Change.{best_gone, changed_all}
 use Rattle.board_model.specs.CallChanges.{at_live, best_item, success_changes, call_changes}
 use Rattle.board_model.specs.Deeds.{Deed, calls, after_deed, after_deeds, MayDo, AllMayDo, along, EachDeed}
-use Rattle.board_model.specs.Takings.{Taking, taking, answered_by, completed_by, takings_by, cancelled_by}
+use Rattle.board_model.specs.Takings.{Taking, taking, is_message_taking, answered_by, completed_by, takings_by, cancelled_by}
 use Rattle.board_model.specs.MessageOrder.{Gives, GivesTaken, is_by, taken_for, standing, TakesWhatComes, TakesBest, TestTells, DeleteTells}
 use Rattle.board_model.proofs.DeedRuns.{IsNamed, AreNamed, IsDeedRun}
 use Rattle.board_model.proofs.OrderCalls.{succeeds, live_found, free_here, none_holds}
@@ -46,7 +46,7 @@ each_deed start P holds room before (d ∷ ds) stands may named few =
     let does = given_few room before (after_deeds start before) d may.0 named.0 (omega arith) stands.moment in
     let cancelled = cancels_done start before (after_deeds start before) stands.moment.serials.differ stands.moment.serials.below stands.held d may.0 in (
       holds room before d stands may.0 named.0 (omega arith),
-      each_deed start P holds (room - succeeds d) (before ++ d ∷ []) ds (stands_more room start before d (succeeds d) does.1 (omega arith) (omega (arith, stands.moment.serials.small)) (cancels_after start before d cancelled) stands does.0)
+      each_deed start P holds (room - succeeds d) (before ++ d ∷ []) ds (stands_more room start before d (succeeds d) named.0 does.1 (omega arith) (omega (arith, stands.moment.serials.small)) (cancels_after start before d cancelled) stands does.0)
           (subst (λ t. AllMayDo t ds) (sym (after_append start before (d ∷ []))) may.1) named.1 (omega arith),
     )
 
@@ -58,6 +58,7 @@ stands_open room number nodes neighbours small = record {
     serials = record { differ = tt; below = tt; small = omega arith };
     items = λ b. tt;
     apart = λ b. tt;
+    held = record { queued = tt; lent = tt; packets = tt };
   };
   gone = λ b. tt;
   queues = λ b. refl;
@@ -104,7 +105,7 @@ gives_taken s other may = tt
 takes_best : (start : DomainState) (room : ℕ) (before : List Deed) (d : Deed) → Stands room start before → MayDo (after_deeds start before) d → IsNamed before d → succeeds d ≤ room → TakesBest start before d
 takes_best start room before d stands may named few =
     let does = given_few room before (after_deeds start before) d may named few stands.moment in
-    (each (takings_by (after_deeds start before) d) does.0.takes_best, gives_taken (after_deeds start before) d may)
+    (each (filter is_message_taking (takings_by (after_deeds start before) d)) does.0.takes_best, gives_taken (after_deeds start before) d may)
   where
     one : (t : Taking) → Takes (after_deeds start before) d t → (best (λ i. i.priority) (standing start before t.address) ≡ Some t.item) ⊎ TakesWhatComes start before d t
     one t (inl is) = inl (ap (best (λ i. i.priority)) (sym (stands.queues t.address)) ∙ is)
@@ -178,7 +179,7 @@ stands_end start room before [] stands may named few = (room, subst (Stands room
 stands_end start room before (d ∷ ds) stands may named few =
     let does = given_few room before (after_deeds start before) d may.0 named.0 (omega arith) stands.moment in
     let cancelled = cancels_done start before (after_deeds start before) stands.moment.serials.differ stands.moment.serials.below stands.held d may.0 in
-    let next = stands_more room start before d (succeeds d) does.1 (omega arith) (omega (arith, stands.moment.serials.small)) (cancels_after start before d cancelled) stands does.0 in
+    let next = stands_more room start before d (succeeds d) named.0 does.1 (omega arith) (omega (arith, stands.moment.serials.small)) (cancels_after start before d cancelled) stands does.0 in
     let rest = stands_end start (room - succeeds d) (before ++ d ∷ []) ds next (subst (λ t. AllMayDo t ds) (sym (after_append start before (d ∷ []))) may.1) named.1 (omega arith) in
     (rest.0, subst (Stands rest.0 start) (append_assoc before (d ∷ []) ds) rest.1)
 

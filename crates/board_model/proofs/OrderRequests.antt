@@ -28,6 +28,9 @@ abbrev pub FitsAsked : Asked → Option Outcome → Type 0
 FitsAsked (message_at at max) None = Unit {0}
 FitsAsked (message_at at max) (Some (has_item i)) = Unit {0}
 FitsAsked (message_at at max) (Some (has_ended word)) = Unit {0}
+FitsAsked (packet_at at) None = Unit {0}
+FitsAsked (packet_at at) (Some (has_item i)) = Unit {0}
+FitsAsked (packet_at at) (Some (has_ended word)) = Unit {0}
 FitsAsked (name_of name) None = Unit {0}
 FitsAsked (name_of name) (Some (has_address a)) = Unit {0}
 FitsAsked (channel_of number) None = Unit {0}
@@ -47,7 +50,7 @@ pub data RequestsBy (s : DomainState) : List Request → List Taking → ℕ →
   given : (asked : Asked) (o : Option Outcome) (ts : List Taking) → FitsAsked asked o → ((k : ℕ) → items_by k ts ≡ cond (s.requests_given == k) (item_held o) []) →
       RequestsBy s (s.requests ++ record { serial = s.requests_given; asked = asked; outcome = o } ∷ []) ts ((s.requests_given + 1) % 2 ^ 64)
   handed : (at : Local) (i : Item) (ts : List Taking) → (find (waits_at at) s.requests ≡ None → NoneBy ts) →
-      ((r : Request) → find (waits_at at) s.requests ≡ Some r → FitsAsked r.asked r.outcome → (k : ℕ) → items_by k ts ≡ cond (r.serial == k) (i ∷ []) []) →
+      ((r : Request) → find (waits_at at) s.requests ≡ Some r → (k : ℕ) → items_by k ts ≡ cond (r.serial == k) (i ∷ []) []) →
       RequestsBy s (changed_first (waits_at at) (done_with (has_item i)) s.requests) ts s.requests_given
 
 -- what was taken so far by serials, what each request holds, and that later serials took nothing
@@ -130,10 +133,10 @@ below_holds took n ts is items (r ∷ rs) below all = (
 
 -- ---- a request that is handed an item
 
-handed_holds : (took : Took) (p : Request → Bool) (i : Item) (ts : List Taking) (r : Request) → ((k : ℕ) → items_by k ts ≡ cond (r.serial == k) (i ∷ []) []) → r.outcome ≡ None → (at : Local) (max : ℕ) → r.asked ≡ message_at at max →
+handed_holds : (took : Took) (p : Request → Bool) (i : Item) (ts : List Taking) (r : Request) → ((k : ℕ) → items_by k ts ≡ cond (r.serial == k) (i ∷ []) []) → r.outcome ≡ None → FitsAsked r.asked (Some (has_item i)) →
     (rs : List Request) → find p rs ≡ Some r → Differ rs → AllByRecursion (Holds took) rs → AllByRecursion (Holds (taken_more took ts)) (changed_first p (done_with (has_item i)) rs)
-handed_holds took p i ts r items pending at max asked [] found differ all = absurd cc
-handed_holds took p i ts r items pending at max asked (x ∷ xs) found differ all = go (p x) found (λ k. handed_holds took p i ts r items pending at max asked xs k differ.1 all.1) (λ k. found_other p xs r k differ.0)
+handed_holds took p i ts r items pending fits [] found differ all = absurd cc
+handed_holds took p i ts r items pending fits (x ∷ xs) found differ all = go (p x) found (λ k. handed_holds took p i ts r items pending fits xs k differ.1 all.1) (λ k. found_other p xs r k differ.0)
   where
     found_other : (p : Request → Bool) (qs : List Request) (q : Request) → find p qs ≡ Some q → AllByRecursion (IsOther x.serial) qs → (q.serial == x.serial) ≡ false
     found_other p [] q k away = absurd cc
@@ -152,7 +155,7 @@ handed_holds took p i ts r items pending at max asked (x ∷ xs) found differ al
     here : Holds took r → Holds (taken_more took ts) (done_with (has_item i) r)
     here h = record {
       items = ap₂ (λ a b. a ++ b) (h.items ∙ ap item_held pending) (items r.serial ∙ ap (λ (b : Bool). cond b (i ∷ []) []) (eq-eqb r.serial r.serial refl));
-      fits = subst (λ a. FitsAsked a (Some (has_item i))) (sym asked) tt;
+      fits = fits;
     }
 
     go : (b : Bool) → cond b (Some x) (find p xs) ≡ Some r → (find p xs ≡ Some r → AllByRecursion (Holds (taken_more took ts)) (changed_first p (done_with (has_item i)) xs)) → (find p xs ≡ Some r → (r.serial == x.serial) ≡ false) →
@@ -176,12 +179,18 @@ found_both P p (x ∷ xs) r found all = elim (cases_Bool (p x)) [
   | inr off ↦ found_both P p xs r (sym (ap (λ (b : Bool). cond b (Some x) (find p xs)) off) ∙ found) all.1
 ]
 
--- a receive that waits is one for a message
-message_asked : (l : Local) (asked : Asked) (o : Option Outcome) → receives_at l asked ≡ true → FitsAsked asked o → (at : Local) × (max : ℕ) × (asked ≡ message_at at max)
-message_asked l (message_at at max) o waits fits = (at, max, refl)
-message_asked l (packet_at at) o waits fits = absurd fits
-message_asked l (name_of n) o waits fits = absurd cc
-message_asked l (channel_of n) o waits fits = absurd cc
+-- a receive may be complete with an item, and may end with a word
+item_fits : (l : Local) (asked : Asked) (i : Item) → receives_at l asked ≡ true → FitsAsked asked (Some (has_item i))
+item_fits l (message_at at max) i waits = tt
+item_fits l (packet_at at) i waits = tt
+item_fits l (name_of n) i waits = absurd cc
+item_fits l (channel_of n) i waits = absurd cc
+
+word_fits : (l : Local) (asked : Asked) (w : Refusal) → receives_at l asked ≡ true → FitsAsked asked (Some (has_ended w))
+word_fits l (message_at at max) w waits = tt
+word_fits l (packet_at at) w waits = tt
+word_fits l (name_of n) w waits = absurd cc
+word_fits l (channel_of n) w waits = absurd cc
 
 first_none : (p : Request → Bool) (f : Request → Request) (rs : List Request) → find p rs ≡ None → changed_first p f rs ≡ rs
 first_none p f [] none = refl
@@ -234,11 +243,9 @@ module _ (took : Took) (s : DomainState) (differ : Differ s.requests) (below : B
           let h = found_both (Holds took) (waits_at at) s.requests r is held.each in
           let low = found_both (λ q. q.serial < s.requests_given) (waits_at at) s.requests r is below in
           let parts = and_parts (is_none r.outcome) (receives_at at r.asked) h.1 in
-          let fits : FitsAsked r.asked r.outcome = h.0.fits in
-          let asks = message_asked at r.asked r.outcome parts.1 fits in
           record {
-            each = handed_holds took (waits_at at) i ts r (one r is fits) (none_is r.outcome parts.0) asks.0 asks.1 asks.2 s.requests is differ held.each;
-            fresh = λ k le. ap₂ (λ a b. a ++ b) (held.fresh k le) (one r is fits k ∙ ap (λ (b : Bool). cond b (i ∷ []) []) (ne_eqb r.serial k (λ same. let l : r.serial < s.requests_given = low.0 in absurd (omega (arith, le, same, l)))));
+            each = handed_holds took (waits_at at) i ts r (one r is) (none_is r.outcome parts.0) (item_fits at r.asked i parts.1) s.requests is differ held.each;
+            fresh = λ k le. ap₂ (λ a b. a ++ b) (held.fresh k le) (one r is k ∙ ap (λ (b : Bool). cond b (i ∷ []) []) (ne_eqb r.serial k (λ same. let l : r.serial < s.requests_given = low.0 in absurd (omega (arith, le, same, l)))));
           }
 
   -- a serial that is done stays so
@@ -261,9 +268,8 @@ module _ (took : Took) (s : DomainState) (differ : Differ s.requests) (below : B
       go : (o : Option Request) → find (waits_at at) s.requests ≡ o → IsDone (taken_more took ts) (changed_first (waits_at at) (done_with (has_item i)) s.requests) s.requests_given k
       go None is = record { nothing = more_none took ts (none is) k ∙ done.nothing; low = done.low; away = away }
       go (Some r) is =
-          let h = found_both (Holds took) (waits_at at) s.requests r is held.each in
           let other = found_both (IsOther k) (waits_at at) s.requests r is done.away in
-          record { nothing = ap₂ (λ a b. a ++ b) done.nothing (one r is h.0.fits k ∙ ap (λ (b : Bool). cond b (i ∷ []) []) other.0); low = done.low; away = away }
+          record { nothing = ap₂ (λ a b. a ++ b) done.nothing (one r is k ∙ ap (λ (b : Bool). cond b (i ∷ []) []) other.0); low = done.low; away = away }
 
 -- ---- what deeds do to requests
 
@@ -316,8 +322,7 @@ ended_turns l w r fits = go (waits_at l r) refl
     go : (b : Bool) → waits_at l r ≡ b → Turns r (cond b (done_with (has_ended w) r) r)
     go true is =
         let parts = and_parts (is_none r.outcome) (receives_at l r.asked) is in
-        let asks = message_asked l r.asked r.outcome parts.1 fits in
-        inr (has_ended w, refl, none_is r.outcome parts.0, refl, subst (λ a. FitsAsked a (Some (has_ended w))) (sym asks.2) tt)
+        inr (has_ended w, refl, none_is r.outcome parts.0, refl, word_fits l r.asked w parts.1)
     go false is = inl refl
 
 pub ended_by : (s : DomainState) (o : Option Endpoint) (w : Refusal) → RequestsBy s (ended_in o w s.requests) [] s.requests_given

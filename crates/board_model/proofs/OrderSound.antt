@@ -1,17 +1,18 @@
 -- The names and addresses of endpoints are apart, and where a receive waits the queue is empty. Messages are queued at endpoints
--- without a channel; at one with a channel, only what came on it, and no receive waits.
-use Rattle.std.proofs.Common.{◌≡◌, ℕ, zero, suc, ◌+◌, ◌≤◌, Bool, true, false, cond, List, [], ◌∷◌, ◌++◌, map, filter, find, Option, Some, None, refl, sym, ap, ◌∙◌, subst, arith}
-use Rattle.std.specs.Prelude.{◌&&◌, ◌||◌, is_none, is_some}
+-- without a channel; at one with a channel, only what came on it.
+use Rattle.std.proofs.Common.{◌≡◌, ℕ, zero, suc, ◌+◌, ◌≤◌, Bool, true, false, cond, List, [], ◌∷◌, ◌++◌, map, filter, find, drop, Option, Some, None, refl, sym, ap, ◌∙◌, subst, arith}
+use Rattle.std.specs.Prelude.{◌&&◌, ◌||◌, ◌==◌, is_none, is_some}
 use Rattle.std.specs.List.{AllByRecursion, list_any}
-use Rattle.std.proofs.lemmas.Bool.{eqb-true, eq-eqb, ne_eqb, cond_both}
+use Rattle.std.proofs.lemmas.Bool.{eqb-true, eq-eqb, ne_eqb, cond_both, and_parts}
 use Rattle.mc_base.specs.Limits.{first_address}
 use Rattle.mc_base.specs.declared.name.Local.{Local}
 use Rattle.mc_base.specs.declared.channel.Side.TheVariants.{Sender}
 use Rattle.board_model.specs.Lists.{changed_first, without, without_at}
 use Rattle.board_model.specs.Choice.{best_place, without_best}
 use Rattle.board_model.specs.State.{Item, ChannelEnd, Endpoint, Asked, Outcome, has_address, Request, DomainState, is_at, has_address_of, live_at, endpoint_of, receives_at, waits_at}
-use Rattle.board_model.specs.Change.{Change, endpoint_made, endpoint_gone, item_queued, best_gone, channel_set, queue_dropped, request_added, item_handed, waiting_ended, name_found, connect_settled, request_gone, done_with, all_done, handed_in, ended_in, with_queue, with_channel, without_queue, endpoint_with, at_address, asks_for, connects_on, changed, changed_all}
+use Rattle.board_model.specs.Change.{Change, endpoint_made, endpoint_gone, item_queued, best_gone, oldest_gone, channel_set, queue_dropped, request_added, item_handed, waiting_ended, name_found, connect_settled, request_gone, done_with, all_done, handed_in, ended_in, with_queue, with_channel, without_queue, endpoint_with, at_address, asks_for, connects_on, changed, changed_all}
 use Rattle.board_model.specs.ChannelEnds.{same_side, is_closed}
+use Rattle.board_model.specs.Channels.{is_numbered, is_of_channel}
 use Rattle.board_model.proofs.MessageAlls.{all-append, all-without}
 
 -- ---- every endpoint
@@ -187,59 +188,67 @@ is_mute c = same_side c.side Sender || is_closed c.stage
 abbrev pub IsMessage : Item → Type 0
 IsMessage i = is_none i.channel ≡ true
 
-abbrev pub OnSome : Item → Type 0
-OnSome i = is_none i.channel ≡ false
+abbrev pub CameOn : ChannelEnd → Item → Type 0
+CameOn c i = is_of_channel c.owner c.number i ≡ true
 
--- what is queued at an endpoint of this name with this queue, by its channel
-abbrev pub Bound : List Request → Local → List Item → Option ChannelEnd → Type 0
-Bound rs at q None = AllByRecursion IsMessage q
-Bound rs at q (Some c) = (Waits at rs → ⊥) × ((is_mute c ≡ true → q ≡ []) × AllByRecursion OnSome q)
+-- it is no message
+pub came-no-message : (c : ChannelEnd) (i : Item) → CameOn c i → is_none i.channel ≡ false
+came-no-message c i came = go i.channel (and_parts (i.peer == c.owner) (is_numbered c.number i.channel) came).1
+  where
+    go : (n : Option ℕ) → is_numbered c.number n ≡ true → is_none n ≡ false
+    go None is = absurd cc
+    go (Some n) is = refl
 
-abbrev pub IsBound : List Request → Endpoint → Type 0
-IsBound rs e = Bound rs e.local e.queue e.channel
+-- what is queued, by the channel there
+abbrev pub Bound : List Item → Option ChannelEnd → Type 0
+Bound q None = AllByRecursion IsMessage q
+Bound q (Some c) = (is_mute c ≡ true → q ≡ []) × AllByRecursion (CameOn c) q
 
--- where nothing is queued and none waits there may be any channel, or none
-pub bound_empty : (rs : List Request) (at : Local) (q : List Item) → q ≡ [] → (Waits at rs → ⊥) → (c : Option ChannelEnd) → Bound rs at q c
-bound_empty rs at q none quiet None = subst (AllByRecursion IsMessage) (sym none) tt
-bound_empty rs at q none quiet (Some c) = (quiet, ((λ m. none), subst (AllByRecursion OnSome) (sym none) tt))
+abbrev pub IsBound : Endpoint → Type 0
+IsBound e = Bound e.queue e.channel
 
--- where the other end is as mute
-pub bound_other : (rs : List Request) (at : Local) (q : List Item) (c d : ChannelEnd) → (is_mute d ≡ true → is_mute c ≡ true) → Bound rs at q (Some c) → Bound rs at q (Some d)
-bound_other rs at q c d mute bound = (bound.0, ((λ m. bound.1.0 (mute m)), bound.1.1))
+-- where nothing is queued there may be any channel, or none
+pub bound_empty : (q : List Item) → q ≡ [] → (c : Option ChannelEnd) → Bound q c
+bound_empty q none None = subst (AllByRecursion IsMessage) (sym none) tt
+bound_empty q none (Some c) = ((λ m. none), subst (AllByRecursion (CameOn c)) (sym none) tt)
 
-bound_fewer : (rs qs : List Request) (at : Local) (q : List Item) → (Waits at qs → Waits at rs) → (c : Option ChannelEnd) → Bound rs at q c → Bound qs at q c
-bound_fewer rs qs at q fewer None bound = bound
-bound_fewer rs qs at q fewer (Some c) bound = ((λ w. bound.0 (fewer w)), bound.1)
+-- another end of the same channel, where it is mute only if the first is
+pub bound_other : (q : List Item) (c d : ChannelEnd) → d.owner ≡ c.owner → d.number ≡ c.number → (is_mute d ≡ true → is_mute c ≡ true) → Bound q (Some c) → Bound q (Some d)
+bound_other q c d owner number mute bound = ((λ m. bound.0 (mute m)), subst (λ k. AllByRecursion (λ i. is_of_channel k d.number i ≡ true) q) (sym owner) (subst (λ k. AllByRecursion (λ i. is_of_channel c.owner k i ≡ true) q) (sym number) bound.1))
 
 -- an item that may be queued where there is this channel or none
 abbrev pub FitsEnd : Item → Option ChannelEnd → Type 0
 FitsEnd i None = IsMessage i
-FitsEnd i (Some c) = (is_mute c ≡ false) × OnSome i
+FitsEnd i (Some c) = (is_mute c ≡ false) × CameOn c i
 
-bound_more : (rs : List Request) (at : Local) (q : List Item) (i : Item) (c : Option ChannelEnd) → FitsEnd i c → Bound rs at q c → Bound rs at (q ++ i ∷ []) c
-bound_more rs at q i None fits bound = all-append IsMessage q (i ∷ []) bound (fits, tt)
-bound_more rs at q i (Some c) fits bound = (bound.0, ((λ m. let loud : is_mute c ≡ false = fits.0 in absurd cc), all-append OnSome q (i ∷ []) bound.1.1 (fits.1, tt)))
+bound_more : (q : List Item) (i : Item) (c : Option ChannelEnd) → FitsEnd i c → Bound q c → Bound (q ++ i ∷ []) c
+bound_more q i None fits bound = all-append IsMessage q (i ∷ []) bound (fits, tt)
+bound_more q i (Some c) fits bound = ((λ m. let loud : is_mute c ≡ false = fits.0 in absurd cc), all-append (CameOn c) q (i ∷ []) bound.1 (fits.1, tt))
 
-bound_best : (rs : List Request) (at : Local) (q : List Item) (c : Option ChannelEnd) → Bound rs at q c → Bound rs at (without_best (λ i. i.priority) q) c
-bound_best rs at q None bound = all-without IsMessage (best_place (λ i. i.priority) q) q bound
-bound_best rs at q (Some c) bound = (bound.0, ((λ m. ap (without_best (λ i. i.priority)) (bound.1.0 m)), all-without OnSome (best_place (λ i. i.priority) q) q bound.1.1))
+bound_best : (q : List Item) (c : Option ChannelEnd) → Bound q c → Bound (without_best (λ i. i.priority) q) c
+bound_best q None bound = all-without IsMessage (best_place (λ i. i.priority) q) q bound
+bound_best q (Some c) bound = ((λ m. ap (without_best (λ i. i.priority)) (bound.0 m)), all-without (CameOn c) (best_place (λ i. i.priority) q) q bound.1)
+
+bound_rest : (q : List Item) (c : Option ChannelEnd) → Bound q c → Bound (drop 1 q) c
+bound_rest [] c bound = bound
+bound_rest (i ∷ q) None bound = bound.1
+bound_rest (i ∷ q) (Some c) bound = ((λ m. ap (drop 1) (bound.0 m)), bound.1.1)
 
 pub record Sound (s : DomainState) : Type 0 where
   pub rise : Rise first_address s.endpoints (first_address + s.endpoints_given)
   pub apart : Apart s.endpoints
   pub quiet : AllByRecursion (Quiet s.requests) s.endpoints
-  pub bound : AllByRecursion (IsBound s.requests) s.endpoints
+  pub bound : AllByRecursion IsBound s.endpoints
 
 -- one that is asked so, and complete or not, may wait at the endpoint
 abbrev pub MayAsk : Asked → Option Outcome → Endpoint → Type 0
-MayAsk asked o e = is_none o && receives_at e.local asked ≡ true → (e.queue ≡ []) × (e.channel ≡ None)
+MayAsk asked o e = is_none o && receives_at e.local asked ≡ true → e.queue ≡ []
 
 -- what is asked where a change comes
 abbrev pub FitsSound : DomainState → Change → Type 0
 FitsSound s (endpoint_made at) = is_some (live_at s at) ≡ false
 FitsSound s (item_queued a i) = (e : Endpoint) → endpoint_of s a ≡ Some e → (Waits e.local s.requests → ⊥) × FitsEnd i e.channel
-FitsSound s (channel_set a c) = (e : Endpoint) → endpoint_of s a ≡ Some e → Bound s.requests e.local e.queue c
-FitsSound s (queue_dropped a c) = (e : Endpoint) → endpoint_of s a ≡ Some e → Waits e.local s.requests → ⊥
+FitsSound s (channel_set a c) = (e : Endpoint) → endpoint_of s a ≡ Some e → Bound e.queue c
 FitsSound s (request_added asked o) = AllByRecursion (MayAsk asked o) s.endpoints
 FitsSound s other = Unit {0}
 
@@ -261,34 +270,22 @@ module _ (s : DomainState) (asked : Asked) (o : Option Outcome) where
   one_quiet e q here w = go (is_none o && receives_at e.local asked) refl
     where
       go : (b : Bool) → (is_none o && receives_at e.local asked) ≡ b → e.queue ≡ []
-      go true is = (here is).0
+      go true is = here is
       go false is = q (last_waits e.local s.requests (record { serial = s.requests_given; asked = asked; outcome = o }) w is)
 
   quiets : (es : List Endpoint) → AllByRecursion (Quiet s.requests) es → AllByRecursion (MayAsk asked o) es → AllByRecursion (Quiet one_more) es
   quiets [] a b = tt
   quiets (e ∷ es) a b = (one_quiet e a.0 b.0, quiets es a.1 b.1)
 
-  one_bound : (e : Endpoint) (c : Option ChannelEnd) → e.channel ≡ c → MayAsk asked o e → Bound s.requests e.local e.queue c → Bound one_more e.local e.queue c
-  one_bound e None is here bound = bound
-  one_bound e (Some c) is here bound = ((λ w. go (is_none o && receives_at e.local asked) refl w), bound.1)
-    where
-      go : (b : Bool) → (is_none o && receives_at e.local asked) ≡ b → Waits e.local one_more → ⊥
-      go true same w = let none : e.channel ≡ None = (here same).1 in absurd cc
-      go false same w = bound.0 (last_waits e.local s.requests (record { serial = s.requests_given; asked = asked; outcome = o }) w same)
-
-  bounds : (es : List Endpoint) → AllByRecursion (IsBound s.requests) es → AllByRecursion (MayAsk asked o) es → AllByRecursion (IsBound one_more) es
-  bounds [] a b = tt
-  bounds (e ∷ es) a b = (one_bound e e.channel refl b.0 a.0, bounds es a.1 b.1)
-
 module _ (s : DomainState) (sound : Sound s) where
   -- an endpoint changes, and keeps its name and address
   one_sound : (a : ℕ) (f : Endpoint → Endpoint) → ((e : Endpoint) → (f e).address ≡ e.address) → ((e : Endpoint) → (f e).local ≡ e.local) →
-      ((e : Endpoint) → endpoint_of s a ≡ Some e → Quiet s.requests e → Quiet s.requests (f e)) → ((e : Endpoint) → endpoint_of s a ≡ Some e → IsBound s.requests e → IsBound s.requests (f e)) → Sound (record s { endpoints = at_address a f s.endpoints })
+      ((e : Endpoint) → endpoint_of s a ≡ Some e → Quiet s.requests e → Quiet s.requests (f e)) → ((e : Endpoint) → endpoint_of s a ≡ Some e → IsBound e → IsBound (f e)) → Sound (record s { endpoints = at_address a f s.endpoints })
   one_sound a f address name quiet bound = record {
     rise = rise_changed (has_address_of a) f address first_address (first_address + s.endpoints_given) s.endpoints sound.rise;
     apart = apart_changed (has_address_of a) f name s.endpoints sound.apart;
     quiet = all_changed (Quiet s.requests) (Quiet s.requests) (has_address_of a) f (λ e q. q) s.endpoints quiet sound.quiet;
-    bound = all_changed (IsBound s.requests) (IsBound s.requests) (has_address_of a) f (λ e q. q) s.endpoints bound sound.bound;
+    bound = all_changed IsBound IsBound (has_address_of a) f (λ e q. q) s.endpoints bound sound.bound;
   }
 
   -- fewer wait
@@ -297,7 +294,7 @@ module _ (s : DomainState) (sound : Sound s) where
     rise = subst (λ es. Rise first_address es (first_address + (changed s c).endpoints_given)) (sym same) (subst (λ n. Rise first_address s.endpoints (first_address + n)) (sym given) sound.rise);
     apart = subst Apart (sym same) sound.apart;
     quiet = subst (AllByRecursion (Quiet (changed s c).requests)) (sym same) (all_weaker (Quiet s.requests) (Quiet (changed s c).requests) (λ e q k. q (fewer e.local k)) s.endpoints sound.quiet);
-    bound = subst (AllByRecursion (IsBound (changed s c).requests)) (sym same) (all_weaker (IsBound s.requests) (IsBound (changed s c).requests) (λ e b. bound_fewer s.requests (changed s c).requests e.local e.queue (fewer e.local) e.channel b) s.endpoints sound.bound);
+    bound = subst (AllByRecursion IsBound) (sym same) sound.bound;
   }
 
   pub sound_change : (c : Change) → FitsSound s c → Sound (changed s c)
@@ -305,27 +302,30 @@ module _ (s : DomainState) (sound : Sound s) where
     rise = let next : first_address + s.endpoints_given + 1 ≡ first_address + (s.endpoints_given + 1) = omega arith in subst (Rise first_address (s.endpoints ++ endpoint_with s at ∷ [])) next (rise_more first_address (first_address + s.endpoints_given) s.endpoints (endpoint_with s at) refl sound.rise);
     apart = apart_more s.endpoints _ sound.apart (none_named at s.endpoints fits);
     quiet = all_more (Quiet s.requests) s.endpoints _ sound.quiet (λ w. refl);
-    bound = all_more (IsBound s.requests) s.endpoints _ sound.bound tt;
+    bound = all_more IsBound s.endpoints _ sound.bound tt;
   }
   sound_change (endpoint_gone a) fits = record {
     rise = rise_fewer _ first_address (first_address + s.endpoints_given) s.endpoints sound.rise;
     apart = apart_fewer _ s.endpoints sound.apart;
     quiet = all_kept (Quiet s.requests) _ s.endpoints sound.quiet;
-    bound = all_kept (IsBound s.requests) _ s.endpoints sound.bound;
+    bound = all_kept IsBound _ s.endpoints sound.bound;
   }
   sound_change (item_queued a i) fits =
-      let k = one_sound a (with_queue (λ q. q ++ i ∷ [])) (λ e. refl) (λ e. refl) (λ e is q w. absurd ((fits e is).0 w)) (λ e is b. bound_more s.requests e.local e.queue i e.channel (fits e is).1 b) in
+      let k = one_sound a (with_queue (λ q. q ++ i ∷ [])) (λ e. refl) (λ e. refl) (λ e is q w. absurd ((fits e is).0 w)) (λ e is b. bound_more e.queue i e.channel (fits e is).1 b) in
       record { rise = k.rise; apart = k.apart; quiet = k.quiet; bound = k.bound }
   sound_change (best_gone a) fits =
-      let k = one_sound a (with_queue (without_best (λ i. i.priority))) (λ e. refl) (λ e. refl) (λ e is q w. ap (without_best (λ i. i.priority)) (q w)) (λ e is b. bound_best s.requests e.local e.queue e.channel b) in
+      let k = one_sound a (with_queue (without_best (λ i. i.priority))) (λ e. refl) (λ e. refl) (λ e is q w. ap (without_best (λ i. i.priority)) (q w)) (λ e is b. bound_best e.queue e.channel b) in
+      record { rise = k.rise; apart = k.apart; quiet = k.quiet; bound = k.bound }
+  sound_change (oldest_gone a) fits =
+      let k = one_sound a (with_queue (drop 1)) (λ e. refl) (λ e. refl) (λ e is q w. ap (drop 1) (q w)) (λ e is b. bound_rest e.queue e.channel b) in
       record { rise = k.rise; apart = k.apart; quiet = k.quiet; bound = k.bound }
   sound_change (channel_set a c) fits =
       let k = one_sound a (with_channel c) (λ e. refl) (λ e. refl) (λ e is q w. q w) (λ e is b. fits e is) in
       record { rise = k.rise; apart = k.apart; quiet = k.quiet; bound = k.bound }
   sound_change (queue_dropped a c) fits =
-      let k = one_sound a (without_queue c) (λ e. refl) (λ e. refl) (λ e is q w. refl) (λ e is b. bound_empty s.requests e.local [] refl (fits e is) c) in
+      let k = one_sound a (without_queue c) (λ e. refl) (λ e. refl) (λ e is q w. refl) (λ e is b. bound_empty [] refl c) in
       record { rise = k.rise; apart = k.apart; quiet = k.quiet; bound = k.bound }
-  sound_change (request_added asked o) fits = record { rise = sound.rise; apart = sound.apart; quiet = quiets s asked o s.endpoints sound.quiet fits; bound = bounds s asked o s.endpoints sound.bound fits }
+  sound_change (request_added asked o) fits = record { rise = sound.rise; apart = sound.apart; quiet = quiets s asked o s.endpoints sound.quiet fits; bound = sound.bound }
   sound_change (item_handed a i) fits = fewer_sound (item_handed a i) (λ at. handed_waits at (endpoint_of s a) i s.requests) refl refl
   sound_change (waiting_ended a w) fits = fewer_sound (waiting_ended a w) (λ at. ended_waits at (endpoint_of s a) w s.requests) refl refl
   sound_change (name_found n a) fits = fewer_sound (name_found n a) (λ at. mapped_waits at (all_done (asks_for n) (has_address a)) (λ r k. done_waits at _ _ r k) s.requests) refl refl
@@ -342,8 +342,39 @@ module _ (s : DomainState) (sound : Sound s) where
   sound_quiet a e is w = found_all (Quiet s.requests) (has_address_of a) s.endpoints e sound.quiet is w
 
   -- what an endpoint's channel says of it
-  pub sound_bound : (p : Endpoint → Bool) (e : Endpoint) → find p s.endpoints ≡ Some e → IsBound s.requests e
-  sound_bound p e is = found_all (IsBound s.requests) p s.endpoints e sound.bound is
+  pub sound_bound : (p : Endpoint → Bool) (e : Endpoint) → find p s.endpoints ≡ Some e → IsBound e
+  sound_bound p e is = found_all IsBound p s.endpoints e sound.bound is
+
+-- an endpoint with this name is the one that the name finds
+found_named : (at : Local) (es : List Endpoint) (e : Endpoint) → Apart es → (p : Endpoint → Bool) → find p es ≡ Some e → is_at at e ≡ true → find (is_at at) es ≡ Some e
+found_named at [] e apart p found same = absurd cc
+found_named at (x ∷ xs) e apart p found same = go (p x) found (λ k. found_named at xs e apart.1 p k same) (λ k. found_all (λ f. is_at x.local f ≡ false) p xs e apart.0 k)
+  where
+    away : is_at x.local e ≡ false → is_at at x ≡ false
+    away other = grind (arith, eqb-true, eq-eqb, same, other)
+
+    go : (b : Bool) → cond b (Some x) (find p xs) ≡ Some e → (find p xs ≡ Some e → find (is_at at) xs ≡ Some e) → (find p xs ≡ Some e → is_at x.local e ≡ false) → cond (is_at at x) (Some x) (find (is_at at) xs) ≡ Some e
+    go true k later other = let is : x ≡ e = cc in ap (λ (b : Bool). cond b (Some x) (find (is_at at) xs)) (subst (λ y. is_at at y ≡ true) (sym is) same) ∙ ap (λ y. Some y) is
+    go false k later other = ap (λ (b : Bool). cond b (Some x) (find (is_at at) xs)) (away (other k)) ∙ later k
+
+pub sound_named : (s : DomainState) → Sound s → (at : Local) (p : Endpoint → Bool) (e : Endpoint) → find p s.endpoints ≡ Some e → is_at at e ≡ true → live_at s at ≡ Some e
+sound_named s sound at p e found same = found_named at s.endpoints e sound.apart p found same
+
+-- where a name is that of an endpoint, whatever holds of that one holds of all with the name
+pub only_at : (P : Endpoint → Type 0) (at : Local) (es : List Endpoint) (e : Endpoint) → Apart es → find (is_at at) es ≡ Some e → P e → AllByRecursion (λ f. is_at at f ≡ true → P f) es
+only_at P at [] e apart found holds = tt
+only_at P at (x ∷ xs) e apart found holds = go (is_at at x) refl found (λ k. only_at P at xs e apart.1 k holds)
+  where
+    away : (f : Endpoint) → is_at at x ≡ true → is_at x.local f ≡ false → is_at at f ≡ true → ⊥
+    away f here other there = grind (arith, eqb-true, eq-eqb, here, other, there)
+
+    others : is_at at x ≡ true → (fs : List Endpoint) → AllByRecursion (λ f. is_at x.local f ≡ false) fs → AllByRecursion (λ f. is_at at f ≡ true → P f) fs
+    others here [] all = tt
+    others here (f ∷ fs) all = ((λ there. absurd (away f here all.0 there)), others here fs all.1)
+
+    go : (b : Bool) → is_at at x ≡ b → cond b (Some x) (find (is_at at) xs) ≡ Some e → (find (is_at at) xs ≡ Some e → AllByRecursion (λ f. is_at at f ≡ true → P f) xs) → (is_at at x ≡ true → P x) × AllByRecursion (λ f. is_at at f ≡ true → P f) xs
+    go true here k later = let same : x ≡ e = cc in ((λ there. subst P (sym same) holds), others here xs apart.0)
+    go false here k later = ((λ there. absurd cc), later k)
 
 abbrev pub FitAllSound : DomainState → List Change → Type 0
 FitAllSound s [] = Unit {0}
