@@ -1,5 +1,5 @@
 -- How many of the messages that are queued at the endpoints of a domain pass a test, change by change.
-use Rattle.std.proofs.Common.{◌≡◌, ℕ, ◌+◌, ◌≤◌, ◌<◌, Bool, true, false, not, cond, List, [], ◌∷◌, ◌++◌, map, filter, find, Option, Some, None, option_to_list, refl, sym, ap, ◌∙◌, subst, arith}
+use Rattle.std.proofs.Common.{◌≡◌, ℕ, ◌+◌, ◌≤◌, ◌<◌, Bool, true, false, not, cond, List, [], ◌∷◌, ◌++◌, map, filter, drop, find, Option, Some, None, option_to_list, refl, sym, ap, ◌∙◌, subst, arith}
 use Rattle.std.specs.Prelude.{count_by, ◌==◌, ◌&&◌}
 use Rattle.std.specs.List.{AllByRecursion, flat_map}
 use Rattle.std.proofs.lemmas.Bool.{eqb-true, ne_eqb}
@@ -9,10 +9,15 @@ use Rattle.board_model.specs.State.{Item, ChannelEnd, Endpoint, has_address_of}
 use Rattle.board_model.specs.Change.{with_queue, with_channel, without_queue, at_address}
 use Rattle.board_model.specs.CallChanges.{best_item}
 use Rattle.board_model.specs.Messages.{Message, message_of, is_message_item, queued_at}
-use Rattle.board_model.specs.Takings.{Taking, taken_message}
+use Rattle.board_model.specs.Takings.{Taking, taking, is_message_taking, taken_message}
 use Rattle.board_model.proofs.ListsCounts.{one_if, count-cons, count-append}
+use Rattle.board_model.proofs.MessageAlls.{all-drop}
 use Rattle.board_model.proofs.MessageBest.{count-best}
-use Rattle.board_model.proofs.OrderSound.{Rise, IsMessage, OnSome}
+use Rattle.board_model.proofs.OrderSound.{Rise}
+
+-- an item that came on a channel
+abbrev pub OnSome : Item → Type 0
+OnSome i = is_message_item i ≡ false
 
 module _ (r : ℕ) (test : Message → Bool) where
   -- of the queues of endpoints, and of one
@@ -24,7 +29,7 @@ module _ (r : ℕ) (test : Message → Bool) where
 
   -- of what is taken
   abbrev pub took : List Taking → ℕ
-  took ts = count_by test (map (taken_message r) ts)
+  took ts = count_by test (map (taken_message r) (filter is_message_taking ts))
 
   -- an item is a message that passes
   abbrev pub passes : ℕ → Item → Bool
@@ -39,11 +44,14 @@ module _ (r : ℕ) (test : Message → Bool) where
       go true is more = omega (arith, count-cons test (message_of r a i) (map (message_of r a) (filter is_message_item q)), count-cons (passes a) i q, more, ap (λ b. one_if (b && test (message_of r a i))) is)
       go false is more = omega (arith, count-cons (passes a) i q, more, ap (λ b. one_if (b && test (message_of r a i))) is)
 
-  pub passes-message : (a : ℕ) (q : List Item) → AllByRecursion IsMessage q → count_by test (map (message_of r a) q) ≡ count_by (passes a) q
-  passes-message a [] all = refl
-  passes-message a (i ∷ q) all =
-      let is : is_message_item i ≡ true = all.0 in
-      omega (arith, count-cons test (message_of r a i) (map (message_of r a) q), count-cons (passes a) i q, passes-message a q all.1, ap (λ b. one_if (b && test (message_of r a i))) is)
+  -- what is taken of an item
+  pub took-item : (request : Option ℕ) (a : ℕ) (o : Option Item) → took (map (taking request a) (option_to_list o)) ≡ count_by (passes a) (option_to_list o)
+  took-item request a None = refl
+  took-item request a (Some i) = go (is_message_item i) refl
+    where
+      go : (b : Bool) → is_message_item i ≡ b → count_by test (map (taken_message r) (cond b (taking request a i ∷ []) [])) ≡ count_by (passes a) (i ∷ [])
+      go true is = omega (arith, count-cons test (message_of r a i) [], count-cons (passes a) i [], ap (λ b. one_if (b && test (message_of r a i))) is)
+      go false is = omega (arith, count-cons (passes a) i [], ap (λ b. one_if (b && test (message_of r a i))) is)
 
   none-passes-here : (a : ℕ) (q : List Item) → AllByRecursion OnSome q → count_by (passes a) q ≡ 0
   none-passes-here a [] all = refl
@@ -86,6 +94,16 @@ module _ (r : ℕ) (test : Message → Bool) where
     where
       one : (x : Endpoint) → find (has_address_of a) es ≡ Some x → e ≡ x
       one x is = let both : Some e ≡ Some x = sym found ∙ is in cc
+
+  -- what came on a channel goes, the oldest first
+  pub weight-oldest : (a : ℕ) (e : Endpoint) (es : List Endpoint) → find (has_address_of a) es ≡ Some e → AllByRecursion OnSome e.queue → weight (at_address a (with_queue (drop 1)) es) ≡ weight es
+  weight-oldest a e es found all = weight-same (has_address_of a) (with_queue (drop 1)) es (λ x is. let same : e ≡ x = one x is in subst (λ (y : Endpoint). weight_of (with_queue (drop 1) y) ≡ weight_of y) same here)
+    where
+      one : (x : Endpoint) → find (has_address_of a) es ≡ Some x → e ≡ x
+      one x is = let both : Some e ≡ Some x = sym found ∙ is in cc
+
+      here : weight_of (with_queue (drop 1) e) ≡ weight_of e
+      here = weight-is e.address (drop 1 e.queue) ∙ (none-passes-here e.address (drop 1 e.queue) (all-drop OnSome 1 e.queue all) ∙ sym (weight-is e.address e.queue ∙ none-passes-here e.address e.queue all))
 
   -- an item is last in a queue
   abbrev one_more : ℕ → Item → Option Endpoint → ℕ

@@ -1,7 +1,8 @@
 -- The items of one domain are kept along a run of deeds; and what the run's frames bring is counted lane by lane.
-use Rattle.std.proofs.Common.{◌≡◌, ℕ, ◌+◌, ◌-◌, ◌≤◌, Bool, List, [], ◌∷◌, ◌++◌, map, refl, ap, ◌∙◌, arith}
+use Rattle.std.proofs.Common.{◌≡◌, ℕ, ◌+◌, ◌-◌, ◌≤◌, Bool, List, [], ◌∷◌, ◌++◌, map, filter, refl, ap, ◌∙◌, arith}
 use Rattle.std.specs.Prelude.{count_by, Option}
 use Rattle.std.proofs.lemmas.List.{map-append}
+use Rattle.std.proofs.lemmas.List.Elements.{filter-append}
 use Rattle.mc_base.specs.Letter.{PlainLetter, accept, reject, send_close}
 use Rattle.mc_base.specs.Reading.{Reading, reading}
 use Rattle.board_model.specs.State.{ChannelEnd, DomainState}
@@ -9,8 +10,8 @@ use Rattle.board_model.specs.TakenFrames.{acting, row_of}
 use Rattle.board_model.specs.Deeds.{Deed, looks_back, puts_owed, looks_ahead, takes, calls, happens_by, after_deed, after_deeds, MayDo, AllMayDo, along}
 use Rattle.board_model.specs.Messages.{Message}
 use Rattle.board_model.specs.Drops.{dropped_by}
-use Rattle.board_model.specs.Takings.{Taking, takings_by, taken_message}
-use Rattle.board_model.proofs.LaneRows.{Deals, stays, learns, forgets, hands, queues, rejects, accepts, acts, row-deals}
+use Rattle.board_model.specs.Takings.{Taking, is_message_taking, takings_by, taken_message}
+use Rattle.board_model.proofs.LaneRows.{Deals, stays, learns, forgets, hands, queues, loses, rejects, accepts, acts, row-deals}
 use Rattle.board_model.proofs.ListsCounts.{count-append}
 use Rattle.board_model.proofs.OrderCalls.{succeeds, call_given}
 use Rattle.board_model.proofs.OrderLaws.{all_succeed, AllQueues}
@@ -38,6 +39,7 @@ frame_gives s q name rd = go (row-deals s q name rd)
     go (forgets text n a names is forgotten_so happens word) = ap given_by_all happens
     go (hands source at l e is found carried waits happens word) = ap given_by_all happens
     go (queues source at l e is found carried none happens word) = ap given_by_all happens
+    go (loses source at l e is found late happens word) = ap given_by_all happens
     go (rejects source at number kind why is happens word) = ap given_by_all happens
     go (accepts source at number kind e is found free idle happens word) = ap given_by_all happens
     go (acts source at l e c left is found has row happens word) = ap given_by_all happens ∙ acting_gives at left l
@@ -56,7 +58,9 @@ less_room m n s fewer serials = record { differ = serials.differ; below = serial
 
 module _ (r : ℕ) (test : Message → Bool) where
   took_append : (ts us : List Taking) → took r test (ts ++ us) ≡ took r test ts + took r test us
-  took_append ts us = ap (count_by test) (map-append (taken_message r) ts us) ∙ count-append test (map (taken_message r) ts) (map (taken_message r) us)
+  took_append ts us =
+      ap (λ xs. count_by test (map (taken_message r) xs)) (filter-append is_message_taking ts us)
+      ∙ (ap (count_by test) (map-append (taken_message r) (filter is_message_taking ts) (filter is_message_taking us)) ∙ count-append test (map (taken_message r) (filter is_message_taking ts)) (map (taken_message r) (filter is_message_taking us)))
 
   module _ (made : ℕ) (ns : List ℕ) where
     pub run_balanced : (s : DomainState) (ds : List Deed) → AllMayDo s ds → AllQueues s ds → (after_deeds s ds).endpoints_given ≤ made → Sound made anything ns s → Serials (all_succeed ds) s →

@@ -13,7 +13,7 @@ use Rattle.board_model.specs.Journal.{PlainEntry, turned, put, again, called, Pl
 use Rattle.board_model.specs.State.{Item, DomainState, Endpoint, is_at, live_at, endpoint_at, queue_in, queue_at}
 use Rattle.board_model.specs.Labels.{Labelled, call_of}
 use Rattle.mc_base.specs.declared.name.Local.{Local}
-use Rattle.board_model.specs.DomainCall.{DomainCall, create_at, delete_at, lookup_of, send_from, receive_at, request_at, available_at, connect_from, open_at, close_at, test_of, cancel_of, turn_alone}
+use Rattle.board_model.specs.DomainCall.{DomainCall, create_at, delete_at, lookup_of, send_from, receive_at, request_at, available_at, connect_from, open_at, packet_from, lend_at, packet_request_at, release_of, scalar_from, scalar_at, close_at, test_of, cancel_of, turn_alone}
 use Rattle.board_model.specs.Answer.{local, has_channel, holds, words_of, refusal, answer_by}
 use Rattle.board_model.specs.Step.{RunState, Allowed, next_line, call_at, after}
 use Rattle.board_model.specs.CallChanges.{at_live}
@@ -68,7 +68,7 @@ lost_if false c ms is = refl
 deleted_length : (d : ℕ) (s : DomainState) → Queues s → (at : Local) (x : Option Endpoint) → live_at s at ≡ x → has_channel x ≡ false → count_by any (at_live x (queued_at d)) ≡ length (queue_in x)
 deleted_length d s order at None found free = refl
 deleted_length d s order at (Some e) found free =
-    let all : AllByRecursion IsMessage e.queue = subst (Bound s.requests e.local e.queue) (not_some e.channel free) (sound_bound s order (is_at at) e found) in
+    let all : AllByRecursion IsMessage e.queue = subst (Bound e.queue) (not_some e.channel free) (sound_bound s order (is_at at) e found) in
     count-every (queued_at d e) ∙ (length-map (filter is_message_item e.queue) (message_of d e.address) ∙ ap length (all_messages e.queue all))
   where
     all_messages : (q : List Item) → AllByRecursion IsMessage q → filter is_message_item q ≡ q
@@ -93,6 +93,12 @@ call_lost d s node (request_at port max) a order may = refl
 call_lost d s node (available_at port) a order may = refl
 call_lost d s node (connect_from port to kind) a order may = refl
 call_lost d s node (open_at port side kind) a order may = refl
+call_lost d s node (packet_from port bytes) a order may = refl
+call_lost d s node (lend_at port) a order may = refl
+call_lost d s node (packet_request_at port) a order may = refl
+call_lost d s node (release_of place) a order may = refl
+call_lost d s node (scalar_from port bits value) a order may = refl
+call_lost d s node (scalar_at port bits) a order may = refl
 call_lost d s node (close_at port side) a order may = refl
 call_lost d s node (test_of request) a order may = refl
 call_lost d s node (cancel_of request) a order may = refl
