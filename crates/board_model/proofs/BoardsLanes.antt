@@ -109,7 +109,7 @@ joined-once s board a b x y one other = go (joined_found s board a b x one)
         let m = found_neighbour s board a b y d at is_a other in
         sym n.2 ∙ ap (λ (k : Neighbour). k.size) (same (find (λ k. k.number == b) (neighbours s d)) n.0 m.0 n.1 m.1) ∙ m.2
 
-abbrev lane_between : ℕ → ℕ → Lane → Bool
+abbrev pub lane_between : ℕ → ℕ → Lane → Bool
 lane_between a b l = (l.sender == a) && (l.receiver == b)
 
 abbrev lane_of : ℕ → ℕ → ℕ → Lane

@@ -49,7 +49,7 @@ each_found s js board run =
     differ-found (λ j. j.line.domain) js (subst Differ (sym (domains_of js ∙ ap (map (λ (d : DomainLine). d.domain)) run.each_domain)) (rising_differ s board))
 
 -- what holds of each of some numbers holds of one that is among them
-once_holds : (P : ℕ → Type 0) (q : ℕ) (ns : List ℕ) → AllByRecursion P ns → IsOnce ns q → P q
+pub once_holds : (P : ℕ → Type 0) (q : ℕ) (ns : List ℕ) → AllByRecursion P ns → IsOnce ns q → P q
 once_holds P q [] all once = absurd (omega arith)
 once_holds P q (n ∷ ns) all once = go (q == n) refl once (λ k. once_holds P q ns all.1 k)
   where

@@ -174,7 +174,7 @@ Honest endpoints (is_faulty w) = Unit {0}
 Honest endpoints (announces text a create) = IsMade endpoints a
 Honest endpoints (says src dst l) = HonestLetter endpoints src l
 
-first_version : (l : PlainLetter) → (fields_of l).version ≡ 1
+pub first_version : (l : PlainLetter) → (fields_of l).version ≡ 1
 first_version (msg priority bytes) = refl
 first_version (connect m kind) = refl
 first_version (accept m) = refl

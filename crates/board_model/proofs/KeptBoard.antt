@@ -23,8 +23,8 @@ use Rattle.board_model.proofs.MessageAlls.{all-found, all-weaken}
 use Rattle.board_model.proofs.MessageOnce.{total, total-each, total-same, total-sum, total-map, total-joined, count-joined}
 use Rattle.board_model.proofs.MessageNeighbours.{over_lanes, lanes-turned}
 use Rattle.board_model.proofs.PlaceBoards.{neighbours_differ}
-use Rattle.board_model.proofs.OrderLaws.{all_succeed, run_queues}
-use Rattle.board_model.proofs.OrderSerials.{Serials}
+use Rattle.board_model.proofs.OrderLaws.{run_queues}
+use Rattle.board_model.proofs.OrderSerials.{Serials, all_succeed}
 use Rattle.board_model.proofs.HonestRuns.{anything, sound_opening}
 use Rattle.board_model.proofs.HonestBoard.{made_at, may_know, OnBoard, each_on_board}
 use Rattle.board_model.proofs.KeptDeeds.{brought_by}
@@ -57,7 +57,7 @@ module _ (s : Scenario) (js : List DomainJournal) (board : IsLinkedBoard s) (run
   made_few None q is = rw is (omega arith)
   made_few (Some j) q is = rw is (after_run s board j (all-found (λ k. IsDomainRun s k.line k.entries) (λ k. k.line.domain == q) js j run.domain_runs is)).few
 
-  reach : (q a : ℕ) → may_know s js board run q a → CanReach a
+  pub reach : (q a : ℕ) → may_know s js board run q a → CanReach a
   reach q a known =
       let few : made_at s js board run q ≤ 60000 = made_few (find (λ j. j.line.domain == q) js) q refl in
       let top : a < 1024 + made_at s js board run q = known.below in

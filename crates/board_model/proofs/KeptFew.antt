@@ -24,9 +24,8 @@ use Rattle.board_model.proofs.MessageAlls.{all-weaken}
 use Rattle.board_model.proofs.MessageOnce.{total, total-map, total-zero, times, differ-few, length-joined}
 use Rattle.board_model.proofs.PlaceBoards.{rising_differ}
 use Rattle.board_model.proofs.RunDeeds.{allowed-all}
-use Rattle.board_model.proofs.OrderCalls.{succeeds}
-use Rattle.board_model.proofs.OrderLaws.{all_succeed}
 use Rattle.board_model.proofs.OrderRuns.{few_left}
+use Rattle.board_model.proofs.OrderSerials.{succeeds, all_succeed}
 
 -- ---- one script: each message was accepted by a call that is not refused
 

@@ -25,13 +25,13 @@ use Rattle.board_model.proofs.RunFronts.{allowed-front}
 use Rattle.board_model.proofs.RunDeeds.{AllAllowed, allowed-all, deeds_run, state_is, puts_are, takes_are}
 use Rattle.board_model.proofs.ListsApart.{all-unmap}
 use Rattle.board_model.proofs.MessageAlls.{all-at, all-append, all-filter}
-use Rattle.board_model.proofs.OrderLaws.{all_succeed}
 use Rattle.board_model.proofs.OrderRuns.{few}
 use Rattle.board_model.proofs.PlaceBoards.{neighbours_differ}
 use Rattle.board_model.proofs.HonestSound.{Sound}
 use Rattle.board_model.proofs.HonestRuns.{anything, hears_anything, sound_opening, sound_deeds}
 use Rattle.board_model.proofs.KeptLanes.{IsOnce, IsFrom, each_once}
 use Rattle.board_model.proofs.KeptSends.{FitsDeed}
+use Rattle.board_model.proofs.OrderSerials.{all_succeed}
 
 -- the run of a domain is a run of deeds, with the same frames put and taken, and the same state but for the names of frames
 pub record TellsDeeds (s : Scenario) (j : DomainJournal) : Type 0 where

@@ -41,15 +41,9 @@ use Rattle.board_model.proofs.OrderEnds.{Follows, mute_sender, closed_follows, e
 use Rattle.board_model.proofs.OrderItems.{IsPast, IsNext, all_past_more, next_past_after, Apart, left_of, left_none, left_all, left_self, left_first, all_none_next, found_all}
 use Rattle.board_model.proofs.OrderQueues.{messages_at, messages_of, messages_none, queued_for, queued_same, queued_made, queued_gone, queued_best}
 use Rattle.board_model.proofs.OrderRequests.{RequestsBy, kept, turned, gone, given, found_turns, ended_by, items_one, no_items}
-use Rattle.board_model.proofs.OrderSerials.{Serials, given_by_all, serials_changes}
+use Rattle.board_model.proofs.OrderSerials.{Serials, given_by_all, serials_changes, succeeds}
 use Rattle.board_model.proofs.OrderSound.{all_changed, only_at, Sound, CameOn, came-no-message, Bound, bound_empty, MayAsk, FitAllSound, sound_change, sound_changes, sound_own}
 use Rattle.board_model.proofs.OrderTakings.{taken_of, IsOld, all_old, none_taken, done_old, ended_old, old_without, added_takes}
-
--- a call that is not refused
-abbrev pub succeeds : Deed → ℕ
-succeeds (calls node call (refuses w)) = 0
-succeeds (calls node call a) = 1
-succeeds other = 0
 
 -- what is known at a moment, where so many requests may still be given
 pub record Moment (room : ℕ) (before : List Deed) (s : DomainState) : Type 0 where

@@ -18,7 +18,7 @@ use Rattle.board_model.specs.Deeds.{Deed, calls, after_deed, after_deeds, MayDo,
 use Rattle.board_model.specs.Takings.{Taking, taking, is_message_taking, answered_by, completed_by, takings_by, cancelled_by}
 use Rattle.board_model.specs.MessageOrder.{Gives, GivesTaken, is_by, taken_for, standing, TakesWhatComes, TakesBest, TestTells, DeleteTells}
 use Rattle.board_model.proofs.DeedRuns.{IsNamed, AreNamed, IsDeedRun}
-use Rattle.board_model.proofs.OrderCalls.{succeeds, live_found, free_here, none_holds}
+use Rattle.board_model.proofs.OrderCalls.{live_found, free_here, none_holds}
 use Rattle.board_model.proofs.OrderQueues.{messages_at, messages_of}
 use Rattle.board_model.proofs.OrderDeeds.{Takes}
 use Rattle.board_model.proofs.OrderSound.{Sound, sound_own}
@@ -26,11 +26,7 @@ use Rattle.board_model.proofs.OrderTakings.{all_old, none_taken}
 use Rattle.board_model.proofs.OrderStands.{Stands, stands_more, given_few, after_append, all_done, done_same, taken_after}
 use Rattle.board_model.proofs.OrderCancels.{cancels_done, test_tells}
 use Rattle.board_model.proofs.OrderRequests.{IsDone, items_by, taken_more}
-
--- how many calls of a run are not refused
-abbrev pub all_succeed : List Deed → ℕ
-all_succeed [] = 0
-all_succeed (d ∷ ds) = succeeds d + all_succeed ds
+use Rattle.board_model.proofs.OrderSerials.{succeeds, all_succeed}
 
 -- ---- what holds of each deed where this is known
 

@@ -17,7 +17,8 @@ use Rattle.board_model.specs.Turn.{takes_named}
 use Rattle.board_model.specs.JournalDeeds.{names_from, named_deeds, call_deeds, deeds_along, deeds_of}
 use Rattle.board_model.specs.MessageOrder.{ReceivesBest, TestsTellTaken, DeletesTellDropped, CancelledTookNothing}
 use Rattle.board_model.proofs.RunDeeds.{AllAllowed, allowed-all, deeds_run}
-use Rattle.board_model.proofs.OrderLaws.{all_succeed, run_takes_best, run_tests_tell, run_deletes_tell, run_cancelled}
+use Rattle.board_model.proofs.OrderLaws.{run_takes_best, run_tests_tell, run_deletes_tell, run_cancelled}
+use Rattle.board_model.proofs.OrderSerials.{all_succeed}
 
 -- ---- calls that are not refused are as many as lines at most
 

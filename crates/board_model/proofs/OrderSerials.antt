@@ -5,6 +5,8 @@ use Rattle.std.specs.List.{AllByRecursion}
 use Rattle.std.proofs.lemmas.Bool.{ne_eqb}
 use Rattle.std.proofs.Math.Nat.{mod-eq_of_lt}
 use Rattle.board_model.specs.Lists.{changed_first, without, without_at}
+use Rattle.board_model.specs.Deeds.{Deed, calls}
+use Rattle.board_model.specs.Journal.{refuses}
 use Rattle.board_model.specs.State.{Item, Endpoint, Asked, Outcome, has_address, has_item, has_ended, Request, DomainState, endpoint_of, waits_at}
 use Rattle.board_model.specs.Change.{Change, request_added, item_handed, waiting_ended, name_found, connect_settled, request_gone, done_with, all_done, handed_in, ended_in, asks_for, connects_on, changed, changed_all}
 
@@ -133,6 +135,17 @@ given_by other = 0
 abbrev pub given_by_all : List Change → ℕ
 given_by_all [] = 0
 given_by_all (c ∷ cs) = given_by c + given_by_all cs
+
+-- a call that is not refused
+abbrev pub succeeds : Deed → ℕ
+succeeds (calls node call (refuses w)) = 0
+succeeds (calls node call a) = 1
+succeeds other = 0
+
+-- how many calls of a run are not refused
+abbrev pub all_succeed : List Deed → ℕ
+all_succeed [] = 0
+all_succeed (d ∷ ds) = succeeds d + all_succeed ds
 
 pub serials_change : (room : ℕ) (s : DomainState) (c : Change) → given_by c ≤ room → Serials room s → Serials (room - given_by c) (changed s c)
 serials_change room s (request_added asked o) fits serials =

@@ -11,13 +11,13 @@ use Rattle.board_model.specs.TakenFrames.{item_of}
 use Rattle.board_model.proofs.DeedRuns.{IsNamed, count_taken}
 use Rattle.board_model.proofs.LaneRows.{item-peer, item-frames}
 use Rattle.board_model.proofs.ItemsHeld.{held-weaker, BringsItems, deed-holds}
-use Rattle.board_model.proofs.OrderCalls.{Moment, succeeds, takes_given, calls_does, call_given}
+use Rattle.board_model.proofs.OrderCalls.{Moment, takes_given, calls_does, call_given}
 use Rattle.board_model.proofs.OrderDeeds.{Does, Comes, looks_back_does, puts_owed_does, looks_ahead_does}
 use Rattle.board_model.proofs.OrderItems.{IsPast, past_more, next_past_after, all_past_more, Apart, Unlike, left_of, left_append, left_twice, left_all, none_in_past, apart_last}
 use Rattle.board_model.proofs.OrderQueues.{queued_for}
 use Rattle.board_model.specs.Takings.{Taking, takings_by, cancelled_by}
 use Rattle.board_model.proofs.OrderRequests.{Took, Held, IsDone, taken_more, items_by, held_more, done_more, all_holds_same}
-use Rattle.board_model.proofs.OrderSerials.{given_by_all}
+use Rattle.board_model.proofs.OrderSerials.{given_by_all, succeeds}
 
 -- ---- deeds one after the other
 
