@@ -136,3 +136,9 @@ pub mod HearingLaw
 pub mod HearingSmall
 pub mod HearingCloses
 pub mod ChannelLists
+pub mod Sending
+pub mod SendingFrames
+pub mod SendingCalls
+pub mod SendingDeeds
+pub mod OneLane
+pub mod ChannelPair
