@@ -142,3 +142,6 @@ pub mod SendingCalls
 pub mod SendingDeeds
 pub mod OneLane
 pub mod ChannelPair
+pub mod ListsOne
+pub mod ChannelBoard
+pub mod ChannelLaw

@@ -7,6 +7,7 @@ ghost use Rattle.board_model.specs.MessageLaws.{
   NoMessageIsLost,
   CancelledRequestsTookNothing,
 };
+ghost use Rattle.board_model.specs.ChannelLaws.{EveryChannelIsKept};
 ghost use Rattle.board_model.specs.Honesty.{KnownAddressesAreReal};
 ghost use Rattle.board_model.specs.ReadBack.{LettersAreReadBack};
 ghost use Rattle.board_model.specs.SerialLaws.{LinkedSerialIsBoardRun};
@@ -45,6 +46,12 @@ pub fn deletes_tell_what_was_dropped()
 /// Each message that was accepted was taken or dropped, or is queued or in the ring.
 pub fn no_message_is_lost()
     ensures { NoMessageIsLost }
+{}
+
+/// What the sender of a channel had accepted is what its receiver took, in its order, and then what was dropped, is queued or is in the
+/// ring. Where anything was dropped nothing is queued.
+pub fn every_channel_is_kept()
+    ensures { EveryChannelIsKept }
 {}
 
 /// A request that was cancelled took nothing.
