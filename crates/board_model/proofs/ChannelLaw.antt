@@ -17,7 +17,6 @@ use Rattle.board_model.specs.JournalDeeds.{deeds_of, opened, left_in}
 use Rattle.board_model.proofs.ChannelBoard.{JournalRun, channel_kept}
 use Rattle.board_model.proofs.DeedJoins.{after-join}
 use Rattle.board_model.proofs.DeedRuns.{frames_if, takes_by}
-use Rattle.board_model.proofs.HearingCalls.{none_holds}
 use Rattle.board_model.proofs.HearingCloses.{run_closes}
 use Rattle.board_model.proofs.HonestBoard.{may_know, OnBoard, each_on_board, moment, moment_far, once_holds}
 use Rattle.board_model.proofs.HonestPosts.{posts_read}
@@ -30,6 +29,7 @@ use Rattle.board_model.proofs.MessageAlls.{none-passes, all-found, all-weaken, a
 use Rattle.board_model.proofs.SendingDeeds.{ReadsDeed, AllRead}
 use Rattle.board_model.proofs.WholeHas.{Has}
 use Rattle.board_model.proofs.WholeJoined.{Joined, neighbours_join, rising_told}
+use Rattle.board_model.proofs.OrderCalls.{none_holds}
 
 -- no frame is taken from a domain that is none of these
 none_from : (ns : List ℕ) (q : ℕ) → (IsOnce ns q → ⊥) → (ds : List Deed) → AllByRecursion (IsFrom ns) ds → flat_map (takes_by q) ds ≡ []

@@ -1,5 +1,5 @@
 -- What a call does to the receiver's end of a channel: each change that it makes fits where it comes.
-use Rattle.std.proofs.Common.{◌≡◌, ℕ, Bool, true, false, not, cond, List, [], ◌∷◌, Option, Some, None, option_map, find, refl, sym, ap, ◌∙◌}
+use Rattle.std.proofs.Common.{◌≡◌, ℕ, Bool, true, false, not, cond, List, [], Option, Some, None, option_map, refl, sym, ap, ◌∙◌}
 use Rattle.std.specs.Prelude.{◌==◌, ◌&&◌, ◌||◌, is_some}
 use Rattle.std.specs.List.{AllByRecursion}
 use Rattle.mc_base.specs.declared.channel.Kind.{Kind}
@@ -20,15 +20,7 @@ use Rattle.board_model.specs.ChannelEnds.{EndCall, opens, receives, closes, end_
 use Rattle.board_model.specs.Choice.{oldest}
 use Rattle.board_model.specs.DomainCall.{DomainCall, create_at, delete_at, lookup_of, send_from, receive_at, request_at, available_at, connect_from, open_at, packet_from, lend_at, packet_request_at, release_of, scalar_from, scalar_at, close_at, test_of, cancel_of, turn_alone}
 use Rattle.board_model.specs.State.{Item, ChannelEnd, Endpoint, Asked, packet_at, Outcome, has_item, Request, DomainState, opened, closed, endpoint_at, is_at, live_at, endpoint_of, channel_in, request_at_place}
-
--- where none is found, none passes
-none_past : (P : Type 0) (b : Bool) (x : Refusal) (o : Option Refusal) → (o ≡ None → P) → cond b (Some x) o ≡ None → (b ≡ false) × P
-none_past P true x o rest none = absurd cc
-none_past P false x o rest none = (refl, rest none)
-
-pub none_holds : (p : Refusal → Bool) (ws : List Refusal) → find p ws ≡ None → AllByRecursion (λ w. p w ≡ false) ws
-none_holds p [] none = tt
-none_holds p (w ∷ ws) none = none_past (AllByRecursion (λ v. p v ≡ false) ws) (p w) w (find p ws) (λ e. none_holds p ws e) none
+use Rattle.board_model.proofs.OrderCalls.{none_holds}
 
 -- the endpoint that a name finds is the one that its address finds
 abbrev pub Own : DomainState → Type 0

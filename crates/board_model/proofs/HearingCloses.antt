@@ -8,17 +8,18 @@ use Rattle.board_model.specs.Answer.{local, channel_at, holds_at_end, end_holds,
 use Rattle.board_model.specs.CallChanges.{at_live}
 use Rattle.board_model.specs.ChannelEnds.{closes}
 use Rattle.board_model.specs.Channels.{contents_of, dropped_at, CloseTells}
-use Rattle.board_model.specs.Deeds.{Deed, calls, after_deed, MayDo, AllMayDo, after_deeds, EachDeed}
+use Rattle.board_model.specs.Deeds.{Deed, calls, MayDo, AllMayDo, after_deeds, EachDeed}
 use Rattle.board_model.specs.DomainCall.{close_at}
 use Rattle.board_model.specs.Journal.{tells}
 use Rattle.board_model.specs.Scenario.{Neighbour}
 use Rattle.board_model.specs.State.{Item, ChannelEnd, Endpoint, DomainState, opening, is_at, live_at, queue_at, queue_in, channel_in}
-use Rattle.board_model.proofs.HearingCalls.{none_holds}
 use Rattle.board_model.proofs.HearingItems.{all_contents}
 use Rattle.board_model.proofs.HearingLaw.{deed_keeps, opening_sound}
 use Rattle.board_model.proofs.MessageLists.{get-position}
 use Rattle.board_model.proofs.OrderSerials.{Serials, succeeds, all_succeed}
 use Rattle.board_model.proofs.OrderSound.{Sound, Bound, sound_bound}
+use Rattle.board_model.proofs.OrderCalls.{none_holds}
+use Rattle.board_model.proofs.DeedJoins.{after-join}
 
 length_contents : (q : List Item) → length (map (λ i. i.content) q) ≡ length q
 length_contents [] = refl
@@ -59,10 +60,6 @@ module _ (s : DomainState) (sound : Sound s) (node port count : ℕ) where
 
 -- ---- along a run
 
-after_one : (s : DomainState) (before : List Deed) (d : Deed) → after_deeds s (before ++ d ∷ []) ≡ after_deed (after_deeds s before) d
-after_one s [] d = refl
-after_one s (x ∷ xs) d = after_one (after_deed s x) xs d
-
 deed_tells : (start : DomainState) (before : List Deed) → Sound (after_deeds start before) → (d : Deed) → MayDo (after_deeds start before) d → CloseTells start before d
 deed_tells start before sound (calls node (close_at port Receiver) (tells count)) may = close_tells (after_deeds start before) sound node port count may
 deed_tells start before sound other may = tt
@@ -71,7 +68,7 @@ closes_tell : (start : DomainState) (room : ℕ) (before ds : List Deed) → Sou
 closes_tell start room before [] sound serials may few = tt
 closes_tell start room before (d ∷ ds) sound serials may few =
     let keeps = deed_keeps 0 0 room (after_deeds start before) sound serials d may.0 (omega arith) in
-    let next = sym (after_one start before d) in (
+    let next = sym (after-join start before (d ∷ [])) in (
       deed_tells start before sound d may.0,
       closes_tell start (room - succeeds d) (before ++ d ∷ []) ds (subst Sound next keeps.sound) (subst (Serials (room - succeeds d)) next keeps.serials) (subst (λ t. AllMayDo t ds) next may.1) (omega arith),
     )

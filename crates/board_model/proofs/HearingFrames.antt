@@ -1,6 +1,6 @@
 -- What a frame that is no letter of the channel does to the channel's receiving end.
 use Rattle.std.proofs.Common.{◌≡◌, ℕ, ◌<◌, ◌^◌, Bool, true, false, not, cond, List, [], ◌∷◌, ◌++◌, Option, Some, None, refl, sym, ap, ◌∙◌}
-use Rattle.std.specs.Prelude.{◌==◌, ◌&&◌, is_some}
+use Rattle.std.specs.Prelude.{◌==◌, ◌&&◌}
 use Rattle.std.proofs.lemmas.Bool.{and_parts, eqb-true, eq-eqb, cond_both}
 use Rattle.std.specs.List.{flat_map}
 use Rattle.mc_base.specs.Frame.{made}
@@ -16,25 +16,15 @@ use Rattle.mc_base.specs.declared.fate.Fate.TheVariants as fate
 use Rattle.board_model.proofs.Hearing.{Heard, heard_of, heard, accepts, Moves, stays}
 use Rattle.board_model.proofs.HearingChanges.{Fits}
 use Rattle.board_model.proofs.HearingRuns.{FitAll}
-use Rattle.board_model.proofs.HearingCalls.{sender_deaf, turned}
+use Rattle.board_model.proofs.HearingCalls.{sender_deaf, turned, no_end}
 use Rattle.board_model.proofs.ChannelWords.{is_sender, turns_on}
 use Rattle.board_model.specs.Change.{Change, channel_set, name_found, names_known}
 use Rattle.board_model.specs.ChannelEnds.{data_rows, sends_to, hears_from, is_closed, is_connecting, far_closed_end, same_kind, accepted_end, same_side}
 use Rattle.board_model.specs.State.{Announcement, announcing, Item, ChannelEnd, Endpoint, DomainState, connected, endpoint_of, one_waits, peer_at}
-use Rattle.board_model.specs.TakenFrames.{last_row, rows_by, Row, first_row, row, rows, names_of, name_rows, letter_rows, channel_rows, message_rows, connect_rows, rejecting}
+use Rattle.board_model.specs.TakenFrames.{last_row, rows_by, Row, first_row, rows, names_of, name_rows, letter_rows, channel_rows, message_rows, connect_rows, rejecting}
 use Rattle.mc_base.specs.Reading.{Reading, is_faulty, announces, says, reading}
 use Rattle.mc_base.specs.declared.channel.Side.TheVariants.{Receiver}
-
--- the rule of a table: what holds by each row, where it is the first that applies, holds by the table
-abbrev pub ByRows : (Row → Type 0) → List Row → Type 0
-ByRows P [] = P (row true fate.State [])
-ByRows P (r ∷ []) = P r
-ByRows P (r ∷ q ∷ rs) = (r.applies ≡ true → P r) × (r.applies ≡ false → ByRows P (q ∷ rs))
-
-pub by_rows : (P : Row → Type 0) (rs : List Row) → ByRows P rs → P (first_row rs)
-by_rows P [] by = by
-by_rows P (r ∷ []) by = by
-by_rows P (r ∷ q ∷ rs) by = cond_both r.applies r (first_row (q ∷ rs)) P by.0 (λ off. by_rows P (q ∷ rs) (by.1 off))
+use Rattle.board_model.proofs.LaneRows.{by_rows}
 
 -- what holds of every list of changes that an announcement may bring
 pub by_names : (P : List Change → Type 0) (s : DomainState) (q : ℕ) (key : Option ℕ) (name : List ℕ) (a : ℕ) (create : Bool) → P [] → ((n : EndName) → P (names_known q (learned n a (names_of (peer_at s q))) ∷ name_found n a ∷ [])) → ((n : EndName) → P (names_known q (forgotten n (names_of (peer_at s q))) ∷ [])) →
@@ -160,10 +150,6 @@ module _ (read : RepliesRead) (o n : ℕ) (s : DomainState) (p : ℕ) (key : Opt
     message_fits (Some c) is i = tt
     message_fits None is i = by_rows Fit (message_rows s dst e None i) ((λ on. (unconnected is, tt)), (λ off. (unconnected is, tt)))
 
-    no_end : (x : Option ChannelEnd) → is_some x ≡ false → x ≡ None
-    no_end None h = refl
-    no_end (Some c) h = absurd cc
-
   rejecting_fits : (m : ℕ) (why : Reason) → FitAll o n s (rejecting p src dst m why)
   rejecting_fits m why = ((λ it. read.reject_other n dst src m why), tt)
 
@@ -185,7 +171,7 @@ module _ (read : RepliesRead) (o n : ℕ) (s : DomainState) (p : ℕ) (key : Opt
           (λ free. (
             (λ on. rejecting_fits m reason.Busy),
             (λ idle. (
-              set_fits e found (Some (accepted_end kind p m p src)) (none_both _ _ (ap (λ x. heard_of o n x e.queue) (no_end e found e.channel free)) (new_deaf m kind e.queue foreign)),
+              set_fits e found (Some (accepted_end kind p m p src)) (none_both _ _ (ap (λ x. heard_of o n x e.queue) (no_end e.channel free)) (new_deaf m kind e.queue foreign)),
               ((λ it. let owner : p ≡ o = eqb-true p o it in read.accept_other n dst src m (small owner) (λ k. foreign k owner)), tt),
             )),
           )),

@@ -14,7 +14,6 @@ use Rattle.mc_base.specs.declared.name.Local.{Local}
 use Rattle.mc_base.specs.declared.name.EndName.{EndName}
 use Rattle.mc_base.specs.declared.channel.Kind.{Kind}
 use Rattle.mc_base.specs.declared.channel.Kind.TheVariants.{Packet, Scalar}
-use Rattle.mc_base.specs.declared.channel.Side.{Side}
 use Rattle.mc_base.specs.declared.channel.Side.TheVariants.{Sender, Receiver}
 use Rattle.mc_base.specs.declared.refusal.Refusal.TheVariants.{ChanClosed}
 use Rattle.mc_base.specs.declared.fate.Fate.TheVariants as fate
@@ -26,12 +25,13 @@ use Rattle.board_model.specs.State.{connected, Item, ChannelEnd, Endpoint, Asked
 use Rattle.board_model.specs.Takings.{Taking, taking, asked_address}
 use Rattle.board_model.specs.TakenFrames.{Row, last_row, first_row, row_of, connect_rows, message_rows, rows_by, channel_rows, letter_rows, message_item, channel_item, item_of, name_rows, names_of}
 use Rattle.board_model.proofs.ChannelWords.{end_is, hears, contents_if, taken_by, dropped_by, through}
-use Rattle.board_model.proofs.HearingFrames.{by_rows}
 use Rattle.board_model.proofs.HearingItems.{one_contents, message_none, came_agrees}
-use Rattle.board_model.proofs.HearingLetters.{no_length, or_off}
 use Rattle.board_model.proofs.OrderSerials.{Differ, given_by_all}
-use Rattle.board_model.proofs.OrderSound.{Sound, is_mute, CameOn, Bound, bound_empty, bound_other, FitsEnd, FitsSound, FitAllSound, sound_bound, sound_named}
+use Rattle.board_model.proofs.OrderSound.{Sound, CameOn, Bound, bound_empty, bound_other, FitsEnd, FitsSound, FitAllSound, sound_bound, sound_named}
 use Rattle.board_model.proofs.OrderTakings.{taken_of, IsOld, all_old, none_taken, done_old, ended_old, waiter_takes, found_pends, handed_takes}
+use Rattle.board_model.proofs.LaneRows.{by_rows}
+use Rattle.board_model.proofs.OrderChannels.{no_length, either_none, both_hold, hears_loud}
+use Rattle.board_model.proofs.OrderEnds.{mute_sender, mute_closed}
 
 abbrev pub items_of : List Taking → List Item
 items_of ts = map (λ t. t.item) ts
@@ -71,16 +71,6 @@ handed_items s sound differ p e found waits i = go (oldest_waiting s e.local) re
 
 -- ---- ends
 
-pub mute_sender : (c : ChannelEnd) → same_side c.side Sender ≡ true → is_mute c ≡ true
-mute_sender c it = ap (λ b. b || is_closed c.stage) it
-
-mute_closed : (c : ChannelEnd) → is_closed c.stage ≡ true → is_mute c ≡ true
-mute_closed c it = ap (λ b. same_side c.side Sender || b) it ∙ or_true (same_side c.side Sender)
-  where
-    or_true : (b : Bool) → (b || true) ≡ true
-    or_true true = refl
-    or_true false = refl
-
 sender : (peer m : ℕ) (c : ChannelEnd) → sends_to peer m c ≡ true → same_side c.side Sender ≡ true
 sender peer m c on = (and_parts (same_side c.side Sender) (c.number == m && c.peer == peer) on).0
 
@@ -90,23 +80,6 @@ far_bound q c bound =
     cond_both (is_closed c.stage) None (Some (record c { far_closed = true })) (Bound q)
     (λ shut. bound_empty q (bound.0 (mute_closed c shut)) None)
     (λ live. bound_other q c (record c { far_closed = true }) refl refl (λ m. m) bound)
-
-both_hold : (a b : Bool) → a ≡ true → (a && b) ≡ false → b ≡ false
-both_hold true b on off = off
-both_hold false b on off = absurd cc
-
--- an end that a packet or a scalar is queued at
-loud_end : (peer m : ℕ) (k : Kind) (c : ChannelEnd) → (hears_from peer m c && (same_kind c.kind k && (not c.far_closed && is_closed c.stage))) ≡ false → (hears_from peer m c && (same_kind c.kind k && not c.far_closed)) ≡ true → is_mute c ≡ false
-loud_end peer m k c off on =
-    let hears = and_parts (hears_from peer m c) (same_kind c.kind k && not c.far_closed) on in
-    let more = and_parts (same_kind c.kind k) (not c.far_closed) hears.1 in
-    let side = and_parts (same_side c.side Receiver) (c.number == m && c.owner == peer) hears.0 in
-    let stage : is_closed c.stage ≡ false = both_hold (not c.far_closed) (is_closed c.stage) more.1 (both_hold (same_kind c.kind k) _ more.0 (both_hold (hears_from peer m c) _ hears.0 off)) in
-    ap (λ b. same_side c.side Sender || b) stage ∙ go c.side side.0
-  where
-    go : (x : Side) → same_side x Receiver ≡ true → (same_side x Sender || false) ≡ false
-    go Sender h = absurd cc
-    go Receiver h = refl
 
 -- ---- rows
 
@@ -173,7 +146,7 @@ module _ (o n : ℕ) (s : DomainState) (sound : Sound s) (differ : Differ s.requ
         (λ off2. (
           (λ on. quiet_row _ _ refl (tt, tt) refl (all_old s) refl refl),
           (λ off3.
-              let none : e.queue ≡ [] = no_length e.queue (or_off (not (length e.queue == 0)) (one_waits s e.local) off3) in
+              let none : e.queue ≡ [] = no_length e.queue (either_none (not (length e.queue == 0)) (one_waits s e.local) off3).0 in
               quiet_row _ _ refl ((λ f is. let same : e ≡ f = cc in subst (λ x. Bound x.queue (Some (accepted_end kind peer m peer source))) same (bound_empty e.queue none (Some (accepted_end kind peer m peer source)))), (tt, tt)) refl (all_old s) refl refl),
         )),
       )),
@@ -269,7 +242,7 @@ module _ (o n : ℕ) (s : DomainState) (sound : Sound s) (differ : Differ s.requ
                     let it = (and_parts (hears_from peer m c) (same_kind c.kind k && not c.far_closed) on).0 in
                     let free : one_waits s e.local ≡ false = both_hold (hears_from peer m c && (same_kind c.kind k && not c.far_closed)) (one_waits s e.local) on off2 in
                     record {
-                      fits = (queued_fits item free (subst (FitsEnd item) (sym has) (loud_end peer m k c off on, came it)), tt);
+                      fits = (queued_fits item free (subst (FitsEnd item) (sym has) (hears_loud peer m k c off on, came it)), tt);
                       few = refl;
                       taken = ap (λ ts. contents_of o n (items_of ts)) (none_taken s s.requests (all_old s));
                       lost = refl;

@@ -1,7 +1,7 @@
 -- What the letters of a channel do to its receiving end: the connect, data, and the sender's close.
-use Rattle.std.proofs.Common.{◌≡◌, ℕ, Bool, true, false, not, cond, List, [], ◌∷◌, ◌++◌, map, length, Option, Some, None, refl, sym, ap, ◌∙◌, subst, arith}
-use Rattle.std.specs.Prelude.{◌==◌, ◌&&◌, ◌||◌}
-use Rattle.std.proofs.lemmas.Bool.{and_parts, eqb-true, eq-eqb}
+use Rattle.std.proofs.Common.{◌≡◌, ℕ, Bool, true, false, not, cond, List, [], ◌∷◌, ◌++◌, map, length, Option, Some, None, refl, sym, ap, ◌∙◌, subst}
+use Rattle.std.specs.Prelude.{◌==◌, ◌&&◌}
+use Rattle.std.proofs.lemmas.Bool.{and_parts, eq-eqb}
 use Rattle.std.proofs.lemmas.List.{append-nil}
 use Rattle.std.specs.List.{flat_map}
 use Rattle.mc_base.specs.Letter.{packet, scalar, send_close}
@@ -16,12 +16,14 @@ use Rattle.board_model.proofs.Views.{seen}
 use Rattle.board_model.proofs.Hearing.{Heard, heard_of, heard, Lists, more, Live, HeardAt, AllArrive, NoneHears, NoAccept, owed_replies, Silence, Hearing, unheard, refused, heard_at, nothing}
 use Rattle.board_model.proofs.HearingChanges.{is_live, same_at, at_it, Happens, queued_happens, handed_happens, lost_happens}
 use Rattle.board_model.proofs.HearingRuns.{still_silent, hearing_step}
-use Rattle.board_model.proofs.HearingFrames.{by_rows, RepliesRead}
+use Rattle.board_model.proofs.HearingFrames.{RepliesRead}
 use Rattle.board_model.proofs.ChannelWords.{end_is, Way, not_begun, goes_to, is_over, hears, contents_if, data_of, taken_by, dropped_by, through}
 use Rattle.board_model.specs.Change.{Change, channel_set, reply_owed, waiting_ended, item_queued, item_handed, item_lost, with_channel, changed, changed_all}
 use Rattle.board_model.specs.ChannelEnds.{accepted_end, data_rows, hears_from, is_closed, same_kind}
 use Rattle.board_model.specs.State.{Item, ChannelEnd, Endpoint, DomainState, endpoint_of, one_waits, peer_at}
 use Rattle.board_model.specs.TakenFrames.{Row, first_row, row, last_row, letter_rows, rows_by, channel_rows, connect_rows, reply_to, rejecting, accepting, item_of}
+use Rattle.board_model.proofs.LaneRows.{by_rows}
+use Rattle.board_model.proofs.OrderChannels.{no_length, either_none}
 
 -- where a receive waits nothing is queued
 abbrev pub IsQuiet : DomainState → Type 0
@@ -71,18 +73,6 @@ never_hears o n e c none is = go (hears_from o n c) refl (sym (ap (λ x. heard_o
     go : (b : Bool) → hears_from o n c ≡ b → cond {A = Option Heard} b (Some (record { end = c; queue = e.queue })) None ≡ None → b ≡ false
     go true on h = absurd cc
     go false on h = refl
-
-pub no_length : {A : Type 0} (q : List A) → not (length q == 0) ≡ false → q ≡ []
-no_length [] h = refl
-no_length (x ∷ xs) h = let none : length (x ∷ xs) ≡ 0 = eqb-true (length (x ∷ xs)) 0 (not_false (length (x ∷ xs) == 0) h) in absurd (omega arith)
-  where
-    not_false : (b : Bool) → not b ≡ false → b ≡ true
-    not_false true e = refl
-    not_false false e = absurd cc
-
-pub or_off : (a b : Bool) → (a || b) ≡ false → a ≡ false
-or_off true b e = absurd cc
-or_off false b e = refl
 
 pub all_of : (a b c d : Bool) → a ≡ true → b ≡ true → c ≡ false → (a && (b && (not c && d))) ≡ d
 all_of true true false d x y z = refl
@@ -134,7 +124,7 @@ module _ (read : RepliesRead) (o n : ℕ) (s : DomainState) (key : Option ℕ) (
         (λ on. refused none silent refl (rw taken refl) (rw lost refl)),
         (λ off. (
           (λ on. rejected kind reason.Connected none silent taken lost),
-          (λ free. ((λ on. rejected kind reason.Busy none silent taken lost), (λ idle. accepted (no_length e.queue (or_off (not (length e.queue == 0)) (one_waits s e.local) idle))))),
+          (λ free. ((λ on. rejected kind reason.Busy none silent taken lost), (λ idle. accepted (no_length e.queue (either_none (not (length e.queue == 0)) (one_waits s e.local) idle).0)))),
         )),
       )
     where

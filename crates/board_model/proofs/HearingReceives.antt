@@ -1,7 +1,7 @@
 -- What a call takes and loses of a channel, by its answer and its requests, is what its changes do; and queues stay as they are bound to
 -- channels.
 use Rattle.std.proofs.Common.{◌≡◌, ℕ, ◌+◌, ◌≤◌, Bool, true, false, not, List, [], ◌∷◌, ◌++◌, map, drop, find, length, Option, Some, None, option_map, option_to_list, inl, refl, sym, ap, ap₂, ◌∙◌, subst, arith}
-use Rattle.std.specs.Prelude.{◌==◌, ◌&&◌, ◌||◌, is_none, is_some}
+use Rattle.std.specs.Prelude.{◌==◌, ◌&&◌, ◌||◌, is_some}
 use Rattle.std.specs.List.{AllByRecursion}
 use Rattle.std.proofs.lemmas.Bool.{eqb-true, eq-eqb}
 use Rattle.std.proofs.lemmas.List.{append-nil}
@@ -27,24 +27,22 @@ use Rattle.board_model.specs.Lists.{changed_first}
 use Rattle.board_model.specs.State.{Item, ChannelEnd, Endpoint, Asked, name_of, channel_of, message_at, packet_at, Outcome, has_address, has_item, Request, DomainState, is_at, has_address_of, place_at, live_at, endpoint_at, endpoint_of, queue_at, queue_in, channel_in, receives_at, one_waits, request_at_place}
 use Rattle.board_model.specs.Takings.{taking, asked_address, answered_by}
 use Rattle.board_model.proofs.ChannelWords.{hears, contents_if, taken_by, dropped_by, through}
-use Rattle.board_model.proofs.HearingCalls.{none_holds}
-use Rattle.board_model.proofs.HearingGives.{items_of, mute_sender}
+use Rattle.board_model.proofs.HearingGives.{items_of}
 use Rattle.board_model.proofs.HearingItems.{messages_none, bound_contents}
-use Rattle.board_model.proofs.HearingLetters.{no_length, or_off}
 use Rattle.board_model.proofs.MessageAlls.{all-found}
 use Rattle.board_model.proofs.MessageBest.{best-none}
 use Rattle.board_model.proofs.MessageLists.{get-position, some-position, best_is}
 use Rattle.board_model.proofs.OrderSerials.{Below, given_by_all, succeeds}
-use Rattle.board_model.proofs.OrderSound.{Sound, is_mute, IsMessage, Bound, bound_empty, bound_other, MayAsk, FitAllSound, all_changed, only_at, sound_own, sound_bound, sound_named}
-use Rattle.board_model.proofs.OrderTakings.{taken_of, IsOld, all_old, none_taken, done_old, ended_old, old_without, added_takes, given_takes}
+use Rattle.board_model.proofs.OrderSound.{Sound, is_mute, IsMessage, Bound, bound_empty, bound_other, MayAsk, FitAllSound, all_changed, only_at, sound_own, sound_bound, sound_named, not_received, not_waiting}
+use Rattle.board_model.proofs.OrderTakings.{taken_of, IsOld, all_old, none_taken, done_old, ended_old, old_without, added_takes, given_takes, old_last}
+use Rattle.board_model.proofs.OrderCalls.{none_holds}
+use Rattle.board_model.proofs.StateEnds.{there_is}
+use Rattle.board_model.proofs.OrderChannels.{no_length, either_none}
+use Rattle.board_model.proofs.OrderEnds.{mute_sender}
 
 not_not : (b : Bool) → not b ≡ false → b ≡ true
 not_not true e = refl
 not_not false e = absurd cc
-
-some_of : (o : Option Endpoint) → is_some o ≡ true → (e : Endpoint) × (o ≡ Some e)
-some_of None e = absurd cc
-some_of (Some x) e = (x, refl)
 
 -- the oldest of a queue that is bound to a channel, and the best among messages
 bound_oldest : (q : List Item) (x : Option ChannelEnd) → Bound q x → Bound (option_to_list (oldest q)) x
@@ -81,14 +79,14 @@ module _ (o n : ℕ) (s : DomainState) (sound : Sound s) (below : Below s.reques
 
   with_live : (call : DomainCall) (a : PlainAnswer) (at : Local) (f : Endpoint → List Change) → not (is_some (place_at s at)) ≡ false → ((e : Endpoint) → live_at s at ≡ Some e → Yields call a (f e)) → Yields call a (at_live (live_at s at) f)
   with_live call a at f there each =
-      let e = some_of (live_at s at) (sym (some-position (is_at at) s.endpoints) ∙ not_not (is_some (place_at s at)) there) in
+      let e = there_is s at there in
       subst (λ x. Yields call a (at_live x f)) (sym e.1) (each e.0 e.1)
 
   -- E with its channel
   with_end : (call : DomainCall) (a : PlainAnswer) (at : Local) (asks : EndCall) (f : Endpoint → ChannelEnd → List Change) → not (is_some (place_at s at)) ≡ false → holds_at_end (Some asks) (channel_at s at) NotConnected ≡ false →
       ((e : Endpoint) (c : ChannelEnd) → live_at s at ≡ Some e → e.channel ≡ Some c → Yields call a (f e c)) → Yields call a (at_end (live_at s at) f)
   with_end call a at asks f there connected each =
-      let e = some_of (live_at s at) (sym (some-position (is_at at) s.endpoints) ∙ not_not (is_some (place_at s at)) there) in
+      let e = there_is s at there in
       subst (λ x. Yields call a (at_end x f)) (sym e.1) (go e.0 e.1 e.0.channel refl (sym (ap (λ x. end_holds asks (channel_in x) NotConnected) e.1) ∙ connected))
     where
       go : (e : Endpoint) → live_at s at ≡ Some e → (x : Option ChannelEnd) → e.channel ≡ x → end_holds asks x NotConnected ≡ false → Yields call a (at_channel x (f e))
@@ -127,23 +125,6 @@ module _ (o n : ℕ) (s : DomainState) (sound : Sound s) (below : Below s.reques
   named_itself at e is = sound_named s sound e.local (is_at at) e is (rw (eq-eqb e.local.node e.local.node refl, eq-eqb e.local.port e.local.port refl) refl)
 
   -- ---- requests that are given
-
-  old_last : (r : Request) → IsOld s r → (rs : List Request) → AllByRecursion (IsOld s) rs → AllByRecursion (IsOld s) (rs ++ r ∷ [])
-  old_last r old [] all = (old, tt)
-  old_last r old (x ∷ xs) all = (all.0, old_last r old xs all.1)
-
-  -- what asks for no item may be asked anywhere, and so may what is complete
-  not_received : (asked : Asked) → ((l : Local) → receives_at l asked ≡ false) → (x : Option Outcome) (es : List Endpoint) → AllByRecursion (MayAsk asked x) es
-  not_received asked other x [] = tt
-  not_received asked other x (e ∷ es) = ((λ h. absurd (never (is_none x) (receives_at e.local asked) (other e.local) h)), not_received asked other x es)
-    where
-      never : (a b : Bool) → b ≡ false → (a && b) ≡ true → ⊥
-      never true b off h = absurd cc
-      never false b off h = absurd cc
-
-  not_waiting : (asked : Asked) (i : Item) (es : List Endpoint) → AllByRecursion (MayAsk asked (Some (has_item i))) es
-  not_waiting asked i [] = tt
-  not_waiting asked i (e ∷ es) = ((λ h. absurd cc), not_waiting asked i es)
 
   -- a receive asks at E, where an item is gone or nothing is queued
   module _ (at : Local) (e : Endpoint) (is : live_at s at ≡ Some e) (asked : Asked) (here : (l : Local) → receives_at l asked ≡ true → (l.node == e.local.node && l.port == e.local.port) ≡ true) (less : List Item → List Item) (less_none : less [] ≡ []) where
@@ -285,8 +266,8 @@ module _ (o n : ℕ) (s : DomainState) (sound : Sound s) (below : Below s.reques
       or_false false h = h
 
   lookup_yields : (name : EndName) (x : Option ℕ) → Yields (lookup_of name) (tells s.requests_given) (request_added (name_of name) (option_map has_address x) ∷ [])
-  lookup_yields name None = quiet_call (lookup_of name) (tells s.requests_given) (request_added (name_of name) None ∷ []) refl refl (not_received (name_of name) (λ l. refl) None s.endpoints, tt) (omega arith) (old_last _ (inl refl) s.requests (all_old s)) refl refl
-  lookup_yields name (Some a) = quiet_call (lookup_of name) (tells s.requests_given) (request_added (name_of name) (Some (has_address a)) ∷ []) refl refl (not_received (name_of name) (λ l. refl) (Some (has_address a)) s.endpoints, tt) (omega arith) (old_last _ (inl refl) s.requests (all_old s)) refl refl
+  lookup_yields name None = quiet_call (lookup_of name) (tells s.requests_given) (request_added (name_of name) None ∷ []) refl refl (not_received (name_of name) (λ l. refl) None s.endpoints, tt) (omega arith) (old_last s _ (inl refl) s.requests (all_old s)) refl refl
+  lookup_yields name (Some a) = quiet_call (lookup_of name) (tells s.requests_given) (request_added (name_of name) (Some (has_address a)) ∷ []) refl refl (not_received (name_of name) (λ l. refl) (Some (has_address a)) s.endpoints, tt) (omega arith) (old_last s _ (inl refl) s.requests (all_old s)) refl refl
 
   success_yields : (call : DomainCall) → AllByRecursion (λ w. holds s node call w ≡ false) (words_of call) → Yields call (success s node call) (success_changes s node call)
   success_yields (create_at port) no_word =
@@ -300,10 +281,10 @@ module _ (o n : ℕ) (s : DomainState) (sound : Sound s) (below : Below s.reques
   success_yields (request_at port max) no_word = with_live (request_at port max) (success s node (request_at port max)) (local node port) _ no_word.0 (λ e is. request_yields port max e is (free_at (local node port) e is no_word.1.0))
   success_yields (available_at port) no_word = quiet_call (available_at port) (success s node (available_at port)) [] refl refl tt (omega arith) (all_old s) refl refl
   success_yields (connect_from port to kind) no_word = with_live (connect_from port to kind) (success s node (connect_from port to kind)) (local node port) _ no_word.0 (λ e is.
-      let none : e.queue ≡ [] = sym (queue_is (local node port) e is) ∙ no_length (queue_at s (local node port)) (or_off (not (length (queue_at s (local node port)) == 0)) (one_waits s (local node port)) no_word.1.1.0) in
+      let none : e.queue ≡ [] = sym (queue_is (local node port) e is) ∙ no_length (queue_at s (local node port)) (either_none (not (length (queue_at s (local node port)) == 0)) (one_waits s (local node port)) no_word.1.1.0).0 in
       quiet_call (connect_from port to kind) (success s node (connect_from port to kind)) _ refl refl
       (tt, (set_fits (local node port) e (Some (new_sender s to kind)) is (bound_empty e.queue none (Some (new_sender s to kind))), (not_received (channel_of (s.channels_given + 1)) (λ l. refl) None _, (tt, tt)))) (omega arith)
-      (old_last _ (inl refl) s.requests (all_old s)) refl refl)
+      (old_last s _ (inl refl) s.requests (all_old s)) refl refl)
   success_yields (open_at port side kind) no_word = with_end (open_at port side kind) agrees (local node port) (opens side kind) _ no_word.0 no_word.1.0 (λ e c is has.
       quiet_call (open_at port side kind) agrees _ refl refl (tt, (set_fits (local node port) e (Some (opened_end c)) is (bound_other e.queue c (opened_end c) refl refl (opened_mute c) (subst (Bound e.queue) has (bound_at (local node port) e is))), tt)) (omega arith) (all_old s) refl refl)
   success_yields (packet_from port bytes) no_word = with_end (packet_from port bytes) agrees (local node port) (sends Packet) _ no_word.0 no_word.1.0 (λ e c is has. quiet_call (packet_from port bytes) agrees _ refl refl (tt, tt) (omega arith) (all_old s) refl refl)

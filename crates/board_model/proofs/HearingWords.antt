@@ -17,8 +17,9 @@ use Rattle.board_model.specs.TakenFrames.{row_of, last_row, rows_by, item_of}
 use Rattle.board_model.proofs.ChannelWords.{Way, not_begun, goes_to, is_over, Sent, sent_by, letters, Follows, InOrder}
 use Rattle.board_model.proofs.DeedRuns.{frames_if, takes_by}
 use Rattle.board_model.proofs.Hearing.{AllArrive, Heard, heard, Lists, HeardAt, Hearing, unheard, refused, heard_at}
-use Rattle.board_model.proofs.HearingFrames.{RepliesRead, by_rows}
+use Rattle.board_model.proofs.HearingFrames.{RepliesRead}
 use Rattle.board_model.proofs.HearingLetters.{going, who_hears, three_of, is_kind, row_at_end, row_at_channel, data_row, packet_row, scalar_row}
+use Rattle.board_model.proofs.LaneRows.{by_rows}
 
 module _ (read : RepliesRead) (o n : ℕ) (s : DomainState) (w : Way) (h : Lists) (b : ℕ) (have : HeardAt b w h (heard o n (endpoint_of s b))) where
   module _ (key : Option ℕ) (src dst : ℕ) where

@@ -16,7 +16,7 @@ use Rattle.mc_base.specs.declared.refusal.Refusal.TheVariants.{ChanDirection}
 use Rattle.board_model.proofs.ChannelWords.{is_sender, Way, not_begun, goes_to, is_over, Sent, sent_by, letter_on, letters, data_of, contents, Follows, way_after, InOrder, way_of}
 use Rattle.board_model.proofs.DeedRuns.{frames_if, frames_to, puts_by, takes_by}
 use Rattle.board_model.proofs.Hearing.{has_begun}
-use Rattle.board_model.proofs.HearingCalls.{Own, none_holds, not_false, of_end}
+use Rattle.board_model.proofs.HearingCalls.{Own, not_false, of_end}
 use Rattle.board_model.proofs.HearingLaw.{way_of-append, letters-append, contents-append}
 use Rattle.board_model.proofs.Sending.{sent_of, sent, Sending, fresh, numbered, SentAt}
 use Rattle.board_model.proofs.SendingCalls.{Reads}
@@ -29,6 +29,7 @@ use Rattle.board_model.specs.Deeds.{Deed, looks_back, puts_owed, looks_ahead, ta
 use Rattle.board_model.specs.DomainCall.{DomainCall, send_from, connect_from, open_at, packet_from, scalar_from, close_at}
 use Rattle.board_model.specs.Journal.{PlainAnswer, refuses}
 use Rattle.board_model.specs.State.{ChannelEnd, Endpoint, DomainState, address_at, live_at, endpoint_of, channel_in}
+use Rattle.board_model.proofs.OrderCalls.{none_holds}
 
 -- ---- what a deed puts of the channel
 

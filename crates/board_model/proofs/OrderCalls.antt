@@ -1,6 +1,6 @@
 -- What taken frames and calls do to the messages that are queued.
 use Rattle.std.proofs.Common.{◌≡◌, ◌⊎◌, inl, inr, ℕ, ◌+◌, ◌-◌, ◌≤◌, Bool, true, false, not, cond, List, [], ◌∷◌, ◌++◌, map, filter, drop, find, flat_map, length, Option, Some, None, option_map, option_to_list, refl, sym, ap, ap₂, ◌∙◌, subst, arith}
-use Rattle.std.specs.Prelude.{◌==◌, ◌&&◌, ◌||◌, is_none, is_some}
+use Rattle.std.specs.Prelude.{◌==◌, ◌&&◌, ◌||◌, is_some}
 use Rattle.std.specs.List.{AllByRecursion}
 use Rattle.std.proofs.lemmas.Bool.{eqb-true, eq-eqb, and_parts}
 use Rattle.std.proofs.lemmas.List.{append-nil}
@@ -20,7 +20,7 @@ use Rattle.mc_base.specs.declared.refusal.Refusal.TheVariants.{EndpInvalid, NotC
 use Rattle.board_model.specs.DomainCall.{DomainCall, create_at, delete_at, lookup_of, send_from, receive_at, request_at, available_at, connect_from, open_at, packet_from, lend_at, packet_request_at, release_of, scalar_from, scalar_at, close_at, test_of, cancel_of, turn_alone}
 use Rattle.board_model.specs.Journal.{PlainAnswer, refuses, agrees}
 use Rattle.board_model.specs.Choice.{least, best, without_best, oldest}
-use Rattle.board_model.specs.State.{Item, ChannelEnd, Endpoint, Asked, name_of, channel_of, message_at, packet_at, Outcome, has_address, has_item, Request, DomainState, is_at, has_address_of, live_at, place_at, endpoint_at, queue_at, endpoint_of, request_at_place, queue_in, channel_in, one_waits, receives_at}
+use Rattle.board_model.specs.State.{Item, ChannelEnd, Endpoint, Asked, name_of, channel_of, message_at, packet_at, has_address, has_item, DomainState, is_at, has_address_of, live_at, place_at, endpoint_at, queue_at, endpoint_of, request_at_place, queue_in, channel_in, one_waits, receives_at}
 use Rattle.board_model.specs.Answer.{local, holds, words_of, refusal, success, answer, answer_by, unless_refused, lent_whole, value_of, given as given_first, address_of, has_channel, channel_at, end_holds, holds_at_end}
 use Rattle.board_model.specs.Change.{Change, end_announced, asks_for, all_done, best_gone, oldest_gone, channel_set, queue_dropped, request_added, request_gone, endpoint_gone, waiting_ended, ended_in, with_queue, with_channel, buffer_used, packet_lent, packet_gone, channel_given, at_address, changed, changed_all}
 use Rattle.board_model.specs.ChannelEnds.{EndCall, opens, sends, receives, closes, same_side, opened_end, closed_end}
@@ -42,8 +42,8 @@ use Rattle.board_model.proofs.OrderItems.{IsPast, IsNext, all_past_more, next_pa
 use Rattle.board_model.proofs.OrderQueues.{messages_at, messages_of, messages_none, queued_for, queued_same, queued_made, queued_gone, queued_best}
 use Rattle.board_model.proofs.OrderRequests.{RequestsBy, kept, turned, gone, given, found_turns, ended_by, items_one, no_items}
 use Rattle.board_model.proofs.OrderSerials.{Serials, given_by_all, serials_changes, succeeds}
-use Rattle.board_model.proofs.OrderSound.{all_changed, only_at, Sound, CameOn, came-no-message, Bound, bound_empty, MayAsk, FitAllSound, sound_change, sound_changes, sound_own}
-use Rattle.board_model.proofs.OrderTakings.{taken_of, IsOld, all_old, none_taken, done_old, ended_old, old_without, added_takes}
+use Rattle.board_model.proofs.OrderSound.{all_changed, only_at, Sound, CameOn, came-no-message, Bound, bound_empty, MayAsk, FitAllSound, sound_change, sound_changes, sound_own, not_received, not_waiting}
+use Rattle.board_model.proofs.OrderTakings.{taken_of, IsOld, all_old, none_taken, done_old, ended_old, old_without, added_takes, old_last}
 
 -- what is known at a moment, where so many requests may still be given
 pub record Moment (room : ℕ) (before : List Deed) (s : DomainState) : Type 0 where
@@ -249,22 +249,9 @@ module _ (room : ℕ) (before : List Deed) (s : DomainState) (moment : Moment ro
 
   -- ---- lookup
 
-  -- what asks for no item may be asked anywhere
-  not_received : (asked : Asked) → ((l : Local) → receives_at l asked ≡ false) → (o : Option Outcome) (es : List Endpoint) → AllByRecursion (MayAsk asked o) es
-  not_received asked other o [] = tt
-  not_received asked other o (e ∷ es) = ((λ h. absurd (never (is_none o) (receives_at e.local asked) (other e.local) h)), not_received asked other o es)
-    where
-      never : (a b : Bool) → b ≡ false → (a && b) ≡ true → ⊥
-      never true b off h = absurd cc
-      never false b off h = absurd cc
-
-  old_last : (r : Request) → IsOld s r → (rs : List Request) → AllByRecursion (IsOld s) rs → AllByRecursion (IsOld s) (rs ++ r ∷ [])
-  old_last r old [] all = (old, tt)
-  old_last r old (x ∷ xs) all = (all.0, old_last r old xs all.1)
-
   lookup_effect : (name : EndName) (x : Option ℕ) → Effect before s (request_added (name_of name) (option_map has_address x) ∷ []) [] (λ b. [])
-  lookup_effect name None = quiet before s (request_added (name_of name) None ∷ []) (not_received (name_of name) (λ l. refl) None s.endpoints, tt) (old_last _ (inl refl) s.requests (all_old s)) (λ b. refl) (given (name_of name) None [] tt (λ k. sym (no_items (s.requests_given == k))))
-  lookup_effect name (Some a) = quiet before s (request_added (name_of name) (Some (has_address a)) ∷ []) (not_received (name_of name) (λ l. refl) (Some (has_address a)) s.endpoints, tt) (old_last _ (inl refl) s.requests (all_old s)) (λ b. refl) (given (name_of name) (Some (has_address a)) [] tt (λ k. sym (no_items (s.requests_given == k))))
+  lookup_effect name None = quiet before s (request_added (name_of name) None ∷ []) (not_received (name_of name) (λ l. refl) None s.endpoints, tt) (old_last s _ (inl refl) s.requests (all_old s)) (λ b. refl) (given (name_of name) None [] tt (λ k. sym (no_items (s.requests_given == k))))
+  lookup_effect name (Some a) = quiet before s (request_added (name_of name) (Some (has_address a)) ∷ []) (not_received (name_of name) (λ l. refl) (Some (has_address a)) s.endpoints, tt) (old_last s _ (inl refl) s.requests (all_old s)) (λ b. refl) (given (name_of name) (Some (has_address a)) [] tt (λ k. sym (no_items (s.requests_given == k))))
 
   lookup_does : (name : EndName) → refusal s node (lookup_of name) ≡ None → 1 ≤ room → Does room before s (calls node (lookup_of name) (success s node (lookup_of name)))
   lookup_does name is fits = quiet_does (lookup_of name) (success s node (lookup_of name)) is refl (λ b. refl) (omega arith) (lookup_effect name (address_of s name))
@@ -398,11 +385,7 @@ module _ (room : ℕ) (before : List Deed) (s : DomainState) (moment : Moment ro
       let names = own_name at s.endpoints e found in
       ap₂ (λ n p. find (λ x. x.local.node == n && x.local.port == p) s.endpoints) names.0 names.1 ∙ found
 
-  -- none waits that is complete at once; and where nothing is queued one may wait
-  not_waiting : (asked : Asked) (i : Item) (es : List Endpoint) → AllByRecursion (MayAsk asked (Some (has_item i))) es
-  not_waiting asked i [] = tt
-  not_waiting asked i (e ∷ es) = ((λ h. absurd cc), not_waiting asked i es)
-
+  -- where nothing is queued one may wait
   message_turned : (f : Endpoint) (at : Local) (max : ℕ) → receives_at f.local (message_at at max) ≡ is_at at f
   message_turned f at max = grind (arith, eqb-true, eq-eqb)
 
@@ -419,7 +402,7 @@ module _ (room : ℕ) (before : List Deed) (s : DomainState) (moment : Moment ro
   request_effect : (e : Endpoint) (at : Local) (max : ℕ) → live_at s at ≡ Some e → e.channel ≡ None → (x : Option Item) → best_item e ≡ x → Effect before s (best_gone e.address ∷ request_added (message_at e.local max) (option_map has_item x) ∷ []) [] (λ b. [])
   request_effect e at max found free None none =
       let empty : e.queue ≡ [] = best-none (λ i. i.priority) e.queue none in
-      quiet before s (best_gone e.address ∷ request_added (message_at e.local max) None ∷ []) (tt, (may_wait e at (message_at e.local max) (without_best (λ i. i.priority)) refl (λ f. message_turned f e.local max) found empty, tt)) (old_last _ (inl refl) s.requests (all_old s))
+      quiet before s (best_gone e.address ∷ request_added (message_at e.local max) None ∷ []) (tt, (may_wait e at (message_at e.local max) (without_best (λ i. i.priority)) refl (λ f. message_turned f e.local max) found empty, tt)) (old_last s _ (inl refl) s.requests (all_old s))
       (λ b. queued_best s e.address b ∙ same b (e.address == b) refl) (given (message_at e.local max) None [] tt (λ k. sym (no_items (s.requests_given == k))))
     where
       same : (b : ℕ) (c : Bool) → (e.address == b) ≡ c → cond c (without_best (λ i. i.priority) (queued_for s b)) (queued_for s b) ≡ queued_for s b
@@ -454,7 +437,7 @@ module _ (room : ℕ) (before : List Deed) (s : DomainState) (moment : Moment ro
       let t : DomainState = changed s (buffer_used peer) in
       quiet before s (buffer_used peer ∷ channel_set e.address (Some c) ∷ request_added (channel_of number) None ∷ channel_given ∷ [])
       (tt, ((λ f is. let same : e ≡ f = one f is in subst (λ x. Bound x.queue (Some c)) same (bound_empty e.queue none (Some c))), (not_received (channel_of number) (λ l. refl) None (changed t (channel_set e.address (Some c))).endpoints, (tt, tt))))
-      (old_last _ (inl refl) s.requests (all_old s))
+      (old_last s _ (inl refl) s.requests (all_old s))
       (λ b. queued_same (with_channel (Some c)) (λ x. refl) t e.address b (λ f is. let same : e ≡ f = one f is in subst (λ (x : Endpoint). [] ≡ messages_at x.channel x.queue) same (sym (ap (messages_at e.channel) none ∙ messages_none e.channel))))
       (given (channel_of number) None [] tt (λ k. sym (no_items (s.requests_given == k))))
     where
@@ -622,7 +605,7 @@ module _ (room : ℕ) (before : List Deed) (s : DomainState) (moment : Moment ro
     packet_effect : (x : Option Item) → oldest e.queue ≡ x → Effect before s (oldest_gone e.address ∷ request_added (packet_at e.local) (option_map has_item x) ∷ []) [] (λ b. [])
     packet_effect None none =
         quiet before s (oldest_gone e.address ∷ request_added (packet_at e.local) None ∷ [])
-        (tt, (may_wait e at (packet_at e.local) (drop 1) refl (λ f. packet_turned f e.local) found (empty e.queue none), tt)) (old_last _ (inl refl) s.requests (all_old s)) oldest_kept (given (packet_at e.local) None [] tt (λ k. sym (no_items (s.requests_given == k))))
+        (tt, (may_wait e at (packet_at e.local) (drop 1) refl (λ f. packet_turned f e.local) found (empty e.queue none), tt)) (old_last s _ (inl refl) s.requests (all_old s)) oldest_kept (given (packet_at e.local) None [] tt (λ k. sym (no_items (s.requests_given == k))))
       where
         empty : (q : List Item) → oldest q ≡ None → q ≡ []
         empty [] h = refl

@@ -36,7 +36,7 @@ use Rattle.board_model.proofs.OrderTakings.{all_old, done_old, ended_old, waiter
 
 -- ---- what the conditions of rows say
 
-both_hold : (a b : Bool) → a ≡ true → (a && b) ≡ false → b ≡ false
+pub both_hold : (a b : Bool) → a ≡ true → (a && b) ≡ false → b ≡ false
 both_hold a b on off = let k : (true && b) ≡ false = subst (λ x. (x && b) ≡ false) on off in k
 
 pub no_length : (q : List Item) → not (length q == 0) ≡ false → q ≡ []
@@ -55,7 +55,7 @@ sender : (peer n : ℕ) (c : ChannelEnd) → sends_to peer n c ≡ true → same
 sender peer n c on = (and_parts (same_side c.side Sender) (c.number == n && c.peer == peer) on).0
 
 -- an end that a packet or a scalar is queued at
-hears_loud : (owner number : ℕ) (k : Kind) (c : ChannelEnd) → (hears_from owner number c && (same_kind c.kind k && (not c.far_closed && is_closed c.stage))) ≡ false → (hears_from owner number c && (same_kind c.kind k && not c.far_closed)) ≡ true → is_mute c ≡ false
+pub hears_loud : (owner number : ℕ) (k : Kind) (c : ChannelEnd) → (hears_from owner number c && (same_kind c.kind k && (not c.far_closed && is_closed c.stage))) ≡ false → (hears_from owner number c && (same_kind c.kind k && not c.far_closed)) ≡ true → is_mute c ≡ false
 hears_loud owner number k c off on =
     let hears = and_parts (hears_from owner number c) (same_kind c.kind k && not c.far_closed) on in
     let more = and_parts (same_kind c.kind k) (not c.far_closed) hears.1 in

@@ -9,7 +9,7 @@ use Rattle.mc_base.specs.declared.name.Local.{Local}
 use Rattle.mc_base.specs.declared.channel.Side.TheVariants.{Sender}
 use Rattle.board_model.specs.Lists.{changed_first, without, without_at}
 use Rattle.board_model.specs.Choice.{best_place, without_best}
-use Rattle.board_model.specs.State.{Item, ChannelEnd, Endpoint, Asked, Outcome, has_address, Request, DomainState, is_at, has_address_of, live_at, endpoint_of, receives_at, waits_at}
+use Rattle.board_model.specs.State.{Item, ChannelEnd, Endpoint, Asked, Outcome, has_address, has_item, Request, DomainState, is_at, has_address_of, live_at, endpoint_of, receives_at, waits_at}
 use Rattle.board_model.specs.Change.{Change, endpoint_made, endpoint_gone, item_queued, best_gone, oldest_gone, channel_set, queue_dropped, request_added, item_handed, waiting_ended, name_found, connect_settled, request_gone, done_with, all_done, handed_in, ended_in, with_queue, with_channel, without_queue, endpoint_with, at_address, asks_for, connects_on, changed, changed_all}
 use Rattle.board_model.specs.ChannelEnds.{same_side, is_closed}
 use Rattle.board_model.specs.Channels.{is_numbered, is_of_channel}
@@ -243,6 +243,19 @@ pub record Sound (s : DomainState) : Type 0 where
 -- one that is asked so, and complete or not, may wait at the endpoint
 abbrev pub MayAsk : Asked → Option Outcome → Endpoint → Type 0
 MayAsk asked o e = is_none o && receives_at e.local asked ≡ true → e.queue ≡ []
+
+-- what asks for no item may be asked anywhere, and so may what is complete
+pub not_received : (asked : Asked) → ((l : Local) → receives_at l asked ≡ false) → (o : Option Outcome) (es : List Endpoint) → AllByRecursion (MayAsk asked o) es
+not_received asked other o [] = tt
+not_received asked other o (e ∷ es) = ((λ h. absurd (never (is_none o) (receives_at e.local asked) (other e.local) h)), not_received asked other o es)
+  where
+    never : (a b : Bool) → b ≡ false → (a && b) ≡ true → ⊥
+    never true b off h = absurd cc
+    never false b off h = absurd cc
+
+pub not_waiting : (asked : Asked) (i : Item) (es : List Endpoint) → AllByRecursion (MayAsk asked (Some (has_item i))) es
+not_waiting asked i [] = tt
+not_waiting asked i (e ∷ es) = ((λ h. absurd cc), not_waiting asked i es)
 
 -- what is asked where a change comes
 abbrev pub FitsSound : DomainState → Change → Type 0

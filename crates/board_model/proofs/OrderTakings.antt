@@ -217,3 +217,8 @@ added_takes s asked o below = taken_last s s.requests (record { serial = s.reque
     go (Some is_accepted) = old_takes_none s (record { serial = s.requests_given; asked = asked; outcome = Some is_accepted }) (inl refl)
     go (Some (is_rejected w)) = old_takes_none s (record { serial = s.requests_given; asked = asked; outcome = Some (is_rejected w) }) (inl refl)
     go (Some (has_ended w)) = old_takes_none s (record { serial = s.requests_given; asked = asked; outcome = Some (has_ended w) }) (inl refl)
+
+-- where one more takes nothing
+pub old_last : (s : DomainState) (r : Request) → IsOld s r → (rs : List Request) → AllByRecursion (IsOld s) rs → AllByRecursion (IsOld s) (rs ++ r ∷ [])
+old_last s r old [] all = (old, tt)
+old_last s r old (x ∷ xs) all = (all.0, old_last s r old xs all.1)

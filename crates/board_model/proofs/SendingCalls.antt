@@ -16,9 +16,9 @@ use Rattle.mc_base.specs.declared.refusal.Refusal.{Refusal}
 use Rattle.mc_base.specs.declared.refusal.Refusal.TheVariants.{NotConnected, ChanDirection, ChanType, ChanClosed}
 use Rattle.board_model.proofs.DeedRuns.{frames_to, puts_by}
 use Rattle.board_model.proofs.Views.{seen}
-use Rattle.board_model.proofs.HearingCalls.{Own, none_holds, no_end, or_parts, not_false, of_end}
+use Rattle.board_model.proofs.HearingCalls.{Own, no_end, or_parts, not_false, of_end}
 use Rattle.board_model.proofs.HearingChanges.{same_at, at_it}
-use Rattle.board_model.proofs.MessageLists.{get-position, some-position}
+use Rattle.board_model.proofs.MessageLists.{get-position}
 use Rattle.board_model.proofs.Sending.{sent_of, sent, Accepted, Outgoing, SentAt, NoneSends, Sending, fresh, numbered, Alters, same, FitAllOut, sending_changes}
 use Rattle.board_model.proofs.SendingFrames.{turned_to, gone_from}
 use Rattle.board_model.proofs.ChannelWords.{is_sender, Way, not_begun, goes_to, is_over, Sent, sent_by, letter_on, letters, contents, Follows, way_after, InOrder, way_of}
@@ -30,7 +30,9 @@ use Rattle.board_model.specs.Choice.{oldest}
 use Rattle.board_model.specs.Deeds.{calls}
 use Rattle.board_model.specs.DomainCall.{DomainCall, create_at, delete_at, lookup_of, send_from, receive_at, request_at, available_at, connect_from, open_at, packet_from, lend_at, packet_request_at, release_of, scalar_from, scalar_at, close_at, test_of, cancel_of, turn_alone}
 use Rattle.board_model.specs.Journal.{PlainAnswer}
-use Rattle.board_model.specs.State.{Item, ChannelEnd, Endpoint, Asked, channel_of, packet_at, Outcome, has_item, Request, DomainState, closed, is_at, place_at, endpoint_at, address_at, live_at, endpoint_of, channel_in, request_at_place}
+use Rattle.board_model.specs.State.{Item, ChannelEnd, Endpoint, Asked, channel_of, packet_at, Outcome, has_item, Request, DomainState, closed, is_at, endpoint_at, address_at, live_at, endpoint_of, channel_in, request_at_place}
+use Rattle.board_model.proofs.OrderCalls.{none_holds}
+use Rattle.board_model.proofs.StateEnds.{there_is}
 
 -- the frame says the letter
 abbrev pub Reads : Post → Type 0
@@ -45,14 +47,6 @@ kind_is Scalar Packet e = absurd cc
 no_sender : (side : Side) → same_side side Receiver ≡ true → is_sender side ≡ false
 no_sender Sender it = absurd cc
 no_sender Receiver it = refl
-
--- the endpoint of a call that is not refused for want of one
-there_is : (s : DomainState) (at : Local) → not (is_some (place_at s at)) ≡ false → (e : Endpoint) × (live_at s at ≡ Some e)
-there_is s at there = go (live_at s at) (sym (some-position (is_at at) s.endpoints))
-  where
-    go : (o : Option Endpoint) → is_some o ≡ is_some (place_at s at) → (e : Endpoint) × (o ≡ Some e)
-    go None found = absurd cc
-    go (Some e) found = (e, refl)
 
 module _ (n p : ℕ) (w : Way) (t m : List (List ℕ)) (s : DomainState) (own : Own s) (sending : Sending n p w t m s) where
   -- what is known after letters were put and changes made

@@ -1,11 +1,11 @@
 -- What frames do to the sender's end of a channel.
 use Rattle.std.proofs.Common.{◌≡◌, ℕ, Bool, true, false, not, cond, ◌⊎◌, inl, inr, List, Option, Some, None, refl, sym, ap₂, ◌∙◌, subst, arith}
-use Rattle.std.specs.Prelude.{◌==◌, ◌&&◌, is_some}
+use Rattle.std.specs.Prelude.{◌==◌, ◌&&◌}
 use Rattle.std.proofs.lemmas.Bool.{and_parts, eqb-true, eq-eqb, cond_both}
 use Rattle.mc_base.specs.Letter.{PlainLetter, msg, connect, accept, reject, recv_open, send_open, packet, scalar, send_close, recv_close}
 use Rattle.mc_base.specs.declared.channel.Kind.{Kind}
 use Rattle.board_model.proofs.Hearing.{accepts}
-use Rattle.board_model.proofs.HearingFrames.{by_names, by_rows}
+use Rattle.board_model.proofs.HearingFrames.{by_names}
 use Rattle.board_model.proofs.Sending.{sent_of, Accepted, Alters, same, turned, gone, FitsOut, FitAllOut}
 use Rattle.board_model.proofs.ChannelWords.{is_sender}
 use Rattle.board_model.specs.Change.{channel_set}
@@ -13,10 +13,8 @@ use Rattle.board_model.specs.ChannelEnds.{sends_to, is_closed, is_connecting, fa
 use Rattle.board_model.specs.State.{Item, ChannelEnd, Endpoint, DomainState, connected, endpoint_of}
 use Rattle.board_model.specs.TakenFrames.{Row, first_row, rows, letter_rows, channel_rows, message_rows, connect_rows}
 use Rattle.mc_base.specs.Reading.{Reading, is_faulty, announces, says}
-
-no_end : (x : Option ChannelEnd) → is_some x ≡ false → x ≡ None
-no_end None h = refl
-no_end (Some c) h = absurd cc
+use Rattle.board_model.proofs.LaneRows.{by_rows}
+use Rattle.board_model.proofs.HearingCalls.{no_end}
 
 not_true : (b : Bool) → not b ≡ true → b ≡ false
 not_true true e = absurd cc
