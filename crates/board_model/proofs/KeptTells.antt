@@ -4,7 +4,7 @@ use Rattle.std.proofs.Common.{◌≡◌, ℕ, ◌+◌, ◌<◌, ◌^◌, List, [
 use Rattle.std.specs.Prelude.{◌==◌}
 use Rattle.std.specs.List.{AllByRecursion, flat_map}
 use Rattle.board_model.specs.declared.scenario.Call.{Call}
-use Rattle.board_model.specs.declared.scenario.Call.TheVariants.{Create, Delete, Lookup, MsgSend, MsgRecv, MsgRecvI, MsgAvailable, Connect, OpenSend, OpenRecv, CloseSend, CloseRecv, Test, Cancel, Turn}
+use Rattle.board_model.specs.declared.scenario.Call.TheVariants.{Create, Delete, Lookup, MsgSend, MsgRecv, MsgRecvI, MsgAvailable, Connect, OpenSend, OpenRecv, PktSend, PktRecv, PktRecvI, Release, SclSend, SclRecv, CloseSend, CloseRecv, Test, Cancel, Turn}
 use Rattle.board_model.specs.declared.scenario.CallLine.{CallLine}
 use Rattle.board_model.specs.declared.scenario.DomainLine.{DomainLine}
 use Rattle.board_model.specs.declared.scenario.Scenario.{Scenario}
@@ -12,7 +12,7 @@ use Rattle.board_model.specs.Scenario.{script, neighbours}
 use Rattle.board_model.specs.LinkedBoard.{HasFitArguments, IsLinkedBoard}
 use Rattle.board_model.specs.Journal.{PlainEntry, turned, put, again, called, PlainAnswer, refuses, Visit, Taken}
 use Rattle.board_model.specs.State.{DomainState}
-use Rattle.board_model.specs.Labels.{Labelled, call_of}
+use Rattle.board_model.specs.Labels.{Labels, call_of}
 use Rattle.board_model.specs.Step.{RunState, Allowed, next_line, after}
 use Rattle.board_model.specs.Run.{start, Leads, after_all, left_by, IsDomainRun}
 use Rattle.board_model.specs.Traffic.{put_to, taken_from}
@@ -78,7 +78,7 @@ any_visit (v ∷ vs) = (tt, any_visit vs)
 
 -- ---- calls are as the scenario has them
 
-fits_call : (labels : List Labelled) (s : DomainState) (node : ℕ) (call : Call) (a : PlainAnswer) → HasFitArguments call → FitsDeed (calls node (call_of labels s call) a)
+fits_call : (labels : Labels) (s : DomainState) (node : ℕ) (call : Call) (a : PlainAnswer) → HasFitArguments call → FitsDeed (calls node (call_of labels s call) a)
 fits_call labels s node (MsgSend port to priority bytes) a fits = fits.2
 fits_call labels s node (Create port) a fits = tt
 fits_call labels s node (Delete port) a fits = tt
@@ -89,6 +89,12 @@ fits_call labels s node (MsgAvailable port) a fits = tt
 fits_call labels s node (Connect port to kind) a fits = tt
 fits_call labels s node (OpenSend port kind) a fits = tt
 fits_call labels s node (OpenRecv port kind) a fits = tt
+fits_call labels s node (PktSend port bytes) a fits = tt
+fits_call labels s node (PktRecv port) a fits = tt
+fits_call labels s node (PktRecvI port) a fits = tt
+fits_call labels s node (Release label) a fits = tt
+fits_call labels s node (SclSend port bits value) a fits = tt
+fits_call labels s node (SclRecv port bits) a fits = tt
 fits_call labels s node (CloseSend port) a fits = tt
 fits_call labels s node (CloseRecv port) a fits = tt
 fits_call labels s node (Test label) a fits = tt

@@ -7,11 +7,11 @@ use Rattle.std.proofs.lemmas.List.Sums.{sum_by-cons}
 use Rattle.mc_base.specs.Reading.{reading}
 use Rattle.mc_base.specs.declared.refusal.Refusal.{Refusal}
 use Rattle.board_model.specs.declared.scenario.Call.{Call}
-use Rattle.board_model.specs.declared.scenario.Call.TheVariants.{Create, Delete, Lookup, MsgSend, MsgRecv, MsgRecvI, MsgAvailable, Connect, OpenSend, OpenRecv, CloseSend, CloseRecv, Test, Cancel, Turn}
+use Rattle.board_model.specs.declared.scenario.Call.TheVariants.{Create, Delete, Lookup, MsgSend, MsgRecv, MsgRecvI, MsgAvailable, Connect, OpenSend, OpenRecv, PktSend, PktRecv, PktRecvI, Release, SclSend, SclRecv, CloseSend, CloseRecv, Test, Cancel, Turn}
 use Rattle.board_model.specs.declared.scenario.CallLine.{CallLine}
 use Rattle.board_model.specs.Journal.{PlainEntry, turned, put, again, called, PlainAnswer, refuses, agrees, tells, connects, gives, completes, Visit, Taken, Line, turn_line, back_line, put_line, see_line, call_line, taken_line, looked, visit_lines, joined}
 use Rattle.board_model.specs.State.{Item, DomainState, Endpoint, is_at, live_at, endpoint_at, queue_in, queue_at}
-use Rattle.board_model.specs.Labels.{Labelled, call_of}
+use Rattle.board_model.specs.Labels.{Labels, call_of}
 use Rattle.mc_base.specs.declared.name.Local.{Local}
 use Rattle.board_model.specs.DomainCall.{DomainCall, create_at, delete_at, lookup_of, send_from, receive_at, request_at, available_at, connect_from, open_at, packet_from, lend_at, packet_request_at, release_of, scalar_from, scalar_at, close_at, test_of, cancel_of, turn_alone}
 use Rattle.board_model.specs.Answer.{local, has_channel, holds, words_of, refusal, answer_by}
@@ -198,7 +198,7 @@ told_or_none node port agrees = refl
 told_or_none node port (gives size bytes) = refl
 told_or_none node port (completes place x) = refl
 
-line_lost : (labels : List Labelled) (s : DomainState) (node : ℕ) (call : Call) (a : PlainAnswer) → lost_deed (calls node (call_of labels s call) a) ≡ cond (is_delete call) (number_told a) 0
+line_lost : (labels : Labels) (s : DomainState) (node : ℕ) (call : Call) (a : PlainAnswer) → lost_deed (calls node (call_of labels s call) a) ≡ cond (is_delete call) (number_told a) 0
 line_lost labels s node (Delete port) a = told_or_none node port a
 line_lost labels s node (Create port) a = refl
 line_lost labels s node (Lookup name) a = refl
@@ -209,6 +209,12 @@ line_lost labels s node (MsgAvailable port) a = refl
 line_lost labels s node (Connect port to kind) a = refl
 line_lost labels s node (OpenSend port kind) a = refl
 line_lost labels s node (OpenRecv port kind) a = refl
+line_lost labels s node (PktSend port bytes) a = refl
+line_lost labels s node (PktRecv port) a = refl
+line_lost labels s node (PktRecvI port) a = refl
+line_lost labels s node (Release label) a = refl
+line_lost labels s node (SclSend port bits value) a = refl
+line_lost labels s node (SclRecv port bits) a = refl
 line_lost labels s node (CloseSend port) a = refl
 line_lost labels s node (CloseRecv port) a = refl
 line_lost labels s node (Test label) a = refl

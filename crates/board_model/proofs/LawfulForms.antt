@@ -1,11 +1,14 @@
 -- The words of a call that fit its form and pass as numbers and bytes tell a call whose arguments are in their ranges.
-use Rattle.std.proofs.Common.{◌≡◌, ℕ, ◌≤◌, ◌<◌, ◌^◌, true, ◌&&◌, List, [], ◌∷◌, length, refl, arith}
+use Rattle.std.proofs.Common.{◌≡◌, ℕ, ◌-◌, ◌*◌, ◌≤◌, ◌<◌, ◌^◌, true, ◌&&◌, List, [], ◌∷◌, length, refl, arith}
 use Rattle.std.specs.List.{AllByRecursion, list_all}
 use Rattle.std.proofs.lemmas.Bool.{and_parts}
 use Rattle.mc_base.specs.Limits.{asked_limit}
+use Rattle.mc_base.specs.Letter.{bytes_of_bits}
+use Rattle.mc_base.specs.declared.channel.Bits.{Bits}
+use Rattle.mc_base.specs.declared.channel.Bits.TheVariants.{B8, B16, B32, B64}
 use Rattle.board_model.specs.declared.scenario.Call.{Call}
 use Rattle.board_model.specs.declared.form.ArgumentKind.{ArgumentKind}
-use Rattle.board_model.specs.declared.form.ArgumentKind.TheVariants.{Port, Name, Priority, Content, Maximum, ChannelKind, Label}
+use Rattle.board_model.specs.declared.form.ArgumentKind.TheVariants.{Port, Name, Priority, Content, Maximum, ChannelKind, ScalarBits, ScalarValue, RequestLabel, PacketLabel}
 use Rattle.board_model.specs.declared.form.Callee.{Callee}
 use Rattle.board_model.specs.declared.form.Callee.TheVariants as callee
 use Rattle.board_model.specs.Grammar.{IsLawfulName, form_words, call_words}
@@ -13,6 +16,7 @@ use Rattle.board_model.specs.LinkedBoard.{HasFitArguments}
 use Rattle.board_model.specs.FileWords.{numeral, is_number, number, content, are_bytes, is_label}
 use Rattle.board_model.specs.FileLines.{parts_at}
 use Rattle.board_model.specs.Forms.{Value, bits_told, are_three, argument_fits, name_numerals, argument_numerals, argument_contents, name_from, value, Values, made, form, arguments_fit, arguments_numerals, arguments_contents, values, call_made}
+use Rattle.std.proofs.Math.Nat.{pow-le-pow_right}
 use Rattle.board_model.proofs.LawfulTests.{all-both}
 use Rattle.board_model.proofs.LawfulWords.{number_fits, bytes_below, bytes_few}
 
@@ -26,7 +30,10 @@ IsFit Priority bits n = n ≤ 3
 IsFit Content bits bs = (length bs ≤ asked_limit) × AllByRecursion (λ b. b < 256) bs
 IsFit Maximum bits n = n ≤ asked_limit
 IsFit ChannelKind bits kind = Unit {0}
-IsFit Label bits label = is_label label.items ≡ true
+IsFit ScalarBits bits value = Unit {0}
+IsFit ScalarValue bits n = (n < 2 ^ bits) × (bits ≤ 64)
+IsFit RequestLabel bits label = is_label label.items ≡ true
+IsFit PacketLabel bits label = is_label label.items ≡ true
 
 abbrev pub AreFit : (kinds : List ArgumentKind) → (bits : ℕ) → Values kinds → Type 0
 AreFit [] bits arguments = Unit {0}
@@ -45,24 +52,49 @@ name_fits (d ∷ n ∷ p ∷ []) three all =
     ((number_fits 0 7 d first.0).1, (number_fits 0 15 n second.0).1, omega (arith, one_number 0 65535 p second.1))
 name_fits (d ∷ n ∷ p ∷ q ∷ qs) three all = absurd cc
 
-kind_fits : (kind : ArgumentKind) (bits : ℕ) (word : List ℕ) → argument_fits kind word ≡ true → list_all is_number (argument_numerals kind bits word) ≡ true → list_all are_bytes (argument_contents kind word) ≡ true → IsFit kind bits (value kind word)
-kind_fits Port bits word fit numbers bytes = omega (arith, one_number 0 65535 word numbers)
-kind_fits Name bits word fit numbers bytes = name_fits (parts_at 58 word) fit numbers
-kind_fits Priority bits word fit numbers bytes = one_number 0 3 word numbers
-kind_fits Content bits word fit numbers bytes = ((bytes_few 0 asked_limit word (and_parts (are_bytes (content 0 asked_limit word)) true bytes).0).1, bytes_below word)
-kind_fits Maximum bits word fit numbers bytes = one_number 0 asked_limit word numbers
-kind_fits ChannelKind bits word fit numbers bytes = tt
-kind_fits Label bits word fit numbers bytes = fit
+-- scalars have 64 bits at most
+few_bits : (bits : Bits) → 8 * bytes_of_bits bits ≤ 64
+few_bits B8 = omega arith
+few_bits B16 = omega arith
+few_bits B32 = omega arith
+few_bits B64 = omega arith
 
-pub values-fit : (kinds : List ArgumentKind) (bits : ℕ) (words : List (List ℕ)) → arguments_fit kinds words ≡ true → list_all is_number (arguments_numerals kinds bits words) ≡ true → list_all are_bytes (arguments_contents kinds words) ≡ true → AreFit kinds bits (values kinds words)
-values-fit [] bits words fit numbers bytes = tt
-values-fit (k ∷ ks) bits [] fit numbers bytes = absurd cc
-values-fit (k ∷ ks) bits (w ∷ ws) fit numbers bytes =
+told_few : (kind : ArgumentKind) (v : Value kind) → bits_told kind v ≤ 64
+told_few ScalarBits bits = few_bits bits
+told_few Port v = omega arith
+told_few Name v = omega arith
+told_few Priority v = omega arith
+told_few Content v = omega arith
+told_few Maximum v = omega arith
+told_few ChannelKind v = omega arith
+told_few ScalarValue v = omega arith
+told_few RequestLabel v = omega arith
+told_few PacketLabel v = omega arith
+
+value_below : (bits n : ℕ) → n ≤ 2 ^ bits - 1 → n < 2 ^ bits
+value_below bits n le = let least : 0 ≤ bits = omega arith in let some : 2 ^ 0 ≤ 2 ^ bits = pow-le-pow_right (omega arith) least in omega (arith, le, some)
+
+kind_fits : (kind : ArgumentKind) (bits : ℕ) (word : List ℕ) → bits ≤ 64 → argument_fits kind word ≡ true → list_all is_number (argument_numerals kind bits word) ≡ true → list_all are_bytes (argument_contents kind word) ≡ true → IsFit kind bits (value kind word)
+kind_fits Port bits word few fit numbers bytes = omega (arith, one_number 0 65535 word numbers)
+kind_fits Name bits word few fit numbers bytes = name_fits (parts_at 58 word) fit numbers
+kind_fits Priority bits word few fit numbers bytes = one_number 0 3 word numbers
+kind_fits Content bits word few fit numbers bytes = ((bytes_few 0 asked_limit word (and_parts (are_bytes (content 0 asked_limit word)) true bytes).0).1, bytes_below word)
+kind_fits Maximum bits word few fit numbers bytes = one_number 0 asked_limit word numbers
+kind_fits ChannelKind bits word few fit numbers bytes = tt
+kind_fits ScalarBits bits word few fit numbers bytes = tt
+kind_fits ScalarValue bits word few fit numbers bytes = (value_below bits (number word) (one_number 0 (2 ^ bits - 1) word numbers), few)
+kind_fits RequestLabel bits word few fit numbers bytes = fit
+kind_fits PacketLabel bits word few fit numbers bytes = fit
+
+pub values-fit : (kinds : List ArgumentKind) (bits : ℕ) (words : List (List ℕ)) → bits ≤ 64 → arguments_fit kinds words ≡ true → list_all is_number (arguments_numerals kinds bits words) ≡ true → list_all are_bytes (arguments_contents kinds words) ≡ true → AreFit kinds bits (values kinds words)
+values-fit [] bits words few fit numbers bytes = tt
+values-fit (k ∷ ks) bits [] few fit numbers bytes = absurd cc
+values-fit (k ∷ ks) bits (w ∷ ws) few fit numbers bytes =
     let next : ℕ = bits_told k (value k w) in
     let forms = and_parts (argument_fits k w) (arguments_fit ks ws) fit in
     let ranges = all-both is_number (argument_numerals k bits w) (arguments_numerals ks next ws) numbers in
     let contents = all-both are_bytes (argument_contents k w) (arguments_contents ks ws) bytes in
-    (kind_fits k bits w forms.0 ranges.0 contents.0, values-fit ks next ws forms.1 ranges.1 contents.1)
+    (kind_fits k bits w few forms.0 ranges.0 contents.0, values-fit ks next ws (told_few k (value k w)) forms.1 ranges.1 contents.1)
 
 -- ---- the table
 
@@ -81,6 +113,12 @@ words-made callee.MsgAvailable arguments = refl
 words-made callee.Connect arguments = refl
 words-made callee.OpenSend arguments = refl
 words-made callee.OpenRecv arguments = refl
+words-made callee.PktSend arguments = refl
+words-made callee.PktRecv arguments = refl
+words-made callee.PktRecvI arguments = refl
+words-made callee.Release arguments = refl
+words-made callee.SclSend arguments = refl
+words-made callee.SclRecv arguments = refl
 words-made callee.CloseSend arguments = refl
 words-made callee.CloseRecv arguments = refl
 words-made callee.Test arguments = refl
@@ -98,6 +136,12 @@ has_fit callee.MsgAvailable arguments h = h.0
 has_fit callee.Connect arguments h = (h.0, h.1.0)
 has_fit callee.OpenSend arguments h = h.0
 has_fit callee.OpenRecv arguments h = h.0
+has_fit callee.PktSend arguments h = (h.0, h.1.0.0, h.1.0.1)
+has_fit callee.PktRecv arguments h = h.0
+has_fit callee.PktRecvI arguments h = h.0
+has_fit callee.Release arguments h = tt
+has_fit callee.SclSend arguments h = (h.0, h.1.1.0.0)
+has_fit callee.SclRecv arguments h = h.0
 has_fit callee.CloseSend arguments h = h.0
 has_fit callee.CloseRecv arguments h = h.0
 has_fit callee.Test arguments h = tt
@@ -105,4 +149,4 @@ has_fit callee.Cancel arguments h = tt
 has_fit callee.Turn arguments h = tt
 
 pub call-fits : (c : Callee) (words : List (List ℕ)) → arguments_fit (form c).arguments words ≡ true → list_all is_number (arguments_numerals (form c).arguments 0 words) ≡ true → list_all are_bytes (arguments_contents (form c).arguments words) ≡ true → HasFitArguments (call_made c words)
-call-fits c words fit numbers bytes = has_fit c (values (form c).arguments words) (values-fit (form c).arguments 0 words fit numbers bytes)
+call-fits c words fit numbers bytes = has_fit c (values (form c).arguments words) (values-fit (form c).arguments 0 words (omega arith) fit numbers bytes)

@@ -15,17 +15,17 @@ use Rattle.mc_base.specs.declared.refusal.Refusal.TheVariants.{EndpInvalid, Chan
 use Rattle.board_model.specs.DomainCall.{DomainCall, create_at, delete_at, lookup_of, send_from, receive_at, request_at, available_at, connect_from, open_at, packet_from, lend_at, packet_request_at, release_of, scalar_from, scalar_at, close_at, test_of, cancel_of, turn_alone}
 use Rattle.board_model.specs.Lists.{without_at, without}
 use Rattle.board_model.specs.Journal.{Visit}
-use Rattle.board_model.specs.State.{DomainState, ChannelEnd, Endpoint, Item, Asked, Request, Outcome, channel_of, message_at, packet_at, has_address, has_item, has_ended, has_serial, endpoint_of, live_at, place_of_request, request_at_place, waits_at}
+use Rattle.board_model.specs.State.{DomainState, ChannelEnd, Endpoint, Item, Asked, Request, Outcome, channel_of, message_at, packet_at, has_address, has_item, has_ended, has_serial, endpoint_of, live_at, request_at_place, place_of_request, waits_at}
 use Rattle.board_model.specs.Change.{Change, endpoint_gone, best_gone, oldest_gone, channel_set, item_handed, waiting_ended, name_found, connect_settled, request_added, request_gone, end_announced, buffer_used, packet_lent, channel_given, asks_for, connects_on, all_done, done_with, handed_in, ended_in, changed, changed_all}
-use Rattle.board_model.specs.Choice.{oldest}
 use Rattle.board_model.specs.ChannelEnds.{opened_end}
-use Rattle.board_model.specs.CallChanges.{at_live, at_end, new_sender, closing, lending, lent_by_test, best_item, success_changes, effect}
+use Rattle.board_model.specs.CallChanges.{at_live, at_end, new_sender, closing, best_item, lending, lent_by, lent_by_test, success_changes, effect}
+use Rattle.board_model.specs.Choice.{oldest}
 use Rattle.board_model.specs.Turn.{after_turn}
 use Rattle.board_model.specs.Answer.{local, holds, words_of, refusal, unless_refused}
 use Rattle.board_model.specs.Labels.{Labelled, serial_of, place_of_label, success_request, request_given}
 use Rattle.board_model.proofs.MessageAlls.{none-passes}
 use Rattle.board_model.proofs.ListsMapped.{map-changed_first}
-use Rattle.board_model.proofs.StateEnds.{there_is, end-holds, lending-holds, tested-holds, all-same}
+use Rattle.board_model.proofs.StateEnds.{there_is, end-holds}
 use Rattle.board_model.proofs.TurnChanges.{IsOfTurn, turn-keeps}
 
 -- the serials of the requests that stand, in their order
@@ -106,20 +106,13 @@ module _ (s : DomainState) (node port max : ℕ) where
   asked_at : refusal s node (request_at port max) ≡ None → (e : Endpoint) × (live_at s (local node port) ≡ Some e)
   asked_at none = there_is s (local node port) (none-passes (holds s node (request_at port max)) (words_of (request_at port max)) none).0
 
--- and so does one on requests for a packet
+-- and so does one for a packet
 module _ (s : DomainState) (node port : ℕ) where
   abbrev asks_packet : Endpoint → List Change
   asks_packet e = oldest_gone e.address ∷ request_added (packet_at e.local) (option_map has_item (oldest e.queue)) ∷ []
 
   packet_asked_at : refusal s node (packet_request_at port) ≡ None → (e : Endpoint) × (live_at s (local node port) ≡ Some e)
   packet_asked_at none = there_is s (local node port) (none-passes (holds s node (packet_request_at port)) (words_of (packet_request_at port)) none).0
-
--- what packets that are lent keep
-lends_same : {X : Type 0} (f : DomainState → X) → ((t : DomainState) (i : Item) → f (changed t (packet_lent i)) ≡ f t) → (t : DomainState) (e : Endpoint) → f (changed t (oldest_gone e.address)) ≡ f t → f (changed_all t (oldest_gone e.address ∷ lending (oldest e.queue))) ≡ f t
-lends_same f same t e goes = all-same f (lending (oldest e.queue)) (lending-holds (λ c. (u : DomainState) → f (changed u c) ≡ f u) (λ i u. same u i) (oldest e.queue)) (changed t (oldest_gone e.address)) ∙ goes
-
-tests_same : {X : Type 0} (f : DomainState → X) → ((t : DomainState) (i : Item) → f (changed t (packet_lent i)) ≡ f t) → (t : DomainState) (o : Option Request) → f (changed_all t (lent_by_test o)) ≡ f t
-tests_same f same t o = all-same f (lent_by_test o) (tested-holds (λ c. (u : DomainState) → f (changed u c) ≡ f u) (λ i u. same u i) o) t
 
 -- a connect finds its endpoint, too
 module _ (s : DomainState) (node port : ℕ) (to : EndName) (kind : Kind) where
@@ -135,6 +128,24 @@ opens e c = buffer_used c.peer ∷ channel_set e.address (Some (opened_end c)) �
 
 end_same : {X : Type 0} (f : DomainState → X) (s : DomainState) (o : Option Endpoint) (cs : Endpoint → ChannelEnd → List Change) → ((e : Endpoint) (c : ChannelEnd) → f (changed_all s (cs e c)) ≡ f s) → f (changed_all s (at_end o cs)) ≡ f s
 end_same f s o cs same = end-holds (λ ds. f (changed_all s ds) ≡ f s) refl o cs (λ e c live has. same e c)
+
+-- what sends over ends keep
+abbrev sends : Endpoint → ChannelEnd → List Change
+sends e c = buffer_used c.peer ∷ []
+
+-- what no packet that is lent changes
+module _ {X : Type 0} (f : DomainState → X) (kept : (s : DomainState) (i : Item) → f (changed s (packet_lent i)) ≡ f s) where
+  lending_same : (s : DomainState) (o : Option Item) → f (changed_all s (lending o)) ≡ f s
+  lending_same s None = refl
+  lending_same s (Some i) = kept s i
+
+  lent_same : (s : DomainState) (asked : Asked) (o : Option Outcome) → f (changed_all s (lent_by asked o)) ≡ f s
+  lent_same s (packet_at at) (Some (has_item i)) = kept s i
+  lent_same s asked o = refl
+
+  tested_same : (s : DomainState) (o : Option Request) → f (changed_all s (lent_by_test o)) ≡ f s
+  tested_same s None = refl
+  tested_same s (Some r) = lent_same s r.asked r.outcome
 
 closing_serials : (s : DomainState) (side : Side) (e : Endpoint) (c : ChannelEnd) → serials (changed_all s (closing side e c)) ≡ serials s
 closing_serials s Sender e c = refl
@@ -158,15 +169,18 @@ success_serials s node (available_at port) none = sym (append-nil (serials s))
 success_serials s node (connect_from port to kind) none =
     ap (λ o. serials (changed_all s (at_live o (connects s node port to kind)))) (connects_at s node port to kind none).1 ∙ map-append (λ r. r.serial) s.requests _
 success_serials s node (open_at port side kind) none = end_same serials s (live_at s (local node port)) opens (λ e c. refl) ∙ sym (append-nil (serials s))
-success_serials s node (packet_from port bytes) none = end_same serials s (live_at s (local node port)) (λ e c. buffer_used c.peer ∷ []) (λ e c. refl) ∙ sym (append-nil (serials s))
-success_serials s node (lend_at port) none = live_same serials s (live_at s (local node port)) (λ e. oldest_gone e.address ∷ lending (oldest e.queue)) (λ e. lends_same serials (λ t i. refl) s e refl) ∙ sym (append-nil (serials s))
+success_serials s node (packet_from port bytes) none = end_same serials s (live_at s (local node port)) sends (λ e c. refl) ∙ sym (append-nil (serials s))
+success_serials s node (lend_at port) none =
+    live_same serials s (live_at s (local node port)) (λ e. oldest_gone e.address ∷ lending (oldest e.queue)) (λ e. lending_same serials (λ t i. refl) (changed s (oldest_gone e.address)) (oldest e.queue)) ∙ sym (append-nil (serials s))
 success_serials s node (packet_request_at port) none =
     ap (λ o. serials (changed_all s (at_live o (asks_packet s node port)))) (packet_asked_at s node port none).1 ∙ map-append (λ r. r.serial) s.requests _
 success_serials s node (release_of place) none = sym (append-nil (serials s))
-success_serials s node (scalar_from port bits value) none = end_same serials s (live_at s (local node port)) (λ e c. buffer_used c.peer ∷ []) (λ e c. refl) ∙ sym (append-nil (serials s))
+success_serials s node (scalar_from port bits value) none = end_same serials s (live_at s (local node port)) sends (λ e c. refl) ∙ sym (append-nil (serials s))
 success_serials s node (scalar_at port bits) none = live_same serials s (live_at s (local node port)) (λ e. oldest_gone e.address ∷ []) (λ e. refl) ∙ sym (append-nil (serials s))
 success_serials s node (close_at port side) none = end_same serials s (live_at s (local node port)) (closing side) (closing_serials s side) ∙ sym (append-nil (serials s))
-success_serials s node (test_of p) none = tests_same serials (λ t i. refl) (changed s (request_gone p)) (request_at_place s p) ∙ map-without (λ r. r.serial) p s.requests ∙ sym (append-nil (without p (serials s)))
+success_serials s node (test_of p) none =
+    tested_same serials (λ t i. refl) (changed s (request_gone p)) (request_at_place s p)
+    ∙ map-without (λ r. r.serial) p s.requests ∙ sym (append-nil (without p (serials s)))
 success_serials s node (cancel_of p) none = map-without (λ r. r.serial) p s.requests ∙ sym (append-nil (without p (serials s)))
 success_serials s node turn_alone none = sym (append-nil (serials s))
 
@@ -189,14 +203,15 @@ success_gives s node (request_at port max) none small = ap (λ o. (changed_all s
 success_gives s node (available_at port) none small = omega arith
 success_gives s node (connect_from port to kind) none small = ap (λ o. (changed_all s (at_live o (connects s node port to kind))).requests_given) (connects_at s node port to kind none).1 ∙ mod-eq_of_lt small
 success_gives s node (open_at port side kind) none small = omega (arith, end_same (λ t. t.requests_given) s (live_at s (local node port)) opens (λ e c. refl))
-success_gives s node (packet_from port bytes) none small = omega (arith, end_same (λ t. t.requests_given) s (live_at s (local node port)) (λ e c. buffer_used c.peer ∷ []) (λ e c. refl))
-success_gives s node (lend_at port) none small = omega (arith, live_same (λ t. t.requests_given) s (live_at s (local node port)) (λ e. oldest_gone e.address ∷ lending (oldest e.queue)) (λ e. lends_same (λ t. t.requests_given) (λ t i. refl) s e refl))
+success_gives s node (packet_from port bytes) none small = omega (arith, end_same (λ t. t.requests_given) s (live_at s (local node port)) sends (λ e c. refl))
+success_gives s node (lend_at port) none small =
+    omega (arith, live_same (λ t. t.requests_given) s (live_at s (local node port)) (λ e. oldest_gone e.address ∷ lending (oldest e.queue)) (λ e. lending_same (λ t. t.requests_given) (λ t i. refl) (changed s (oldest_gone e.address)) (oldest e.queue)))
 success_gives s node (packet_request_at port) none small = ap (λ o. (changed_all s (at_live o (asks_packet s node port))).requests_given) (packet_asked_at s node port none).1 ∙ mod-eq_of_lt small
 success_gives s node (release_of place) none small = omega arith
-success_gives s node (scalar_from port bits value) none small = omega (arith, end_same (λ t. t.requests_given) s (live_at s (local node port)) (λ e c. buffer_used c.peer ∷ []) (λ e c. refl))
+success_gives s node (scalar_from port bits value) none small = omega (arith, end_same (λ t. t.requests_given) s (live_at s (local node port)) sends (λ e c. refl))
 success_gives s node (scalar_at port bits) none small = omega (arith, live_same (λ t. t.requests_given) s (live_at s (local node port)) (λ e. oldest_gone e.address ∷ []) (λ e. refl))
 success_gives s node (close_at port side) none small = omega (arith, end_same (λ t. t.requests_given) s (live_at s (local node port)) (closing side) (closing_gives s side))
-success_gives s node (test_of p) none small = omega (arith, tests_same (λ t. t.requests_given) (λ t i. refl) (changed s (request_gone p)) (request_at_place s p))
+success_gives s node (test_of p) none small = omega (arith, tested_same (λ t. t.requests_given) (λ t i. refl) (changed s (request_gone p)) (request_at_place s p))
 success_gives s node (cancel_of p) none small = omega arith
 success_gives s node turn_alone none small = omega arith
 

@@ -1,18 +1,21 @@
 -- The forms of a line: the words that it may have, and what they say.
 -- Source: docs/FORMATS.md, "Scenario files": the lines of domains and links, and the table of calls.
-use Rattle.std.specs.Prelude.{ℕ, ◌&&◌, Bool, true, false, List, [], ◌∷◌, ◌++◌, codes, bytes_eq, Option, None, Some, option_map, is_some, unwrap_or, if◌then◌else◌}
+use Rattle.std.specs.Prelude.{ℕ, ◌-◌, ◌*◌, ◌^◌, ◌&&◌, Bool, true, false, List, [], ◌∷◌, ◌++◌, codes, bytes_eq, Option, None, Some, option_map, is_some, unwrap_or, ◌==◌, if◌then◌else◌}
 use Rattle.arrayvec.specs.ArrayVec.{ArrayVec}
 use Rattle.mc_base.specs.Limits.{asked_limit, try_limit}
+use Rattle.mc_base.specs.Letter.{bytes_of_bits}
 use Rattle.mc_base.specs.declared.name.EndName.{EndName}
 use Rattle.mc_base.specs.declared.channel.Kind.{Kind}
 use Rattle.mc_base.specs.declared.channel.Kind.TheVariants as kind
+use Rattle.mc_base.specs.declared.channel.Bits.{Bits}
+use Rattle.mc_base.specs.declared.channel.Bits.TheVariants.{B8, B16, B32, B64}
 use Rattle.board_model.specs.declared.scenario.DomainLine.{DomainLine}
 use Rattle.board_model.specs.declared.scenario.LinkLine.{LinkLine}
 use Rattle.board_model.specs.declared.scenario.Call.{Call}
-use Rattle.board_model.specs.declared.scenario.Call.TheVariants.{Create, Delete, Lookup, MsgSend, MsgRecv, MsgRecvI, MsgAvailable, Connect, OpenSend, OpenRecv, CloseSend, CloseRecv, Test, Cancel, Turn}
+use Rattle.board_model.specs.declared.scenario.Call.TheVariants.{Create, Delete, Lookup, MsgSend, MsgRecv, MsgRecvI, MsgAvailable, Connect, OpenSend, OpenRecv, PktSend, PktRecv, PktRecvI, Release, SclSend, SclRecv, CloseSend, CloseRecv, Test, Cancel, Turn}
 use Rattle.board_model.specs.declared.scenario.CallLine.{CallLine}
 use Rattle.board_model.specs.declared.form.ArgumentKind.{ArgumentKind}
-use Rattle.board_model.specs.declared.form.ArgumentKind.TheVariants.{Port, Name, Priority, Content, Maximum, ChannelKind, Label}
+use Rattle.board_model.specs.declared.form.ArgumentKind.TheVariants.{Port, Name, Priority, Content, Maximum, ChannelKind, ScalarBits, ScalarValue, RequestLabel, PacketLabel}
 use Rattle.board_model.specs.declared.form.Callee.{Callee}
 use Rattle.board_model.specs.declared.form.Callee.TheVariants as callee
 use Rattle.board_model.specs.FileLines.{parts_at, says_nothing}
@@ -29,10 +32,14 @@ Value Priority = ℕ
 Value Content = List ℕ
 Value Maximum = ℕ
 Value ChannelKind = Kind
-Value Label = ArrayVec ℕ
+Value ScalarBits = Bits
+Value ScalarValue = ℕ
+Value RequestLabel = ArrayVec ℕ
+Value PacketLabel = ArrayVec ℕ
 
 -- how many bits the argument after this one has, where this one tells it
 abbrev pub bits_told : (kind : ArgumentKind) → Value kind → ℕ
+bits_told ScalarBits bits = 8 * bytes_of_bits bits
 bits_told kind value = 0
 
 abbrev pub are_three : List (List ℕ) → Bool
@@ -43,11 +50,16 @@ are_three parts = false
 abbrev pub kind_in : List ℕ → Option Kind
 kind_in word = if bytes_eq word (codes "packet") then Some kind.Packet else if bytes_eq word (codes "scalar") then Some kind.Scalar else None
 
+-- the number of bits of this number
+abbrev pub bits_of : ℕ → Option Bits
+bits_of n = if n == 8 then Some B8 else if n == 16 then Some B16 else if n == 32 then Some B32 else if n == 64 then Some B64 else None
+
 -- the form of a word. A name has two colons, whatever stands between them: 58 is the colon
 abbrev pub argument_fits : ArgumentKind → List ℕ → Bool
 argument_fits Name word = are_three (parts_at 58 word)
 argument_fits ChannelKind word = is_some (kind_in word)
-argument_fits Label word = is_label word
+argument_fits RequestLabel word = is_label word
+argument_fits PacketLabel word = is_label word
 argument_fits kind word = true
 
 abbrev pub name_numerals : List (List ℕ) → List Numeral
@@ -60,6 +72,8 @@ argument_numerals Port bits word = numeral 0 65535 word ∷ []
 argument_numerals Name bits word = name_numerals (parts_at 58 word)
 argument_numerals Priority bits word = numeral 0 3 word ∷ []
 argument_numerals Maximum bits word = numeral 0 asked_limit word ∷ []
+argument_numerals ScalarBits bits word = record { admits = λ n. is_some (bits_of n); word = word } ∷ []
+argument_numerals ScalarValue bits word = numeral 0 (2 ^ bits - 1) word ∷ []
 argument_numerals kind bits word = []
 
 -- what has to be bytes in it
@@ -67,9 +81,29 @@ abbrev pub argument_contents : ArgumentKind → List ℕ → List Bytes
 argument_contents Content word = content 0 asked_limit word ∷ []
 argument_contents kind word = []
 
--- the label that it names
-abbrev pub argument_labels : ArgumentKind → List ℕ → List (List ℕ)
-argument_labels Label word = word ∷ []
+-- calls that give a request, which can be tested and cancelled
+abbrev pub gives_request : Call → Bool
+gives_request (Lookup name) = true
+gives_request (MsgRecvI port max) = true
+gives_request (Connect port to kind) = true
+gives_request (PktRecvI port) = true
+gives_request call = false
+
+-- calls that give a packet, now or by their request, which can be released
+abbrev pub gives_packet : Call → Bool
+gives_packet (PktRecv port) = true
+gives_packet (PktRecvI port) = true
+gives_packet call = false
+
+-- a label that a call names, and the calls of which it may be
+pub record NamedLabel : Type 0 where
+  pub may_be_of : Call → Bool
+  pub word : List ℕ
+
+-- the label that an argument names
+abbrev pub argument_labels : ArgumentKind → List ℕ → List NamedLabel
+argument_labels RequestLabel word = record { may_be_of = gives_request; word = word } ∷ []
+argument_labels PacketLabel word = record { may_be_of = gives_packet; word = word } ∷ []
 argument_labels kind word = []
 
 -- the name of three parts
@@ -91,7 +125,10 @@ value Priority word = number word
 value Content word = bytes word
 value Maximum word = number word
 value ChannelKind word = unwrap_or (kind_in word) kind.Packet
-value Label word = label_of word
+value ScalarBits word = unwrap_or (bits_of (number word)) B64
+value ScalarValue word = number word
+value RequestLabel word = label_of word
+value PacketLabel word = label_of word
 
 -- ---- calls
 
@@ -142,10 +179,16 @@ form callee.MsgAvailable = row (codes "msg_available") (Port ∷ []) no_label ma
 form callee.Connect = row (codes "connect") (Port ∷ Name ∷ ChannelKind ∷ []) a_label may_try Connect
 form callee.OpenSend = row (codes "open_send") (Port ∷ ChannelKind ∷ []) no_label may_try OpenSend
 form callee.OpenRecv = row (codes "open_recv") (Port ∷ ChannelKind ∷ []) no_label may_try OpenRecv
+form callee.PktSend = row (codes "pkt_send") (Port ∷ Content ∷ []) no_label may_try PktSend
+form callee.PktRecv = row (codes "pkt_recv") (Port ∷ []) a_label may_try PktRecv
+form callee.PktRecvI = row (codes "pkt_recv_i") (Port ∷ []) a_label may_try PktRecvI
+form callee.Release = row (codes "release") (PacketLabel ∷ []) no_label may_try Release
+form callee.SclSend = row (codes "scl_send") (Port ∷ ScalarBits ∷ ScalarValue ∷ []) no_label may_try SclSend
+form callee.SclRecv = row (codes "scl_recv") (Port ∷ ScalarBits ∷ []) no_label may_try SclRecv
 form callee.CloseSend = row (codes "close_send") (Port ∷ []) no_label may_try CloseSend
 form callee.CloseRecv = row (codes "close_recv") (Port ∷ []) no_label may_try CloseRecv
-form callee.Test = row (codes "test") (Label ∷ []) no_label may_try Test
-form callee.Cancel = row (codes "cancel") (Label ∷ []) no_label may_try Cancel
+form callee.Test = row (codes "test") (RequestLabel ∷ []) no_label may_try Test
+form callee.Cancel = row (codes "cancel") (RequestLabel ∷ []) no_label may_try Cancel
 form callee.Turn = row (codes "turn") [] no_label may_try Turn
 
 abbrev pub callees : List Callee
@@ -160,6 +203,12 @@ callees =
     ∷ callee.Connect
     ∷ callee.OpenSend
     ∷ callee.OpenRecv
+    ∷ callee.PktSend
+    ∷ callee.PktRecv
+    ∷ callee.PktRecvI
+    ∷ callee.Release
+    ∷ callee.SclSend
+    ∷ callee.SclRecv
     ∷ callee.CloseSend
     ∷ callee.CloseRecv
     ∷ callee.Test
@@ -289,7 +338,7 @@ contents (call_parts c) = arguments_contents (form c.callee).arguments c.argumen
 contents parts = []
 
 -- the labels that a call names
-abbrev pub arguments_labels : List ArgumentKind → List (List ℕ) → List (List ℕ)
+abbrev pub arguments_labels : List ArgumentKind → List (List ℕ) → List NamedLabel
 arguments_labels (k ∷ ks) (w ∷ ws) = argument_labels k w ++ arguments_labels ks ws
 arguments_labels kinds words = []
 

@@ -1,19 +1,20 @@
 -- How a scenario is written: its canonical text, and the ranges of its names and domains.
 -- Source: docs/FORMATS.md, "Scenario files".
-use Rattle.std.specs.Prelude.{ℕ, ◌<◌, ◌≤◌, ◌^◌, List, [], ◌∷◌, ◌++◌, codes, decimal, Option, None, Some}
+use Rattle.std.specs.Prelude.{ℕ, ◌*◌, ◌<◌, ◌≤◌, ◌^◌, List, [], ◌∷◌, ◌++◌, codes, decimal, Option, None, Some}
 use Rattle.std.specs.List.{flat_map}
 use Rattle.mc_base.specs.Text.{hex_text}
+use Rattle.mc_base.specs.Letter.{bytes_of_bits}
 use Rattle.mc_base.specs.declared.name.EndName.{EndName}
 use Rattle.mc_base.specs.declared.channel.Kind.{Kind}
 use Rattle.mc_base.specs.declared.channel.Kind.TheVariants as kind
 use Rattle.board_model.specs.declared.scenario.DomainLine.{DomainLine}
 use Rattle.board_model.specs.declared.scenario.LinkLine.{LinkLine}
 use Rattle.board_model.specs.declared.scenario.Call.{Call}
-use Rattle.board_model.specs.declared.scenario.Call.TheVariants.{Create, Delete, Lookup, MsgSend, MsgRecv, MsgRecvI, MsgAvailable, Connect, OpenSend, OpenRecv, CloseSend, CloseRecv, Test, Cancel, Turn}
+use Rattle.board_model.specs.declared.scenario.Call.TheVariants.{Create, Delete, Lookup, MsgSend, MsgRecv, MsgRecvI, MsgAvailable, Connect, OpenSend, OpenRecv, PktSend, PktRecv, PktRecvI, Release, SclSend, SclRecv, CloseSend, CloseRecv, Test, Cancel, Turn}
 use Rattle.board_model.specs.declared.scenario.CallLine.{CallLine}
 use Rattle.board_model.specs.declared.scenario.Scenario.{Scenario}
 use Rattle.board_model.specs.declared.form.ArgumentKind.{ArgumentKind}
-use Rattle.board_model.specs.declared.form.ArgumentKind.TheVariants.{Port, Name, Priority, Content, Maximum, ChannelKind, Label}
+use Rattle.board_model.specs.declared.form.ArgumentKind.TheVariants.{Port, Name, Priority, Content, Maximum, ChannelKind, ScalarBits, ScalarValue, RequestLabel, PacketLabel}
 use Rattle.board_model.specs.declared.form.Callee.{Callee}
 use Rattle.board_model.specs.declared.form.Callee.TheVariants as callee
 use Rattle.board_model.specs.Scenario.{label_in}
@@ -51,7 +52,10 @@ argument_text Priority n = decimal n
 argument_text Content bytes = hex_text bytes
 argument_text Maximum n = decimal n
 argument_text ChannelKind kind = kind_text kind
-argument_text Label label = label.items
+argument_text ScalarBits bits = decimal (8 * bytes_of_bits bits)
+argument_text ScalarValue n = decimal n
+argument_text RequestLabel label = label.items
+argument_text PacketLabel label = label.items
 
 abbrev pub argument_texts : (kinds : List ArgumentKind) → Values kinds → List (List ℕ)
 argument_texts [] arguments = []
@@ -73,6 +77,12 @@ call_words (MsgAvailable port) = form_words callee.MsgAvailable (port, tt)
 call_words (Connect port to kind) = form_words callee.Connect (port, (to, (kind, tt)))
 call_words (OpenSend port kind) = form_words callee.OpenSend (port, (kind, tt))
 call_words (OpenRecv port kind) = form_words callee.OpenRecv (port, (kind, tt))
+call_words (PktSend port bytes) = form_words callee.PktSend (port, (bytes, tt))
+call_words (PktRecv port) = form_words callee.PktRecv (port, tt)
+call_words (PktRecvI port) = form_words callee.PktRecvI (port, tt)
+call_words (Release label) = form_words callee.Release (label, tt)
+call_words (SclSend port bits value) = form_words callee.SclSend (port, (bits, (value, tt)))
+call_words (SclRecv port bits) = form_words callee.SclRecv (port, (bits, tt))
 call_words (CloseSend port) = form_words callee.CloseSend (port, tt)
 call_words (CloseRecv port) = form_words callee.CloseRecv (port, tt)
 call_words (Test label) = form_words callee.Test (label, tt)

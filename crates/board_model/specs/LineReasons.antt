@@ -4,7 +4,6 @@ use Rattle.std.specs.Prelude.{ℕ, Bool, true, false, not, ◌&&◌, ◌||◌, L
 use Rattle.std.specs.List.{list_all, list_any}
 use Rattle.board_model.specs.declared.scenario.LinkLine.{LinkLine}
 use Rattle.board_model.specs.declared.scenario.Call.{Call}
-use Rattle.board_model.specs.declared.scenario.Call.TheVariants.{Lookup, MsgRecvI, Connect}
 use Rattle.board_model.specs.declared.scenario.CallLine.{CallLine}
 use Rattle.board_model.specs.declared.scenario.Scenario.{Scenario}
 use Rattle.board_model.specs.declared.reason.LineReason.{LineReason}
@@ -12,7 +11,7 @@ use Rattle.board_model.specs.declared.reason.LineReason.TheVariants.{Byte, Long,
 use Rattle.board_model.specs.Scenario.{label_in}
 use Rattle.board_model.specs.FileLines.{words_of}
 use Rattle.board_model.specs.FileWords.{number, is_number, are_bytes}
-use Rattle.board_model.specs.Forms.{form, arguments_labels, LineParts, call_parts, parts_of, numerals, contents, Statement, says_none, says_domain, says_link, says_call, statement}
+use Rattle.board_model.specs.Forms.{form, NamedLabel, arguments_labels, LineParts, call_parts, parts_of, numerals, contents, Statement, says_none, says_domain, says_link, says_call, statement}
 
 -- 0x20 to 0x7e, and the tab
 abbrev pub is_text_byte : ℕ → Bool
@@ -61,24 +60,18 @@ tells d label c = c.domain == d && is_label_in label (label_in c)
 abbrev pub is_told : Scenario → ℕ → List ℕ → Bool
 is_told above d label = list_any (tells d label) above.calls
 
--- calls that give a request, which can be tested and cancelled
-abbrev pub gives_request : Call → Bool
-gives_request (Lookup name) = true
-gives_request (MsgRecvI port max) = true
-gives_request (Connect port to kind) = true
-gives_request call = false
-
-abbrev pub is_request : Scenario → ℕ → List ℕ → Bool
-is_request above d label = list_any (λ c. tells d label c && gives_request c.call) above.calls
+-- and its call is one of these
+abbrev pub is_told_of : (Call → Bool) → Scenario → ℕ → List ℕ → Bool
+is_told_of may_be_of above d label = list_any (λ c. tells d label c && may_be_of c.call) above.calls
 
 -- a label told where the form has none, or told twice in its domain
 abbrev pub tells_wrong_label : Scenario → Bool → ℕ → Option (List ℕ) → Bool
 tells_wrong_label above labelled d None = false
 tells_wrong_label above labelled d (Some label) = not labelled || is_told above d label
 
--- a label that the same domain has not told before, or not for a request
-abbrev pub names_wrong_label : Scenario → ℕ → List (List ℕ) → Bool
-names_wrong_label above d labels = list_any (λ label. not (is_request above d label)) labels
+-- a label that the same domain has not told before, or of the wrong call
+abbrev pub names_wrong_label : Scenario → ℕ → List NamedLabel → Bool
+names_wrong_label above d labels = list_any (λ l. not (is_told_of l.may_be_of above d l.word)) labels
 
 abbrev pub has_wrong_label : Scenario → LineParts → Bool
 has_wrong_label above (call_parts c) =

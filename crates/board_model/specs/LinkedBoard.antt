@@ -1,11 +1,12 @@
 -- Boards of linked domains: what the lines of a scenario keep so that its domains, links and calls fit together.
 -- Source: docs/FORMATS.md, "Scenario files".
-use Rattle.std.specs.Prelude.{◌≡◌, ◌⊎◌, ℕ, ◌≤◌, ◌<◌, ◌^◌, List, [], ◌∷◌, map, length, Contains}
+use Rattle.std.specs.Prelude.{◌≡◌, ◌⊎◌, ℕ, ◌*◌, ◌≤◌, ◌<◌, ◌^◌, List, [], ◌∷◌, map, length, Contains}
 use Rattle.std.specs.List.{AllByRecursion}
 use Rattle.mc_base.specs.Limits.{asked_limit}
+use Rattle.mc_base.specs.Letter.{bytes_of_bits}
 use Rattle.board_model.specs.declared.scenario.LinkLine.{LinkLine}
 use Rattle.board_model.specs.declared.scenario.Call.{Call}
-use Rattle.board_model.specs.declared.scenario.Call.TheVariants.{Create, Delete, Lookup, MsgSend, MsgRecv, MsgRecvI, MsgAvailable, Connect, OpenSend, OpenRecv, CloseSend, CloseRecv, Test, Cancel, Turn}
+use Rattle.board_model.specs.declared.scenario.Call.TheVariants.{Create, Delete, Lookup, MsgSend, MsgRecv, MsgRecvI, MsgAvailable, Connect, OpenSend, OpenRecv, PktSend, PktRecv, PktRecvI, Release, SclSend, SclRecv, CloseSend, CloseRecv, Test, Cancel, Turn}
 use Rattle.board_model.specs.declared.scenario.Scenario.{Scenario}
 use Rattle.board_model.specs.Grammar.{IsLawfulDomain, IsLawfulName}
 
@@ -46,6 +47,12 @@ HasFitArguments (MsgAvailable port) = port < 2 ^ 16
 HasFitArguments (Connect port to kind) = (port < 2 ^ 16) × IsLawfulName to
 HasFitArguments (OpenSend port kind) = port < 2 ^ 16
 HasFitArguments (OpenRecv port kind) = port < 2 ^ 16
+HasFitArguments (PktSend port bytes) = (port < 2 ^ 16) × (length bytes ≤ asked_limit) × AllByRecursion (λ b. b < 256) bytes
+HasFitArguments (PktRecv port) = port < 2 ^ 16
+HasFitArguments (PktRecvI port) = port < 2 ^ 16
+HasFitArguments (Release label) = Unit {0}
+HasFitArguments (SclSend port bits value) = (port < 2 ^ 16) × (value < 2 ^ (8 * bytes_of_bits bits))
+HasFitArguments (SclRecv port bits) = port < 2 ^ 16
 HasFitArguments (CloseSend port) = port < 2 ^ 16
 HasFitArguments (CloseRecv port) = port < 2 ^ 16
 HasFitArguments (Test label) = Unit {0}

@@ -10,17 +10,17 @@ use Rattle.board_model.specs.Journal.{PlainEntry, turned, put, again, called, Pl
 use Rattle.board_model.specs.State.{DomainState}
 use Rattle.board_model.specs.Turn.{IsTurn, after_turn}
 use Rattle.board_model.specs.DomainCall.{DomainCall}
-use Rattle.board_model.specs.Labels.{Labelled, call_of, labels_after}
+use Rattle.board_model.specs.Labels.{Labels, call_of, labels_after}
 use Rattle.board_model.specs.Answer.{answer, puts}
 use Rattle.board_model.specs.CallChanges.{effect}
 
 -- a domain on its way through its script: how many lines were called, how often the call of the next line was made already, the
--- labels of the requests that were given, and, where a turn was made since, the frames that the next call put, each with its peer
+-- requests and packets that were given for labels, and, where a turn was made since, the frames that the next call put, each with its peer
 pub record RunState : Type 0 where
   pub state : DomainState
   pub lines_called : ℕ
   pub calls_made : ℕ
-  pub labels : List Labelled
+  pub labels : Labels
   pub put_since_turn : Option (List (ℕ × List ℕ))
 
 -- no frame stands that no call has answered for yet
@@ -69,7 +69,7 @@ abbrev pub effect_of_line : Option CallLine → RunState → DomainState
 effect_of_line None r = r.state
 effect_of_line (Some line) r = effect r.state line.node (call_at r line)
 
-abbrev pub labels_of_line : Option CallLine → RunState → List Labelled
+abbrev pub labels_of_line : Option CallLine → RunState → Labels
 labels_of_line None r = r.labels
 labels_of_line (Some line) r = labels_after r.labels r.state line
 

@@ -11,6 +11,12 @@ pub enum Callee {
     Connect,
     OpenSend,
     OpenRecv,
+    PktSend,
+    PktRecv,
+    PktRecvI,
+    Release,
+    SclSend,
+    SclRecv,
     CloseSend,
     CloseRecv,
     Test,
@@ -33,6 +39,12 @@ pub enum ArgumentKind {
     Maximum,
     /// KIND: `packet` or `scalar`.
     ChannelKind,
+    /// BITS: 8, 16, 32 or 64.
+    ScalarBits,
+    /// VALUE: a number of as many bits as BITS before it says.
+    ScalarValue,
     /// LABEL: that of a request.
-    Label,
+    RequestLabel,
+    /// LABEL: that of a packet.
+    PacketLabel,
 }
