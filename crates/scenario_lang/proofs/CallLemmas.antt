@@ -5,7 +5,7 @@ use Rattle.std.specs.List.{list_all}
 use Rattle.std.proofs.lemmas.List.Folds.{list_all-append}
 use Rattle.mc_base.specs.Limits.{asked_limit}
 use Rattle.board_model.specs.declared.form.ArgumentKind.{ArgumentKind}
-use Rattle.board_model.specs.declared.form.ArgumentKind.TheVariants.{Port, Name, Priority, Content, Maximum, ChannelKind, Label}
+use Rattle.board_model.specs.declared.form.ArgumentKind.TheVariants.{Port, Name, Priority, Content, Maximum, ChannelKind, ScalarBits, ScalarValue, RequestLabel, PacketLabel}
 use Rattle.board_model.specs.declared.form.Callee.{Callee}
 use Rattle.board_model.specs.declared.form.Callee.TheVariants as callee
 use Rattle.board_model.specs.declared.reason.LineReason.{LineReason}
@@ -82,9 +82,14 @@ call_from-checked (Maximum ∷ ks) bits (w ∷ ws) makes fit ends = plain_step M
 call_from-checked (ChannelKind ∷ ks) bits (w ∷ ws) makes fit ends =
     let h = both_hold (argument_fits ChannelKind w) (arguments_fit ks ws) fit in
     plain_step ChannelKind ks bits w ws makes refl h.0 (call_from-checked ks 0 ws (makes (value ChannelKind w)) h.1 ends)
-call_from-checked (Label ∷ ks) bits (w ∷ ws) makes fit ends =
-    let h = both_hold (argument_fits Label w) (arguments_fit ks ws) fit in
-    plain_step Label ks bits w ws makes refl h.0 (call_from-checked ks 0 ws (makes (value Label w)) h.1 ends)
+call_from-checked (ScalarBits ∷ ks) bits (w ∷ ws) makes fit ends = plain_step ScalarBits ks bits w ws makes refl refl (call_from-checked ks (bits_told ScalarBits (value ScalarBits w)) ws (makes (value ScalarBits w)) fit ends)
+call_from-checked (ScalarValue ∷ ks) bits (w ∷ ws) makes fit ends = plain_step ScalarValue ks bits w ws makes refl refl (call_from-checked ks 0 ws (makes (value ScalarValue w)) fit ends)
+call_from-checked (RequestLabel ∷ ks) bits (w ∷ ws) makes fit ends =
+    let h = both_hold (argument_fits RequestLabel w) (arguments_fit ks ws) fit in
+    plain_step RequestLabel ks bits w ws makes refl h.0 (call_from-checked ks 0 ws (makes (value RequestLabel w)) h.1 ends)
+call_from-checked (PacketLabel ∷ ks) bits (w ∷ ws) makes fit ends =
+    let h = both_hold (argument_fits PacketLabel w) (arguments_fit ks ws) fit in
+    plain_step PacketLabel ks bits w ws makes refl h.0 (call_from-checked ks 0 ws (makes (value PacketLabel w)) h.1 ends)
 
 pub call_by-row : (c : Callee) (words : List (List ℕ)) → call_in c words ≡ call_by c words
 call_by-row callee.Create words = refl
@@ -97,6 +102,12 @@ call_by-row callee.MsgAvailable words = refl
 call_by-row callee.Connect words = refl
 call_by-row callee.OpenSend words = refl
 call_by-row callee.OpenRecv words = refl
+call_by-row callee.PktSend words = refl
+call_by-row callee.PktRecv words = refl
+call_by-row callee.PktRecvI words = refl
+call_by-row callee.Release words = refl
+call_by-row callee.SclSend words = refl
+call_by-row callee.SclRecv words = refl
 call_by-row callee.CloseSend words = refl
 call_by-row callee.CloseRecv words = refl
 call_by-row callee.Test words = refl

@@ -4,7 +4,7 @@ use Rattle.std.specs.Prelude.{map, codes, decimal}
 use Rattle.std.specs.List.{flat_map}
 use Rattle.std.proofs.lemmas.List.{append-nil}
 use Rattle.board_model.specs.declared.scenario.Call.{Call}
-use Rattle.board_model.specs.declared.scenario.Call.TheVariants.{Create, Delete, Lookup, MsgSend, MsgRecv, MsgRecvI, MsgAvailable, Connect, OpenSend, OpenRecv, CloseSend, CloseRecv, Test, Cancel, Turn}
+use Rattle.board_model.specs.declared.scenario.Call.TheVariants.{Create, Delete, Lookup, MsgSend, MsgRecv, MsgRecvI, MsgAvailable, Connect, OpenSend, OpenRecv, PktSend, PktRecv, PktRecvI, Release, SclSend, SclRecv, CloseSend, CloseRecv, Test, Cancel, Turn}
 use Rattle.board_model.specs.Grammar.{spaced, line_of, call_words, label_words, tries_words}
 use Rattle.scenario_lang.specs.declared.canonical.Argument.{Argument}
 use Rattle.scenario_lang.specs.CallFronts.{label_front, tries_front, argument_word, blank_then}
@@ -30,6 +30,12 @@ some_call (MsgAvailable port) = record { first = _; others = _; whole = refl }
 some_call (Connect port to kind) = record { first = _; others = _; whole = refl }
 some_call (OpenSend port kind) = record { first = _; others = _; whole = refl }
 some_call (OpenRecv port kind) = record { first = _; others = _; whole = refl }
+some_call (PktSend port bytes) = record { first = _; others = _; whole = refl }
+some_call (PktRecv port) = record { first = _; others = _; whole = refl }
+some_call (PktRecvI port) = record { first = _; others = _; whole = refl }
+some_call (Release label) = record { first = _; others = _; whole = refl }
+some_call (SclSend port bits value) = record { first = _; others = _; whole = refl }
+some_call (SclRecv port bits) = record { first = _; others = _; whole = refl }
 some_call (CloseSend port) = record { first = _; others = _; whole = refl }
 some_call (CloseRecv port) = record { first = _; others = _; whole = refl }
 some_call (Test label) = record { first = _; others = _; whole = refl }

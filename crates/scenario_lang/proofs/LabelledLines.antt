@@ -1,5 +1,5 @@
--- A call line that is read has its label, and gives a request where its label is in place.
-use Rattle.std.proofs.Common.{◌≡◌, ℕ, Bool, true, false, List, [], ◌∷◌, Option, Some, None, refl, sym, ap, ◌∙◌, subst, inl, inr}
+-- A call line that is read has its label, and gives a request or a packet where its label is in place.
+use Rattle.std.proofs.Common.{◌≡◌, ℕ, Bool, true, false, ◌||◌, List, [], ◌∷◌, Option, Some, None, refl, sym, ap, ◌∙◌, subst, inl, inr}
 use Rattle.std.specs.Prelude.{Result, Ok, Err, IfSome, option_map}
 use Rattle.arrayvec.specs.ArrayVec.{ArrayVec}
 use Rattle.board_model.specs.declared.scenario.Call.{Call}
@@ -8,8 +8,8 @@ use Rattle.board_model.specs.declared.scenario.Scenario.{Scenario}
 use Rattle.board_model.specs.declared.reason.LineReason.{LineReason}
 use Rattle.board_model.specs.declared.reason.LineReason.TheVariants.{Form}
 use Rattle.board_model.specs.FileWords.{numeral, is_label}
-use Rattle.board_model.specs.Forms.{bits_told, label_of, Values, Makes, made, form, CallParts}
-use Rattle.board_model.specs.LineReasons.{gives_request, tells_wrong_label}
+use Rattle.board_model.specs.Forms.{bits_told, label_of, gives_request, gives_packet, Values, Makes, made, form, CallParts}
+use Rattle.board_model.specs.LineReasons.{tells_wrong_label}
 use Rattle.board_model.specs.Scenario.{label_in}
 use Rattle.board_model.specs.declared.form.ArgumentKind.{ArgumentKind}
 use Rattle.board_model.specs.declared.form.Callee.{Callee}
@@ -71,8 +71,12 @@ line_chain p line h = is_chain (number_in (numeral 0 7 p.domain)) (number_in (nu
 pub line_label : (p : CallParts) (line : CallLine) → call_line_in p ≡ Ok line → label_in line ≡ p.told
 line_label p line h = told_is p.told line.label (line_chain p line h).label
 
--- a call with a label gives a request
-gives_made : (c : Callee) (arguments : Values (form c).arguments) → (form c).labelled ≡ gives_request (made (form c).arguments (form c).makes arguments)
+-- what a label can be given for: a request, a packet or both
+abbrev gives : Call → Bool
+gives call = gives_request call || gives_packet call
+
+-- a call with a label gives one
+gives_made : (c : Callee) (arguments : Values (form c).arguments) → (form c).labelled ≡ gives (made (form c).arguments (form c).makes arguments)
 gives_made callee.Create arguments = refl
 gives_made callee.Delete arguments = refl
 gives_made callee.Lookup arguments = refl
@@ -83,6 +87,12 @@ gives_made callee.MsgAvailable arguments = refl
 gives_made callee.Connect arguments = refl
 gives_made callee.OpenSend arguments = refl
 gives_made callee.OpenRecv arguments = refl
+gives_made callee.PktSend arguments = refl
+gives_made callee.PktRecv arguments = refl
+gives_made callee.PktRecvI arguments = refl
+gives_made callee.Release arguments = refl
+gives_made callee.SclSend arguments = refl
+gives_made callee.SclRecv arguments = refl
 gives_made callee.CloseSend arguments = refl
 gives_made callee.CloseRecv arguments = refl
 gives_made callee.Test arguments = refl
@@ -97,22 +107,22 @@ is_made (k ∷ ks) bits words makes call h =
     let rest = is_made ks (bits_told k first.0.0) first.0.1 (makes first.0.0) call first.2 in
     ((first.0.0, rest.0), rest.1)
 
-call_gives : (c : Callee) (words : List (List ℕ)) (call : Call) → call_in c words ≡ Ok call → (form c).labelled ≡ true → gives_request call ≡ true
+call_gives : (c : Callee) (words : List (List ℕ)) (call : Call) → call_in c words ≡ Ok call → (form c).labelled ≡ true → gives call ≡ true
 call_gives c words call h labelled =
     let arguments = is_made (form c).arguments 0 words (form c).makes call (sym (call_by-row c words) ∙ h) in
-    ap gives_request (sym arguments.1) ∙ sym (gives_made c arguments.0) ∙ labelled
+    ap gives (sym arguments.1) ∙ sym (gives_made c arguments.0) ∙ labelled
 
-pub line_gives : (p : CallParts) (line : CallLine) → call_line_in p ≡ Ok line → (form p.callee).labelled ≡ true → gives_request line.call ≡ true
+pub line_gives : (p : CallParts) (line : CallLine) → call_line_in p ≡ Ok line → (form p.callee).labelled ≡ true → gives line.call ≡ true
 line_gives p line h labelled = call_gives p.callee p.arguments line.call (line_chain p line h).call labelled
 
 right_told : (above : Scenario) (labelled : Bool) (d : ℕ) (label : List ℕ) → tells_wrong_label above labelled d (Some label) ≡ false → labelled ≡ true
 right_told above true d label h = refl
 right_told above false d label h = absurd cc
 
--- a line whose label is in place gives a request
-pub line_right : (above : Scenario) (p : CallParts) (line : CallLine) → call_line_in p ≡ Ok line → tells_wrong_label above (form p.callee).labelled line.domain p.told ≡ false → IfSome (label_in line) (λ label. gives_request line.call ≡ true)
-line_right above p line h right = subst (λ (t : Option (List ℕ)). IfSome t (λ label. gives_request line.call ≡ true)) (sym (line_label p line h)) (told_right above p line p.told h right)
+-- a line whose label is in place gives one
+pub line_right : (above : Scenario) (p : CallParts) (line : CallLine) → call_line_in p ≡ Ok line → tells_wrong_label above (form p.callee).labelled line.domain p.told ≡ false → IfSome (label_in line) (λ label. gives line.call ≡ true)
+line_right above p line h right = subst (λ (t : Option (List ℕ)). IfSome t (λ label. gives line.call ≡ true)) (sym (line_label p line h)) (told_right above p line p.told h right)
   where
-    told_right : (above : Scenario) (p : CallParts) (line : CallLine) (told : Option (List ℕ)) → call_line_in p ≡ Ok line → tells_wrong_label above (form p.callee).labelled line.domain told ≡ false → IfSome told (λ label. gives_request line.call ≡ true)
+    told_right : (above : Scenario) (p : CallParts) (line : CallLine) (told : Option (List ℕ)) → call_line_in p ≡ Ok line → tells_wrong_label above (form p.callee).labelled line.domain told ≡ false → IfSome told (λ label. gives line.call ≡ true)
     told_right above p line None h right = tt
     told_right above p line (Some label) h right = line_gives p line h (right_told above (form p.callee).labelled line.domain label right)

@@ -6,6 +6,7 @@ pub mod ShapeLemmas
 pub mod TableLemmas
 pub mod CallLemmas
 pub mod LabelledLines
+pub mod LabelsKept
 pub mod TellingLemmas
 pub mod FewCalls
 pub mod SpacedLemmas

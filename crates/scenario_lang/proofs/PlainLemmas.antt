@@ -55,15 +55,23 @@ decimal-seen n small = all_seen is_digit seen_digit (decimal n) (decimal-digits 
 pub decimal-few : (n : ℕ) → n < 2 ^ 32 → length (decimal n) ≤ 10
 decimal-few n small = length-decimal-le 10 n (omega arith) (omega arith) (omega arith)
 
-pub decimal-plain : (n : ℕ) → n < 2 ^ 32 → IsPlain 10 (decimal n)
-decimal-plain n small =
+-- a number of 64 bits of so many digits at most
+decimal_short : (most n : ℕ) → n < 2 ^ 64 → length (decimal n) ≤ most → IsPlain most (decimal n)
+decimal_short most n small few =
     let whole = append-nil (decimal n) in
-    let p = begun_plain 10 (decimal n) [] (decimal-begins n (omega arith)) (ap (λ (t : List ℕ). list_all is_seen t) whole ∙ decimal-seen n small) (omega (arith, ap (λ (t : List ℕ). length t) whole, decimal-few n small)) in
+    let seen = all_seen is_digit seen_digit (decimal n) (decimal-digits n small) in
+    let p = begun_plain most (decimal n) [] (decimal-begins n small) (ap (λ (t : List ℕ). list_all is_seen t) whole ∙ seen) (omega (arith, ap (λ (t : List ℕ). length t) whole, few)) in
     record {
       is = sym (ap (λ (t : List ℕ). is_word t) whole) ∙ p.is;
       no_sign = sym (ap (λ (t : List ℕ). bytes_eq t (codes "=")) whole) ∙ p.no_sign;
-      few = decimal-few n small;
+      few = few;
     }
+
+pub decimal-plain : (n : ℕ) → n < 2 ^ 32 → IsPlain 10 (decimal n)
+decimal-plain n small = decimal_short 10 n (omega (arith, small)) (decimal-few n small)
+
+pub decimal_plain_64 : (n : ℕ) → n < 2 ^ 64 → IsPlain 20 (decimal n)
+decimal_plain_64 n small = decimal_short 20 n small (length-decimal-le 20 n (omega arith) (omega arith) (omega (arith, small)))
 
 -- ---- labels
 

@@ -11,7 +11,7 @@ use Rattle.board_model.specs.declared.scenario.Scenario.{Scenario}
 use Rattle.board_model.specs.declared.form.ArgumentKind.{ArgumentKind}
 use Rattle.board_model.specs.Grammar.{argument_texts, canonical, IsLawfulDomain}
 use Rattle.board_model.specs.FileWords.{numeral, is_number, number, are_bytes}
-use Rattle.board_model.specs.Forms.{form, label_of, CallParts, LineParts, no_parts, domain_parts, link_parts, call_parts, told_fits, tries_fit, numerals, contents, tries_numerals, arguments_numerals, arguments_labels, values, says_domain, says_link, says_call, call_line}
+use Rattle.board_model.specs.Forms.{form, NamedLabel, label_of, CallParts, LineParts, no_parts, domain_parts, link_parts, call_parts, told_fits, tries_fit, numerals, contents, tries_numerals, arguments_numerals, arguments_labels, values, says_domain, says_link, says_call, call_line}
 use Rattle.board_model.specs.LineReasons.{is_empty, is_domain, is_same_pair, is_link_size, tells_wrong_label, names_wrong_label, word_reasons, with_statement, with_parts}
 use Rattle.board_model.specs.Language.{nothing_told, told_from, told_by, IsLawfulBoard}
 use Rattle.board_model.proofs.LawfulTests.{all-both}
@@ -90,11 +90,11 @@ call_fits s c fits none =
       node_fits = (number_fits 0 15 c.node second.0).1;
       tries_within = tries_fit_read c.tries words.0;
       tried_right = tried_same (form c.callee).tried c.tries fits.tries_fit;
-      arguments_fit = values-fit kinds 0 c.arguments fits.arguments_fit words.1 (from_not (list_all are_bytes (contents (call_parts c))) none.1.1.0);
+      arguments_fit = values-fit kinds 0 c.arguments (omega arith) fits.arguments_fit words.1 (from_not (list_all are_bytes (contents (call_parts c))) none.1.1.0);
       label_fits = ap (λ (o : Option (List ℕ)). told_fits labelled o) same ∙ fits.told_fits;
       label_right =
           ap (λ (o : Option (List ℕ)). tells_wrong_label s labelled k.domain o || names_wrong_label s k.domain (arguments_labels kinds (argument_texts kinds (values kinds c.arguments)))) same
-          ∙ ap (λ (ls : List (List ℕ)). tells_wrong_label s labelled k.domain c.told || names_wrong_label s k.domain ls) (same_labels kinds c.arguments fits.arguments_fit)
+          ∙ ap (λ (ls : List NamedLabel). tells_wrong_label s labelled k.domain c.told || names_wrong_label s k.domain ls) (same_labels kinds c.arguments fits.arguments_fit)
           ∙ none.1.1.1.1.1.1.0;
     }
 

@@ -1,27 +1,31 @@
 -- Tests that each row of the table of calls passes, and what any list of arguments is written as.
-use Rattle.std.proofs.Common.{Bor, ◌≡◌, ℕ, zero, suc, drop, get_or, ◌+◌, ◌≤◌, ◌<◌, ◌^◌, Bool, true, false, List, [], ◌∷◌, ◌++◌, length, Some, None, refl, ap, ◌∙◌, arith}
-use Rattle.std.specs.Prelude.{decimal, codes, bytes_eq}
+use Rattle.std.proofs.Common.{Bor, ◌≡◌, ℕ, zero, suc, drop, get_or, ◌+◌, ◌-◌, ◌*◌, ◌≤◌, ◌<◌, ◌^◌, Bool, true, false, List, [], ◌∷◌, ◌++◌, length, Option, Some, None, refl, ap, ◌∙◌, arith}
+use Rattle.std.specs.Prelude.{decimal, codes, bytes_eq, is_some, unwrap_or}
 use Rattle.std.specs.List.{list_all}
+use Rattle.std.proofs.Math.Nat.{pow-le-pow_right}
 use Rattle.std.proofs.lemmas.Bool.{and_from}
 use Rattle.std.proofs.lemmas.List.Folds.{list_all-append}
 use Rattle.mc_base.specs.Limits.{asked_limit}
 use Rattle.mc_base.specs.Text.{hex_text}
+use Rattle.mc_base.specs.Letter.{bytes_of_bits}
 use Rattle.mc_base.specs.declared.channel.Kind.{Kind}
 use Rattle.mc_base.specs.declared.channel.Kind.TheVariants as kind
+use Rattle.mc_base.specs.declared.channel.Bits.{Bits}
+use Rattle.mc_base.specs.declared.channel.Bits.TheVariants.{B8, B16, B32, B64}
 use Rattle.board_model.specs.declared.form.ArgumentKind.{ArgumentKind}
-use Rattle.board_model.specs.declared.form.ArgumentKind.TheVariants.{Port, Name, Priority, Content, Maximum, ChannelKind, Label}
+use Rattle.board_model.specs.declared.form.ArgumentKind.TheVariants.{Port, Name, Priority, Content, Maximum, ChannelKind, ScalarBits, ScalarValue, RequestLabel, PacketLabel}
 use Rattle.board_model.specs.declared.form.Callee.{Callee}
 use Rattle.board_model.specs.declared.form.Callee.TheVariants as callee
 use Rattle.board_model.specs.Grammar.{argument_text, argument_texts}
-use Rattle.board_model.specs.FileWords.{numeral, is_number, content, are_bytes}
-use Rattle.board_model.specs.Forms.{Value, bits_told, are_three, argument_fits, name_numerals, argument_numerals, argument_contents, argument_labels, value, Values, form, callee_among, callee_of, told_at, tries_at, arguments_fit, arguments_numerals, arguments_contents, arguments_labels, values}
+use Rattle.board_model.specs.FileWords.{numeral, is_admitted, is_number, number_of, content, are_bytes}
+use Rattle.board_model.specs.Forms.{Value, bits_told, bits_of, are_three, argument_fits, name_numerals, argument_numerals, argument_contents, NamedLabel, argument_labels, value, Values, form, callee_among, callee_of, told_at, tries_at, arguments_fit, arguments_numerals, arguments_contents, arguments_labels, values}
 use Rattle.board_model.specs.LineReasons.{is_empty}
 use Rattle.board_model.proofs.LawfulForms.{IsFit, AreFit}
 use Rattle.scenario_lang.specs.Reading.{seen}
 use Rattle.scenario_lang.proofs.Options.{both_hold}
-use Rattle.board_model.proofs.WordDecimals.{number-decimal, is_number-decimal}
+use Rattle.board_model.proofs.WordDecimals.{number_of-decimal, number-decimal, is_number-decimal}
 use Rattle.scenario_lang.proofs.SpacedLemmas.{is_word, room}
-use Rattle.scenario_lang.proofs.PlainLemmas.{IsPlain, decimal-plain, label-plain}
+use Rattle.scenario_lang.proofs.PlainLemmas.{IsPlain, decimal-plain, decimal_plain_64, label-plain}
 use Rattle.scenario_lang.proofs.NameWordLemmas.{name-plain, name-parts, name-read, name-numbers}
 use Rattle.scenario_lang.proofs.ByteWordLemmas.{hex-plain, are_bytes-hex, bytes-hex}
 
@@ -41,7 +45,10 @@ widest Priority = 10
 widest Content = 18000
 widest Maximum = 10
 widest ChannelKind = 6
-widest Label = 16
+widest ScalarBits = 10
+widest ScalarValue = 20
+widest RequestLabel = 16
+widest PacketLabel = 16
 
 -- and the arguments of a form, each with a blank
 abbrev pub all_widest : List ArgumentKind → ℕ
@@ -66,6 +73,12 @@ row_plain callee.MsgAvailable = record { seen = refl; no_try = refl; named = ref
 row_plain callee.Connect = record { seen = refl; no_try = refl; named = refl; few = omega arith; ends = refl }
 row_plain callee.OpenSend = record { seen = refl; no_try = refl; named = refl; few = omega arith; ends = refl }
 row_plain callee.OpenRecv = record { seen = refl; no_try = refl; named = refl; few = omega arith; ends = refl }
+row_plain callee.PktSend = record { seen = refl; no_try = refl; named = refl; few = omega arith; ends = refl }
+row_plain callee.PktRecv = record { seen = refl; no_try = refl; named = refl; few = omega arith; ends = refl }
+row_plain callee.PktRecvI = record { seen = refl; no_try = refl; named = refl; few = omega arith; ends = refl }
+row_plain callee.Release = record { seen = refl; no_try = refl; named = refl; few = omega arith; ends = refl }
+row_plain callee.SclSend = record { seen = refl; no_try = refl; named = refl; few = omega arith; ends = refl }
+row_plain callee.SclRecv = record { seen = refl; no_try = refl; named = refl; few = omega arith; ends = refl }
 row_plain callee.CloseSend = record { seen = refl; no_try = refl; named = refl; few = omega arith; ends = refl }
 row_plain callee.CloseRecv = record { seen = refl; no_try = refl; named = refl; few = omega arith; ends = refl }
 row_plain callee.Test = record { seen = refl; no_try = refl; named = refl; few = omega arith; ends = refl }
@@ -89,6 +102,36 @@ kind_text_of : (bits : ℕ) (k : Kind) → IsTextOf ChannelKind bits k
 kind_text_of bits kind.Packet = record { plain = record { is = refl; no_sign = refl; few = omega arith }; fits = refl; numbers = refl; bytes = refl; back = refl }
 kind_text_of bits kind.Scalar = record { plain = record { is = refl; no_sign = refl; few = omega arith }; fits = refl; numbers = refl; bytes = refl; back = refl }
 
+bits_small : (b : Bits) → 8 * bytes_of_bits b < 2 ^ 32
+bits_small B8 = omega arith
+bits_small B16 = omega arith
+bits_small B32 = omega arith
+bits_small B64 = omega arith
+
+bits_back : (b : Bits) → bits_of (8 * bytes_of_bits b) ≡ Some b
+bits_back B8 = refl
+bits_back B16 = refl
+bits_back B32 = refl
+bits_back B64 = refl
+
+bits_text_of : (bits : ℕ) (b : Bits) → IsTextOf ScalarBits bits b
+bits_text_of bits b =
+    let n : ℕ = 8 * bytes_of_bits b in
+    let brief : n < 2 ^ 32 = bits_small b in
+    let small : n < 2 ^ 64 = omega (arith, brief) in
+    let one : is_admitted (λ m. is_some (bits_of m)) (number_of (decimal n)) ≡ true = ap (λ (o : Option ℕ). is_admitted (λ m. is_some (bits_of m)) o) (number_of-decimal n small) ∙ ap (λ (o : Option Bits). is_some o) (bits_back b) in
+    record {
+      plain = decimal-plain n brief;
+      fits = refl;
+      numbers = and_from (is_admitted (λ m. is_some (bits_of m)) (number_of (decimal n))) true one refl;
+      bytes = refl;
+      back = ap (λ (m : ℕ). unwrap_or (bits_of m) B64) (number-decimal n small) ∙ ap (λ (o : Option Bits). unwrap_or o B64) (bits_back b);
+    }
+
+-- a number of 64 bits at most
+below_64 : (bits n : ℕ) → n < 2 ^ bits → bits ≤ 64 → n < 2 ^ 64
+below_64 bits n below few = let all : 2 ^ bits ≤ 2 ^ 64 = pow-le-pow_right (omega arith) few in omega (arith, below, all)
+
 text_of : (kind : ArgumentKind) (bits : ℕ) (v : Value kind) → IsFit kind bits v → IsTextOf kind bits v
 text_of Port bits n h = record { plain = decimal-plain n (omega (arith, h)); fits = refl; numbers = one_number 65535 n (omega (arith, h)) (omega (arith, h)); bytes = refl; back = number-decimal n (omega (arith, h)) }
 text_of Name bits n h = record {
@@ -108,7 +151,13 @@ text_of Content bits bs h = record {
 }
 text_of Maximum bits n h = record { plain = decimal-plain n (omega (arith, h)); fits = refl; numbers = one_number asked_limit n h (omega (arith, h)); bytes = refl; back = number-decimal n (omega (arith, h)) }
 text_of ChannelKind bits k h = kind_text_of bits k
-text_of Label bits l h = record { plain = label-plain l.items h; fits = h; numbers = refl; bytes = refl; back = refl }
+text_of ScalarBits bits b h = bits_text_of bits b
+text_of ScalarValue bits n h =
+    let below = h.0 in
+    let most = below_64 bits n h.0 h.1 in
+    record { plain = decimal_plain_64 n most; fits = refl; numbers = one_number (2 ^ bits - 1) n (omega (arith, below)) most; bytes = refl; back = number-decimal n most }
+text_of RequestLabel bits l h = record { plain = label-plain l.items h; fits = h; numbers = refl; bytes = refl; back = refl }
+text_of PacketLabel bits l h = record { plain = label-plain l.items h; fits = h; numbers = refl; bytes = refl; back = refl }
 
 -- ---- arguments as words
 
@@ -160,14 +209,17 @@ same_label Priority w = refl
 same_label Content w = refl
 same_label Maximum w = refl
 same_label ChannelKind w = refl
-same_label Label w = refl
+same_label ScalarBits w = refl
+same_label ScalarValue w = refl
+same_label RequestLabel w = refl
+same_label PacketLabel w = refl
 
 pub same_labels : (ks : List ArgumentKind) (ws : List (List ℕ)) → arguments_fit ks ws ≡ true → arguments_labels ks (argument_texts ks (values ks ws)) ≡ arguments_labels ks ws
 same_labels [] ws fit = refl
 same_labels (k ∷ ks) [] fit = absurd cc
 same_labels (k ∷ ks) (w ∷ ws) fit =
-    ap (λ (ls : List (List ℕ)). ls ++ arguments_labels ks (argument_texts ks (values ks ws))) (same_label k w)
-    ∙ ap (λ (ls : List (List ℕ)). argument_labels k w ++ ls) (same_labels ks ws (both_hold (argument_fits k w) (arguments_fit ks ws) fit).1)
+    ap (λ (ls : List NamedLabel). ls ++ arguments_labels ks (argument_texts ks (values ks ws))) (same_label k w)
+    ∙ ap (λ (ls : List NamedLabel). argument_labels k w ++ ls) (same_labels ks ws (both_hold (argument_fits k w) (arguments_fit ks ws) fit).1)
 
 -- ---- lists that are not as long as one another
 

@@ -1,6 +1,6 @@
 -- What a line tells after those above it, or the first reason for which it is refused, in the order in which a reader asks.
 -- Source: docs/FORMATS.md, "Scenario files"; `board_model` has the table of reasons.
-use Rattle.std.specs.Prelude.{◌≡◌, ℕ, Bool, not, ◌&&◌, List, [], ◌∷◌, length, codes, bytes_eq, nat_lt, ◌==◌, Option, None, Some, Result, Ok, Err, if◌then◌else◌}
+use Rattle.std.specs.Prelude.{◌≡◌, ℕ, Bool, not, ◌&&◌, ◌||◌, List, [], ◌∷◌, length, codes, bytes_eq, nat_lt, ◌==◌, Option, None, Some, Result, Ok, Err, if◌then◌else◌}
 use Rattle.std.specs.List.{list_all, list_any}
 use Rattle.std.specs.Borrow.{Bor}
 use Rattle.board_model.specs.declared.scenario.DomainLine.{DomainLine}
@@ -9,11 +9,12 @@ use Rattle.board_model.specs.declared.scenario.Scenario.{Scenario}
 use Rattle.board_model.specs.declared.reason.LineReason.{LineReason}
 use Rattle.board_model.specs.declared.reason.LineReason.TheVariants.{Byte, Long, Order, Domain, Link, Label}
 use Rattle.board_model.specs.FileLines.{begins_with, words_of}
-use Rattle.board_model.specs.Forms.{form, arguments_labels, CallParts, LineParts, says_domain, says_link, says_call}
-use Rattle.board_model.specs.LineReasons.{is_text_byte, is_late, is_domain, has_wrong_domain, has_wrong_link, tells_wrong_label, names_wrong_label, is_told, is_request, first_reason, word_reasons, with_statement, with_parts}
+use Rattle.board_model.specs.Forms.{form, gives_request, gives_packet, arguments_labels, CallParts, LineParts, says_domain, says_link, says_call}
+use Rattle.board_model.specs.LineReasons.{is_text_byte, is_late, is_domain, has_wrong_domain, has_wrong_link, tells_wrong_label, names_wrong_label, is_told, is_told_of, first_reason, word_reasons, with_statement, with_parts}
 use Rattle.scenario_lang.specs.declared.fault.LineFault.{LineFault}
 use Rattle.scenario_lang.specs.declared.fault.LineFault.TheVariants as line_fault
 use Rattle.scenario_lang.specs.declared.fault.ScenarioFault.{ScenarioFault}
+use Rattle.scenario_lang.specs.declared.labels.Labels.{Labels}
 use Rattle.scenario_lang.specs.declared.fault.ScenarioFault.TheVariants as scenario_fault
 use Rattle.scenario_lang.specs.Reading.{◌>>=◌, domain_in, link_in, parts_in, call_line_in}
 
@@ -68,10 +69,11 @@ line_told above line =
 abbrev pub has_label : List (ℕ × Bor (List ℕ)) → ℕ → List ℕ → Bool
 has_label keys d label = list_any (λ k. k.0 == d && bytes_eq label k.1.now) keys
 
--- a set has the labels that a scenario tells, which are all of requests
-pub record Keeps (keys : List (ℕ × Bor (List ℕ))) (above : Scenario) : Type 0 where
-  pub told : (d : ℕ) (label : List ℕ) → has_label keys d label ≡ is_told above d label
-  pub requests : (d : ℕ) (label : List ℕ) → has_label keys d label ≡ is_request above d label
+-- two sets have the labels that a scenario tells: those of requests and those of packets
+pub record Keeps (labels : Labels) (above : Scenario) : Type 0 where
+  pub told : (d : ℕ) (label : List ℕ) → is_told above d label ≡ (has_label labels.requests.told.keys d label || has_label labels.packets.told.keys d label)
+  pub requests : (d : ℕ) (label : List ℕ) → has_label labels.requests.told.keys d label ≡ is_told_of gives_request above d label
+  pub packets : (d : ℕ) (label : List ℕ) → has_label labels.packets.told.keys d label ≡ is_told_of gives_packet above d label
 
 -- the answer that the table of reasons gives of the parts of a line, and of a whole line
 abbrev pub answered : Option LineReason → Scenario → Result Scenario LineReason

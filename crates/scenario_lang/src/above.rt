@@ -1,10 +1,10 @@
 //! What the lines of a file have declared so far, and what one more line adds.
 
-ghost use Rattle.std.specs.Prelude.{◌≡◌, true, OnOk, IfErr, IfSome, option_map};
+ghost use Rattle.std.specs.Prelude.{◌≡◌, ◌||◌, true, OnOk, IfErr, IfSome, option_map};
 ghost use Rattle.std.specs.List.{list_any, list_all};
-ghost use Rattle.board_model.specs.LineReasons.{tells_wrong_label, names_wrong_label, is_same_pair, gives_request, with_statement};
+ghost use Rattle.board_model.specs.LineReasons.{tells_wrong_label, names_wrong_label, is_same_pair, with_statement};
 ghost use Rattle.board_model.specs.LineReasons.{is_domain as tells_domain, is_text_byte as is_of_text, is_link_size as is_size};
-ghost use Rattle.board_model.specs.Forms.{argument_labels, arguments_labels, says_call};
+ghost use Rattle.board_model.specs.Forms.{argument_labels, arguments_labels, gives_request, gives_packet, says_call};
 ghost use Rattle.board_model.specs.FileLines.{begins_with};
 ghost use Rattle.board_model.specs.Language.{nothing_told};
 ghost use Rattle.board_model.specs.Scenario.{label_in};
@@ -84,7 +84,7 @@ fn is_comment(word: &[u8]) -> bool
 impl<'a> Above<'a> {
     pub fn new(alloc: Global) -> Above<'a>
         ensures told { result.told ≡ nothing_told }
-        ensures keeps { Keeps result.labels.told.keys result.told }
+        ensures keeps { Keeps result.labels result.told }
     {
         Above {
             told: Scenario {
@@ -98,7 +98,7 @@ impl<'a> Above<'a> {
 
     /// Whether a label is set before a call that has none, or was set before in its domain.
     fn is_told_wrong(&self, labelled: bool, domain: u8, told: Option<&'a [u8]>) -> bool
-        requires { Keeps self.now.labels.told.keys self.now.told }
+        requires { Keeps self.now.labels self.now.told }
         ensures { result ≡ tells_wrong_label self.now.told labelled domain (option_map (λ w. w.now) told.entry) }
     {
         match told {
@@ -107,20 +107,21 @@ impl<'a> Above<'a> {
         }
     }
 
-    /// Whether an argument names a label that its domain has not set.
+    /// Whether an argument names a label that its domain has not set, or of the wrong call.
     fn is_named_wrong(&self, domain: u8, kind: ArgumentKind, word: &'a [u8]) -> bool
-        requires { Keeps self.now.labels.told.keys self.now.told }
+        requires { Keeps self.now.labels self.now.told }
         ensures { result ≡ names_wrong_label self.now.told domain (argument_labels kind word.now) }
     {
         match kind {
-            ArgumentKind::Label => !self.labels.has(domain, word),
+            ArgumentKind::RequestLabel => !self.labels.requests.has(domain, word),
+            ArgumentKind::PacketLabel => !self.labels.packets.has(domain, word),
             _ => false,
         }
     }
 
     /// Whether any of the arguments names such a label.
     fn are_named_wrong(&self, domain: u8, kinds: &[ArgumentKind], words: &[&'a [u8]]) -> bool
-        requires { Keeps self.now.labels.told.keys self.now.told }
+        requires { Keeps self.now.labels self.now.told }
         ensures { result ≡ names_wrong_label self.now.told domain (arguments_labels kinds.now (seen words.now)) }
     {
         let [kind, kinds @ ..] = kinds else {
@@ -188,9 +189,9 @@ impl<'a> Above<'a> {
         first: &'a [u8],
         words: &[&'a [u8]],
     ) -> Result<(), LineFault>
-        requires { Keeps self.old.labels.told.keys self.old.told }
+        requires { Keeps self.old.labels self.old.told }
         ensures told { Answers (λ _. self.new.told) result (call_told self.old.told first.now (seen words.now)) }
-        ensures keeps { OnOk result (Keeps self.new.labels.told.keys self.new.told) }
+        ensures keeps { OnOk result (Keeps self.new.labels self.new.told) }
     {
         let parts = call_parts(first, words)?;
         let line = call_line(alloc, &parts)?;
@@ -208,15 +209,15 @@ impl<'a> Above<'a> {
 
     /// Adds a line of a call and its label.
     fn add(&mut self, told: Option<&'a [u8]>, line: CallLine) -> Result<(), LineFault>
-        requires keeps { Keeps self.old.labels.told.keys self.old.told }
+        requires keeps { Keeps self.old.labels self.old.told }
         requires label { label_in line ≡ option_map (λ w. w.now) told }
-        requires request { IfSome (label_in line) (λ label. gives_request line.call ≡ true) }
+        requires gives { IfSome (label_in line) (λ label. (gives_request line.call || gives_packet line.call) ≡ true) }
         ensures told { OnOk result (self.new.told ≡ with_statement self.old.told (says_call line)) }
-        ensures keeps { OnOk result (Keeps self.new.labels.told.keys self.new.told) }
+        ensures keeps { OnOk result (Keeps self.new.labels self.new.told) }
         ensures memory { IfErr result (λ e. e ≡ no_memory) }
     {
         if let Some(label) = told {
-            self.labels.tell(line.domain, label)?;
+            self.labels.tell(line.domain, label, &line.call)?;
             return self.push(line);
         }
         self.push(line)
@@ -235,9 +236,9 @@ impl<'a> Above<'a> {
 
     /// Adds a line by its words.
     fn tell_words(&mut self, alloc: Global, words: &[&'a [u8]]) -> Result<(), LineFault>
-        requires { Keeps self.old.labels.told.keys self.old.told }
+        requires { Keeps self.old.labels self.old.told }
         ensures told { Answers (λ _. self.new.told) result (words_told self.old.told (seen words.now)) }
-        ensures keeps { OnOk result (Keeps self.new.labels.told.keys self.new.told) }
+        ensures keeps { OnOk result (Keeps self.new.labels self.new.told) }
     {
         let [first, rest @ ..] = words else {
             return Ok(());
@@ -261,9 +262,9 @@ impl<'a> Above<'a> {
         words: &mut Vec<&'a [u8]>,
         line: &'a [u8],
     ) -> Result<(), LineFault>
-        requires { Keeps self.old.labels.told.keys self.old.told }
+        requires { Keeps self.old.labels self.old.told }
         ensures told { Answers (λ _. self.new.told) result (line_told self.old.told line.now) }
-        ensures keeps { OnOk result (Keeps self.new.labels.told.keys self.new.told) }
+        ensures keeps { OnOk result (Keeps self.new.labels self.new.told) }
     {
         if !is_text(line) {
             return Err(LineFault::Refused(LineReason::Byte));

@@ -1,15 +1,16 @@
 //! The arguments of a call, read one after the other from the words behind its name.
 
-ghost use Rattle.std.specs.Prelude.{◌≡◌, ◌≤◌, length};
+ghost use Rattle.std.specs.Prelude.{◌≡◌, ◌≤◌, ◌*◌, length};
+ghost use Rattle.mc_base.specs.Letter.{bytes_of_bits};
 ghost use Rattle.board_model.specs.declared.form.ArgumentKind.TheVariants as kind;
 ghost use Rattle.scenario_lang.specs.Reading.{Answers, Reads, seen, next_word, name_at, label_in, value_in, argument_in, call_in};
 
 use crate::fault::LineFault;
-use crate::kinds::kind_of;
+use crate::kinds::{bits_from, greatest, kind_of};
 use crate::lines::name_parts;
 use crate::numerals::{bytes, is_label, number};
-use board_model::{Call, Callee, Label, LineReason, Seq};
-use mc_base::{EndName, Kind, MAX_ASKED, Priority};
+use board_model::{Call, Callee, Label, LineReason, Seq, number_to};
+use mc_base::{Bits, EndName, Kind, MAX_ASKED, Priority};
 use std::alloc::Global;
 
 /// Words of arguments that are not read yet. Each method reads the next one.
@@ -95,10 +96,37 @@ impl<'w, 'a> Arguments<'w, 'a> {
         channel_kind(word)
     }
 
-    /// Reads LABEL.
+    /// Reads BITS.
     #[tactic(auto, unfolding(crate::specs::Reading::argument_in))]
-    pub fn label(&mut self) -> Result<Label, LineReason>
-        ensures { Reads (λ x. (x, seen self.new.rest.now)) result (argument_in kind.Label 0 (seen self.old.rest.now)) }
+    pub fn bits(&mut self) -> Result<Bits, LineReason>
+        ensures { Reads (λ x. (x, seen self.new.rest.now)) result (argument_in kind.ScalarBits 0 (seen self.old.rest.now)) }
+    {
+        let word = self.word()?;
+        bits(word)
+    }
+
+    /// Reads VALUE, a number of so many bits.
+    #[tactic(auto, unfolding(crate::specs::Reading::argument_in))]
+    pub fn value(&mut self, bits: Bits) -> Result<u64, LineReason>
+        ensures { Reads (λ x. (x, seen self.new.rest.now)) result (argument_in kind.ScalarValue (8 * bytes_of_bits bits) (seen self.old.rest.now)) }
+    {
+        let word = self.word()?;
+        number(0, greatest(bits), word)
+    }
+
+    /// Reads the LABEL of a request.
+    #[tactic(auto, unfolding(crate::specs::Reading::argument_in))]
+    pub fn request_label(&mut self) -> Result<Label, LineReason>
+        ensures { Reads (λ x. (x, seen self.new.rest.now)) result (argument_in kind.RequestLabel 0 (seen self.old.rest.now)) }
+    {
+        let word = self.word()?;
+        label(word)
+    }
+
+    /// Reads the LABEL of a packet.
+    #[tactic(auto, unfolding(crate::specs::Reading::argument_in))]
+    pub fn packet_label(&mut self) -> Result<Label, LineReason>
+        ensures { Reads (λ x. (x, seen self.new.rest.now)) result (argument_in kind.PacketLabel 0 (seen self.old.rest.now)) }
     {
         let word = self.word()?;
         label(word)
@@ -130,6 +158,19 @@ fn channel_kind(word: &[u8]) -> Result<Kind, LineReason>
     match kind_of(word) {
         Some(kind) => Ok(kind),
         None => Err(LineReason::Form),
+    }
+}
+
+/// Reads BITS.
+fn bits(word: &[u8]) -> Result<Bits, LineReason>
+    ensures { Reads (λ bits. bits) result (value_in kind.ScalarBits 0 word.now) }
+{
+    let Some(count) = number_to(64, word) else {
+        return Err(LineReason::Number);
+    };
+    match bits_from(count) {
+        Some(bits) => Ok(bits),
+        None => Err(LineReason::Number),
     }
 }
 
@@ -200,6 +241,29 @@ pub fn call(alloc: Global, callee: Callee, words: &[&[u8]]) -> Result<Call, Line
             port: arguments.port()?,
             kind: arguments.channel_kind()?,
         }),
+        Callee::PktSend => Ok(Call::PktSend {
+            port: arguments.port()?,
+            bytes: Seq::new(arguments.content(alloc)?),
+        }),
+        Callee::PktRecv => Ok(Call::PktRecv {
+            port: arguments.port()?,
+        }),
+        Callee::PktRecvI => Ok(Call::PktRecvI {
+            port: arguments.port()?,
+        }),
+        Callee::Release => Ok(Call::Release {
+            label: arguments.packet_label()?,
+        }),
+        Callee::SclSend => {
+            let port = arguments.port()?;
+            let bits = arguments.bits()?;
+            let value = arguments.value(bits)?;
+            Ok(Call::SclSend { port, bits, value })
+        }
+        Callee::SclRecv => Ok(Call::SclRecv {
+            port: arguments.port()?,
+            bits: arguments.bits()?,
+        }),
         Callee::CloseSend => Ok(Call::CloseSend {
             port: arguments.port()?,
         }),
@@ -207,10 +271,10 @@ pub fn call(alloc: Global, callee: Callee, words: &[&[u8]]) -> Result<Call, Line
             port: arguments.port()?,
         }),
         Callee::Test => Ok(Call::Test {
-            label: arguments.label()?,
+            label: arguments.request_label()?,
         }),
         Callee::Cancel => Ok(Call::Cancel {
-            label: arguments.label()?,
+            label: arguments.request_label()?,
         }),
         Callee::Turn => Ok(Call::Turn),
     }

@@ -70,7 +70,7 @@ fn is_argument(kind: ArgumentKind, word: &[u8]) -> bool
     match kind {
         ArgumentKind::Name => name_parts(word).is_some(),
         ArgumentKind::ChannelKind => kind_of(word).is_some(),
-        ArgumentKind::Label => is_label(word),
+        ArgumentKind::RequestLabel | ArgumentKind::PacketLabel => is_label(word),
         _ => true,
     }
 }

@@ -9,7 +9,7 @@ ghost use Rattle.scenario_lang.specs.CallFronts.{label_front, tries_front, argum
 ghost use Rattle.board_model.specs.Grammar.{canonical, domain_text, link_text, call_text, call_words, caller_text, name_text, spaced, line_of};
 
 use self::Argument::{ChannelKind, Content, Label, Name, Number};
-use crate::kinds::kind_word;
+use crate::kinds::{bits_count, kind_word};
 use crate::table::row_of;
 use board_model::{Call, CallLine, Callee, DomainLine, LinkLine, Scenario};
 use mc_base::{EndName, Kind};
@@ -171,6 +171,28 @@ fn put_call<K: Sink>(out: &mut Writer<'_, K>, call: &Call)
             out,
             Callee::OpenRecv,
             &[Number(*port as u64), ChannelKind(*kind)],
+        ),
+        Call::PktSend { port, bytes } => put_form(
+            out,
+            Callee::PktSend,
+            &[Number(*port as u64), Content(bytes.as_slice())],
+        ),
+        Call::PktRecv { port } => put_form(out, Callee::PktRecv, &[Number(*port as u64)]),
+        Call::PktRecvI { port } => put_form(out, Callee::PktRecvI, &[Number(*port as u64)]),
+        Call::Release { label } => put_form(out, Callee::Release, &[Label(label.as_slice())]),
+        Call::SclSend { port, bits, value } => put_form(
+            out,
+            Callee::SclSend,
+            &[
+                Number(*port as u64),
+                Number(bits_count(*bits) as u64),
+                Number(*value),
+            ],
+        ),
+        Call::SclRecv { port, bits } => put_form(
+            out,
+            Callee::SclRecv,
+            &[Number(*port as u64), Number(bits_count(*bits) as u64)],
         ),
         Call::CloseSend { port } => put_form(out, Callee::CloseSend, &[Number(*port as u64)]),
         Call::CloseRecv { port } => put_form(out, Callee::CloseRecv, &[Number(*port as u64)]),

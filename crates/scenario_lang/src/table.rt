@@ -4,7 +4,10 @@ ghost use Rattle.std.specs.Prelude.{◌≡◌};
 ghost use Rattle.board_model.specs.Forms.{form, callee_of as call_with};
 ghost use Rattle.scenario_lang.specs.Table.{IsRow};
 
-use board_model::ArgumentKind::{self, ChannelKind, Content, Label, Maximum, Name, Port, Priority};
+use board_model::ArgumentKind::{
+    self, ChannelKind, Content, Maximum, Name, PacketLabel, Port, Priority, RequestLabel,
+    ScalarBits, ScalarValue,
+};
 use board_model::Callee;
 
 /// The form of a call.
@@ -45,10 +48,21 @@ pub fn row_of(callee: Callee) -> CallRow
         Callee::Connect => row(b"connect", &[Port, Name, ChannelKind], A_LABEL, MAY_TRY),
         Callee::OpenSend => row(b"open_send", &[Port, ChannelKind], NO_LABEL, MAY_TRY),
         Callee::OpenRecv => row(b"open_recv", &[Port, ChannelKind], NO_LABEL, MAY_TRY),
+        Callee::PktSend => row(b"pkt_send", &[Port, Content], NO_LABEL, MAY_TRY),
+        Callee::PktRecv => row(b"pkt_recv", &[Port], A_LABEL, MAY_TRY),
+        Callee::PktRecvI => row(b"pkt_recv_i", &[Port], A_LABEL, MAY_TRY),
+        Callee::Release => row(b"release", &[PacketLabel], NO_LABEL, MAY_TRY),
+        Callee::SclSend => row(
+            b"scl_send",
+            &[Port, ScalarBits, ScalarValue],
+            NO_LABEL,
+            MAY_TRY,
+        ),
+        Callee::SclRecv => row(b"scl_recv", &[Port, ScalarBits], NO_LABEL, MAY_TRY),
         Callee::CloseSend => row(b"close_send", &[Port], NO_LABEL, MAY_TRY),
         Callee::CloseRecv => row(b"close_recv", &[Port], NO_LABEL, MAY_TRY),
-        Callee::Test => row(b"test", &[Label], NO_LABEL, MAY_TRY),
-        Callee::Cancel => row(b"cancel", &[Label], NO_LABEL, MAY_TRY),
+        Callee::Test => row(b"test", &[RequestLabel], NO_LABEL, MAY_TRY),
+        Callee::Cancel => row(b"cancel", &[RequestLabel], NO_LABEL, MAY_TRY),
         Callee::Turn => row(b"turn", &[], NO_LABEL, MAY_TRY),
     }
 }
@@ -70,7 +84,7 @@ fn row(
 }
 
 /// Every call, in the order of the table.
-const CALLEES: [Callee; 15] = [
+const CALLEES: [Callee; 21] = [
     Callee::Create,
     Callee::Delete,
     Callee::Lookup,
@@ -81,6 +95,12 @@ const CALLEES: [Callee; 15] = [
     Callee::Connect,
     Callee::OpenSend,
     Callee::OpenRecv,
+    Callee::PktSend,
+    Callee::PktRecv,
+    Callee::PktRecvI,
+    Callee::Release,
+    Callee::SclSend,
+    Callee::SclRecv,
     Callee::CloseSend,
     Callee::CloseRecv,
     Callee::Test,

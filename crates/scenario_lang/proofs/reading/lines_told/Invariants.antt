@@ -7,7 +7,7 @@ use Rattle.scenario_lang.proofs.reading.lines_told.Given as goal
 abbrev pub invariant-loop-rest : goal.invariant-loop-rest
 invariant-loop-rest l = record {
   told : told_from l.number l.above.told (lines_of l.rest) ≡ told_by l.text;
-  keeps : Keeps l.above.labels.told.keys l.above.told;
+  keeps : Keeps l.above.labels l.above.told;
   numbered : l.number + length l.rest ≤ length l.text + 1;
 }
 
