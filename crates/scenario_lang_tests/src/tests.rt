@@ -178,7 +178,7 @@ static REFUSED_CALLS: [RefusedCall; 73] = [
     (b"0.0 delete 65536", LineReason::Number),
     (b"0.0 turn 1", LineReason::Form),
     (b"0.0 raw 1 f1", LineReason::Form),
-    (b"0.0 pkt_send 1 00", LineReason::Form),
+    (b"0.0 raw 0 00", LineReason::Form),
     (b"0.0 wait a 1", LineReason::Form),
     (b"0.0 lookup 0:0:1", LineReason::Form),
     (b"0.0 x lookup 0:0:1", LineReason::Form),
@@ -287,8 +287,215 @@ static REFUSED_CHANNELS: [RefusedCall; 54] = [
     (b"0.0 close_sender 1", LineReason::Form),
 ];
 
+/// The same for the lines of packets and scalars.
+static REFUSED_DATA: [RefusedCall; 109] = [
+    (b"0.0 pkt_send", LineReason::Form),
+    (b"0.0 pkt_send 1", LineReason::Form),
+    (b"0.0 pkt_send 1 00 00", LineReason::Form),
+    (b"0.0 pkt_send 1 0:0:2 00", LineReason::Form),
+    (b"0.0 pkt_send 65536 00", LineReason::Number),
+    (b"0.0 pkt_send 01 00", LineReason::Number),
+    (b"0.0 pkt_send -1 0", LineReason::Number),
+    (b"0.0 pkt_send 1 0", LineReason::Bytes),
+    (b"0.0 pkt_send 1 0g", LineReason::Bytes),
+    (b"0.0 pkt_send 1 --", LineReason::Bytes),
+    (b"0.0 pkt_send 1 00-", LineReason::Bytes),
+    (b"1.0 pkt_send 1 00", LineReason::Domain),
+    (b"0.0 x = pkt_send 1 00", LineReason::Label),
+    (b"0.0 try 0 pkt_send 1 00", LineReason::Number),
+    (b"1.0 pkt_send 1 000", LineReason::Bytes),
+    (b"0.0 pkt_recv 1", LineReason::Form),
+    (b"0.0 x = pkt_recv", LineReason::Form),
+    (b"0.0 x = pkt_recv 1 488", LineReason::Form),
+    (b"0.0 x = pkt_recv 65536", LineReason::Number),
+    (b"0.0 x = pkt_recv y", LineReason::Number),
+    (b"0.0 X = pkt_recv 1", LineReason::Form),
+    (b"0.0 x = try 0 pkt_recv 1", LineReason::Number),
+    (b"1.0 x = pkt_recv 1", LineReason::Domain),
+    (b"0.0 try 2 x = pkt_recv 1", LineReason::Form),
+    (b"0.0 pkt_recv_i 1", LineReason::Form),
+    (b"0.0 x = pkt_recv_i", LineReason::Form),
+    (b"0.0 x = pkt_recv_i 1 9000", LineReason::Form),
+    (b"0.0 x = pkt_recv_i 65536", LineReason::Number),
+    (b"0.0 x = pkt_recv_i 00", LineReason::Number),
+    (b"0.0 1x = pkt_recv_i 1", LineReason::Form),
+    (b"1.0 x = pkt_recv_i 1", LineReason::Domain),
+    (b"0.0 release", LineReason::Form),
+    (b"0.0 release x y", LineReason::Form),
+    (b"0.0 release X", LineReason::Form),
+    (b"0.0 release 1", LineReason::Form),
+    (b"0.0 release a0123456789012345", LineReason::Form),
+    (b"0.0 release a,b", LineReason::Form),
+    (b"0.0 release x", LineReason::Label),
+    (b"0.0 y = release x", LineReason::Label),
+    (b"1.0 release x", LineReason::Domain),
+    (b"0.0 try 0 release x", LineReason::Number),
+    (b"0.0 scl_send", LineReason::Form),
+    (b"0.0 scl_send 1", LineReason::Form),
+    (b"0.0 scl_send 1 8", LineReason::Form),
+    (b"0.0 scl_send 1 8 0 0", LineReason::Form),
+    (b"0.0 scl_send 1 0 0", LineReason::Number),
+    (b"0.0 scl_send 1 1 0", LineReason::Number),
+    (b"0.0 scl_send 1 4 0", LineReason::Number),
+    (b"0.0 scl_send 1 7 0", LineReason::Number),
+    (b"0.0 scl_send 1 9 0", LineReason::Number),
+    (b"0.0 scl_send 1 15 0", LineReason::Number),
+    (b"0.0 scl_send 1 17 0", LineReason::Number),
+    (b"0.0 scl_send 1 24 0", LineReason::Number),
+    (b"0.0 scl_send 1 31 0", LineReason::Number),
+    (b"0.0 scl_send 1 33 0", LineReason::Number),
+    (b"0.0 scl_send 1 48 0", LineReason::Number),
+    (b"0.0 scl_send 1 63 0", LineReason::Number),
+    (b"0.0 scl_send 1 65 0", LineReason::Number),
+    (b"0.0 scl_send 1 128 0", LineReason::Number),
+    (b"0.0 scl_send 1 256 0", LineReason::Number),
+    (b"0.0 scl_send 1 08 0", LineReason::Number),
+    (b"0.0 scl_send 1 +8 0", LineReason::Number),
+    (b"0.0 scl_send 1 8. 0", LineReason::Number),
+    (b"0.0 scl_send 1 8bit 0", LineReason::Number),
+    (b"0.0 scl_send 1 - 0", LineReason::Number),
+    (b"0.0 scl_send 1 b8 0", LineReason::Number),
+    (b"0.0 scl_send 1 18446744073709551624 0", LineReason::Number),
+    (b"0.0 scl_send 1 8 256", LineReason::Number),
+    (b"0.0 scl_send 1 16 65536", LineReason::Number),
+    (b"0.0 scl_send 1 32 4294967296", LineReason::Number),
+    (
+        b"0.0 scl_send 1 64 18446744073709551616",
+        LineReason::Number,
+    ),
+    (b"0.0 scl_send 1 8 18446744073709551616", LineReason::Number),
+    (b"0.0 scl_send 1 8 00", LineReason::Number),
+    (b"0.0 scl_send 1 8 -1", LineReason::Number),
+    (b"0.0 scl_send 1 8 a", LineReason::Number),
+    (b"0.0 scl_send 1 8 0x1", LineReason::Number),
+    (b"0.0 scl_send 1 16 -", LineReason::Number),
+    (
+        b"0.0 scl_send 1 64 36893488147419103232",
+        LineReason::Number,
+    ),
+    (
+        b"0.0 scl_send 1 64 184467440737095516150",
+        LineReason::Number,
+    ),
+    (b"0.0 scl_send 65536 8 0", LineReason::Number),
+    (b"1.0 scl_send 1 8 0", LineReason::Domain),
+    (b"0.0 x = scl_send 1 8 0", LineReason::Label),
+    (b"0.0 x = scl_send 1 8 256", LineReason::Number),
+    (b"0.0 try 0 scl_send 1 8 0", LineReason::Number),
+    (b"0.0 scl_send 8 256", LineReason::Form),
+    (b"0.0 scl_recv", LineReason::Form),
+    (b"0.0 scl_recv 1", LineReason::Form),
+    (b"0.0 scl_recv 1 8 0", LineReason::Form),
+    (b"0.0 scl_recv 1 0", LineReason::Number),
+    (b"0.0 scl_recv 1 9", LineReason::Number),
+    (b"0.0 scl_recv 1 12", LineReason::Number),
+    (b"0.0 scl_recv 1 33", LineReason::Number),
+    (b"0.0 scl_recv 1 64.", LineReason::Number),
+    (b"0.0 scl_recv 1 064", LineReason::Number),
+    (b"0.0 scl_recv 1 80", LineReason::Number),
+    (b"0.0 scl_recv 1 -", LineReason::Number),
+    (b"0.0 scl_recv 65536 8", LineReason::Number),
+    (b"1.0 scl_recv 1 8", LineReason::Domain),
+    (b"0.0 x = scl_recv 1 8", LineReason::Label),
+    (b"0.0 pkt_recv_j 1", LineReason::Form),
+    (b"0.0 pktsend 1", LineReason::Form),
+    (b"0.0 pkt-send 1", LineReason::Form),
+    (b"0.0 Pkt_send 1", LineReason::Form),
+    (b"0.0 scl 1", LineReason::Form),
+    (b"0.0 sclsend 1", LineReason::Form),
+    (b"0.0 scl_sends 1", LineReason::Form),
+    (b"0.0 releases 1", LineReason::Form),
+    (b"0.0 pkt 1", LineReason::Form),
+    (b"0.0 pkt_available 1", LineReason::Form),
+];
+
 /// Texts with labels, of which one is told or used where it may not.
-static REFUSED_LABELS: [Refusal; 13] = [
+static REFUSED_LABELS: [Refusal; 30] = [
+    (
+        b"domain 0 nodes 1 pool 1\ndomain 1 nodes 1 pool 1\n0.0 x = lookup 0:0:1\n0.0 release x\n",
+        4,
+        LineReason::Label,
+    ),
+    (
+        b"domain 0 nodes 1 pool 1\ndomain 1 nodes 1 pool 1\n0.0 x = msg_recv_i 1 9\n0.0 release x\n",
+        4,
+        LineReason::Label,
+    ),
+    (
+        b"domain 0 nodes 1 pool 1\ndomain 1 nodes 1 pool 1\n0.0 x = connect 1 0:0:2 packet\n0.0 release x\n",
+        4,
+        LineReason::Label,
+    ),
+    (
+        b"domain 0 nodes 1 pool 1\ndomain 1 nodes 1 pool 1\n0.0 x = pkt_recv 1\n0.0 test x\n",
+        4,
+        LineReason::Label,
+    ),
+    (
+        b"domain 0 nodes 1 pool 1\ndomain 1 nodes 1 pool 1\n0.0 x = pkt_recv 1\n0.0 cancel x\n",
+        4,
+        LineReason::Label,
+    ),
+    (
+        b"domain 0 nodes 1 pool 1\ndomain 1 nodes 1 pool 1\n0.0 x = pkt_recv 1\n0.0 x = pkt_recv 1\n",
+        4,
+        LineReason::Label,
+    ),
+    (
+        b"domain 0 nodes 1 pool 1\ndomain 1 nodes 1 pool 1\n0.0 x = pkt_recv 1\n0.0 x = pkt_recv_i 1\n",
+        4,
+        LineReason::Label,
+    ),
+    (
+        b"domain 0 nodes 1 pool 1\ndomain 1 nodes 1 pool 1\n0.0 x = pkt_recv_i 1\n0.0 x = pkt_recv 1\n",
+        4,
+        LineReason::Label,
+    ),
+    (
+        b"domain 0 nodes 1 pool 1\ndomain 1 nodes 1 pool 1\n0.0 x = pkt_recv_i 1\n0.0 x = lookup 0:0:1\n",
+        4,
+        LineReason::Label,
+    ),
+    (
+        b"domain 0 nodes 1 pool 1\ndomain 1 nodes 1 pool 1\n0.0 x = lookup 0:0:1\n0.0 x = pkt_recv 1\n",
+        4,
+        LineReason::Label,
+    ),
+    (
+        b"domain 0 nodes 1 pool 1\ndomain 1 nodes 1 pool 1\n0.0 x = pkt_recv 1\n1.0 release x\n",
+        4,
+        LineReason::Label,
+    ),
+    (
+        b"domain 0 nodes 1 pool 1\ndomain 1 nodes 1 pool 1\n0.0 x = pkt_recv_i 1\n1.0 release x\n",
+        4,
+        LineReason::Label,
+    ),
+    (
+        b"domain 0 nodes 1 pool 1\ndomain 1 nodes 1 pool 1\n0.0 x = pkt_recv_i 1\n1.0 test x\n",
+        4,
+        LineReason::Label,
+    ),
+    (
+        b"domain 0 nodes 1 pool 1\ndomain 1 nodes 1 pool 1\n0.0 release x\n0.0 x = pkt_recv 1\n",
+        3,
+        LineReason::Label,
+    ),
+    (
+        b"domain 0 nodes 1 pool 1\ndomain 1 nodes 1 pool 1\n0.0 x = pkt_recv 1\n1.0 x = lookup 0:0:1\n1.0 release x\n",
+        5,
+        LineReason::Label,
+    ),
+    (
+        b"domain 0 nodes 1 pool 1\ndomain 1 nodes 1 pool 1\n0.0 x = pkt_recv 1\n1.0 x = lookup 0:0:1\n0.0 test x\n",
+        5,
+        LineReason::Label,
+    ),
+    (
+        b"domain 0 nodes 1 pool 1\ndomain 1 nodes 1 pool 1\n0.0 x = pkt_recv 1\n0.0 release x\n0.0 release x\n0.0 release y\n",
+        6,
+        LineReason::Label,
+    ),
     (
         b"domain 0 nodes 1 pool 1\n0.0 x = lookup 0:0:1\n0.0 x = lookup 0:0:1\n",
         3,
@@ -359,7 +566,31 @@ static REFUSED_LABELS: [Refusal; 13] = [
 /// A text that is read, and its canonical text.
 type Read = (&'static [u8], &'static [u8]);
 
-static READ: [Read; 16] = [
+static READ: [Read; 22] = [
+    (
+        b"domain 0 nodes 1 pool 1\n0.0 pkt_send 1 00ff\n0.0 pkt_send 65535 -\n0.0 x = pkt_recv 0\n0.0 release x\n0.0 y = pkt_recv_i 65535\n0.0 test y\n0.0 release y\n0.0 cancel y\n",
+        b"domain 0 nodes 1 pool 1\n0.0 pkt_send 1 00ff\n0.0 pkt_send 65535 -\n0.0 x = pkt_recv 0\n0.0 release x\n0.0 y = pkt_recv_i 65535\n0.0 test y\n0.0 release y\n0.0 cancel y\n",
+    ),
+    (
+        b"domain 0 nodes 1 pool 1\n0.0 scl_send 1 8 0\n0.0 scl_send 1 8 255\n0.0 scl_send 1 16 65535\n0.0 scl_send 1 32 4294967295\n0.0 scl_send 1 64 18446744073709551615\n0.0 scl_send 1 64 0\n0.0 scl_send 1 16 256\n0.0 scl_send 1 32 65536\n0.0 scl_send 1 64 4294967296\n",
+        b"domain 0 nodes 1 pool 1\n0.0 scl_send 1 8 0\n0.0 scl_send 1 8 255\n0.0 scl_send 1 16 65535\n0.0 scl_send 1 32 4294967295\n0.0 scl_send 1 64 18446744073709551615\n0.0 scl_send 1 64 0\n0.0 scl_send 1 16 256\n0.0 scl_send 1 32 65536\n0.0 scl_send 1 64 4294967296\n",
+    ),
+    (
+        b"domain 0 nodes 1 pool 1\n0.0 scl_recv 0 8\n0.0 scl_recv 1 16\n0.0 scl_recv 2 32\n0.0 scl_recv 65535 64\n",
+        b"domain 0 nodes 1 pool 1\n0.0 scl_recv 0 8\n0.0 scl_recv 1 16\n0.0 scl_recv 2 32\n0.0 scl_recv 65535 64\n",
+    ),
+    (
+        b"domain 0 nodes 1 pool 1\n0.0\ttry  2 pkt_send 1\tFFaB \r\n0.0 x  = try 3 pkt_recv 1\n# a packet\n0.0 try 4294967295   release x\n0.0 try 1 scl_send  1 8  7\n 0.0 try 5 scl_recv 1 8",
+        b"domain 0 nodes 1 pool 1\n0.0 try 2 pkt_send 1 ffab\n0.0 x = try 3 pkt_recv 1\n0.0 try 4294967295 release x\n0.0 try 1 scl_send 1 8 7\n0.0 try 5 scl_recv 1 8\n",
+    ),
+    (
+        b"domain 0 nodes 1 pool 1\n0.0 release = pkt_recv 1\n0.0 test = pkt_recv_i 1\n0.0 release release\n0.0 test test\n0.0 release test\n0.0 cancel test\n",
+        b"domain 0 nodes 1 pool 1\n0.0 release = pkt_recv 1\n0.0 test = pkt_recv_i 1\n0.0 release release\n0.0 test test\n0.0 release test\n0.0 cancel test\n",
+    ),
+    (
+        b"domain 0 nodes 1 pool 1\ndomain 1 nodes 1 pool 1\n0.0 x = pkt_recv 1\n1.0 x = pkt_recv_i 1\n1.0 test x\n0.0 release x\n1.0 release x\n0.0 release x\n",
+        b"domain 0 nodes 1 pool 1\ndomain 1 nodes 1 pool 1\n0.0 x = pkt_recv 1\n1.0 x = pkt_recv_i 1\n1.0 test x\n0.0 release x\n1.0 release x\n0.0 release x\n",
+    ),
     (
         b"domain 0 nodes 1 pool 1\n0.0 x = connect 1 0:0:2 packet\n0.0 open_send 1 packet\n0.0 open_recv 2 packet\n0.0 close_send 1\n0.0 close_recv 2\n",
         b"domain 0 nodes 1 pool 1\n0.0 x = connect 1 0:0:2 packet\n0.0 open_send 1 packet\n0.0 open_recv 2 packet\n0.0 close_send 1\n0.0 close_recv 2\n",
@@ -486,7 +717,8 @@ fn assert_refused_calls(rt: &impl Abort, alloc: Global, rows: &[RefusedCall]) ->
 #[test]
 fn calls_are_refused_with_their_first_reason(rt: HostRuntime) -> Result<(), Fail> {
     assert_refused_calls(&rt, rt.alloc(), &REFUSED_CALLS)?;
-    assert_refused_calls(&rt, rt.alloc(), &REFUSED_CHANNELS)
+    assert_refused_calls(&rt, rt.alloc(), &REFUSED_CHANNELS)?;
+    assert_refused_calls(&rt, rt.alloc(), &REFUSED_DATA)
 }
 
 fn assert_read(rt: &impl Abort, alloc: Global, rows: &[Read]) {
@@ -501,9 +733,10 @@ fn texts_are_read_and_written_in_canonical_form(rt: HostRuntime) {
     assert_read(&rt, rt.alloc(), &READ);
 }
 
-/// A domain line, and a call line with as many bytes of a message, and as many blanks at its end.
-fn message(alloc: Global, bytes: u32, blanks: u32) -> Result<Vec<u8>, AllocError> {
-    let mut text = Vec::from_slice(alloc, b"domain 0 nodes 1 pool 1\n0.0 msg_send 1 0:0:2 1 ")?;
+/// A domain line, and a call line that begins so, with as many bytes and as many blanks at its end.
+fn sending(alloc: Global, front: &[u8], bytes: u32, blanks: u32) -> Result<Vec<u8>, AllocError> {
+    let mut text = Vec::from_slice(alloc, b"domain 0 nodes 1 pool 1\n")?;
+    text.extend_from_slice(front)?;
     for _ in 0..bytes {
         text.extend_from_slice(b"5a")?;
     }
@@ -513,19 +746,27 @@ fn message(alloc: Global, bytes: u32, blanks: u32) -> Result<Vec<u8>, AllocError
     Ok(text)
 }
 
-/// How many bytes and blanks, and the reason for which the text is refused, if it is.
-type Limit = (u32, u32, Option<LineReason>);
+const MESSAGE: &[u8] = b"0.0 msg_send 1 0:0:2 1 ";
 
-static LIMITS: [Limit; 5] = [
-    (9000, 0, None),
-    (9001, 0, Some(LineReason::Bytes)),
-    (9000, 1977, None),
-    (9000, 1978, Some(LineReason::Long)),
-    (9999, 0, Some(LineReason::Long)),
+const PACKET: &[u8] = b"0.0 pkt_send 1 ";
+
+/// How the line begins, how many bytes and blanks it has, and the reason for which it is refused, if it is.
+type Limit = (&'static [u8], u32, u32, Option<LineReason>);
+
+static LIMITS: [Limit; 9] = [
+    (MESSAGE, 9000, 0, None),
+    (MESSAGE, 9001, 0, Some(LineReason::Bytes)),
+    (MESSAGE, 9000, 1977, None),
+    (MESSAGE, 9000, 1978, Some(LineReason::Long)),
+    (MESSAGE, 9999, 0, Some(LineReason::Long)),
+    (PACKET, 489, 0, None),
+    (PACKET, 9000, 1985, None),
+    (PACKET, 9001, 0, Some(LineReason::Bytes)),
+    (PACKET, 9000, 1986, Some(LineReason::Long)),
 ];
 
-fn is_limit(alloc: Global, (bytes, blanks, reason): Limit) -> Result<bool, AllocError> {
-    let text = message(alloc, bytes, blanks)?;
+fn is_limit(alloc: Global, (front, bytes, blanks, reason): Limit) -> Result<bool, AllocError> {
+    let text = sending(alloc, front, bytes, blanks)?;
     Ok(match reason {
         None => is_read(alloc, &text),
         Some(reason) => is_refused(alloc, &text, 2, reason),
@@ -534,7 +775,7 @@ fn is_limit(alloc: Global, (bytes, blanks, reason): Limit) -> Result<bool, Alloc
 
 /// Whether a remark is read behind the longest line, and refused where it is too long itself.
 fn is_remark_limited(alloc: Global) -> Result<bool, AllocError> {
-    let mut text = message(alloc, 9000, 1977)?;
+    let mut text = sending(alloc, MESSAGE, 9000, 1977)?;
     text.extend_from_slice(b"\r\n#")?;
     let short = is_read(alloc, &text);
     for _ in 0..20_000 {
