@@ -20,9 +20,6 @@ tells-there x a there = ap (λ b. not b && (a.address == x)) there
 pub tells-end : (x : ℕ) (a : Announced) → a.create ≡ false → tells_gone x a ≡ (a.address == x)
 tells-end x a gone = ap (λ b. not b && (a.address == x)) gone
 
-pub tells-its-end : (a : Announced) → a.create ≡ false → tells_gone a.address a ≡ true
-tells-its-end a gone = tells-end a.address a gone ∙ eq-eqb a.address a.address refl
-
 pub tells-other : (x : ℕ) (a : Announced) → (a.address ≡ x → ⊥) → tells_gone x a ≡ false
 tells-other x a differs = elim (cases_Bool a.create) [
   | inl there ↦ tells-there x a there
