@@ -223,16 +223,6 @@ first_driver z longest slots is = record {
   front = λ id h. absurd h;
 }
 
-pub first_device : (z longest : ℕ) (slots : List Slot) → slots ≡ [] → HalfHolds z Device (new_view longest) slots 0 0 0
-first_device z longest slots is = record {
-  written_count = refl;
-  taken_count = refl;
-  number_read = λ id e. absurd (cc);
-  carries = λ x. let a = ap (carried_times x) is in omega (arith, a);
-  once = λ x. let a = ap (carried_times x) is in omega (arith, a);
-  front = λ id h. absurd h;
-}
-
 -- The numbers from 0 on
 
 numbers-suc : (j n : ℕ) → numbers_from j (suc n) ≡ numbers_from j n ++ (j + n) ∷ []

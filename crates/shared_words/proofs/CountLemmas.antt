@@ -16,9 +16,6 @@ tick-same a x e = ap (λ (b : Bool). cond b 1 0) (eq-eqb a x e)
 pub tick-other : (a x : ℕ) → a ≢ x → tick a x ≡ 0
 tick-other a x n = ap (λ (b : Bool). cond b 1 0) (ne_eqb a x n)
 
-pub tick-le : (a x : ℕ) → tick a x ≤ 1
-tick-le a x = elim (eqb a x) as (λ b. cond b 1 0 ≤ 1) [ true ↦ omega arith | false ↦ omega arith ]
-
 pub inside-le : (size x : ℕ) → inside size x ≤ 1
 inside-le size x = elim (ltb x size) as (λ b. cond b 1 0 ≤ 1) [ true ↦ omega arith | false ↦ omega arith ]
 

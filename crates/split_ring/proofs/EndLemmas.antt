@@ -1,5 +1,5 @@
 -- What a call keeps of a half.
-use Rattle.std.proofs.Common.{◌≡◌, ℕ, zero, suc, replicate, ◌+◌, ◌-◌, ◌%◌, ◌^◌, ◌<◌, ◌≤◌, Bool, true, false, cond, get_or, set, get_or-set_other, get_or-set_same, length-set, List, [], ◌∷◌, ◌++◌, length, sym, refl, ap, ◌∙◌, subst, arith, length-append}
+use Rattle.std.proofs.Common.{◌≡◌, ℕ, ◌+◌, ◌-◌, ◌%◌, ◌^◌, ◌<◌, ◌≤◌, Bool, true, false, cond, get_or, set, get_or-set_other, get_or-set_same, length-set, List, [], ◌∷◌, ◌++◌, length, sym, refl, ap, ◌∙◌, subst, arith, length-append}
 use mathlib.Core.Logic.{dite}
 use native.Mathlib.Decide.{ℕ_discrete, dec_lt}
 use Rattle.shared_words.specs.Entry.{Entry, number_of, times, inside}
@@ -9,12 +9,10 @@ use Rattle.shared_words.specs.Shown.{RingId, TableShown, HalfShown, with_view, s
 use Rattle.shared_words.specs.Shown as table
 use Rattle.shared_words.specs.declared.view.Staged.TheVariants.{NumberRead}
 use Rattle.shared_words.specs.declared.view.Role.{Role}
-use Rattle.shared_words.specs.declared.view.Role.TheVariants as roles
 use Rattle.shared_words.specs.declared.view.HalfView.{HalfView}
-use Rattle.shared_words.specs.RingRule.{new_view}
-use Rattle.shared_words.proofs.CountLemmas.{inside-yes, inside-no, inside-lt, times-append, times-is, times-other}
+use Rattle.shared_words.proofs.CountLemmas.{inside-yes, inside-lt, times-append, times-is, times-other}
 use Rattle.split_ring.specs.Ends.{End, writes, takes, IsLeft, HoldsNumber, IsSound}
-use Rattle.split_ring.specs.Kept.{end_of, IsKept, flag_count, HasFlags}
+use Rattle.split_ring.specs.Kept.{end_of, IsKept, HasFlags}
 use Rattle.split_ring.specs.declared.counts.Counts.{Counts}
 
 pub sound_writes : (role : Role) (e : Entry) (half : End) → IsSound role half → HoldsNumber role half (number_of e) → IsSound role (writes e half)
@@ -100,38 +98,6 @@ flags_take role e half flags steps f low free = let n : ℕ = number_of e in rec
 -- a number that is held is below the size
 held_below : (role : Role) (half : End) (n : ℕ) → IsSound role half → HoldsNumber role half n → n < size_of half.ring
 held_below role half n s held = let d = s.differ n in inside-lt (size_of half.ring) n (omega (arith, d, held))
-
--- at the beginning the driver holds every number, and the device none
-all-flags : (z x : ℕ) → flag_count (replicate z true) x ≡ inside z x
-all-flags zero x = sym (inside-no 0 x (omega arith))
-all-flags (suc z) zero = sym (inside-yes (suc z) 0 (omega arith))
-all-flags (suc z) (suc x) = all-flags z x ∙ inside-suc z x
-  where
-    inside-suc : (n y : ℕ) → inside n y ≡ inside (suc n) (suc y)
-    inside-suc n y = dite (dec_lt y n) (λ l. inside-yes n y l ∙ sym (inside-yes (suc n) (suc y) (omega arith)))
-        (λ no. inside-no n y (omega arith) ∙ sym (inside-no (suc n) (suc y) (omega arith)))
-
-no-flags : (z x : ℕ) → flag_count (replicate z false) x ≡ 0
-no-flags zero x = refl
-no-flags (suc z) zero = refl
-no-flags (suc z) (suc x) = no-flags z x
-
-length-replicate : {A : Type 0} (z : ℕ) (a : A) → length (replicate z a) ≡ z
-length-replicate {A} zero a = refl
-length-replicate {A} (suc z) a = let h = length-replicate z a in omega (arith, h)
-
-pub first_flags : (role : Role) (half : HalfShown) (z longest : ℕ) (flag : Bool) (flags : List Bool) → half.view ≡ new_view longest → size_of half.ring ≡ z → flags ≡ replicate z flag → ((x : ℕ) → flag_count (replicate z flag) x ≡ begins role z x) → HasFlags role half flags
-first_flags role half z longest flag flags view size is begin = record {
-  count = ap (length {A = Bool}) is ∙ (length-replicate z flag ∙ sym size);
-  each = λ x. let f = ap (λ (l : List Bool). flag_count l x) is in let b = begin x in let s = ap (λ (n : ℕ). begins role n x) size in
-      let w = ap (λ (v : HalfView). times x v.written) view in let t = ap (λ (v : HalfView). times x v.taken) view in omega (arith, f, b, s, w, t);
-}
-
-pub driver_flags : (z x : ℕ) → flag_count (replicate z true) x ≡ begins roles.Driver z x
-driver_flags z x = all-flags z x
-
-pub device_flags : (z x : ℕ) → flag_count (replicate z false) x ≡ begins roles.Device z x
-device_flags z x = no-flags z x
 
 -- a number that was just taken is held
 taken_held : (role : Role) (e : Entry) (half : End) → IsSound role half → HoldsNumber role (takes e half) (number_of e)

@@ -1,5 +1,5 @@
 -- A list of buffers that a half holds: the last of them can be written, and the rest is held after it.
-use Rattle.std.proofs.Common.{◌≡◌, ℕ, ◌+◌, List, [], ◌∷◌, ◌++◌, ap, ◌∙◌, arith, inl, inr, Some, None}
+use Rattle.std.proofs.Common.{◌≡◌, ℕ, ◌+◌, List, [], ◌∷◌, ◌++◌, ap, ◌∙◌, arith, inl, inr, Some}
 use mathlib.Core.Logic.{dite}
 use native.Mathlib.Decide.{ℕ_discrete}
 use Rattle.mc_base.specs.Stored.{Stored}
@@ -32,9 +32,6 @@ more_held role old new bs e sound t held x = let o = sound.owned x in let h = he
     let size = ap (λ (r : RingId). begins role (size_of r) x) k.0 in dite (ℕ_discrete e.0.number x)
     (λ q. let one = by-is number x e.0 q in let u = times-is x e q in omega (arith, o, h, k, a, size, one, u))
     (λ ne. let one = by-other number x e.0 ne in let u = times-other x e ne in omega (arith, o, h, k, a, size, one, u))
-
-pub still_held : (role : Role) (old new : End) (bs : List Stored) → TakesNext old None new → AreHeld role old bs → AreHeld role new bs
-still_held role old new bs t held x = let h = held x in let k = ap (λ (n : End). holding_of role n x) t.1 in omega (arith, h, k)
 
 pub first_held : (role : Role) (half : End) (bs more : List Stored) (b : Stored) → bs ≡ b ∷ more → AreHeld role half bs → HoldsNumber role half b.number
 first_held role half bs more b is held = let h = held b.number in let a = ap (times_by number b.number) is ∙ by-append number b.number (b ∷ []) more in let one = by-is number b.number b (λ i. b.number) in omega (arith, h, a, one)
