@@ -1,5 +1,7 @@
 ghost use Rattle.std.specs.Prelude.{◌≡◌, ◌≢◌, ◌≤◌, ◌+◌, ◌↔◌, ◌∷◌, [], IfOk, IsErrOf, OnErr, None, ℕ, drop, length};
 ghost use Rattle.lane_end.specs.Numbers.{IsLaneSize};
+ghost use Rattle.lane_end.specs.PlainReceiver.{Receives};
+ghost use Rattle.lane_end.specs.PlainSender.{Sends};
 ghost use Rattle.mc_base.specs.declared.channel.Side.TheVariants.{Receiver, Sender};
 ghost use Rattle.board_model.specs.DomainCall.{create_at, delete_at, lookup_of, turn_alone, send_from, receive_at, request_at, available_at, connect_from, open_at, close_at, test_of, cancel_of};
 ghost use Rattle.board_model.specs.Journal.{agrees};
@@ -7,6 +9,8 @@ ghost use Rattle.domain_core.specs.Room.{call_entries, call_bytes};
 ghost use Rattle.domain_core.specs.DomainView.{place_of_id};
 ghost use Rattle.domain_core.specs.Calls.{GivesTo, connected, created, deleted, sent, received, requested, given, given_by, available, tested, cancelled};
 ghost use Rattle.domain_core.specs.Carrying.{Carries, HasShuttled};
+ghost use Rattle.domain_core.specs.Ends.{EndsMoved};
+ghost use Rattle.domain_core.specs.Turned.{MakesTurn};
 ghost use Rattle.linked_pair.specs.Links.{IsOpen, new_link};
 ghost use Rattle.linked_pair.specs.Pair.{CallsAt, IsMember, IsOpened, domain_of};
 
@@ -149,6 +153,7 @@ impl LinkedPair {
         requires entry_room { call_entries ≤ journal.old.entry_room }
         requires byte_room { call_bytes ≤ journal.old.byte_room }
         ensures call { CallsAt which 0 turn_alone self.old self.new journal.old.lines journal.new.lines agrees None }
+        ensures turn { MakesTurn (EndsMoved Sends Receives) (domain_of which self.old) (domain_of which self.new) journal.old.lines journal.new.lines result }
         ensures entry_room { journal.old.entry_room ≤ journal.new.entry_room + call_entries }
         ensures byte_room { journal.old.byte_room ≤ journal.new.byte_room + call_bytes }
     {
