@@ -1,6 +1,21 @@
 -- The numbers that the definitions rest on.
 -- Source: the limits of docs/PROFILE.md, the RPMsg headers of Linux, and VIRTIO 1.2, section 2.7.
-use Rattle.std.specs.Prelude.{ℕ}
+use Rattle.std.specs.Prelude.{ℕ, ◌+◌}
+
+-- the most domains of a board
+abbrev pub domain_limit : ℕ
+domain_limit = 8
+
+-- the most nodes of a domain
+abbrev pub node_limit : ℕ
+node_limit = 16
+
+-- the most buffers of a ring, and of a domain's own pool
+abbrev pub ring_limit : ℕ
+ring_limit = 256
+
+abbrev pub pool_limit : ℕ
+pool_limit = 256
 
 -- the bytes of a buffer
 abbrev pub buffer_size : ℕ
@@ -49,6 +64,21 @@ record_limit = 64
 -- the most endpoints that a domain ever makes
 abbrev pub creation_limit : ℕ
 creation_limit = 60000
+
+-- the most channels that a domain ever numbers
+abbrev pub channel_limit : ℕ
+channel_limit = 65535
+
+-- the most replies that are owed to a domain, and the most announcements: the creation and the end of each record
+abbrev pub reply_limit : ℕ
+reply_limit = 64
+
+abbrev pub announcement_limit : ℕ
+announcement_limit = record_limit + record_limit
+
+-- the most frames that a turn takes from a lane, and the most owed ones that it puts
+abbrev pub turn_limit : ℕ
+turn_limit = 8
 
 -- the most requests that stand
 abbrev pub request_limit : ℕ

@@ -4,8 +4,9 @@ ghost use Rattle.mc_base.specs.NameMap.{names_limit};
 
 use crate::limits::{
     BUFFER_SIZE, FIRST_ADDRESS, FRAME_HEADER_SIZE, ITEM_SIZE, LETTER_HEADER_SIZE, LONGEST_FRAME,
-    MAX_ASKED, MAX_ENDPOINTS, MAX_ENDPOINTS_EVER, MAX_REQUESTS, NAME_SERVICE_ADDRESS, NAME_SIZE,
-    NAMES_KNOWN, NS_SIZE, POOL_BUFFER_SIZE,
+    MAX_ASKED, MAX_CHANNELS, MAX_DOMAINS, MAX_ENDPOINTS, MAX_ENDPOINTS_EVER, MAX_NODES,
+    MAX_OWED_ANNOUNCEMENTS, MAX_OWED_REPLIES, MAX_POOL, MAX_REQUESTS, MAX_RING_SIZE,
+    NAME_SERVICE_ADDRESS, NAME_SIZE, NAMES_KNOWN, NS_SIZE, POOL_BUFFER_SIZE, TURN_FRAMES,
 };
 
 /// Each constant is the number that the definitions rest on.
@@ -25,4 +26,12 @@ pub fn limits_are_those_defined()
     ensures requests { MAX_REQUESTS ≡ limit.request_limit }
     ensures names { NAMES_KNOWN ≡ names_limit }
     ensures asked { MAX_ASKED ≡ limit.asked_limit }
+    ensures domains { MAX_DOMAINS ≡ limit.domain_limit }
+    ensures nodes { MAX_NODES ≡ limit.node_limit }
+    ensures ring { MAX_RING_SIZE ≡ limit.ring_limit }
+    ensures pool { MAX_POOL ≡ limit.pool_limit }
+    ensures channels { MAX_CHANNELS ≡ limit.channel_limit }
+    ensures owed_replies { MAX_OWED_REPLIES ≡ limit.reply_limit }
+    ensures owed_announcements { MAX_OWED_ANNOUNCEMENTS ≡ limit.announcement_limit }
+    ensures turn { TURN_FRAMES ≡ limit.turn_limit }
 {}
