@@ -14,7 +14,7 @@ use Rattle.board_model.specs.Answer.{answer, puts, unless_refused, success_puts}
 use Rattle.board_model.specs.DomainCall.{DomainCall}
 use Rattle.board_model.specs.Change.{changed_all}
 use Rattle.board_model.specs.CallChanges.{call_changes, effect, returned, success_changes, success_returned}
-use Rattle.board_model.specs.Journal.{Line, PlainEntry, again, called, PlainAnswer, refuses, agrees, tells, gives, completes, noted, noted_all, joined, call_line, again_line}
+use Rattle.board_model.specs.Journal.{Line, PlainEntry, again, called, PlainAnswer, refuses, agrees, tells, connects, gives, completes, noted, noted_all, joined, call_line, again_line}
 use Rattle.board_model.specs.Labels.{request_given, success_request, with_label}
 use Rattle.board_model.specs.Lists.{without}
 use Rattle.board_model.specs.Loads.{Load, loads_given, with_returned}
@@ -180,6 +180,7 @@ pub tried_word : (a : PlainAnswer) → is_tried a ≡ true → (word : Refusal) 
 tried_word (refuses word) e = (word, refl)
 tried_word agrees e = absurd cc
 tried_word (tells n) e = absurd cc
+tried_word (connects request channel) e = absurd cc
 tried_word (gives size bytes) e = absurd cc
 tried_word (completes place how) e = absurd cc
 

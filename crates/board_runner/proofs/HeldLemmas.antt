@@ -13,8 +13,8 @@ use Rattle.std.proofs.lemmas.Iterator.Adapters.{position_from-zero}
 use Rattle.mc_base.specs.Limits.{no_key}
 use Rattle.mc_base.specs.declared.request.RequestId.{RequestId}
 use Rattle.board_model.specs.declared.scenario.Call.{Call}
-use Rattle.board_model.specs.declared.scenario.Call.TheVariants.{Create, Delete, Lookup, MsgSend, MsgRecv, MsgRecvI, MsgAvailable, Test, Cancel, Turn}
-use Rattle.board_model.specs.DomainCall.{DomainCall, create_at, delete_at, lookup_of, send_from, receive_at, request_at, available_at, test_of, cancel_of, turn_alone}
+use Rattle.board_model.specs.declared.scenario.Call.TheVariants.{Create, Delete, Lookup, MsgSend, MsgRecv, MsgRecvI, MsgAvailable, Connect, OpenSend, OpenRecv, CloseSend, CloseRecv, Test, Cancel, Turn}
+use Rattle.board_model.specs.DomainCall.{DomainCall, create_at, delete_at, lookup_of, send_from, receive_at, request_at, available_at, connect_from, open_at, close_at, test_of, cancel_of, turn_alone}
 use Rattle.board_model.specs.Lists.{without_at, without}
 use Rattle.board_model.specs.State.{DomainState, place_of_request}
 use Rattle.board_model.specs.Answer.{refusal, unless_refused}
@@ -59,6 +59,11 @@ call_is d ids labels k (MsgSend port to priority bytes) h = refl
 call_is d ids labels k (MsgRecv port max) h = refl
 call_is d ids labels k (MsgRecvI port max) h = refl
 call_is d ids labels k (MsgAvailable port) h = refl
+call_is d ids labels k (Connect port to kind) h = refl
+call_is d ids labels k (OpenSend port kind) h = refl
+call_is d ids labels k (OpenRecv port kind) h = refl
+call_is d ids labels k (CloseSend port) h = refl
+call_is d ids labels k (CloseRecv port) h = refl
 call_is d ids labels k (Test label) h = ap test_of (place_held d ids labels k label.items h)
 call_is d ids labels k (Cancel label) h = ap cancel_of (place_held d ids labels k label.items h)
 call_is d ids labels k Turn h = refl
@@ -86,6 +91,9 @@ same_ends (send_from port to priority bytes) = refl
 same_ends (receive_at port max) = refl
 same_ends (request_at port max) = refl
 same_ends (available_at port) = refl
+same_ends (connect_from port to kind) = refl
+same_ends (open_at port side kind) = refl
+same_ends (close_at port side) = refl
 same_ends (test_of p) = refl
 same_ends (cancel_of p) = refl
 same_ends turn_alone = refl

@@ -52,3 +52,5 @@ pub mod ToldTraffic
 pub mod OwnRunLemmas
 pub mod JobLemmas
 pub mod OwnBoardLemmas
+pub mod QueueLemmas
+pub mod ChannelLemmas

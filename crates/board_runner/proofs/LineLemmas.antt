@@ -11,12 +11,12 @@ use Rattle.lane_end.specs.AnyReceiver.{AnyReceives}
 use Rattle.board_model.specs.declared.scenario.CallLine.{CallLine}
 use Rattle.board_model.specs.DomainCall.{DomainCall, lookup_of}
 use Rattle.board_model.specs.Lists.{without}
-use Rattle.board_model.specs.Journal.{Line, PlainAnswer, tells, turned, noted_all}
+use Rattle.board_model.specs.Journal.{Line, PlainAnswer, tells, connects, turned, noted_all}
 use Rattle.board_model.specs.State.{DomainState}
 use Rattle.board_model.specs.Answer.{refusal, unless_refused, success, answer, answer_by, puts}
 use Rattle.board_model.specs.Labels.{success_request, request_given}
 use Rattle.board_model.specs.Serial.{put_entry}
-use Rattle.domain_core.specs.Calls.{Calls, place_ended, IsFresh, requested, given}
+use Rattle.domain_core.specs.Calls.{Calls, place_ended, IsFresh, requested, given, connected, given_by}
 use Rattle.domain_core.specs.Ends.{EndsMoved}
 use Rattle.mc_journal.specs.Entry.{plain_answer, bytes_in_answer}
 use Rattle.board_runner.specs.declared.station.Station.{Station}
@@ -42,6 +42,16 @@ gives_requested s node call made told gives e = go (refusal s node call) made (e
     go None (Ok id) e = cc
     go None (Err w) e = absurd cc
     go (Some v) (Ok id) e = absurd cc
+    go (Some v) (Err w) e = refl
+
+-- and so it is by a connect
+pub gives_connected : (s : DomainState) (node : ℕ) (call : DomainCall) (made : Result (RequestId × ℕ) Refusal) (number : ℕ) → success s node call ≡ connects s.requests_given number → success_request s call ≡ Some s.requests_given → connected made ≡ answer s node call → option_map (λ i. i.serial) (given_by made) ≡ request_given s node call
+gives_connected s node call made number told gives e = go (refusal s node call) made (e ∙ ap (answer_by (refusal s node call)) told) ∙ ap (unless_refused (refusal s node call) None) (sym gives)
+  where
+    go : (o : Option Refusal) (made : Result (RequestId × ℕ) Refusal) → connected made ≡ answer_by o (connects s.requests_given number) → option_map (λ i. i.serial) (given_by made) ≡ unless_refused o None (Some s.requests_given)
+    go None (Ok (id, channel)) e = cc
+    go None (Err w) e = absurd cc
+    go (Some v) (Ok (id, channel)) e = absurd cc
     go (Some v) (Err w) e = refl
 
 pub ok_given : (made : Result RequestId Refusal) → result_ok made ≡ given made

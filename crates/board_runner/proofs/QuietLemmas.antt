@@ -24,7 +24,7 @@ use Rattle.lane_end.specs.declared.any.AnyRecv.{AnyRecv}
 use Rattle.lane_end.specs.declared.any.AnySend.TheVariants as send
 use Rattle.lane_end.specs.declared.any.AnyRecv.TheVariants as recv
 use Rattle.board_model.specs.declared.scenario.Call.{Call}
-use Rattle.board_model.specs.declared.scenario.Call.TheVariants.{Create, Delete, Lookup, MsgSend, MsgRecv, MsgRecvI, MsgAvailable, Test, Cancel, Turn}
+use Rattle.board_model.specs.declared.scenario.Call.TheVariants.{Create, Delete, Lookup, MsgSend, MsgRecv, MsgRecvI, MsgAvailable, Connect, OpenSend, OpenRecv, CloseSend, CloseRecv, Test, Cancel, Turn}
 use Rattle.board_model.specs.declared.scenario.CallLine.{CallLine}
 use Rattle.board_model.specs.Answer.{puts, refusal, unless_refused}
 use Rattle.board_model.specs.DomainCall.{turn_alone}
@@ -296,6 +296,11 @@ turn_returns line st s e = go line.call e
     go (MsgRecv port max) e = absurd cc
     go (MsgRecvI port max) e = absurd cc
     go (MsgAvailable port) e = absurd cc
+    go (Connect port to kind) e = absurd cc
+    go (OpenSend port kind) e = absurd cc
+    go (OpenRecv port kind) e = absurd cc
+    go (CloseSend port) e = absurd cc
+    go (CloseRecv port) e = absurd cc
     go (Test label) e = absurd cc
     go (Cancel label) e = absurd cc
 

@@ -8,7 +8,7 @@ use Rattle.std.proofs.lemmas.List.{length-map}
 use Rattle.std.proofs.lemmas.List.Elements.{filter-append}
 use Rattle.std.proofs.lemmas.Option.{slice_get-map, slice_get_read, slice_get_within}
 use Rattle.board_model.specs.declared.scenario.Call.{Call}
-use Rattle.board_model.specs.declared.scenario.Call.TheVariants.{Create, Delete, Lookup, MsgSend, MsgRecv, MsgRecvI, MsgAvailable, Test, Cancel, Turn}
+use Rattle.board_model.specs.declared.scenario.Call.TheVariants.{Create, Delete, Lookup, MsgSend, MsgRecv, MsgRecvI, MsgAvailable, Connect, OpenSend, OpenRecv, CloseSend, CloseRecv, Test, Cancel, Turn}
 use Rattle.board_model.specs.declared.scenario.CallLine.{CallLine}
 use Rattle.board_model.specs.declared.scenario.DomainLine.{DomainLine}
 use Rattle.board_model.specs.declared.scenario.Scenario.{Scenario}
@@ -244,6 +244,11 @@ asks (MsgSend port to priority bytes) h = tt
 asks (MsgRecv port max) h = h.1
 asks (MsgRecvI port max) h = tt
 asks (MsgAvailable port) h = tt
+asks (Connect port to kind) h = tt
+asks (OpenSend port kind) h = tt
+asks (OpenRecv port kind) h = tt
+asks (CloseSend port) h = tt
+asks (CloseRecv port) h = tt
 asks (Test label) h = tt
 asks (Cancel label) h = tt
 asks Turn h = tt

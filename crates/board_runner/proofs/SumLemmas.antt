@@ -5,7 +5,6 @@ use Rattle.std.proofs.lemmas.List.Sums.{sum_by-cons}
 use Rattle.board_model.specs.declared.totals.Totals.{Totals}
 use Rattle.board_model.specs.declared.scenario.Scenario.{Scenario}
 use Rattle.board_model.specs.LinkedBoard.{IsLinkedBoard}
-use Rattle.board_model.specs.State.{queued_items}
 use Rattle.board_model.specs.Step.{RunState}
 use Rattle.board_model.specs.Run.{left_by}
 use Rattle.board_model.specs.Board.{DomainJournal}
@@ -21,6 +20,7 @@ use Rattle.board_model.proofs.KeptFew.{accepted-few}
 use Rattle.board_model.proofs.KeptNumbers.{sent, came, lost, numbers-told}
 use Rattle.board_runner.specs.declared.tally.Tally.{Tally}
 use Rattle.board_runner.specs.Tallied.{IsTally, AreTallies, RanBoard}
+use Rattle.board_runner.proofs.QueueLemmas.{queued_apart, messages-apart}
 
 -- ---- sums
 
@@ -55,15 +55,15 @@ sums s ys board ts ran tallies =
     let brings : sum_by (λ (y : Tally). y.counts.brought) ys ≡ total came js = tallied s (λ y. y.counts.brought) came (λ t y at is. is.counts.brought) ts ys left tallies in
     let losts : sum_by (λ (y : Tally). y.counts.lost + y.deleted) ys ≡ total (lost s) js
     = tallied s (λ y. y.counts.lost + y.deleted) (lost s) (λ t y at is. omega (arith, is.counts.lost, is.deleted)) ts ys left tallies in
-    let queues : sum_by (λ (y : Tally). y.held.queued) ys ≡ total (λ j. length (queued_items (left_by s j.line j.entries).state)) js
-    = tallied s (λ y. y.held.queued) (λ j. length (queued_items (left_by s j.line j.entries).state))
-    (λ t y at is. is.held.queued ∙ ap (λ (r : RunState). length (queued_items r.state)) at) ts ys left tallies in
+    let queues : sum_by (λ (y : Tally). y.held.queued) ys ≡ total (λ j. queued_apart (left_by s j.line j.entries).state) js
+    = tallied s (λ y. y.held.queued) (λ j. queued_apart (left_by s j.line j.entries).state)
+    (λ t y at is. is.held.queued ∙ ap (λ (r : RunState). queued_apart r.state) at) ts ys left tallies in
     record {
       accepts = sends ∙ sym told.accepts;
       brings = omega (arith, sends, brings, told.brings);
       in_ring = omega (arith, sends, brings, told.in_ring);
       drops_some = losts ∙ sym told.drops_some;
-      queues = queues ∙ sym told.queues;
+      queues = queues ∙ messages-apart s js board ran.run;
       all = omega (arith, no-message-lost s js board ran.run (λ m. true), count-every (accepted s js), count-every (messages_taken s js), count-every (dropped s js), count-every (messages_queued s js), count-every (messages_in_ring s js));
       few = omega (arith, accepted-few s js board ran.run, board.lines_few);
     }

@@ -23,14 +23,14 @@ tallies_length s [] (y ∷ ys) all = absurd all
 tallies_length s (t ∷ ts) [] all = absurd all
 tallies_length s (t ∷ ts) (y ∷ ys) all = omega (arith, tallies_length s ts ys all.1)
 
-tally_in : (s : Scenario) (ts : List Station) (ys : List Tally) → AreTallies s ts ys → (i : ℕ) (d : Tally) → i < length ys → (t : Station) × (slice_get ts i ≡ Some t) × IsTally s t (get_or ys i d)
+pub tally_in : (s : Scenario) (ts : List Station) (ys : List Tally) → AreTallies s ts ys → (i : ℕ) (d : Tally) → i < length ys → (t : Station) × (slice_get ts i ≡ Some t) × IsTally s t (get_or ys i d)
 tally_in s [] [] all i d within = absurd (omega (arith, within))
 tally_in s [] (y ∷ ys) all i d within = absurd all
 tally_in s (t ∷ ts) [] all i d within = absurd all
 tally_in s (t ∷ ts) (y ∷ ys) all zero d within = (t, refl, all.0)
 tally_in s (t ∷ ts) (y ∷ ys) all (suc i) d within = tally_in s ts ys all.1 i d (omega (arith, within))
 
-number_in : (ts : List Station) (i : ℕ) (t : Station) → slice_get ts i ≡ Some t → get_or (map (λ (x : Station). x.line.domain) ts) i 0 ≡ t.line.domain
+pub number_in : (ts : List Station) (i : ℕ) (t : Station) → slice_get ts i ≡ Some t → get_or (map (λ (x : Station). x.line.domain) ts) i 0 ≡ t.line.domain
 number_in [] i t at = absurd cc
 number_in (x ∷ ts) zero t at = let same : x ≡ t = cc in ap (λ (y : Station). y.line.domain) same
 number_in (x ∷ ts) (suc i) t at = number_in ts i t at

@@ -3,15 +3,16 @@
 use Rattle.std.specs.Prelude.{◌≡◌, ℕ, ◌+◌, ◌-◌, ◌≤◌, ◌<◌, ◌^◌, Bool, true, false, ◌&&◌, ◌||◌, Option, Some, slice_get, length, option_map, if◌then◌else◌}
 use Rattle.std.specs.List.{list_all}
 use Rattle.mc_base.specs.Limits.{asked_limit}
+use Rattle.mc_base.specs.declared.channel.Side.TheVariants.{Sender, Receiver}
 use Rattle.mc_base.specs.declared.request.Done.{Done}
 use Rattle.mc_base.specs.declared.request.Done.TheVariants as done
 use Rattle.mc_base.specs.declared.request.RequestId.{RequestId}
 use Rattle.lane_end.specs.AnySender.{AnySends}
 use Rattle.lane_end.specs.AnyReceiver.{AnyReceives}
 use Rattle.board_model.specs.declared.scenario.Call.{Call}
-use Rattle.board_model.specs.declared.scenario.Call.TheVariants.{Create, Delete, Lookup, MsgSend, MsgRecv, MsgRecvI, MsgAvailable, Test, Cancel, Turn}
+use Rattle.board_model.specs.declared.scenario.Call.TheVariants.{Create, Delete, Lookup, MsgSend, MsgRecv, MsgRecvI, MsgAvailable, Connect, OpenSend, OpenRecv, CloseSend, CloseRecv, Test, Cancel, Turn}
 use Rattle.board_model.specs.declared.scenario.CallLine.{CallLine}
-use Rattle.board_model.specs.DomainCall.{DomainCall, create_at, delete_at, lookup_of, send_from, receive_at, request_at, available_at, test_of, cancel_of, turn_alone}
+use Rattle.board_model.specs.DomainCall.{DomainCall, create_at, delete_at, lookup_of, send_from, receive_at, request_at, available_at, connect_from, open_at, close_at, test_of, cancel_of, turn_alone}
 use Rattle.board_model.specs.Journal.{Line, Visit, idle_line, is_idle, PlainAnswer, again, called, noted}
 use Rattle.board_model.specs.Labels.{request_given}
 use Rattle.board_model.specs.Scenario.{label_in}
@@ -37,6 +38,11 @@ call_by ids standing (MsgSend port to priority bytes) = send_from port to priori
 call_by ids standing (MsgRecv port max) = receive_at port max
 call_by ids standing (MsgRecvI port max) = request_at port max
 call_by ids standing (MsgAvailable port) = available_at port
+call_by ids standing (Connect port to kind) = connect_from port to kind
+call_by ids standing (OpenSend port kind) = open_at port Sender kind
+call_by ids standing (OpenRecv port kind) = open_at port Receiver kind
+call_by ids standing (CloseSend port) = close_at port Sender
+call_by ids standing (CloseRecv port) = close_at port Receiver
 call_by ids standing (Test label) = test_of (place_of_id standing (id_or_none ids label.items))
 call_by ids standing (Cancel label) = cancel_of (place_of_id standing (id_or_none ids label.items))
 call_by ids standing Turn = turn_alone

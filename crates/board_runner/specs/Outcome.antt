@@ -1,11 +1,11 @@
 -- What the outcome of a run says of its board run.
--- Source: docs/FORMATS.md, "Report". A serial run closes none of its rings, so none is listed, and no channels are built yet.
+-- Source: docs/FORMATS.md, "Report". A serial run closes none of its rings, so none is listed.
 use Rattle.std.specs.Prelude.{◌≡◌, List, [], map}
 use Rattle.board_model.specs.declared.scenario.Scenario.{Scenario}
 use Rattle.board_model.specs.Scenario.{lanes}
 use Rattle.board_model.specs.Journal.{Line}
 use Rattle.board_model.specs.Board.{DomainJournal}
-use Rattle.board_model.specs.Totals.{totals}
+use Rattle.board_model.specs.Totals.{channel_totals, totals}
 use Rattle.board_model.specs.Places.{places_of}
 use Rattle.board_model.specs.Report.{lines_of}
 use Rattle.mc_journal.specs.Written.{Written}
@@ -20,5 +20,5 @@ pub record IsOutcome (s : Scenario) (o : Outcome) (js : List DomainJournal) : Ty
   pub journals : lines_in o.journals ≡ map lines_of js
   pub rings : o.rings ≡ []
   pub places : o.places ≡ map (places_of s js) (lanes s)
-  pub channels : o.channels ≡ []
+  pub channels : o.channels ≡ channel_totals s js
   pub messages : o.messages ≡ totals s js

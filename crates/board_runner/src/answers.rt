@@ -2,7 +2,7 @@
 
 ghost use Rattle.std.specs.Prelude.{◌≡◌, ◌<◌, ◌≤◌, ◌^◌, IfOk, length, take};
 ghost use Rattle.board_model.specs.Tallies.{number_told};
-ghost use Rattle.domain_core.specs.Calls.{created, deleted, sent, received, requested, available, result_of_done, tested, cancelled};
+ghost use Rattle.domain_core.specs.Calls.{connected, created, deleted, sent, received, requested, available, result_of_done, tested, cancelled};
 ghost use Rattle.mc_journal.specs.Entry.{plain_answer, result_of_told, bytes_in_answer, bytes_in_told};
 ghost use Rattle.board_runner.specs.Lines.{GivesWithin};
 
@@ -21,7 +21,7 @@ pub fn of_unit(made: Result<(), Refusal>) -> Answer<'static>
     }
 }
 
-/// Of a call that tells a number: an address, or how many messages wait or were dropped.
+/// Of a call that tells a number: an address, or how many messages or items wait or were dropped.
 pub fn of_number(made: Result<u32, Refusal>) -> Answer<'static>
     ensures created { plain_answer result ≡ created made }
     ensures deleted { plain_answer result ≡ deleted made }
@@ -42,6 +42,20 @@ pub fn of_request(made: Result<RequestId, Refusal>) -> Answer<'static>
 {
     match made {
         Ok(id) => Answer::Number(id.serial),
+        Err(word) => Answer::Refused(word),
+    }
+}
+
+/// Of a connect: it tells the serial of its request and the number of its channel.
+pub fn of_connect(made: Result<(RequestId, u32), Refusal>) -> Answer<'static>
+    ensures connected { plain_answer result ≡ connected made }
+    ensures no_bytes { bytes_in_answer result ≡ 0 }
+{
+    match made {
+        Ok((id, channel)) => Answer::Channel {
+            request: id.serial,
+            channel,
+        },
         Err(word) => Answer::Refused(word),
     }
 }

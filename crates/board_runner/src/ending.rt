@@ -9,6 +9,7 @@ ghost use Rattle.board_runner.specs.Tallied.{AreHeld, TellsStation, TellStations
 
 use crate::Outcome;
 use crate::adding::add;
+use crate::channels::channels_of;
 use crate::counts::count;
 use crate::numbers::{places_of, totals_of};
 use crate::station::Station;
@@ -31,12 +32,13 @@ pub fn outcome_of(
 {
     let tallies = tallies_of(alloc, &stations)?;
     let places = places_of(alloc, scenario, tallies.as_slice())?;
+    let channels = channels_of(alloc, scenario, tallies.as_slice())?;
     let messages = totals_of(scenario, tallies.as_slice());
     Ok(Outcome {
         journals: journals_of(alloc, stations)?,
         rings: Seq::new(Vec::new(alloc)),
         places,
-        channels: Seq::new(Vec::new(alloc)),
+        channels,
         messages,
     })
 }
@@ -64,12 +66,13 @@ fn tally_of(station: &Station<'_>) -> Tally
     }
 }
 
-/// How many messages are queued in a domain, and where it holds buffers.
+/// How many messages are queued in a domain, how many channels it numbered, and where it holds buffers.
 fn held_by(domain: &Domain<AnySend<'_>, AnyRecv<'_>>) -> HeldBuffers
     ensures { AreHeld domain.now.state result }
 {
     let mut held = HeldBuffers {
         queued: domain.messages_queued(),
+        channels: domain.channels_given(),
         places: [Places { queue: 0, lent: 0 }; 8],
     };
     for peer in 0..MAX_DOMAINS {

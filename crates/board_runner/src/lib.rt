@@ -8,6 +8,7 @@ mod adding;
 mod answers;
 mod board;
 mod carrying;
+mod channels;
 mod counts;
 mod ending;
 mod gate;

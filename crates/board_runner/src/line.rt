@@ -10,6 +10,7 @@ ghost use Rattle.board_runner.specs.Carried.{StayCarriedWhere};
 ghost use Rattle.board_runner.specs.Lines.{CallsDomain, MakesCall, NotesCalled, Tries, AsksAtMost, call_by, dropped_by, is_quiet as is_quiet_call, ends_idle as ends_idle_lines};
 ghost use Rattle.board_runner.specs.Runs.{IsSomeNext, AllCarried, MayCount, CountsFit, CallsLine, CountsCall, RunsLine, OneLineMore};
 
+mod channels;
 mod messages;
 mod requests;
 
@@ -18,6 +19,7 @@ use crate::labels::{hold, id_of};
 use crate::station::Station;
 use crate::stations::others_turn;
 use board_model::{Call, CallLine};
+use channels::{close_recv, close_send, connect, open_recv, open_send};
 use domain_core::{Answer, Domain, Entry, Journal, Told};
 use lane_end::{AnyRecv, AnySend};
 use mc_base::{Local, NoMemory, Refusal, RequestId};
@@ -207,6 +209,13 @@ fn call_domain<'r>(
         }
         Call::MsgRecvI { port, max } => request(domain, journal, local(line, *port), *max),
         Call::MsgAvailable { port } => available(domain, journal, local(line, *port)),
+        Call::Connect { port, to, kind } => {
+            connect(domain, journal, local(line, *port), *to, *kind)
+        }
+        Call::OpenSend { port, kind } => open_send(domain, journal, local(line, *port), *kind),
+        Call::OpenRecv { port, kind } => open_recv(domain, journal, local(line, *port), *kind),
+        Call::CloseSend { port } => close_send(domain, journal, local(line, *port)),
+        Call::CloseRecv { port } => close_recv(domain, journal, local(line, *port)),
         Call::Test { label } => test(domain, journal, id_of(ids, label), room),
         Call::Cancel { label } => cancel(domain, journal, id_of(ids, label)),
         Call::Turn => turn(domain, journal),

@@ -5,8 +5,8 @@ use domain_core::Journal;
 use split_ring::Closed;
 
 /// What a run left: the journal of each domain in rising number, the rings, of which a serial run closes none, where the buffers of
-/// each lane are, what became of the items of each channel, of which there are none yet, and what became of the messages. All
-/// stand in the order of the report.
+/// each lane are, what became of the items of each channel, and what became of the messages. All stand in the order of the
+/// report.
 #[derive(Debug, Drop)]
 pub struct Outcome {
     pub journals: Seq<Journal>,

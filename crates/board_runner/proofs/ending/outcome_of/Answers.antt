@@ -23,13 +23,22 @@ places_of-requires-clause-tallies c =
       tallies = tallied s c.args.stations.items _ c.in_ok-tallies.tallies _ c.requires.run.each c.deref.ensures.value c.in_ok-tallies.ensures c.as_slice.ensures;
     }
 
+pub channels_of-requires-clause-tallies : goal.channels_of-requires-clause-tallies
+channels_of-requires-clause-tallies c =
+    let s = c.args.scenario.now in
+    record {
+      stations = (finished s).stations;
+      ran = finished_ran s (lawful_is_linked s c.requires.lawful) c.args.stations.items c.requires.run.each;
+      tallies = tallied s c.args.stations.items _ c.in_ok-tallies.tallies _ c.requires.run.each c.deref.ensures.value c.in_ok-tallies.ensures c.as_slice-2.ensures;
+    }
+
 pub totals_of-messages-requires-clause-tallies : goal.totals_of-messages-requires-clause-tallies
 totals_of-messages-requires-clause-tallies c =
     let s = c.args.scenario.now in
     record {
       stations = (finished s).stations;
       ran = finished_ran s (lawful_is_linked s c.requires.lawful) c.args.stations.items c.requires.run.each;
-      tallies = tallied s c.args.stations.items _ c.in_ok-tallies.tallies _ c.requires.run.each c.deref.ensures.value c.in_ok-tallies.ensures c.as_slice-2.ensures;
+      tallies = tallied s c.args.stations.items _ c.in_ok-tallies.tallies _ c.requires.run.each c.deref.ensures.value c.in_ok-tallies.ensures c.as_slice-3.ensures;
     }
 
 pub returns : goal.returns
@@ -40,6 +49,6 @@ returns c =
       journals = c.in_ok-journals_of.ensures ∙ stations-told s (finished s).stations c.args.stations.items c.requires.run.each;
       places = c.in_ok-places.ensures (finished s).stations ran (tallied s c.args.stations.items _ c.in_ok-tallies.tallies _ c.requires.run.each c.deref.ensures.value c.in_ok-tallies.ensures c.as_slice.ensures);
       rings = c.new-2.ensures ∙ c.new.ensures.items;
-      channels = c.new-4.ensures ∙ c.new-3.ensures.items;
-      messages = c.totals_of-messages.ensures (finished s).stations ran (tallied s c.args.stations.items _ c.in_ok-tallies.tallies _ c.requires.run.each c.deref.ensures.value c.in_ok-tallies.ensures c.as_slice-2.ensures);
+      channels = c.in_ok-channels.ensures (finished s).stations ran (tallied s c.args.stations.items _ c.in_ok-tallies.tallies _ c.requires.run.each c.deref.ensures.value c.in_ok-tallies.ensures c.as_slice-2.ensures);
+      messages = c.totals_of-messages.ensures (finished s).stations ran (tallied s c.args.stations.items _ c.in_ok-tallies.tallies _ c.requires.run.each c.deref.ensures.value c.in_ok-tallies.ensures c.as_slice-3.ensures);
     }
