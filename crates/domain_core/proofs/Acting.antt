@@ -10,7 +10,7 @@ use Rattle.mc_base.specs.declared.fate.Fate.{Fate}
 use Rattle.mc_base.specs.declared.fate.Fate.TheVariants as fate
 use Rattle.mc_base.specs.declared.letter.Letter.{Letter}
 use Rattle.mc_base.specs.declared.letter.Letter.TheVariants as letter
-use Rattle.board_model.specs.Change.{item_handed, item_queued}
+use Rattle.board_model.specs.Change.{item_handed, item_lost, item_queued}
 use Rattle.board_model.specs.ChannelEnds.{EndRow, end_row_of, end_rows, first_end_row, left_row}
 use Rattle.board_model.specs.State as state
 use Rattle.board_model.specs.State.{ChannelEnd, DomainState, Item, endpoint_of, place_of_address, has_address_of}
@@ -27,7 +27,7 @@ use Rattle.domain_core.specs.InBook.{endpoint_in, endpoints_in}
 use Rattle.domain_core.specs.InRequests.{AreReceives}
 use Rattle.domain_core.specs.Records.{Records, with_channel_at}
 use Rattle.domain_core.specs.Table.{holding}
-use Rattle.domain_core.specs.Verdicts.{Desk, Effect, IsItem, IsJudged, IsPlaced, IsReturned, Shows, desk, effect_changes, ends, left_by, letter_row, nothing, requests_left, sets, settles}
+use Rattle.domain_core.specs.Verdicts.{Desk, Effect, IsItem, IsJudged, IsPlaced, IsReturned, Shows, desk, effect_changes, ends, left_by, letter_row, loses, nothing, requests_left, sets, settles}
 use Rattle.domain_core.proofs.Judging.{brought-judged, end-there, place-there}
 
 -- ---- letters of channels
@@ -121,6 +121,7 @@ module _ (s : DomainState) (dst : ℕ) (x : state.Endpoint) (i : Item) (l : Plai
   abbrev row_at : Fate → Option ChannelEnd → Row
   row_at fate.Queued left = cond waits (row waits fate.Handed (item_handed dst i ∷ [])) (row true fate.Queued (item_queued dst i ∷ []))
   row_at fate.Acted left = row true fate.Acted (acting dst left l)
+  row_at fate.Closed left = row true fate.Closed (item_lost dst i ∷ [])
   row_at word left = row true word []
 
   abbrev rows_of : EndRow → List Row
@@ -134,11 +135,13 @@ module _ (s : DomainState) (dst : ℕ) (x : state.Endpoint) (i : Item) (l : Plai
   it_applies : (word : Fate) (left : Option ChannelEnd) (rest : List Row) → first_row ((rows_by s dst x i l true left word ++ rest) ++ last_row fate.State []) ≡ row_at word left
   it_applies fate.Queued left rest = ap (λ z. cond waits (row waits fate.Handed (item_handed dst i ∷ [])) z) (before (row true fate.Queued (item_queued dst i ∷ [])) rest)
   it_applies fate.Acted left rest = before (row true fate.Acted (acting dst left l)) rest
+  it_applies fate.Closed left rest = before (row true fate.Closed (item_lost dst i ∷ [])) rest
   it_applies word left rest = before (row true word []) rest
 
   it_passes : (word : Fate) (left : Option ChannelEnd) (rest : List Row) → first_row ((rows_by s dst x i l false left word ++ rest) ++ last_row fate.State []) ≡ first_row (rest ++ last_row fate.State [])
   it_passes fate.Queued left rest = before (row false fate.Queued (item_queued dst i ∷ [])) rest
   it_passes fate.Acted left rest = before (row false fate.Acted (acting dst left l)) rest
+  it_passes fate.Closed left rest = before (row false fate.Closed (item_lost dst i ∷ [])) rest
   it_passes word left rest = before (row false word []) rest
 
   -- the domain's first row is that of the end's first row
@@ -201,6 +204,9 @@ module _ (b : Book) (d : Desk) (s : DomainState) (peer : ℕ) (shows : Shows s p
       (subst (λ q. IsJudged s peer source dst l v d (desk d.records q d.names d.replies)) (sym does.2)
       (brought-judged b d s peer shows dst at e there get its item is source l refl refl lawful receives 0 (size_of l) (no-priority l of lawful peer source) (size-is l lawful peer source) v does.0))
   by_word fate.Acted left is fine r' q' v does = subst (λ w. IsJudged s peer source dst l w d (desk r' q' d.names d.replies)) (sym does.0) (acted r' q' left is does.1)
+  by_word fate.Closed left is fine r' q' v does =
+      subst (λ w. IsJudged s peer source dst l w d (desk r' q' d.names d.replies)) (sym does.0)
+      (record { effect = loses dst item; applies = true; row_is = is; returned = refl; placed = tt; left = ap (λ r. desk r q' d.names d.replies) does.1 ∙ ap (λ q. desk d.records q d.names d.replies) does.2 })
   by_word word left is fine r' q' v does =
       subst (λ w. IsJudged s peer source dst l w d (desk r' q' d.names d.replies)) (sym does.0)
       (record { effect = nothing; applies = true; row_is = is; returned = refl; placed = tt; left = ap (λ r. desk r q' d.names d.replies) does.1 ∙ ap (λ q. desk d.records q d.names d.replies) does.2 })

@@ -7,8 +7,8 @@ use Rattle.mc_base.specs.declared.refusal.Refusal.TheVariants.{EndpInvalid}
 use Rattle.board_model.specs.Lists.{changed_first, with_rising, without}
 use Rattle.board_model.specs.State as state
 use Rattle.board_model.specs.State.{Item, Endpoint, message_at, has_item, DomainState, is_at, is_numbered, place_at, live_at, address_at, queue_in, queue_at}
-use Rattle.board_model.specs.Choice.{best}
-use Rattle.board_model.specs.DomainCall.{DomainCall, create_at, delete_at, send_from, receive_at, request_at, test_of, close_at}
+use Rattle.board_model.specs.Choice.{best, oldest}
+use Rattle.board_model.specs.DomainCall.{DomainCall, create_at, delete_at, send_from, receive_at, request_at, test_of, close_at, release_of, scalar_at}
 use Rattle.mc_base.specs.declared.channel.Side.TheVariants.{Receiver, Sender}
 use Rattle.board_model.specs.Answer.{local}
 use Rattle.board_model.specs.Change.{endpoint_gone, best_gone, request_added, waiting_ended, end_announced, ended_in, changed, changed_all}
@@ -90,6 +90,12 @@ returned-agrees u node (receive_at port max) = ap (λ o. option_to_list (best (�
     go : (o : Option Endpoint) → option_to_list (best (λ (i : Item). i.priority) (queue_in o)) ≡ at_live o (λ e. option_to_list (best_item e))
     go None = refl
     go (Some e) = refl
+returned-agrees u node (scalar_at port bits) = ap (λ o. option_to_list (oldest (queue_in o))) (at-live u (local node port)) ∙ go (live_at u (local node port))
+  where
+    go : (o : Option Endpoint) → option_to_list (oldest (queue_in o)) ≡ at_live o (λ e. option_to_list (oldest e.queue))
+    go None = refl
+    go (Some e) = refl
+returned-agrees u node (release_of place) = refl
 returned-agrees u node (close_at port Receiver) = ap queue_in (at-live u (local node port)) ∙ go (live_at u (local node port))
   where
     go : (o : Option Endpoint) → queue_in o ≡ at_live o (λ e. e.queue)

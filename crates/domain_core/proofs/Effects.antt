@@ -23,7 +23,7 @@ use Rattle.domain_core.specs.LaneSeen.{LaneSeen}
 use Rattle.domain_core.specs.Parts.{Parts, Sound, state_of}
 use Rattle.domain_core.specs.Steps as steps
 use Rattle.domain_core.specs.Steps.{Step, all_moves, changed_peer, done, done_all, moved_peer, name_told, names_told, receives_ended, step_moves, with_names, with_reply}
-use Rattle.domain_core.specs.Verdicts.{Changes, Effect, IsHeard, IsPlaced, IsReturned, accepts, desk, effect_changes, ends, finds, left_at, left_by, names_left, nothing, outcome_by, records_left, replies, replies_left, requests_left, sets, settled, settles, tells}
+use Rattle.domain_core.specs.Verdicts.{Changes, Effect, IsHeard, IsPlaced, IsReturned, accepts, desk, effect_changes, ends, finds, left_at, left_by, loses, names_left, nothing, outcome_by, records_left, replies, replies_left, requests_left, sets, settled, settles, tells}
 use Rattle.domain_core.proofs.Completing.{ids-all}
 use Rattle.domain_core.proofs.Stepping.{quiet-peers}
 use Rattle.domain_core.proofs.TurnMeaning.{channel_set-is, connect_settled-is, name_told-is, names_told-is, receives_ended-is, reply_owed-is}
@@ -31,6 +31,7 @@ use Rattle.domain_core.proofs.TurnSteps.{channel_set-keeps, connect_settled-keep
 
 abbrev pub effect_steps : ℕ → Effect → List Step
 effect_steps peer nothing = []
+effect_steps peer (loses address i) = []
 effect_steps peer (tells names) = names_told peer names ∷ []
 effect_steps peer (finds names name address) = names_told peer names ∷ name_told name address ∷ []
 effect_steps peer (replies r) = steps.reply_owed peer r ∷ []
@@ -45,6 +46,7 @@ with_left e x = record x { known = names_left e x.known; replies = replies_left 
 
 pub effect-moves : (peer : ℕ) (e : Effect) (c : Step) (n : ℕ) → all_moves (c ∷ effect_steps peer e) n ≡ step_moves c n
 effect-moves peer nothing c n = refl
+effect-moves peer (loses address i) c n = refl
 effect-moves peer (tells names) c n = append-nil (step_moves c n)
 effect-moves peer (finds names name address) c n = append-nil (step_moves c n)
 effect-moves peer (replies r) c n = append-nil (step_moves c n)
@@ -95,6 +97,7 @@ module _ (p : Parts) (n : ℕ) where
 
   pub effect-done : (e : Effect) → done_all (effect_steps n e) p ≡ left_parts e
   effect-done nothing = stays nothing
+  effect-done (loses address i) = stays (loses address i)
   effect-done (tells names) = refl
   effect-done (finds names name address) = ap (λ (ps : List (Peer LaneSeen)). record p { requests = requests_left (finds names name address) p.requests; peers = ps }) (quiet-peers (map (changed_peer n (with_names names)) p.peers))
   effect-done (replies r) = refl
@@ -109,6 +112,7 @@ module _ (p : Parts) (n : ℕ) where
 
   pub effect-keeps : Sound p → (e : Effect) → Sound (done_all (effect_steps n e) p)
   effect-keeps sound nothing = sound
+  effect-keeps sound (loses address i) = sound
   effect-keeps sound (tells names) = names_told-keeps p n names sound
   effect-keeps sound (finds names name address) = name_told-keeps (done (names_told n names) p) name address (names_told-keeps p n names sound)
   effect-keeps sound (replies r) = reply_owed-keeps p n r sound
@@ -123,6 +127,7 @@ module _ (p : Parts) (n : ℕ) where
 
     pub effect-is : (e : Effect) → IsPlaced (state_of p) e → state_of (done_all (effect_steps n e) p) ≡ changed_all (state_of p) (effect_changes n e)
     effect-is nothing placed = refl
+    effect-is (loses address i) placed = refl
     effect-is (tells names) placed = subst (λ (m : ℕ). state_of (done (names_told m names) p) ≡ changed_all (state_of p) (names_known m names ∷ [])) is (names_told-is p sound i x there names)
     effect-is (finds names name address) placed =
         name_told-is (done (names_told n names) p) name address

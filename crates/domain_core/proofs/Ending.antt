@@ -11,7 +11,7 @@ use Rattle.board_model.specs.Lists.{without}
 use Rattle.board_model.specs.State as state
 use Rattle.board_model.specs.State.{DomainState, Request, request_at_place}
 use Rattle.board_model.specs.Answer.{refusal, result_by, result_of, unless_refused}
-use Rattle.board_model.specs.CallChanges.{held_by}
+use Rattle.board_model.specs.CallChanges.{held_by, lent_by, lent_by_test, message_held}
 use Rattle.board_model.proofs.ListsCounts.{count-cons}
 use Rattle.buffer_book.specs.Book.{Book, queued_at}
 use Rattle.request_set.specs.declared.ask.Ask.{Ask}
@@ -114,6 +114,21 @@ result-is b (ask.Lookup name) slot max is = absurd is
 result-is b (ask.Connect channel) slot max is = absurd is
 result-is b (ask.Packet at) slot max is = absurd is
 
+-- no packet is requested, so that none is lent, and what is held is a message
+no-lend : (b : Book) (a : Ask) (o : Option Complete) → Receives a o → lent_by (asked_in a) (option_map (outcome_in b) o) ≡ []
+no-lend b (ask.Lookup name) o is = refl
+no-lend b (ask.Connect channel) o is = refl
+no-lend b (ask.Message at max) o is = refl
+no-lend b (ask.Packet at) None is = refl
+no-lend b (ask.Packet at) (Some how) is = absurd is
+
+held-item : (b : Book) (a : Ask) (o : Option Complete) → Receives a o → message_held (asked_in a) (option_map (outcome_in b) o) ≡ state.item_in (option_map (outcome_in b) o)
+held-item b (ask.Lookup name) o is = refl
+held-item b (ask.Connect channel) o is = refl
+held-item b (ask.Message at max) o is = refl
+held-item b (ask.Packet at) None is = refl
+held-item b (ask.Packet at) (Some how) is = absurd is
+
 module _ (b : Book) (q : Requests) (s : DomainState) (stand : s.requests ≡ requests_in b q.standing) (id : RequestId) (receives : AreReceives q) (slot : Slot) (max : ℕ) (held : progress_of q id ≡ Some (Some (complete.Message slot max))) where
   abbrev how : Option Complete
   how = Some (complete.Message slot max)
@@ -134,6 +149,7 @@ module _ (b : Book) (q : Requests) (s : DomainState) (stand : s.requests ≡ req
   pub tested-items : held_by (request_at_place s (place_of_id (ids_in q) id)) ≡ item_at b slot ∷ []
   tested-items =
       ap (λ (o : Option state.Request). held_by o) (request-at b q s stand id ∙ ap (option_map (request_in b)) found.1)
+      ∙ held-item b found.0.ask found.0.complete (found-receives (is_id id) found.0 q.standing receives.each found.1)
       ∙ ap (λ (o : Option Complete). state.item_in (option_map (outcome_in b) o)) found.2
 
   pub tested-fewer : HasMore slot (handed_slots (without_request q id).standing) (handed_slots q.standing)
@@ -141,6 +157,12 @@ module _ (b : Book) (q : Requests) (s : DomainState) (stand : s.requests ≡ req
       let less = handed-less test id how q.standing receives.differ held in
       let one = count-cons test slot [] in
       omega (arith, less, one)
+
+  pub tested-lends : lent_by_test (request_at_place s (place_of_id (ids_in q) id)) ≡ []
+  tested-lends =
+      let r = found.0 in
+      ap (λ (o : Option state.Request). lent_by_test o) (request-at b q s stand id ∙ ap (option_map (request_in b)) found.1)
+      ∙ no-lend b r.ask r.complete (found-receives (is_id id) r q.standing receives.each found.1)
 
 -- ---- what is left
 
@@ -203,9 +225,16 @@ module _ (b : Book) (q : Requests) (s : DomainState) (stand : s.requests ≡ req
   pub quiet-items : held_by (request_at_place s (place_of_id (ids_in q) id)) ≡ []
   quiet-items =
       ap (λ (o : Option state.Request). held_by o) (request-at b q s stand id ∙ ap (option_map (request_in b)) there.1)
+      ∙ held-item b there.0.ask there.0.complete (found-receives (is_id id) there.0 q.standing receives.each there.1)
       ∙ ap (λ (o : Option Complete). state.item_in (option_map (outcome_in b) o)) there.2
       ∙ item-in b (Some how)
       ∙ ap (map (item_at b)) quiet-slots
+
+  pub quiet-lends : lent_by_test (request_at_place s (place_of_id (ids_in q) id)) ≡ []
+  quiet-lends =
+      let r = there.0 in
+      ap (λ (o : Option state.Request). lent_by_test o) (request-at b q s stand id ∙ ap (option_map (request_in b)) there.1)
+      ∙ no-lend b r.ask r.complete (found-receives (is_id id) r q.standing receives.each there.1)
 
   pub quiet-same : HaveSame (handed_slots q.standing) (handed_slots (without_request q id).standing)
   quiet-same test =

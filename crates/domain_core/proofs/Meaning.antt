@@ -11,7 +11,8 @@ use Rattle.board_model.specs.Answer.{address_of}
 use Rattle.board_model.specs.Choice.{best}
 use Rattle.board_model.specs.DomainCall.{available_at, cancel_of, create_at, lookup_of, receive_at, request_at, send_from, test_of}
 use Rattle.domain_core.specs.PlacedCalls.{best_queued, with_request}
-use Rattle.board_model.specs.CallChanges.{held_by}
+use Rattle.board_model.specs.CallChanges.{held_by, lent_by_test}
+use Rattle.board_model.specs.Change.{Change, changed, changed_all, request_gone}
 use Rattle.board_model.specs.Lists.{without}
 use Rattle.board_model.specs.State as state
 use Rattle.board_model.specs.State.{Item, Outcome, has_address, has_item, name_of, place_at, queue_in, request_at_place}
@@ -64,7 +65,7 @@ pub one-gave : (s : Slot) (b : Bool) → cond b (receiver (Gave s.buffer) ∷ []
 one-gave s true = refl
 one-gave s false = refl
 
-one-put : (d : ℕ) (f : List ℕ) (b : Bool) → cond b (sender (Sent f) ∷ []) [] ≡ putting (map (λ (x : ℕ × List ℕ). x.1) (cond b ((d, f) ∷ []) [])) ++ []
+pub one-put : (d : ℕ) (f : List ℕ) (b : Bool) → cond b (sender (Sent f) ∷ []) [] ≡ putting (map (λ (x : ℕ × List ℕ). x.1) (cond b ((d, f) ∷ []) [])) ++ []
 one-put d f true = refl
 one-put d f false = refl
 
@@ -237,11 +238,11 @@ module _ (p : Parts) (place : Option ℕ) where
   }
 
   -- one that held no message
-  pub quiet-means : slots_held p.requests place ≡ [] → held_by (request_at_place (state_of p) place) ≡ [] → Means p 0 (test_of place) None
-  quiet-means none items =
+  pub quiet-means : slots_held p.requests place ≡ [] → held_by (request_at_place (state_of p) place) ≡ [] → lent_by_test (request_at_place (state_of p) place) ≡ [] → Means p 0 (test_of place) None
+  quiet-means none items lends =
       let step : request_ended place ≡ ending place (slots_held p.requests place) = ap (ending place) (sym none) in
       record {
-        state = ap (λ (c : Step). state_of (done c p)) (sym step) ∙ left-state;
+        state = ap (λ (c : Step). state_of (done c p)) (sym step) ∙ left-state ∙ ap (λ (cs : List Change). changed_all (changed (state_of p) (request_gone place)) cs) (sym lends);
         slots = [];
         returned = sym items;
         moves = λ n. ap (λ (c : Step). step_moves c n) (sym step);
@@ -252,13 +253,14 @@ module _ (p : Parts) (place : Option ℕ) where
 
   -- one that held a message
   module _ (sound : Sound p) (s : Slot) (held : slots_held p.requests place ≡ s ∷ []) (out : IsOutAt plain s p.peers) (more : HasMore s (handed_slots (without_at p.requests place).standing) (handed_slots p.requests.standing)) where
-    pub tested-means : held_by (request_at_place (state_of p) place) ≡ item_at p.book s ∷ [] → Means p 0 (test_of place) None
-    tested-means items =
+    pub tested-means : held_by (request_at_place (state_of p) place) ≡ item_at p.book s ∷ [] → lent_by_test (request_at_place (state_of p) place) ≡ [] → Means p 0 (test_of place) None
+    tested-means items lends =
         let step : message_ended place s ≡ ending place (slots_held p.requests place) = ap (ending place) (sym held) in
         record {
           state = ap (λ (c : Step). state_of (done c p)) (sym step)
               ∙ given-state Any (λ l. tt) plain p.book p.records p.records p.requests (without_at p.requests place) p.table s p.peers _ (gives-seen s p.peers sound.peers.rising out) (ended-more p.records p.requests (without_at p.requests place) p.book s more) sound.places refl refl
-              ∙ ap (λ (rs : List state.Request). record (state_of p) { requests = rs }) (map-without (request_in p.book) place p.requests.standing);
+              ∙ ap (λ (rs : List state.Request). record (state_of p) { requests = rs }) (map-without (request_in p.book) place p.requests.standing)
+              ∙ ap (λ (cs : List Change). changed_all (changed (state_of p) (request_gone place)) cs) (sym lends);
           slots = s ∷ [];
           returned = sym items;
           moves = λ n. ap (λ (c : Step). step_moves c n) (sym step) ∙ one-gave s (s.peer == n);

@@ -14,7 +14,7 @@ use Rattle.mc_base.specs.declared.name.EndName.{EndName}
 use Rattle.mc_base.specs.declared.name.Local.{Local}
 use Rattle.mc_base.specs.declared.refusal.Refusal.TheVariants.{ChanClosed}
 use Rattle.mc_base.specs.declared.request.RequestId.{RequestId}
-use Rattle.board_model.specs.Change.{Change, channel_set, connect_settled, item_handed, item_queued, name_found, names_known, reply_owed, waiting_ended}
+use Rattle.board_model.specs.Change.{Change, channel_set, connect_settled, item_handed, item_queued, name_found, names_known, reply_owed, waiting_ended, item_lost}
 use Rattle.board_model.specs.Dealing.{keeps_buffer}
 use Rattle.board_model.specs.State.{DomainState, Endpoint, Item, Outcome, endpoint_of, has_address_of, is_accepted, is_rejected, peer_at, waits_at}
 use Rattle.board_model.specs.TakenFrames as taken
@@ -83,6 +83,8 @@ pub record IsHanded (s : DomainState) (q : Requests) (its : Row) (item : Item) (
 
 pub data Effect : Type 0 where
   nothing : Effect
+  -- an item that comes to the endpoint with this address is lost
+  loses : ℕ → Item → Effect
   -- these names are known of its peer from then on; and lookups of one are complete with its address
   tells : Names → Effect
   finds : Names → EndName → ℕ → Effect
@@ -108,6 +110,7 @@ left_at address c = channel_set address (option_map end_of c)
 
 abbrev pub effect_changes : ℕ → Effect → List Change
 effect_changes peer nothing = []
+effect_changes peer (loses address i) = item_lost address i ∷ []
 effect_changes peer (tells names) = names_known peer names ∷ []
 effect_changes peer (finds names name address) = names_known peer names ∷ name_found name address ∷ []
 effect_changes peer (replies r) = reply_owed peer (reply_in r) ∷ []

@@ -20,7 +20,7 @@ use Rattle.domain_core.specs.InBook.{content_in}
 use Rattle.domain_core.specs.InRequests.{handed_slots}
 use Rattle.domain_core.specs.Parts.{Holding, Parts, Sound, holding_in, parts_in, peers_seen, plain, shown, state_of}
 use Rattle.domain_core.specs.Steps.{Did, done, message_ended, request_ended}
-use Rattle.domain_core.proofs.Ending.{held-message, ids_in, quiet-items, quiet-result, quiet-same, quiet-slots, test-complete, test-done, test-refused, tested-fewer, tested-items, tested-result}
+use Rattle.domain_core.proofs.Ending.{held-message, ids_in, quiet-items, quiet-lends, quiet-result, quiet-same, quiet-slots, test-complete, test-done, test-refused, tested-fewer, tested-items, tested-lends, tested-result}
 use Rattle.domain_core.proofs.GivingLemmas.{given-length}
 use Rattle.domain_core.proofs.Meaning.{gone-there, held-there, quiet-means, tested-means}
 use Rattle.domain_core.proofs.Placed.{HasMore}
@@ -117,7 +117,7 @@ returns-in_default g c =
           (acts-done M 0 (test_of place) old new told None (test-done d.book d.requests s refl id how (now-held g c)) answer
           (record {
             did = subst (λ (ss : List Slot). Did M (ending place ss ∷ []) old new) (sym (none-held g c)) did;
-            means = quiet-means (p g d) place (none-held g c) (quiet-items d.book d.requests s refl id receives how (now-held g c) other);
+            means = quiet-means (p g d) place (none-held g c) (quiet-items d.book d.requests s refl id receives how (now-held g c) other) (quiet-lends d.book d.requests s refl id receives how (now-held g c) other);
           }));
       message = c.told.ensures.gives out;
       refused = tt;
@@ -212,5 +212,5 @@ returns-clause-acts g c =
     (acts-done M 0 (test_of place) old new told None (test-done b d.requests s refl id (complete.Message slot max) (held g c)) answer
     (record {
       did = subst (λ (ss : List Slot). Did M (ending place ss ∷ []) old new) (sym slots) did;
-      means = tested-means (p g d) place c.self.invariant slot slots (its-out g c) more (tested-items b d.requests s refl id receives slot max (held g c));
+      means = tested-means (p g d) place c.self.invariant slot slots (its-out g c) more (tested-items b d.requests s refl id receives slot max (held g c)) (tested-lends b d.requests s refl id receives slot max (held g c));
     }))
