@@ -152,7 +152,7 @@ module _ (p : Parts) (sound : Sound p) (at : Local) (i : ℕ) (there : place_at 
   abbrev s : DomainState
   s = state_of p
 
-  the : (e : state.Endpoint) × (live_at s at ≡ Some e)
+  pub the : (e : state.Endpoint) × (live_at s at ≡ Some e)
   the = there_at s at i there
 
   by : ByAddress at s.endpoints the.0
@@ -207,7 +207,7 @@ module _ (p : Parts) (sound : Sound p) (at : Local) (i : ℕ) (there : place_at 
     channel = ap channel_in (sym the.1) ∙ has
 
     -- its changes
-    end-changes : (f : state.Endpoint → ChannelEnd → List Change) → at_end (live_at s at) f ≡ f the.0 c
+    pub end-changes : (f : state.Endpoint → ChannelEnd → List Change) → at_end (live_at s at) f ≡ f the.0 c
     end-changes f = ap (λ (o : Option state.Endpoint). at_end o f) the.1 ∙ ap (λ (o : Option ChannelEnd). at_channel o (f the.0)) channel
 
     -- ---- it opens

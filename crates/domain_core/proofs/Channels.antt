@@ -10,7 +10,7 @@ use Rattle.mc_base.specs.declared.channel.Side.{Side}
 use Rattle.mc_base.specs.declared.name.EndName.{EndName}
 use Rattle.mc_base.specs.declared.name.Local.{Local}
 use Rattle.mc_base.specs.declared.refusal.Refusal.{Refusal}
-use Rattle.mc_base.specs.declared.refusal.Refusal.TheVariants.{AlreadyOpen, ChanClosed, ChanConnected, ChanDirection, ChanLimit, ChanType, EndpBusy, EndpInvalid, NoBuffer, NotConnected, PeerInvalid, RequestLimit}
+use Rattle.mc_base.specs.declared.refusal.Refusal.TheVariants.{AlreadyOpen, ChanClosed, ChanConnected, ChanDirection, ChanLimit, ChanType, EndpBusy, EndpInvalid, NoBuffer, NotConnected, NotOpen, PeerInvalid, RequestLimit}
 use Rattle.mc_base.specs.declared.request.RequestId.{RequestId}
 use Rattle.board_model.proofs.MessageLists.{get-position}
 use Rattle.board_model.specs.Answer.{address_of, channel_at, channel_limit, end_holds, has_channel, lacks_buffers, local, over_channel, over_end, post, refusal, success_puts}
@@ -126,6 +126,33 @@ module _ (s : DomainState) (node port i : ℕ) (c : ChannelEnd) (there : place_a
         let r = end_refuses (closes side) c in
         ap₂ close_by there has
         ∙ later (r NotConnected) NotConnected _ close_lacks _ (later (r ChanDirection) ChanDirection _ close_lacks _ (later (r ChanClosed) ChanClosed None close_lacks _ refl))
+
+-- the words of an end, and then others
+abbrev pub or_then : Option Refusal → Option Refusal → Option Refusal
+or_then None rest = rest
+or_then (Some word) rest = Some word
+
+then-later : (b : Bool) (word : Refusal) (o rest all : Option Refusal) → all ≡ or_then o rest → cond b (Some word) all ≡ or_then (cond b (Some word) o) rest
+then-later true word o rest all is = refl
+then-later false word o rest all is = is
+
+-- A call that sends or receives an item at the end of the endpoint of a name: it is refused as an endpoint, then as an end, and then by
+-- the words that are its own
+module _ (s : DomainState) (node port i : ℕ) (c : ChannelEnd) (there : place_at s (local node port) ≡ Some i) (has : channel_at s (local node port) ≡ Some c) (call : EndCall) (rest : Option Refusal) where
+  abbrev data_by : Option ℕ → Option ChannelEnd → Option Refusal
+  data_by place o =
+      cond (not (is_some place)) (Some EndpInvalid)
+      (cond (end_holds call o NotConnected) (Some NotConnected)
+      (cond (end_holds call o ChanDirection) (Some ChanDirection)
+      (cond (end_holds call o ChanType) (Some ChanType)
+      (cond (end_holds call o ChanClosed) (Some ChanClosed)
+      (cond (end_holds call o NotOpen) (Some NotOpen) rest)))))
+
+  pub data-words : data_by (place_at s (local node port)) (channel_at s (local node port)) ≡ or_then (find (end_refuses call c) (NotConnected ∷ ChanDirection ∷ ChanType ∷ ChanClosed ∷ NotOpen ∷ [])) rest
+  data-words =
+      let r = end_refuses call c in
+      ap₂ data_by there has
+      ∙ then-later (r NotConnected) NotConnected _ rest _ (then-later (r ChanDirection) ChanDirection _ rest _ (then-later (r ChanType) ChanType _ rest _ (then-later (r ChanClosed) ChanClosed _ rest _ (then-later (r NotOpen) NotOpen None rest _ refl))))
 
 -- a connect that no word refuses
 module _ (s : DomainState) (node port : ℕ) (to : EndName) (kind : Kind) where

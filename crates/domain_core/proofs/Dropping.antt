@@ -7,6 +7,8 @@ use Rattle.mc_base.specs.declared.name.Local.{Local}
 use Rattle.mc_base.specs.declared.refusal.Refusal.TheVariants.{EndpInvalid}
 use Rattle.mc_base.specs.declared.request.Slot.{Slot}
 use Rattle.board_model.specs.DomainCall.{delete_at}
+use Rattle.message_queue.specs.Queue.{Waiting}
+use Rattle.board_model.specs.Choice.{oldest}
 use Rattle.domain_core.specs.PlacedCalls.{ended_by_word, with_announced, without_endpoint}
 use Rattle.board_model.specs.Lists.{changed_at, with_rising, without, without_at}
 use Rattle.board_model.specs.State as state
@@ -25,7 +27,7 @@ use Rattle.domain_core.specs.InBook.{endpoints_in}
 use Rattle.domain_core.specs.LaneMoves.{LaneMove, receiver}
 use Rattle.domain_core.specs.Parts.{Parts, Sound, plain, state_of}
 use Rattle.domain_core.specs.Peers.{state_in}
-use Rattle.domain_core.specs.Records.{slots_at, with_oldest_taken}
+use Rattle.domain_core.specs.Records.{slots_at, with_oldest_taken, waiting_in}
 use Rattle.domain_core.specs.Steps.{Step, all_moves, done, done_all, endpoint_gone, oldest_dropped, step_moves}
 use Rattle.domain_core.specs.Stores.{KeepsBut}
 use Rattle.domain_core.proofs.CallsAgree.{delete-agrees, returned-agrees}
@@ -63,6 +65,13 @@ keeps-then s ss a b c first then t is other =
     let same = first t is (λ among. other (Contains-append_left (s ∷ []) ss t among)) in
     then t (ap (λ (o : Option Kept). is_some o) same ∙ is) (λ among. other (Contains-append_right (s ∷ []) ss t among)) ∙ same
 
+pub one-dropped : (p : Parts) (sound : Sound p) (i : ℕ) (s : Slot) → Some s ≡ option_map (λ (w : Waiting). w.slot) (oldest (waiting_in (slice_get p.records.endpoints i))) → state_of (done (oldest_dropped i s) p) ≡ record (state_of p) { endpoints = changed_at without_first i (state_of p).endpoints }
+one-dropped p sound i s first =
+    let p1 = done (oldest_dropped i s) p in
+    let gives = gives-seen s p.peers sound.peers.rising (oldest_dropped-out p sound i s first) in
+    given-state Any (λ l. tt) plain p.book p.records p1.records p.requests p.requests p.table s p.peers p1.peers gives (oldest-more plain p.book p.records p.requests p.table p.peers i s sound first) sound.places refl refl
+    ∙ ap (λ (es : List state.Endpoint). record (state_of p) { endpoints = es }) (endpoints-oldest p.book p.records.endpoints i)
+
 -- ---- all are dropped
 
 -- what is left: only what waited at the place is gone
@@ -83,10 +92,8 @@ all-left p sound i [] is = record { sound = sound; none = is; dropped = λ f sam
 all-left p sound i (s ∷ ss) is =
     let first = first-there p i s ss is in
     let p1 = done (oldest_dropped i s) p in
-    let gives = gives-seen s p.peers sound.peers.rising (oldest_dropped-out p sound i s first) in
-    let others : state_of p1 ≡ record (state_of p) { endpoints = endpoints_in p.book p1.records.endpoints }
-    = given-state Any (λ l. tt) plain p.book p.records p1.records p.requests p.requests p.table s p.peers p1.peers gives (oldest-more plain p.book p.records p.requests p.table p.peers i s sound first) sound.places refl refl in
-    let one : (state_of p1).endpoints ≡ changed_at without_first i (state_of p).endpoints = ap (λ (x : DomainState). x.endpoints) others ∙ endpoints-oldest p.book p.records.endpoints i in
+    let others = one-dropped p sound i s first in
+    let one : (state_of p1).endpoints ≡ changed_at without_first i (state_of p).endpoints = ap (λ (x : DomainState). x.endpoints) others in
     let rest = all-left p1 (oldest_dropped-keeps p sound i s first) i ss (tail-of s ss p i p1 is (oldest_dropped-left p sound i s first)) in
     record {
       sound = rest.sound;

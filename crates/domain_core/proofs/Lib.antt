@@ -22,6 +22,7 @@ pub mod Calling
 pub mod Completing
 pub mod Ending
 pub mod Beginning
+pub mod DataMeaning
 pub mod Deleting
 pub mod Creating
 pub mod GivingLemmas

@@ -11,8 +11,8 @@ use Rattle.mc_base.specs.declared.request.RequestId.{RequestId}
 use Rattle.mc_base.specs.declared.request.Slot.{Slot}
 use Rattle.board_model.specs.Answer.{address_of, answer, channel_at, local, refusal, success_puts}
 use Rattle.board_model.specs.ChannelEnds.{closed_end, opened_end}
-use Rattle.board_model.specs.Choice.{best}
-use Rattle.board_model.specs.DomainCall.{DomainCall, create_at, delete_at, lookup_of, send_from, receive_at, request_at, connect_from, open_at, close_at, test_of, cancel_of}
+use Rattle.board_model.specs.Choice.{best, oldest}
+use Rattle.board_model.specs.DomainCall.{DomainCall, create_at, delete_at, lookup_of, send_from, receive_at, request_at, connect_from, open_at, packet_from, scalar_from, scalar_at, close_at, test_of, cancel_of}
 use Rattle.board_model.specs.Change.{changed_all}
 use Rattle.board_model.specs.CallChanges.{new_sender, success_changes, success_returned}
 use Rattle.board_model.specs.Journal.{PlainAnswer}
@@ -43,6 +43,10 @@ if_some (Some x) f = f x
 -- the slot of the best message that waits at a place
 abbrev pub best_slot : Parts → ℕ → Option Slot
 best_slot p i = option_map (λ w. w.slot) (best (λ w. w.priority) (waiting_in (slice_get p.records.endpoints i)))
+
+-- that of the oldest
+abbrev pub oldest_slot : Parts → ℕ → Option Slot
+oldest_slot p i = option_map (λ w. w.slot) (oldest (waiting_in (slice_get p.records.endpoints i)))
 
 abbrev pub putting_all : List (ℕ × List ℕ) → List Step
 putting_all puts = map (λ f. frame_put f.0 f.1) puts
@@ -107,6 +111,9 @@ call_steps p node (open_at port side kind) given = at_its_end (state_of p) (loca
     putting_all (success_puts (state_of p) node (open_at port side kind))
     ++ channel_set i (Some (as_channel (opened_end c)))
     ∷ [])
+call_steps p node (packet_from port bytes) given = putting_all (success_puts (state_of p) node (packet_from port bytes))
+call_steps p node (scalar_from port bits value) given = putting_all (success_puts (state_of p) node (scalar_from port bits value))
+call_steps p node (scalar_at port bits) given = if_some (place_at (state_of p) (local node port)) (λ i. if_some (oldest_slot p i) (λ s. oldest_dropped i s ∷ []))
 call_steps p node (close_at port side) given = at_its_end (state_of p) (local node port) (λ i c.
     putting_all (success_puts (state_of p) node (close_at port side))
     ++ (emptying side i (local node port) (slots_at p.records i)

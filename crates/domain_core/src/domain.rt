@@ -12,6 +12,7 @@ ghost use Rattle.domain_core.specs.Turned.{MakesTurn};
 ghost use Rattle.domain_core.specs.Calls.{Calls, GivesTo, created, deleted, sent, received, requested, given, available, tested, cancelled};
 
 mod channels;
+mod data;
 mod opening;
 
 use crate::ends::Ends;

@@ -188,6 +188,14 @@ impl Endpoints {
         endpoint.queue.pop_oldest()
     }
 
+    /// The oldest buffer at a place, which stays, or `None` where none waits there.
+    pub fn oldest_at(&self, place: usize) -> Option<Slot>
+        requires within { place < length self.now.endpoints }
+        ensures { result ≡ option_map (λ w. w.slot) (oldest (waiting_in (slice_get self.now.endpoints place))) }
+    {
+        self.records[place].queue.front()
+    }
+
     /// The name of the endpoint at a place.
     pub fn local_at(&self, place: usize) -> Local
         requires within { place < length self.now.endpoints }

@@ -12,6 +12,7 @@ ghost use Rattle.domain_core.specs.Parts.{Sound, state_of};
 ghost use Rattle.domain_core.specs.Steps.{Did, frame_put};
 
 mod channel_calls;
+mod data_calls;
 mod endpoint_calls;
 mod message_calls;
 mod opening;

@@ -212,7 +212,7 @@ impl<P: PeerLane> Holdings<P> {
     }
 
     /// The end of a channel of the endpoint of this name, which is at this place.
-    fn channel_at(&self, at: Local, place: usize) -> Option<Channel>
+    pub(super) fn channel_at(&self, at: Local, place: usize) -> Option<Channel>
         requires there { place_at (state_of self.now.parts) at ≡ Some place }
         requires within { place < length self.now.parts.records.endpoints }
         ensures there { option_map end_of result ≡ channel_at (state_of self.now.parts) at }

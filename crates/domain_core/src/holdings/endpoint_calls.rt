@@ -67,7 +67,7 @@ impl<P: PeerLane> Holdings<P> {
     }
 
     /// Drops the oldest message that waits at a place, and gives its buffer back.
-    fn drop_oldest(&mut self, place: usize)
+    pub(super) fn drop_oldest(&mut self, place: usize)
         requires waits { 0 < length (slots_at self.old.parts.records place) }
         ensures did { (s : Slot) × (slots_at self.old.parts.records place ≡ s ∷ slots_at self.new.parts.records place) × Did P.Moved (oldest_dropped place s ∷ []) self.old self.new }
     {

@@ -106,8 +106,8 @@ impl<P: PeerLane> Holdings<P> {
         Ok(self.count_at(at, place))
     }
 
-    /// How many messages wait at an endpoint.
-    fn count_at(&self, at: Local, place: usize) -> u32
+    /// How many messages or items wait at an endpoint.
+    pub(super) fn count_at(&self, at: Local, place: usize) -> u32
         requires there { place_at (state_of self.now.parts) at ≡ Some place }
         requires within { place < length self.now.parts.records.endpoints }
         ensures count { result ≡ length (queue_at (state_of self.now.parts) at) }

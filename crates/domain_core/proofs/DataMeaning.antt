@@ -1,0 +1,191 @@
+-- What the steps of the calls mean that send and receive items on channels.
+use Rattle.std.proofs.Common.{◌≡◌, ℕ, Bool, true, false, cond, List, [], ◌∷◌, ◌++◌, drop, length, map, Option, Some, None, refl, sym, ap, ◌∙◌, subst, arith}
+use Rattle.std.specs.Prelude.{Err, Ok, Result, not, option_and_then, option_map, option_to_list, position, slice_get, ◌==◌}
+use Rattle.std.proofs.lemmas.List.{append-nil}
+use Rattle.mc_base.specs.Frame.{made}
+use Rattle.byteorder.specs.Endian.{little_number}
+use Rattle.mc_base.specs.Letter.{PlainLetter, bytes_of_bits, spelling}
+use Rattle.mc_base.specs.declared.channel.Bits.{Bits}
+use Rattle.mc_base.specs.declared.channel.Kind.TheVariants.{Scalar}
+use Rattle.mc_base.specs.declared.name.Local.{Local}
+use Rattle.mc_base.specs.declared.refusal.Refusal.{Refusal}
+use Rattle.mc_base.specs.declared.refusal.Refusal.TheVariants.{Empty, SclSize}
+use Rattle.mc_base.specs.declared.refusal.SclSize as size
+use Rattle.mc_base.specs.declared.request.Slot.{Slot}
+use Rattle.board_model.specs.Answer.{channel_at, is_of_other_size, over_end, refusal, put_of, success_posts, success_puts, value_of}
+use Rattle.board_model.specs.CallChanges.{at_end, at_live, success_changes, success_returned}
+use Rattle.board_model.specs.ChannelEnds.{end_refusal, receives}
+use Rattle.board_model.specs.Change.{buffer_used, changed, changed_all, oldest_gone, with_queue}
+use Rattle.board_model.specs.Choice.{oldest}
+use Rattle.board_model.specs.DomainCall.{DomainCall, scalar_at}
+use Rattle.board_model.specs.Journal.{tells}
+use Rattle.board_model.specs.Lists as lists
+use Rattle.board_model.specs.State as state
+use Rattle.board_model.specs.State.{ChannelEnd, DomainState, Item, address_at, live_at, place_at, queue_at, queue_in}
+use Rattle.message_queue.specs.Queue.{Waiting}
+use Rattle.packet_channel.specs.End.{may}
+use Rattle.scalar_channel.specs.Scalar.{scalar_of}
+use Rattle.domain_core.specs.LaneSeen.{LaneSeen}
+use Rattle.domain_core.specs.declared.peer.Peer.{Peer}
+use Rattle.domain_core.specs.AllMoved.{moves_at}
+use Rattle.domain_core.specs.Calls.{success_ends}
+use Rattle.domain_core.specs.CallSteps.{Means, call_steps, if_some, oldest_slot, putting_all}
+use Rattle.domain_core.specs.InBook.{endpoints_in, item_at, item_in}
+use Rattle.domain_core.specs.Parts.{Parts, Sound, plain, state_of}
+use Rattle.domain_core.specs.Records.{waiting_in}
+use Rattle.domain_core.specs.Steps.{Step, all_moves, done, done_all, oldest_dropped}
+use Rattle.domain_core.specs.Stores.{KeepsBut}
+use Rattle.board_model.proofs.StateEnds.{by_address}
+use Rattle.domain_core.proofs.CallsAgree.{returned-agrees, there_at}
+use Rattle.domain_core.proofs.ChannelMeaning.{changed-there, end-changes, used-is}
+use Rattle.domain_core.proofs.Channels.{answered-none, answered-word, data-words, or_then, posts-are}
+use Rattle.domain_core.proofs.Ending.{ids_in}
+use Rattle.domain_core.proofs.Dropping.{one-dropped}
+use Rattle.domain_core.proofs.Meaning.{one-gave, one-put}
+use Rattle.domain_core.proofs.Removing.{gone-items}
+use Rattle.domain_core.proofs.StateFits.{ends-of}
+use Rattle.domain_core.proofs.Steps.{oldest_dropped-left}
+use Rattle.domain_core.proofs.Waits.{queue-there}
+use Rattle.domain_core.proofs.Storing.{keeps-away, keeps-but_none}
+
+-- an item is sent over the channel of an endpoint
+module _ (p : Parts) (sound : Sound p) (at : Local) (i : ℕ) (there : place_at (state_of p) at ≡ Some i) (c : ChannelEnd) (has : channel_at (state_of p) at ≡ Some c) (a : ℕ) (address : Some a ≡ address_at (state_of p) at) (j : ℕ) (peer : Some j ≡ position (λ (x : Peer LaneSeen). x.number == c.peer) p.peers)
+    (call : DomainCall) (letter : ℕ → PlainLetter) where
+  abbrev frame : List ℕ
+  frame = made a c.peer_address (spelling (letter c.number))
+
+  pub data-puts : success_posts (state_of p) at.node call ≡ over_end (state_of p) at letter → success_puts (state_of p) at.node call ≡ (c.peer, frame) ∷ []
+  data-puts posts = ap (map put_of) (posts ∙ posts-are (state_of p) at a c address has letter)
+
+  pub data-means : success_puts (state_of p) at.node call ≡ (c.peer, frame) ∷ [] → call_steps p at.node call None ≡ putting_all (success_puts (state_of p) at.node call)
+      → success_changes (state_of p) at.node call ≡ at_end (live_at (state_of p) at) (λ e d. buffer_used d.peer ∷ []) → success_returned (state_of p) at.node call ≡ [] → success_ends call ≡ None → Means p at.node call None
+  data-means puts steps changes back ends =
+      let is = steps ∙ ap putting_all puts in
+      record {
+        state = ap (λ (cs : List Step). state_of (done_all cs p)) is ∙ used-is p sound c.peer frame j peer ∙ ap (changed_all (state_of p)) (sym (changes ∙ end-changes p sound at i there c has a address j peer (λ e d. buffer_used d.peer ∷ [])));
+        slots = [];
+        returned = sym back;
+        moves = λ n. ap (λ (cs : List Step). all_moves cs n) is ∙ one-put c.peer frame (c.peer == n) ∙ ap (λ (fs : List (ℕ × List ℕ)). moves_at fs [] n) (sym puts);
+        stays = subst (λ (cs : List Step). KeepsBut [] p.book (done_all cs p).book) (sym is) (keeps-but_none p.book);
+        ids = ap (λ (cs : List Step). ids_in (done_all cs p).requests) is ∙ sym (append-nil (ids_in p.requests)) ∙ ap (λ (o : Option ℕ). lists.without o (ids_in p.requests) ++ []) (sym ends);
+        fresh = tt;
+      }
+
+-- ---- the oldest item at an endpoint
+
+module _ (p : Parts) (sound : Sound p) (at : Local) (i : ℕ) (there : place_at (state_of p) at ≡ Some i) (s : Slot) (first : Some s ≡ option_map (λ (w : Waiting). w.slot) (oldest (waiting_in (slice_get p.records.endpoints i)))) where
+  pub oldest-there : oldest (queue_at (state_of p) at) ≡ Some (item_at p.book s)
+  oldest-there =
+      ap (λ (q : List Item). oldest q) (sym (gone-items plain p.book p.records p.requests p.table p.peers at i sound there))
+      ∙ ap (λ (ss : List Slot). oldest (map (item_at p.book) ss)) (oldest_dropped-left p sound i s first)
+
+  abbrev the : (e : state.Endpoint) × (live_at (state_of p) at ≡ Some e)
+  the = there_at (state_of p) at i there
+
+  taken-state : state_of (done (oldest_dropped i s) p) ≡ changed (state_of p) (oldest_gone the.0.address)
+  taken-state =
+      let by = by_address at (state_of p).endpoints the.0 (ends-of plain p.book p.records p.requests p.table p.peers sound).apart the.1 in
+      one-dropped p sound i s first
+      ∙ ap (λ (es : List state.Endpoint). record (state_of p) { endpoints = es }) (changed-there p at i the.0 there by.changes (with_queue (drop 1)))
+
+  -- it is dropped by the receive of a scalar
+  module _ (bits : Bits) where
+    pub scalar-steps : call_steps p at.node (scalar_at at.port bits) None ≡ oldest_dropped i s ∷ []
+    scalar-steps =
+        ap (λ (o : Option ℕ). if_some o (λ k. if_some (oldest_slot p k) (λ x. oldest_dropped k x ∷ []))) there
+        ∙ ap (λ (o : Option Slot). if_some o (λ x. oldest_dropped i x ∷ [])) (sym first)
+
+    pub scalar-means : Means p at.node (scalar_at at.port bits) None
+    scalar-means =
+        let steps = scalar-steps in
+        record {
+          state = ap (λ (cs : List Step). state_of (done_all cs p)) steps ∙ taken-state ∙ sym (ap (λ (o : Option state.Endpoint). changed_all (state_of p) (at_live o (λ e. oldest_gone e.address ∷ []))) the.1);
+          slots = s ∷ [];
+          returned = ap (λ (o : Option Item). option_to_list o) (sym oldest-there) ∙ returned-agrees (state_of p) at.node (scalar_at at.port bits);
+          moves = λ n. ap (λ (cs : List Step). all_moves cs n) steps ∙ one-gave s (s.peer == n);
+          stays = subst (λ (cs : List Step). KeepsBut (s ∷ []) p.book (done_all cs p).book) (sym steps) (keeps-away p.book s);
+          ids = ap (λ (cs : List Step). ids_in (done_all cs p).requests) steps ∙ sym (append-nil (ids_in p.requests));
+          fresh = tt;
+        }
+
+-- where nothing waits
+pub no-oldest : (p : Parts) (at : Local) (i : ℕ) → place_at (state_of p) at ≡ Some i → None ≡ option_map (λ (w : Waiting). w.slot) (oldest (waiting_in (slice_get p.records.endpoints i))) → oldest (queue_at (state_of p) at) ≡ None
+no-oldest p at i there none =
+    ap (λ (o : Option ℕ). oldest (queue_in (option_and_then (λ j. slice_get (endpoints_in p.book p.records.endpoints) j) o))) there
+    ∙ ap (λ (q : List Item). oldest q) (queue-there p.book p.records.endpoints i)
+    ∙ go (waiting_in (slice_get p.records.endpoints i)) none
+  where
+    go : (ws : List Waiting) → None ≡ option_map (λ (w : Waiting). w.slot) (oldest ws) → oldest (map (item_in p.book) ws) ≡ None
+    go [] e = refl
+    go (w ∷ ws) e = absurd cc
+
+-- ---- the front of a queue
+
+pub no-front : (q : List Item) → None ≡ option_map (λ (i : Item). i.content) (oldest q) → (length q == 0) ≡ true
+no-front [] none = refl
+no-front (i ∷ q) none = absurd cc
+
+pub some-front : (q : List Item) (bs : List ℕ) → Some bs ≡ option_map (λ (i : Item). i.content) (oldest q) → (length q == 0) ≡ false
+some-front [] bs is = absurd cc
+some-front (i ∷ q) bs is = grind arith
+
+module _ (port : ℕ) (bits : Bits) where
+  pub front-size : (q : List Item) (bs : List ℕ) → Some bs ≡ option_map (λ (i : Item). i.content) (oldest q) → is_of_other_size (scalar_at port bits) q ≡ not (length bs == bytes_of_bits bits)
+  front-size [] bs is = absurd cc
+  front-size (i ∷ q) bs is = let same : i.content ≡ bs = cc in ap (λ (xs : List ℕ). not (length xs == bytes_of_bits bits)) same
+
+  pub front-value : (q : List Item) (bs : List ℕ) → Some bs ≡ option_map (λ (i : Item). i.content) (oldest q) → value_of bits (oldest q) ≡ tells (little_number (bytes_of_bits bits) bs)
+  front-value [] bs is = absurd cc
+  front-value (i ∷ q) bs is = let same : i.content ≡ bs = cc in ap (λ (xs : List ℕ). tells (little_number (bytes_of_bits bits) xs)) same
+
+  abbrev sized : Bool → List ℕ → Result ℕ size.SclSize
+  sized b bs = cond b (Ok (little_number (bytes_of_bits bits) bs)) (Err record {})
+
+  pub scalar-fits : (bs : List ℕ) (v : ℕ) → Ok v ≡ scalar_of bits bs → ((length bs == bytes_of_bits bits) ≡ true) × (v ≡ little_number (bytes_of_bits bits) bs)
+  scalar-fits bs v is = go (length bs == bytes_of_bits bits) is
+    where
+      go : (b : Bool) → Ok v ≡ sized b bs → (b ≡ true) × (v ≡ little_number (bytes_of_bits bits) bs)
+      go true e = (refl, cc)
+      go false e = absurd cc
+
+  pub scalar-differs : (bs : List ℕ) → ((v : ℕ) → scalar_of bits bs ≡ Ok v → ⊥) → (length bs == bytes_of_bits bits) ≡ false
+  scalar-differs bs never = go (length bs == bytes_of_bits bits) never
+    where
+      go : (b : Bool) → ((v : ℕ) → sized b bs ≡ Ok v → ⊥) → b ≡ false
+      go true n = absurd (n (little_number (bytes_of_bits bits) bs) refl)
+      go false n = refl
+
+-- ---- the words of the receive of a scalar
+
+abbrev pub scalar_rest : ℕ → Bits → List Item → Option Refusal
+scalar_rest port bits q = cond (length q == 0) (Some Empty) (cond (is_of_other_size (scalar_at port bits) q) (Some SclSize) None)
+
+module _ (s : DomainState) (at : Local) (i : ℕ) (c : ChannelEnd) (there : place_at s at ≡ Some i) (has : channel_at s at ≡ Some c) (bits : Bits) (queued : ℕ) (count : queued ≡ length (queue_at s at)) where
+  pub scalar-words : refusal s at.node (scalar_at at.port bits) ≡ or_then (end_refusal (receives Scalar queued) (Some c)) (scalar_rest at.port bits (queue_at s at))
+  scalar-words =
+      let q = queue_at s at in
+      data-words s at.node at.port i c there has (receives Scalar (length q)) (scalar_rest at.port bits q)
+      ∙ ap (λ (n : ℕ). or_then (end_refusal (receives Scalar n) (Some c)) (scalar_rest at.port bits q)) (sym count)
+
+  -- where the end refuses, and where it does not
+  pub scalar-refused : (word : Refusal) → Err word ≡ may (receives Scalar queued) c → refusal s at.node (scalar_at at.port bits) ≡ Some word
+  scalar-refused word is = scalar-words ∙ ap (λ (o : Option Refusal). or_then o (scalar_rest at.port bits (queue_at s at))) (answered-word _ word is)
+
+  module _ (may_do : Ok tt ≡ may (receives Scalar queued) c) where
+    scalar-rest : refusal s at.node (scalar_at at.port bits) ≡ scalar_rest at.port bits (queue_at s at)
+    scalar-rest = scalar-words ∙ ap (λ (o : Option Refusal). or_then o (scalar_rest at.port bits (queue_at s at))) (answered-none _ may_do)
+
+    pub scalar-empty : None ≡ option_map (λ (i : Item). i.content) (oldest (queue_at s at)) → refusal s at.node (scalar_at at.port bits) ≡ Some Empty
+    scalar-empty none = scalar-rest ∙ ap (λ (b : Bool). cond b (Some Empty) (cond (is_of_other_size (scalar_at at.port bits) (queue_at s at)) (Some SclSize) None)) (no-front (queue_at s at) none)
+
+    scalar-sized : (bs : List ℕ) → Some bs ≡ option_map (λ (i : Item). i.content) (oldest (queue_at s at)) → refusal s at.node (scalar_at at.port bits) ≡ cond (not (length bs == bytes_of_bits bits)) (Some SclSize) None
+    scalar-sized bs is =
+        scalar-rest
+        ∙ ap (λ (b : Bool). cond b (Some Empty) (cond (is_of_other_size (scalar_at at.port bits) (queue_at s at)) (Some SclSize) None)) (some-front (queue_at s at) bs is)
+        ∙ ap (λ (b : Bool). cond b (Some SclSize) None) (front-size at.port bits (queue_at s at) bs is)
+
+    pub scalar-other : (bs : List ℕ) → Some bs ≡ option_map (λ (i : Item). i.content) (oldest (queue_at s at)) → (length bs == bytes_of_bits bits) ≡ false → refusal s at.node (scalar_at at.port bits) ≡ Some SclSize
+    scalar-other bs is differs = scalar-sized bs is ∙ ap (λ (b : Bool). cond (not b) (Some SclSize) None) differs
+
+    pub scalar-done : (bs : List ℕ) → Some bs ≡ option_map (λ (i : Item). i.content) (oldest (queue_at s at)) → (length bs == bytes_of_bits bits) ≡ true → refusal s at.node (scalar_at at.port bits) ≡ None
+    scalar-done bs is fits = scalar-sized bs is ∙ ap (λ (b : Bool). cond (not b) (Some SclSize) None) fits

@@ -1,0 +1,13 @@
+use Rattle.std.proofs.Common.{None}
+use Rattle.board_model.specs.DomainCall.{packet_from}
+use Rattle.domain_core.specs.Calls.{sent}
+use Rattle.domain_core.specs.Ends.{EndsMoved}
+use Rattle.domain_core.specs.Parts.{shown}
+use Rattle.domain_core.proofs.CallLemmas.{calls-put}
+use Rattle.domain_core.proofs.domain.Domain.pkt_send.Goals as goal
+
+pub returns-clause-call : goal.returns-clause-call
+returns-clause-call g c =
+    rw c.self.view_is at
+    (calls-put (EndsMoved g.S.SendEnd.Moved g.R.RecvEnd.Moved) c.args.at.node (packet_from c.args.at.port c.args.bytes.now) c.take_turn.new.self c.put_packet.new.self (sent c.put_packet.result) None (shown c.self.inside.inside)
+    c.args.journal.now.lines c.take_turn.new.journal.lines c.take_turn.result c.put_packet.new.journal.lines c.take_turn.ensures.turn c.take_turn.ensures.rests c.put_packet.ensures.acts c.put_packet.ensures.told)

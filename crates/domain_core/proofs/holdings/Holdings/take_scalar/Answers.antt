@@ -1,0 +1,73 @@
+use Rattle.std.proofs.Common.{◌≡◌, ◌∙◌, ℕ, List, Option, None, ap, sym, refl, subst, rules}
+use Rattle.std.specs.Borrow.{Bor}
+use Rattle.std.specs.Prelude.{Err, option_map}
+use Rattle.mc_base.specs.declared.refusal.Refusal.TheVariants.{Empty, SclSize}
+use Rattle.board_model.specs.DomainCall.{scalar_at}
+use Rattle.board_model.specs.Journal.{tells}
+use Rattle.board_model.specs.State.{queue_at}
+use Rattle.packet_channel.specs.End.{end_of}
+use Rattle.domain_core.specs.Calls.{available}
+use Rattle.domain_core.specs.CallSteps.{Acts}
+use Rattle.domain_core.specs.Parts.{state_of}
+use Rattle.domain_core.specs.Records.{slots_at}
+use Rattle.domain_core.specs.Steps.{Did, Step}
+use Rattle.domain_core.proofs.DataMeaning.{front-value, scalar-differs, scalar-done, scalar-empty, scalar-fits, scalar-means, scalar-other, scalar-refused, scalar-steps}
+use Rattle.domain_core.proofs.Readings.{none-from}
+use Rattle.domain_core.proofs.Steps.{first-there}
+use Rattle.domain_core.proofs.Stepping.{acts-done, acts-refused}
+use Rattle.domain_core.proofs.holdings.Holdings.take_scalar.Goals as goal
+
+-- ---- it is refused
+
+pub returns-in_err-may_recv : goal.returns-in_err-may_recv
+returns-in_err-may_recv g c =
+    let old = c.args.self.now in
+    let call = scalar_at c.args.at.port c.args.bits in
+    let word = c.in_err-may_recv.field-0.0 in
+    let refused = scalar-refused (state_of old.parts) c.args.at c.in-Some.place (end_of c.in-Some-channel_at.channel) (sym c.in-Some.ensures.place) (sym c.in-Some-channel_at.ensures.there) c.args.bits c.count_at.result c.count_at.ensures.count word (sym c.in_err-may_recv.was ∙ c.may_recv.ensures) in
+    let answers : c.from_residual.result ≡ Err word = search rules in
+    subst (λ x. Acts g.P.PeerLane.Moved c.args.at.node call old old (available x) None) (sym answers)
+    (acts-refused g.P.PeerLane.Moved c.args.at.node call old old word refused refl)
+
+pub returns-in_default-front : goal.returns-in_default-front
+returns-in_default-front g c =
+    let old = c.args.self.now in
+    let call = scalar_at c.args.at.port c.args.bits in
+    let none = ap (λ (o : Option (Bor (List ℕ))). option_map (λ (b : Bor (List ℕ)). b.now) o) (sym (none-from c.front.result c.in_default-front.not-Some)) ∙ c.front.ensures.front in
+    let refused = scalar-empty (state_of old.parts) c.args.at c.in-Some.place (end_of c.in-Some-channel_at.channel) (sym c.in-Some.ensures.place) (sym c.in-Some-channel_at.ensures.there) c.args.bits c.count_at.result c.count_at.ensures.count (sym c.in_ok-may_recv.was ∙ c.may_recv.ensures) none in
+    acts-refused g.P.PeerLane.Moved c.args.at.node call old old Empty refused refl
+
+pub returns-in_default-read_scalar : goal.returns-in_default-read_scalar
+returns-in_default-read_scalar g c =
+    let old = c.args.self.now in
+    let call = scalar_at c.args.at.port c.args.bits in
+    let bs = c.in-Some-front.bytes.now in
+    let differs = scalar-differs c.args.at.port c.args.bits bs (λ v is. c.in_default-read_scalar.not-Ok v (c.read_scalar.ensures ∙ is)) in
+    let refused = scalar-other (state_of old.parts) c.args.at c.in-Some.place (end_of c.in-Some-channel_at.channel) (sym c.in-Some.ensures.place) (sym c.in-Some-channel_at.ensures.there) c.args.bits c.count_at.result c.count_at.ensures.count (sym c.in_ok-may_recv.was ∙ c.may_recv.ensures) bs c.in-Some-front.ensures.front differs in
+    acts-refused g.P.PeerLane.Moved c.args.at.node call old old SclSize refused refl
+
+-- ---- it is received
+
+pub returns : goal.returns
+returns g c =
+    let M = g.P.PeerLane.Moved in
+    let old = c.args.self.now in
+    let new = c.drop_oldest.new.self in
+    let s = state_of old.parts in
+    let at = c.args.at in
+    let i = c.in-Some.place in
+    let call = scalar_at at.port c.args.bits in
+    let there = sym c.in-Some.ensures.place in
+    let bs = c.in-Some-front.bytes.now in
+    let is = c.in-Some-front.ensures.front in
+    let fits = scalar-fits at.port c.args.bits bs c.in-Ok.value c.in-Ok.ensures in
+    let unrefused = scalar-done s at i (end_of c.in-Some-channel_at.channel) there (sym c.in-Some-channel_at.ensures.there) c.args.bits c.count_at.result c.count_at.ensures.count (sym c.in_ok-may_recv.was ∙ c.may_recv.ensures) bs is fits.0 in
+    let dropped = c.drop_oldest.ensures.did in
+    let first = first-there old.parts i dropped.0 (slots_at new.parts.records i) dropped.1 in
+    let steps = sym (scalar-steps old.parts c.in-Some.ensures.sound at i there dropped.0 first c.args.bits) in
+    acts-done M at.node call old new (tells c.in-Ok.value) None unrefused
+    (ap tells fits.1 ∙ sym (front-value at.port c.args.bits (queue_at s at) bs is))
+    (record {
+      did = subst (λ (cs : List Step). Did M cs old new) steps dropped.2;
+      means = scalar-means old.parts c.in-Some.ensures.sound at i there dropped.0 first c.args.bits;
+    })
