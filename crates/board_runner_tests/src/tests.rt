@@ -3,7 +3,7 @@ ghost use Rattle.board_model.specs.Language.{told_by};
 ghost use Rattle.board_runner.specs.Told.{IsToldByText};
 
 use board_model::{Scenario, Seq};
-use board_runner::{LanePlaces, Outcome, Totals, run_serial, write_report};
+use board_runner::{ChannelTotals, LanePlaces, Outcome, Totals, run_serial, write_report};
 use domain_core::{Answer, Entry, Journal};
 use mc_base::Refusal;
 use outer_io::{Failed, MemSink};
@@ -33,6 +33,7 @@ call 1 ok 1024
 call 2 empty
 journal 5
 call 1 ok 1024
+channel 5 1 accepted 7 taken 3 dropped 2 queued 1 ring 1
 messages accepted 4 taken 2 dropped 1 queued 1 ring 0
 lane 2 5 free 1 ring 2 queue 1 lent 0
 end
@@ -94,13 +95,31 @@ fn places(alloc: Global) -> Option<Seq<LanePlaces>> {
     Some(places)
 }
 
+fn channels(alloc: Global) -> Option<Seq<ChannelTotals>> {
+    let mut channels = Seq::new(Vec::new(alloc));
+    let totals = Totals {
+        accepted: 7,
+        taken: 3,
+        dropped: 2,
+        queued: 1,
+        ring: 1,
+    };
+    let channel = ChannelTotals {
+        owner: 5,
+        number: 1,
+        totals,
+    };
+    channels.push(channel).ok()?;
+    Some(channels)
+}
+
 /// An outcome of the board of `TEXT`, though of no run.
 fn outcome(alloc: Global) -> Option<Outcome> {
     Some(Outcome {
         journals: journals(alloc)?,
         rings: Seq::new(Vec::new(alloc)),
         places: places(alloc)?,
-        channels: Seq::new(Vec::new(alloc)),
+        channels: channels(alloc)?,
         messages: Totals {
             accepted: 4,
             taken: 2,
@@ -221,6 +240,50 @@ fn has_numbers(outcome: &Outcome) -> bool {
 fn a_run_leaves_its_numbers(rt: HostRuntime) -> Result<(), Fail> {
     let outcome = run(rt.alloc(), NUMBERS).ok_or("memory")?;
     assert!(rt; has_numbers(&outcome));
+    Ok(())
+}
+
+/// Three connects: one of domain 2, and two of domain 5, of which the second is rejected.
+const CONNECTS: &[u8] = b"domain 5 nodes 1 pool 4
+domain 2 nodes 1 pool 4
+5.0 create 1
+5.0 create 2
+5.0 create 3
+2.0 create 1
+2.0 create 2
+5.0 a = connect 1 5:0:2 packet
+5.0 b = connect 3 5:0:2 scalar
+2.0 c = connect 1 2:0:2 scalar
+2.0 turn
+5.0 turn
+";
+
+/// The channels in the report's order: owners and numbers.
+static CHANNELS: [(u8, u32); 3] = [(2, 1), (5, 1), (5, 2)];
+
+const NO_ITEMS: Totals = Totals {
+    accepted: 0,
+    taken: 0,
+    dropped: 0,
+    queued: 0,
+    ring: 0,
+};
+
+/// Whether these are the channels, and no item was sent on them.
+fn are_channels(channels: &[ChannelTotals], due: &[(u8, u32)]) -> bool {
+    for (channel, due) in channels.iter().zip(due) {
+        if (channel.owner, channel.number) != *due || channel.totals != NO_ITEMS {
+            return false;
+        }
+    }
+    channels.len() == due.len()
+}
+
+#[test]
+fn a_run_leaves_its_channels(rt: HostRuntime) -> Result<(), Fail> {
+    let outcome = run(rt.alloc(), CONNECTS).ok_or("memory")?;
+    assert!(rt; are_channels(outcome.channels.as_slice(), &CHANNELS));
+    assert!(rt; outcome.messages == NO_ITEMS);
     Ok(())
 }
 

@@ -6,7 +6,7 @@ ghost use Rattle.domain_core.specs.Going.{AnyGoes};
 use domain_core::{Domain, Journal, calls_move_ends};
 use lane_end::{AnyRecv, AnySend};
 use linked_pair::{LinkedPair, Which};
-use mc_base::{Done, EndName, Local, Priority, Refusal, RequestId};
+use mc_base::{Done, EndName, Kind, Local, Priority, Refusal, RequestId};
 
 /// A call of a domain. An endpoint is named by its port.
 #[derive(Clone, Copy)]
@@ -20,12 +20,20 @@ pub enum Call {
     Send(u16, (u8, u16), usize),
     /// Receives at an endpoint.
     Receive(u16),
+    /// Connects an endpoint to that of a domain, for packets.
+    Connect(u16, (u8, u16)),
+    OpenSend(u16),
+    OpenRecv(u16),
+    CloseSend(u16),
+    CloseRecv(u16),
     Turn,
 }
 
-use Call::{Create, Lookup, Receive, Send, Test, Turn};
+use Call::{
+    CloseRecv, CloseSend, Connect, Create, Lookup, OpenRecv, OpenSend, Receive, Send, Test, Turn,
+};
 
-/// The address or the size that a call answers, 1 for an idle turn, and else 0.
+/// The address, the size, the number of a channel or of dropped items that a call answers, 1 for an idle turn, and else 0.
 pub type Answered = Result<u32, Refusal>;
 
 /// Whether a domain is the first of the two, and its call.
@@ -80,6 +88,17 @@ pub fn does(domain: &mut RingDomain<'_>, journal: &mut Journal, call: Call) -> A
         Receive(port) => domain
             .msg_recv(journal, at(port), &mut out)
             .map(|got| got.size),
+        Connect(from, (peer, port)) => domain
+            .connect(journal, at(from), end_of(peer, port), Kind::Packet)
+            .map(|made| made.1),
+        OpenSend(port) => domain
+            .open_send(journal, at(port), Kind::Packet)
+            .map(|()| 0),
+        OpenRecv(port) => domain
+            .open_recv(journal, at(port), Kind::Packet)
+            .map(|()| 0),
+        CloseSend(port) => domain.close_send(journal, at(port)).map(|()| 0),
+        CloseRecv(port) => domain.close_recv(journal, at(port)),
         Turn => Ok(u32::from(domain.turn(journal))),
     }
 }
@@ -104,6 +123,17 @@ pub fn does_plainly(pair: &mut LinkedPair, journal: &mut Journal, deed: Deed) ->
         Receive(port) => pair
             .msg_recv(which, journal, at(port), &mut out)
             .map(|got| got.size),
+        Connect(from, (peer, port)) => pair
+            .connect(which, journal, at(from), end_of(peer, port), Kind::Packet)
+            .map(|made| made.1),
+        OpenSend(port) => pair
+            .open_send(which, journal, at(port), Kind::Packet)
+            .map(|()| 0),
+        OpenRecv(port) => pair
+            .open_recv(which, journal, at(port), Kind::Packet)
+            .map(|()| 0),
+        CloseSend(port) => pair.close_send(which, journal, at(port)).map(|()| 0),
+        CloseRecv(port) => pair.close_recv(which, journal, at(port)),
         Turn => Ok(u32::from(pair.turn(which, journal))),
     };
     pair.carry();

@@ -1,6 +1,8 @@
 ghost use Rattle.std.specs.Prelude.{◌≡◌};
 
-use crate::deeds::Call::{Create, Lookup, Receive, Send, Test, Turn};
+use crate::deeds::Call::{
+    CloseRecv, CloseSend, Connect, Create, Lookup, OpenRecv, OpenSend, Receive, Send, Test, Turn,
+};
 use crate::deeds::{Answered, Deed, does_plainly};
 use crate::journals::{agree, count};
 use crate::ring_pair::RingPair;
@@ -16,8 +18,9 @@ use std::test::Fail;
 /// A deed, and what it answers.
 type Row = (Deed, Answered);
 
-/// Each announces its endpoint and looks up that of the other; then messages go both ways. The third in a row finds no buffer.
-const ROWS: [Row; 21] = [
+/// Each announces its endpoint and looks up that of the other; then messages go both ways. The third in a row finds no buffer. At
+/// last the two endpoints make a channel, open it and close it.
+const ROWS: [Row; 34] = [
     ((One, Create(1)), Ok(1024)),
     ((One, Lookup(4, 2)), Ok(0)),
     ((Two, Create(2)), Ok(1024)),
@@ -39,6 +42,19 @@ const ROWS: [Row; 21] = [
     ((Two, Send(2, (3, 1), 0)), Ok(0)),
     ((Two, Send(2, (3, 1), 9)), Ok(0)),
     ((Two, Send(2, (3, 1), 1)), Err(Refusal::NoBuffer)),
+    ((One, Connect(1, (4, 2))), Err(Refusal::EndpBusy)),
+    ((One, Receive(1)), Ok(0)),
+    ((One, Receive(1)), Ok(9)),
+    ((One, Connect(1, (4, 2))), Ok(1)),
+    ((Two, OpenRecv(2)), Ok(0)),
+    ((One, OpenSend(1)), Err(Refusal::NotConnected)),
+    ((Two, Turn), Ok(0)),
+    ((One, OpenSend(1)), Ok(0)),
+    ((One, CloseSend(1)), Ok(0)),
+    ((Two, CloseRecv(2)), Ok(0)),
+    ((Two, CloseRecv(2)), Err(Refusal::NotConnected)),
+    ((One, Turn), Ok(0)),
+    ((One, CloseSend(1)), Err(Refusal::NotConnected)),
 ];
 
 /// What the two domains noted.

@@ -37,9 +37,9 @@ no_other (Ok x) status n m whole failed ne other is = ne (sym whole ∙ is)
 no_other (Err e) status n m whole failed ne other is = other (sym failed ∙ is)
 
 -- the outcome of the serial run has its report
-pub report_of-outcome : (s : Scenario) (o : Outcome) → IsOutcome s o (serial_run s) → report_of serial s (lines_in o.journals) [] o.messages o.places [] ≡ report s (serial_run s)
+pub report_of-outcome : (s : Scenario) (o : Outcome) → IsOutcome s o (serial_run s) → report_of serial s (lines_in o.journals) o.channels o.messages o.places [] ≡ report s (serial_run s)
 unfolding report
-report_of-outcome s o is = rw (is.journals, is.messages, is.places) (cc)
+report_of-outcome s o is = rw (is.journals, is.channels, is.messages, is.places) (cc)
 
 -- it has a journal for each domain
 pub journals-each : (s : Scenario) (o : Outcome) → IsLawfulBoard s → IsOutcome s o (serial_run s) → length o.journals ≡ length s.domains

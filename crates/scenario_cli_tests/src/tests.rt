@@ -5,6 +5,7 @@ use std::process::Abort;
 use std::test::Fail;
 use std::thread::Threads;
 
+mod channels;
 mod eight_linked;
 mod frame;
 mod linked;

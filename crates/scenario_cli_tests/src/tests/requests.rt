@@ -232,14 +232,14 @@ fn calls_in(alloc: Global, report: &[u8]) -> Result<Vec<u8>, AllocError> {
     Ok(calls)
 }
 
-fn joined(alloc: Global, first: &[u8], rest: &[u8]) -> Result<Vec<u8>, AllocError> {
+pub(super) fn joined(alloc: Global, first: &[u8], rest: &[u8]) -> Result<Vec<u8>, AllocError> {
     let mut all = Vec::from_slice(alloc, first)?;
     all.extend_from_slice(rest)?;
     Ok(all)
 }
 
 /// Whether a text is run to its end, and its report tells just these calls and ends so.
-fn reports<T: Threads + Sync>(
+pub(super) fn reports<T: Threads + Sync>(
     rt: &T,
     alloc: Global,
     text: &[u8],
@@ -333,12 +333,12 @@ fn extend_by_requests(text: &mut Vec<u8>) -> Result<(), AllocError> {
     Ok(())
 }
 
-/// Makes 64 requests and tries more, one of them after one of the first has ended.
+/// Makes 64 requests and tries more, one of them after one of the first has ended, and a connect.
 fn many_requests(alloc: Global) -> Result<Vec<u8>, AllocError> {
     let mut text = Vec::from_slice(alloc, b"domain 0 nodes 1 pool 1\n0.0 create 1\n")?;
     extend_by_requests(&mut text)?;
     text.extend_from_slice(
-        b"0.0 late = msg_recv_i 1 1\n0.0 test late\n0.0 cancel r36\n0.0 next = msg_recv_i 1 1\n0.0 over = msg_recv_i 1 1\n",
+        b"0.0 late = msg_recv_i 1 1\n0.0 test late\n0.0 cancel r36\n0.0 next = msg_recv_i 1 1\n0.0 over = msg_recv_i 1 1\n0.0 create 2\n0.0 full = connect 2 0:0:1 packet\n",
     )?;
     Ok(text)
 }
@@ -349,6 +349,8 @@ call 67 request_invalid
 call 68 ok
 call 69 ok 64
 call 70 request_limit
+call 71 ok 1025
+call 72 request_limit
 ";
 
 /// Whether a text is run to its end, and its report tells these calls last.
