@@ -9,7 +9,7 @@ ghost use Rattle.linked_pair.specs.Links.{IsOpen};
 use super::steps::Said::{Accepted, Address, Connected, Held, Idle, Message, Number, Rejected};
 use super::steps::Step::{
     Available, Begin, Cancel, CloseRecv, CloseSend, Connect, Delete, Lookup, OpenRecv, OpenSend,
-    Plain, Test, Turn,
+    Plain, SendPacket, Test, Turn,
 };
 use super::steps::{self, Step, stepped};
 use super::*;

@@ -5,11 +5,21 @@ ghost use Rattle.domain_core.specs.Ends.{EndsMoved};
 ghost use Rattle.domain_core.specs.Going.{Goes};
 
 use super::*;
-use mc_base::{Done, Kind, Reason};
+use mc_base::{Bits, Done, Kind, Reason};
 
 mod channels;
+mod data;
 mod endpoints;
 mod requests;
+
+/// A scalar with its bits.
+#[derive(Clone, Copy)]
+pub enum Value {
+    Byte(u8),
+    Short(u16),
+    Word(u32),
+    Long(u64),
+}
 
 /// A call. A request is named by its serial.
 #[derive(Clone, Copy)]
@@ -29,6 +39,11 @@ pub enum Step {
     /// Opens the sender's end at a port, and the receiver's.
     OpenSend(u16, Kind),
     OpenRecv(u16, Kind),
+    /// Sends a packet at a port: this byte, so often.
+    SendPacket(u16, u8, usize),
+    /// Sends a scalar at a port, and receives one of these bits.
+    SendScalar(u16, Value),
+    ReceiveScalar(u16, Bits),
     /// Closes the sender's end at a port, and the receiver's.
     CloseSend(u16),
     CloseRecv(u16),
@@ -42,7 +57,7 @@ pub enum Step {
 
 use Step::{
     Available, Begin, Cancel, CloseRecv, CloseSend, Connect, Delete, Lookup, OpenRecv, OpenSend,
-    Plain, Test, Turn,
+    Plain, ReceiveScalar, SendPacket, SendScalar, Test, Turn,
 };
 
 /// What a call tells that is not refused.
@@ -125,6 +140,20 @@ pub fn stepped<S: SendEnd, R: RecvEnd>(
             let answer = domain.open_recv(journal, Local { node: 0, port }, kind);
             Ok(Some(answer.map(|()| Number(0))))
         }
+        SendPacket(port, byte, size) => {
+            let content = [byte; 489];
+            let (bytes, _) = content.split_at(size.min(489));
+            let answer = domain.pkt_send(journal, Local { node: 0, port }, bytes);
+            Ok(Some(answer.map(|()| Number(0))))
+        }
+        SendScalar(port, value) => {
+            let answer = sent_scalar(domain, journal, Local { node: 0, port }, value);
+            Ok(Some(answer.map(|()| Number(0))))
+        }
+        ReceiveScalar(port, bits) => {
+            let answer = domain.scl_recv(journal, Local { node: 0, port }, bits);
+            Ok(Some(answer.map(Number)))
+        }
         CloseSend(port) => {
             let answer = domain.close_send(journal, Local { node: 0, port });
             Ok(Some(answer.map(|()| Number(0))))
@@ -139,6 +168,24 @@ pub fn stepped<S: SendEnd, R: RecvEnd>(
             Ok(Some(answer.map(|()| Number(0))))
         }
         Turn => Ok(Some(Ok(Idle(domain.turn(journal))))),
+    }
+}
+
+fn sent_scalar<S: SendEnd, R: RecvEnd>(
+    domain: &mut Domain<S, R>,
+    journal: &mut Journal,
+    at: Local,
+    value: Value,
+) -> Result<(), Refusal>
+    requires entry_room { 160 ≤ journal.old.entry_room }
+    requires byte_room { 67584 ≤ journal.old.byte_room }
+    ensures { Goes (EndsMoved S.Moved R.Moved) domain.old domain.new }
+{
+    match value {
+        Value::Byte(n) => domain.scl_send(journal, at, Bits::B8, u64::from(n)),
+        Value::Short(n) => domain.scl_send(journal, at, Bits::B16, u64::from(n)),
+        Value::Word(n) => domain.scl_send(journal, at, Bits::B32, u64::from(n)),
+        Value::Long(n) => domain.scl_send(journal, at, Bits::B64, n),
     }
 }
 

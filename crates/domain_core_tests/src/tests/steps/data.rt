@@ -1,0 +1,166 @@
+//! Items on channels inside one domain: packets and scalars that are sent, received and dropped, and what is refused.
+
+use super::*;
+use Bits::{B8, B16, B32, B64};
+use Kind::{Packet, Scalar};
+use Value::{Byte, Long, Short, Word};
+
+const NONE_HELD: (u32, u32) = (0, 0);
+
+const ONE_QUEUED: (u32, u32) = (1, 0);
+
+const TWO_QUEUED: (u32, u32) = (2, 0);
+
+/// A channel from port 1 to port 2, whose ends are open.
+fn opened(kind: Kind) -> [Row; 7] {
+    [
+        (Plain(Create(0, 1)), Ok(Number(1024)), NONE_HELD),
+        (Plain(Create(0, 2)), Ok(Number(1025)), NONE_HELD),
+        (Connect(1, 3, 2, kind), Ok(Connected(0, 1)), NONE_HELD),
+        (Test(0, 0), Err(Refusal::Pending), NONE_HELD),
+        (Test(0, 0), Ok(Accepted), NONE_HELD),
+        (OpenSend(1, kind), Ok(Number(0)), NONE_HELD),
+        (OpenRecv(2, kind), Ok(Number(0)), NONE_HELD),
+    ]
+}
+
+/// Scalars of each size, 0 and the greatest, each asked for by other bits first.
+const SCALARS: [Row; 28] = [
+    (SendScalar(1, Byte(0)), Ok(Number(0)), NONE_HELD),
+    (ReceiveScalar(2, B16), Err(Refusal::SclSize), ONE_QUEUED),
+    (ReceiveScalar(2, B8), Ok(Number(0)), NONE_HELD),
+    (ReceiveScalar(2, B8), Err(Refusal::Empty), NONE_HELD),
+    (SendScalar(1, Byte(255)), Ok(Number(0)), NONE_HELD),
+    (ReceiveScalar(2, B64), Err(Refusal::SclSize), ONE_QUEUED),
+    (ReceiveScalar(2, B8), Ok(Number(255)), NONE_HELD),
+    (SendScalar(1, Short(0)), Ok(Number(0)), NONE_HELD),
+    (ReceiveScalar(2, B8), Err(Refusal::SclSize), ONE_QUEUED),
+    (ReceiveScalar(2, B32), Err(Refusal::SclSize), ONE_QUEUED),
+    (ReceiveScalar(2, B16), Ok(Number(0)), NONE_HELD),
+    (SendScalar(1, Short(0x1234)), Ok(Number(0)), NONE_HELD),
+    (ReceiveScalar(2, B16), Ok(Number(0x1234)), NONE_HELD),
+    (SendScalar(1, Short(65_535)), Ok(Number(0)), NONE_HELD),
+    (ReceiveScalar(2, B16), Ok(Number(65_535)), NONE_HELD),
+    (SendScalar(1, Word(0)), Ok(Number(0)), NONE_HELD),
+    (ReceiveScalar(2, B64), Err(Refusal::SclSize), ONE_QUEUED),
+    (ReceiveScalar(2, B32), Ok(Number(0)), NONE_HELD),
+    (SendScalar(1, Word(u32::MAX)), Ok(Number(0)), NONE_HELD),
+    (ReceiveScalar(2, B16), Err(Refusal::SclSize), ONE_QUEUED),
+    (ReceiveScalar(2, B32), Ok(Number(4_294_967_295)), NONE_HELD),
+    (SendScalar(1, Long(0)), Ok(Number(0)), NONE_HELD),
+    (ReceiveScalar(2, B32), Err(Refusal::SclSize), ONE_QUEUED),
+    (ReceiveScalar(2, B64), Ok(Number(0)), NONE_HELD),
+    (SendScalar(1, Long(u64::MAX)), Ok(Number(0)), NONE_HELD),
+    (ReceiveScalar(2, B8), Err(Refusal::SclSize), ONE_QUEUED),
+    (ReceiveScalar(2, B64), Ok(Number(u64::MAX)), NONE_HELD),
+    (ReceiveScalar(2, B64), Err(Refusal::Empty), NONE_HELD),
+];
+
+#[test]
+fn scalars_of_each_size(rt: HostRuntime) -> Result<(), Fail> {
+    assert_of(Lone::open(rt.alloc(), 1, 2), |lone| {
+        assert_rows(&rt, lone, &opened(Scalar))?;
+        assert_rows(&rt, lone, &SCALARS)
+    })
+}
+
+/// A receiver that takes nothing holds the buffers of the lane, and a sender that closes leaves what is queued.
+const SLOW: [Row; 12] = [
+    (SendScalar(1, Byte(1)), Ok(Number(0)), NONE_HELD),
+    (SendScalar(1, Byte(2)), Ok(Number(0)), ONE_QUEUED),
+    (SendScalar(1, Byte(3)), Err(Refusal::NoBuffer), TWO_QUEUED),
+    (CloseSend(1), Err(Refusal::NoBuffer), TWO_QUEUED),
+    (CloseRecv(2), Err(Refusal::NoBuffer), TWO_QUEUED),
+    (ReceiveScalar(2, B8), Ok(Number(1)), ONE_QUEUED),
+    (CloseSend(1), Ok(Number(0)), ONE_QUEUED),
+    (SendScalar(1, Byte(3)), Err(Refusal::ChanClosed), ONE_QUEUED),
+    (ReceiveScalar(2, B8), Ok(Number(2)), NONE_HELD),
+    (ReceiveScalar(2, B8), Err(Refusal::ChanClosed), NONE_HELD),
+    (CloseRecv(2), Ok(Number(0)), NONE_HELD),
+    (ReceiveScalar(2, B8), Err(Refusal::NotConnected), NONE_HELD),
+];
+
+#[test]
+fn a_slow_receiver_uses_up_the_lane(rt: HostRuntime) -> Result<(), Fail> {
+    assert_of(Lone::open(rt.alloc(), 1, 2), |lone| {
+        assert_rows(&rt, lone, &opened(Scalar))?;
+        assert_rows(&rt, lone, &SLOW[..4])?;
+        assert!(rt; lone.domain.queued(3, 1) == 2 && lone.domain.queued(3, 2) == 0);
+        assert_rows(&rt, lone, &SLOW[4..])?;
+        assert!(rt; lone.domain.queued(3, 1) == 0);
+        Ok(())
+    })
+}
+
+/// Packets of the least and the greatest size, which are dropped where the receiver closes.
+const PACKETS: [Row; 6] = [
+    (SendPacket(1, 7, 489), Err(Refusal::PktSize), NONE_HELD),
+    (SendPacket(1, 7, 0), Ok(Number(0)), NONE_HELD),
+    (CloseRecv(2), Ok(Number(1)), NONE_HELD),
+    (SendPacket(1, 7, 489), Err(Refusal::ChanClosed), NONE_HELD),
+    (CloseSend(1), Ok(Number(0)), NONE_HELD),
+    (SendPacket(1, 7, 489), Err(Refusal::NotConnected), NONE_HELD),
+];
+
+const LONG_PACKETS: [Row; 5] = [
+    (SendPacket(1, 7, 488), Ok(Number(0)), NONE_HELD),
+    (SendPacket(1, 8, 488), Ok(Number(0)), ONE_QUEUED),
+    (SendPacket(1, 9, 489), Err(Refusal::PktSize), TWO_QUEUED),
+    (SendPacket(1, 9, 488), Err(Refusal::NoBuffer), TWO_QUEUED),
+    (Delete(0, 2), Err(Refusal::ChanConnected), TWO_QUEUED),
+];
+
+#[test]
+fn packets_are_dropped_where_the_receiver_closes(rt: HostRuntime) -> Result<(), Fail> {
+    assert_of(Lone::open(rt.alloc(), 1, 2), |lone| {
+        assert_rows(&rt, lone, &opened(Packet))?;
+        assert_rows(&rt, lone, &PACKETS)
+    })?;
+    assert_of(Lone::open(rt.alloc(), 1, 2), |lone| {
+        assert_rows(&rt, lone, &opened(Packet))?;
+        assert_rows(&rt, lone, &LONG_PACKETS)
+    })
+}
+
+/// Each refusal stands before the next, on the way to an open channel of scalars.
+const REFUSED: [Row; 22] = [
+    (SendScalar(1, Byte(0)), Err(Refusal::EndpInvalid), NONE_HELD),
+    (ReceiveScalar(1, B8), Err(Refusal::EndpInvalid), NONE_HELD),
+    (SendPacket(1, 0, 489), Err(Refusal::EndpInvalid), NONE_HELD),
+    (Plain(Create(0, 1)), Ok(Number(1024)), NONE_HELD),
+    (Plain(Create(0, 2)), Ok(Number(1025)), NONE_HELD),
+    (
+        SendScalar(1, Byte(0)),
+        Err(Refusal::NotConnected),
+        NONE_HELD,
+    ),
+    (ReceiveScalar(1, B8), Err(Refusal::NotConnected), NONE_HELD),
+    (SendPacket(1, 0, 489), Err(Refusal::NotConnected), NONE_HELD),
+    (Connect(1, 3, 2, Scalar), Ok(Connected(0, 1)), NONE_HELD),
+    (ReceiveScalar(1, B8), Err(Refusal::NotConnected), NONE_HELD),
+    (Test(0, 0), Ok(Accepted), NONE_HELD),
+    (ReceiveScalar(1, B8), Err(Refusal::ChanDirection), NONE_HELD),
+    (
+        SendScalar(2, Byte(0)),
+        Err(Refusal::ChanDirection),
+        NONE_HELD,
+    ),
+    (
+        SendPacket(2, 0, 489),
+        Err(Refusal::ChanDirection),
+        NONE_HELD,
+    ),
+    (SendPacket(1, 0, 489), Err(Refusal::ChanType), NONE_HELD),
+    (SendScalar(1, Byte(0)), Err(Refusal::NotOpen), NONE_HELD),
+    (ReceiveScalar(2, B8), Err(Refusal::NotOpen), NONE_HELD),
+    (OpenSend(1, Scalar), Ok(Number(0)), NONE_HELD),
+    (SendScalar(1, Byte(0)), Err(Refusal::NotOpen), NONE_HELD),
+    (OpenRecv(2, Scalar), Ok(Number(0)), NONE_HELD),
+    (ReceiveScalar(2, B8), Err(Refusal::Empty), NONE_HELD),
+    (SendScalar(1, Byte(0)), Ok(Number(0)), NONE_HELD),
+];
+
+#[test]
+fn each_refusal_of_an_item_in_its_order(rt: HostRuntime) -> Result<(), Fail> {
+    assert_all(&rt, rt.alloc(), &REFUSED)
+}
