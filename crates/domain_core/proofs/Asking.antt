@@ -20,7 +20,7 @@ use Rattle.domain_core.specs.InPlaces.{AreInPlaces, EachInPlace, slots_of}
 use Rattle.domain_core.specs.InRequests.{IsReceive, handed_slots, slots_in}
 use Rattle.domain_core.specs.Out.{Out}
 use Rattle.domain_core.specs.Peers.{state_in}
-use Rattle.domain_core.specs.Records.{Records, all_waiting}
+use Rattle.domain_core.specs.Records.{Records, all_waiting, lent_slots}
 use Rattle.domain_core.specs.Sound.{AreSound, out_at}
 use Rattle.domain_core.specs.Steps.{with_last}
 use Rattle.domain_core.proofs.Beginning.{last-receives, new_standing}
@@ -49,8 +49,9 @@ same-slots r q id a o none = ap (λ (ss : List Slot). slots (all_waiting r.endpo
 asked-places : (number : ℕ) (r : Records) (q : Requests) (b : Book) (out : Out) (id : RequestId) (a : Ask) (o : Option Complete) → slots_in o ≡ [] → AreInPlaces number r q b out → AreInPlaces number r (with_last q id a o) b out
 asked-places number r q b out id a o none places =
     record {
-      each = subst (λ (ss : List Slot). EachInPlace number out ss b []) (sym (same-slots r q id a o none)) places.each;
+      each = subst (λ (ss : List Slot). EachInPlace number out ss (lent_slots r) b []) (sym (same-slots r q id a o none)) places.each;
       priorities = places.priorities;
+      lent = places.lent;
     }
 
 module _ {L : Type 0} (v : L → LaneSeen) (b : Book) (r : Records) (q : Requests) (t : endpoint_table.Table) (ps : List (Peer L)) (id : RequestId) (a : Ask) (o : Option Complete) where
@@ -65,7 +66,7 @@ module _ {L : Type 0} (v : L → LaneSeen) (b : Book) (r : Records) (q : Request
       record {
         peers = sound.peers;
         places = All-from (λ p. AreInPlaces p.number r q b (out_at v p)) (λ p. AreInPlaces p.number r q' b (out_at v p)) (λ p places. asked-places p.number r q b (out_at v p) id a o none places) ps sound.places;
-        total = ap length (same-slots r q id a o none) ∙ sound.total;
+        total = ap (λ (ss : List Slot). length ss + length r.lent) (same-slots r q id a o none) ∙ sound.total;
         room = sound.room;
         receives = last-receives q id a o sound.receives is fresh few;
         tied = sound.tied;

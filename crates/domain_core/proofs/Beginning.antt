@@ -1,6 +1,6 @@
 -- A receive that is begun.
 use Rattle.std.proofs.Common.{◌≡◌, ◌≢◌, ℕ, ◌+◌, ◌<◌, ◌≤◌, Bool, true, false, cond, List, [], ◌∷◌, ◌++◌, length, map, Option, Some, None, refl, sym, ap, subst, ◌∙◌, arith, eq-eqb}
-use Rattle.std.specs.Prelude.{nat_lt, ◌%◌, ◌^◌}
+use Rattle.std.specs.Prelude.{nat_lt, ◌%◌, ◌^◌, count_by}
 use Rattle.std.specs.List.{AllByRecursion}
 use Rattle.std.proofs.lemmas.Bool.{and_from, ltb-true, ltb-false}
 use Rattle.std.proofs.lemmas.List.{length_push, map_push}
@@ -13,7 +13,7 @@ use Rattle.request_set.specs.declared.ask.Complete.TheVariants as complete
 use Rattle.request_set.specs.Requests.{Requests, Standing, completed, is_id, keys, with_complete, with_request}
 use Rattle.board_model.specs.State.{DomainState}
 use Rattle.domain_core.specs.Calls.{IsFresh}
-use Rattle.domain_core.specs.InRequests.{AreReceives, IsReceive, handed_slots}
+use Rattle.domain_core.specs.InRequests.{AreReceives, IsReceive, handed_slots, slots_in}
 use Rattle.domain_core.specs.Steps.{with_last}
 use Rattle.domain_core.proofs.Placed.{HasMore, HaveSame}
 use Rattle.domain_core.proofs.Receives.{differ-more, handed-new, keys_in, not-among, others-fresh, others-stay}
@@ -59,9 +59,9 @@ pub pending-same : (q : Requests) (id : RequestId) (a : Ask) → HaveSame (hande
 pending-same q id a test = let more = handed-new test (new_standing id a None) q.standing in omega (arith, more)
 
 -- a slot was
-pub last-more : (q : Requests) (id : RequestId) (a : Ask) (slot : Slot) (max : ℕ) → HasMore slot (handed_slots q.standing) (handed_slots (with_last q id a (Some (complete.Message slot max))).standing)
-last-more q id a slot max test =
-    let all = handed-new test (new_standing id a (Some (complete.Message slot max))) q.standing in
+pub last-more : (q : Requests) (id : RequestId) (a : Ask) (slot : Slot) (how : Complete) → slots_in (Some how) ≡ slot ∷ [] → HasMore slot (handed_slots q.standing) (handed_slots (with_last q id a (Some how)).standing)
+last-more q id a slot how holds test =
+    let all = handed-new test (new_standing id a (Some how)) q.standing ∙ ap (λ (ss : List Slot). count_by test (handed_slots q.standing) + count_by test ss) holds in
     let one = count-cons test slot [] in
     omega (arith, all, one)
 

@@ -6,6 +6,7 @@ use Rattle.mc_base.specs.declared.refusal.Refusal.{Refusal}
 use Rattle.mc_base.specs.declared.request.RequestId.{RequestId}
 use Rattle.board_model.specs.DomainCall.{DomainCall, turn_alone}
 use Rattle.board_model.specs.Journal.{Line, PlainAnswer, agrees, noted_all}
+use Rattle.board_model.specs.Labels.{success_packet}
 use Rattle.board_model.specs.Lists.{without}
 use Rattle.board_model.specs.State as state
 use Rattle.board_model.specs.Answer.{answer, puts, refusal, success_puts, unless_refused}
@@ -13,7 +14,7 @@ use Rattle.board_model.specs.Change.{changed_all}
 use Rattle.board_model.specs.CallChanges.{success_changes, success_returned}
 use Rattle.board_model.specs.Serial.{put_entry}
 use Rattle.domain_core.specs.AllMoved.{AllMoved, call_moves, moves_at, numbers_of}
-use Rattle.domain_core.specs.Calls.{Calls, Does}
+use Rattle.domain_core.specs.Calls.{Calls, Does, success_releases}
 use Rattle.domain_core.specs.CallSteps.{Acted, Acts, Rests, Succeeds, call_steps}
 use Rattle.domain_core.specs.DomainView.{DomainView}
 use Rattle.domain_core.specs.LaneMoves.{LaneMove}
@@ -54,9 +55,12 @@ module _ {L : Type 0} (M : L → List LaneMove → L → Type 0) (node : ℕ) (c
         slots = [];
         returned = sym (ap (λ (o : Option Refusal). unless_refused o [] (success_returned s node call)) e);
         moved = moved-in [] (sym (ap (λ (o : Option Refusal). unless_refused o [] (success_puts s node call)) e)) [] (λ n. []) (λ n. refl) old.ends rests;
-        stays = λ slot queued other. refl;
+        stays = λ slot held other. record { held = held; item = refl };
         ids = sym (append-nil (without _ (ids_in p.requests)) ∙ ap (λ (o : Option ℕ). without o (ids_in p.requests)) (ended-refused s node call word e));
         fresh = tt;
+        lent = None;
+        packets = sym (append-nil (without _ p.records.lent) ∙ ap (λ (o : Option Refusal). without (unless_refused o None (success_releases call)) p.records.lent) e);
+        lends = sym (ap (λ (o : Option Refusal). unless_refused o None (success_packet s call)) e);
       }))
 
   succeeded : refusal s node call ≡ None → answered ≡ answer s node call → Succeeds M node call old new given → Does M node call (shown old) (shown new) answered given
@@ -71,6 +75,9 @@ module _ {L : Type 0} (M : L → List LaneMove → L → Type 0) (node : ℕ) (c
         stays = subst (λ (x : Parts). KeepsBut m.slots p.book x.book) (sym done.did.parts) m.stays;
         ids = ap (λ (x : Parts). ids_in x.requests) done.did.parts ∙ m.ids ∙ ap (λ (o : Option ℕ). without o (ids_in p.requests) ++ option_to_list given) (sym (ended-done s node call e));
         fresh = m.fresh;
+        lent = m.lent;
+        packets = ap (λ (x : Parts). x.records.lent) done.did.parts ∙ m.packets ∙ ap (λ (o : Option Refusal). without (unless_refused o None (success_releases call)) p.records.lent ++ option_to_list m.lent) (sym e);
+        lends = m.lends ∙ sym (ap (λ (o : Option Refusal). unless_refused o None (success_packet s call)) e);
       }
 
   -- what a call does inside is what it does
@@ -113,9 +120,12 @@ turn-acts M h rests = record {
       slots = [];
       returned = refl;
       moves = λ n. refl;
-      stays = λ slot queued other. refl;
+      stays = λ slot held other. record { held = held; item = refl };
       ids = sym (append-nil (ids_in h.parts.requests));
       fresh = tt;
+      lent = None;
+      packets = sym (append-nil h.parts.records.lent);
+      lends = refl;
     };
   };
 }

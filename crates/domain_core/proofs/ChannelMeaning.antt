@@ -198,6 +198,9 @@ module _ (p : Parts) (sound : Sound p) (at : Local) (i : ℕ) (there : place_at 
       stays = subst (λ (cs : List Step). KeepsBut [] p.book (done_all cs p).book) (sym connect-steps) (keeps-but_none p.book);
       ids = ap (λ (cs : List Step). ids_in (done_all cs p).requests) connect-steps ∙ last-ids p.requests id (ask.Connect number) None;
       fresh = fresh;
+      lent = None;
+      packets = ap (λ (cs : List Step). (done_all cs p).records.lent) connect-steps ∙ sym (append-nil p.records.lent);
+      lends = refl;
     }
 
   -- ---- an end that is there
@@ -249,6 +252,9 @@ module _ (p : Parts) (sound : Sound p) (at : Local) (i : ℕ) (there : place_at 
         stays = subst (λ (cs : List Step). KeepsBut [] p.book (done_all cs p).book) (sym open-steps) (keeps-but_none p.book);
         ids = ap (λ (cs : List Step). ids_in (done_all cs p).requests) open-steps ∙ sym (append-nil (ids_in p.requests));
         fresh = tt;
+        lent = None;
+        packets = ap (λ (cs : List Step). (done_all cs p).records.lent) open-steps ∙ sym (append-nil p.records.lent);
+        lends = refl;
       }
 
     -- ---- it closes
@@ -328,6 +334,9 @@ module _ (p : Parts) (sound : Sound p) (at : Local) (i : ℕ) (there : place_at 
           stays = subst (λ (cs : List Step). KeepsBut [] p.book (done_all cs p).book) (sym steps) (keeps-but_none p.book);
           ids = ap (λ (cs : List Step). ids_in (done_all cs p).requests) steps ∙ sym (append-nil (ids_in p.requests));
           fresh = tt;
+          lent = None;
+          packets = ap (λ (cs : List Step). (done_all cs p).records.lent) steps ∙ sym (append-nil p.records.lent);
+          lends = refl;
         }
     close-means Receiver =
         let steps = close-steps Receiver in
@@ -345,4 +354,11 @@ module _ (p : Parts) (sound : Sound p) (at : Local) (i : ℕ) (there : place_at 
               ∙ ids-all (waiters.Receives at) (complete.Ended ChanClosed) p.requests.standing
               ∙ sym (append-nil (ids_in p.requests));
           fresh = tt;
+          lent = None;
+          packets =
+              ap (λ (cs : List Step). (done_all cs p).records.lent) steps
+              ∙ ap (λ (x : Parts). x.records.lent) (sym last-is)
+              ∙ left.lent
+              ∙ sym (append-nil p.records.lent);
+          lends = refl;
         }

@@ -1,14 +1,17 @@
 -- How many buffers of one peer wait, were handed and stand in the book.
 use Rattle.std.proofs.Common.{◌≡◌, ℕ, zero, suc, ◌+◌, ◌*◌, ◌<◌, ◌≤◌, Bool, true, false, cond, List, [], ◌∷◌, length, map, take, Option, Some, None, refl, sym, ap, ◌∙◌, subst, arith, ne_eqb, is_some, add-one}
-use Rattle.std.specs.Prelude.{count_by, flat_map, is_none, nat_lt, option_and_then, option_map, option_to_list, position, slice_get, ◌==◌, ◌-◌}
+use Rattle.std.specs.Prelude.{count_by, filter, flat_map, is_none, nat_lt, option_and_then, option_map, option_to_list, position, slice_get, ◌==◌, ◌&&◌, ◌-◌}
 use Rattle.std.specs.List.{AllByRecursion}
 use Rattle.std.proofs.lemmas.Bool.{ltb-true, ltb-false}
 use Rattle.std.proofs.lemmas.List.{length-map, take_all}
+use Rattle.mc_base.specs.declared.request.PacketId.{PacketId}
 use Rattle.mc_base.specs.declared.request.Slot.{Slot}
-use Rattle.board_model.specs.State.{is_from, lent_from, queued_from}
+use Rattle.board_model.specs.State as state
+use Rattle.board_model.specs.State.{LentPacket, Request, is_from, lent_from, queued_from}
 use Rattle.board_model.proofs.ListsCounts.{count-append, count-cons}
+use Rattle.board_model.proofs.MessageVisitLines.{count-map}
 use Rattle.buffer_book.specs.Book as book
-use Rattle.buffer_book.specs.Book.{Book, Kept, Shelf, if_queued, kept_on, shelf_of}
+use Rattle.buffer_book.specs.Book.{Book, Kept, Shelf, if_queued, kept_on, shelf_of, slot_of}
 use Rattle.buffer_book.specs.Shelves.{kept_on_place, stands_in_queue}
 use Rattle.endpoint_table.specs.Table as endpoint_table
 use Rattle.lane_end.specs.Numbers.{often}
@@ -19,12 +22,12 @@ use Rattle.request_set.specs.Requests.{Requests, Standing}
 use Rattle.domain_core.specs.LaneSeen.{LaneSeen}
 use Rattle.domain_core.specs.declared.peer.Peer.{Peer}
 use Rattle.domain_core.specs.AllMoved.{numbers_of}
-use Rattle.domain_core.specs.InBook.{item_at, item_in}
-use Rattle.domain_core.specs.InPlaces.{AreInPlaces, EachInPlace, is_of, one_if, slot_at, slots_of}
+use Rattle.domain_core.specs.InBook.{item_at, item_in, packets_in, requests_in}
+use Rattle.domain_core.specs.InPlaces.{AreInPlaces, EachInPlace, is_of, is_same, one_if, slot_at, slots_of, times_in}
 use Rattle.domain_core.specs.InRequests.{handed_slots, slots_in}
 use Rattle.domain_core.specs.Out.{Out}
 use Rattle.domain_core.specs.Peers.{state_in}
-use Rattle.domain_core.specs.Records.{Records, all_waiting}
+use Rattle.domain_core.specs.Records.{Records, all_waiting, lent_slots}
 use Rattle.domain_core.specs.Sound.{AreRising, AreSound, IsSized, out_at, outs_count}
 use Rattle.domain_core.proofs.Handed.{Listing, items-handed, listing, none-listed, none-past, nothing-there}
 use Rattle.domain_core.proofs.PeerPlaces.{All-at, peer-at}
@@ -47,13 +50,23 @@ handed-from b peer (s ∷ ss) =
     ∙ ap (λ (k : ℕ). one_if (s.peer == peer) + k) (handed-from b peer ss)
     ∙ sym (count-cons (is_of peer) s ss)
 
+packets-from : (b : Book) (peer : ℕ) (ids : List PacketId) → count_by (is_from peer) (map (λ (p : LentPacket). p.item) (packets_in b ids)) ≡ count_by (λ (i : PacketId). i.peer == peer) ids
+packets-from b peer [] = refl
+packets-from b peer (i ∷ ids) =
+    count-cons (is_from peer) (item_at b (slot_of i)) (map (λ (p : LentPacket). p.item) (packets_in b ids))
+    ∙ ap (λ (k : ℕ). one_if (i.peer == peer) + k) (packets-from b peer ids)
+    ∙ sym (count-cons (λ (x : PacketId). x.peer == peer) i ids)
+
 -- as the state tells them
 module _ {L : Type 0} (v : L → LaneSeen) (b : Book) (r : Records) (q : Requests) (t : endpoint_table.Table) (ps : List (Peer L)) (peer : ℕ) where
   pub queued-is : queued_from peer (state_in v b r q t ps) ≡ count_by (is_of peer) (slots (all_waiting r.endpoints))
   queued-is = ap (count_by (is_from peer)) (items-are b r.endpoints) ∙ waiting-from b peer (all_waiting r.endpoints)
 
-  pub lent-is : lent_from peer (state_in v b r q t ps) ≡ count_by (is_of peer) (handed_slots q.standing)
-  lent-is = ap (count_by (is_from peer)) (items-handed b q.standing) ∙ handed-from b peer (handed_slots q.standing)
+  pub lent-is : lent_from peer (state_in v b r q t ps) ≡ count_by (λ (i : PacketId). i.peer == peer) r.lent + count_by (is_of peer) (handed_slots q.standing)
+  lent-is =
+      count-append (is_from peer) (map (λ (p : LentPacket). p.item) (packets_in b r.lent)) (flat_map (λ (x : Request). state.item_in x.outcome) (requests_in b q.standing))
+      ∙ ap (λ (k : ℕ). k + count_by (is_from peer) (flat_map (λ (x : Request). state.item_in x.outcome) (requests_in b q.standing))) (packets-from b peer r.lent)
+      ∙ ap (λ (k : ℕ). count_by (λ (i : PacketId). i.peer == peer) r.lent + k) (ap (count_by (is_from peer)) (items-handed b q.standing) ∙ handed-from b peer (handed_slots q.standing))
 
 -- ---- what the book has of a peer
 
@@ -61,30 +74,48 @@ none-often : (xs : List ℕ) → ((n : ℕ) → often n xs ≡ 0) → length xs 
 none-often [] none = refl
 none-often (x ∷ xs) none = absurd (omega (arith, none x, tick-same x x refl))
 
-is-queued : (k : Kept) → true ≡ is_some (if_queued k) → is_none k.lent ≡ true
-is-queued k = go (is_none k.lent)
-  where
-    go : (b : Bool) → true ≡ is_some (cond b (Some k) None) → b ≡ true
-    go true e = refl
-    go false e = sym e
+-- the buffers of a peer among slots
+abbrev buffers : ℕ → List Slot → List ℕ
+buffers peer ss = map (λ (s : Slot). s.buffer) (filter (is_of peer) ss)
 
--- numbers from `a` on that stand once where a place is taken, and no others, are as many as the places that are taken
-places-taken : (places : List (Option Kept)) (a : ℕ) (xs : List ℕ) → ((n : ℕ) → n < a → often n xs ≡ 0) → ((n : ℕ) → often (a + n) xs ≡ one_if (is_some (kept_on_place places n))) → ((n : ℕ) → is_some (kept_on_place places n) ≡ is_some (option_and_then if_queued (kept_on_place places n)))
-    → count_by stands_in_queue (flat_map option_to_list places) ≡ length xs
-places-taken [] a xs below each queued = sym (none-often xs (λ n. go n (nat_lt n a) refl))
+buffers-often : (peer n : ℕ) (ss : List Slot) → often n (buffers peer ss) ≡ times_in (slot_at peer n) ss
+buffers-often peer n [] = refl
+buffers-often peer n (s ∷ ss) = go (s.peer == peer) (buffers-often peer n ss) ∙ sym (count-cons (λ (t : Slot). is_same t (slot_at peer n)) s ss)
   where
-    go : (n : ℕ) (b : Bool) → nat_lt n a ≡ b → often n xs ≡ 0
-    go n true lt = below n (ltb-true n a lt)
-    go n false ge =
-        let le = ltb-false n a ge in
-        let d = n - a in
-        let is : a + d ≡ n = omega (arith, le) in
-        ap (λ (k : ℕ). often k xs) (sym is) ∙ each d
-places-taken (None ∷ places) a xs below each queued =
-    places-taken places (suc a) xs (λ n lt. go n (n == a) refl lt) (λ n. let is : suc a + n ≡ a + suc n = omega arith in ap (λ (k : ℕ). often k xs) is ∙ each (suc n)) (λ n. queued (suc n))
+    go : (b : Bool) → often n (buffers peer ss) ≡ times_in (slot_at peer n) ss → often n (map (λ (x : Slot). x.buffer) (cond b (s ∷ filter (is_of peer) ss) (filter (is_of peer) ss))) ≡ one_if (b && s.buffer == n) + times_in (slot_at peer n) ss
+    go true rest = ap (λ (k : ℕ). one_if (s.buffer == n) + k) rest
+    go false rest = omega (arith, rest)
+
+buffers-length : (peer : ℕ) (ss : List Slot) → length (buffers peer ss) ≡ count_by (is_of peer) ss
+buffers-length peer [] = refl
+buffers-length peer (s ∷ ss) = go (s.peer == peer) (buffers-length peer ss) ∙ sym (count-cons (is_of peer) s ss)
+  where
+    go : (b : Bool) → length (buffers peer ss) ≡ count_by (is_of peer) ss → length (map (λ (x : Slot). x.buffer) (cond b (s ∷ filter (is_of peer) ss) (filter (is_of peer) ss))) ≡ one_if b + count_by (is_of peer) ss
+    go true rest = omega (arith, rest)
+    go false rest = omega (arith, rest)
+
+-- Numbers from `a` on that stand once where a place has a buffer in a queue, and no others, are as many as the places that have
+abbrev queued_on_place : List (Option Kept) → ℕ → Bool
+queued_on_place places n = is_some (option_and_then if_queued (kept_on_place places n))
+
+queued-is_one : (k : Kept) → is_some (if_queued k) ≡ is_none k.lent
+queued-is_one k = go (is_none k.lent)
+  where
+    go : (b : Bool) → is_some (cond b (Some k) None) ≡ b
+    go true = refl
+    go false = refl
+
+abbrev QueuedCount : List (Option Kept) → Type 0
+QueuedCount places = (a : ℕ) (xs : List ℕ) → ((n : ℕ) → n < a → often n xs ≡ 0) → ((n : ℕ) → often (a + n) xs ≡ one_if (queued_on_place places n)) → count_by stands_in_queue (flat_map option_to_list places) ≡ length xs
+
+-- the first place has none
+first-free : (o : Option Kept) (places : List (Option Kept)) → QueuedCount places → (a : ℕ) (xs : List ℕ) → ((n : ℕ) → n < a → often n xs ≡ 0) → ((n : ℕ) → often (a + n) xs ≡ one_if (queued_on_place (o ∷ places) n)) → is_some (option_and_then if_queued o) ≡ false
+    → count_by stands_in_queue (flat_map option_to_list places) ≡ length xs
+first-free o places rest a xs below each free =
+    rest (suc a) xs (λ n lt. go n (n == a) refl lt) (λ n. let is : suc a + n ≡ a + suc n = omega arith in ap (λ (k : ℕ). often k xs) is ∙ each (suc n))
   where
     here : often a xs ≡ 0
-    here = let is : a ≡ a + 0 = omega arith in ap (λ (k : ℕ). often k xs) is ∙ each 0
+    here = let is : a ≡ a + 0 = omega arith in ap (λ (k : ℕ). often k xs) is ∙ each 0 ∙ ap one_if free
 
     go : (n : ℕ) (b : Bool) → (n == a) ≡ b → n < suc a → often n xs ≡ 0
     go n true same lt = let is : n ≡ a = grind (arith, same) in ap (λ (k : ℕ). often k xs) is ∙ here
@@ -92,17 +123,17 @@ places-taken (None ∷ places) a xs below each queued =
       where
         both : (n a : ℕ) → n ≡ a → (n == a) ≡ false → ⊥
         both n a e f = grind (arith, e, f)
-places-taken (Some k ∷ places) a xs below each queued =
-    let rest = without a xs in
-    let one : often a xs ≡ 1 = here in
-    let some : 0 < often a xs = omega (arith, one) in
-    let next = places-taken places (suc a) rest (λ n lt. go n (n == a) refl lt) (λ n. after n) (λ n. queued (suc n)) in
-    let front = count-cons stands_in_queue k (flat_map option_to_list places) in
-    let counts : one_if (stands_in_queue k) ≡ 1 = ap one_if (is-queued k (queued 0)) in
-    omega (arith, next, front, counts, length-without a xs some)
+
+-- it has one
+first-queued : (o : Option Kept) (places : List (Option Kept)) → QueuedCount places → (a : ℕ) (xs : List ℕ) → ((n : ℕ) → n < a → often n xs ≡ 0) → ((n : ℕ) → often (a + n) xs ≡ one_if (queued_on_place (o ∷ places) n)) → is_some (option_and_then if_queued o) ≡ true
+    → 1 + count_by stands_in_queue (flat_map option_to_list places) ≡ length xs
+first-queued o places rest a xs below each is_there =
+    let some : 0 < often a xs = omega (arith, here) in
+    let next = rest (suc a) (without a xs) (λ n lt. go n (n == a) refl lt) (λ n. after n) in
+    omega (arith, next, length-without a xs some)
   where
     here : often a xs ≡ 1
-    here = let is : a ≡ a + 0 = omega arith in ap (λ (k : ℕ). often k xs) is ∙ each 0
+    here = let is : a ≡ a + 0 = omega arith in ap (λ (k : ℕ). often k xs) is ∙ each 0 ∙ ap one_if is_there
 
     left : (n : ℕ) → often n xs ≡ often n (without a xs) + tick a n
     left n = often-without n a xs (omega (arith, here))
@@ -114,32 +145,54 @@ places-taken (Some k ∷ places) a xs below each queued =
         both : (n a : ℕ) → n ≡ a → (n == a) ≡ false → ⊥
         both n a e f = grind (arith, e, f)
 
-    after : (n : ℕ) → often (suc a + n) (without a xs) ≡ one_if (is_some (kept_on_place places n))
+    after : (n : ℕ) → often (suc a + n) (without a xs) ≡ one_if (queued_on_place places n)
     after n =
         let is : suc a + n ≡ a + suc n = omega arith in
-        let was : often (suc a + n) xs ≡ one_if (is_some (kept_on_place places n)) = ap (λ (k : ℕ). often k xs) is ∙ each (suc n) in
+        let was : often (suc a + n) xs ≡ one_if (queued_on_place places n) = ap (λ (k : ℕ). often k xs) is ∙ each (suc n) in
         let other : tick a (suc a + n) ≡ 0 = ap (λ (b : Bool). cond b 1 0) (ne_eqb a (suc a + n) (λ e. omega (arith, e))) in
         omega (arith, was, left (suc a + n), other)
 
-shelf-taken : (o : Option Shelf) (xs : List ℕ) → ((n : ℕ) → often n xs ≡ one_if (is_some (option_and_then (λ p. p) (option_and_then (λ s. slice_get s.places n) o)))) → ((n : ℕ) → is_some (option_and_then (λ p. p) (option_and_then (λ s. slice_get s.places n) o)) ≡ is_some (option_and_then if_queued (option_and_then (λ p. p) (option_and_then (λ s. slice_get s.places n) o))))
-    → count_by stands_in_queue (kept_on o) ≡ length xs
-shelf-taken None xs each queued = sym (none-often xs each)
-shelf-taken (Some s) xs each queued =
-    places-taken s.places 0 xs (λ n lt. absurd (omega (arith, lt))) (λ n. let is : 0 + n ≡ n = omega arith in ap (λ (k : ℕ). often k xs) is ∙ each n) queued
+places-queued : (places : List (Option Kept)) → QueuedCount places
+places-queued [] a xs below each = sym (none-often xs (λ n. go n (nat_lt n a) refl))
+  where
+    go : (n : ℕ) (b : Bool) → nat_lt n a ≡ b → often n xs ≡ 0
+    go n true lt = below n (ltb-true n a lt)
+    go n false ge =
+        let le = ltb-false n a ge in
+        let d = n - a in
+        let is : a + d ≡ n = omega (arith, le) in
+        ap (λ (k : ℕ). often k xs) (sym is) ∙ each d
+places-queued (None ∷ places) a xs below each = first-free None places (places-queued places) a xs below each refl
+places-queued (Some k ∷ places) a xs below each =
+    count-cons stands_in_queue k (flat_map option_to_list places) ∙ go (places-queued places) (is_none k.lent) refl
+  where
+    zero-more : 0 + count_by stands_in_queue (flat_map option_to_list places) ≡ count_by stands_in_queue (flat_map option_to_list places)
+    zero-more = omega arith
 
--- of a peer the book has as many as wait and were handed
-pub kept-are : (peer : ℕ) (o : Out) (ss : List Slot) (b : Book) → EachInPlace peer o ss b [] → book.queued_from b peer ≡ count_by (is_of peer) ss
-kept-are peer o ss b e =
-    let all = shelf-taken (shelf_of b peer) o.numbers (λ n. let once = e.once n in omega (arith, once)) (λ n. e.none_lent (slot_at peer n)) in
-    let are : count_by (is_of peer) ss + 0 ≡ length o.numbers = e.all in
-    omega (arith, all, are)
+    go : QueuedCount places → (b : Bool) → is_none k.lent ≡ b → one_if (is_none k.lent) + count_by stands_in_queue (flat_map option_to_list places) ≡ length xs
+    go rest true e = ap (λ (x : Bool). one_if x + count_by stands_in_queue (flat_map option_to_list places)) e ∙ first-queued (Some k) places rest a xs below each (queued-is_one k ∙ e)
+    go rest false e = ap (λ (x : Bool). one_if x + count_by stands_in_queue (flat_map option_to_list places)) e ∙ zero-more ∙ first-free (Some k) places rest a xs below each (queued-is_one k ∙ e)
+
+shelf-queued : (o : Option Shelf) (xs : List ℕ) → ((n : ℕ) → often n xs ≡ one_if (is_some (option_and_then if_queued (option_and_then (λ p. p) (option_and_then (λ s. slice_get s.places n) o))))) → count_by stands_in_queue (kept_on o) ≡ length xs
+shelf-queued None xs each = sym (none-often xs each)
+shelf-queued (Some s) xs each =
+    places-queued s.places 0 xs (λ n lt. absurd (omega (arith, lt))) (λ n. let is : 0 + n ≡ n = omega arith in ap (λ (k : ℕ). often k xs) is ∙ each n)
+
+-- of a peer the book has as many in queues as wait and were handed
+pub kept-are : (peer : ℕ) (o : Out) (ss ls : List Slot) (b : Book) → EachInPlace peer o ss ls b [] → book.queued_from b peer ≡ count_by (is_of peer) ss
+kept-are peer o ss ls b e =
+    shelf-queued (shelf_of b peer) (buffers peer ss) (λ n. buffers-often peer n ss ∙ e.stands_once (slot_at peer n)) ∙ buffers-length peer ss
 
 -- of each peer of a domain
 pub kept-from : {L : Type 0} (v : L → LaneSeen) (b : Book) (r : Records) (q : Requests) (t : endpoint_table.Table) (ps : List (Peer L)) (peer i : ℕ) → Some i ≡ position (λ (p : Peer L). p.number == peer) ps → AreSound v b r q t ps → book.queued_from b peer ≡ count_by (is_of peer) (slots_of r q)
 kept-from v b r q t ps peer i at sound =
     let found = peer-at ps peer i at in
     let places = All-at (λ p. AreInPlaces p.number r q b (out_at v p)) ps i found.0 sound.places found.1 in
-    kept-are peer (out_at v found.0) (slots_of r q) b (subst (λ (n : ℕ). EachInPlace n (out_at v found.0) (slots_of r q) b []) found.2 places.each)
+    kept-are peer (out_at v found.0) (slots_of r q) (lent_slots r) b (subst (λ (n : ℕ). EachInPlace n (out_at v found.0) (slots_of r q) (lent_slots r) b []) found.2 places.each)
+
+-- the slots of a peer among what is lent
+pub lent-are : (peer : ℕ) (r : Records) → count_by (is_of peer) (lent_slots r) ≡ count_by (λ (i : PacketId). i.peer == peer) r.lent
+lent-are peer r = count-map (is_of peer) slot_of r.lent
 
 pub both-are : (peer : ℕ) (r : Records) (q : Requests) → count_by (is_of peer) (slots_of r q) ≡ count_by (is_of peer) (slots (all_waiting r.endpoints)) + count_by (is_of peer) (handed_slots q.standing)
 both-are peer r q = count-append (is_of peer) (slots (all_waiting r.endpoints)) (handed_slots q.standing)
@@ -194,3 +247,19 @@ waiting-fits v b r q t ps sound =
     let few = few-peers (numbers_of ps) sound.peers.few sound.peers.rising in
     let fit = outs-fit v r q b ps sound.places sound.peers.sizes in
     omega (arith, few, length-map ps (λ p. p.number), fit, sound.total, length-all (all_waiting r.endpoints) (handed_slots q.standing))
+
+pub lent-within : {L : Type 0} (v : L → LaneSeen) (b : Book) (r : Records) (q : Requests) (t : endpoint_table.Table) (ps : List (Peer L)) → AreSound v b r q t ps → length r.lent ≤ 2048
+lent-within v b r q t ps sound =
+    let few = few-peers (numbers_of ps) sound.peers.few sound.peers.rising in
+    let fit = outs-fit v r q b ps sound.places sound.peers.sizes in
+    omega (arith, few, length-map ps (λ p. p.number), fit, sound.total)
+
+-- as many as a lane has at most are held of a peer
+pub held-few : {L : Type 0} (v : L → LaneSeen) (b : Book) (r : Records) (q : Requests) (t : endpoint_table.Table) (ps : List (Peer L)) (peer i : ℕ) → Some i ≡ position (λ (p : Peer L). p.number == peer) ps → AreSound v b r q t ps → count_by (is_of peer) (slots_of r q) + count_by (is_of peer) (lent_slots r) ≤ 256
+held-few v b r q t ps peer i at sound =
+    let found = peer-at ps peer i at in
+    let places = All-at (λ p. AreInPlaces p.number r q b (out_at v p)) ps i found.0 sound.places found.1 in
+    let sized = All-at (IsSized v) ps i found.0 sound.peers.sizes found.1 in
+    let most = length-apart (v found.0.ends).size_from (v found.0.ends).out places.each.apart in
+    let all : count_by (is_of found.0.number) (slots_of r q) + count_by (is_of found.0.number) (lent_slots r) + 0 ≡ length (v found.0.ends).out = places.each.all in
+    subst (λ (n : ℕ). count_by (is_of n) (slots_of r q) + count_by (is_of n) (lent_slots r) ≤ 256) found.2 (omega (arith, all, most, sized.fits))

@@ -19,6 +19,7 @@ use Rattle.board_model.specs.Change.{buffer_used, changed, changed_all, oldest_g
 use Rattle.board_model.specs.Choice.{oldest}
 use Rattle.board_model.specs.DomainCall.{DomainCall, scalar_at}
 use Rattle.board_model.specs.Journal.{tells}
+use Rattle.board_model.specs.Labels.{success_packet}
 use Rattle.board_model.specs.Lists as lists
 use Rattle.board_model.specs.State as state
 use Rattle.board_model.specs.State.{ChannelEnd, DomainState, Item, address_at, live_at, place_at, queue_at, queue_in}
@@ -28,7 +29,7 @@ use Rattle.scalar_channel.specs.Scalar.{scalar_of}
 use Rattle.domain_core.specs.LaneSeen.{LaneSeen}
 use Rattle.domain_core.specs.declared.peer.Peer.{Peer}
 use Rattle.domain_core.specs.AllMoved.{moves_at}
-use Rattle.domain_core.specs.Calls.{success_ends}
+use Rattle.domain_core.specs.Calls.{success_ends, success_releases}
 use Rattle.domain_core.specs.CallSteps.{Means, call_steps, if_some, oldest_slot, putting_all}
 use Rattle.domain_core.specs.InBook.{endpoints_in, item_at, item_in}
 use Rattle.domain_core.specs.Parts.{Parts, Sound, plain, state_of}
@@ -58,8 +59,8 @@ module _ (p : Parts) (sound : Sound p) (at : Local) (i : ℕ) (there : place_at 
   data-puts posts = ap (map put_of) (posts ∙ posts-are (state_of p) at a c address has letter)
 
   pub data-means : success_puts (state_of p) at.node call ≡ (c.peer, frame) ∷ [] → call_steps p at.node call None ≡ putting_all (success_puts (state_of p) at.node call)
-      → success_changes (state_of p) at.node call ≡ at_end (live_at (state_of p) at) (λ e d. buffer_used d.peer ∷ []) → success_returned (state_of p) at.node call ≡ [] → success_ends call ≡ None → Means p at.node call None
-  data-means puts steps changes back ends =
+      → success_changes (state_of p) at.node call ≡ at_end (live_at (state_of p) at) (λ e d. buffer_used d.peer ∷ []) → success_returned (state_of p) at.node call ≡ [] → success_ends call ≡ None → success_releases call ≡ None → success_packet (state_of p) call ≡ None → Means p at.node call None
+  data-means puts steps changes back ends releases lends =
       let is = steps ∙ ap putting_all puts in
       record {
         state = ap (λ (cs : List Step). state_of (done_all cs p)) is ∙ used-is p sound c.peer frame j peer ∙ ap (changed_all (state_of p)) (sym (changes ∙ end-changes p sound at i there c has a address j peer (λ e d. buffer_used d.peer ∷ [])));
@@ -69,6 +70,9 @@ module _ (p : Parts) (sound : Sound p) (at : Local) (i : ℕ) (there : place_at 
         stays = subst (λ (cs : List Step). KeepsBut [] p.book (done_all cs p).book) (sym is) (keeps-but_none p.book);
         ids = ap (λ (cs : List Step). ids_in (done_all cs p).requests) is ∙ sym (append-nil (ids_in p.requests)) ∙ ap (λ (o : Option ℕ). lists.without o (ids_in p.requests) ++ []) (sym ends);
         fresh = tt;
+        lent = None;
+        packets = ap (λ (cs : List Step). (done_all cs p).records.lent) is ∙ sym (append-nil p.records.lent) ∙ ap (λ (o : Option ℕ). lists.without o p.records.lent ++ []) (sym releases);
+        lends = sym lends;
       }
 
 -- ---- the oldest item at an endpoint
@@ -106,6 +110,9 @@ module _ (p : Parts) (sound : Sound p) (at : Local) (i : ℕ) (there : place_at 
           stays = subst (λ (cs : List Step). KeepsBut (s ∷ []) p.book (done_all cs p).book) (sym steps) (keeps-away p.book s);
           ids = ap (λ (cs : List Step). ids_in (done_all cs p).requests) steps ∙ sym (append-nil (ids_in p.requests));
           fresh = tt;
+          lent = None;
+          packets = ap (λ (cs : List Step). (done_all cs p).records.lent) steps ∙ sym (append-nil p.records.lent);
+          lends = refl;
         }
 
 -- where nothing waits

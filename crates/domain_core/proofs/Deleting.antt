@@ -95,8 +95,8 @@ module _ {L : Type 0} (v : L → LaneSeen) (b : Book) (r : Records) (q : Request
   pub oldest-more : HasMore s (slots_of left q) (slots_of r q)
   oldest-more = subst (λ (x : Slot). HasMore x (slots_of left q) (slots_of r q)) it.2 (out-more r q b left.endpoints it.0 one-less)
 
-  fewer : count_by (is_misplaced b) (all_waiting left.endpoints) ≤ count_by (is_misplaced b) (all_waiting r.endpoints)
-  fewer = out-fewer r q b left.endpoints it.0 one-less
+  pub oldest-fewer : count_by (is_misplaced b) (all_waiting left.endpoints) ≤ count_by (is_misplaced b) (all_waiting r.endpoints)
+  oldest-fewer = out-fewer r q b left.endpoints it.0 one-less
 
   stands : 0 < times_in s (slots_of r q)
   stands = omega (arith, times-here s (slots_of left q) (slots_of r q) oldest-more)
@@ -109,7 +109,7 @@ module _ {L : Type 0} (v : L → LaneSeen) (b : Book) (r : Records) (q : Request
 
   module _ (M : L → List LaneMove → L → Type 0) (ps' : List (Peer L)) (gives : GivesBack M v s ps ps') where
     pub oldest-sound : AreSound v (with_away b s) left q t ps'
-    oldest-sound = sound-given M v b r left q q t s ps ps' gives (oldest-same r i) oldest-more fewer sound.receives sound
+    oldest-sound = sound-given M v b r left q q t s ps ps' gives (oldest-same r i) refl oldest-more oldest-fewer sound.receives sound
 
 -- ---- and then it is gone, with the receives that wait there
 
@@ -127,8 +127,8 @@ gone-sound {L} v b r q t t' ps i at none sound tied =
     let handed = handed-all (who at) how q.standing tt in
     record {
       peers = sound.peers;
-      places = all-weaken (InPlacesAt v b r q) (InPlacesAt v b r' q') (λ p places. same-held r r' q q' b p.number (out_at v p) waits handed places) ps sound.places;
-      total = ap (λ (ws : List Waiting). length (slots ws ++ handed_slots q'.standing)) waits ∙ ap (λ (hs : List Slot). length (slots (all_waiting r.endpoints) ++ hs)) handed ∙ sound.total;
+      places = all-weaken (InPlacesAt v b r q) (InPlacesAt v b r' q') (λ p places. same-held r r' q q' b p.number (out_at v p) refl waits handed places) ps sound.places;
+      total = ap (λ (ws : List Waiting). length (slots ws ++ handed_slots q'.standing) + length r.lent) waits ∙ ap (λ (hs : List Slot). length (slots (all_waiting r.endpoints) ++ hs) + length r.lent) handed ∙ sound.total;
       room = sound.room;
       receives = receives-all q (who at) how tt sound.receives;
       tied = tied;

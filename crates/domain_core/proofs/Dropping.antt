@@ -62,14 +62,15 @@ same-address (suc i) (e ∷ es) = same-address i es
 -- buffers that are given back one after the other
 keeps-then : (s : Slot) (ss : List Slot) (a b c : Book) → KeepsBut (s ∷ []) a b → KeepsBut ss b c → KeepsBut (s ∷ ss) a c
 keeps-then s ss a b c first then t is other =
-    let same = first t is (λ among. other (Contains-append_left (s ∷ []) ss t among)) in
-    then t (ap (λ (o : Option Kept). is_some o) same ∙ is) (λ among. other (Contains-append_right (s ∷ []) ss t among)) ∙ same
+    let one = first t is (λ among. other (Contains-append_left (s ∷ []) ss t among)) in
+    let rest = then t one.held (λ among. other (Contains-append_right (s ∷ []) ss t among)) in
+    record { held = rest.held; item = rest.item ∙ one.item }
 
 pub one-dropped : (p : Parts) (sound : Sound p) (i : ℕ) (s : Slot) → Some s ≡ option_map (λ (w : Waiting). w.slot) (oldest (waiting_in (slice_get p.records.endpoints i))) → state_of (done (oldest_dropped i s) p) ≡ record (state_of p) { endpoints = changed_at without_first i (state_of p).endpoints }
 one-dropped p sound i s first =
     let p1 = done (oldest_dropped i s) p in
     let gives = gives-seen s p.peers sound.peers.rising (oldest_dropped-out p sound i s first) in
-    given-state Any (λ l. tt) plain p.book p.records p1.records p.requests p.requests p.table s p.peers p1.peers gives (oldest-more plain p.book p.records p.requests p.table p.peers i s sound first) sound.places refl refl
+    given-state Any (λ l. tt) plain p.book p.records p1.records p.requests p.requests p.table s p.peers p1.peers gives (oldest-more plain p.book p.records p.requests p.table p.peers i s sound first) sound.places refl refl refl
     ∙ ap (λ (es : List state.Endpoint). record (state_of p) { endpoints = es }) (endpoints-oldest p.book p.records.endpoints i)
 
 -- ---- all are dropped
@@ -86,9 +87,10 @@ pub record IsLeft (p p' : Parts) (i : ℕ) (ss : List Slot) : Type 0 where
   pub address : option_map (λ (e : Endpoint). e.address) (slice_get p'.records.endpoints i) ≡ option_map (λ (e : Endpoint). e.address) (slice_get p.records.endpoints i)
   pub stays : KeepsBut ss p.book p'.book
   pub requests : p'.requests ≡ p.requests
+  pub lent : p'.records.lent ≡ p.records.lent
 
 pub all-left : (p : Parts) → Sound p → (i : ℕ) (ss : List Slot) → slots_at p.records i ≡ ss → IsLeft p (done_all (drops i ss) p) i ss
-all-left p sound i [] is = record { sound = sound; none = is; dropped = λ f same. refl; others = refl; left = refl; address = refl; stays = keeps-but_none p.book; requests = refl }
+all-left p sound i [] is = record { sound = sound; none = is; dropped = λ f same. refl; others = refl; left = refl; address = refl; stays = keeps-but_none p.book; requests = refl; lent = refl }
 all-left p sound i (s ∷ ss) is =
     let first = first-there p i s ss is in
     let p1 = done (oldest_dropped i s) p in
@@ -104,6 +106,7 @@ all-left p sound i (s ∷ ss) is =
       address = rest.address ∙ same-address i p.records.endpoints;
       stays = keeps-then s ss p.book p1.book (done_all (drops i ss) p1).book (keeps-away p.book s) rest.stays;
       requests = rest.requests;
+      lent = rest.lent;
     }
   where
     tail-of : (s : Slot) (ss : List Slot) (p : Parts) (i : ℕ) (p1 : Parts) → slots_at p.records i ≡ s ∷ ss → slots_at p.records i ≡ s ∷ slots_at p1.records i → slots_at p1.records i ≡ ss
@@ -167,7 +170,7 @@ module _ (p : Parts) (sound : Sound p) (at : Local) (i : ℕ) (there : place_at 
       ∙ ap (λ (t : Table). state_in plain p'.book r q t p'.peers) (deleted-is plain p'.book p'.records p'.requests p'.table p'.peers at i all.sound there')
       ∙ ended-state plain p'.book p'.book p'.records p'.requests q p'.table p'.peers p'.peers all.sound.peers.rising all.sound.tied r at i new.0 new.1 new.2
       (endpoints-without p'.book i p'.records.endpoints ∙ ap (λ (o : Option ℕ). without o s'.endpoints) (sym there'))
-      (requests-ended p'.book EndpInvalid at p'.requests.standing) refl refl refl
+      (requests-ended p'.book EndpInvalid at p'.requests.standing) refl refl refl refl refl
       ∙ ap (without_endpoint s' at) (new-address ∙ sym old-address)
       ∙ ap (λ (x : DomainState). without_endpoint x at (unwrap_or (address_at (state_of p) at) 0)) all.others
       ∙ ap left_with (ap (λ (o : Option ℕ). without o s'.endpoints) there' ∙ all.left ∙ ap (λ (o : Option ℕ). without o (state_of p).endpoints) (sym there))
@@ -187,4 +190,7 @@ module _ (p : Parts) (sound : Sound p) (at : Local) (i : ℕ) (there : place_at 
     stays = subst (λ (x : Parts). KeepsBut ss p.book x.book) all-done all.stays;
     ids = ap (λ (x : Parts). ids_in x.requests) (sym all-done) ∙ ids-all (waiters.Receives at) (complete.Ended EndpInvalid) p'.requests.standing ∙ ap ids_in all.requests ∙ sym (append-nil (ids_in p.requests));
     fresh = tt;
+    lent = None;
+    packets = ap (λ (x : Parts). x.records.lent) (sym all-done) ∙ all.lent ∙ sym (append-nil p.records.lent);
+    lends = refl;
   }

@@ -61,6 +61,13 @@ effect-ids (settles place address c number how) q = ids-all (waiters.Connects nu
 effect-ids (ends place address c at) q = ids-all (waiters.Receives at) (complete.Ended ChanClosed) q.standing
 effect-ids other q = refl
 
+pub effect-lent : (e : Effect) (r : Records) → (records_left e r).lent ≡ r.lent
+effect-lent (accepts place address c r) rs = refl
+effect-lent (sets place address c) rs = refl
+effect-lent (settles place address c number how) rs = refl
+effect-lent (ends place address c at) rs = refl
+effect-lent other rs = refl
+
 -- where the endpoints stay, it is placed as before
 pub placed-same : (s s' : DomainState) → s'.endpoints ≡ s.endpoints → (e : Effect) → IsPlaced s e → IsPlaced s' e
 placed-same s s' same (accepts place address c r) is = ap (position (has_address_of address)) same ∙ is

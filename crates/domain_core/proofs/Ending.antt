@@ -1,4 +1,5 @@
 -- A request that is tested off or cancelled.
+use Rattle.mc_base.specs.declared.name.Local.{Local}
 use Rattle.std.proofs.Common.{◌≡◌, ℕ, cond, List, [], ◌∷◌, length, map, take, Option, Some, None, refl, sym, ap, ◌∙◌, subst, arith}
 use Rattle.std.specs.Prelude.{count_by, is_some, not, option_and_then, option_map, position, slice_get, Ok, Err}
 use Rattle.mc_base.specs.declared.refusal.Refusal.{Refusal}
@@ -13,7 +14,7 @@ use Rattle.board_model.specs.State.{DomainState, Request, request_at_place}
 use Rattle.board_model.specs.Answer.{refusal, result_by, result_of, unless_refused}
 use Rattle.board_model.specs.CallChanges.{held_by, lent_by, lent_by_test, message_held}
 use Rattle.board_model.proofs.ListsCounts.{count-cons}
-use Rattle.buffer_book.specs.Book.{Book, queued_at}
+use Rattle.buffer_book.specs.Book.{Book, kept_at}
 use Rattle.request_set.specs.declared.ask.Ask.{Ask}
 use Rattle.request_set.specs.declared.ask.Ask.TheVariants as ask
 use Rattle.request_set.specs.declared.ask.Complete.{Complete}
@@ -108,26 +109,36 @@ pub request-found : (o : Option Standing) (c : Option Complete) → option_map (
 request-found None c e = absurd cc
 request-found (Some r) c e = let same : r.complete ≡ c = cc in (r, refl, same)
 
-result-is : (b : Book) (a : Ask) (slot : Slot) (max : ℕ) → Receives a (Some (complete.Message slot max)) → result_by (asked_in a) (option_map (outcome_in b) (Some (complete.Message slot max))) ≡ brought (length (content_in (queued_at b slot))) (take max (content_in (queued_at b slot)))
-result-is b (ask.Message at most) slot max is = ap (λ (n : ℕ). brought (length (content_in (queued_at b slot))) (take n (content_in (queued_at b slot)))) (sym is)
+result-is : (b : Book) (a : Ask) (slot : Slot) (max : ℕ) → Receives a (Some (complete.Message slot max)) → result_by (asked_in a) (option_map (outcome_in b) (Some (complete.Message slot max))) ≡ brought (length (content_in (kept_at b slot))) (take max (content_in (kept_at b slot)))
+result-is b (ask.Message at most) slot max is = ap (λ (n : ℕ). brought (length (content_in (kept_at b slot))) (take n (content_in (kept_at b slot)))) (sym is)
 result-is b (ask.Lookup name) slot max is = absurd is
 result-is b (ask.Connect channel) slot max is = absurd is
 result-is b (ask.Packet at) slot max is = absurd is
 
--- no packet is requested, so that none is lent, and what is held is a message
-no-lend : (b : Book) (a : Ask) (o : Option Complete) → Receives a o → lent_by (asked_in a) (option_map (outcome_in b) o) ≡ []
-no-lend b (ask.Lookup name) o is = refl
-no-lend b (ask.Connect channel) o is = refl
-no-lend b (ask.Message at max) o is = refl
-no-lend b (ask.Packet at) None is = refl
-no-lend b (ask.Packet at) (Some how) is = absurd is
+-- where no packet is held, none is lent, and what is held is a message
+no-lend : (b : Book) (a : Ask) (o : Option Complete) → Receives a o → ((slot : Slot) → o ≡ Some (complete.Packet slot) → ⊥) → lent_by (asked_in a) (option_map (outcome_in b) o) ≡ []
+no-lend b (ask.Lookup name) o is other = refl
+no-lend b (ask.Connect channel) o is other = refl
+no-lend b (ask.Message at max) o is other = refl
+no-lend b (ask.Packet at) None is other = refl
+no-lend b (ask.Packet at) (Some (complete.Address address)) is other = absurd is
+no-lend b (ask.Packet at) (Some complete.Accepted) is other = absurd is
+no-lend b (ask.Packet at) (Some (complete.Rejected reason)) is other = absurd is
+no-lend b (ask.Packet at) (Some (complete.Message slot max)) is other = absurd is
+no-lend b (ask.Packet at) (Some (complete.Packet slot)) is other = absurd (other slot refl)
+no-lend b (ask.Packet at) (Some (complete.Ended word)) is other = refl
 
-held-item : (b : Book) (a : Ask) (o : Option Complete) → Receives a o → message_held (asked_in a) (option_map (outcome_in b) o) ≡ state.item_in (option_map (outcome_in b) o)
-held-item b (ask.Lookup name) o is = refl
-held-item b (ask.Connect channel) o is = refl
-held-item b (ask.Message at max) o is = refl
-held-item b (ask.Packet at) None is = refl
-held-item b (ask.Packet at) (Some how) is = absurd is
+held-item : (b : Book) (a : Ask) (o : Option Complete) → Receives a o → ((slot : Slot) → o ≡ Some (complete.Packet slot) → ⊥) → message_held (asked_in a) (option_map (outcome_in b) o) ≡ state.item_in (option_map (outcome_in b) o)
+held-item b (ask.Lookup name) o is other = refl
+held-item b (ask.Connect channel) o is other = refl
+held-item b (ask.Message at max) o is other = refl
+held-item b (ask.Packet at) None is other = refl
+held-item b (ask.Packet at) (Some (complete.Address address)) is other = absurd is
+held-item b (ask.Packet at) (Some complete.Accepted) is other = absurd is
+held-item b (ask.Packet at) (Some (complete.Rejected reason)) is other = absurd is
+held-item b (ask.Packet at) (Some (complete.Message slot max)) is other = absurd is
+held-item b (ask.Packet at) (Some (complete.Packet slot)) is other = absurd (other slot refl)
+held-item b (ask.Packet at) (Some (complete.Ended word)) is other = refl
 
 module _ (b : Book) (q : Requests) (s : DomainState) (stand : s.requests ≡ requests_in b q.standing) (id : RequestId) (receives : AreReceives q) (slot : Slot) (max : ℕ) (held : progress_of q id ≡ Some (Some (complete.Message slot max))) where
   abbrev how : Option Complete
@@ -136,8 +147,11 @@ module _ (b : Book) (q : Requests) (s : DomainState) (stand : s.requests ≡ req
   found : (r : Standing) × (request_of q id ≡ Some r) × (r.complete ≡ how)
   found = request-found (request_of q id) how held
 
+  no-packet : (x : Slot) → found.0.complete ≡ Some (complete.Packet x) → ⊥
+  no-packet x e = let both : Some (complete.Message slot max) ≡ Some (complete.Packet x) = sym found.2 ∙ e in cc
+
   -- what a test answers
-  pub tested-result : result_of (request_at_place s (place_of_id (ids_in q) id)) ≡ brought (length (content_in (queued_at b slot))) (take max (content_in (queued_at b slot)))
+  pub tested-result : result_of (request_at_place s (place_of_id (ids_in q) id)) ≡ brought (length (content_in (kept_at b slot))) (take max (content_in (kept_at b slot)))
   tested-result =
       let r = found.0 in
       let is : Receives r.ask how = subst (λ (o : Option Complete). Receives r.ask o) found.2 (found-receives (is_id id) r q.standing receives.each found.1) in
@@ -149,7 +163,7 @@ module _ (b : Book) (q : Requests) (s : DomainState) (stand : s.requests ≡ req
   pub tested-items : held_by (request_at_place s (place_of_id (ids_in q) id)) ≡ item_at b slot ∷ []
   tested-items =
       ap (λ (o : Option state.Request). held_by o) (request-at b q s stand id ∙ ap (option_map (request_in b)) found.1)
-      ∙ held-item b found.0.ask found.0.complete (found-receives (is_id id) found.0 q.standing receives.each found.1)
+      ∙ held-item b found.0.ask found.0.complete (found-receives (is_id id) found.0 q.standing receives.each found.1) no-packet
       ∙ ap (λ (o : Option Complete). state.item_in (option_map (outcome_in b) o)) found.2
 
   pub tested-fewer : HasMore slot (handed_slots (without_request q id).standing) (handed_slots q.standing)
@@ -162,7 +176,7 @@ module _ (b : Book) (q : Requests) (s : DomainState) (stand : s.requests ≡ req
   tested-lends =
       let r = found.0 in
       ap (λ (o : Option state.Request). lent_by_test o) (request-at b q s stand id ∙ ap (option_map (request_in b)) found.1)
-      ∙ no-lend b r.ask r.complete (found-receives (is_id id) r q.standing receives.each found.1)
+      ∙ no-lend b r.ask r.complete (found-receives (is_id id) r q.standing receives.each found.1) no-packet
 
 -- ---- what is left
 
@@ -195,25 +209,23 @@ test-complete None how e = absurd cc
 test-complete (Some None) how e = absurd cc
 test-complete (Some (Some c)) how e = cc
 
-no-slots : (a : Ask) (how : Complete) → Receives a (Some how) → ((slot : Slot) (max : ℕ) → how ≡ complete.Message slot max → ⊥) → slots_in (Some how) ≡ []
-no-slots a (complete.Address address) is other = refl
-no-slots a complete.Accepted is other = refl
-no-slots a (complete.Rejected reason) is other = refl
-no-slots a (complete.Message slot max) is other = absurd (other slot max refl)
-no-slots (ask.Lookup name) (complete.Packet slot) is other = absurd is
-no-slots (ask.Connect channel) (complete.Packet slot) is other = absurd is
-no-slots (ask.Message at max) (complete.Packet slot) is other = absurd is
-no-slots (ask.Packet at) (complete.Packet slot) is other = absurd is
-no-slots a (complete.Ended word) is other = refl
+no-slots : (how : Complete) → ((slot : Slot) (max : ℕ) → how ≡ complete.Message slot max → ⊥) → ((slot : Slot) → how ≡ complete.Packet slot → ⊥) → slots_in (Some how) ≡ []
+no-slots (complete.Address address) other packet = refl
+no-slots complete.Accepted other packet = refl
+no-slots (complete.Rejected reason) other packet = refl
+no-slots (complete.Message slot max) other packet = absurd (other slot max refl)
+no-slots (complete.Packet slot) other packet = absurd (packet slot refl)
+no-slots (complete.Ended word) other packet = refl
 
-module _ (b : Book) (q : Requests) (s : DomainState) (stand : s.requests ≡ requests_in b q.standing) (id : RequestId) (receives : AreReceives q) (how : Complete) (held : progress_of q id ≡ Some (Some how)) (other : (slot : Slot) (max : ℕ) → how ≡ complete.Message slot max → ⊥) where
+module _ (b : Book) (q : Requests) (s : DomainState) (stand : s.requests ≡ requests_in b q.standing) (id : RequestId) (receives : AreReceives q) (how : Complete) (held : progress_of q id ≡ Some (Some how)) (other : (slot : Slot) (max : ℕ) → how ≡ complete.Message slot max → ⊥) (packet : (slot : Slot) → how ≡ complete.Packet slot → ⊥) where
   there : (r : Standing) × (request_of q id ≡ Some r) × (r.complete ≡ Some how)
   there = request-found (request_of q id) (Some how) held
 
   pub quiet-slots : slots_in (Some how) ≡ []
-  quiet-slots =
-      let r = there.0 in
-      no-slots r.ask how (subst (λ (o : Option Complete). Receives r.ask o) there.2 (found-receives (is_id id) r q.standing receives.each there.1)) other
+  quiet-slots = no-slots how other packet
+
+  not-packet : (x : Slot) → there.0.complete ≡ Some (complete.Packet x) → ⊥
+  not-packet x e = let both : Some how ≡ Some (complete.Packet x) = sym there.2 ∙ e in packet x cc
 
   pub quiet-result : (told : PlainResult) → ((asked : state.Asked) → told ≡ result_by asked (Some (outcome_in b how))) → told ≡ result_of (request_at_place s (place_of_id (ids_in q) id))
   quiet-result told is =
@@ -225,7 +237,7 @@ module _ (b : Book) (q : Requests) (s : DomainState) (stand : s.requests ≡ req
   pub quiet-items : held_by (request_at_place s (place_of_id (ids_in q) id)) ≡ []
   quiet-items =
       ap (λ (o : Option state.Request). held_by o) (request-at b q s stand id ∙ ap (option_map (request_in b)) there.1)
-      ∙ held-item b there.0.ask there.0.complete (found-receives (is_id id) there.0 q.standing receives.each there.1)
+      ∙ held-item b there.0.ask there.0.complete (found-receives (is_id id) there.0 q.standing receives.each there.1) not-packet
       ∙ ap (λ (o : Option Complete). state.item_in (option_map (outcome_in b) o)) there.2
       ∙ item-in b (Some how)
       ∙ ap (map (item_at b)) quiet-slots
@@ -234,13 +246,51 @@ module _ (b : Book) (q : Requests) (s : DomainState) (stand : s.requests ≡ req
   quiet-lends =
       let r = there.0 in
       ap (λ (o : Option state.Request). lent_by_test o) (request-at b q s stand id ∙ ap (option_map (request_in b)) there.1)
-      ∙ no-lend b r.ask r.complete (found-receives (is_id id) r q.standing receives.each there.1)
+      ∙ no-lend b r.ask r.complete (found-receives (is_id id) r q.standing receives.each there.1) not-packet
 
   pub quiet-same : HaveSame (handed_slots q.standing) (handed_slots (without_request q id).standing)
   quiet-same test =
       let less = handed-less test id (Some how) q.standing receives.differ held in
       let none = ap (count_by test) quiet-slots in
       omega (arith, less, none)
+
+-- a packet is held
+pub held-packet : (o : Option (Option Complete)) (how : Complete) (slot : Slot) → set.tested o ≡ Ok how → how ≡ complete.Packet slot → o ≡ Some (Some (complete.Packet slot))
+held-packet o how slot e is = test-complete o how e ∙ ap (λ (c : Complete). Some (Some c)) is
+
+-- its request asked for one
+pub packet-ask : (a : Ask) (slot : Slot) → Receives a (Some (complete.Packet slot)) → (at : Local) × (a ≡ ask.Packet at)
+packet-ask (ask.Lookup name) slot is = absurd is
+packet-ask (ask.Connect channel) slot is = absurd is
+packet-ask (ask.Message at max) slot is = absurd is
+packet-ask (ask.Packet at) slot is = (at, refl)
+
+module _ (b : Book) (q : Requests) (s : DomainState) (stand : s.requests ≡ requests_in b q.standing) (id : RequestId) (receives : AreReceives q) (slot : Slot) (held : progress_of q id ≡ Some (Some (complete.Packet slot))) where
+  abbrev pub packet : Option Complete
+  packet = Some (complete.Packet slot)
+
+  pub asked : (r : Standing) × (request_of q id ≡ Some r) × (r.complete ≡ packet)
+  asked = request-found (request_of q id) packet held
+
+  abbrev pub by : (at : Local) × (asked.0.ask ≡ ask.Packet at)
+  by = packet-ask asked.0.ask slot (subst (λ (o : Option Complete). Receives asked.0.ask o) asked.2 (found-receives (is_id id) asked.0 q.standing receives.each asked.1))
+
+  -- the request as the state has it
+  abbrev pub request_for : Local → Request
+  request_for at = record { serial = asked.0.id.serial; asked = state.packet_at at; outcome = Some (state.has_item (item_at b slot)) }
+
+  pub packet-request : request_at_place s (place_of_id (ids_in q) id) ≡ Some (request_for by.0)
+  packet-request =
+      request-at b q s stand id
+      ∙ ap (option_map (request_in b)) asked.1
+      ∙ ap (λ (a : Ask). Some (record (request_in b asked.0) { asked = asked_in a })) by.1
+      ∙ ap (λ (o : Option Complete). Some (record { serial = asked.0.id.serial; asked = state.packet_at by.0; outcome = option_map (outcome_in b) o })) asked.2
+
+  pub packet-fewer : HasMore slot (handed_slots (without_request q id).standing) (handed_slots q.standing)
+  packet-fewer test =
+      let less = handed-less test id packet q.standing receives.differ held in
+      let one = count-cons test slot [] in
+      omega (arith, less, one)
 
 pub held-message : (o : Option (Option Complete)) (how : Complete) (slot : Slot) (max : ℕ) → set.tested o ≡ Ok how → how ≡ complete.Message slot max → o ≡ Some (Some (complete.Message slot max))
 held-message o how slot max e is = test-complete o how e ∙ ap (λ (c : Complete). Some (Some c)) is

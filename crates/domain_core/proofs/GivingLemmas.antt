@@ -1,17 +1,18 @@
 -- Buffers that a domain gives back to its peers: the moves at the ends, and what is kept of the peers, the slots and the places.
-use Rattle.std.proofs.Common.{◌≡◌, ℕ, zero, suc, ◌+◌, ◌<◌, ◌≤◌, Bool, true, false, cond, List, [], ◌∷◌, ◌++◌, length, map, Some, refl, sym, ap, ◌∙◌, subst, arith}
+use Rattle.std.proofs.Common.{◌≡◌, ℕ, zero, suc, ◌+◌, ◌<◌, ◌≤◌, Bool, true, false, cond, List, [], ◌∷◌, ◌++◌, length, map, Some, refl, sym, ap, ◌∙◌, subst, arith, length-append}
 use Rattle.std.specs.Prelude.{Contains, count_by, filter, find, is_some, position, slice_get, slice_set, ◌==◌}
 use Rattle.std.specs.List.{AllByRecursion}
 use Rattle.std.proofs.lemmas.Bool.{eqb-true}
-use Rattle.std.proofs.lemmas.List.{map-append}
+use Rattle.std.proofs.lemmas.List.{length-map, map-append}
 use Rattle.std.proofs.lemmas.List.Elements.{filter-append}
+use Rattle.mc_base.specs.declared.request.PacketId.{PacketId}
 use Rattle.mc_base.specs.declared.request.Slot.{Slot}
 use Rattle.board_model.specs.State as state
 use Rattle.board_model.specs.Lists.{changed_at}
-use Rattle.board_model.proofs.ListsCounts.{count-cons, position-tells, some_place}
+use Rattle.board_model.proofs.ListsCounts.{count-append, count-cons, position-tells, some_place}
 use Rattle.board_model.proofs.MessageLists.{some-position}
 use Rattle.lane_end.specs.ReceiveMoves.{Gave}
-use Rattle.buffer_book.specs.Book.{Book, IsQueued, with_away}
+use Rattle.buffer_book.specs.Book.{Book, IsQueued, slot_of, with_away}
 use Rattle.endpoint_table.specs.Table as endpoint_table
 use Rattle.domain_core.specs.LaneSeen.{LaneSeen}
 use Rattle.domain_core.specs.declared.peer.Peer.{Peer}
@@ -20,15 +21,15 @@ use Rattle.domain_core.specs.AllMoved.{AllMoved, buffers_of, call_moves, ends_of
 use Rattle.domain_core.specs.GivingBack.{GivesBack, IsOutAt}
 use Rattle.domain_core.specs.Peers.{peer_in, peers_in}
 use Rattle.domain_core.specs.declared.endpoints.Endpoint.{Endpoint}
-use Rattle.domain_core.specs.Records.{Records, all_waiting, with_best_taken, with_best_taken_at, with_oldest_taken, with_oldest_taken_at}
+use Rattle.domain_core.specs.Records.{Records, all_waiting, lent_slots, with_best_taken, with_best_taken_at, with_oldest_taken, with_oldest_taken_at}
 use Rattle.request_set.specs.Requests.{Requests}
 use Rattle.domain_core.specs.InRequests.{AreReceives}
-use Rattle.domain_core.specs.InPlaces.{AreInPlaces, is_misplaced, is_of, is_same, one_if, slots_of, times_in}
+use Rattle.domain_core.specs.InPlaces.{AreInPlaces, EachInPlace, IsLentAs, is_misplaced, is_of, is_same, one_if, slots_of, times_in}
 use Rattle.domain_core.specs.Sound.{AreRising, ArePeers, AreSound, IsSized, buffers_count, out_at, outs_count}
 use Rattle.domain_core.specs.Tied.{AreTied, linked_among, live_record}
 use Rattle.domain_core.proofs.Books.{same-slot}
-use Rattle.domain_core.proofs.Leaving.{left-beside, left-length, left-others}
-use Rattle.domain_core.proofs.Outs.{given-places, length-given, there-out, there-queued}
+use Rattle.domain_core.proofs.Leaving.{GivesUp, left-up}
+use Rattle.domain_core.proofs.Outs.{given-places, length-given, lent-out, there-out, there-queued}
 use Rattle.domain_core.proofs.Placed.{HasMore, HaveSame, other-slots}
 use Rattle.domain_core.proofs.Slots.{length-same}
 
@@ -202,23 +203,35 @@ found-named {L} (p ∷ ps) s some = go (p.number == s.peer) refl (λ left. found
         let none : one_if (is_of p.number s) ≡ 0 = ap one_if (turned-round p.number s.peer e) in
         later (omega (arith, some, none))
 
--- ---- what waits or was handed is out at its peer
+-- ---- what waits, was handed or is lent is out at its peer
+
+of_all-both : (ns : List ℕ) (ss ls : List Slot) → of_all ns (ss ++ ls) ≡ of_all ns ss + of_all ns ls
+of_all-both [] ss ls = refl
+of_all-both (n ∷ ns) ss ls = let rest = of_all-both ns ss ls in let here = count-append (is_of n) ss ls in omega (arith, rest, here)
 
 module _ {L : Type 0} (v : L → LaneSeen) (b : Book) (r : Records) (q : Requests) where
   -- a peer's lane has its places
   abbrev pub InPlacesAt : Peer L → Type 0
   InPlacesAt p = AreInPlaces p.number r q b (out_at v p)
 
-  counted : (ps : List (Peer L)) → AllByRecursion InPlacesAt ps → of_all (numbers_of ps) (slots_of r q) ≡ outs_count v ps
+  abbrev all_held : List Slot
+  all_held = slots_of r q ++ lent_slots r
+
+  counted : (ps : List (Peer L)) → AllByRecursion InPlacesAt ps → of_all (numbers_of ps) all_held ≡ outs_count v ps
   counted [] places = refl
   counted (p ∷ ps) places =
       let rest = counted ps places.1 in
-      let all : count_by (is_of p.number) (slots_of r q) + 0 ≡ length (v p.ends).out = places.0.each.all in
-      omega (arith, rest, all)
+      let all : count_by (is_of p.number) (slots_of r q) + count_by (is_of p.number) (lent_slots r) + 0 ≡ length (v p.ends).out = places.0.each.all in
+      let both = count-append (is_of p.number) (slots_of r q) (lent_slots r) in
+      omega (arith, rest, all, both)
 
-  module _ (ps : List (Peer L)) (rising : AreRising (numbers_of ps)) (places : AllByRecursion InPlacesAt ps) (total : length (slots_of r q) ≡ outs_count v ps) (s : Slot) (stands : 0 < times_in s (slots_of r q)) where
+  -- where a slot is held, so is its peer
+  module _ (ps : List (Peer L)) (rising : AreRising (numbers_of ps)) (places : AllByRecursion InPlacesAt ps) (total : length (slots_of r q) + length r.lent ≡ outs_count v ps) (s : Slot) (stands : 0 < times_in s all_held) where
     is-named : 0 < named (numbers_of ps) s
-    is-named = named-each (numbers_of ps) (slots_of r q) s rising (counted ps places ∙ sym total) stands
+    is-named =
+        let long = length-append (slots_of r q) (lent_slots r) in
+        let lent = length-map r.lent slot_of in
+        named-each (numbers_of ps) all_held s rising (counted ps places ∙ omega (arith, total, long, lent)) stands
 
     its-place : (i : ℕ) × (position (λ (p : Peer L). p.number == s.peer) ps ≡ Some i)
     its-place = some_place (position (λ (p : Peer L). p.number == s.peer) ps) (some-position (λ (p : Peer L). p.number == s.peer) ps ∙ found-named ps s is-named)
@@ -232,20 +245,39 @@ module _ {L : Type 0} (v : L → LaneSeen) (b : Book) (r : Records) (q : Request
     here : InPlacesAt its-peer.0
     here = All-at InPlacesAt ps its-place.0 its-peer.0 places its-peer.1
 
-    pub stands-queued : IsQueued b s
-    stands-queued = there-queued its-peer.0.number r q b (out_at v its-peer.0) s here stands
+    out-by : Contains (v its-peer.0.ends).out s.buffer → IsOutAt v s ps
+    out-by out = record {
+      place = its-place.0;
+      peer = its-peer.0;
+      first = its-place.1;
+      there = its-peer.1;
+      is = own;
+      out = out;
+    }
 
-    pub stands-out : IsOutAt v s ps
-    stands-out =
-        let p = its-peer.0 in
-        record {
-          place = its-place.0;
-          peer = p;
-          first = its-place.1;
-          there = its-peer.1;
-          is = own;
-          out = there-out p.number r q b (out_at v p) s (sym own) here stands;
-        }
+  module _ (ps : List (Peer L)) (rising : AreRising (numbers_of ps)) (places : AllByRecursion InPlacesAt ps) (total : length (slots_of r q) + length r.lent ≡ outs_count v ps) (s : Slot) where
+    -- it waits or was handed
+    module _ (stands : 0 < times_in s (slots_of r q)) where
+      among : 0 < times_in s all_held
+      among = let both = count-append (λ (t : Slot). is_same t s) (slots_of r q) (lent_slots r) in omega (arith, stands, both)
+
+      pub stands-queued : IsQueued b s
+      stands-queued = let p = its-peer ps rising places total s among in there-queued p.0.number r q b (out_at v p.0) s (here ps rising places total s among) stands
+
+      pub stands-out : IsOutAt v s ps
+      stands-out =
+          let p = its-peer ps rising places total s among in
+          out-by ps rising places total s among (there-out p.0.number r q b (out_at v p.0) s (sym (own ps rising places total s among)) (here ps rising places total s among) stands)
+
+    -- it is lent
+    module _ (lends : 0 < times_in s (lent_slots r)) where
+      among-lent : 0 < times_in s all_held
+      among-lent = let both = count-append (λ (t : Slot). is_same t s) (slots_of r q) (lent_slots r) in omega (arith, lends, both)
+
+      pub lends-out : IsOutAt v s ps
+      lends-out =
+          let p = its-peer ps rising places total s among-lent in
+          out-by ps rising places total s among-lent (lent-out p.0.number r q b (out_at v p.0) s (sym (own ps rising places total s among-lent)) (here ps rising places total s among-lent) lends)
 
 -- ---- the same endpoints, whatever waits there
 
@@ -282,17 +314,17 @@ same-tied r r' t ns same tied = record {
 
 -- ---- what the parts of a domain keep, while no buffer is given back
 
-All-each : {X : Type 0} (P Q : X → Type 0) → ((x : X) → P x → Q x) → (xs : List X) → AllByRecursion P xs → AllByRecursion Q xs
+pub All-each : {X : Type 0} (P Q : X → Type 0) → ((x : X) → P x → Q x) → (xs : List X) → AllByRecursion P xs → AllByRecursion Q xs
 All-each P Q then [] all = tt
 All-each P Q then (x ∷ xs) all = (then x all.0, All-each P Q then xs all.1)
 
 -- the same slots wait or were handed, in any order
 pub sound-moved : {L : Type 0} (v : L → LaneSeen) (b : Book) (r r' : Records) (q q' : Requests) (t : endpoint_table.Table) (ps : List (Peer L))
-    → SameEndpoints r r' → HaveSame (slots_of r q) (slots_of r' q') → count_by (is_misplaced b) (all_waiting r'.endpoints) ≤ count_by (is_misplaced b) (all_waiting r.endpoints) → AreReceives q' → AreSound v b r q t ps → AreSound v b r' q' t ps
-sound-moved {L} v b r r' q q' t ps same slots fewer receives sound = record {
+    → SameEndpoints r r' → r'.lent ≡ r.lent → HaveSame (slots_of r q) (slots_of r' q') → count_by (is_misplaced b) (all_waiting r'.endpoints) ≤ count_by (is_misplaced b) (all_waiting r.endpoints) → AreReceives q' → AreSound v b r q t ps → AreSound v b r' q' t ps
+sound-moved {L} v b r r' q q' t ps same lent slots fewer receives sound = record {
   peers = subst (λ (n : ℕ). ArePeers v n ps) (sym same.number) sound.peers;
-  places = All-each (InPlacesAt v b r q) (InPlacesAt v b r' q') (λ p places. record { each = other-slots p.number (out_at v p) (slots_of r q) (slots_of r' q') b [] slots places.each; priorities = let was = places.priorities in omega (arith, was, fewer) }) ps sound.places;
-  total = length-same (slots_of r q) (slots_of r' q') slots ∙ sound.total;
+  places = All-each (InPlacesAt v b r q) (InPlacesAt v b r' q') (λ p places. record { each = subst (λ (ids : List PacketId). EachInPlace p.number (out_at v p) (slots_of r' q') (map slot_of ids) b []) (sym lent) (other-slots (lent_slots r) p.number (out_at v p) (slots_of r q) (slots_of r' q') b [] slots places.each); priorities = let was = places.priorities in omega (arith, was, fewer); lent = subst (AllByRecursion (IsLentAs b)) (sym lent) places.lent }) ps sound.places;
+  total = let same_slots = length-same (slots_of r q) (slots_of r' q') slots in let same_lent = ap length lent in let total = sound.total in omega (arith, same_slots, same_lent, total);
   room = let room = sound.room in let same_room = same.room in omega (arith, room, same_room);
   receives = receives;
   tied = same-tied r r' t (numbers_of ps) same sound.tied;
@@ -302,7 +334,7 @@ sound-moved {L} v b r r' q q' t ps same slots fewer receives sound = record {
 -- ---- and where one is
 
 module _ {L : Type 0} (M : L → List LaneMove → L → Type 0) (v : L → LaneSeen) (b : Book) (r r' : Records) (q q' : Requests) (s : Slot) (ps ps' : List (Peer L)) (rising : AreRising (numbers_of ps)) (gives : GivesBack M v s ps ps')
-    (more : HasMore s (slots_of r' q') (slots_of r q)) (fewer : count_by (is_misplaced b) (all_waiting r'.endpoints) ≤ count_by (is_misplaced b) (all_waiting r.endpoints)) (places : AllByRecursion (InPlacesAt v b r q) ps) where
+    (up : GivesUp r r' q q' b s) (places : AllByRecursion (InPlacesAt v b r q) ps) where
   abbrev back : Peer L
   back = record gives.peer { ends = gives.ends }
 
@@ -312,21 +344,21 @@ module _ {L : Type 0} (M : L → List LaneMove → L → Type 0) (v : L → Lane
   own-back : InPlacesAt v (with_away b s) r' q' back
   own-back =
       let p = gives.peer in
-      given-places p.number r' q' (with_away b s) s.buffer (v p.ends).size_from (v gives.ends).size_from (v p.ends).out (v gives.ends).out (ap (λ (l : LaneSeen). l.size_from) gives.seen) (ap (λ (l : LaneSeen). l.out) gives.seen) (left-beside r r' q q' b s more fewer p.number (out_at v p) (sym gives.is) own_places)
+      given-places p.number r' q' (with_away b s) s.buffer (v p.ends).size_from (v gives.ends).size_from (v p.ends).out (v gives.ends).out (ap (λ (l : LaneSeen). l.size_from) gives.seen) (ap (λ (l : LaneSeen). l.out) gives.seen) (up.beside p.number (out_at v p) (sym gives.is) own_places)
 
   others : (xs : List (Peer L)) → AllByRecursion (λ m. s.peer < m) (numbers_of xs) → AllByRecursion (InPlacesAt v b r q) xs → AllByRecursion (InPlacesAt v (with_away b s) r' q') xs
   others [] above all = tt
-  others (p ∷ xs) above all = (left-others r r' q q' b s more fewer p.number (out_at v p) (λ same. let lt = above.0 in absurd (omega (arith, lt, same))) all.0, others xs above.1 all.1)
+  others (p ∷ xs) above all = (up.others p.number (out_at v p) (λ same. let lt = above.0 in absurd (omega (arith, lt, same))) all.0, others xs above.1 all.1)
 
   each-back : (xs : List (Peer L)) (i : ℕ) → AreRising (numbers_of xs) → slice_get xs i ≡ Some gives.peer → AllByRecursion (InPlacesAt v b r q) xs → AllByRecursion (InPlacesAt v (with_away b s) r' q') (slice_set xs i back)
-  each-back [] i up there all = absurd cc
-  each-back (p ∷ xs) zero up there all =
+  each-back [] i grows there all = absurd cc
+  each-back (p ∷ xs) zero grows there all =
       let is : gives.peer ≡ p = cc in
       let number : p.number ≡ s.peer = ap (λ (x : Peer L). x.number) (sym is) ∙ gives.is in
-      (own-back, others xs (subst (λ (n : ℕ). AllByRecursion (λ m. n < m) (numbers_of xs)) number up.0) all.1)
-  each-back (p ∷ xs) (suc i) up there all =
-      let below : p.number < s.peer = subst (λ (n : ℕ). p.number < n) gives.is (number-there (λ m. p.number < m) xs i gives.peer up.0 there) in
-      (left-others r r' q q' b s more fewer p.number (out_at v p) (λ same. absurd (omega (arith, below, same))) all.0, each-back xs i up.1 there all.1)
+      (own-back, others xs (subst (λ (n : ℕ). AllByRecursion (λ m. n < m) (numbers_of xs)) number grows.0) all.1)
+  each-back (p ∷ xs) (suc i) grows there all =
+      let below : p.number < s.peer = subst (λ (n : ℕ). p.number < n) gives.is (number-there (λ m. p.number < m) xs i gives.peer grows.0 there) in
+      (up.others p.number (out_at v p) (λ same. absurd (omega (arith, below, same))) all.0, each-back xs i grows.1 there all.1)
 
   pub given-in_place : AllByRecursion (InPlacesAt v (with_away b s) r' q') ps'
   given-in_place = subst (AllByRecursion (InPlacesAt v (with_away b s) r' q')) (sym gives.after) (each-back ps gives.place rising gives.there places)
@@ -335,16 +367,16 @@ module _ {L : Type 0} (M : L → List LaneMove → L → Type 0) (v : L → Lane
   one-less =
       let p = gives.peer in
       ap (λ (ns : List ℕ). length ns + 1) (ap (λ (l : LaneSeen). l.out) gives.seen)
-      ∙ length-given p.number r' q' (with_away b s) (out_at v p) s.buffer (left-beside r r' q q' b s more fewer p.number (out_at v p) (sym gives.is) own_places)
+      ∙ length-given p.number r' q' (with_away b s) (out_at v p) s.buffer (up.beside p.number (out_at v p) (sym gives.is) own_places)
 
   outs-back : (xs : List (Peer L)) (i : ℕ) → slice_get xs i ≡ Some gives.peer → outs_count v (slice_set xs i back) + 1 ≡ outs_count v xs
   outs-back [] i there = absurd cc
   outs-back (p ∷ xs) zero there = let is : gives.peer ≡ p = cc in let same : length (v gives.peer.ends).out ≡ length (v p.ends).out = ap (λ (x : Peer L). length (v x.ends).out) is in let less = one-less in omega (arith, less, same)
   outs-back (p ∷ xs) (suc i) there = let rest = outs-back xs i there in omega (arith, rest)
 
-  pub given-total : length (slots_of r q) ≡ outs_count v ps → length (slots_of r' q') ≡ outs_count v ps'
+  pub given-total : length (slots_of r q) + length r.lent ≡ outs_count v ps → length (slots_of r' q') + length r'.lent ≡ outs_count v ps'
   given-total total =
-      let less = left-length r r' q q' b s more in
+      let less = up.one_fewer in
       let outs = outs-back ps gives.place gives.there in
       let after = ap (outs_count v) gives.after in
       omega (arith, total, less, outs, after)
@@ -363,10 +395,10 @@ module _ {L : Type 0} (M : L → List LaneMove → L → Type 0) (v : L → Lane
       let now : IsSized v back = record { same = (ap (λ (l : LaneSeen). l.size_to) gives.seen) ∙ was.same ∙ sym (ap (λ (l : LaneSeen). l.size_from) gives.seen); fits = let fits = was.fits in let same = (ap (λ (l : LaneSeen). l.size_from) gives.seen) in omega (arith, fits, same) } in
       subst (AllByRecursion (IsSized v)) (sym gives.after) (All-exchanged (IsSized v) ps gives.place back sizes now)
 
--- a slot left the queues or the requests, was withdrawn from the book and was given back
-pub sound-given : {L : Type 0} (M : L → List LaneMove → L → Type 0) (v : L → LaneSeen) (b : Book) (r r' : Records) (q q' : Requests) (t : endpoint_table.Table) (s : Slot) (ps ps' : List (Peer L)) → GivesBack M v s ps ps' → SameEndpoints r r'
-    → HasMore s (slots_of r' q') (slots_of r q) → count_by (is_misplaced b) (all_waiting r'.endpoints) ≤ count_by (is_misplaced b) (all_waiting r.endpoints) → AreReceives q' → AreSound v b r q t ps → AreSound v (with_away b s) r' q' t ps'
-sound-given {L} M v b r r' q q' t s ps ps' gives same more fewer receives sound =
+-- a slot was given up, and its buffer was given back
+pub sound-gave : {L : Type 0} (M : L → List LaneMove → L → Type 0) (v : L → LaneSeen) (b : Book) (r r' : Records) (q q' : Requests) (t : endpoint_table.Table) (s : Slot) (ps ps' : List (Peer L)) → GivesBack M v s ps ps' → SameEndpoints r r'
+    → GivesUp r r' q q' b s → AreReceives q' → AreSound v b r q t ps → AreSound v (with_away b s) r' q' t ps'
+sound-gave {L} M v b r r' q q' t s ps ps' gives same up receives sound =
     let numbers = given-numbers M v s ps ps' gives in
     let rising = sound.peers.rising in
     record {
@@ -374,12 +406,18 @@ sound-given {L} M v b r r' q q' t s ps ps' gives same more fewer receives sound 
         rising = subst AreRising (sym numbers) rising;
         few = subst (AllByRecursion (λ n. n ≤ 7)) (sym numbers) sound.peers.few;
         own = subst (λ (n : ℕ). Contains (numbers_of ps') n) (sym same.number) (subst (λ (ns : List ℕ). Contains ns r.number) (sym numbers) sound.peers.own);
-        sizes = given-sizes M v b r r' q q' s ps ps' rising gives more fewer sound.places sound.peers.sizes;
+        sizes = given-sizes M v b r r' q q' s ps ps' rising gives up sound.places sound.peers.sizes;
       };
-      places = given-in_place M v b r r' q q' s ps ps' rising gives more fewer sound.places;
-      total = given-total M v b r r' q q' s ps ps' rising gives more fewer sound.places sound.total;
-      room = let room = sound.room in let same_room = same.room in let buffers = given-buffers M v b r r' q q' s ps ps' rising gives more fewer sound.places in omega (arith, room, same_room, buffers);
+      places = given-in_place M v b r r' q q' s ps ps' rising gives up sound.places;
+      total = given-total M v b r r' q q' s ps ps' rising gives up sound.places sound.total;
+      room = let room = sound.room in let same_room = same.room in let buffers = given-buffers M v b r r' q q' s ps ps' rising gives up sound.places in omega (arith, room, same_room, buffers);
       receives = receives;
       tied = subst (AreTied r' t) (sym numbers) (same-tied r r' t (numbers_of ps) same sound.tied);
       given = let given = sound.given in let same_given = same.given in omega (arith, given, same_given);
     }
+
+-- one left the queues or the requests
+pub sound-given : {L : Type 0} (M : L → List LaneMove → L → Type 0) (v : L → LaneSeen) (b : Book) (r r' : Records) (q q' : Requests) (t : endpoint_table.Table) (s : Slot) (ps ps' : List (Peer L)) → GivesBack M v s ps ps' → SameEndpoints r r'
+    → r'.lent ≡ r.lent → HasMore s (slots_of r' q') (slots_of r q) → count_by (is_misplaced b) (all_waiting r'.endpoints) ≤ count_by (is_misplaced b) (all_waiting r.endpoints) → AreReceives q' → AreSound v b r q t ps → AreSound v (with_away b s) r' q' t ps'
+sound-given M v b r r' q q' t s ps ps' gives same lent more fewer receives sound =
+    sound-gave M v b r r' q q' t s ps ps' gives same (left-up r r' q q' b s more lent fewer) receives sound

@@ -3,21 +3,22 @@ use Rattle.std.proofs.Common.{◌≡◌, ℕ, zero, suc, ◌≤◌, false, List,
 use Rattle.std.specs.Prelude.{count_by, option_map, slice_get}
 use Rattle.std.specs.List.{flat_map}
 use Rattle.std.proofs.lemmas.List.{map-append}
+use Rattle.mc_base.specs.declared.request.PacketId.{PacketId}
 use Rattle.mc_base.specs.declared.request.RequestId.{RequestId}
 use Rattle.mc_base.specs.declared.request.Slot.{Slot}
 use Rattle.board_model.specs.State as state
-use Rattle.board_model.specs.State.{Item, Request, is_from}
+use Rattle.board_model.specs.State.{Item, LentPacket, Request, is_from}
 use Rattle.board_model.proofs.ListsCounts.{count-append, count-cons}
 use Rattle.board_model.proofs.MessageVisitLines.{count-map}
-use Rattle.buffer_book.specs.Book.{Book, Kept, with_place}
+use Rattle.buffer_book.specs.Book.{Book, Kept, slot_of, with_place}
 use Rattle.request_set.specs.declared.ask.Ask.{Ask}
 use Rattle.request_set.specs.declared.ask.Complete.{Complete}
 use Rattle.request_set.specs.declared.ask.Complete.TheVariants as complete
 use Rattle.request_set.specs.Requests.{Standing}
-use Rattle.domain_core.specs.InBook.{channel_in, content_in, item_at, outcome_in, priority_in, request_in, requests_in, source_in}
+use Rattle.domain_core.specs.InBook.{channel_in, content_in, item_at, outcome_in, packet_in, packets_in, priority_in, request_in, requests_in, source_in}
 use Rattle.domain_core.specs.InRequests.{handed_slots, slots_in}
 use Rattle.domain_core.specs.InPlaces.{is_of, is_same, times_in}
-use Rattle.domain_core.proofs.Books.{differ-back, queued-there}
+use Rattle.domain_core.proofs.Books.{differ-back, kept-there}
 use Rattle.domain_core.proofs.Placed.{no-one}
 
 -- ---- what was handed in other buffers than the one that changed stays
@@ -26,7 +27,7 @@ one-slot : (s t : Slot) → times_in s (t ∷ []) ≡ 0 → is_same t s ≡ fals
 one-slot s t none = no-one (is_same t s) (let sum = count-cons (λ (x : Slot). is_same x s) t [] in omega (arith, sum, none))
 
 item-stays : (b : Book) (s t : Slot) (k : Option Kept) → times_in s (t ∷ []) ≡ 0 → item_at (with_place b s k) t ≡ item_at b t
-item-stays b s t k none = ap (λ (o : Option Kept). record { peer = t.peer; source = source_in o; priority = priority_in o; channel = channel_in o; content = content_in o; frames = [] }) (queued-there b s k t (differ-back t s (one-slot s t none)))
+item-stays b s t k none = ap (λ (o : Option Kept). record { peer = t.peer; source = source_in o; priority = priority_in o; channel = channel_in o; content = content_in o; frames = [] }) (kept-there b s k t (differ-back t s (one-slot s t none)))
 
 outcome-stays : (b : Book) (s : Slot) (k : Option Kept) (o : Option Complete) → times_in s (slots_in o) ≡ 0 → option_map (outcome_in (with_place b s k)) o ≡ option_map (outcome_in b) o
 outcome-stays b s k None none = refl
@@ -45,6 +46,17 @@ requests-stay b s k (r ∷ rs) none =
     let rest : times_in s (handed_slots rs) ≡ 0 = omega (arith, sum, none) in
     ap (λ (o : Option state.Outcome). record (request_in b r) { outcome = o } ∷ requests_in (with_place b s k) rs) (outcome-stays b s k r.complete here)
     ∙ ap (λ (xs : List Request). request_in b r ∷ xs) (requests-stay b s k rs rest)
+
+-- and so does what is lent in others
+pub packets-stay : (b : Book) (s : Slot) (k : Option Kept) (ids : List PacketId) → times_in s (map slot_of ids) ≡ 0 → packets_in (with_place b s k) ids ≡ packets_in b ids
+packets-stay b s k [] none = refl
+packets-stay b s k (i ∷ ids) none =
+    let sum = count-cons (λ (x : Slot). is_same x s) (slot_of i) (map slot_of ids) in
+    let one = count-cons (λ (x : Slot). is_same x s) (slot_of i) [] in
+    let here : times_in s (slot_of i ∷ []) ≡ 0 = omega (arith, sum, one, none) in
+    let rest : times_in s (map slot_of ids) ≡ 0 = omega (arith, sum, none) in
+    ap (λ (x : Item). record { serial = i.serial; item = x } ∷ packets_in (with_place b s k) ids) (item-stays b s (slot_of i) k here)
+    ∙ ap (λ (xs : List LentPacket). packet_in b i ∷ xs) (packets-stay b s k ids rest)
 
 -- ---- the items that they hold
 

@@ -1,5 +1,5 @@
 -- The verdict on a letter, and on the frame that says it.
-use Rattle.request_set.specs.declared.ask.Ask.TheVariants.{Message}
+use Rattle.request_set.specs.declared.ask.Ask.{Ask}
 use Rattle.std.proofs.Common.{◌≡◌, ℕ, zero, suc, ◌<◌, Bool, true, false, cond, List, [], ◌∷◌, ◌++◌, length, Option, Some, None, refl, sym, ap, ◌∙◌, subst, arith}
 use Rattle.std.specs.List.{list_any}
 use Rattle.std.specs.Prelude.{◌||◌, ◌==◌, find, is_some, nat_le, not, option_and_then, option_map, position, slice_get}
@@ -25,7 +25,7 @@ use Rattle.board_model.proofs.MessageLists.{get-position, some-position}
 use Rattle.buffer_book.specs.Book.{Book}
 use Rattle.packet_channel.specs.End.{end_of}
 use Rattle.packet_channel.specs.declared.channel.Channel.{Channel}
-use Rattle.request_set.specs.Requests.{IsPending, Standing, oldest_waiting, request_of, waits_at}
+use Rattle.request_set.specs.Requests.{IsPending, Standing, oldest_waiting, receives_at, request_of, waits_at}
 use Rattle.domain_core.specs.declared.dealing.Verdict.{Verdict}
 use Rattle.domain_core.specs.declared.dealing.Verdict.TheVariants as verdict
 use Rattle.domain_core.specs.declared.endpoints.Endpoint.{Endpoint}
@@ -133,8 +133,8 @@ module _ (b : Book) (d : Desk) (s : DomainState) (peer : ℕ) (shows : Shows s p
         within = within_there;
       }
 
-      brought-handed : (id : RequestId) (max : ℕ) → AreReceives d.requests → IsPending d.requests id → Some id ≡ oldest_waiting d.requests e.local → ((l : Local) × (option_map (λ r. r.ask) (request_of d.requests id) ≡ Some (Message l max))) → IsHanded s d.requests its item id max
-      brought-handed id max receives pending oldest asks =
+      brought-handed : (id : RequestId) (a : Ask) → AreReceives d.requests → IsPending d.requests id → Some id ≡ oldest_waiting d.requests e.local → option_map (λ r. r.ask) (request_of d.requests id) ≡ Some a → receives_at e.local a ≡ true → IsHanded s d.requests its item id a
+      brought-handed id a receives pending oldest asks receives_it =
           let same = found-place (waits_at e.local) id d.requests.standing receives.differ (sym oldest) in
           record {
             destination = dst;
@@ -145,6 +145,7 @@ module _ (b : Book) (d : Desk) (s : DomainState) (peer : ℕ) (shows : Shows s p
             waits = waits_so ∙ same;
             pending = pending;
             asks = asks;
+            receives = receives_it;
           }
 
       -- as the code brings it
@@ -161,11 +162,11 @@ module _ (b : Book) (d : Desk) (s : DomainState) (peer : ℕ) (shows : Shows s p
                 (subst (λ (x : Item). IsQueued s (letter_row s peer source dst l) x at) item_is (subst (λ (x : Row). IsQueued s x item at) row_is (brought-queued (subst (λ (x : Local). None ≡ oldest_waiting d.requests x) (sym (named_so waits.at waits.there)) waits.none)))),
             refl,
           )
-      brought-judged source l row_is item_is lawful receives priority size prior long (verdict.Handed id max n) brings =
+      brought-judged source l row_is item_is lawful receives priority size prior long (verdict.Handed id a n) brings =
           let waits = brings.1 in (
             lawful,
             brings.0 ∙ long ∙ ap (λ (x : Item). length x.content) item_is,
-            subst (λ (x : Item). IsHanded s d.requests (letter_row s peer source dst l) x id max) item_is (subst (λ (x : Row). IsHanded s d.requests x item id max) row_is (brought-handed id max receives waits.pending (subst (λ (x : Local). Some id ≡ oldest_waiting d.requests x) (sym (named_so waits.at waits.there)) waits.oldest) waits.asks)),
+            subst (λ (x : Item). IsHanded s d.requests (letter_row s peer source dst l) x id a) item_is (subst (λ (x : Row). IsHanded s d.requests x item id a) row_is (brought-handed id a receives waits.pending (subst (λ (x : Local). Some id ≡ oldest_waiting d.requests x) (sym (named_so waits.at waits.there)) waits.oldest) waits.asks (subst (λ (x : Local). receives_at x a ≡ true) (sym (named_so waits.at waits.there)) waits.receives))),
             refl,
           )
       brought-judged source l row_is item_is lawful receives priority size prior long (verdict.Returned f) brings = absurd brings

@@ -3,6 +3,10 @@ pub mod Placed
 pub mod Slots
 pub mod Storing
 pub mod Leaving
+pub mod Lending
+pub mod LendingMeaning
+pub mod Releasing
+pub mod PacketWords
 pub mod Outs
 pub mod LinkPlaces
 pub mod LinksIn

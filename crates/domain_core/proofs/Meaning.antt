@@ -11,7 +11,8 @@ use Rattle.board_model.specs.Answer.{address_of}
 use Rattle.board_model.specs.Choice.{best}
 use Rattle.board_model.specs.DomainCall.{available_at, cancel_of, create_at, lookup_of, receive_at, request_at, send_from, test_of}
 use Rattle.domain_core.specs.PlacedCalls.{best_queued, with_request}
-use Rattle.board_model.specs.CallChanges.{held_by, lent_by_test}
+use Rattle.board_model.specs.CallChanges.{held_by, lent_by, lent_by_test}
+use Rattle.board_model.specs.Labels.{packet_brought, packet_tested}
 use Rattle.board_model.specs.Change.{Change, changed, changed_all, request_gone}
 use Rattle.board_model.specs.Lists.{without}
 use Rattle.board_model.specs.State as state
@@ -30,7 +31,7 @@ use Rattle.domain_core.specs.declared.peer.Peer.{Peer}
 use Rattle.domain_core.specs.declared.requests.Waiters.TheVariants as waiters
 use Rattle.domain_core.specs.AllMoved.{giving}
 use Rattle.domain_core.specs.Calls.{IsFresh}
-use Rattle.domain_core.specs.CallSteps.{Means, best_slot, call_steps, ending, if_some, receiving, slots_held}
+use Rattle.domain_core.specs.CallSteps.{Means, best_slot, call_steps, ending, if_some, receiving, how_held}
 use Rattle.domain_core.specs.DomainView.{place_of_id}
 use Rattle.domain_core.specs.GivingBack.{IsOutAt}
 use Rattle.domain_core.specs.InBook.{endpoints_in, item_at, item_in, outcome_in, request_in}
@@ -77,9 +78,12 @@ send-means p sound node port to priority bytes i there = record {
   slots = [];
   returned = refl;
   moves = λ n. one-put to.domain _ (to.domain == n);
-  stays = λ slot queued other. refl;
+  stays = λ slot held other. record { held = held; item = refl };
   ids = sym (append-nil (ids_in p.requests));
   fresh = tt;
+  lent = None;
+  packets = sym (append-nil p.records.lent);
+  lends = refl;
 }
 
 -- ---- one is received
@@ -96,6 +100,9 @@ module _ (p : Parts) (sound : Sound p) (i : ℕ) (w : Waiting) (is : best (λ (x
         stays = subst (λ (cs : List Step). KeepsBut (w.slot ∷ []) p.book (done_all cs p).book) steps (keeps-away p.book w.slot);
         ids = ap (λ (cs : List Step). ids_in (done_all cs p).requests) (sym steps) ∙ sym (append-nil (ids_in p.requests));
         fresh = tt;
+        lent = None;
+        packets = ap (λ (cs : List Step). (done_all cs p).records.lent) (sym steps) ∙ sym (append-nil p.records.lent);
+        lends = refl;
       }
 
 -- ---- messages are counted
@@ -106,9 +113,12 @@ available-means p node port = record {
   slots = [];
   returned = refl;
   moves = λ n. refl;
-  stays = λ slot queued other. refl;
+  stays = λ slot held other. record { held = held; item = refl };
   ids = sym (append-nil (ids_in p.requests));
   fresh = tt;
+  lent = None;
+  packets = sym (append-nil p.records.lent);
+  lends = refl;
 }
 
 -- ---- an endpoint is made
@@ -122,9 +132,12 @@ create-means p sound at =
       slots = [];
       returned = refl;
       moves = λ n. refl;
-      stays = λ slot queued other. refl;
+      stays = λ slot held other. record { held = held; item = refl };
       ids = ids-all who how p.requests.standing ∙ sym (append-nil (ids_in p.requests));
       fresh = tt;
+      lent = None;
+      packets = sym (append-nil p.records.lent);
+      lends = refl;
     }
 
 -- ---- a request is begun
@@ -144,9 +157,12 @@ lookup-means p name id fresh =
       slots = [];
       returned = refl;
       moves = λ n. refl;
-      stays = λ slot queued other. refl;
+      stays = λ slot held other. record { held = held; item = refl };
       ids = last-ids p.requests id (ask.Lookup name) how;
       fresh = fresh;
+      lent = None;
+      packets = sym (append-nil p.records.lent);
+      lends = refl;
     }
 
 -- a receive, which is complete where a message waits
@@ -175,6 +191,9 @@ module _ (p : Parts) (sound : Sound p) (i : ℕ) (id : RequestId) (at : Local) (
         stays = subst (λ (cs : List Step). KeepsBut [] p.book (done_all cs p).book) steps (keeps-but_none p.book);
         ids = ap (λ (cs : List Step). ids_in (done_all cs p).requests) (sym steps) ∙ last-ids p.requests id (ask.Message at max) how;
         fresh = fresh;
+        lent = None;
+        packets = ap (λ (cs : List Step). (done_all cs p).records.lent) (sym steps) ∙ sym (append-nil p.records.lent);
+        lends = refl;
       }
 
   pub pending-means : waiting_in (slice_get p.records.endpoints i) ≡ [] → Means p at.node (request_at at.port max) (Some id)
@@ -196,6 +215,9 @@ module _ (p : Parts) (sound : Sound p) (i : ℕ) (id : RequestId) (at : Local) (
         stays = subst (λ (cs : List Step). KeepsBut [] p.book (done_all cs p).book) steps (keeps-but_none p.book);
         ids = ap (λ (cs : List Step). ids_in (done_all cs p).requests) (sym steps) ∙ last-ids p.requests id (ask.Message at max) None;
         fresh = fresh;
+        lent = None;
+        packets = ap (λ (cs : List Step). (done_all cs p).records.lent) (sym steps) ∙ sym (append-nil p.records.lent);
+        lends = refl;
       }
 
 -- ---- a request ends
@@ -205,16 +227,32 @@ pub gone-there : (q : Requests) (id : RequestId) → AreReceives q → without_r
 gone-there q id receives =
     ap (λ (rs : List Standing). record q { standing = rs }) (gone-at id q.standing receives.differ ∙ ap (λ (o : Option ℕ). without o q.standing) (place-of_id id q.standing))
 
--- what it held
-pub held-there : (q : Requests) (id : RequestId) (how : Option Complete) → progress_of q id ≡ Some how → slots_held q (place_of_id (ids_in q) id) ≡ slots_in how
+-- how it was complete
+pub held-there : (q : Requests) (id : RequestId) (how : Option Complete) → progress_of q id ≡ Some how → how_held q (place_of_id (ids_in q) id) ≡ how
 held-there q id how is =
-    ap (λ (o : Option ℕ). slots_held q o) (sym (place-of_id id q.standing))
-    ∙ ap (λ (o : Option Standing). slots_in (option_and_then (λ (r : Standing). r.complete) o)) (get-position (is_id id) q.standing)
+    ap (λ (o : Option ℕ). how_held q o) (sym (place-of_id id q.standing))
+    ∙ ap (λ (o : Option Standing). option_and_then (λ (r : Standing). r.complete) o) (get-position (is_id id) q.standing)
     ∙ by (request_of q id) is
   where
-    by : (o : Option Standing) → option_map (λ (r : Standing). r.complete) o ≡ Some how → slots_in (option_and_then (λ (r : Standing). r.complete) o) ≡ slots_in how
+    by : (o : Option Standing) → option_map (λ (r : Standing). r.complete) o ≡ Some how → option_and_then (λ (r : Standing). r.complete) o ≡ how
     by None e = absurd cc
-    by (Some r) e = let same : r.complete ≡ how = cc in ap slots_in same
+    by (Some r) e = cc
+
+-- a test that lends nothing gives no packet
+none-brought : (s : state.DomainState) (a : state.Asked) (o : Option Outcome) → lent_by a o ≡ [] → packet_brought s a o ≡ None
+none-brought s (state.name_of n) o none = refl
+none-brought s (state.channel_of n) o none = refl
+none-brought s (state.message_at at max) o none = refl
+none-brought s (state.packet_at at) None none = refl
+none-brought s (state.packet_at at) (Some (state.has_address a)) none = refl
+none-brought s (state.packet_at at) (Some state.is_accepted) none = refl
+none-brought s (state.packet_at at) (Some (state.is_rejected r)) none = refl
+none-brought s (state.packet_at at) (Some (state.has_item i)) none = absurd cc
+none-brought s (state.packet_at at) (Some (state.has_ended w)) none = refl
+
+pub none-tested : (s : state.DomainState) (r : Option state.Request) → lent_by_test r ≡ [] → packet_tested s r ≡ None
+none-tested s None none = refl
+none-tested s (Some r) none = none-brought s r.asked r.outcome none
 
 module _ (p : Parts) (place : Option ℕ) where
   -- the state without it
@@ -223,7 +261,7 @@ module _ (p : Parts) (place : Option ℕ) where
       ap (λ (ps : List (Peer LaneSeen)). state_in plain p.book p.records (without_at p.requests place) p.table ps) (quiet-peers p.peers)
       ∙ ap (λ (rs : List state.Request). record (state_of p) { requests = rs }) (map-without (request_in p.book) place p.requests.standing)
 
-  left-ids : ids_in (without_at p.requests place) ≡ without place (ids_in p.requests) ++ []
+  pub left-ids : ids_in (without_at p.requests place) ≡ without place (ids_in p.requests) ++ []
   left-ids = map-without (λ (r : Standing). r.id) place p.requests.standing ∙ sym (append-nil (without place (ids_in p.requests)))
 
   pub cancel-means : Means p 0 (cancel_of place) None
@@ -235,12 +273,15 @@ module _ (p : Parts) (place : Option ℕ) where
     stays = keeps-but_none p.book;
     ids = left-ids;
     fresh = tt;
+    lent = None;
+    packets = sym (append-nil p.records.lent);
+    lends = refl;
   }
 
-  -- one that held no message
-  pub quiet-means : slots_held p.requests place ≡ [] → held_by (request_at_place (state_of p) place) ≡ [] → lent_by_test (request_at_place (state_of p) place) ≡ [] → Means p 0 (test_of place) None
-  quiet-means none items lends =
-      let step : request_ended place ≡ ending place (slots_held p.requests place) = ap (ending place) (sym none) in
+  -- one that held no message and no packet
+  pub quiet-means : ending p.book place (how_held p.requests place) ≡ request_ended place → held_by (request_at_place (state_of p) place) ≡ [] → lent_by_test (request_at_place (state_of p) place) ≡ [] → Means p 0 (test_of place) None
+  quiet-means quiet items lends =
+      let step : request_ended place ≡ ending p.book place (how_held p.requests place) = sym quiet in
       record {
         state = ap (λ (c : Step). state_of (done c p)) (sym step) ∙ left-state ∙ ap (λ (cs : List Change). changed_all (changed (state_of p) (request_gone place)) cs) (sym lends);
         slots = [];
@@ -249,16 +290,19 @@ module _ (p : Parts) (place : Option ℕ) where
         stays = subst (λ (c : Step). KeepsBut [] p.book (done c p).book) step (keeps-but_none p.book);
         ids = ap (λ (c : Step). ids_in (done c p).requests) (sym step) ∙ left-ids;
         fresh = tt;
+        lent = None;
+        packets = ap (λ (c : Step). (done c p).records.lent) (sym step) ∙ sym (append-nil p.records.lent);
+        lends = sym (none-tested (state_of p) (request_at_place (state_of p) place) lends);
       }
 
   -- one that held a message
-  module _ (sound : Sound p) (s : Slot) (held : slots_held p.requests place ≡ s ∷ []) (out : IsOutAt plain s p.peers) (more : HasMore s (handed_slots (without_at p.requests place).standing) (handed_slots p.requests.standing)) where
+  module _ (sound : Sound p) (s : Slot) (held : ending p.book place (how_held p.requests place) ≡ message_ended place s) (out : IsOutAt plain s p.peers) (more : HasMore s (handed_slots (without_at p.requests place).standing) (handed_slots p.requests.standing)) where
     pub tested-means : held_by (request_at_place (state_of p) place) ≡ item_at p.book s ∷ [] → lent_by_test (request_at_place (state_of p) place) ≡ [] → Means p 0 (test_of place) None
     tested-means items lends =
-        let step : message_ended place s ≡ ending place (slots_held p.requests place) = ap (ending place) (sym held) in
+        let step : message_ended place s ≡ ending p.book place (how_held p.requests place) = sym held in
         record {
           state = ap (λ (c : Step). state_of (done c p)) (sym step)
-              ∙ given-state Any (λ l. tt) plain p.book p.records p.records p.requests (without_at p.requests place) p.table s p.peers _ (gives-seen s p.peers sound.peers.rising out) (ended-more p.records p.requests (without_at p.requests place) p.book s more) sound.places refl refl
+              ∙ given-state Any (λ l. tt) plain p.book p.records p.records p.requests (without_at p.requests place) p.table s p.peers _ (gives-seen s p.peers sound.peers.rising out) (ended-more p.records p.requests (without_at p.requests place) p.book s more) sound.places refl refl refl
               ∙ ap (λ (rs : List state.Request). record (state_of p) { requests = rs }) (map-without (request_in p.book) place p.requests.standing)
               ∙ ap (λ (cs : List Change). changed_all (changed (state_of p) (request_gone place)) cs) (sym lends);
           slots = s ∷ [];
@@ -267,4 +311,7 @@ module _ (p : Parts) (place : Option ℕ) where
           stays = subst (λ (c : Step). KeepsBut (s ∷ []) p.book (done c p).book) step (keeps-away p.book s);
           ids = ap (λ (c : Step). ids_in (done c p).requests) (sym step) ∙ left-ids;
           fresh = tt;
+          lent = None;
+          packets = ap (λ (c : Step). (done c p).records.lent) (sym step) ∙ sym (append-nil p.records.lent);
+          lends = sym (none-tested (state_of p) (request_at_place (state_of p) place) lends);
         }

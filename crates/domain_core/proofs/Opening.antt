@@ -88,16 +88,16 @@ module _ (sizes : List (ℕ × ℕ)) where
 
   placed-opening : (domain room number size : ℕ) → find (is_of number) sizes ≡ Some (number, size) → AreInPlaces number (opening_records domain room) no_requests (opening_book sizes) (out_of size [])
   placed-opening domain room number size found =
-      let each : EachInPlace number (out_of size []) [] (opening_book sizes) [] = record {
+      let each : EachInPlace number (out_of size []) [] [] (opening_book sizes) [] = record {
         stands_once = λ s. sym (ap (λ (o : Option Kept). one_if (is_some (option_and_then if_queued o))) (kept-none s));
-        none_lent = λ s. ap (λ (o : Option Kept). is_some o) (kept-none s) ∙ sym (ap (λ (o : Option Kept). is_some (option_and_then if_queued o)) (kept-none s));
+        lent_once = λ s. ap (λ (o : Option Kept). 0 + one_if (is_some (option_and_then if_queued o))) (kept-none s) ∙ sym (ap (λ (o : Option Kept). one_if (is_some o)) (kept-none s));
         known = λ n. place-known number size n found;
         short = λ s. subst (λ (o : Option Kept). IsShort o) (sym (kept-none s)) tt;
         once = λ n. let none = ap (λ (o : Option Kept). one_if (is_some o)) (kept-none (record { peer = number; buffer = n })) in omega (arith, none);
         apart = λ n. omega arith;
         all = refl;
       } in
-      record { each = each; priorities = refl }
+      record { each = each; priorities = refl; lent = tt }
 
 -- ---- nothing is owed
 

@@ -5,12 +5,12 @@ use Rattle.mc_base.specs.declared.request.Slot.{Slot}
 use Rattle.lane_end.specs.Numbers.{often, AreApart}
 use Rattle.lane_end.specs.ReceiverContract.{without}
 use Rattle.lane_end.proofs.CountLemmas.{tick, contained-often, length-apart, length-without, often-append, often-without}
-use Rattle.buffer_book.specs.Book.{Book, IsQueued, queued_at}
+use Rattle.buffer_book.specs.Book.{Book, IsQueued, kept_at, queued_at}
 use Rattle.request_set.specs.Requests.{Requests}
-use Rattle.domain_core.specs.Records.{Records}
+use Rattle.domain_core.specs.Records.{Records, lent_slots}
 use Rattle.domain_core.specs.Out.{Out, out_of, with_one_back}
 use Rattle.domain_core.specs.InPlaces.{AreInPlaces, AreInPlacesBut, is_of, one_if, slot_at, slots_of, times_in}
-use Rattle.domain_core.proofs.Placed.{often-own, queued-out}
+use Rattle.domain_core.proofs.Placed.{often-own, queued-kept}
 
 -- a buffer out of all places is out
 stands : (number : ℕ) (r : Records) (q : Requests) (b : Book) (o : Out) (n : ℕ) → AreInPlacesBut n number r q b o → 0 < often n o.numbers
@@ -26,14 +26,15 @@ placed-given number r q b o n e =
     record {
       each = record {
         stands_once = e.each.stands_once;
-        none_lent = e.each.none_lent;
+        lent_once = e.each.lent_once;
         short = e.each.short;
         known = e.each.known;
         once = λ m. let was = e.each.once m in let left = often-without m n o.numbers some in let one : often m (n ∷ []) ≡ tick n m + 0 = refl in omega (arith, was, left, one);
         apart = λ m. let was = e.each.apart m in let left = often-without m n o.numbers some in omega (arith, was, left);
-        all = let was : count_by (is_of number) (slots_of r q) + 1 ≡ length o.numbers = e.each.all in let left = length-without n o.numbers some in omega (arith, was, left);
+        all = let was : count_by (is_of number) (slots_of r q) + count_by (is_of number) (lent_slots r) + 1 ≡ length o.numbers = e.each.all in let left = length-without n o.numbers some in omega (arith, was, left);
       };
       priorities = e.priorities;
+      lent = e.lent;
     }
 
 -- and one fewer is out
@@ -46,22 +47,23 @@ placed-taken number r q b o n numbers taken apart e =
     record {
       each = record {
         stands_once = e.each.stands_once;
-        none_lent = e.each.none_lent;
+        lent_once = e.each.lent_once;
         short = e.each.short;
         known = e.each.known;
         once = λ m. let was = e.each.once m in let more = ap (often m) taken ∙ often-append m o.numbers (n ∷ []) in omega (arith, was, more);
         apart = apart;
-        all = let was : count_by (is_of number) (slots_of r q) + 0 ≡ length o.numbers = e.each.all in let more = ap length taken ∙ length-append o.numbers (n ∷ []) in omega (arith, was, more);
+        all = let was : count_by (is_of number) (slots_of r q) + count_by (is_of number) (lent_slots r) + 0 ≡ length o.numbers = e.each.all in let more = ap length taken ∙ length-append o.numbers (n ∷ []) in omega (arith, was, more);
       };
       priorities = e.priorities;
+      lent = e.lent;
     }
 
 -- no more are out than the lane has
 pub outs-fit : (number : ℕ) (r : Records) (q : Requests) (b : Book) (o : Out) → AreInPlaces number r q b o → length o.numbers ≤ o.size
 outs-fit number r q b o e = length-apart o.size o.numbers e.each.apart
 
--- as many slots of the peer wait or were handed as are out
-pub held-are : (number : ℕ) (r : Records) (q : Requests) (b : Book) (o : Out) → AreInPlaces number r q b o → count_by (is_of number) (slots_of r q) ≡ length o.numbers
+-- as many slots of the peer wait, were handed or are lent as are out
+pub held-are : (number : ℕ) (r : Records) (q : Requests) (b : Book) (o : Out) → AreInPlaces number r q b o → count_by (is_of number) (slots_of r q) + count_by (is_of number) (lent_slots r) ≡ length o.numbers
 held-are number r q b o e = omega (arith, e.each.all)
 
 -- ---- a slot that waits or was handed
@@ -74,15 +76,24 @@ some-there false k more is = absurd (omega (arith, more, is))
 pub there-queued : (number : ℕ) (r : Records) (q : Requests) (b : Book) (o : Out) (s : Slot) → AreInPlaces number r q b o → 0 < times_in s (slots_of r q) → IsQueued b s
 there-queued number r q b o s e there = some-there (is_some (queued_at b s)) (times_in s (slots_of r q)) there (e.each.stands_once s)
 
--- and out at the lane of its peer
-pub queued-is_out : (number : ℕ) (r : Records) (q : Requests) (b : Book) (o : Out) (s : Slot) → s.peer ≡ number → AreInPlaces number r q b o → IsQueued b s → Contains o.numbers s.buffer
-queued-is_out number r q b o s own e is =
+-- what is held is out at the lane of its peer
+pub kept-is_out : (number : ℕ) (r : Records) (q : Requests) (b : Book) (o : Out) (s : Slot) → s.peer ≡ number → AreInPlaces number r q b o → is_some (kept_at b s) ≡ true → Contains o.numbers s.buffer
+kept-is_out number r q b o s own e is =
     let slot : s ≡ slot_at number s.buffer = ap (λ (m : ℕ). slot_at m s.buffer) own in
-    let once = queued-out number o (slots_of r q) b [] s.buffer e.each (subst (IsQueued b) slot is) in
-    contained-often o.numbers s.buffer (omega (arith, once))
+    let once : often s.buffer [] + one_if (is_some (kept_at b (slot_at number s.buffer))) ≡ often s.buffer o.numbers = e.each.once s.buffer in
+    let one : one_if (is_some (kept_at b (slot_at number s.buffer))) ≡ 1 = ap one_if (subst (λ (x : Slot). is_some (kept_at b x) ≡ true) slot is) in
+    contained-often o.numbers s.buffer (omega (arith, once, one))
 
 pub there-out : (number : ℕ) (r : Records) (q : Requests) (b : Book) (o : Out) (s : Slot) → s.peer ≡ number → AreInPlaces number r q b o → 0 < times_in s (slots_of r q) → Contains o.numbers s.buffer
-there-out number r q b o s own e there = queued-is_out number r q b o s own e (there-queued number r q b o s e there)
+there-out number r q b o s own e there = kept-is_out number r q b o s own e (queued-kept (kept_at b s) (there-queued number r q b o s e there))
+
+-- ---- a slot that is lent
+
+pub lent-held : (number : ℕ) (r : Records) (q : Requests) (b : Book) (o : Out) (s : Slot) → AreInPlaces number r q b o → 0 < times_in s (lent_slots r) → is_some (kept_at b s) ≡ true
+lent-held number r q b o s e there = some-there (is_some (kept_at b s)) (times_in s (lent_slots r) + one_if (is_some (queued_at b s))) (omega (arith, there)) (e.each.lent_once s)
+
+pub lent-out : (number : ℕ) (r : Records) (q : Requests) (b : Book) (o : Out) (s : Slot) → s.peer ≡ number → AreInPlaces number r q b o → 0 < times_in s (lent_slots r) → Contains o.numbers s.buffer
+lent-out number r q b o s own e there = kept-is_out number r q b o s own e (lent-held number r q b o s e there)
 
 -- ---- the same of a lane, by what its calls tell
 

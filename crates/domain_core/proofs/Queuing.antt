@@ -1,6 +1,7 @@
 -- A buffer that is queued or received: the table of endpoints after it, and the places.
 use Rattle.std.proofs.Common.{◌≡◌, ℕ, ◌+◌, ◌-◌, ◌<◌, ◌≤◌, Bool, true, false, List, [], ◌∷◌, ◌++◌, length, map, Option, None, Some, refl, sym, ap, ◌∙◌, subst, arith, take, drop, eq-eqb}
-use Rattle.std.specs.Prelude.{count_by, if◌then◌else◌, is_some, not, option_map, position, slice_get, slice_index, ◌==◌}
+use Rattle.std.specs.Prelude.{count_by, if◌then◌else◌, is_some, not, option_map, position, slice_get, slice_index, ◌==◌, option_and_then, is_none}
+use Rattle.std.specs.List.{AllByRecursion}
 use Rattle.std.proofs.lemmas.Bool.{eqb-true}
 use Rattle.std.proofs.lemmas.List.{drop-take, get_or-take, length-take, take-take}
 use Rattle.byteorder.specs.Endian.{little_number}
@@ -10,34 +11,36 @@ use Rattle.mc_base.specs.Stored.{Stored}
 use Rattle.mc_base.specs.Frame.{source_of}
 use Rattle.mc_base.specs.declared.fate.Fate.{Fate}
 use Rattle.mc_base.specs.declared.name.Local.{Local}
+use Rattle.mc_base.specs.declared.request.PacketId.{PacketId}
 use Rattle.mc_base.specs.declared.request.RequestId.{RequestId}
 use Rattle.mc_base.specs.declared.request.Slot.{Slot}
 use Rattle.board_model.specs.Lists.{changed, changed_at}
 use Rattle.board_model.specs.State as state
-use Rattle.board_model.specs.State.{Item}
+use Rattle.board_model.specs.State.{Item, LentPacket}
 use Rattle.board_model.specs.Choice.{best}
 use Rattle.domain_core.specs.PlacedFrames.{complete_with, item_of, queued_last}
 use Rattle.board_model.specs.Journal.{taken}
-use Rattle.buffer_book.specs.Book.{AllDiffer, Book, IsAway, Kept, content, queued_at, queued_in, with_queued}
+use Rattle.buffer_book.specs.Book.{AllDiffer, Book, IsAway, Kept, content, kept_at, queued_in, slot_of, with_queued, if_queued}
 use Rattle.message_queue.specs.Queue.{Waiting, waiting}
 use Rattle.request_set.specs.declared.ask.Ask.TheVariants as ask
 use Rattle.request_set.specs.declared.ask.Complete.{Complete}
-use Rattle.request_set.specs.declared.ask.Complete.TheVariants as complete
-use Rattle.request_set.specs.Requests.{IsPending, Requests, Standing, is_id, request_of, with_complete}
+use Rattle.request_set.specs.declared.ask.Ask.{Ask}
+use Rattle.request_set.specs.Requests.{IsPending, Requests, Standing, is_id, receives_at, request_of, with_complete}
 use Rattle.domain_core.specs.declared.endpoints.Endpoint.{Endpoint}
 use Rattle.domain_core.specs.Table.{Held, with_held}
-use Rattle.domain_core.specs.Records.{Records, all_waiting, waiting_in, with_best_taken, with_waiting, with_waiting_at}
+use Rattle.domain_core.specs.Records.{Records, all_waiting, lent_slots, waiting_in, with_best_taken, with_waiting, with_waiting_at}
 use Rattle.domain_core.specs.Out.{Out}
-use Rattle.domain_core.specs.InBook.{channel_in, channel_of, content_in, endpoints_in, held_by, item_at, item_in, priority_in, priority_of, request_in, requests_in, source_in, table_in}
-use Rattle.domain_core.specs.InRequests.{AreReceives, handed_slots}
-use Rattle.domain_core.specs.InPlaces.{AreInPlaces, AreInPlacesBut, EachInPlace, KeepOthers, is_misplaced, one_if, slot_at, slots_of, times_in, times_waiting}
+use Rattle.domain_core.specs.InBook.{channel_in, channel_of, content_in, endpoints_in, held_by, item_at, item_in, outcome_in, packets_in, priority_in, priority_of, request_in, requests_in, source_in, table_in}
+use Rattle.domain_core.specs.InRequests.{AreReceives, Receives, handed_by, handed_slots}
+use Rattle.domain_core.specs.InPlaces.{AreInPlaces, AreInPlacesBut, EachInPlace, IsLentAs, KeepOthers, is_misplaced, one_if, slot_at, slots_of, times_in, times_waiting}
 use Rattle.domain_core.specs.Stores.{Stores}
 use Rattle.domain_core.specs.Verdicts.{framed_item, item_with}
-use Rattle.domain_core.proofs.Handed.{requests-stay}
-use Rattle.domain_core.proofs.Placed.{HasMore, enqueued, enqueued-other, is-away, none-waits, queued-here}
+use Rattle.domain_core.proofs.Handed.{packets-stay, requests-stay}
+use Rattle.domain_core.proofs.Leaving.{each-lent}
+use Rattle.domain_core.proofs.Placed.{HasMore, away-lent, enqueued, enqueued-other, is-away, kept-here, none-waits, stands-of}
 use Rattle.domain_core.proofs.Receives.{complete-at, complete_now, each-complete, handed-more, ids-stay, keys-stay, length-stays, map-changed}
 use Rattle.domain_core.proofs.Slots.{handed-has, length-more, misplaced-stay, slots, times-all, waiting-has}
-use Rattle.domain_core.proofs.Storing.{keeps-queued}
+use Rattle.domain_core.proofs.Storing.{keeps-held}
 use Rattle.domain_core.proofs.Waits.{endpoints-more, endpoints-stay, waiting-less, waiting-more}
 
 -- ---- what a frame says lies in its buffer
@@ -79,6 +82,19 @@ channel-in_buffer bytes len size fits =
 matched : (n m : ℕ) → n ≡ m → one_if (not (n == m)) ≡ 0
 matched n m same = ap (λ (b : Bool). one_if (not b)) (eq-eqb n m same)
 
+-- how a receive is complete with an item
+handed-item : (b : Book) (a : Ask) (s : Slot) → outcome_in b (handed_by a s) ≡ state.has_item (item_at b s)
+handed-item b (ask.Message at max) s = refl
+handed-item b (ask.Packet at) s = refl
+handed-item b (ask.Lookup name) s = refl
+handed-item b (ask.Connect channel) s = refl
+
+pub handed-receives_so : (a : Ask) (s : Slot) (at : Local) → receives_at at a ≡ true → Receives a (Some (handed_by a s))
+handed-receives_so (ask.Message l max) s at is = refl
+handed-receives_so (ask.Packet l) s at is = tt
+handed-receives_so (ask.Lookup name) s at is = absurd cc
+handed-receives_so (ask.Connect channel) s at is = absurd cc
+
 -- a buffer of the lane from a peer is put into the book
 module _ (r : Records) (q : Requests) (b b' : Book) (p : Out) (peer : ℕ) (s : Slot) (buffer : Stored) (size len : ℕ)
     (places : AreInPlacesBut buffer.number peer r q b p) (at : s ≡ slot_at peer buffer.number)
@@ -102,11 +118,11 @@ module _ (r : Records) (q : Requests) (b b' : Book) (p : Out) (peer : ℕ) (s : 
   book-is = book ∙ ap (λ (x : Slot). with_queued b x k) at
 
   away : IsAway b s'
-  away = is-away peer p (slots_of r q) b buffer.number [] places.each
+  away = is-away (lent_slots r) peer p (slots_of r q) b buffer.number [] places.each
 
   -- it stands nowhere yet
   none : times_in s' (slots_of r q) ≡ 0
-  none = none-waits peer p (slots_of r q) b buffer.number [] places.each
+  none = none-waits (lent_slots r) peer p (slots_of r q) b buffer.number [] places.each
 
   none-waiting : times_waiting s' ws ≡ 0
   none-waiting = omega (arith, none, times-all s' ws hs)
@@ -114,14 +130,22 @@ module _ (r : Records) (q : Requests) (b b' : Book) (p : Out) (peer : ℕ) (s : 
   none-handed : times_in s' hs ≡ 0
   none-handed = omega (arith, none, times-all s' ws hs)
 
-  here : queued_at (with_queued b s' k) s' ≡ Some k
-  here = queued-here peer p (slots_of r q) b buffer.number [] buffer 24 size places.each
+  none-lent : times_in s' (lent_slots r) ≡ 0
+  none-lent = away-lent (lent_slots r) (slots_of r q) b s' (stands-of (lent_slots r) peer p (slots_of r q) b (buffer.number ∷ []) places.each) away
+
+  here : kept_at (with_queued b s' k) s' ≡ Some k
+  here = kept-here (lent_slots r) peer p (slots_of r q) b buffer.number [] buffer 24 size places.each
+
+  -- what is lent is lent in other buffers
+  lent-still : AllByRecursion (IsLentAs (with_queued b s' k)) r.lent
+  lent-still = each-lent b s' (Some k) r.lent none-lent places.lent
 
   -- what was there stays
   stay : held_by (with_queued b s' k) r q ≡ held_by b r q
   stay =
-      ap (λ (es : List state.Endpoint). record { endpoints = es; requests = requests_in (with_queued b s' k) q.standing }) (endpoints-stay b s' (Some k) r.endpoints none-waiting)
-      ∙ ap (λ (rs : List state.Request). record { endpoints = endpoints_in b r.endpoints; requests = rs }) (requests-stay b s' (Some k) q.standing none-handed)
+      ap (λ (es : List state.Endpoint). record { endpoints = es; requests = requests_in (with_queued b s' k) q.standing; lent = packets_in (with_queued b s' k) r.lent }) (endpoints-stay b s' (Some k) r.endpoints none-waiting)
+      ∙ ap (λ (rs : List state.Request). record { endpoints = endpoints_in b r.endpoints; requests = rs; lent = packets_in (with_queued b s' k) r.lent }) (requests-stay b s' (Some k) q.standing none-handed)
+      ∙ ap (λ (ls : List LentPacket). record (held_by b r q) { lent = ls }) (packets-stay b s' (Some k) r.lent none-lent)
 
   -- the message of the frame, as many of whose bytes as it has stand in the buffer
   item-is : item_with peer (source_of buffer.bytes) (priority_of buffer.bytes) (channel_of buffer.bytes) (take size (drop 24 buffer.bytes)) ≡ framed_item peer frame size
@@ -137,8 +161,8 @@ module _ (r : Records) (q : Requests) (b b' : Book) (p : Out) (peer : ℕ) (s : 
   -- the buffer holds the message
   pub enqueued-stored : (fate : Fate) → framed_item peer frame size ≡ item_of peer frame → Stores peer (buffer.number ∷ []) (taken frame fate ∷ []) b b'
   enqueued-stored fate item = subst (λ (x : Book). Stores peer (buffer.number ∷ []) (taken frame fate ∷ []) b x) (sym book-is) (record {
-    stays = keeps-queued b s' (Some k) away;
-    stored = (λ keeps. record { queued = ap (λ (o : Option Kept). is_some o) here; item = item-here ∙ item }, tt);
+    stays = keeps-held b s' (Some k) away;
+    stored = (λ keeps. record { held = ap (λ (o : Option Kept). is_some o) here; item = item-here ∙ item }, tt);
   })
 
   -- ---- into a queue
@@ -169,14 +193,16 @@ module _ (r : Records) (q : Requests) (b b' : Book) (p : Out) (peer : ℕ) (s : 
 
     pub queued-places : i < length r.endpoints → AreInPlaces peer r' q b' p
     queued-places lt = queued-moved peer p (record {
-      each = enqueued peer p (slots_of r q) (slots vs ++ hs) b buffer.number [] buffer 24 size places.each size_fits (more lt);
+      each = enqueued (lent_slots r) peer p (slots_of r q) (slots vs ++ hs) b buffer.number [] buffer 24 size places.each size_fits (more lt);
       priorities = priorities lt;
+      lent = lent-still;
     })
 
     pub queued-others : i < length r.endpoints → KeepOthers peer r q b r' q b'
     queued-others lt n o differ placed = queued-moved n o (record {
-      each = enqueued-other n o (slots_of r q) (slots vs ++ hs) b [] s' buffer 24 size differ placed.each away size_fits (more lt);
+      each = enqueued-other (lent_slots r) n o (slots_of r q) (slots vs ++ hs) b [] s' buffer 24 size differ placed.each away size_fits (more lt);
       priorities = priorities lt;
+      lent = lent-still;
     })
 
     pub queued-total : i < length r.endpoints → length (slots_of r' q) ≡ length (slots_of r q) + 1
@@ -189,38 +215,40 @@ module _ (r : Records) (q : Requests) (b b' : Book) (p : Out) (peer : ℕ) (s : 
         let item : item_in b'' w ≡ item_with peer (source_of buffer.bytes) (priority_of buffer.bytes) (channel_of buffer.bytes) (take size (drop 24 buffer.bytes)) = ap (λ (o : Option Kept). item_with peer (source_in o) priority (channel_in o) (content_in o)) here ∙ ap (λ (n : ℕ). item_with peer (source_of buffer.bytes) n (channel_of buffer.bytes) (take size (drop 24 buffer.bytes))) priority-is in
         ap (λ (x : Records). table_in b' x q) records-are
         ∙ ap (λ (x : Book). table_in x (with_waiting_at r i w) q) book-is
-        ∙ ap (λ (xs : List state.Endpoint). with_held (table_in b r q) (record { endpoints = xs; requests = requests_in b'' q.standing })) (endpoints-more b'' w es i)
+        ∙ ap (λ (xs : List state.Endpoint). with_held (table_in b r q) (record { endpoints = xs; requests = requests_in b'' q.standing; lent = packets_in b'' r.lent })) (endpoints-more b'' w es i)
         ∙ ap (λ (h : Held). with_held (table_in b r q) (record h { endpoints = changed_at (queued_last (item_in b'' w)) i h.endpoints })) stay
         ∙ ap (λ (x : Item). with_held (table_in b r q) (record (held_by b r q) { endpoints = changed_at (queued_last x) i (endpoints_in b es) })) (item ∙ item-is)
 
   -- ---- to a request
 
-  module _ (q' : Requests) (id : RequestId) (max : ℕ) (receives : AreReceives q) (pending : IsPending q id) (requests : q' ≡ with_complete q id (complete.Message s max)) where
+  module _ (q' : Requests) (id : RequestId) (a : Ask) (receives : AreReceives q) (pending : IsPending q id) (requests : q' ≡ with_complete q id (handed_by a s)) where
     abbrev q'' : Requests
-    q'' = with_complete q id (complete.Message s' max)
+    q'' = with_complete q id (handed_by a s')
 
     abbrev gs : List Slot
     gs = handed_slots q''.standing
 
     requests-are : q' ≡ q''
-    requests-are = requests ∙ ap (λ (x : Slot). with_complete q id (complete.Message x max)) at
+    requests-are = requests ∙ ap (λ (x : Slot). with_complete q id (handed_by a x)) at
 
     one-handed : HasMore s' (slots ws ++ hs) (slots ws ++ gs)
-    one-handed = handed-has s' ws hs gs (λ test. handed-more test id s' max q.standing receives.differ pending)
+    one-handed = handed-has s' ws hs gs (λ test. handed-more test id s' a q.standing receives.differ pending)
 
     handed-moved : (n : ℕ) (o : Out) → AreInPlaces n r q'' (with_queued b s' k) o → AreInPlaces n r q' b' o
     handed-moved n o placed = subst (λ (x : Requests). AreInPlaces n r x b' o) (sym requests-are) (subst (λ (x : Book). AreInPlaces n r q'' x o) (sym book-is) placed)
 
     pub handed-places : AreInPlaces peer r q' b' p
     handed-places = handed-moved peer p (record {
-      each = enqueued peer p (slots_of r q) (slots ws ++ gs) b buffer.number [] buffer 24 size places.each size_fits one-handed;
+      each = enqueued (lent_slots r) peer p (slots_of r q) (slots ws ++ gs) b buffer.number [] buffer 24 size places.each size_fits one-handed;
       priorities = misplaced-stay b s' (Some k) ws none-waiting ∙ places.priorities;
+      lent = lent-still;
     })
 
     pub handed-others : KeepOthers peer r q b r q' b'
     handed-others n o differ placed = handed-moved n o (record {
-      each = enqueued-other n o (slots_of r q) (slots ws ++ gs) b [] s' buffer 24 size differ placed.each away size_fits one-handed;
+      each = enqueued-other (lent_slots r) n o (slots_of r q) (slots ws ++ gs) b [] s' buffer 24 size differ placed.each away size_fits one-handed;
       priorities = misplaced-stay b s' (Some k) ws none-waiting ∙ places.priorities;
+      lent = lent-still;
     })
 
     pub handed-total : length (slots_of r q') ≡ length (slots_of r q) + 1
@@ -229,25 +257,25 @@ module _ (r : Records) (q : Requests) (b b' : Book) (p : Out) (peer : ℕ) (s : 
     pub handed-table : table_in b' r q' ≡ with_held (table_in b r q) (record (held_by b r q) { requests = changed (complete_with (framed_item peer frame size)) (position (is_id id) q.standing) (requests_in b q.standing) })
     handed-table =
         let b'' = with_queued b s' k in
-        let how : Complete = complete.Message s' max in
+        let how : Complete = handed_by a s' in
         let place = position (is_id id) q.standing in
         ap (λ (x : Requests). table_in b' r x) requests-are
         ∙ ap (λ (x : Book). table_in x r q'') book-is
-        ∙ ap (λ (xs : List Standing). with_held (table_in b r q) (record { endpoints = endpoints_in b'' r.endpoints; requests = requests_in b'' xs })) (complete-at id how q.standing receives.differ)
-        ∙ ap (λ (xs : List state.Request). with_held (table_in b r q) (record { endpoints = endpoints_in b'' r.endpoints; requests = xs })) (map-changed (request_in b'') (complete_now how) (complete_with (item_at b'' s')) (λ x. refl) place q.standing)
+        ∙ ap (λ (xs : List Standing). with_held (table_in b r q) (record { endpoints = endpoints_in b'' r.endpoints; requests = requests_in b'' xs; lent = packets_in b'' r.lent })) (complete-at id how q.standing receives.differ)
+        ∙ ap (λ (xs : List state.Request). with_held (table_in b r q) (record { endpoints = endpoints_in b'' r.endpoints; requests = xs; lent = packets_in b'' r.lent })) (map-changed (request_in b'') (complete_now how) (complete_with (item_at b'' s')) (λ x. ap (λ (o : state.Outcome). record (request_in b'' x) { outcome = Some o }) (handed-item b'' a s')) place q.standing)
         ∙ ap (λ (h : Held). with_held (table_in b r q) (record h { requests = changed (complete_with (item_at b'' s')) place h.requests })) stay
         ∙ ap (λ (x : Item). with_held (table_in b r q) (record (held_by b r q) { requests = changed (complete_with x) place (requests_in b q.standing) })) item-here
 
-    pub handed-receives : ((l : Local) × (option_map (λ x. x.ask) (request_of q id) ≡ Some (ask.Message l max))) → AreReceives q'
-    handed-receives asks =
+    pub handed-receives : option_map (λ x. x.ask) (request_of q id) ≡ Some a → (at : Local) → receives_at at a ≡ true → AreReceives q'
+    handed-receives asks l receives_it =
         subst AreReceives (sym requests) (record {
-          each = each-complete id asks.0 max s q.standing receives.differ asks.1 receives.each;
-          differ = subst AllDiffer (sym (keys-stay id (complete.Message s max) q.standing)) receives.differ;
-          few = let same = length-stays id (complete.Message s max) q.standing in let few = receives.few in omega (arith, same, few);
+          each = each-complete id a (handed_by a s) (handed-receives_so a s l receives_it) q.standing receives.differ asks receives.each;
+          differ = subst AllDiffer (sym (keys-stay id (handed_by a s) q.standing)) receives.differ;
+          few = let same = length-stays id (handed_by a s) q.standing in let few = receives.few in omega (arith, same, few);
         })
 
     pub handed-ids : map (λ (x : Standing). x.id) q'.standing ≡ map (λ (x : Standing). x.id) q.standing
-    handed-ids = ap (λ (x : Requests). map (λ (y : Standing). y.id) x.standing) requests ∙ ids-stay id (complete.Message s max) q.standing
+    handed-ids = ap (λ (x : Requests). map (λ (y : Standing). y.id) x.standing) requests ∙ ids-stay id (handed_by a s) q.standing
 
 -- ---- a message is received
 
@@ -269,10 +297,10 @@ module _ (r : Records) (q : Requests) (b : Book) (i : ℕ) (w : Waiting) (is : b
   received-fewer = let l = waiting-less (is_misplaced b) w r.endpoints i is in omega (arith, l)
 
   module _ (number : ℕ) (p : Out) (places : AreInPlaces number r q b p) where
-    pub received-priority : w.priority ≡ priority_in (queued_at b w.slot)
+    pub received-priority : w.priority ≡ priority_in (kept_at b w.slot)
     received-priority =
         let none : one_if (is_misplaced b w) ≡ 0 = let l = waiting-less (is_misplaced b) w r.endpoints i is in let all = places.priorities in omega (arith, l, all) in
-        eqb-true w.priority (priority_in (queued_at b w.slot)) (matches (w.priority == priority_in (queued_at b w.slot)) none)
+        eqb-true w.priority (priority_in (kept_at b w.slot)) (matches (w.priority == priority_in (kept_at b w.slot)) none)
       where
         matches : (x : Bool) → one_if (not x) ≡ 0 → x ≡ true
         matches true e = refl
@@ -300,14 +328,20 @@ module _ (r : Records) (q q' : Requests) (b : Book) (s : Slot) (fewer : HasMore 
 -- ---- a request that holds nothing is gone, or is new
 
 -- what waits and what was handed are the same
-pub same-held : (r r' : Records) (q q' : Requests) (b : Book) (number : ℕ) (p : Out) → all_waiting r'.endpoints ≡ all_waiting r.endpoints → handed_slots q'.standing ≡ handed_slots q.standing → AreInPlaces number r q b p → AreInPlaces number r' q' b p
-same-held r r' q q' b number p waits hands places = record {
-  each = subst (λ (ws : List Waiting). EachInPlace number p (slots ws ++ handed_slots q'.standing) b []) (sym waits)
-      (subst (λ (hs : List Slot). EachInPlace number p (slots (all_waiting r.endpoints) ++ hs) b []) (sym hands) places.each);
+pub same-held : (r r' : Records) (q q' : Requests) (b : Book) (number : ℕ) (p : Out) → r'.lent ≡ r.lent → all_waiting r'.endpoints ≡ all_waiting r.endpoints → handed_slots q'.standing ≡ handed_slots q.standing → AreInPlaces number r q b p → AreInPlaces number r' q' b p
+same-held r r' q q' b number p lends waits hands places = record {
+  each = subst (λ (ids : List PacketId). EachInPlace number p (slots_of r' q') (map slot_of ids) b []) (sym lends)
+      (subst (λ (ws : List Waiting). EachInPlace number p (slots ws ++ handed_slots q'.standing) (lent_slots r) b []) (sym waits)
+      (subst (λ (hs : List Slot). EachInPlace number p (slots (all_waiting r.endpoints) ++ hs) (lent_slots r) b []) (sym hands) places.each));
   priorities = ap (count_by (is_misplaced b)) waits ∙ places.priorities;
+  lent = subst (AllByRecursion (IsLentAs b)) (sym lends) places.lent;
 }
 
 -- the content that is told
-pub content-of : (o : Option Kept) (xs : List ℕ) → Some xs ≡ option_map content o → content_in o ≡ xs
+pub content-of : (o : Option Kept) (xs : List ℕ) → Some xs ≡ option_map content (option_and_then if_queued o) → content_in o ≡ xs
 content-of None xs is = absurd cc
-content-of (Some k) xs is = let same : xs ≡ content k = cc in sym same
+content-of (Some k) xs is = go (is_none k.lent) is
+  where
+    go : (b : Bool) → Some xs ≡ option_map content (if b then Some k else None) → content k ≡ xs
+    go true e = cc
+    go false e = absurd cc

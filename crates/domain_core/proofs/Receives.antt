@@ -17,11 +17,10 @@ use Rattle.buffer_book.specs.Book.{AllDiffer, Book}
 use Rattle.request_set.specs.declared.ask.Ask.{Ask}
 use Rattle.request_set.specs.declared.ask.Ask.TheVariants as ask
 use Rattle.request_set.specs.declared.ask.Complete.{Complete}
-use Rattle.request_set.specs.declared.ask.Complete.TheVariants as complete
 use Rattle.request_set.specs.Requests.{Requests, Standing, is_id, completed, receives_at, request_of, waits_at}
 use Rattle.domain_core.specs.DomainView.{has_id}
 use Rattle.domain_core.specs.InBook.{asked_in, outcome_in, request_in, requests_in}
-use Rattle.domain_core.specs.InRequests.{AreReceives, IsReceive, Receives, handed_slots, slots_in}
+use Rattle.domain_core.specs.InRequests.{AreReceives, IsReceive, Receives, handed_by, handed_slots, slots_in}
 use Rattle.domain_core.specs.InPlaces.{one_if}
 use Rattle.domain_core.proofs.Tables.{All-push, position-map}
 
@@ -195,25 +194,29 @@ differ-push key (k ∷ ks) fresh differ = (All-push (λ m. (m == k) ≡ false) k
 pub differ-more : (r : Standing) (rs : List Standing) → AllByRecursion (λ k. k ≢ r.id.key) (keys_in rs) → AllDiffer (keys_in rs) → AllDiffer (keys_in (rs ++ r ∷ []))
 differ-more r rs fresh differ = subst AllDiffer (sym (map_push key_in rs r)) (differ-push r.id.key (keys_in rs) fresh differ)
 
-pub each-complete : (id : RequestId) (at : Local) (max : ℕ) (slot : Slot) (rs : List Standing) → AllDiffer (keys_in rs) → option_map (λ (r : Standing). r.ask) (find (is_id id) rs) ≡ Some (ask.Message at max) → AllByRecursion IsReceive rs → AllByRecursion IsReceive (map (completed id (complete.Message slot max)) rs)
-each-complete id at max slot rs differ asks each = subst (AllByRecursion IsReceive) (sym (complete-first id (complete.Message slot max) rs differ)) (go rs asks each)
+pub each-complete : (id : RequestId) (a : Ask) (how : Complete) → Receives a (Some how) → (rs : List Standing) → AllDiffer (keys_in rs) → option_map (λ (r : Standing). r.ask) (find (is_id id) rs) ≡ Some a → AllByRecursion IsReceive rs → AllByRecursion IsReceive (map (completed id how) rs)
+each-complete id a how may rs differ asks each = subst (AllByRecursion IsReceive) (sym (complete-first id how rs differ)) (go rs asks each)
   where
-    how : Complete
-    how = complete.Message slot max
-
-    go : (xs : List Standing) → option_map (λ (r : Standing). r.ask) (find (is_id id) xs) ≡ Some (ask.Message at max) → AllByRecursion IsReceive xs → AllByRecursion IsReceive (changed_first (is_id id) (complete_now how) xs)
+    go : (xs : List Standing) → option_map (λ (r : Standing). r.ask) (find (is_id id) xs) ≡ Some a → AllByRecursion IsReceive xs → AllByRecursion IsReceive (changed_first (is_id id) (complete_now how) xs)
     go [] asks each = tt
     go (x ∷ xs) asks each =
-        elim (is_id id x) as (λ b. option_map (λ (r : Standing). r.ask) (cond b (Some x) (find (is_id id) xs)) ≡ Some (ask.Message at max) → AllByRecursion IsReceive (cond b (complete_now how x ∷ xs) (x ∷ changed_first (is_id id) (complete_now how) xs)))
-        [ true ↦ λ e. let same : x.ask ≡ ask.Message at max = cc in (subst (λ (a : Ask). Receives a (Some how)) (sym same) refl, each.1) | false ↦ λ e. (each.0, go xs e each.1) ] asks
+        elim (is_id id x) as (λ b. option_map (λ (r : Standing). r.ask) (cond b (Some x) (find (is_id id) xs)) ≡ Some a → AllByRecursion IsReceive (cond b (complete_now how x ∷ xs) (x ∷ changed_first (is_id id) (complete_now how) xs)))
+        [ true ↦ λ e. let same : x.ask ≡ a = cc in (subst (λ (y : Ask). Receives y (Some how)) (sym same) may, each.1) | false ↦ λ e. (each.0, go xs e each.1) ] asks
 
 -- ---- the slots that were handed
 
-pub handed-more : (test : Slot → Bool) (id : RequestId) (slot : Slot) (max : ℕ) (rs : List Standing) → AllDiffer (keys_in rs) → option_map (λ (r : Standing). is_none r.complete) (find (is_id id) rs) ≡ Some true → count_by test (handed_slots (map (completed id (complete.Message slot max)) rs)) ≡ count_by test (handed_slots rs) + one_if (test slot)
-handed-more test id slot max rs differ pending = ap (λ (xs : List Standing). count_by test (handed_slots xs)) (complete-first id (complete.Message slot max) rs differ) ∙ go rs pending
+-- an item that is handed is in its slot
+pub handed-slot : (a : Ask) (slot : Slot) → slots_in (Some (handed_by a slot)) ≡ slot ∷ []
+handed-slot (ask.Message at max) slot = refl
+handed-slot (ask.Packet at) slot = refl
+handed-slot (ask.Lookup name) slot = refl
+handed-slot (ask.Connect channel) slot = refl
+
+pub handed-more : (test : Slot → Bool) (id : RequestId) (slot : Slot) (a : Ask) (rs : List Standing) → AllDiffer (keys_in rs) → option_map (λ (r : Standing). is_none r.complete) (find (is_id id) rs) ≡ Some true → count_by test (handed_slots (map (completed id (handed_by a slot)) rs)) ≡ count_by test (handed_slots rs) + one_if (test slot)
+handed-more test id slot a rs differ pending = ap (λ (xs : List Standing). count_by test (handed_slots xs)) (complete-first id (handed_by a slot) rs differ) ∙ go rs pending
   where
     how : Complete
-    how = complete.Message slot max
+    how = handed_by a slot
 
     first : (o : Option Complete) (hs : List Slot) → is_none o ≡ true → count_by test (slot ∷ hs) ≡ count_by test (slots_in o ++ hs) + one_if (test slot)
     first None hs e = count-cons test slot hs ∙ omega arith
@@ -223,7 +226,7 @@ handed-more test id slot max rs differ pending = ap (λ (xs : List Standing). co
     go [] e = absurd cc
     go (x ∷ xs) e =
         elim (is_id id x) as (λ b. option_map (λ (r : Standing). is_none r.complete) (cond b (Some x) (find (is_id id) xs)) ≡ Some true → count_by test (handed_slots (cond b (complete_now how x ∷ xs) (x ∷ changed_first (is_id id) (complete_now how) xs))) ≡ count_by test (slots_in x.complete ++ handed_slots xs) + one_if (test slot)) [
-          | true ↦ λ h. let none : is_none x.complete ≡ true = cc in first x.complete (handed_slots xs) none
+          | true ↦ λ h. let none : is_none x.complete ≡ true = cc in ap (λ (ss : List Slot). count_by test (ss ++ handed_slots xs)) (handed-slot a slot) ∙ first x.complete (handed_slots xs) none
           | false ↦ λ h. omega (arith, go xs h, count-append test (slots_in x.complete) (handed_slots (changed_first (is_id id) (complete_now how) xs)), count-append test (slots_in x.complete) (handed_slots xs))
         ] e
 
@@ -291,13 +294,7 @@ found-receives p r (x ∷ rs) each found =
     elim (p x) as (λ b. cond b (Some x) (find p rs) ≡ Some r → IsReceive r)
     [ true ↦ λ e. let same : x ≡ r = cc in subst IsReceive same each.0 | false ↦ λ e. found-receives p r rs each.1 e ] found
 
--- ---- only receives of messages wait at an endpoint
-
-message-ask : (local : Local) (a : Ask) (o : Option Complete) → Receives a o → receives_at local a ≡ true → (at : Local) × (max : ℕ) × (a ≡ ask.Message at max)
-message-ask local (ask.Message at max) o is waits = (at, max, refl)
-message-ask local (ask.Lookup name) o is waits = absurd cc
-message-ask local (ask.Connect channel) o is waits = absurd cc
-message-ask local (ask.Packet at) o is waits = absurd is
+-- ---- what waits at an endpoint is a receive there
 
 found-has : (p : Standing → Bool) (r : Standing) (rs : List Standing) → find p rs ≡ Some r → p r ≡ true
 found-has p r [] found = absurd cc
@@ -305,7 +302,7 @@ found-has p r (x ∷ rs) found =
     elim (p x) as (λ b. p x ≡ b → cond b (Some x) (find p rs) ≡ Some r → p r ≡ true)
     [ true ↦ λ is e. let same : x ≡ r = cc in subst (λ (y : Standing). p y ≡ true) same is | false ↦ λ is e. found-has p r rs e ] refl found
 
-pub only-waits : (q : Requests) (local : Local) (id : RequestId) (a : Ask) → AreReceives q → Some id ≡ option_map (λ (r : Standing). r.id) (find (waits_at local) q.standing) → option_map (λ (r : Standing). r.ask) (request_of q id) ≡ Some a → (at : Local) × (max : ℕ) × (a ≡ ask.Message at max)
+pub only-waits : (q : Requests) (local : Local) (id : RequestId) (a : Ask) → AreReceives q → Some id ≡ option_map (λ (r : Standing). r.id) (find (waits_at local) q.standing) → option_map (λ (r : Standing). r.ask) (request_of q id) ≡ Some a → receives_at local a ≡ true
 only-waits q local id a receives oldest asks = go (request_of q id) refl asks
   where
     there : find (waits_at local) q.standing ≡ request_of q id
@@ -314,10 +311,9 @@ only-waits q local id a receives oldest asks = go (request_of q id) refl asks
         ∙ ap (λ (o : Option ℕ). option_and_then (λ i. slice_get q.standing i) o) (found-place (waits_at local) id q.standing receives.differ (sym oldest))
         ∙ get-position (is_id id) q.standing
 
-    go : (o : Option Standing) → request_of q id ≡ o → option_map (λ (r : Standing). r.ask) o ≡ Some a → (at : Local) × (max : ℕ) × (a ≡ ask.Message at max)
+    go : (o : Option Standing) → request_of q id ≡ o → option_map (λ (r : Standing). r.ask) o ≡ Some a → receives_at local a ≡ true
     go None found e = absurd cc
     go (Some r) found e =
         let same : r.ask ≡ a = cc in
         let waits = found-has (waits_at local) r q.standing (there ∙ found) in
-        let is = message-ask local r.ask r.complete (found-receives (is_id id) r q.standing receives.each found) (and_parts (is_none r.complete) (receives_at local r.ask) waits).1 in
-        (is.0, is.1, sym same ∙ is.2)
+        ap (receives_at local) (sym same) ∙ (and_parts (is_none r.complete) (receives_at local r.ask) waits).1

@@ -1,5 +1,5 @@
 -- Calls that receive messages or end requests, after their turns: what they leave, and what is kept.
-use Rattle.std.proofs.Common.{◌≡◌, ℕ, ◌+◌, ◌<◌, ◌≤◌, Bool, true, false, cond, List, [], ◌∷◌, ◌++◌, length, drop, Option, Some, None, sym, ap, ◌∙◌, arith}
+use Rattle.std.proofs.Common.{◌≡◌, ℕ, ◌+◌, ◌<◌, ◌≤◌, Bool, true, false, cond, List, [], ◌∷◌, ◌++◌, length, drop, Option, Some, None, sym, ap, ◌∙◌, arith, refl}
 use Rattle.std.specs.Prelude.{is_none, option_and_then, option_map, slice_get, ◌%◌, ◌^◌}
 use Rattle.std.specs.List.{AllByRecursion}
 use Rattle.std.proofs.lemmas.List.{length-take, map_push}
@@ -8,7 +8,7 @@ use Rattle.mc_base.specs.declared.request.RequestId.{RequestId}
 use Rattle.mc_base.specs.declared.request.Slot.{Slot}
 use Rattle.board_model.specs.Lists.{changed}
 use Rattle.board_model.specs.State as state
-use Rattle.board_model.specs.State.{DomainState, Item, Outcome, has_item, message_at, place_at, queue_in, request_at_place}
+use Rattle.board_model.specs.State.{DomainState, Item, Outcome, has_item, message_at, place_at, queue_in, request_at_place, LentPacket}
 use Rattle.board_model.specs.Choice.{best}
 use Rattle.board_model.specs.Answer.{local}
 use Rattle.domain_core.specs.PlacedCalls.{best_queued, received, with_received, with_request}
@@ -23,7 +23,7 @@ use Rattle.request_set.specs.Requests.{Requests, without_request}
 use Rattle.domain_core.specs.LaneSeen.{LaneSeen}
 use Rattle.domain_core.specs.declared.peer.Peer.{Peer}
 use Rattle.domain_core.specs.GivingBack.{GivesBack, IsOutAt}
-use Rattle.domain_core.specs.InBook.{endpoints_in, item_at, item_in, outcome_in, request_in, requests_in}
+use Rattle.domain_core.specs.InBook.{endpoints_in, item_at, item_in, outcome_in, request_in, requests_in, packets_in}
 use Rattle.domain_core.specs.InPlaces.{IsShort, slots_of, times_in}
 use Rattle.domain_core.specs.InRequests.{AreReceives, handed_slots}
 use Rattle.domain_core.specs.LaneMoves.{LaneMove}
@@ -34,7 +34,7 @@ use Rattle.domain_core.specs.Steps.{with_last}
 use Rattle.domain_core.proofs.Beginning.{last-more, new_standing, pending-same}
 use Rattle.domain_core.proofs.Ending.{left-receives}
 use Rattle.domain_core.proofs.GivingLemmas.{All-at, InPlacesAt, best-same, given-peers, same-endpoints, sound-given, sound-moved, stands-out, stands-queued}
-use Rattle.domain_core.proofs.Leaving.{left-endpoints, left-requests}
+use Rattle.domain_core.proofs.Leaving.{left-endpoints, left-packets, left-requests}
 use Rattle.domain_core.proofs.Placed.{HasMore, HaveSame, times-here}
 use Rattle.domain_core.proofs.Queuing.{ended-more, received-fewer, received-more, received-priority}
 use Rattle.domain_core.proofs.Slots.{handed-has, handed-same}
@@ -47,12 +47,13 @@ module _ {L : Type 0} (M : L → List LaneMove → L → Type 0) (m-none : (l : 
   before = state_in v b r q t ps
 
   -- what is held is read as before, though a buffer is no more in the book
-  pub given-state : HasMore s (slots_of r' q') (slots_of r q) → AllByRecursion (InPlacesAt v b r q) ps → q'.given ≡ q.given → r'.channels ≡ r.channels → state_in v (with_away b s) r' q' t ps' ≡ record before { endpoints = endpoints_in b r'.endpoints; requests = requests_in b q'.standing }
-  given-state more places given numbered =
+  pub given-state : HasMore s (slots_of r' q') (slots_of r q) → AllByRecursion (InPlacesAt v b r q) ps → q'.given ≡ q.given → r'.channels ≡ r.channels → r'.lent ≡ r.lent → state_in v (with_away b s) r' q' t ps' ≡ record before { endpoints = endpoints_in b r'.endpoints; requests = requests_in b q'.standing }
+  given-state more places given numbered lends =
       let p = gives.peer in
       let here = All-at (InPlacesAt v b r q) ps gives.place p places gives.there in
       let made : List state.Endpoint → List state.Peer → List state.Request → ℕ → DomainState = λ es xs rs n. record before { endpoints = es; peers = xs; requests = rs; requests_given = n } in
       ap (λ (n : ℕ). record (state_in v (with_away b s) r' q' t ps') { channels_given = n }) numbered
+      ∙ ap (λ (xs : List LentPacket). record (state_in v (with_away b s) r' q' t ps') { channels_given = r.channels; lent = xs }) (left-packets r r' q q' b s more p.number (out_at v p) here lends ∙ ap (packets_in b) lends)
       ∙ ap (λ (es : List state.Endpoint). made es (peers_in v t ps') (requests_in (with_away b s) q'.standing) q'.given) (left-endpoints r r' q q' b s more p.number (out_at v p) here)
       ∙ ap (λ (xs : List state.Peer). made (endpoints_in b r'.endpoints) xs (requests_in (with_away b s) q'.standing) q'.given) (given-peers M v s ps ps' gives t)
       ∙ ap (λ (rs : List state.Request). made (endpoints_in b r'.endpoints) (peers_in v t ps) rs q'.given) (left-requests r r' q q' b s more p.number (out_at v p) here)
@@ -113,7 +114,7 @@ module _ {L : Type 0} (v : L → LaneSeen) (b : Book) (r : Records) (q : Request
   -- ---- it is given to a caller
 
   pub taken-sound : (M : L → List LaneMove → L → Type 0) (ps' : List (Peer L)) → GivesBack M v w.slot ps ps' → AreSound v (with_away b w.slot) (with_best_taken_at r i) q t ps'
-  taken-sound M ps' gives = sound-given M v b r (with_best_taken_at r i) q q t w.slot ps ps' gives (best-same r i) (received-more r q b i w is) (received-fewer r q b i w is) sound.receives sound
+  taken-sound M ps' gives = sound-given M v b r (with_best_taken_at r i) q q t w.slot ps ps' gives (best-same r i) refl (received-more r q b i w is) (received-fewer r q b i w is) sound.receives sound
 
   -- ---- it goes to a request that is new
 
@@ -124,8 +125,8 @@ module _ {L : Type 0} (v : L → LaneSeen) (b : Book) (r : Records) (q : Request
   handed-sound id at max receives =
       let q' = taken_by id at max in
       let r' = with_best_taken_at r i in
-      sound-moved v b r r' q q' t ps (best-same r i)
-      (λ test. let less = received-more r q b i w is test in let more = handed-has w.slot (all_waiting r'.endpoints) (handed_slots q.standing) (handed_slots q'.standing) (last-more q id (ask.Message at max) w.slot max) test in omega (arith, less, more))
+      sound-moved v b r r' q q' t ps (best-same r i) refl
+      (λ test. let less = received-more r q b i w is test in let more = handed-has w.slot (all_waiting r'.endpoints) (handed_slots q.standing) (handed_slots q'.standing) (last-more q id (ask.Message at max) w.slot (complete.Message w.slot max) refl) test in omega (arith, less, more))
       (received-fewer r q b i w is) receives sound
 
 -- ---- a receive is begun
@@ -156,7 +157,7 @@ module _ {L : Type 0} (v : L → LaneSeen) (b : Book) (r : Records) (q : Request
 pub pending-sound : {L : Type 0} (v : L → LaneSeen) (b : Book) (r : Records) (q : Requests) (t : endpoint_table.Table) (ps : List (Peer L)) (id : RequestId) (at : Local) (max : ℕ) → AreReceives (with_last q id (ask.Message at max) None) → AreSound v b r q t ps → AreSound v b r (with_last q id (ask.Message at max) None) t ps
 pending-sound v b r q t ps id at max receives sound =
     let q' = with_last q id (ask.Message at max) None in
-    sound-moved v b r r q q' t ps (same-endpoints r) (handed-same (all_waiting r.endpoints) (handed_slots q.standing) (handed_slots q'.standing) (pending-same q id (ask.Message at max))) (omega arith) receives sound
+    sound-moved v b r r q q' t ps (same-endpoints r) refl (handed-same (all_waiting r.endpoints) (handed_slots q.standing) (handed_slots q'.standing) (pending-same q id (ask.Message at max))) (omega arith) receives sound
 
 -- ---- a request ends
 
@@ -166,7 +167,7 @@ module _ {L : Type 0} (v : L → LaneSeen) (b : Book) (r : Records) (q : Request
 
   -- one that held no message
   pub quiet-sound : HaveSame (handed_slots q.standing) (handed_slots left.standing) → AreSound v b r left t ps
-  quiet-sound same = sound-moved v b r r q left t ps (same-endpoints r) (handed-same (all_waiting r.endpoints) (handed_slots q.standing) (handed_slots left.standing) same) (omega arith) (left-receives q id sound.receives) sound
+  quiet-sound same = sound-moved v b r r q left t ps (same-endpoints r) refl (handed-same (all_waiting r.endpoints) (handed_slots q.standing) (handed_slots left.standing) same) (omega arith) (left-receives q id sound.receives) sound
 
   -- one that held a message
   module _ (slot : Slot) (fewer : HasMore slot (handed_slots left.standing) (handed_slots q.standing)) where
@@ -181,4 +182,4 @@ module _ {L : Type 0} (v : L → LaneSeen) (b : Book) (r : Records) (q : Request
 
     module _ (M : L → List LaneMove → L → Type 0) (ps' : List (Peer L)) (gives : GivesBack M v slot ps ps') where
       pub tested-sound : AreSound v (with_away b slot) r left t ps'
-      tested-sound = sound-given M v b r r q left t slot ps ps' gives (same-endpoints r) (ended-more r q left b slot fewer) (omega arith) (left-receives q id sound.receives) sound
+      tested-sound = sound-given M v b r r q left t slot ps ps' gives (same-endpoints r) refl (ended-more r q left b slot fewer) (omega arith) (left-receives q id sound.receives) sound

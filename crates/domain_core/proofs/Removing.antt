@@ -12,7 +12,7 @@ use Rattle.board_model.specs.DomainCall.{DomainCall, delete_at}
 use Rattle.board_model.specs.State as state
 use Rattle.board_model.specs.State.{DomainState, Item, address_at, endpoint_at, is_at, queue_at, queue_in}
 use Rattle.board_model.proofs.ListsCounts.{count-append, count-cons}
-use Rattle.buffer_book.specs.Book.{Book, queued_at}
+use Rattle.buffer_book.specs.Book.{Book, kept_at}
 use Rattle.message_queue.specs.Queue.{Waiting}
 use Rattle.request_set.specs.Requests.{Requests}
 use Rattle.domain_core.specs.LaneSeen.{LaneSeen}
@@ -44,7 +44,7 @@ items-at b (w ∷ ws) none =
     let sum = count-cons (is_misplaced b) w ws in
     let here : one_if (is_misplaced b w) ≡ 0 = omega (arith, sum, none) in
     let rest : count_by (is_misplaced b) ws ≡ 0 = omega (arith, sum, none) in
-    let o = queued_at b w.slot in
+    let o = kept_at b w.slot in
     let same : w.priority ≡ priority_in o = eqb-true w.priority (priority_in o) (is-true (w.priority == priority_in o) (no-one (is_misplaced b w) here)) in
     ap (λ (n : ℕ). record { peer = w.slot.peer; source = source_in o; priority = n; channel = channel_in o; content = content_in o; frames = [] } ∷ map (item_at b) (slots ws)) (sym same)
     ∙ ap (λ (is : List Item). item_in b w ∷ is) (items-at b ws rest)

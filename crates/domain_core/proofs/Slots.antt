@@ -9,7 +9,7 @@ use Rattle.buffer_book.specs.Book.{Book, Kept, with_place}
 use Rattle.message_queue.specs.Queue.{Waiting}
 use Rattle.domain_core.specs.InBook.{priority_in}
 use Rattle.domain_core.specs.InPlaces.{is_misplaced, is_same, one_if, times_in, times_waiting}
-use Rattle.domain_core.proofs.Books.{differ-back, queued-there}
+use Rattle.domain_core.proofs.Books.{differ-back, kept-there}
 use Rattle.domain_core.proofs.Placed.{HasMore, HaveSame, no-one}
 
 abbrev pub slots : List Waiting → List Slot
@@ -51,7 +51,7 @@ misplaced-stay b s k (w ∷ ws) none =
     let here : one_if (is_same w.slot s) ≡ 0 = omega (arith, sum, none) in
     let rest : times_waiting s ws ≡ 0 = omega (arith, sum, none) in
     let differ = differ-back w.slot s (no-one (is_same w.slot s) here) in
-    let same : is_misplaced b' w ≡ is_misplaced b w = ap (λ (o : Option Kept). not (w.priority == priority_in o)) (queued-there b s k w.slot differ) in
+    let same : is_misplaced b' w ≡ is_misplaced b w = ap (λ (o : Option Kept). not (w.priority == priority_in o)) (kept-there b s k w.slot differ) in
     count-cons (is_misplaced b') w ws
     ∙ ap (λ (x : Bool). one_if x + count_by (is_misplaced b') ws) same
     ∙ ap (λ (n : ℕ). one_if (is_misplaced b w) + n) (misplaced-stay b s k ws rest)

@@ -14,7 +14,7 @@ use Rattle.board_model.specs.State.{free_to, is_at, place_at, queue_at, queue_in
 use Rattle.board_model.specs.DomainCall.{receive_at}
 use Rattle.board_model.specs.Journal.{gives}
 use Rattle.board_model.specs.Answer.{given, success}
-use Rattle.buffer_book.specs.Book.{Book, IsQueued, content, queued_at}
+use Rattle.buffer_book.specs.Book.{Book, IsQueued, content, queued_at, kept_at}
 use Rattle.domain_core.specs.InBook.{content_in, endpoint_in, endpoints_in, item_in}
 use Rattle.board_model.specs.Choice.{best, oldest}
 use Rattle.mc_base.specs.declared.request.Slot.{Slot}
@@ -56,7 +56,7 @@ module _ (p : Parts) (sound : Sound p) (i : ℕ) (w : Waiting) (is : best (λ (x
 
   pub best_dropped-is : (at : Local) → Some i ≡ place_at (state_of p) at → state_of (done (best_dropped i w.slot) p) ≡ with_received (state_of p) at
   best_dropped-is at there =
-      given-state Any (λ l. tt) plain p.book p.records (with_best_taken_at p.records i) p.requests p.requests p.table w.slot p.peers _ back (received-more p.records p.requests p.book i w is) sound.places refl refl
+      given-state Any (λ l. tt) plain p.book p.records (with_best_taken_at p.records i) p.requests p.requests p.table w.slot p.peers _ back (received-more p.records p.requests p.book i w is) sound.places refl refl refl
       ∙ ap (λ (es : List state.Endpoint). record (state_of p) { endpoints = es }) (best-taken plain p.book p.records p.requests p.table p.peers sound i w is at there)
 
   -- the steps of the call, what it answers, and that it is not refused
@@ -71,8 +71,8 @@ module _ (p : Parts) (sound : Sound p) (i : ℕ) (w : Waiting) (is : best (λ (x
 
     pub best_dropped-answer : (max size : ℕ) (bytes out : List ℕ) → Some bytes ≡ option_map content (queued_at p.book w.slot) → size ≡ length bytes → out ≡ take max bytes → gives size out ≡ success (state_of p) at.node (receive_at at.port max)
     best_dropped-answer max size bytes out read long cut =
-        let content = content-of (queued_at p.book w.slot) bytes read in
-        let same : gives size out ≡ gives (length (content_in (queued_at p.book w.slot))) (take max (content_in (queued_at p.book w.slot))) = cc in
+        let content = content-of (kept_at p.book w.slot) bytes read in
+        let same : gives size out ≡ gives (length (content_in (kept_at p.book w.slot))) (take max (content_in (kept_at p.book w.slot))) = cc in
         same ∙ ap (λ (o : Option state.Item). given max o) (sym best-there)
 
 -- ---- a frame is put

@@ -5,41 +5,41 @@ use Rattle.mc_base.specs.declared.fate.Fate.{Fate}
 use Rattle.mc_base.specs.declared.request.Slot.{Slot}
 use Rattle.board_model.specs.Journal.{Taken, taken}
 use Rattle.board_model.specs.Dealing.{keeps_buffer}
-use Rattle.buffer_book.specs.Book.{Book, IsAway, IsQueued, Kept, if_queued, queued_at, with_away, with_place}
+use Rattle.buffer_book.specs.Book.{Book, IsAway, Kept, kept_at, with_away, with_place}
 use Rattle.domain_core.specs.InBook.{channel_in, content_in, item_at, priority_in, source_in}
 use Rattle.domain_core.specs.InPlaces.{slot_at}
-use Rattle.domain_core.specs.Stores.{AreStored, IsStored, KeepsBut, KeepsQueued, Stores}
-use Rattle.domain_core.proofs.Books.{each-slot, queued-there}
+use Rattle.domain_core.specs.Stores.{AreStored, IsHeld, IsSame, IsStored, KeepsBut, KeepsHeld, Stores}
+use Rattle.domain_core.proofs.Books.{each-slot, kept-there}
 
--- ---- what is in a queue stays there
+-- ---- what is held stays
 
-pub keeps-none : (b : Book) → KeepsQueued b b
+pub keeps-none : (b : Book) → KeepsHeld b b
 keeps-none b s is = refl
 
 -- a change at a slot that was away
-pub keeps-queued : (b : Book) (s : Slot) (k : Option Kept) → IsAway b s → KeepsQueued b (with_place b s k)
-keeps-queued b s k away =
-    each-slot s (λ t. IsQueued b t → queued_at (with_place b s k) t ≡ queued_at b t)
-    (λ is. let none : queued_at b s ≡ None = ap (λ (o : Option (Option Kept)). option_and_then if_queued (option_and_then (λ p. p) o)) away in absurd (cc (is, none)))
-    (λ t differ is. queued-there b s k t differ)
+pub keeps-held : (b : Book) (s : Slot) (k : Option Kept) → IsAway b s → KeepsHeld b (with_place b s k)
+keeps-held b s k away =
+    each-slot s (λ t. IsHeld b t → kept_at (with_place b s k) t ≡ kept_at b t)
+    (λ is. let none : kept_at b s ≡ None = ap (λ (o : Option (Option Kept)). option_and_then (λ p. p) o) away in absurd (cc (is, none)))
+    (λ t differ is. kept-there b s k t differ)
 
-pub still-queued : (b b' : Book) (s : Slot) → KeepsQueued b b' → IsQueued b s → IsQueued b' s
-still-queued b b' s keeps is = ap (λ (o : Option Kept). is_some o) (keeps s is) ∙ is
+pub still-held : (b b' : Book) (s : Slot) → KeepsHeld b b' → IsHeld b s → IsHeld b' s
+still-held b b' s keeps is = ap (λ (o : Option Kept). is_some o) (keeps s is) ∙ is
 
-pub keeps-both : (a b c : Book) → KeepsQueued a b → KeepsQueued b c → KeepsQueued a c
-keeps-both a b c first then s is = then s (still-queued a b s first is) ∙ first s is
+pub keeps-both : (a b c : Book) → KeepsHeld a b → KeepsHeld b c → KeepsHeld a c
+keeps-both a b c first then s is = then s (still-held a b s first is) ∙ first s is
 
 -- what was stored stays
-pub item-same : (b b' : Book) (s : Slot) → queued_at b' s ≡ queued_at b s → item_at b' s ≡ item_at b s
+pub item-same : (b b' : Book) (s : Slot) → kept_at b' s ≡ kept_at b s → item_at b' s ≡ item_at b s
 item-same b b' s same = ap (λ (o : Option Kept). record { peer = s.peer; source = source_in o; priority = priority_in o; channel = channel_in o; content = content_in o; frames = [] }) same
 
-pub stays-stored : (peer n : ℕ) (frame : List ℕ) (b b' : Book) → KeepsQueued b b' → IsStored peer n frame b → IsStored peer n frame b'
+pub stays-stored : (peer n : ℕ) (frame : List ℕ) (b b' : Book) → KeepsHeld b b' → IsStored peer n frame b → IsStored peer n frame b'
 stays-stored peer n frame b b' keeps stored = record {
-  queued = still-queued b b' (slot_at peer n) keeps stored.queued;
-  item = item-same b b' (slot_at peer n) (keeps (slot_at peer n) stored.queued) ∙ stored.item;
+  held = still-held b b' (slot_at peer n) keeps stored.held;
+  item = item-same b b' (slot_at peer n) (keeps (slot_at peer n) stored.held) ∙ stored.item;
 }
 
-pub stay-stored : (peer : ℕ) (ns : List ℕ) (ts : List Taken) (b b' : Book) → KeepsQueued b b' → AreStored peer ns ts b → AreStored peer ns ts b'
+pub stay-stored : (peer : ℕ) (ns : List ℕ) (ts : List Taken) (b b' : Book) → KeepsHeld b b' → AreStored peer ns ts b → AreStored peer ns ts b'
 stay-stored peer [] ts b b' keeps stored = tt
 stay-stored peer (n ∷ ns) [] b b' keeps stored = tt
 stay-stored peer (n ∷ ns) (t ∷ ts) b b' keeps stored = (λ kept. stays-stored peer n t.frame b b' keeps (stored.0 kept), stay-stored peer ns ts b b' keeps stored.1)
@@ -69,11 +69,11 @@ Stores-more peer ns ts n t a b c same so_far one = record {
 -- ---- buffers that are given back
 
 pub keeps-but_none : (b : Book) → KeepsBut [] b b
-keeps-but_none b s is other = refl
+keeps-but_none b s is other = record { held = is; item = refl }
 
 -- one of them is withdrawn
 pub keeps-away : (b : Book) (s : Slot) → KeepsBut (s ∷ []) b (with_away b s)
 keeps-away b s =
-    each-slot s (λ t. IsQueued b t → (Contains (s ∷ []) t → ⊥) → queued_at (with_away b s) t ≡ queued_at b t)
+    each-slot s (λ t. IsHeld b t → (Contains (s ∷ []) t → ⊥) → IsSame b (with_away b s) t)
     (λ is other. absurd (other (0, omega arith, refl)))
-    (λ t differ is other. queued-there b s None t differ)
+    (λ t differ is other. let same = kept-there b s None t differ in record { held = ap (λ (o : Option Kept). is_some o) same ∙ is; item = item-same b (with_away b s) t same })

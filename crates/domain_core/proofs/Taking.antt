@@ -19,7 +19,7 @@ use Rattle.board_model.specs.TakenFrames.{Row, names_of, replies_to, row, row_of
 use Rattle.buffer_book.specs.Book.{Book, IsAway, queued_in, with_queued}
 use Rattle.endpoint_table.specs.Table as endpoint_table
 use Rattle.message_queue.specs.Queue.{waiting}
-use Rattle.request_set.specs.declared.ask.Complete.TheVariants as complete
+use Rattle.request_set.specs.declared.ask.Ask.{Ask}
 use Rattle.request_set.specs.Requests.{Requests, with_complete}
 use Rattle.domain_core.specs.declared.peer.Peer.{Peer}
 use Rattle.domain_core.specs.declared.replies.Reply.{Reply}
@@ -28,18 +28,18 @@ use Rattle.domain_core.specs.AllMoved.{ends_of}
 use Rattle.domain_core.specs.Doing.{Doing, Takes, ids_in}
 use Rattle.domain_core.specs.InBook.{endpoint_in, priority_of}
 use Rattle.domain_core.specs.InPlaces.{AreInPlaces, slot_at, slots_of}
-use Rattle.domain_core.specs.InRequests.{handed_slots}
+use Rattle.domain_core.specs.InRequests.{handed_slots, handed_by}
 use Rattle.domain_core.specs.LaneMoves.{LaneMove, receiver}
 use Rattle.domain_core.specs.LaneSeen.{LaneSeen, after_move, after_moves}
 use Rattle.domain_core.specs.Parts.{Holding, Parts, Sound, holding_in, parts_in, peer_at, peer_seen, peers_seen, plain, state_of}
-use Rattle.domain_core.specs.Records.{Records, all_waiting, with_waiting_at}
+use Rattle.domain_core.specs.Records.{Records, all_waiting, with_waiting_at, lent_slots}
 use Rattle.domain_core.specs.Sound.{out_at}
 use Rattle.domain_core.specs.Steps.{Step, at_peer, changed_peer, done, done_all, frame_handed, frame_queued, frame_returned, moved_peer, step_moves}
-use Rattle.domain_core.specs.Stores.{AreStored, KeepsQueued, Stores}
+use Rattle.domain_core.specs.Stores.{AreStored, KeepsHeld, Stores}
 use Rattle.domain_core.specs.Verdicts.{Desk, Effect, Fits, IsHanded, IsQueued, IsReturned, Shows, desk, effect_changes, framed_item}
 use Rattle.domain_core.specs.VisitMoves.{taking}
 use Rattle.domain_core.proofs.ChangedPeers.{set-changed}
-use Rattle.domain_core.proofs.Effects.{effect-done, effect-ids, effect-is, effect-keeps, effect-moves, effect_steps, placed-same, with_left}
+use Rattle.domain_core.proofs.Effects.{effect-done, effect-ids, effect-lent, effect-is, effect-keeps, effect-moves, effect_steps, placed-same, with_left}
 use Rattle.domain_core.proofs.PeerPlaces.{All-from}
 use Rattle.domain_core.proofs.PeersAt.{Fit, find-place, outs-room}
 use Rattle.domain_core.proofs.Placed.{is-away}
@@ -100,7 +100,7 @@ module _ {L : Type 0} (M : L → List LaneMove → L → Type 0) (m-none : (l : 
     apart-then = subst (λ (l : LaneSeen). AreApart l.size_from l.out) seen apart
 
     pub away-slot : IsAway b (slot_at n buffer.number)
-    away-slot = is-away n _ (slots_of r q) b buffer.number [] (but-one old sound i y at buffer.number apart-then).each
+    away-slot = is-away (lent_slots r) n _ (slots_of r q) b buffer.number [] (but-one old sound i y at buffer.number apart-then).each
 
     -- there is room for it
     pub room-left : length (all_waiting r.endpoints) < r.room
@@ -122,13 +122,13 @@ module _ {L : Type 0} (M : L → List LaneMove → L → Type 0) (m-none : (l : 
 
     -- it is kept: its word, its changes, and the step that it is
     kept-doing : (c : Step) (fate : Fate) (happens : List Change) (b' : Book) (r' : Records) (q' : Requests) (names : Names) (rs : List Reply) (applies : Bool) → (step_moves c ≡ at_peer n (receiver (Took buffer.number frame) ∷ []))
-        → parts_in v b' r' q' t (took_ps names rs) ≡ done c old → row_of (state_of old) n None (reading frame) ≡ row applies fate happens → state_of (done c old) ≡ changed_all (state_of old) (frame_taken n ∷ happens) → KeepsQueued b b' → ids_in (parts_in v b' r' q' t (took_ps names rs)) ≡ ids_in old
+        → parts_in v b' r' q' t (took_ps names rs) ≡ done c old → row_of (state_of old) n None (reading frame) ≡ row applies fate happens → state_of (done c old) ≡ changed_all (state_of old) (frame_taken n ∷ happens) → KeepsHeld b b' → ids_in (parts_in v b' r' q' t (took_ps names rs)) ≡ ids_in old → r'.lent ≡ r.lent
         → keeps_buffer fate ≡ true → Doing M (peer_at old i).number (takes (peer_at old i).number None frame fate ∷ []) (taking (buffer.number ∷ []) (taken frame fate ∷ [])) (holding_in v b r q t ps) (holding_in v b' r' q' t (took_ps names rs))
-    kept-doing c fate happens b' r' q' names rs applies moves after is means stays ids kept =
+    kept-doing c fate happens b' r' q' names rs applies moves after is means stays ids packets kept =
         subst (λ (ms : List LaneMove). Doing M (peer_at old i).number (takes (peer_at old i).number None frame fate ∷ []) ms (holding_in v b r q t ps) (holding_in v b' r' q' t (took_ps names rs)))
         (ap (λ (k : Bool). receiver (Took buffer.number frame) ∷ ((if k then [] else receiver (Gave buffer.number) ∷ []) ++ [])) (sym kept))
         (doing-by M m-none v b r q t ps sound i x there e (receiver (Took buffer.number frame) ∷ []) seen moved (c ∷ []) (λ k. takes k None frame fate ∷ []) (holding_in v b' r' q' t (took_ps names rs))
-        (λ k. ap (λ (f : ℕ → List LaneMove). f k) moves) after (ends-known ps i x e names rs) (ap (λ (z : Row). z.word) is, tt) (means ∙ ap (λ (z : Row). changed_all (state_of old) (frame_taken n ∷ z.happens)) (sym is)) stays ids)
+        (λ k. ap (λ (f : ℕ → List LaneMove). f k) moves) after (ends-known ps i x e names rs) (ap (λ (z : Row). z.word) is, tt) (means ∙ ap (λ (z : Row). changed_all (state_of old) (frame_taken n ∷ z.happens)) (sym is)) stays ids packets)
 
     takes-one : (fate : Fate) (new : Holding L) → Doing M (peer_at old i).number (takes (peer_at old i).number None frame fate ∷ []) (taking (buffer.number ∷ []) (taken frame fate ∷ [])) (holding_in v b r q t ps) new → AreStored n (buffer.number ∷ []) (taken frame fate ∷ []) new.parts.book
         → lines' ≡ lines ++ take_line n frame fate ∷ [] → Takes M i 1 (holding_in v b r q t ps) new lines lines'
@@ -160,23 +160,23 @@ module _ {L : Type 0} (M : L → List LaneMove → L → Type 0) (m-none : (l : 
         queued-takes told =
             takes-one Queued (holding_in v b' r' q' t (took_ps names rs))
             (kept-doing (frame_queued n buffer len size j priority) Queued (item_queued is.destination (framed_item n frame size) ∷ []) b' r' q' names rs is.applies refl queued-after is.row_is
-            (frame_queued-is old sound i y at buffer len size apart-then fits.short fits.inside j priority is.destination says is.at) (kept-stored Queued).stays (ap (λ (z : Requests). map (λ c. c.id) z.standing) requests) refl)
+            (frame_queued-is old sound i y at buffer len size apart-then fits.short fits.inside j priority is.destination says is.at) (kept-stored Queued).stays (ap (λ (z : Requests). map (λ c. c.id) z.standing) requests) (ap (λ (z : Records). z.lent) records) refl)
             (kept-stored Queued).stored told
 
       -- it is handed to a request
-      module _ (id : RequestId) (max : ℕ) (is : IsHanded (state_of old) q (row_of (state_of old) n None (reading frame)) (framed_item n frame size) id max) (r' : Records) (q' : Requests) (records : r' ≡ r) (requests : q' ≡ with_complete q id (complete.Message (slot_at n buffer.number) max)) where
-        handed-after : parts_in v b' r' q' t (took_ps names rs) ≡ done (frame_handed n buffer len size id max) old
+      module _ (id : RequestId) (a : Ask) (is : IsHanded (state_of old) q (row_of (state_of old) n None (reading frame)) (framed_item n frame size) id a) (r' : Records) (q' : Requests) (records : r' ≡ r) (requests : q' ≡ with_complete q id (handed_by a (slot_at n buffer.number))) where
+        handed-after : parts_in v b' r' q' t (took_ps names rs) ≡ done (frame_handed n buffer len size id a) old
         handed-after = let peers = took_peers names rs same same_rs in cc
 
         pub handed-keeps : Sound (parts_in v b' r' q' t (took_ps names rs))
-        handed-keeps = subst Sound (sym handed-after) (frame_handed-keeps old sound i y at buffer len size apart-then fits.short fits.inside id max is.pending is.asks)
+        handed-keeps = subst Sound (sym handed-after) (frame_handed-keeps old sound i y at buffer len size apart-then fits.short fits.inside id a is.pending is.asks is.endpoint.local is.receives)
 
         pub handed-takes : lines' ≡ lines ++ take_line n frame Handed ∷ [] → Takes M i 1 (holding_in v b r q t ps) (holding_in v b' r' q' t (took_ps names rs)) lines lines'
         handed-takes told =
             takes-one Handed (holding_in v b' r' q' t (took_ps names rs))
-            (kept-doing (frame_handed n buffer len size id max) Handed (item_handed is.destination (framed_item n frame size) ∷ []) b' r' q' names rs is.applies refl handed-after is.row_is
-            (frame_handed-is old sound i y at buffer len size apart-then fits.short fits.inside id max is.destination is.endpoint is.pending is.named is.waits) (kept-stored Handed).stays
-            (handed-ids r q b b' _ n (slot_at n buffer.number) buffer size len (but-one old sound i y at buffer.number apart-then) refl book fits.short fits.inside q' id max sound.receives is.pending requests) refl)
+            (kept-doing (frame_handed n buffer len size id a) Handed (item_handed is.destination (framed_item n frame size) ∷ []) b' r' q' names rs is.applies refl handed-after is.row_is
+            (frame_handed-is old sound i y at buffer len size apart-then fits.short fits.inside id a is.destination is.endpoint is.pending is.named is.waits) (kept-stored Handed).stays
+            (handed-ids r q b b' _ n (slot_at n buffer.number) buffer size len (but-one old sound i y at buffer.number apart-then) refl book fits.short fits.inside q' id a sound.receives is.pending requests) (ap (λ (z : Records). z.lent) records) refl)
             (kept-stored Handed).stored told
 
     -- it is given back
@@ -246,5 +246,5 @@ module _ {L : Type 0} (M : L → List LaneMove → L → Type 0) (m-none : (l : 
           (ap (λ (k : Bool). receiver (Took buffer.number frame) ∷ ((if k then [] else receiver (Gave buffer.number) ∷ []) ++ [])) (sym is.returned))
           (doing-by M m-none v b r q t ps sound i x there e' both seen-both moved-both (frame_returned n buffer.number frame ∷ effect_steps n does) (λ k. takes k None frame fate ∷ []) (holding_in v b d'.records d'.requests t back_ps)
           (effect-moves n does (frame_returned n buffer.number frame)) back-after (ends-known ps i x e' d'.names d'.replies) (ap (λ (z : Row). z.word) is.row_is, tt) back-state (keeps-none b)
-          (ap (λ (z : Desk). map (λ c. c.id) z.requests.standing) is.left ∙ effect-ids does q)))
+          (ap (λ (z : Desk). map (λ c. c.id) z.requests.standing) is.left ∙ effect-ids does q) (ap (λ (z : Desk). z.records.lent) is.left ∙ effect-lent does r)))
           (Stores-returned n buffer.number frame fate b is.returned).stored told

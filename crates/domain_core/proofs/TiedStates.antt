@@ -23,7 +23,7 @@ use Rattle.domain_core.specs.declared.endpoints.Endpoint.{Endpoint}
 use Rattle.domain_core.specs.declared.peer.Peer.{Peer}
 use Rattle.domain_core.specs.declared.requests.Waiters.TheVariants as waiters
 use Rattle.domain_core.specs.AllMoved.{numbers_of}
-use Rattle.domain_core.specs.InBook.{endpoint_in, endpoints_in, requests_in}
+use Rattle.domain_core.specs.InBook.{endpoint_in, endpoints_in, requests_in, packets_in}
 use Rattle.domain_core.specs.InRequests.{with_all_complete}
 use Rattle.domain_core.specs.Owed.{owed_by}
 use Rattle.domain_core.specs.Peers.{announcement_in, ended_in, peer_in, peers_in, state_in, reply_in}
@@ -145,9 +145,9 @@ module _ {L : Type 0} (v : L → LaneSeen) (b b' : Book) (r : Records) (q q' : R
 
   -- an endpoint is ended
   pub ended-state : (r' : Records) (at : Local) (i : ℕ) (e : Endpoint) → slice_get r.endpoints i ≡ Some e → e.local ≡ at
-      → endpoints_in b' r'.endpoints ≡ without (place_at s at) s.endpoints → requests_in b' q'.standing ≡ map (ended_by_word EndpInvalid at) s.requests → q'.given ≡ q.given → r'.channels ≡ r.channels → peers_in v (ended_table t e) ps' ≡ peers_in v (ended_table t e) ps
+      → endpoints_in b' r'.endpoints ≡ without (place_at s at) s.endpoints → requests_in b' q'.standing ≡ map (ended_by_word EndpInvalid at) s.requests → q'.given ≡ q.given → r'.channels ≡ r.channels → packets_in b' r'.lent ≡ packets_in b r.lent → b'.lends ≡ b.lends → peers_in v (ended_table t e) ps' ≡ peers_in v (ended_table t e) ps
       → state_in v b' r' q' (ended_table t e) ps' ≡ without_endpoint s at e.address
-  ended-state r' at i e there local endpoints requests given numbered peers =
+  ended-state r' at i e there local endpoints requests given numbered packets lends peers =
       let t' = ended_table t e in
       let a = gone_event e in
       let left : List state.Endpoint → List ℕ → List state.Peer → List state.Request → ℕ → DomainState = λ es gone xs rs n. record s { endpoints = es; ended = gone; peers = xs; requests = rs; requests_given = n } in
@@ -158,6 +158,8 @@ module _ {L : Type 0} (v : L → LaneSeen) (b b' : Book) (r : Records) (q q' : R
       ended-gone r t (numbers_of ps) i e tie there
       ∙ filter-same (λ x. list_any (owes_gone x) t'.owing) (is_owed_end owed) (told-ends t' a r.number refl (tied-ended r t (numbers_of ps) i e tie there).linked) (with_rising e.address s.ended) in
       ap (λ (n : ℕ). record (state_in v b' r' q' t' ps') { channels_given = n }) numbered
+      ∙ ap (λ (ls : List state.LentPacket). record (state_in v b' r' q' t' ps') { channels_given = r.channels; lent = ls }) packets
+      ∙ ap (λ (n : ℕ). record (state_in v b' r' q' t' ps') { channels_given = r.channels; lent = packets_in b r.lent; packets_lent = n }) lends
       ∙ ap (λ (xs : List state.Endpoint). left xs (ended_in t'.records) (peers_in v t' ps') (requests_in b' q'.standing) q'.given) endpoints
       ∙ ap (λ (ns : List ℕ). left es ns (peers_in v t' ps') (requests_in b' q'.standing) q'.given) gone
       ∙ ap (λ (xs : List state.Peer). left es (filter (is_owed_end owed) (with_rising e.address s.ended)) xs (requests_in b' q'.standing) q'.given) (peers ∙ also t' a refl)

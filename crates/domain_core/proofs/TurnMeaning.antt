@@ -26,6 +26,7 @@ use Rattle.endpoint_table.specs.Table.{Owing, Table, owes_gone, owing_to, paid_t
 use Rattle.request_set.specs.Requests.{IsPending, is_id}
 use Rattle.packet_channel.specs.End.{end_of}
 use Rattle.packet_channel.specs.declared.channel.Channel.{Channel}
+use Rattle.request_set.specs.declared.ask.Ask.{Ask}
 use Rattle.request_set.specs.declared.ask.Complete.{Complete}
 use Rattle.mc_base.specs.declared.name.Local.{Local}
 use Rattle.mc_base.specs.declared.refusal.Refusal.{Refusal}
@@ -249,20 +250,24 @@ module _ (p : Parts) (sound : Sound p) (i : ℕ) (x : Peer LaneSeen) (there : sl
       let is = queued-table p.records p.requests p.book now.book _ x.number (slot_at x.number buffer.number) buffer size len (but-one p sound i x there buffer.number apart) refl refl small fits now.records j priority says refl in
       let es = ap (λ (t : held.Table). t.held.endpoints) is ∙ ap (λ (o : Option ℕ). lists.changed (queued_last said) o (endpoints_in p.book p.records.endpoints)) (sym at) ∙ changed-position (has_address_of destination) (queued_last said) (endpoints_in p.book p.records.endpoints) in
       let rs = ap (λ (t : held.Table). t.held.requests) is in
+      let ls = ap (λ (t : held.Table). t.held.lent) is in
       ap (λ (xs : List state.Endpoint). record (state_of now) { endpoints = xs }) es
-      ∙ ap (λ (xs : List state.Request). record (state_of now) { endpoints = change.at_address destination (change.with_queue (λ q. q ++ said ∷ [])) (endpoints_in p.book p.records.endpoints); requests = xs }) rs
+      ∙ ap (λ (xs : List state.LentPacket). record (state_of now) { endpoints = change.at_address destination (change.with_queue (λ q. q ++ said ∷ [])) (endpoints_in p.book p.records.endpoints); lent = xs }) ls
+      ∙ ap (λ (xs : List state.Request). record (state_of now) { endpoints = change.at_address destination (change.with_queue (λ q. q ++ said ∷ [])) (endpoints_in p.book p.records.endpoints); requests = xs; lent = (state_of p).lent }) rs
       ∙ ap (λ (xs : List state.Peer). record (state_of p) { endpoints = change.at_address destination (change.with_queue (λ q. q ++ said ∷ [])) (endpoints_in p.book p.records.endpoints); peers = xs }) shown_less
 
-  pub frame_handed-is : (id : RequestId) (max destination : ℕ) (e : state.Endpoint) → IsPending p.requests id → endpoint_of (state_of p) destination ≡ Some e → position (state.waits_at e.local) (state_of p).requests ≡ position (is_id id) p.requests.standing
-      → state_of (done (frame_handed x.number buffer len size id max) p) ≡ changed_all (state_of p) (frame_taken x.number ∷ item_handed destination said ∷ [])
-  frame_handed-is id max destination e pending named waits =
-      let now = done (frame_handed x.number buffer len size id max) p in
-      let is = handed-table p.records p.requests p.book now.book _ x.number (slot_at x.number buffer.number) buffer size len (but-one p sound i x there buffer.number apart) refl refl small fits now.requests id max sound.receives pending refl in
+  pub frame_handed-is : (id : RequestId) (a : Ask) (destination : ℕ) (e : state.Endpoint) → IsPending p.requests id → endpoint_of (state_of p) destination ≡ Some e → position (state.waits_at e.local) (state_of p).requests ≡ position (is_id id) p.requests.standing
+      → state_of (done (frame_handed x.number buffer len size id a) p) ≡ changed_all (state_of p) (frame_taken x.number ∷ item_handed destination said ∷ [])
+  frame_handed-is id a destination e pending named waits =
+      let now = done (frame_handed x.number buffer len size id a) p in
+      let is = handed-table p.records p.requests p.book now.book _ x.number (slot_at x.number buffer.number) buffer size len (but-one p sound i x there buffer.number apart) refl refl small fits now.requests id a sound.receives pending refl in
       let es = ap (λ (t : held.Table). t.held.endpoints) is in
       let rs = ap (λ (t : held.Table). t.held.requests) is
       ∙ ap (λ (o : Option ℕ). lists.changed (complete_with said) o (state_of p).requests) (sym waits)
       ∙ changed-position (state.waits_at e.local) (complete_with said) (state_of p).requests
       ∙ ap (λ (o : Option state.Endpoint). change.handed_in o said (state_of p).requests) (sym named) in
+      let ls = ap (λ (t : held.Table). t.held.lent) is in
       ap (λ (xs : List state.Endpoint). record (state_of now) { endpoints = xs }) es
-      ∙ ap (λ (xs : List state.Request). record (state_of now) { endpoints = (state_of p).endpoints; requests = xs }) rs
+      ∙ ap (λ (xs : List state.LentPacket). record (state_of now) { endpoints = (state_of p).endpoints; lent = xs }) ls
+      ∙ ap (λ (xs : List state.Request). record (state_of now) { endpoints = (state_of p).endpoints; requests = xs; lent = (state_of p).lent }) rs
       ∙ ap (λ (xs : List state.Peer). record (state_of p) { requests = change.handed_in (endpoint_of (state_of p) destination) said (state_of p).requests; peers = xs }) shown_less

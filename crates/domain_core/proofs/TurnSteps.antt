@@ -19,9 +19,9 @@ use Rattle.buffer_book.specs.Book.{Book}
 use Rattle.endpoint_table.specs.Table.{Table}
 use Rattle.message_queue.specs.Queue.{Waiting, waiting}
 use Rattle.board_model.specs.Lists.{changed_at}
-use Rattle.request_set.specs.declared.ask.Ask.TheVariants as ask
+use Rattle.request_set.specs.declared.ask.Ask.{Ask}
 use Rattle.request_set.specs.declared.ask.Complete.TheVariants as complete
-use Rattle.request_set.specs.Requests.{IsPending, Requests, request_of}
+use Rattle.request_set.specs.Requests.{IsPending, Requests, request_of, receives_at}
 use Rattle.domain_core.specs.declared.endpoints.Endpoint.{Endpoint}
 use Rattle.packet_channel.specs.declared.channel.Channel.{Channel}
 use Rattle.mc_base.specs.declared.refusal.Refusal.{Refusal}
@@ -114,8 +114,8 @@ module _ (p : Parts) (who : Waiters) (how : Complete) (ends : MayEnd who how) (s
       subst (λ (ps : List (Peer LaneSeen)). Sound (record p { requests = q'; peers = ps })) (sym (quiet-peers p.peers))
       (record {
         peers = sound.peers;
-        places = All-from (λ x. AreInPlaces x.number p.records p.requests p.book (out_at plain x)) (λ x. AreInPlaces x.number p.records q' p.book (out_at plain x)) (λ x placed. same-held p.records p.records p.requests q' p.book x.number (out_at plain x) refl handed placed) p.peers sound.places;
-        total = ap (λ hs. length (map (λ w. w.slot) (all_waiting p.records.endpoints) ++ hs)) handed ∙ sound.total;
+        places = All-from (λ x. AreInPlaces x.number p.records p.requests p.book (out_at plain x)) (λ x. AreInPlaces x.number p.records q' p.book (out_at plain x)) (λ x placed. same-held p.records p.records p.requests q' p.book x.number (out_at plain x) refl refl handed placed) p.peers sound.places;
+        total = ap (λ hs. length (map (λ w. w.slot) (all_waiting p.records.endpoints) ++ hs) + length p.records.lent) handed ∙ sound.total;
         room = sound.room;
         receives = receives-all p.requests who how ends sound.receives;
         tied = sound.tied;
@@ -144,13 +144,13 @@ waiting_set c zero (e ∷ es) = refl
 waiting_set c (suc j) (e ∷ es) = ap (λ ws. e.queue.waiting ++ ws) (waiting_set c j es)
 
 -- other endpoints, at which the same waits
-pub records-keep : (p : Parts) (r : Records) → SameEndpoints p.records r → all_waiting r.endpoints ≡ all_waiting p.records.endpoints → Sound p → Sound (record p { records = r; peers = map (moved_peer (λ n. [])) p.peers })
-records-keep p r same waits sound =
+pub records-keep : (p : Parts) (r : Records) → SameEndpoints p.records r → r.lent ≡ p.records.lent → all_waiting r.endpoints ≡ all_waiting p.records.endpoints → Sound p → Sound (record p { records = r; peers = map (moved_peer (λ n. [])) p.peers })
+records-keep p r same lends waits sound =
     subst (λ (ps : List (Peer LaneSeen)). Sound (record p { records = r; peers = ps })) (sym (quiet-peers p.peers))
     (record {
       peers = subst (λ (k : ℕ). ArePeers plain k p.peers) (sym same.number) sound.peers;
-      places = All-from (λ x. AreInPlaces x.number p.records p.requests p.book (out_at plain x)) (λ x. AreInPlaces x.number r p.requests p.book (out_at plain x)) (λ x placed. same-held p.records r p.requests p.requests p.book x.number (out_at plain x) waits refl placed) p.peers sound.places;
-      total = ap (λ ws. length (map (λ w. w.slot) ws ++ handed_slots p.requests.standing)) waits ∙ sound.total;
+      places = All-from (λ x. AreInPlaces x.number p.records p.requests p.book (out_at plain x)) (λ x. AreInPlaces x.number r p.requests p.book (out_at plain x)) (λ x placed. same-held p.records r p.requests p.requests p.book x.number (out_at plain x) lends waits refl placed) p.peers sound.places;
+      total = ap (λ ws. length (map (λ w. w.slot) ws ++ handed_slots p.requests.standing) + length r.lent) waits ∙ ap (λ ids. length (slots_of p.records p.requests) + length ids) lends ∙ sound.total;
       room = let room = sound.room in let room_same = same.room in omega (arith, room, room_same);
       receives = sound.receives;
       tied = same-tied p.records r p.table (numbers_of p.peers) same sound.tied;
@@ -158,10 +158,10 @@ records-keep p r same waits sound =
     })
 
 pub channel_set-keeps : (p : Parts) (j : ℕ) (c : Option Channel) → Sound p → Sound (done (channel_set j c) p)
-channel_set-keeps p j c sound = records-keep p (with_channel_at p.records j c) (record { number = refl; given = refl; room = refl; live = live_set c j p.records.endpoints }) (waiting_set c j p.records.endpoints) sound
+channel_set-keeps p j c sound = records-keep p (with_channel_at p.records j c) (record { number = refl; given = refl; room = refl; live = live_set c j p.records.endpoints }) refl (waiting_set c j p.records.endpoints) sound
 
 pub channel_given-keeps : (p : Parts) → Sound p → Sound (done channel_given p)
-channel_given-keeps p sound = records-keep p (with_channel_given p.records) (record { number = refl; given = refl; room = refl; live = refl }) refl sound
+channel_given-keeps p sound = records-keep p (with_channel_given p.records) (record { number = refl; given = refl; room = refl; live = refl }) refl refl sound
 
 -- ---- a frame is taken from the peer at a place
 
@@ -235,9 +235,9 @@ module _ (p : Parts) (sound : Sound p) (i : ℕ) (x : Peer LaneSeen) (there : sl
   but-one = taken-places x.number p.records p.requests p.book n _ _ _ _ refl refl apart (All-at (λ (y : Peer LaneSeen). AreInPlaces y.number p.records p.requests p.book (out_at plain y)) p.peers i x sound.places there)
 
   -- it is kept
-  kept-sound : (frame : List ℕ) (b : Book) (r : Records) (q : Requests) → SameEndpoints p.records r → AreInPlaces x.number r q b now → KeepOthers x.number p.records p.requests p.book r q b → length (slots_of r q) ≡ length (slots_of p.records p.requests) + 1 → AreReceives q
+  kept-sound : (frame : List ℕ) (b : Book) (r : Records) (q : Requests) → SameEndpoints p.records r → r.lent ≡ p.records.lent → AreInPlaces x.number r q b now → KeepOthers x.number p.records p.requests p.book r q b → length (slots_of r q) ≡ length (slots_of p.records p.requests) + 1 → AreReceives q
       → Sound (record { book = b; records = r; requests = q; table = p.table; peers = map (moved_peer (at_peer x.number (receiver (Took n frame) ∷ []))) p.peers })
-  kept-sound frame b r q same placed others more receives =
+  kept-sound frame b r q same lends placed others more receives =
       let ms = receiver (Took n frame) ∷ [] in
       let x' = record x { ends = after_moves ms x.ends } in
       let moves = at_peer x.number ms in
@@ -249,7 +249,7 @@ module _ (p : Parts) (sound : Sound p) (i : ℕ) (x : Peer LaneSeen) (there : sl
         peers = subst (λ (k : ℕ). ArePeers plain k (map (moved_peer moves) p.peers)) (sym same.number) (peers_moved moves p.records.number p.peers sound.peers);
         places = subst (AllByRecursion (λ (y : Peer LaneSeen). AreInPlaces y.number r q b (out_at plain y))) set
             (all-set (λ (y : Peer LaneSeen). AreInPlaces y.number p.records p.requests p.book (out_at plain y)) (λ (y : Peer LaneSeen). AreInPlaces y.number r q b (out_at plain y)) i p.peers x x' sound.peers.rising there (λ y differ was. others y.number (out_at plain y) differ was) placed sound.places);
-        total = let total = sound.total in omega (arith, more, outs, more_out, long, total);
+        total = let total = sound.total in let same_lent = ap length lends in omega (arith, more, outs, more_out, long, total, same_lent);
         room = let room = sound.room in let room_same = same.room in let buffers = buffers_moved moves p.peers in omega (arith, room, room_same, buffers);
         receives = receives;
         tied = subst (AreTied r p.table) (sym (moved-numbers moves p.peers)) (same-tied p.records r p.table (numbers_of p.peers) same sound.tied);
@@ -272,17 +272,17 @@ module _ (p : Parts) (sound : Sound p) (i : ℕ) (x : Peer LaneSeen) (there : sl
   pub frame_queued-keeps : (j priority : ℕ) → j < length p.records.endpoints → priority_of (take len buffer.bytes) ≡ priority → Sound (done (frame_queued x.number buffer len size j priority) p)
   frame_queued-keeps j priority within says =
       let now = done (frame_queued x.number buffer len size j priority) p in
-      kept-sound p sound i x there buffer.number apart (take len buffer.bytes) now.book now.records now.requests (waiting-same p.records j (waiting (slot_at x.number buffer.number) priority))
+      kept-sound p sound i x there buffer.number apart (take len buffer.bytes) now.book now.records now.requests (waiting-same p.records j (waiting (slot_at x.number buffer.number) priority)) refl
       (queued-places p.records p.requests p.book now.book _ x.number (slot_at x.number buffer.number) buffer size len placed_but refl refl small fits now.records j priority says refl within)
       (queued-others p.records p.requests p.book now.book _ x.number (slot_at x.number buffer.number) buffer size len placed_but refl refl small fits now.records j priority says refl within)
       (queued-total p.records p.requests p.book now.book _ x.number (slot_at x.number buffer.number) buffer size len placed_but refl refl small fits now.records j priority says refl within)
       sound.receives
 
-  pub frame_handed-keeps : (id : RequestId) (max : ℕ) → IsPending p.requests id → ((l : Local) × (option_map (λ r. r.ask) (request_of p.requests id) ≡ Some (ask.Message l max))) → Sound (done (frame_handed x.number buffer len size id max) p)
-  frame_handed-keeps id max pending asks =
-      let now = done (frame_handed x.number buffer len size id max) p in
-      kept-sound p sound i x there buffer.number apart (take len buffer.bytes) now.book now.records now.requests (same-endpoints p.records)
-      (handed-places p.records p.requests p.book now.book _ x.number (slot_at x.number buffer.number) buffer size len placed_but refl refl small fits now.requests id max sound.receives pending refl)
-      (handed-others p.records p.requests p.book now.book _ x.number (slot_at x.number buffer.number) buffer size len placed_but refl refl small fits now.requests id max sound.receives pending refl)
-      (handed-total p.records p.requests p.book now.book _ x.number (slot_at x.number buffer.number) buffer size len placed_but refl refl small fits now.requests id max sound.receives pending refl)
-      (handed-receives p.records p.requests p.book now.book _ x.number (slot_at x.number buffer.number) buffer size len placed_but refl refl small fits now.requests id max sound.receives pending refl asks)
+  pub frame_handed-keeps : (id : RequestId) (a : Ask) → IsPending p.requests id → option_map (λ r. r.ask) (request_of p.requests id) ≡ Some a → (at : Local) → receives_at at a ≡ true → Sound (done (frame_handed x.number buffer len size id a) p)
+  frame_handed-keeps id a pending asks at receives =
+      let now = done (frame_handed x.number buffer len size id a) p in
+      kept-sound p sound i x there buffer.number apart (take len buffer.bytes) now.book now.records now.requests (same-endpoints p.records) refl
+      (handed-places p.records p.requests p.book now.book _ x.number (slot_at x.number buffer.number) buffer size len placed_but refl refl small fits now.requests id a sound.receives pending refl)
+      (handed-others p.records p.requests p.book now.book _ x.number (slot_at x.number buffer.number) buffer size len placed_but refl refl small fits now.requests id a sound.receives pending refl)
+      (handed-total p.records p.requests p.book now.book _ x.number (slot_at x.number buffer.number) buffer size len placed_but refl refl small fits now.requests id a sound.receives pending refl)
+      (handed-receives p.records p.requests p.book now.book _ x.number (slot_at x.number buffer.number) buffer size len placed_but refl refl small fits now.requests id a sound.receives pending refl asks at receives)

@@ -17,7 +17,7 @@ use Rattle.domain_core.specs.LaneMoves.{LaneMove}
 use Rattle.domain_core.specs.Parts.{Holding, Sound, plain, shown, state_of}
 use Rattle.domain_core.specs.Sound.{AreRising}
 use Rattle.domain_core.specs.Steps.{Did, Step, all_moves, at_peer}
-use Rattle.domain_core.specs.Stores.{AreStored, KeepsQueued}
+use Rattle.domain_core.specs.Stores.{AreStored, KeepsHeld}
 use Rattle.domain_core.specs.Turned.{AllStored, HaveNumbers, VisitsAll, MakesTurn}
 use Rattle.domain_core.specs.VisitMoves.{visit_moves}
 use Rattle.domain_core.proofs.PeerPlaces.{numbers-in}
@@ -42,7 +42,7 @@ have-last (u ∷ vs) (ms ∷ nss) w ns all one = (all.0, have-last vs nss w ns a
 have-last [] (ms ∷ nss) w ns all one = absurd all
 have-last (u ∷ vs) [] w ns all one = absurd all
 
-stored-last : (b b' : Book) (vs : List Visit) (nss : List (List ℕ)) (w : Visit) (ns : List ℕ) → KeepsQueued b b' → HaveNumbers vs nss → AllStored vs nss b → AreStored w.peer ns w.takes b' → AllStored (vs ++ w ∷ []) (nss ++ ns ∷ []) b'
+stored-last : (b b' : Book) (vs : List Visit) (nss : List (List ℕ)) (w : Visit) (ns : List ℕ) → KeepsHeld b b' → HaveNumbers vs nss → AllStored vs nss b → AreStored w.peer ns w.takes b' → AllStored (vs ++ w ∷ []) (nss ++ ns ∷ []) b'
 stored-last b b' [] [] w ns keeps have all one = (one, tt)
 stored-last b b' (u ∷ vs) (ms ∷ nss) w ns keeps have all one = (stay-stored u.peer ms u.takes b b' keeps all.0, stored-last b b' vs nss w ns keeps have.1 all.1 one)
 stored-last b b' [] (ms ∷ nss) w ns keeps have all one = absurd have
@@ -114,9 +114,10 @@ pub record SoFar {L : Type 0} (M : L → List LaneMove → L → Type 0) (old no
   pub steps : List Step
   pub did : Did M steps old now
   pub moves_are : (n : ℕ) → all_moves steps n ≡ moves_in visits numbers n
-  pub stays : KeepsQueued old.parts.book now.parts.book
+  pub stays : KeepsHeld old.parts.book now.parts.book
   pub stored : AllStored visits numbers now.parts.book
   pub ids : ids_in now.parts ≡ ids_in old.parts
+  pub packets : now.parts.records.lent ≡ old.parts.records.lent
   pub told : lines' ≡ lines ++ told_of_all false visits
   pub begins : begun ≡ has_begun_after false visits
   pub rests : Rests M now
@@ -135,6 +136,7 @@ so-far-none M h lines rests = record {
   stays = keeps-none h.parts.book;
   stored = tt;
   ids = refl;
+  packets = refl;
   told = sym (append-nil lines);
   begins = refl;
   rests = rests;
@@ -164,6 +166,7 @@ module _ {L : Type 0} (M : L → List LaneMove → L → Type 0) (m-none : (l : 
         stays = keeps-both old.parts.book now.parts.book new.parts.book so_far.stays made.doing.stays;
         stored = stored-last now.parts.book new.parts.book vs so_far.numbers w made.numbers made.doing.stays so_far.each so_far.stored made.stored;
         ids = made.doing.ids ∙ so_far.ids;
+        packets = made.doing.packets ∙ so_far.packets;
         told =
             made.told
             ∙ ap (λ (ls : List Line). ls ++ told_of begun w) so_far.told
@@ -194,6 +197,7 @@ module _ {L : Type 0} (M : L → List LaneMove → L → Type 0) (m-none : (l : 
           stays = so_far.stays;
           stored = so_far.stored;
           ids = so_far.ids;
+          packets = so_far.packets;
         };
         told = so_far.told;
         begins = so_far.begins;

@@ -7,32 +7,35 @@ use Rattle.mc_base.specs.declared.channel.Side.TheVariants.{Receiver, Sender}
 use Rattle.mc_base.specs.declared.name.Local.{Local}
 use Rattle.mc_base.specs.declared.refusal.Refusal.{Refusal}
 use Rattle.mc_base.specs.declared.refusal.Refusal.TheVariants.{ChanClosed}
+use Rattle.mc_base.specs.declared.request.PacketId.{PacketId}
 use Rattle.mc_base.specs.declared.request.RequestId.{RequestId}
 use Rattle.mc_base.specs.declared.request.Slot.{Slot}
 use Rattle.board_model.specs.Answer.{address_of, answer, channel_at, local, refusal, success_puts}
 use Rattle.board_model.specs.ChannelEnds.{closed_end, opened_end}
 use Rattle.board_model.specs.Choice.{best, oldest}
-use Rattle.board_model.specs.DomainCall.{DomainCall, create_at, delete_at, lookup_of, send_from, receive_at, request_at, connect_from, open_at, packet_from, scalar_from, scalar_at, close_at, test_of, cancel_of}
+use Rattle.board_model.specs.DomainCall.{DomainCall, create_at, delete_at, lookup_of, send_from, receive_at, request_at, connect_from, open_at, packet_from, lend_at, packet_request_at, release_of, scalar_from, scalar_at, close_at, test_of, cancel_of}
 use Rattle.board_model.specs.Change.{changed_all}
 use Rattle.board_model.specs.CallChanges.{new_sender, success_changes, success_returned}
 use Rattle.board_model.specs.Journal.{PlainAnswer}
+use Rattle.board_model.specs.Labels.{success_packet}
 use Rattle.board_model.specs.Lists.{without}
 use Rattle.board_model.specs.State as state
 use Rattle.board_model.specs.State.{ChannelEnd, DomainState, closed, connected, connecting, opened, place_at}
 use Rattle.packet_channel.specs.declared.channel.Channel.{Channel}
 use Rattle.packet_channel.specs.declared.channel.Stage.{Stage}
 use Rattle.packet_channel.specs.declared.channel.Stage.TheVariants as stage
+use Rattle.buffer_book.specs.Book.{Book}
 use Rattle.request_set.specs.declared.ask.Ask.TheVariants as ask
+use Rattle.request_set.specs.declared.ask.Complete.{Complete}
 use Rattle.request_set.specs.declared.ask.Complete.TheVariants as complete
 use Rattle.request_set.specs.Requests.{Requests}
 use Rattle.domain_core.specs.AllMoved.{AllMoved, moves_at, numbers_of}
-use Rattle.domain_core.specs.Calls.{IsFresh, success_ends}
+use Rattle.domain_core.specs.Calls.{IsFresh, success_ends, success_releases}
 use Rattle.domain_core.specs.InBook.{item_at}
-use Rattle.domain_core.specs.InRequests.{slots_in}
 use Rattle.domain_core.specs.LaneMoves.{LaneMove}
 use Rattle.domain_core.specs.Parts.{Holding, Parts, state_of}
 use Rattle.domain_core.specs.Records.{slots_at, waiting_in}
-use Rattle.domain_core.specs.Steps.{Did, Step, all_moves, best_dropped, channel_given, channel_set, done_all, endpoint_gone, endpoint_made, frame_put, message_ended, oldest_dropped, receive_begun, receives_ended, request_begun, request_ended}
+use Rattle.domain_core.specs.Steps.{Did, Step, all_moves, best_dropped, channel_given, channel_set, done_all, endpoint_gone, endpoint_made, frame_put, message_ended, next_lent, oldest_dropped, oldest_lent, packet_begun, packet_ended, packet_released, receive_begun, receives_ended, request_begun, request_ended}
 use Rattle.domain_core.specs.Stores.{KeepsBut}
 
 -- steps that hang on what is there
@@ -60,14 +63,20 @@ abbrev pub receiving : ℕ → Option Slot → RequestId → Local → ℕ → S
 receiving i None id at max = request_begun id (ask.Message at max) None
 receiving i (Some s) id at max = receive_begun i s id at max
 
--- the slot of the message that the request at a place holds
-abbrev pub slots_held : Requests → Option ℕ → List Slot
-slots_held q place = slots_in (option_and_then (λ r. r.complete) (option_and_then (λ i. slice_get q.standing i) place))
+-- a receive of a packet is begun at a place: with the oldest, where one is queued
+abbrev pub requesting : ℕ → Option Slot → RequestId → Local → Step
+requesting i None id at = request_begun id (ask.Packet at) None
+requesting i (Some s) id at = packet_begun i s id at
 
--- a request ends, with the message that it holds
-abbrev pub ending : Option ℕ → List Slot → Step
-ending place [] = request_ended place
-ending place (s ∷ ss) = message_ended place s
+-- how the request at a place is complete
+abbrev pub how_held : Requests → Option ℕ → Option Complete
+how_held q place = option_and_then (λ r. r.complete) (option_and_then (λ i. slice_get q.standing i) place)
+
+-- a request ends, with the message that it holds; the packet that it holds is lent
+abbrev pub ending : Book → Option ℕ → Option Complete → Step
+ending b place (Some (complete.Message slot max)) = message_ended place slot
+ending b place (Some (complete.Packet slot)) = packet_ended place (next_lent b slot)
+ending b place other = request_ended place
 
 -- an end of a channel, as a domain has it
 abbrev pub stage_from : state.Stage → Stage
@@ -112,6 +121,9 @@ call_steps p node (open_at port side kind) given = at_its_end (state_of p) (loca
     ++ channel_set i (Some (as_channel (opened_end c)))
     ∷ [])
 call_steps p node (packet_from port bytes) given = putting_all (success_puts (state_of p) node (packet_from port bytes))
+call_steps p node (lend_at port) given = if_some (place_at (state_of p) (local node port)) (λ i. if_some (oldest_slot p i) (λ s. oldest_lent i (next_lent p.book s) ∷ []))
+call_steps p node (packet_request_at port) given = if_some given (λ id. if_some (place_at (state_of p) (local node port)) (λ i. requesting i (oldest_slot p i) id (local node port) ∷ []))
+call_steps p node (release_of place) given = if_some place (λ i. if_some (slice_get p.records.lent i) (λ id. packet_released i id ∷ []))
 call_steps p node (scalar_from port bits value) given = putting_all (success_puts (state_of p) node (scalar_from port bits value))
 call_steps p node (scalar_at port bits) given = if_some (place_at (state_of p) (local node port)) (λ i. if_some (oldest_slot p i) (λ s. oldest_dropped i s ∷ []))
 call_steps p node (close_at port side) given = at_its_end (state_of p) (local node port) (λ i c.
@@ -119,7 +131,7 @@ call_steps p node (close_at port side) given = at_its_end (state_of p) (local no
     ++ (emptying side i (local node port) (slots_at p.records i)
     ++ channel_set i (option_map as_channel (closed_end c))
     ∷ []))
-call_steps p node (test_of place) given = ending place (slots_held p.requests place) ∷ []
+call_steps p node (test_of place) given = ending p.book place (how_held p.requests place) ∷ []
 call_steps p node (cancel_of place) given = request_ended place ∷ []
 call_steps p node other given = []
 
@@ -133,6 +145,9 @@ pub record Means (p : Parts) (node : ℕ) (call : DomainCall) (given : Option Re
   pub stays : KeepsBut slots p.book (done_all (call_steps p node call given) p).book
   pub ids : map (λ r. r.id) (done_all (call_steps p node call given) p).requests.standing ≡ without (success_ends call) (map (λ r. r.id) p.requests.standing) ++ option_to_list given
   pub fresh : IfSome given (IsFresh (map (λ r. r.id) p.requests.standing) (state_of p))
+  pub lent : Option PacketId
+  pub packets : (done_all (call_steps p node call given) p).records.lent ≡ without (success_releases call) p.records.lent ++ option_to_list lent
+  pub lends : option_map (λ i. i.serial) lent ≡ success_packet (state_of p) call
 
 -- a call's success: its steps were made
 pub record Succeeds {L : Type 0} (Moved : L → List LaneMove → L → Type 0) (node : ℕ) (call : DomainCall) (old new : Holding L) (given : Option RequestId) : Type 0 where

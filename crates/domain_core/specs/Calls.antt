@@ -1,21 +1,23 @@
 -- What every call of a domain does.
 -- Source: docs/PROFILE.md, "Calls". One turn; then the frames that the call puts; the answer of the state after the turn; and the
 -- effect of the call.
-use Rattle.std.specs.Prelude.{◌≡◌, ◌≢◌, ◌≤◌, ℕ, List, ◌∷◌, ◌++◌, length, map, take, drop, Contains, IfSome, Option, None, Some, option_to_list, Result, Ok, Err}
+use Rattle.std.specs.Prelude.{◌≡◌, ◌≢◌, ◌≤◌, ℕ, List, ◌∷◌, ◌++◌, length, map, take, drop, Contains, IfSome, Option, None, Some, option_map, option_to_list, Result, Ok, Err, []}
 use Rattle.mc_base.specs.Limits.{no_key}
 use Rattle.mc_base.specs.declared.channel.Side.{Side}
 use Rattle.mc_base.specs.declared.channel.Side.TheVariants.{Receiver, Sender}
 use Rattle.mc_base.specs.declared.refusal.Refusal.{Refusal}
-use Rattle.mc_base.specs.declared.refusal.Refusal.TheVariants.{Pending}
+use Rattle.mc_base.specs.declared.refusal.Refusal.TheVariants.{BufInvalid}
 use Rattle.mc_base.specs.declared.request.Done.{Done}
 use Rattle.mc_base.specs.declared.request.Done.TheVariants as done
 use Rattle.mc_base.specs.declared.request.Got.{Got}
+use Rattle.mc_base.specs.declared.request.PacketId.{PacketId}
 use Rattle.mc_base.specs.declared.request.RequestId.{RequestId}
 use Rattle.mc_base.specs.declared.request.Slot.{Slot}
-use Rattle.board_model.specs.DomainCall.{DomainCall, test_of, cancel_of}
+use Rattle.board_model.specs.DomainCall.{DomainCall, release_of, test_of, cancel_of}
 use Rattle.board_model.specs.Journal.{Line, Visit, turned, noted_all, PlainResult, found_at, was_accepted, was_rejected, brought, ended_by, PlainAnswer, refuses, agrees, tells, gives, completes, connects}
+use Rattle.board_model.specs.Labels.{packet_given}
 use Rattle.board_model.specs.Lists.{without}
-use Rattle.board_model.specs.State.{DomainState}
+use Rattle.board_model.specs.State.{DomainState, LentPacket}
 use Rattle.board_model.specs.Answer.{answer, puts, refusal, unless_refused}
 use Rattle.board_model.specs.CallChanges as changes
 use Rattle.board_model.specs.Serial.{put_entry}
@@ -32,9 +34,17 @@ success_ends (test_of place) = place
 success_ends (cancel_of place) = place
 success_ends other = None
 
--- that of the request that a call ends
+-- the place of the packet that success releases
+abbrev pub success_releases : DomainCall → Option ℕ
+success_releases (release_of place) = place
+success_releases other = None
+
+-- that of the request that a call ends, and of the packet that it releases
 abbrev pub place_ended : DomainState → ℕ → DomainCall → Option ℕ
 place_ended s node call = unless_refused (refusal s node call) None (success_ends call)
+
+abbrev pub place_released : DomainState → ℕ → DomainCall → Option ℕ
+place_released s node call = unless_refused (refusal s node call) None (success_releases call)
 
 -- a key that no request has, and the serial of the next request
 pub record IsFresh (ids : List RequestId) (s : DomainState) (id : RequestId) : Type 0 where
@@ -53,6 +63,10 @@ pub record Does {L : Type 0} (Moved : L → List LaneMove → L → Type 0) (nod
   pub stays : KeepsBut slots old.book new.book
   pub ids : new.ids ≡ without (place_ended old.state node call) old.ids ++ option_to_list given
   pub fresh : IfSome given (IsFresh old.ids old.state)
+  -- the packet that it lends, which is the last of those that are lent
+  pub lent : Option PacketId
+  pub packets : new.packets ≡ without (place_released old.state node call) old.packets ++ option_to_list lent
+  pub lends : option_map (λ i. i.serial) lent ≡ packet_given old.state node call
 
 -- a call with its turn, and with the lines of both
 pub record Calls {L : Type 0} (Moved : L → List LaneMove → L → Type 0) (node : ℕ) (call : DomainCall) (old new : DomainView L) (lines lines' : List Line) (answered : PlainAnswer) (given : Option RequestId) : Type 0 where
@@ -110,24 +124,52 @@ abbrev pub available : Result ℕ Refusal → PlainAnswer
 available (Ok count) = tells count
 available (Err word) = refuses word
 
--- how a request ended; of a message the first bytes of `out` were given. A packet, which never comes, is told as pending
-abbrev pub result_of_done : Done → List ℕ → PlainResult
-result_of_done (done.Address address) out = found_at address
-result_of_done done.Accepted out = was_accepted
-result_of_done (done.Rejected reason) out = was_rejected reason
-result_of_done (done.Message got) out = brought got.size (take got.given out)
-result_of_done (done.Packet id) out = ended_by Pending
-result_of_done (done.Ended word) out = ended_by word
+-- all bytes of a lent packet
+abbrev pub gives_whole : Option LentPacket → PlainAnswer
+gives_whole None = refuses BufInvalid
+gives_whole (Some p) = gives (length p.item.content) p.item.content
 
--- the first bytes of a message go to `out`; all else stays there. No packet comes yet
+abbrev pub brings_whole : Option LentPacket → PlainResult
+brings_whole None = ended_by BufInvalid
+brings_whole (Some p) = brought (length p.item.content) p.item.content
+
+-- what is lent with an id, after a call
+abbrev pub Lending : Type 0
+Lending = PacketId → Option LentPacket
+
+-- a packet is told by its bytes
+abbrev pub lent : Result PacketId Refusal → Lending → PlainAnswer
+lent (Ok id) lends = gives_whole (lends id)
+lent (Err word) lends = refuses word
+
+-- how a request ended; of a message the first bytes of `out` were given
+abbrev pub result_of_done : Done → List ℕ → Lending → PlainResult
+result_of_done (done.Address address) out lends = found_at address
+result_of_done done.Accepted out lends = was_accepted
+result_of_done (done.Rejected reason) out lends = was_rejected reason
+result_of_done (done.Message got) out lends = brought got.size (take got.given out)
+result_of_done (done.Packet id) out lends = brings_whole (lends id)
+result_of_done (done.Ended word) out lends = ended_by word
+
+-- the first bytes of a message go to `out`; all else stays there
 abbrev pub GivesTo : Done → List ℕ → List ℕ → Type 0
 GivesTo (done.Message got) old new = (got.given ≤ length old) × (drop got.given new ≡ drop got.given old)
-GivesTo (done.Packet id) old new = ⊥
 GivesTo other old new = new ≡ old
 
-abbrev pub tested : Result Done Refusal → List ℕ → PlainAnswer
-tested (Ok how) out = completes None (result_of_done how out)
-tested (Err word) out = refuses word
+-- this packet is lent, the last of those that are; a request that ended without one lent none
+abbrev pub LendsLast : List PacketId → List PacketId → Done → Type 0
+LendsLast old new (done.Packet id) = new ≡ old ++ id ∷ []
+LendsLast old new other = new ≡ old
+
+abbrev pub IsLent : {L : Type 0} → DomainView L → DomainView L → PacketId → Type 0
+IsLent old new id = new.packets ≡ old.packets ++ id ∷ []
+
+abbrev pub LendsBy : {L : Type 0} → DomainView L → DomainView L → Done → Type 0
+LendsBy old new how = LendsLast old.packets new.packets how
+
+abbrev pub tested : Result Done Refusal → List ℕ → Lending → PlainAnswer
+tested (Ok how) out lends = completes None (result_of_done how out lends)
+tested (Err word) out lends = refuses word
 
 abbrev pub cancelled : Result (Unit {0}) Refusal → PlainAnswer
 cancelled (Ok done) = agrees

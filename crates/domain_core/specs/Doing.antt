@@ -12,7 +12,7 @@ use Rattle.domain_core.specs.Owed.{put_lines}
 use Rattle.domain_core.specs.Peers.{peer_in}
 use Rattle.domain_core.specs.Parts.{Holding, Parts, peer_at, plain, state_of}
 use Rattle.domain_core.specs.Steps.{Did, Step, all_moves, at_peer}
-use Rattle.domain_core.specs.Stores.{AreStored, KeepsQueued}
+use Rattle.domain_core.specs.Stores.{AreStored, KeepsHeld}
 use Rattle.domain_core.specs.VisitMoves.{putting, taking, visit_moves}
 
 abbrev pub ids_in : Parts → List RequestId
@@ -24,8 +24,9 @@ pub record Doing {L : Type 0} (Moved : L → List LaneMove → L → Type 0) (pe
   pub moves_are : (n : ℕ) → all_moves steps n ≡ at_peer peer moves n
   pub may : AllMayDo (state_of old.parts) deeds
   pub state : state_of new.parts ≡ after_deeds (state_of old.parts) deeds
-  pub stays : KeepsQueued old.parts.book new.parts.book
+  pub stays : KeepsHeld old.parts.book new.parts.book
   pub ids : ids_in new.parts ≡ ids_in old.parts
+  pub packets : new.parts.records.lent ≡ old.parts.records.lent
 
 -- frames were taken from the peer at a place
 pub record Takes {L : Type 0} (Moved : L → List LaneMove → L → Type 0) (place count : ℕ) (old new : Holding L) (lines lines' : List Line) : Type 0 where

@@ -1,9 +1,10 @@
 -- What contracts see of a domain.
 -- Source: docs/PROFILE.md, "A domain", "Lanes" and "Requests".
 use Rattle.std.specs.Prelude.{ℕ, Bool, ◌&&◌, ◌==◌, List, map, position, Option}
+use Rattle.mc_base.specs.declared.request.PacketId.{PacketId}
 use Rattle.mc_base.specs.declared.request.RequestId.{RequestId}
 use Rattle.buffer_book.specs.Book.{Book}
-use Rattle.board_model.specs.State.{DomainState}
+use Rattle.board_model.specs.State.{DomainState, LentPacket, packet_at_place}
 use Rattle.request_set.specs.Requests.{Requests}
 use Rattle.endpoint_table.specs.Table as endpoint_table
 use Rattle.domain_core.specs.LaneSeen.{LaneSeen}
@@ -12,17 +13,18 @@ use Rattle.domain_core.specs.Records.{Records}
 use Rattle.domain_core.specs.Peers.{state_in}
 use Rattle.domain_core.specs.AllMoved.{ends_of}
 
--- the state; the ends towards each peer, in the order of the state's peers; the ids of the requests that stand, in their order;
--- and the book of the buffers that are held
+-- the state; the ends towards each peer, in the order of the state's peers; the ids of the requests that stand and of the packets that
+-- are lent, in their orders in the state; and the book of the buffers that are held
 pub record DomainView (L : Type 0) : Type 0 where
   pub state : DomainState
   pub ends : List L
   pub ids : List RequestId
+  pub packets : List PacketId
   pub book : Book
 
 -- what its parts show
 abbrev pub domain_in : {L : Type 0} → (L → LaneSeen) → Book → Records → Requests → endpoint_table.Table → List (Peer L) → DomainView L
-domain_in v b r q t ps = record { state = state_in v b r q t ps; ends = ends_of ps; ids = map (λ r. r.id) q.standing; book = b }
+domain_in v b r q t ps = record { state = state_in v b r q t ps; ends = ends_of ps; ids = map (λ r. r.id) q.standing; packets = r.lent; book = b }
 
 abbrev pub has_id : RequestId → RequestId → Bool
 has_id id i = i.key == id.key && i.serial == id.serial
@@ -30,3 +32,14 @@ has_id id i = i.key == id.key && i.serial == id.serial
 -- the place of the request with this id
 abbrev pub place_of_id : List RequestId → RequestId → Option ℕ
 place_of_id ids id = position (has_id id) ids
+
+abbrev pub has_packet_id : PacketId → PacketId → Bool
+has_packet_id id i = i.peer == id.peer && (i.buffer == id.buffer && i.serial == id.serial)
+
+-- the place of the packet with this id
+abbrev pub place_of_packet_id : List PacketId → PacketId → Option ℕ
+place_of_packet_id ids id = position (has_packet_id id) ids
+
+-- the packet that is lent with this id
+abbrev pub packet_lent_as : {L : Type 0} → DomainView L → PacketId → Option LentPacket
+packet_lent_as d id = packet_at_place d.state (place_of_packet_id d.packets id)

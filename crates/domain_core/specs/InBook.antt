@@ -1,12 +1,15 @@
--- The endpoints and requests as the board's definitions see them: what waits or was handed is read in the book of buffers.
+-- The endpoints, the requests and the lent packets as the board's definitions see them: what waits, was handed or is lent is read in the
+-- book of buffers.
 -- Source: docs/PROFILE.md, "Messages" and "Requests". A message lies in the buffer of its frame, whose header names its
 -- source, and whose letter names its priority.
 use Rattle.std.specs.Prelude.{ℕ, Bool, ◌==◌, List, [], map, slice_index, Option, None, Some, option_map, if◌then◌else◌}
 use Rattle.mc_base.specs.Bytes.{number_at}
 use Rattle.mc_base.specs.Frame.{source_of}
+use Rattle.mc_base.specs.declared.request.PacketId.{PacketId}
 use Rattle.mc_base.specs.declared.request.Slot.{Slot}
 use Rattle.board_model.specs.State as state
-use Rattle.buffer_book.specs.Book.{Book, Kept, content, queued_at}
+use Rattle.board_model.specs.State.{LentPacket}
+use Rattle.buffer_book.specs.Book.{Book, Kept, content, kept_at, slot_of}
 use Rattle.message_queue.specs.Queue.{Waiting, waiting}
 use Rattle.packet_channel.specs.End.{end_of}
 use Rattle.request_set.specs.declared.ask.Ask.{Ask}
@@ -48,11 +51,11 @@ channel_in (Some k) = channel_of k.buffer.bytes
 
 -- what waits in a buffer
 abbrev pub item_in : Book → Waiting → state.Item
-item_in b w = record { peer = w.slot.peer; source = source_in (queued_at b w.slot); priority = w.priority; channel = channel_in (queued_at b w.slot); content = content_in (queued_at b w.slot); frames = [] }
+item_in b w = record { peer = w.slot.peer; source = source_in (kept_at b w.slot); priority = w.priority; channel = channel_in (kept_at b w.slot); content = content_in (kept_at b w.slot); frames = [] }
 
--- what was handed in a buffer
+-- what was handed or is lent in a buffer
 abbrev pub item_at : Book → Slot → state.Item
-item_at b slot = item_in b (waiting slot (priority_in (queued_at b slot)))
+item_at b slot = item_in b (waiting slot (priority_in (kept_at b slot)))
 
 abbrev pub endpoint_in : Book → Endpoint → state.Endpoint
 endpoint_in b e = record { local = e.local; address = e.address; queue = map (item_in b) e.queue.waiting; channel = option_map end_of e.channel }
@@ -80,8 +83,15 @@ request_in b r = record { serial = r.id.serial; asked = asked_in r.ask; outcome 
 abbrev pub requests_in : Book → List Standing → List state.Request
 requests_in b rs = map (request_in b) rs
 
+-- the packets that are lent, by their ids
+abbrev pub packet_in : Book → PacketId → LentPacket
+packet_in b id = record { serial = id.serial; item = item_at b (slot_of id) }
+
+abbrev pub packets_in : Book → List PacketId → List LentPacket
+packets_in b ids = map (packet_in b) ids
+
 abbrev pub held_by : Book → Records → Requests → Held
-held_by b r q = record { endpoints = endpoints_in b r.endpoints; requests = requests_in b q.standing }
+held_by b r q = record { endpoints = endpoints_in b r.endpoints; requests = requests_in b q.standing; lent = packets_in b r.lent }
 
 abbrev pub table_in : Book → Records → Requests → Table
 table_in b r q = record { number = r.number; held = held_by b r q; given = r.given; room = r.room; requests_given = q.given }

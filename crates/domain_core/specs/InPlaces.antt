@@ -1,13 +1,15 @@
 -- Where the buffers are that a domain took from its lanes and has not given back: each in one place.
--- Source: docs/PROFILE.md, "Lanes". Such a buffer waits at an endpoint, or a complete request holds it. Each place is told by
+-- Source: docs/PROFILE.md, "Lanes". Such a buffer waits at an endpoint, a complete request holds it, or it is lent. Each place is told by
 -- counts.
-use Rattle.std.specs.Prelude.{◌≡◌, ℕ, ◌+◌, ◌≤◌, Bool, cond, not, ◌&&◌, List, [], ◌∷◌, ◌++◌, length, map, count_by, Option, None, Some, is_some, nat_lt, ◌==◌}
+use Rattle.std.specs.Prelude.{◌≡◌, ℕ, ◌+◌, ◌≤◌, Bool, cond, not, ◌&&◌, List, [], ◌∷◌, ◌++◌, length, map, count_by, Option, None, Some, is_some, nat_lt, true, ◌==◌}
+use Rattle.std.specs.List.{AllByRecursion}
 use Rattle.mc_base.specs.Limits.{item_size}
+use Rattle.mc_base.specs.declared.request.PacketId.{PacketId}
 use Rattle.mc_base.specs.declared.request.Slot.{Slot}
-use Rattle.buffer_book.specs.Book.{Book, Kept, place_at, kept_at, queued_at}
+use Rattle.buffer_book.specs.Book.{Book, Kept, lent_as, place_at, kept_at, queued_at}
 use Rattle.message_queue.specs.Queue.{Waiting}
 use Rattle.request_set.specs.Requests.{Requests}
-use Rattle.domain_core.specs.Records.{Records, all_waiting}
+use Rattle.domain_core.specs.Records.{Records, all_waiting, lent_slots}
 use Rattle.domain_core.specs.InBook.{priority_in}
 use Rattle.domain_core.specs.InRequests.{handed_slots}
 use Rattle.lane_end.specs.Numbers.{often, AreApart}
@@ -39,13 +41,13 @@ abbrev pub IsShort : Option Kept → Type 0
 IsShort None = Unit {0}
 IsShort (Some k) = k.size ≤ item_size
 
--- A lane from a peer, by the peer's number and the buffers that are out; the slots that wait or were handed; the book; and the
--- numbers of the lane's buffers that are out and not in the book
-pub record EachInPlace (number : ℕ) (o : Out) (ss : List Slot) (b : Book) (ns : List ℕ) : Type 0 where
+-- A lane from a peer, by the peer's number and the buffers that are out; the slots that wait or were handed; those that are lent; the
+-- book; and the numbers of the lane's buffers that are out and not in the book
+pub record EachInPlace (number : ℕ) (o : Out) (ss ls : List Slot) (b : Book) (ns : List ℕ) : Type 0 where
   -- a slot stands once where the book has it in a queue, and else not
   pub stands_once : (s : Slot) → times_in s ss ≡ one_if (is_some (queued_at b s))
-  -- nothing is lent
-  pub none_lent : (s : Slot) → is_some (kept_at b s) ≡ is_some (queued_at b s)
+  -- it is lent once where the book has it, but in no queue
+  pub lent_once : (s : Slot) → times_in s ls + one_if (is_some (queued_at b s)) ≡ one_if (is_some (kept_at b s))
   pub short : (s : Slot) → IsShort (kept_at b s)
   -- the book knows the buffers of the lane
   pub known : (n : ℕ) → is_some (place_at b (slot_at number n)) ≡ nat_lt n o.size
@@ -53,7 +55,7 @@ pub record EachInPlace (number : ℕ) (o : Out) (ss : List Slot) (b : Book) (ns 
   pub once : (n : ℕ) → often n ns + one_if (is_some (kept_at b (slot_at number n))) ≡ often n o.numbers
   -- they differ, and are numbers of the lane's buffers
   pub apart : AreApart o.size o.numbers
-  pub all : count_by (is_of number) ss + length ns ≡ length o.numbers
+  pub all : count_by (is_of number) ss + count_by (is_of number) ls + length ns ≡ length o.numbers
 
 -- the slots that wait or were handed
 abbrev pub slots_of : Records → Requests → List Slot
@@ -61,12 +63,17 @@ slots_of r q = map (λ w. w.slot) (all_waiting r.endpoints) ++ handed_slots q.st
 
 -- a buffer waits with another priority than its frame has
 abbrev pub is_misplaced : Book → Waiting → Bool
-is_misplaced b w = not (w.priority == priority_in (queued_at b w.slot))
+is_misplaced b w = not (w.priority == priority_in (kept_at b w.slot))
+
+-- a packet is lent under its id
+abbrev pub IsLentAs : Book → PacketId → Type 0
+IsLentAs b id = is_some (lent_as b id) ≡ true
 
 -- each buffer of the lane from a peer that is out is in one place, but for these, and waits with the priority of its frame
 pub record AreInPlacesBeside (ns : List ℕ) (number : ℕ) (r : Records) (q : Requests) (b : Book) (o : Out) : Type 0 where
-  pub each : EachInPlace number o (slots_of r q) b ns
+  pub each : EachInPlace number o (slots_of r q) (lent_slots r) b ns
   pub priorities : count_by (is_misplaced b) (all_waiting r.endpoints) ≡ 0
+  pub lent : AllByRecursion (IsLentAs b) r.lent
 
 abbrev pub AreInPlaces : ℕ → Records → Requests → Book → Out → Type 0
 AreInPlaces number r q b o = AreInPlacesBeside [] number r q b o

@@ -1,6 +1,5 @@
 -- What the requests of a domain keep, the buffers that complete ones hold, and which of those that wait are complete at once.
--- Source: docs/PROFILE.md, "Requests". Only lookups, connects and receives of messages stand; a complete receive holds its message until
--- it is tested off.
+-- Source: docs/PROFILE.md, "Requests". A complete receive holds its message or packet until it is tested off.
 use Rattle.std.specs.Prelude.{◌≡◌, ◌≤◌, Bool, false, ◌&&◌, ◌==◌, List, [], ◌∷◌, length, map, Option, None, Some, is_none, if◌then◌else◌}
 use Rattle.std.specs.List.{AllByRecursion, flat_map}
 use Rattle.mc_base.specs.Limits.{request_limit}
@@ -21,15 +20,23 @@ slots_in (Some (complete.Message slot max)) = slot ∷ []
 slots_in (Some (complete.Packet slot)) = slot ∷ []
 slots_in other = []
 
+-- how a receive is complete with the item in a buffer
+abbrev pub handed_by : Ask → Slot → Complete
+handed_by (ask.Message at max) slot = complete.Message slot max
+handed_by other slot = complete.Packet slot
+
 abbrev pub handed_slots : List Standing → List Slot
 handed_slots rs = flat_map (λ r. slots_in r.complete) rs
 
 -- a receive of a message: pending, complete with a message of which as many bytes are given as it asks for, or ended with a
--- word; a lookup: pending, or complete with an address; and a connect: pending, accepted, or rejected
+-- word; a receive of a packet: pending, complete with a packet, or ended with a word; a lookup: pending, or complete with an address; and a connect: pending, accepted, or rejected
 abbrev pub Receives : Ask → Option Complete → Type 0
 Receives (ask.Message at max) None = Unit {0}
 Receives (ask.Message at max) (Some (complete.Message slot most)) = most ≡ max
 Receives (ask.Message at max) (Some (complete.Ended word)) = Unit {0}
+Receives (ask.Packet at) None = Unit {0}
+Receives (ask.Packet at) (Some (complete.Packet slot)) = Unit {0}
+Receives (ask.Packet at) (Some (complete.Ended word)) = Unit {0}
 Receives (ask.Lookup name) None = Unit {0}
 Receives (ask.Lookup name) (Some (complete.Address address)) = Unit {0}
 Receives (ask.Connect channel) None = Unit {0}

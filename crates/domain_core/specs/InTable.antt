@@ -11,7 +11,7 @@ use Rattle.domain_core.specs.declared.endpoints.Endpoints.TheInside.{Inside}
 use Rattle.domain_core.specs.Records.{Records}
 
 abbrev pub records_of : Inside → Records
-records_of t = record { number = t.number; endpoints = t.records.items; given = t.given; channels = t.channels; room = t.room }
+records_of t = record { number = t.number; endpoints = t.records.items; given = t.given; channels = t.channels; lent = t.lent.items; room = t.room }
 
 -- each queue has room for so many
 abbrev pub HaveRoom : ℕ → List Endpoint → Type 0
@@ -59,3 +59,4 @@ pub record HasQueues (t : Inside) : Type 0 where
   pub below : AllByRecursion (λ e. e.address < first_address + t.given) t.records.items
   pub records_room : record_limit ≤ vec_capacity t.records
   pub spare_room : record_limit ≤ vec_capacity t.spare
+  pub lent_room : t.room ≤ vec_capacity t.lent

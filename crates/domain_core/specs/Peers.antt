@@ -1,6 +1,6 @@
 -- The state of a domain, as its parts are seen.
 -- Source: docs/PROFILE.md, "A domain". What the state tells of a lane is what the ends towards the peer tell of it.
-use Rattle.std.specs.Prelude.{ℕ, not, List, [], map, filter}
+use Rattle.std.specs.Prelude.{ℕ, not, List, map, filter}
 use Rattle.board_model.specs.State as state
 use Rattle.board_model.specs.State.{DomainState, Announcement}
 use Rattle.buffer_book.specs.Book.{Book}
@@ -13,7 +13,7 @@ use Rattle.domain_core.specs.LaneSeen.{LaneSeen}
 use Rattle.domain_core.specs.declared.peer.Peer.{Peer}
 use Rattle.domain_core.specs.declared.replies.Reply.{Reply}
 use Rattle.domain_core.specs.Records.{Records}
-use Rattle.domain_core.specs.InBook.{endpoints_in, requests_in}
+use Rattle.domain_core.specs.InBook.{endpoints_in, packets_in, requests_in}
 use Rattle.domain_core.specs.Owed.{owed_by}
 
 -- what is owed to a linked domain, as the table of endpoints has it
@@ -34,6 +34,6 @@ peers_in v t ps = map (peer_in v t) ps
 abbrev pub ended_in : List Record → List ℕ
 ended_in records = map (λ r. r.address) (filter (λ r. not r.live) records)
 
--- what waits or was handed is read in the book of buffers. No packet is lent
+-- what waits, was handed or is lent is read in the book of buffers
 abbrev pub state_in : {L : Type 0} → (L → LaneSeen) → Book → Records → Requests → endpoint_table.Table → List (Peer L) → DomainState
-state_in v b r q t ps = record { number = t.domain; nodes = t.nodes; endpoints = endpoints_in b r.endpoints; ended = ended_in t.records; peers = peers_in v t ps; requests = requests_in b q.standing; lent = []; endpoints_given = t.given; channels_given = r.channels; requests_given = q.given; packets_lent = 0 }
+state_in v b r q t ps = record { number = t.domain; nodes = t.nodes; endpoints = endpoints_in b r.endpoints; ended = ended_in t.records; peers = peers_in v t ps; requests = requests_in b q.standing; lent = packets_in b r.lent; endpoints_given = t.given; channels_given = r.channels; requests_given = q.given; packets_lent = b.lends }

@@ -1,28 +1,32 @@
--- The endpoints of a domain, as the table of them is seen: their names and addresses, and the buffers that wait there.
+-- The endpoints of a domain, as the table of them is seen: their names and addresses, the buffers that wait there, and the packets that
+-- were received there and are lent.
 -- Source: docs/PROFILE.md, "A domain". Of a buffer that waits stand its slot and its priority here; what it holds is told
 -- in the book of buffers.
 use Rattle.std.specs.Prelude.{ℕ, ◌+◌, List, [], ◌∷◌, ◌++◌, map, slice_get, Option, None, Some, is_none, if◌then◌else◌}
 use Rattle.std.specs.List.{flat_map}
 use Rattle.mc_base.specs.Limits.{first_address}
 use Rattle.mc_base.specs.declared.name.Local.{Local}
+use Rattle.mc_base.specs.declared.request.PacketId.{PacketId}
 use Rattle.mc_base.specs.declared.request.Slot.{Slot}
+use Rattle.buffer_book.specs.Book.{slot_of}
 use Rattle.message_queue.specs.Queue.{Waiting, empty_queue, pushed, popped_best, popped_oldest}
 use Rattle.packet_channel.specs.End.{kept_end}
 use Rattle.packet_channel.specs.declared.channel.Channel.{Channel}
 use Rattle.board_model.specs.Lists.{changed_at, without_at}
 use Rattle.domain_core.specs.declared.endpoints.Endpoint.{Endpoint}
 
--- the domain's number, its endpoints, how many were created, how many channels were numbered, and for how many buffers each queue has
--- room
+-- the domain's number, its endpoints, how many were created, how many channels were numbered, the packets that are lent, in the order in
+-- which they were lent, and for how many buffers each queue has room
 pub record Records : Type 0 where
   pub number : ℕ
   pub endpoints : List Endpoint
   pub given : ℕ
   pub channels : ℕ
+  pub lent : List PacketId
   pub room : ℕ
 
 abbrev pub opening_records : ℕ → ℕ → Records
-opening_records number room = record { number = number; endpoints = []; given = 0; channels = 0; room = room }
+opening_records number room = record { number = number; endpoints = []; given = 0; channels = 0; lent = []; room = room }
 
 -- one more endpoint, at which nothing waits
 abbrev pub new_record : ℕ → Local → ℕ → Endpoint
@@ -71,6 +75,13 @@ with_channel_at r i c = record r { endpoints = changed_at (with_end c) i r.endpo
 abbrev pub with_channel_given : Records → Records
 with_channel_given r = record r { channels = r.channels + 1 }
 
+-- a packet is lent, and the one at a place no longer
+abbrev pub with_last_lent : Records → PacketId → Records
+with_last_lent r id = record r { lent = r.lent ++ id ∷ [] }
+
+abbrev pub without_lent_at : Records → ℕ → Records
+without_lent_at r i = record r { lent = without_at i r.lent }
+
 -- what waits at an endpoint, and at all of them
 abbrev pub waiting_in : Option Endpoint → List Waiting
 waiting_in None = []
@@ -82,3 +93,7 @@ all_waiting es = flat_map (λ e. e.queue.waiting) es
 -- their buffers, the oldest first, where they wait at the endpoint at a place
 abbrev pub slots_at : Records → ℕ → List Slot
 slots_at r i = map (λ w. w.slot) (waiting_in (slice_get r.endpoints i))
+
+-- the buffers of the packets that are lent
+abbrev pub lent_slots : Records → List Slot
+lent_slots r = map slot_of r.lent

@@ -50,7 +50,7 @@ pub record AreSound {L : Type 0} (v : L → LaneSeen) (b : Book) (r : Records) (
   pub peers : ArePeers v r.number ps
   -- each buffer that is out is in one place, and none else is held
   pub places : AllByRecursion (λ p. AreInPlaces p.number r q b (out_at v p)) ps
-  pub total : length (slots_of r q) ≡ outs_count v ps
+  pub total : length (slots_of r q) + length r.lent ≡ outs_count v ps
   pub room : buffers_count v ps ≤ r.room
   pub receives : AreReceives q
   pub tied : AreTied r t (numbers_of ps)

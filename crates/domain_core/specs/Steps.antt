@@ -1,7 +1,7 @@
 -- The steps that a domain makes inside, and what each does to its parts and at the ends towards its peers.
 -- Source: docs/PROFILE.md, "Calls". A step names the place, the slot and the request that it is about, so that it tells the number of
 -- each buffer that is given back.
-use Rattle.std.specs.Prelude.{◌≡◌, ℕ, ◌+◌, ◌%◌, ◌^◌, ◌==◌, cond, List, [], ◌∷◌, ◌++◌, drop, map, take, Option, Some}
+use Rattle.std.specs.Prelude.{◌≡◌, ℕ, ◌+◌, ◌%◌, ◌^◌, ◌==◌, cond, List, [], ◌∷◌, ◌++◌, drop, map, option_map, take, unwrap_or, Option, Some}
 use Rattle.mc_base.specs.FullName.{end_name}
 use Rattle.mc_base.specs.NameMap.{Names}
 use Rattle.mc_base.specs.Stored.{Stored}
@@ -9,13 +9,14 @@ use Rattle.mc_base.specs.declared.name.EndName.{EndName}
 use Rattle.mc_base.specs.declared.name.Local.{Local}
 use Rattle.mc_base.specs.declared.refusal.Refusal.{Refusal}
 use Rattle.mc_base.specs.declared.refusal.Refusal.TheVariants.{EndpInvalid}
+use Rattle.mc_base.specs.declared.request.PacketId.{PacketId}
 use Rattle.mc_base.specs.declared.request.RequestId.{RequestId}
 use Rattle.mc_base.specs.declared.request.Slot.{Slot}
 use Rattle.lane_end.specs.SendMoves.{Looked, Sent}
 use Rattle.lane_end.specs.ReceiveMoves.{Gave, Took}
 use Rattle.lane_end.specs.ReceiveMoves as receiving
 use Rattle.board_model.specs.Lists as lists
-use Rattle.buffer_book.specs.Book.{Book, queued_in, with_away, with_queued}
+use Rattle.buffer_book.specs.Book.{Book, queued_at, queued_in, slot_of, with_away, with_lent, with_queued}
 use Rattle.endpoint_table.specs.Table as endpoint_table
 use Rattle.request_set.specs.declared.ask.Ask.{Ask}
 use Rattle.request_set.specs.declared.ask.Ask.TheVariants as ask
@@ -30,10 +31,10 @@ use Rattle.domain_core.specs.declared.replies.Reply.{Reply}
 use Rattle.domain_core.specs.declared.requests.Waiters.TheVariants as waiters
 use Rattle.domain_core.specs.AllMoved.{AllMoved, numbers_of}
 use Rattle.domain_core.specs.InPlaces.{slot_at}
-use Rattle.domain_core.specs.InRequests.{with_all_complete}
+use Rattle.domain_core.specs.InRequests.{handed_by, with_all_complete}
 use Rattle.domain_core.specs.LaneMoves.{LaneMove, sender, receiver}
 use Rattle.domain_core.specs.Parts.{Holding, Parts}
-use Rattle.domain_core.specs.Records.{Records, with_best_taken_at, with_channel_at, with_channel_given, with_oldest_taken_at, with_record, with_waiting_at, without_record_at}
+use Rattle.domain_core.specs.Records.{Records, with_best_taken_at, with_channel_at, with_channel_given, with_last_lent, with_oldest_taken_at, with_record, with_waiting_at, without_lent_at, without_record_at}
 
 -- each peer, after the moves at the peer of its number
 abbrev pub moved_peer : (ℕ → List LaneMove) → Peer LaneSeen → Peer LaneSeen
@@ -72,15 +73,23 @@ pub data Step : Type 0 where
   -- the request at a place is gone, and with it the message that it held, which is in this slot
   request_ended : Option ℕ → Step
   message_ended : Option ℕ → Slot → Step
+  -- the oldest packet at a place is lent with this id; a receive of a packet is begun by an endpoint with the oldest at a place, which is
+  -- in this slot
+  oldest_lent : ℕ → PacketId → Step
+  packet_begun : ℕ → Slot → RequestId → Local → Step
+  -- the request at a place is gone, and the packet that it held is lent with this id; the packet at a place of the lent ones, which has
+  -- this id, is released
+  packet_ended : Option ℕ → PacketId → Step
+  packet_released : ℕ → PacketId → Step
   -- at a peer a look shows so many buffers that came back; the oldest announcement that is owed is put, in this frame; a look shows so
   -- many frames
   looked_back : ℕ → ℕ → Step
   owed_put : ℕ → List ℕ → Step
   looked_ahead : ℕ → ℕ → Step
   -- The oldest frame of a peer is taken: so many of the first bytes of this buffer. Its message, of this size, is last in the queue at a
-  -- place, with this priority; or the request with this id, which asks for so many bytes at most, is complete with it
+  -- place, with this priority; or the request with this id, which asks so, is complete with it
   frame_queued : ℕ → Stored → ℕ → ℕ → ℕ → ℕ → Step
-  frame_handed : ℕ → Stored → ℕ → ℕ → RequestId → ℕ → Step
+  frame_handed : ℕ → Stored → ℕ → ℕ → RequestId → Ask → Step
   -- it is taken in the buffer of this number, which is given back at once
   frame_returned : ℕ → ℕ → List ℕ → Step
   -- these names are known of a peer; lookups of a name are complete with its address
@@ -96,12 +105,22 @@ pub data Step : Type 0 where
   reply_owed : ℕ → Reply → Step
   reply_put : ℕ → List ℕ → Step
 
+-- the packet in a slot is lent, under the serial that comes next
+abbrev pub next_lent : Book → Slot → PacketId
+next_lent b s = record { peer = s.peer; buffer = s.buffer; serial = b.lends }
+
+abbrev pub with_lent_at : Book → Slot → Book
+with_lent_at b s = unwrap_or (option_map (with_lent b s) (queued_at b s)) b
+
 abbrev pub book_after : Step → Book → Book
 book_after (best_dropped i s) b = with_away b s
 book_after (oldest_dropped i s) b = with_away b s
 book_after (message_ended place s) b = with_away b s
 book_after (frame_queued peer buffer len size i priority) b = with_queued b (slot_at peer buffer.number) (queued_in buffer 24 size)
-book_after (frame_handed peer buffer len size id max) b = with_queued b (slot_at peer buffer.number) (queued_in buffer 24 size)
+book_after (frame_handed peer buffer len size id a) b = with_queued b (slot_at peer buffer.number) (queued_in buffer 24 size)
+book_after (oldest_lent i id) b = with_lent_at b (slot_of id)
+book_after (packet_ended place id) b = with_lent_at b (slot_of id)
+book_after (packet_released i id) b = with_away b (slot_of id)
 book_after other b = b
 
 abbrev pub records_after : Step → Records → Records
@@ -110,6 +129,10 @@ records_after (endpoint_gone i at) r = without_record_at r i
 records_after (best_dropped i s) r = with_best_taken_at r i
 records_after (oldest_dropped i s) r = with_oldest_taken_at r i
 records_after (receive_begun i s id at max) r = with_best_taken_at r i
+records_after (oldest_lent i id) r = with_last_lent (with_oldest_taken_at r i) id
+records_after (packet_begun i s id at) r = with_oldest_taken_at r i
+records_after (packet_ended place id) r = with_last_lent r id
+records_after (packet_released i id) r = without_lent_at r i
 records_after (frame_queued peer buffer len size i priority) r = with_waiting_at r i (waiting (slot_at peer buffer.number) priority)
 records_after (channel_set i c) r = with_channel_at r i c
 records_after channel_given r = with_channel_given r
@@ -127,9 +150,11 @@ requests_after (endpoint_made domain at address) q = with_all_complete q (waiter
 requests_after (endpoint_gone i at) q = with_all_complete q (waiters.Receives at) (complete.Ended EndpInvalid)
 requests_after (request_begun id a o) q = with_last q id a o
 requests_after (receive_begun i s id at max) q = with_last q id (ask.Message at max) (Some (complete.Message s max))
+requests_after (packet_begun i s id at) q = with_last q id (ask.Packet at) (Some (complete.Packet s))
+requests_after (packet_ended place id) q = without_at q place
 requests_after (request_ended place) q = without_at q place
 requests_after (message_ended place s) q = without_at q place
-requests_after (frame_handed peer buffer len size id max) q = with_complete q id (complete.Message (slot_at peer buffer.number) max)
+requests_after (frame_handed peer buffer len size id a) q = with_complete q id (handed_by a (slot_at peer buffer.number))
 requests_after (name_told name address) q = with_all_complete q (waiters.Lookups name) (complete.Address address)
 requests_after (connect_settled number how) q = with_all_complete q (waiters.Connects number) how
 requests_after (receives_ended at word) q = with_all_complete q (waiters.Receives at) (complete.Ended word)
@@ -150,12 +175,13 @@ abbrev pub step_moves : Step → ℕ → List LaneMove
 step_moves (best_dropped i s) n = at_peer s.peer (receiver (Gave s.buffer) ∷ []) n
 step_moves (oldest_dropped i s) n = at_peer s.peer (receiver (Gave s.buffer) ∷ []) n
 step_moves (message_ended place s) n = at_peer s.peer (receiver (Gave s.buffer) ∷ []) n
+step_moves (packet_released i id) n = at_peer id.peer (receiver (Gave id.buffer) ∷ []) n
 step_moves (frame_put peer frame) n = at_peer peer (sender (Sent frame) ∷ []) n
 step_moves (looked_back peer count) n = at_peer peer (sender (Looked count) ∷ []) n
 step_moves (owed_put peer frame) n = at_peer peer (sender (Sent frame) ∷ []) n
 step_moves (looked_ahead peer count) n = at_peer peer (receiver (receiving.Looked count) ∷ []) n
 step_moves (frame_queued peer buffer len size i priority) n = at_peer peer (receiver (Took buffer.number (take len buffer.bytes)) ∷ []) n
-step_moves (frame_handed peer buffer len size id max) n = at_peer peer (receiver (Took buffer.number (take len buffer.bytes)) ∷ []) n
+step_moves (frame_handed peer buffer len size id a) n = at_peer peer (receiver (Took buffer.number (take len buffer.bytes)) ∷ []) n
 step_moves (frame_returned peer number frame) n = at_peer peer (receiver (Took number frame) ∷ receiver (Gave number) ∷ []) n
 step_moves (reply_put peer frame) n = at_peer peer (sender (Sent frame) ∷ []) n
 step_moves other n = []

@@ -6,7 +6,7 @@ use Rattle.std.specs.List.{list_all}
 use Rattle.buffer_book.specs.Book.{Book}
 use Rattle.board_model.specs.Journal.{Line, Visit, is_idle, noted, turned}
 use Rattle.board_model.specs.Turn.{IsTurn, after_turn}
-use Rattle.domain_core.specs.Stores.{KeepsQueued, AreStored}
+use Rattle.domain_core.specs.Stores.{KeepsHeld, AreStored}
 use Rattle.domain_core.specs.LaneMoves.{LaneMove}
 use Rattle.domain_core.specs.Beginning.{told_of_all, has_begun_after}
 use Rattle.domain_core.specs.AllMoved.{AllMoved, turn_moves}
@@ -25,15 +25,16 @@ HaveNumbers (v ∷ vs) (ns ∷ numbers) = (length ns ≡ length v.takes) × Have
 HaveNumbers visits numbers = ⊥
 
 -- A turn: the visits are those that the lanes allow, and at the ends towards each peer just the moves of the visit to it are made.
--- What was held stays, and so do the requests' ids
+-- What was held stays, and so do the ids of requests and packets
 pub record Turns {L : Type 0} (Moved : L → List LaneMove → L → Type 0) (visits : List Visit) (numbers : List (List ℕ)) (old new : DomainView L) : Type 0 where
   pub allowed : IsTurn old.state visits
   pub state : new.state ≡ after_turn old.state visits
   pub each : HaveNumbers visits numbers
   pub moved : AllMoved Moved old.ends (turn_moves visits numbers) new.ends
-  pub stays : KeepsQueued old.book new.book
+  pub stays : KeepsHeld old.book new.book
   pub stored : AllStored visits numbers new.book
   pub ids : new.ids ≡ old.ids
+  pub packets : new.packets ≡ old.packets
 
 -- a turn with the lines of its visits, of which the first that is not idle begins it; and whether one was not idle
 pub record VisitsAll {L : Type 0} (Moved : L → List LaneMove → L → Type 0) (old new : DomainView L) (lines lines' : List Line) (begun : Bool) : Type 0 where

@@ -22,10 +22,10 @@ use Rattle.board_model.specs.TakenFrames.{Row, connect_rows, first_row, letter_r
 use Rattle.buffer_book.specs.Book.{Book}
 use Rattle.packet_channel.specs.End.{end_of}
 use Rattle.packet_channel.specs.declared.channel.Channel.{Channel}
-use Rattle.request_set.specs.declared.ask.Ask.TheVariants.{Message}
+use Rattle.request_set.specs.declared.ask.Ask.{Ask}
 use Rattle.request_set.specs.declared.ask.Complete.{Complete}
 use Rattle.request_set.specs.declared.ask.Complete.TheVariants as complete
-use Rattle.request_set.specs.Requests.{IsPending, Requests, is_id, oldest_waiting, request_of}
+use Rattle.request_set.specs.Requests.{IsPending, Requests, is_id, oldest_waiting, receives_at, request_of}
 use Rattle.domain_core.specs.declared.dealing.Verdict.{Verdict}
 use Rattle.domain_core.specs.declared.dealing.Verdict.TheVariants as verdict
 use Rattle.domain_core.specs.declared.dealing.Way.{Way}
@@ -68,8 +68,8 @@ pub record IsQueued (s : DomainState) (its : Row) (item : Item) (place : ℕ) : 
   pub at : position (has_address_of destination) s.endpoints ≡ Some place
   pub within : place < length s.endpoints
 
--- a pending receive, of so many bytes at most, is complete with an item
-pub record IsHanded (s : DomainState) (q : Requests) (its : Row) (item : Item) (id : RequestId) (max : ℕ) : Type 0 where
+-- a pending receive, which asks so, is complete with an item
+pub record IsHanded (s : DomainState) (q : Requests) (its : Row) (item : Item) (id : RequestId) (a : Ask) : Type 0 where
   pub destination : ℕ
   pub applies : Bool
   pub row_is : its ≡ row applies Handed (item_handed destination item ∷ [])
@@ -77,7 +77,8 @@ pub record IsHanded (s : DomainState) (q : Requests) (its : Row) (item : Item) (
   pub named : endpoint_of s destination ≡ Some endpoint
   pub waits : position (waits_at endpoint.local) s.requests ≡ position (is_id id) q.standing
   pub pending : IsPending q id
-  pub asks : (at : Local) × (option_map (λ r. r.ask) (request_of q id) ≡ Some (Message at max))
+  pub asks : option_map (λ r. r.ask) (request_of q id) ≡ Some a
+  pub receives : receives_at endpoint.local a ≡ true
 
 -- ---- what else a frame does, whose buffer is given back
 
@@ -217,21 +218,22 @@ abbrev pub IsJudged : DomainState → ℕ → ℕ → ℕ → PlainLetter → Ve
 IsJudged s peer source destination l (verdict.Queued place priority size) d d' =
     IsItem l × (size ≡ length (taken.item_of peer None source l).content) × (priority ≡ (taken.item_of peer None source l).priority)
     × IsQueued s (letter_row s peer source destination l) (taken.item_of peer None source l) place × (d' ≡ d)
-IsJudged s peer source destination l (verdict.Handed id max size) d d' =
+IsJudged s peer source destination l (verdict.Handed id a size) d d' =
     IsItem l × (size ≡ length (taken.item_of peer None source l).content)
-    × IsHanded s d.requests (letter_row s peer source destination l) (taken.item_of peer None source l) id max × (d' ≡ d)
+    × IsHanded s d.requests (letter_row s peer source destination l) (taken.item_of peer None source l) id a × (d' ≡ d)
 IsJudged s peer source destination l (verdict.Returned fate) d d' = IsReturned s peer (letter_row s peer source destination l) fate d d'
 
 -- an item of this size comes to the endpoint at a place: the oldest receive that waits there gets it, or the queue
 abbrev pub local_of : Records → ℕ → Option Local
 local_of r place = option_map (λ e. e.local) (slice_get r.endpoints place)
 
-pub record Waits (q : Requests) (local : Option Local) (id : RequestId) (max : ℕ) : Type 0 where
+pub record Waits (q : Requests) (local : Option Local) (id : RequestId) (a : Ask) : Type 0 where
   pub at : Local
   pub there : local ≡ Some at
   pub oldest : Some id ≡ oldest_waiting q at
   pub pending : IsPending q id
-  pub asks : (l : Local) × (option_map (λ r. r.ask) (request_of q id) ≡ Some (Message l max))
+  pub asks : option_map (λ r. r.ask) (request_of q id) ≡ Some a
+  pub receives : receives_at at a ≡ true
 
 pub record NoneWaits (q : Requests) (local : Option Local) : Type 0 where
   pub at : Local
@@ -240,7 +242,7 @@ pub record NoneWaits (q : Requests) (local : Option Local) : Type 0 where
 
 abbrev pub Brings : Records → Requests → ℕ → ℕ → ℕ → Verdict → Type 0
 Brings r q place priority size (verdict.Queued i p n) = (i ≡ place) × (p ≡ priority) × (n ≡ size) × NoneWaits q (local_of r place)
-Brings r q place priority size (verdict.Handed id max n) = (n ≡ size) × Waits q (local_of r place) id max
+Brings r q place priority size (verdict.Handed id a n) = (n ≡ size) × Waits q (local_of r place) id a
 Brings r q place priority size (verdict.Returned fate) = ⊥
 
 -- the row of a Connect
@@ -257,7 +259,7 @@ pub record Fits (frame : List ℕ) (size : ℕ) : Type 0 where
 
 abbrev pub IsVerdict : DomainState → ℕ → List ℕ → Verdict → Desk → Desk → Type 0
 IsVerdict s peer frame (verdict.Queued place priority size) d d' = IsQueued s (row_of s peer None (reading frame)) (framed_item peer frame size) place × Fits frame size × (priority_of frame ≡ priority) × (d' ≡ d)
-IsVerdict s peer frame (verdict.Handed id max size) d d' = IsHanded s d.requests (row_of s peer None (reading frame)) (framed_item peer frame size) id max × Fits frame size × (d' ≡ d)
+IsVerdict s peer frame (verdict.Handed id a size) d d' = IsHanded s d.requests (row_of s peer None (reading frame)) (framed_item peer frame size) id a × Fits frame size × (d' ≡ d)
 IsVerdict s peer frame (verdict.Returned fate) d d' = IsReturned s peer (row_of s peer None (reading frame)) fate d d'
 
 -- ---- what is said of functions: in each state with what they have
@@ -275,5 +277,5 @@ Answers way number kind fate d d' = (b : Book) (s : DomainState) (names : Names)
 
 abbrev pub fate_of : Verdict → Fate
 fate_of (verdict.Queued place priority size) = Queued
-fate_of (verdict.Handed id max size) = Handed
+fate_of (verdict.Handed id a size) = Handed
 fate_of (verdict.Returned fate) = fate

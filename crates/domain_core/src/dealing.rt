@@ -18,7 +18,7 @@ use crate::replies::Replies;
 use crate::requests::oldest_receive;
 use mc_base::{Fate, Letter, Priority, RequestId};
 use name_service::{KnownNames, Said, read_frame};
-use request_set::RequestSet;
+use request_set::{Ask, RequestSet};
 
 /// What is to be done with a frame.
 #[derive(Clone, Copy)]
@@ -29,10 +29,10 @@ pub enum Verdict {
         priority: Priority,
         size: u32,
     },
-    /// The pending receive of this id, which asks for so many bytes at most, is complete with its item.
+    /// The pending receive of this id, which asks so, is complete with its item.
     Handed {
         id: RequestId,
-        max: u32,
+        ask: Ask,
         size: u32,
     },
     /// Its buffer is given back at once.
@@ -127,7 +127,7 @@ pub(crate) fn bring(
     ensures { Brings endpoints.now requests.now place priority size result }
 {
     match oldest_receive(requests, endpoints.local_at(place)) {
-        Some((id, max)) => Verdict::Handed { id, max, size },
+        Some((id, ask)) => Verdict::Handed { id, ask, size },
         None => Verdict::Queued {
             place,
             priority,

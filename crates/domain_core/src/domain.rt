@@ -7,9 +7,9 @@ ghost use Rattle.board_model.specs.State.{lent_from, queued_from, place_of_peer}
 ghost use Rattle.domain_core.specs.Ends.{EndsMoved};
 ghost use Rattle.domain_core.specs.Hearing.{messages_at};
 ghost use Rattle.domain_core.specs.Room.{call_entries, call_bytes};
-ghost use Rattle.domain_core.specs.DomainView.{place_of_id};
+ghost use Rattle.domain_core.specs.DomainView.{packet_lent_as, place_of_id};
 ghost use Rattle.domain_core.specs.Turned.{MakesTurn};
-ghost use Rattle.domain_core.specs.Calls.{Calls, GivesTo, created, deleted, sent, received, requested, given, available, tested, cancelled};
+ghost use Rattle.domain_core.specs.Calls.{Calls, GivesTo, LendsBy, created, deleted, sent, received, requested, given, available, tested, cancelled};
 
 mod channels;
 mod data;
@@ -193,9 +193,9 @@ impl<S: SendEnd, R: RecvEnd> Domain<S, R> {
         self.inside.count_messages(at)
     }
 
-    /// Ends a request that is complete, and answers how: with a message, the address that was looked up, or the word with which
-    /// a receive ended. The first bytes of a message, as many as the request asked for, go to `out`, which has room for any
-    /// message; all else stays there. The message's buffer is given back.
+    /// Ends a request that is complete, and answers how: with a message, a packet, the address that was looked up, or the word with
+    /// which a receive ended. The first bytes of a message, as many as the request asked for, go to `out`, which has room for any
+    /// message; all else stays there. The message's buffer is given back. A packet is lent from now on, until it is released.
     ///
     /// Refused with `RequestInvalid` where no request that stands has the id, and with `Pending` where it is not complete.
     /// `out` stays then.
@@ -208,8 +208,9 @@ impl<S: SendEnd, R: RecvEnd> Domain<S, R> {
         requires entry_room { call_entries ≤ journal.old.entry_room }
         requires byte_room { call_bytes ≤ journal.old.byte_room }
         requires out { 488 ≤ length out.old }
-        ensures call { Calls (EndsMoved S.Moved R.Moved) 0 (test_of (place_of_id self.old.ids id)) self.old self.new journal.old.lines journal.new.lines (tested result out.new) None }
+        ensures call { Calls (EndsMoved S.Moved R.Moved) 0 (test_of (place_of_id self.old.ids id)) self.old self.new journal.old.lines journal.new.lines (tested result out.new (packet_lent_as self.new)) None }
         ensures message { IfOk result (λ done. GivesTo done out.old out.new) }
+        ensures lent { IfOk result (LendsBy self.old self.new) }
         ensures refused { OnErr result (out.new ≡ out.old) }
         ensures entry_room { journal.old.entry_room ≤ journal.new.entry_room + call_entries }
         ensures byte_room { journal.old.byte_room ≤ journal.new.byte_room + call_bytes }
@@ -240,7 +241,7 @@ impl<S: SendEnd, R: RecvEnd> Domain<S, R> {
     }
 
     /// How many buffers of the lane from a peer stand in queues, and how many are lent, or `None` where there is no such lane.
-    /// A message that a complete request holds counts as lent.
+    /// A message or packet that a complete request holds counts as lent.
     pub fn places(&self, peer: u8) -> Option<Places>
         ensures none { IsNone result ↔ (Contains (map (λ p. p.number) self.now.state.peers) peer → ⊥) }
         ensures queue { IfSome result (λ p. p.queue ≡ queued_from peer self.now.state) }

@@ -1,6 +1,6 @@
 //! The endpoints of a domain and their queues.
 
-ghost use Rattle.std.specs.Prelude.{◌≡◌, ◌≤◌, ◌<◌, ◌+◌, [], false, IfOk, IfSome, IsNone, ◌^◌, ◌==◌, filter, find, length, map, sum_by, is_some, position, slice_get, Some, nat_le, option_map, vec_capacity};
+ghost use Rattle.std.specs.Prelude.{◌≡◌, ◌≤◌, ◌<◌, ◌+◌, [], false, IfOk, IfSome, IsNone, ◌^◌, ◌==◌, filter, find, length, map, sum_by, count_by, is_some, position, slice_get, Some, nat_le, option_map, vec_capacity};
 ghost use Rattle.std.specs.List.{AllByRecursion};
 ghost use Rattle.std.specs.Ordering.{nat_cmp};
 ghost use Rattle.mc_base.specs.Limits.{first_address};
@@ -11,13 +11,14 @@ ghost use Rattle.buffer_book.specs.Book.{Book};
 ghost use Rattle.message_queue.specs.Queue.{waiting};
 ghost use Rattle.domain_core.specs.Hearing.{hears, hears_at, messages_waiting};
 ghost use Rattle.domain_core.specs.Table.{holding};
-ghost use Rattle.domain_core.specs.Records.{all_waiting, kept, opening_records, waiting_in, with_best_taken_at, with_channel_at, with_channel_given, with_oldest_taken_at, with_record, with_waiting_at, without_record_at};
+ghost use Rattle.domain_core.specs.Records.{all_waiting, kept, opening_records, waiting_in, with_best_taken_at, with_channel_at, with_channel_given, with_last_lent, with_oldest_taken_at, with_record, with_waiting_at, without_lent_at, without_record_at};
+ghost use Rattle.domain_core.specs.DomainView.{place_of_packet_id};
 ghost use Rattle.domain_core.specs.InBook.{endpoints_in};
 ghost use Rattle.domain_core.specs.InTable.{AreInOrder, IsKept, IsNumbered, IsSpare};
 ghost use Rattle.domain_core.specs.Tied.{live_record};
 
 use endpoint_table::EndpointTable;
-use mc_base::{FIRST_ADDRESS, Local, MAX_ENDPOINTS, NoMemory, Priority, Side, Slot};
+use mc_base::{FIRST_ADDRESS, Local, MAX_ENDPOINTS, NoMemory, PacketId, Priority, Side, Slot};
 use message_queue::MessageQueue;
 use packet_channel::Channel;
 use std::alloc::Global;
@@ -49,12 +50,14 @@ impl Endpoint {
     }
 }
 
-/// The endpoints in the order in which they were created, and queues for those to come.
+/// The endpoints in the order in which they were created, queues for those to come, and the packets that were received and are lent,
+/// in the order in which they were lent.
 #[derive(Debug, Drop)]
 pub struct Endpoints {
     number: u8,
     records: Vec<Endpoint>,
     spare: Vec<MessageQueue>,
+    lent: Vec<PacketId>,
     given: u32,
     channels: u32,
     room: u32,
@@ -73,17 +76,22 @@ impl Model for Endpoints {
 }
 
 impl Endpoints {
-    /// No endpoints yet, of the domain of this number, and queues for 64 with room for as many messages each.
+    /// No endpoints yet, of the domain of this number, and queues for 64 with room for as many messages each. As many packets may
+    /// be lent.
     pub fn open(alloc: Global, number: u8, room: u32) -> Result<Endpoints, NoMemory>
         ensures { IfOk result (λ r. r ≡ opening_records number room) }
     {
         let Ok(records) = Vec::with_capacity(alloc, MAX_ENDPOINTS) else {
             return Err(NoMemory);
         };
+        let Ok(lent) = Vec::with_capacity(alloc, room as usize) else {
+            return Err(NoMemory);
+        };
         Ok(Endpoints {
             number,
             records,
             spare: empty_queues(alloc, room)?,
+            lent,
             given: 0,
             channels: 0,
             room,
@@ -194,6 +202,38 @@ impl Endpoints {
         ensures { result ≡ option_map (λ w. w.slot) (oldest (waiting_in (slice_get self.now.endpoints place))) }
     {
         self.records[place].queue.front()
+    }
+
+    /// Keeps the id of a packet, which is lent from now on, last.
+    pub fn keep_lent(&mut self, id: PacketId)
+        requires { length self.old.lent < self.old.room }
+        ensures { self.new ≡ with_last_lent self.old id }
+    {
+        self.lent.push(id).unwrap();
+    }
+
+    /// The place of a packet among those that are lent.
+    pub fn place_lent(&self, id: PacketId) -> Option<usize>
+        ensures place { result ≡ place_of_packet_id self.now.lent id }
+        ensures within { IfSome result (λ i. i < length self.now.lent) }
+    {
+        self.lent.iter().position(|i| *i == id)
+    }
+
+    /// Takes out the id of the packet at a place, which is lent no longer.
+    pub fn drop_lent(&mut self, place: usize)
+        requires { place < length self.old.lent }
+        ensures { self.new ≡ without_lent_at self.old place }
+    {
+        self.lent.remove(place);
+    }
+
+    /// How many packets from a peer are lent.
+    pub fn lent_from(&self, peer: u8) -> u32
+        requires { length self.now.lent ≤ 65536 }
+        ensures { result ≡ count_by (λ i. i.peer == peer) self.now.lent }
+    {
+        self.lent.iter().filter(|i| i.peer == peer).count() as u32
     }
 
     /// The name of the endpoint at a place.

@@ -26,7 +26,7 @@ use crate::messages::write;
 use crate::peer::Peer;
 use crate::peer_lane::PeerLane;
 use crate::peers::place_of;
-use crate::requests::messages_handed_from;
+use crate::requests::handed_from;
 use buffer_book::{BufferBook, Places};
 use endpoint_table::EndpointTable;
 use mc_base::{BUFFER_SIZE, EndName, Letter, Local};
@@ -72,10 +72,10 @@ impl<P: PeerLane> Holdings<P> {
         ensures lent { IfSome result (λ p. p.lent ≡ lent_from peer (state_of self.now.parts)) }
     {
         place_of(&self.peers, peer)?;
-        let lent = messages_handed_from(&self.requests, peer);
+        let handed = handed_from(&self.requests, peer);
         Some(Places {
-            queue: self.book.places(peer).queue - lent, // In the book all are in queues.
-            lent,
+            queue: self.book.places(peer).queue - handed, // In the book what was handed is in a queue.
+            lent: self.endpoints.lent_from(peer) + handed,
         })
     }
 

@@ -1,17 +1,16 @@
 //! Requests that wait, and those that are complete.
 
-ghost use Rattle.std.specs.Prelude.{◌≡◌, ◌≤◌, ℕ, [], List, Some, IfSome, ◌&&◌, is_none, count_by, ◌==◌, option_map};
-ghost use Rattle.mc_base.specs.declared.name.Local.{Local};
+ghost use Rattle.std.specs.Prelude.{◌≡◌, ◌≤◌, ℕ, [], true, List, Some, IfSome, ◌&&◌, is_none, count_by, ◌==◌, option_map};
 ghost use Rattle.board_model.specs.State.{Asked};
 ghost use Rattle.board_model.specs.Answer.{result_by};
 ghost use Rattle.buffer_book.specs.Book.{Book};
-ghost use Rattle.request_set.specs.declared.ask.Ask.TheVariants.{Message};
-ghost use Rattle.request_set.specs.Requests.{IsPending, oldest_waiting, request_of};
-ghost use Rattle.domain_core.specs.Calls.{GivesTo, result_of_done};
+ghost use Rattle.request_set.specs.Requests.{IsPending, oldest_waiting, receives_at, request_of};
+ghost use Rattle.domain_core.specs.Calls.{GivesTo, Lending, LendsLast, result_of_done};
+ghost use Rattle.mc_base.specs.declared.request.PacketId.{PacketId};
 ghost use Rattle.domain_core.specs.InBook.{outcome_in};
-ghost use Rattle.domain_core.specs.InRequests.{AreReceives, handed_slots, is_among, slots_in, with_all_complete};
+ghost use Rattle.domain_core.specs.InRequests.{AreReceives, handed_by, handed_slots, is_among, slots_in, with_all_complete};
 
-use mc_base::{Done, EndName, Local, MAX_REQUESTS, RequestId};
+use mc_base::{Done, EndName, Local, MAX_REQUESTS, RequestId, Slot};
 use request_set::{Ask, Complete, RequestSet};
 
 /// Requests that wait for the same.
@@ -50,19 +49,27 @@ impl Waiters {
     }
 }
 
-/// The oldest receive that waits at an endpoint, and how many bytes it is given at most.
-pub fn oldest_receive(requests: &RequestSet, at: Local) -> Option<(RequestId, u32)>
+/// The oldest receive that waits at an endpoint, and what it asks for.
+pub fn oldest_receive(requests: &RequestSet, at: Local) -> Option<(RequestId, Ask)>
     requires { AreReceives requests.now }
     ensures oldest { option_map (λ r. r.0) result ≡ oldest_waiting requests.now at }
     ensures pending { IfSome result (λ r. IsPending requests.now r.0) }
-    ensures asks { IfSome result (λ r. (l : Local) × (option_map (λ s. s.ask) (request_of requests.now r.0) ≡ Some (Message l r.1))) }
+    ensures asks { IfSome result (λ r. option_map (λ s. s.ask) (request_of requests.now r.0) ≡ Some r.1) }
+    ensures receives { IfSome result (λ r. receives_at at r.1 ≡ true) }
 {
     let id = requests.waiting(at)?;
     let ask = requests.asked(id)?;
-    let Ask::Message(_, max) = ask else {
-        return None; // No other request waits there.
-    };
-    Some((id, max))
+    Some((id, ask))
+}
+
+/// How a receive is complete with the item in a buffer.
+pub fn handed(ask: Ask, slot: Slot) -> Complete
+    ensures { result ≡ handed_by ask slot }
+{
+    match ask {
+        Ask::Message(_, max) => Complete::Message(slot, max),
+        _ => Complete::Packet(slot),
+    }
 }
 
 /// Makes all of these requests complete that are pending.
@@ -83,8 +90,9 @@ pub fn complete_all(requests: &mut RequestSet, who: Waiters, how: Complete)
 /// How a request ended that holds no message.
 pub fn told(how: Complete) -> Done
     requires { slots_in (Some how) ≡ [] }
-    ensures result { (b : Book) (asked : Asked) (out : List ℕ) → result_of_done result out ≡ result_by asked (Some (outcome_in b how)) }
+    ensures result { (b : Book) (asked : Asked) (out : List ℕ) (lends : Lending) → result_of_done result out lends ≡ result_by asked (Some (outcome_in b how)) }
     ensures gives { (old : List ℕ) → GivesTo result old old }
+    ensures lends { (ids : List PacketId) → LendsLast ids ids result }
 {
     match how {
         Complete::Address(address) => Done::Address(address),
@@ -95,8 +103,8 @@ pub fn told(how: Complete) -> Done
     }
 }
 
-/// How many messages from a peer complete requests hold.
-pub fn messages_handed_from(requests: &RequestSet, peer: u8) -> u32
+/// How many messages and packets from a peer complete requests hold.
+pub fn handed_from(requests: &RequestSet, peer: u8) -> u32
     requires { AreReceives requests.now }
     ensures { result ≡ count_by (λ s. s.peer == peer) (handed_slots requests.now.standing) }
 {
@@ -110,7 +118,7 @@ pub fn messages_handed_from(requests: &RequestSet, peer: u8) -> u32
     count
 }
 
-/// How many messages from a peer a request holds.
+/// How many messages or packets from a peer a request holds.
 fn held_from(complete: Option<Complete>, peer: u8) -> u32
     ensures count { result ≡ count_by (λ s. s.peer == peer) (slots_in complete) }
     ensures most { result ≤ 1 }

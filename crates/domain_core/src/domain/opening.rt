@@ -41,6 +41,7 @@ impl<S: SendEnd + Drop, R: RecvEnd + Drop> Domain<S, R> {
         ensures state { IfOk result (λ d. d.state ≡ opening number nodes (neighbours_opened number pool links.items)) }
         ensures ends { IfOk result (λ d. d.ends ≡ ends_opened number (new_loop pool) links.items) }
         ensures ids { IfOk result (λ d. d.ids ≡ []) }
+        ensures packets { IfOk result (λ d. d.packets ≡ []) }
         ensures book { IfOk result (λ d. (s : Slot) → kept_at d.book s ≡ None) }
     {
         Ok(Domain {

@@ -1,22 +1,29 @@
 //! The calls that send and receive items on channels, after their turns.
 
-ghost use Rattle.std.specs.Prelude.{◌≡◌, ◌≤◌, ◌<◌, ◌+◌, ◌*◌, ◌^◌, map, None, IfSome, length, option_map};
+ghost use Rattle.std.specs.Prelude.{[], ◌∷◌, ◌≡◌, ◌≤◌, ◌<◌, ◌+◌, ◌*◌, ◌^◌, ◌↔◌, map, false, true, nat_le, None, Some, IfErr, IfOk, IfSome, IsErr, IsNone, length, option_map};
 ghost use Rattle.mc_base.specs.Letter.{bytes_of_bits};
+ghost use Rattle.mc_base.specs.Limits.{request_limit};
+ghost use Rattle.mc_base.specs.declared.refusal.Refusal.TheVariants.{BufInvalid};
 ghost use Rattle.board_model.specs.Answer.{puts};
 ghost use Rattle.board_model.specs.Choice.{oldest};
-ghost use Rattle.board_model.specs.DomainCall.{packet_from, scalar_at, scalar_from};
+ghost use Rattle.board_model.specs.DomainCall.{lend_at, packet_from, packet_request_at, release_of, scalar_at, scalar_from};
 ghost use Rattle.board_model.specs.Journal.{noted_all};
 ghost use Rattle.board_model.specs.Serial.{put_entry};
 ghost use Rattle.board_model.specs.State.{place_at, queue_at};
-ghost use Rattle.domain_core.specs.Calls.{available, sent};
-ghost use Rattle.domain_core.specs.CallSteps.{Acts};
-ghost use Rattle.domain_core.specs.Parts.{state_of};
+ghost use Rattle.domain_core.specs.Calls.{IsLent, available, given, lent, requested, sent};
+ghost use Rattle.domain_core.specs.CallSteps.{Acts, Succeeds};
+ghost use Rattle.domain_core.specs.DomainView.{packet_lent_as, place_of_packet_id};
+ghost use Rattle.domain_core.specs.Parts.{shown, state_of};
 ghost use Rattle.domain_core.specs.Records.{slots_at};
+ghost use Rattle.domain_core.specs.Steps.{Did, next_lent, oldest_lent};
+ghost use Rattle.mc_base.specs.declared.request.Slot.{Slot};
 
 use crate::holdings::Holdings;
 use crate::peer_lane::PeerLane;
-use mc_base::{Bits, ITEM_SIZE, Kind, Letter, Local, Refusal};
+use crate::peers::give_back_lent;
+use mc_base::{Bits, ITEM_SIZE, Kind, Letter, Local, PacketId, Refusal, RequestId};
 use mc_journal::Journal;
+use request_set::{Ask, Complete};
 use scalar_channel::read_scalar;
 
 impl<P: PeerLane> Holdings<P> {
@@ -111,6 +118,96 @@ impl<P: PeerLane> Holdings<P> {
         };
         self.drop_oldest(place);
         Ok(value)
+    }
+
+    /// `pkt_recv` after its turn.
+    pub fn take_packet(&mut self, at: Local) -> Result<PacketId, Refusal>
+        ensures acts { Acts P.Moved at.node (lend_at at.port) self.old self.new (lent result (packet_lent_as (shown self.new))) None }
+        ensures lent { IfOk result (IsLent (shown self.old) (shown self.new)) }
+    {
+        let Some(place) = self.place_at(at) else {
+            return Err(Refusal::EndpInvalid);
+        };
+        let Some(channel) = self.channel_at(at, place) else {
+            return Err(Refusal::NotConnected);
+        };
+        channel.may_recv(Kind::Packet, self.count_at(at, place))?;
+        if self.count_at(at, place) == 0 {
+            return Err(Refusal::Empty);
+        }
+        Ok(self.lend_oldest(place))
+    }
+
+    /// Lends the oldest packet that is queued at a place.
+    fn lend_oldest(&mut self, place: usize) -> PacketId
+        requires waits { 0 < length (slots_at self.old.parts.records place) }
+        ensures did { (s : Slot) × (slots_at self.old.parts.records place ≡ s ∷ slots_at self.new.parts.records place) × (result ≡ next_lent self.old.parts.book s) × Did P.Moved (oldest_lent place result ∷ []) self.old self.new }
+    {
+        let slot = self.endpoints.take_oldest(place).unwrap();
+        let packet = self.book.lend(slot);
+        self.endpoints.keep_lent(packet);
+        packet
+    }
+
+    /// `pkt_recv_i` after its turn.
+    pub fn begin_packet(&mut self, at: Local) -> Result<RequestId, Refusal>
+        ensures { Acts P.Moved at.node (packet_request_at at.port) self.old self.new (requested result) (given result) }
+    {
+        let Some(place) = self.place_at(at) else {
+            return Err(Refusal::EndpInvalid);
+        };
+        let Some(channel) = self.channel_at(at, place) else {
+            return Err(Refusal::NotConnected);
+        };
+        channel.may_recv(Kind::Packet, self.count_at(at, place))?;
+        let Some(id) = self.begin_packet_at(at, place) else {
+            return Err(Refusal::RequestLimit);
+        };
+        Ok(id)
+    }
+
+    /// Begins a receive of a packet at an endpoint, with the oldest where one is queued, or answers `None` where 64 requests stand.
+    fn begin_packet_at(&mut self, at: Local, place: usize) -> Option<RequestId>
+        requires there { place_at (state_of self.old.parts) at ≡ Some place }
+        requires within { place < length self.old.parts.records.endpoints }
+        ensures none { IsNone result → nat_le request_limit (length (state_of self.old.parts).requests) ≡ true }
+        ensures stays { IsNone result → self.new ≡ self.old }
+        ensures some { IfSome result (λ id. nat_le request_limit (length (state_of self.old.parts).requests) ≡ false) }
+        ensures serial { IfSome result (λ id. id.serial ≡ (state_of self.old.parts).requests_given) }
+        ensures succeeds { IfSome result (λ id. Succeeds P.Moved at.node (packet_request_at at.port) self.old self.new (Some id)) }
+    {
+        let Ok(id) = self.requests.add(Ask::Packet(at)) else {
+            return None;
+        };
+        if let Some(slot) = self.endpoints.take_oldest(place) {
+            self.requests.complete(id, Complete::Packet(slot));
+        }
+        Some(id)
+    }
+
+    /// The bytes of a lent packet.
+    pub fn packet_bytes(&self, id: PacketId) -> Result<&[u8], Refusal>
+        ensures bytes { IfOk result (λ bytes. Some bytes.now ≡ option_map (λ p. p.item.content) (packet_lent_as (shown self.now) id)) }
+        ensures refused { IsErr result ↔ IsNone (packet_lent_as (shown self.now) id) }
+        ensures word { IfErr result (λ word. word ≡ BufInvalid) }
+        ensures short { IfOk result (λ bytes. length bytes.now ≤ 488) }
+    {
+        match self.book.lent_bytes(id) {
+            Ok(bytes) => Ok(bytes),
+            Err(_) => Err(Refusal::BufInvalid),
+        }
+    }
+
+    /// `release` after its turn.
+    pub fn end_packet(&mut self, id: PacketId) -> Result<(), Refusal>
+        ensures { Acts P.Moved 0 (release_of (place_of_packet_id (shown self.old).packets id)) self.old self.new (sent result) None }
+    {
+        let Some(place) = self.endpoints.place_lent(id) else {
+            return Err(Refusal::BufInvalid);
+        };
+        self.endpoints.drop_lent(place);
+        give_back_lent(&mut self.book, &mut self.peers, id);
+        Ok(())
     }
 
     /// The bytes of the oldest item at an endpoint, or `None` where none is queued there.

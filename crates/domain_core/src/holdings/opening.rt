@@ -44,6 +44,7 @@ impl<S: SendEnd + Drop, R: RecvEnd + Drop> Holdings<Ends<S, R>> {
         ensures state { IfOk result (λ h. state_of h.parts ≡ opening number nodes (neighbours_opened number pool links.items)) }
         ensures ends { IfOk result (λ h. h.ends ≡ ends_opened number (new_loop pool) links.items) }
         ensures ids { IfOk result (λ h. (shown h).ids ≡ []) }
+        ensures packets { IfOk result (λ h. (shown h).packets ≡ []) }
         ensures book { IfOk result (λ h. (s : Slot) → kept_at h.parts.book s ≡ None) }
     {
         let linked = numbers_of(alloc, &links)?;

@@ -4,9 +4,9 @@ ghost use Rattle.std.specs.Prelude.{◌≡◌, ◌≤◌, ◌<◌, ◌∷◌, []
 ghost use Rattle.mc_base.specs.Limits.{request_limit};
 ghost use Rattle.board_model.specs.DomainCall.{cancel_of, lookup_of, request_at, test_of};
 ghost use Rattle.board_model.specs.State.{place_at};
-ghost use Rattle.domain_core.specs.Calls.{GivesTo, IsFresh, cancelled, given, requested, tested};
+ghost use Rattle.domain_core.specs.Calls.{GivesTo, IsFresh, LendsBy, cancelled, given, requested, tested};
 ghost use Rattle.domain_core.specs.CallSteps.{Acts, Succeeds};
-ghost use Rattle.domain_core.specs.DomainView.{place_of_id};
+ghost use Rattle.domain_core.specs.DomainView.{packet_lent_as, place_of_id};
 ghost use Rattle.domain_core.specs.InRequests.{Receives, slots_in};
 ghost use Rattle.domain_core.specs.Parts.{Sound, shown, state_of};
 ghost use Rattle.domain_core.specs.Steps.{Did, request_begun};
@@ -91,11 +91,17 @@ impl<P: PeerLane> Holdings<P> {
     /// `test` after its turn.
     pub fn end_request(&mut self, id: RequestId, out: &mut [u8]) -> Result<Done, Refusal>
         requires { 488 ≤ length out.old }
-        ensures acts { Acts P.Moved 0 (test_of (place_of_id (shown self.old).ids id)) self.old self.new (tested result out.new) None }
+        ensures acts { Acts P.Moved 0 (test_of (place_of_id (shown self.old).ids id)) self.old self.new (tested result out.new (packet_lent_as (shown self.new))) None }
         ensures message { IfOk result (λ done. GivesTo done out.old out.new) }
+        ensures lent { IfOk result (LendsBy (shown self.old) (shown self.new)) }
         ensures refused { OnErr result (out.new ≡ out.old) }
     {
         let how = self.requests.test(id)?;
+        if let Complete::Packet(slot) = how {
+            let packet = self.book.lend(slot);
+            self.endpoints.keep_lent(packet);
+            return Ok(Done::Packet(packet));
+        }
         let Complete::Message(slot, max) = how else {
             return Ok(told(how));
         };

@@ -9,8 +9,8 @@ use crate::dealing::{Verdict, deal};
 use crate::holdings::Holdings;
 use crate::messages::CONTENT;
 use crate::peer_lane::PeerLane;
+use crate::requests::handed;
 use mc_journal::{Entry, Journal};
-use request_set::Complete;
 
 impl<P: PeerLane> Holdings<P> {
     /// Takes the oldest frames that the peer at a place shows, so many.
@@ -68,9 +68,9 @@ impl<P: PeerLane> Holdings<P> {
                 let slot = self.book.enqueue(number, buffer, CONTENT, size);
                 self.endpoints.queue_last(at, slot, priority);
             }
-            Verdict::Handed { id, max, size } => {
+            Verdict::Handed { id, ask, size } => {
                 let slot = self.book.enqueue(number, buffer, CONTENT, size);
-                self.requests.complete(id, Complete::Message(slot, max));
+                self.requests.complete(id, handed(ask, slot));
             }
             Verdict::Returned(_) => peer.ends.give_back(buffer),
         }

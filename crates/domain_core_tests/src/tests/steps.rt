@@ -5,7 +5,7 @@ ghost use Rattle.domain_core.specs.Ends.{EndsMoved};
 ghost use Rattle.domain_core.specs.Going.{Goes};
 
 use super::*;
-use mc_base::{Bits, Done, Kind, Reason};
+use mc_base::{Bits, Done, Kind, PacketId, Reason};
 
 mod channels;
 mod data;
@@ -41,13 +41,19 @@ pub enum Step {
     OpenRecv(u16, Kind),
     /// Sends a packet at a port: this byte, so often.
     SendPacket(u16, u8, usize),
+    /// Receives a packet at a port, which has this byte throughout, and requests one.
+    ReceivePacket(u16, u8),
+    BeginPacket(u16),
+    /// Reads the packet that is lent in a buffer of the pool under a serial, which has this byte throughout, and releases it.
+    ReadPacket(u16, u64, u8),
+    Release(u16, u64),
     /// Sends a scalar at a port, and receives one of these bits.
     SendScalar(u16, Value),
     ReceiveScalar(u16, Bits),
     /// Closes the sender's end at a port, and the receiver's.
     CloseSend(u16),
     CloseRecv(u16),
-    /// Tests a request. The message that comes has this byte throughout.
+    /// Tests a request. The message or packet that comes has this byte throughout.
     Test(u64, u8),
     /// Cancels a request.
     Cancel(u64),
@@ -56,8 +62,9 @@ pub enum Step {
 }
 
 use Step::{
-    Available, Begin, Cancel, CloseRecv, CloseSend, Connect, Delete, Lookup, OpenRecv, OpenSend,
-    Plain, ReceiveScalar, SendPacket, SendScalar, Test, Turn,
+    Available, Begin, BeginPacket, Cancel, CloseRecv, CloseSend, Connect, Delete, Lookup, OpenRecv,
+    OpenSend, Plain, ReadPacket, ReceivePacket, ReceiveScalar, Release, SendPacket, SendScalar,
+    Test, Turn,
 };
 
 /// What a call tells that is not refused.
@@ -67,6 +74,8 @@ pub enum Said {
     Number(u64),
     /// The size of the message that a request held, and how many of its bytes were given.
     Message(u32, u32),
+    /// The buffer in which a packet is lent, its serial, and its size.
+    Lent(u16, u64, u32),
     /// The address of the endpoint that was looked up.
     Address(u32),
     /// The serial of a connect's request, and the number of its channel.
@@ -83,7 +92,7 @@ pub enum Said {
     Held(u32, u32),
 }
 
-use Said::{Accepted, Address, Connected, Ended, Idle, Message, Number, Rejected};
+use Said::{Accepted, Address, Connected, Ended, Idle, Lent, Message, Number, Rejected};
 
 /// What a call answers.
 pub type Answered = Result<Said, Refusal>;
@@ -146,6 +155,19 @@ pub fn stepped<S: SendEnd, R: RecvEnd>(
             let answer = domain.pkt_send(journal, Local { node: 0, port }, bytes);
             Ok(Some(answer.map(|()| Number(0))))
         }
+        ReceivePacket(port, byte) => match domain.pkt_recv(journal, Local { node: 0, port }) {
+            Ok(id) => Ok(lent(domain, id, byte)),
+            Err(word) => Ok(Some(Err(word))),
+        },
+        BeginPacket(port) => {
+            let answer = domain.pkt_recv_i(journal, Local { node: 0, port });
+            begun(ids, answer)
+        }
+        ReadPacket(buffer, serial, byte) => Ok(lent(domain, packet(buffer, serial), byte)),
+        Release(buffer, serial) => {
+            let answer = domain.release(journal, packet(buffer, serial));
+            Ok(Some(answer.map(|()| Number(0))))
+        }
         SendScalar(port, value) => {
             let answer = sent_scalar(domain, journal, Local { node: 0, port }, value);
             Ok(Some(answer.map(|()| Number(0))))
@@ -168,6 +190,30 @@ pub fn stepped<S: SendEnd, R: RecvEnd>(
             Ok(Some(answer.map(|()| Number(0))))
         }
         Turn => Ok(Some(Ok(Idle(domain.turn(journal))))),
+    }
+}
+
+/// The id of a packet in a buffer of the pool.
+fn packet(buffer: u16, serial: u64) -> PacketId {
+    PacketId {
+        peer: 3,
+        buffer,
+        serial,
+    }
+}
+
+/// What is lent with an id. Answers `None` where the packet has another byte.
+fn lent<S: SendEnd, R: RecvEnd>(domain: &Domain<S, R>, id: PacketId, byte: u8) -> Option<Answered> {
+    match domain.pkt_bytes(id) {
+        Ok(bytes) => {
+            for b in bytes {
+                if *b != byte {
+                    return None;
+                }
+            }
+            Some(Ok(Lent(id.buffer, id.serial, bytes.len() as u32)))
+        }
+        Err(word) => Some(Err(word)),
     }
 }
 
@@ -244,7 +290,10 @@ fn tested<S: SendEnd, R: RecvEnd>(
         Ok(Done::Accepted) => (Ok(Accepted), 0),
         Ok(Done::Rejected(reason)) => (Ok(Rejected(reason)), 0),
         Ok(Done::Ended(word)) => (Ok(Ended(word)), 0),
-        Ok(_) => return None,
+        Ok(Done::Packet(id)) => match lent(domain, id, byte) {
+            Some(answer) => (answer, 0),
+            None => return None,
+        },
         Err(word) => (Err(word), 0),
     };
     if !is_given(&out, given as usize, byte) {

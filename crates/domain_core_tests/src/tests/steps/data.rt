@@ -164,3 +164,63 @@ const REFUSED: [Row; 22] = [
 fn each_refusal_of_an_item_in_its_order(rt: HostRuntime) -> Result<(), Fail> {
     assert_all(&rt, rt.alloc(), &REFUSED)
 }
+
+const ONE_LENT: (u32, u32) = (0, 1);
+
+const TWO_LENT: (u32, u32) = (0, 2);
+
+/// Packets are lent in the order in which they were sent, and released in another. An id is good once.
+const LENT: [Row; 19] = [
+    (SendPacket(1, 7, 5), Ok(Number(0)), NONE_HELD),
+    (SendPacket(1, 8, 488), Ok(Number(0)), ONE_QUEUED),
+    (ReceivePacket(2, 7), Ok(Lent(0, 0, 5)), (1, 1)),
+    (ReceivePacket(2, 8), Ok(Lent(1, 1, 488)), TWO_LENT),
+    (ReceivePacket(2, 0), Err(Refusal::Empty), TWO_LENT),
+    (SendPacket(1, 9, 1), Err(Refusal::NoBuffer), TWO_LENT),
+    (ReadPacket(0, 0, 7), Ok(Lent(0, 0, 5)), TWO_LENT),
+    (Release(0, 1), Err(Refusal::BufInvalid), TWO_LENT),
+    (Release(1, 1), Ok(Number(0)), ONE_LENT),
+    (Release(1, 1), Err(Refusal::BufInvalid), ONE_LENT),
+    (ReadPacket(1, 1, 8), Err(Refusal::BufInvalid), ONE_LENT),
+    (ReadPacket(0, 0, 7), Ok(Lent(0, 0, 5)), ONE_LENT),
+    (SendPacket(1, 9, 0), Ok(Number(0)), ONE_LENT),
+    (ReceivePacket(2, 9), Ok(Lent(1, 2, 0)), TWO_LENT),
+    (ReadPacket(1, 1, 9), Err(Refusal::BufInvalid), TWO_LENT),
+    (CloseRecv(2), Err(Refusal::NoBuffer), TWO_LENT),
+    (Release(0, 0), Ok(Number(0)), ONE_LENT),
+    (CloseRecv(2), Ok(Number(0)), ONE_LENT),
+    (ReadPacket(1, 2, 9), Ok(Lent(1, 2, 0)), ONE_LENT),
+];
+
+#[test]
+fn packets_are_lent_and_released(rt: HostRuntime) -> Result<(), Fail> {
+    assert_of(Lone::open(rt.alloc(), 1, 2), |lone| {
+        assert_rows(&rt, lone, &opened(Packet))?;
+        assert_rows(&rt, lone, &LENT)
+    })
+}
+
+/// A request for a packet waits for one, holds it until it is tested off, and ends where the receiver closes.
+const REQUESTED: [Row; 13] = [
+    (BeginPacket(2), Ok(Number(1)), NONE_HELD),
+    (BeginPacket(2), Ok(Number(2)), NONE_HELD),
+    (BeginPacket(2), Ok(Number(3)), NONE_HELD),
+    (SendPacket(1, 5, 3), Ok(Number(0)), NONE_HELD),
+    (Test(1, 5), Ok(Lent(0, 0, 3)), ONE_LENT),
+    (Test(2, 5), Err(Refusal::Pending), ONE_LENT),
+    (Cancel(2), Ok(Number(0)), ONE_LENT),
+    (CloseRecv(2), Ok(Number(0)), ONE_LENT),
+    (Test(3, 0), Ok(Ended(Refusal::ChanClosed)), ONE_LENT),
+    (Test(1, 5), Err(Refusal::RequestInvalid), ONE_LENT),
+    (ReadPacket(0, 0, 5), Ok(Lent(0, 0, 3)), ONE_LENT),
+    (Release(0, 0), Ok(Number(0)), NONE_HELD),
+    (BeginPacket(2), Err(Refusal::ChanClosed), NONE_HELD),
+];
+
+#[test]
+fn packets_are_requested(rt: HostRuntime) -> Result<(), Fail> {
+    assert_of(Lone::open(rt.alloc(), 1, 2), |lone| {
+        assert_rows(&rt, lone, &opened(Packet))?;
+        assert_rows(&rt, lone, &REQUESTED)
+    })
+}

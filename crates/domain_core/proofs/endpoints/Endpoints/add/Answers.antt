@@ -38,6 +38,7 @@ invariant_of-self c =
       below = rw (pushed c) (All-push (λ (e : Endpoint). e.address < 1024 + (c.self.inside.given + 1)) es (made c) (all-weaken (λ (e : Endpoint). e.address < 1024 + c.self.inside.given) (λ (e : Endpoint). e.address < 1024 + (c.self.inside.given + 1)) (λ e lt. omega (arith, lt)) es i.below) (omega arith));
       records_room = search rules;
       spare_room = search rules;
+      lent_room = search rules;
     }
 
 pub returns-clause-added : goal.returns-clause-added

@@ -46,6 +46,7 @@ invariant_of-self c =
       below = subst (AllByRecursion (λ (e : Endpoint). e.address < 1024 + c.self.inside.given)) (sym (less c)) (All-without (λ (e : Endpoint). e.address < 1024 + c.self.inside.given) place es i.below);
       records_room = search rules;
       spare_room = search rules;
+      lent_room = search rules;
     }
 
 pub returns : goal.returns

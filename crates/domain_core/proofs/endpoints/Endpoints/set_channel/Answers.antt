@@ -27,6 +27,7 @@ invariant_of-self c =
       below = all-written (λ (x : Endpoint). x.address < 1024 + c.self.inside.given) es c.args.place e d lt read (λ same. same) i.below;
       records_room = search rules;
       spare_room = i.spare_room;
+      lent_room = i.lent_room;
     }
 
 pub returns : goal.returns

@@ -1,5 +1,12 @@
-use Rattle.std.proofs.Common.{rules, ◌≡◌, ◌∙◌, ◌∷◌, [], ℕ, List, length, take, ap, sym, refl, subst, Some, None}
-use Rattle.std.specs.Prelude.{Err}
+use Rattle.domain_core.proofs.Lending.{packet_at_place_in}
+use Rattle.domain_core.specs.Records.{with_last_lent}
+use Rattle.mc_base.specs.declared.name.Local.{Local}
+use Rattle.mc_base.specs.declared.request.RequestId.{RequestId}
+use Rattle.mc_base.specs.declared.request.PacketId.{PacketId}
+use Rattle.domain_core.proofs.LendingMeaning.{some-of, tested-room, book-lent, packet-answer, packet-means, packet_ended-keeps}
+use Rattle.request_set.specs.declared.ask.Complete.{Complete}
+use Rattle.std.proofs.Common.{rules, ◌≡◌, ◌∙◌, ◌∷◌, [], ℕ, List, length, take, ap, sym, refl, subst, Some, None, Option, ◌<◌}
+use Rattle.std.specs.Prelude.{Err, Ok}
 use Rattle.std.specs.Vec.{with_items}
 use Rattle.std.proofs.lemmas.List.{with_items_is}
 use Rattle.mc_base.specs.declared.request.Slot.{Slot}
@@ -7,20 +14,20 @@ use Rattle.board_model.specs.Answer.{result_of}
 use Rattle.board_model.specs.DomainCall.{test_of}
 use Rattle.board_model.specs.Journal.{PlainAnswer, PlainResult, brought, completes}
 use Rattle.board_model.specs.State.{request_at_place}
-use Rattle.buffer_book.specs.Book.{queued_at}
+use Rattle.buffer_book.specs.Book.{queued_at, kept_at, Book, IsQueued, Kept}
 use Rattle.request_set.specs.declared.ask.Complete.TheVariants as complete
 use Rattle.request_set.specs.Requests.{Requests, progress_of, without_request}
 use Rattle.domain_core.specs.LaneSeen.{LaneSeen}
 use Rattle.domain_core.specs.declared.holdings.Holdings.TheInside.{Inside}
-use Rattle.domain_core.specs.Calls.{result_of_done, tested}
-use Rattle.domain_core.specs.CallSteps.{Acts, ending, slots_held}
-use Rattle.domain_core.specs.DomainView.{place_of_id}
+use Rattle.domain_core.specs.Calls.{result_of_done, tested, brings_whole, LendsLast}
+use Rattle.domain_core.specs.CallSteps.{Acts, ending, how_held, Means}
+use Rattle.domain_core.specs.DomainView.{place_of_id, packet_lent_as, place_of_packet_id}
 use Rattle.domain_core.specs.GivingBack.{GivesBack, IsOutAt}
 use Rattle.domain_core.specs.InBook.{content_in}
-use Rattle.domain_core.specs.InRequests.{handed_slots}
+use Rattle.domain_core.specs.InRequests.{handed_slots, AreReceives}
 use Rattle.domain_core.specs.Parts.{Holding, Parts, Sound, holding_in, parts_in, peers_seen, plain, shown, state_of}
-use Rattle.domain_core.specs.Steps.{Did, done, message_ended, request_ended}
-use Rattle.domain_core.proofs.Ending.{held-message, ids_in, quiet-items, quiet-lends, quiet-result, quiet-same, quiet-slots, test-complete, test-done, test-refused, tested-fewer, tested-items, tested-lends, tested-result}
+use Rattle.domain_core.specs.Steps.{Did, done, message_ended, request_ended, Step, without_at, next_lent, packet_ended}
+use Rattle.domain_core.proofs.Ending.{held-message, ids_in, quiet-items, quiet-lends, quiet-result, quiet-same, quiet-slots, test-complete, test-done, test-refused, tested-fewer, tested-items, tested-lends, tested-result, packet-fewer, held-packet, by, left-receives, packet-request, request_for}
 use Rattle.domain_core.proofs.GivingLemmas.{given-length}
 use Rattle.domain_core.proofs.Meaning.{gone-there, held-there, quiet-means, tested-means}
 use Rattle.domain_core.proofs.Placed.{HasMore}
@@ -58,18 +65,18 @@ returns-in_err-how-clause-acts g c =
     let old = holding_in (v g) d.book d.endpoints d.requests d.table d.peers.items in
     let new = holding_in (v g) d.book d.endpoints c.test.new.self d.table d.peers.items in
     let acts = acts-refused M 0 (test_of (place_of_id (ids_in d.requests) id)) old new word e (ap (λ (q : Requests). holding_in (v g) d.book d.endpoints q d.table d.peers.items) (same g c)) in
-    subst (λ r. Acts M 0 (test_of (place_of_id (shown c.args.self.now).ids id)) c.args.self.now new (tested r out) None) (sym (answers g c))
-    (subst (λ (x : Holding g.row.P.Denot). Acts M 0 (test_of (place_of_id (shown x).ids id)) x new (tested (Err word) out) None) c.self.view_is acts)
+    subst (λ r. Acts M 0 (test_of (place_of_id (shown c.args.self.now).ids id)) c.args.self.now new (tested r out (packet_lent_as (shown new))) None) (sym (answers g c))
+    (subst (λ (x : Holding g.row.P.Denot). Acts M 0 (test_of (place_of_id (shown x).ids id)) x new (tested (Err word) out (packet_lent_as (shown new))) None) c.self.view_is acts)
 
 -- ---- it ended without a message
 
-complete-now : (g : Over) (c : goal.In_default g) → progress_of c.self.inside.requests c.args.id ≡ Some (Some c.in_ok-how.how)
+complete-now : (g : Over) (c : goal.In_default-how g) → progress_of c.self.inside.requests c.args.id ≡ Some (Some c.in_ok-how.how)
 complete-now g c = test-complete (progress_of c.self.inside.requests c.args.id) c.in_ok-how.how (sym c.test.ensures.answer ∙ c.in_ok-how.was)
 
 pub told-requires : goal.told-requires
 told-requires g c =
     let d = c.self.inside in
-    quiet-slots d.book d.requests (state_of (p g d)) refl c.args.id c.self.invariant.receives c.in_ok-how.how (complete-now g c) c.in_default.not-Message
+    quiet-slots d.book d.requests (state_of (p g d)) refl c.args.id c.self.invariant.receives c.in_ok-how.how (complete-now g c) c.in_default-how.not-Message c.in_default.not-Packet
 
 ended : (g : Over) (c : goal.After-told g) → c.test.new.self ≡ without_request c.self.inside.requests c.args.id
 ended g c = rw c.in_ok-how.was at c.test.ensures.ended
@@ -77,18 +84,27 @@ ended g c = rw c.in_ok-how.was at c.test.ensures.ended
 now-held : (g : Over) (c : goal.After-told g) → progress_of c.self.inside.requests c.args.id ≡ Some (Some c.in_ok-how.how)
 now-held g c = test-complete (progress_of c.self.inside.requests c.args.id) c.in_ok-how.how (sym c.test.ensures.answer ∙ c.in_ok-how.was)
 
-pub invariant_of-self-in_default : goal.invariant_of-self-in_default
-invariant_of-self-in_default g c =
+pub invariant_of-self-in_default-how : goal.invariant_of-self-in_default-how
+invariant_of-self-in_default-how g c =
     let d = c.self.inside in
     subst (λ (q : Requests). Sound (record (p g d) { requests = q })) (sym (ended g c))
-    (quiet-sound plain d.book d.endpoints d.requests d.table (p g d).peers c.args.id c.self.invariant (quiet-same d.book d.requests (state_of (p g d)) refl c.args.id c.self.invariant.receives c.in_ok-how.how (now-held g c) c.in_default.not-Message))
+    (quiet-sound plain d.book d.endpoints d.requests d.table (p g d).peers c.args.id c.self.invariant (quiet-same d.book d.requests (state_of (p g d)) refl c.args.id c.self.invariant.receives c.in_ok-how.how (now-held g c) c.in_default-how.not-Message c.in_default.not-Packet))
 
 -- it held no slot
-none-held : (g : Over) (c : goal.After-told g) → slots_held c.self.inside.requests (place_of_id (ids_in c.self.inside.requests) c.args.id) ≡ []
+quiet-ending : (b : Book) (place : Option ℕ) (how : Complete) → ((slot : Slot) (max : ℕ) → how ≡ complete.Message slot max → ⊥) → ((slot : Slot) → how ≡ complete.Packet slot → ⊥) → ending b place (Some how) ≡ request_ended place
+quiet-ending b place (complete.Address address) other packet = refl
+quiet-ending b place complete.Accepted other packet = refl
+quiet-ending b place (complete.Rejected reason) other packet = refl
+quiet-ending b place (complete.Message slot max) other packet = absurd (other slot max refl)
+quiet-ending b place (complete.Packet slot) other packet = absurd (packet slot refl)
+quiet-ending b place (complete.Ended word) other packet = refl
+
+none-held : (g : Over) (c : goal.After-told g) → ending c.self.inside.book (place_of_id (ids_in c.self.inside.requests) c.args.id) (how_held c.self.inside.requests (place_of_id (ids_in c.self.inside.requests) c.args.id)) ≡ request_ended (place_of_id (ids_in c.self.inside.requests) c.args.id)
 none-held g c =
     let d = c.self.inside in
-    held-there d.requests c.args.id (Some c.in_ok-how.how) (now-held g c)
-    ∙ quiet-slots d.book d.requests (state_of (p g d)) refl c.args.id c.self.invariant.receives c.in_ok-how.how (now-held g c) c.in_default.not-Message
+    let place = place_of_id (ids_in d.requests) c.args.id in
+    ap (ending d.book place) (held-there d.requests c.args.id (Some c.in_ok-how.how) (now-held g c))
+    ∙ quiet-ending d.book place c.in_ok-how.how c.in_default-how.not-Message c.in_default.not-Packet
 
 after-quiet : (g : Over) (c : goal.After-told g) → parts_in (v g) c.self.inside.book c.self.inside.endpoints c.test.new.self c.self.inside.table c.self.inside.peers.items ≡ done (request_ended (place_of_id (ids_in c.self.inside.requests) c.args.id)) (p g c.self.inside)
 after-quiet g c =
@@ -96,8 +112,8 @@ after-quiet g c =
     let ps = sym (quiet-peers (peers_seen (v g) c.self.inside.peers.items)) in
     cc
 
-pub returns-in_default : goal.returns-in_default
-returns-in_default g c =
+pub returns-in_default-how : goal.returns-in_default-how
+returns-in_default-how g c =
     let d = c.self.inside in
     let M = g.P.PeerLane.Moved in
     let s = state_of (p g d) in
@@ -106,20 +122,22 @@ returns-in_default g c =
     let place = place_of_id (ids_in d.requests) id in
     let how = c.in_ok-how.how in
     let receives = c.self.invariant.receives in
-    let other = c.in_default.not-Message in
-    let told : PlainAnswer = completes None (result_of_done c.told.result out) in
-    let answer : told ≡ completes None (result_of (request_at_place s place)) = ap (λ (r : PlainResult). completes None r) (quiet-result d.book d.requests s refl id receives how (now-held g c) other (result_of_done c.told.result out) (λ asked. c.told.ensures.result d.book asked out)) in
-    let old = holding_in (v g) d.book d.endpoints d.requests d.table d.peers.items in
+    let other = c.in_default-how.not-Message in
+    let packet = c.in_default.not-Packet in
     let new = holding_in (v g) d.book d.endpoints c.test.new.self d.table d.peers.items in
+    let told : PlainAnswer = completes None (result_of_done c.told.result out (packet_lent_as (shown new))) in
+    let answer : told ≡ completes None (result_of (request_at_place s place)) = ap (λ (r : PlainResult). completes None r) (quiet-result d.book d.requests s refl id receives how (now-held g c) other packet (result_of_done c.told.result out (packet_lent_as (shown new))) (λ asked. c.told.ensures.result d.book asked out (packet_lent_as (shown new)))) in
+    let old = holding_in (v g) d.book d.endpoints d.requests d.table d.peers.items in
     let did : Did M (request_ended place ∷ []) old new = record { parts = after-quiet g c; moved = quiet-moved M g.met.P.PeerLane.none (v g) d.peers.items } in
     record {
       acts = subst (λ (x : Holding g.row.P.Denot). Acts M 0 (test_of (place_of_id (shown x).ids id)) x new told None) c.self.view_is
           (acts-done M 0 (test_of place) old new told None (test-done d.book d.requests s refl id how (now-held g c)) answer
           (record {
-            did = subst (λ (ss : List Slot). Did M (ending place ss ∷ []) old new) (sym (none-held g c)) did;
-            means = quiet-means (p g d) place (none-held g c) (quiet-items d.book d.requests s refl id receives how (now-held g c) other) (quiet-lends d.book d.requests s refl id receives how (now-held g c) other);
+            did = subst (λ (x : Step). Did M (x ∷ []) old new) (sym (none-held g c)) did;
+            means = quiet-means (p g d) place (none-held g c) (quiet-items d.book d.requests s refl id receives how (now-held g c) other packet) (quiet-lends d.book d.requests s refl id receives how (now-held g c) other packet);
           }));
       message = c.told.ensures.gives out;
+      lent = subst (λ (x : Holding g.row.P.Denot). LendsLast x.parts.records.lent d.endpoints.lent c.told.result) c.self.view_is (c.told.ensures.lends d.endpoints.lent);
       refused = tt;
     }
 
@@ -197,13 +215,13 @@ returns-clause-acts g c =
     let max = c.in-Message.max in
     let receives = c.self.invariant.receives in
     let told : PlainAnswer = completes None (brought c.give_at_most-got.result.size (take c.give_at_most-got.result.given c.give_at_most-got.new.out)) in
-    let content-is : content_in (queued_at b slot) ≡ c.bytes.result.now = content-of (queued_at b slot) c.bytes.result.now c.bytes.ensures in
+    let content-is : content_in (kept_at b slot) ≡ c.bytes.result.now = content-of (kept_at b slot) c.bytes.result.now c.bytes.ensures in
     let answer : told ≡ completes None (result_of (request_at_place s place))
     = ap (λ (k : ℕ). completes None (brought k (take c.give_at_most-got.result.given c.give_at_most-got.new.out))) c.give_at_most-got.ensures.size
     ∙ ap (λ (bs : List ℕ). completes None (brought (length c.bytes.result.now) bs)) c.give_at_most-got.ensures.bytes
     ∙ ap (λ (bs : List ℕ). completes None (brought (length bs) (take max bs))) (sym content-is)
     ∙ ap (λ (r : PlainResult). completes None r) (sym (tested-result b d.requests s refl id receives slot max (held g c))) in
-    let slots : slots_held d.requests place ≡ slot ∷ [] = held-there d.requests id (Some (complete.Message slot max)) (held g c) in
+    let ends : ending b place (how_held d.requests place) ≡ message_ended place slot = ap (ending b place) (held-there d.requests id (Some (complete.Message slot max)) (held g c)) in
     let more = subst (λ (q : Requests). HasMore slot (handed_slots q.standing) (handed_slots d.requests.standing)) (gone-there d.requests id receives) (fewer g c) in
     let old = holding_in (v g) d.book d.endpoints d.requests d.table d.peers.items in
     let new = holding_in (v g) c.give_back.new.book d.endpoints c.test.new.self d.table (with_items d.peers c.give_back.new.peers).items in
@@ -211,6 +229,95 @@ returns-clause-acts g c =
     subst (λ (x : Holding g.row.P.Denot). Acts M 0 (test_of (place_of_id (shown x).ids id)) x new told None) c.self.view_is
     (acts-done M 0 (test_of place) old new told None (test-done b d.requests s refl id (complete.Message slot max) (held g c)) answer
     (record {
-      did = subst (λ (ss : List Slot). Did M (ending place ss ∷ []) old new) (sym slots) did;
-      means = tested-means (p g d) place c.self.invariant slot slots (its-out g c) more (tested-items b d.requests s refl id receives slot max (held g c)) (tested-lends b d.requests s refl id receives slot max (held g c));
+      did = subst (λ (x : Step). Did M (x ∷ []) old new) (sym ends) did;
+      means = tested-means (p g d) place c.self.invariant slot ends (its-out g c) more (tested-items b d.requests s refl id receives slot max (held g c)) (tested-lends b d.requests s refl id receives slot max (held g c));
+    }))
+
+-- ---- a packet is lent
+
+module _ (parts : Parts) (sound : Sound parts) (id : RequestId) (slot : Slot) (holds : progress_of parts.requests id ≡ Some (Some (complete.Packet slot))) where
+  abbrev at_place : Option ℕ
+  at_place = place_of_id (ids_in parts.requests) id
+
+  its-fewer : HasMore slot (handed_slots (without_request parts.requests id).standing) (handed_slots parts.requests.standing)
+  its-fewer = packet-fewer parts.book parts.requests (state_of parts) refl id sound.receives slot holds
+
+  its-queued : IsQueued parts.book slot
+  its-queued = held-queued plain parts.book parts.records parts.requests parts.table parts.peers id sound slot its-fewer
+
+  its-kept : (k : Kept) × (queued_at parts.book slot ≡ Some k)
+  its-kept = some-of (queued_at parts.book slot) its-queued
+
+  fewer-there : HasMore slot (handed_slots (without_at parts.requests at_place).standing) (handed_slots parts.requests.standing)
+  fewer-there = subst (λ (q : Requests). HasMore slot (handed_slots q.standing) (handed_slots parts.requests.standing)) (gone-there parts.requests id sound.receives) its-fewer
+
+  its-room : length parts.records.lent < parts.records.room
+  its-room = tested-room parts sound at_place slot its-kept.0 its-kept.1 fewer-there
+
+  lent-keeps : Sound (done (packet_ended at_place (next_lent parts.book slot)) parts)
+  lent-keeps = packet_ended-keeps parts sound at_place slot its-kept.0 its-kept.1 fewer-there (subst AreReceives (gone-there parts.requests id sound.receives) (left-receives parts.requests id sound.receives))
+
+  lent-ends : ending parts.book at_place (how_held parts.requests at_place) ≡ packet_ended at_place (next_lent parts.book slot)
+  lent-ends = ap (ending parts.book at_place) (held-there parts.requests id (Some (complete.Packet slot)) holds)
+
+  abbrev its-at : Local
+  its-at = (by parts.book parts.requests (state_of parts) refl id sound.receives slot holds).0
+
+  its-request : request_at_place (state_of parts) at_place ≡ Some (request_for parts.book parts.requests (state_of parts) refl id sound.receives slot holds its-at)
+  its-request = packet-request parts.book parts.requests (state_of parts) refl id sound.receives slot holds
+
+  lent-means : Means parts 0 (test_of at_place) None
+  lent-means = packet-means parts sound at_place slot its-kept.0 its-kept.1 fewer-there its-at _ its-request lent-ends
+
+  lent-answer : brings_whole (packet_at_place_in (state_of (done (packet_ended at_place (next_lent parts.book slot)) parts)).lent (place_of_packet_id (done (packet_ended at_place (next_lent parts.book slot)) parts).records.lent (next_lent parts.book slot))) ≡ result_of (request_at_place (state_of parts) at_place)
+  lent-answer = packet-answer parts sound at_place slot its-kept.0 its-kept.1 fewer-there its-at _ its-request lent-ends
+
+pub lend-packet-requires : goal.lend-packet-requires
+lend-packet-requires g c =
+    let d = c.self.inside in
+    its-queued (p g d) c.self.invariant c.args.id c.in-Packet.slot (held-packet (progress_of d.requests c.args.id) c.in_ok-how.how c.in-Packet.slot (sym c.test.ensures.answer ∙ c.in_ok-how.was) c.in-Packet.is)
+
+pub keep_lent-requires : goal.keep_lent-requires
+keep_lent-requires g c =
+    let d = c.self.inside in
+    its-room (p g d) c.self.invariant c.args.id c.in-Packet.slot (held-packet (progress_of d.requests c.args.id) c.in_ok-how.how c.in-Packet.slot (sym c.test.ensures.answer ∙ c.in_ok-how.was) c.in-Packet.is)
+
+after-lent : (g : Over) (c : goal.After-keep_lent g) → parts_in (v g) c.lend-packet.new.self c.keep_lent.new.self c.test.new.self c.self.inside.table c.self.inside.peers.items ≡ done (packet_ended (place_of_id (ids_in c.self.inside.requests) c.args.id) (next_lent c.self.inside.book c.in-Packet.slot)) (p g c.self.inside)
+after-lent g c =
+    let d = c.self.inside in
+    let b = book-lent d.book c.lend-packet.new.self c.in-Packet.slot c.lend-packet.ensures.book in
+    let r = c.keep_lent.ensures ∙ ap (λ (i : PacketId). with_last_lent d.endpoints i) c.lend-packet.ensures.id in
+    let ended : c.test.new.self ≡ without_request d.requests c.args.id = rw c.in_ok-how.was at c.test.ensures.ended in
+    let q = ended ∙ gone-there d.requests c.args.id c.self.invariant.receives in
+    let ps = sym (quiet-peers (peers_seen (v g) d.peers.items)) in
+    cc
+
+pub invariant_of-self-in-Packet : goal.invariant_of-self-in-Packet
+invariant_of-self-in-Packet g c =
+    let d = c.self.inside in
+    let holds = held-packet (progress_of d.requests c.args.id) c.in_ok-how.how c.in-Packet.slot (sym c.test.ensures.answer ∙ c.in_ok-how.was) c.in-Packet.is in
+    subst Sound (sym (after-lent g c)) (lent-keeps (p g d) c.self.invariant c.args.id c.in-Packet.slot holds)
+
+pub returns-in-Packet-clause-acts : goal.returns-in-Packet-clause-acts
+returns-in-Packet-clause-acts g c =
+    let d = c.self.inside in
+    let M = g.P.PeerLane.Moved in
+    let id = c.args.id in
+    let slot = c.in-Packet.slot in
+    let holds = held-packet (progress_of d.requests id) c.in_ok-how.how slot (sym c.test.ensures.answer ∙ c.in_ok-how.was) c.in-Packet.is in
+    let place = place_of_id (ids_in d.requests) id in
+    let next = next_lent d.book slot in
+    let old = holding_in (v g) d.book d.endpoints d.requests d.table d.peers.items in
+    let new = holding_in (v g) c.lend-packet.new.self c.keep_lent.new.self c.test.new.self d.table d.peers.items in
+    let did : Did M (packet_ended place next ∷ []) old new = record { parts = after-lent g c; moved = quiet-moved M g.met.P.PeerLane.none (v g) d.peers.items } in
+    let told : PlainAnswer = completes None (brings_whole (packet_lent_as (shown new) c.lend-packet.result)) in
+    let answer : told ≡ completes None (result_of (request_at_place (state_of (p g d)) place))
+    = ap (λ (x : Parts). completes None (brings_whole (packet_at_place_in (state_of x).lent (place_of_packet_id x.records.lent c.lend-packet.result)))) (after-lent g c)
+    ∙ ap (λ (i : PacketId). completes None (brings_whole (packet_at_place_in (state_of (done (packet_ended place next) (p g d))).lent (place_of_packet_id (done (packet_ended place next) (p g d)).records.lent i)))) c.lend-packet.ensures.id
+    ∙ ap (λ (r : PlainResult). completes None r) (lent-answer (p g d) c.self.invariant id slot holds) in
+    subst (λ (x : Holding g.row.P.Denot). Acts M 0 (test_of (place_of_id (shown x).ids id)) x new told None) c.self.view_is
+    (acts-done M 0 (test_of place) old new told None (test-done d.book d.requests (state_of (p g d)) refl id (complete.Packet slot) holds) answer
+    (record {
+      did = subst (λ (x : Step). Did M (x ∷ []) old new) (sym (lent-ends (p g d) c.self.invariant id slot holds)) did;
+      means = lent-means (p g d) c.self.invariant id slot holds;
     }))

@@ -4,7 +4,7 @@ use Rattle.std.specs.Prelude.{option_map}
 use Rattle.mc_base.specs.declared.request.Slot.{Slot}
 use Rattle.board_model.specs.Choice.{oldest}
 use Rattle.board_model.specs.State.{Item, place_at, queue_at}
-use Rattle.buffer_book.specs.Book.{queued_at}
+use Rattle.buffer_book.specs.Book.{queued_at, kept_at}
 use Rattle.domain_core.specs.Parts.{Holding, Parts, parts_in, state_of}
 use Rattle.domain_core.specs.Records.{slots_at}
 use Rattle.domain_core.specs.declared.holdings.Holdings.TheInside.{Inside}
@@ -42,7 +42,7 @@ returns-clause-front g c =
     let at = c.args.at in
     let slot = c.in_ok-slot.slot in
     let there = subst (λ (x : Holding g.row.P.Denot). place_at (state_of x.parts) at ≡ Some c.args.place) (sym c.self.view_is) c.requires.there in
-    ap (λ (xs : List ℕ). Some xs) (sym (content-of (queued_at d.book slot) c.bytes.result.now c.bytes.ensures))
+    ap (λ (xs : List ℕ). Some xs) (sym (content-of (kept_at d.book slot) c.bytes.result.now c.bytes.ensures))
     ∙ sym (ap contents (oldest-there (p g d) c.self.invariant at c.args.place there slot c.in_ok-slot.ensures))
     ∙ ap (λ (x : Holding g.row.P.Denot). contents (oldest (queue_at (state_of x.parts) at))) c.self.view_is
 

@@ -1,5 +1,5 @@
 use Rattle.std.proofs.Common.{◌≡◌, ◌∙◌, ℕ, Bool, Option, Some, ap, ap₂, is_some, length, subst, sym}
-use Rattle.std.specs.Prelude.{not, option_map, slice_get, ◌==◌, ◌||◌}
+use Rattle.std.specs.Prelude.{not, option_map, ◌==◌, ◌||◌}
 use Rattle.mc_base.specs.declared.name.Local.{Local}
 use Rattle.board_model.specs.State.{one_waits, place_at, queue_at}
 use Rattle.request_set.specs.Requests.{oldest_waiting}

@@ -6,7 +6,7 @@ use Rattle.domain_core.proofs.Stepping.{sound-unseen, state-seen}
 use Rattle.domain_core.specs.InPlaces.{is_of}
 use Rattle.domain_core.specs.InRequests.{handed_slots}
 use Rattle.domain_core.specs.Records.{all_waiting}
-use Rattle.domain_core.proofs.CountsFrom.{both-are, kept-from, lent-is, queued-is}
+use Rattle.domain_core.proofs.CountsFrom.{both-are, held-few, kept-from, lent-are, lent-within, lent-is, queued-is}
 use Rattle.domain_core.proofs.PeerPlaces.{contained-found, found-contained, number-place, numbers-in}
 use Rattle.domain_core.proofs.Slots.{slots}
 use Rattle.domain_core.proofs.holdings.Holdings.places.Given.{Over}
@@ -39,8 +39,32 @@ all-are g c =
     let at = subst (λ ps. Some c.in_ok-place_of.field-0 ≡ position (λ p. p.number == c.args.peer) ps) c.deref.ensures.value c.in_ok-place_of.ensures.place in
     c.places.ensures.queue ∙ kept-from v d.book d.endpoints d.requests d.table d.peers.items c.args.peer c.in_ok-place_of.field-0 at (sound-unseen v d.book d.endpoints d.requests d.table d.peers.items c.self.invariant) ∙ both-are c.args.peer d.endpoints d.requests
 
+are-all : (g : Over) (c : goal.After-lent_from g) → c.places.result.queue ≡ count_by (is_of c.args.peer) (slots (all_waiting c.self.inside.endpoints.endpoints)) + count_by (is_of c.args.peer) (handed_slots c.self.inside.requests.standing)
+are-all g c =
+    let d = c.self.inside in
+    let v = g.P.PeerLane.seen in
+    let at = subst (λ ps. Some c.in_ok-place_of.field-0 ≡ position (λ p. p.number == c.args.peer) ps) c.deref.ensures.value c.in_ok-place_of.ensures.place in
+    c.places.ensures.queue ∙ kept-from v d.book d.endpoints d.requests d.table d.peers.items c.args.peer c.in_ok-place_of.field-0 at (sound-unseen v d.book d.endpoints d.requests d.table d.peers.items c.self.invariant) ∙ both-are c.args.peer d.endpoints d.requests
+
 pub overflow_sub-result : goal.overflow_sub-result
-overflow_sub-result g c = omega (arith, all-are g c, c.messages_handed_from-lent.ensures)
+overflow_sub-result g c = omega (arith, all-are g c, c.handed_from-handed.ensures)
+
+pub lent_from-requires : goal.lent_from-requires
+lent_from-requires g c =
+    let d = c.self.inside in
+    let v = g.P.PeerLane.seen in
+    let few = lent-within v d.book d.endpoints d.requests d.table d.peers.items (sound-unseen v d.book d.endpoints d.requests d.table d.peers.items c.self.invariant) in
+    omega (arith, few)
+
+pub overflow_add-result : goal.overflow_add-result
+overflow_add-result g c =
+    let d = c.self.inside in
+    let v = g.P.PeerLane.seen in
+    let at = subst (λ ps. Some c.in_ok-place_of.field-0 ≡ position (λ p. p.number == c.args.peer) ps) c.deref.ensures.value c.in_ok-place_of.ensures.place in
+    let few = held-few v d.book d.endpoints d.requests d.table d.peers.items c.args.peer c.in_ok-place_of.field-0 at (sound-unseen v d.book d.endpoints d.requests d.table d.peers.items c.self.invariant) in
+    let lends = lent-are c.args.peer d.endpoints in
+    let both = both-are c.args.peer d.endpoints d.requests in
+    omega (arith, few, lends, both, c.handed_from-handed.ensures, c.lent_from.ensures)
 
 pub returns-clause-none : goal.returns-clause-none
 returns-clause-none g c =
@@ -55,10 +79,12 @@ returns-clause-queue g c =
     let d = c.self.inside in
     let v = g.P.PeerLane.seen in
     let queued = sym (ap (λ s. queued_from c.args.peer s) (state-seen v d.book d.endpoints d.requests d.table d.peers.items) ∙ ap (λ x. queued_from c.args.peer (state_of x.parts)) c.self.view_is) ∙ queued-is v d.book d.endpoints d.requests d.table d.peers.items c.args.peer in
-    omega (arith, all-are g c, c.messages_handed_from-lent.ensures, queued)
+    omega (arith, are-all g c, c.handed_from-handed.ensures, queued)
 
 pub returns-clause-lent : goal.returns-clause-lent
 returns-clause-lent g c =
     let d = c.self.inside in
     let v = g.P.PeerLane.seen in
-    c.messages_handed_from-lent.ensures ∙ sym (lent-is v d.book d.endpoints d.requests d.table d.peers.items c.args.peer) ∙ ap (λ s. lent_from c.args.peer s) (state-seen v d.book d.endpoints d.requests d.table d.peers.items) ∙ ap (λ x. lent_from c.args.peer (state_of x.parts)) c.self.view_is
+    let lent = lent-is v d.book d.endpoints d.requests d.table d.peers.items c.args.peer in
+    let told = ap (λ s. lent_from c.args.peer s) (state-seen v d.book d.endpoints d.requests d.table d.peers.items) ∙ ap (λ x. lent_from c.args.peer (state_of x.parts)) c.self.view_is in
+    omega (arith, lent, told, c.handed_from-handed.ensures, c.lent_from.ensures)

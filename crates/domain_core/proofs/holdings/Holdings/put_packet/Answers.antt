@@ -102,7 +102,7 @@ returns-clause-acts g c =
     acts-done M c.args.at.node (call g c) old c.put_letter.new.self agrees None (unrefused g c) refl
     (record {
       did = subst (λ (cs : List Step). Did M cs old c.put_letter.new.self) (sym (ap putting_all puts)) c.put_letter.ensures.did;
-      means = data-means old.parts c.in-Some.ensures.sound c.args.at i (there g c) (end g c) (has g c) c.address_at-source.result c.address_at-source.ensures (peer g c).0 (peer g c).1 (call g c) (letter g c) puts refl refl refl refl;
+      means = data-means old.parts c.in-Some.ensures.sound c.args.at i (there g c) (end g c) (has g c) c.address_at-source.result c.address_at-source.ensures (peer g c).0 (peer g c).1 (call g c) (letter g c) puts refl refl refl refl refl refl;
     })
 
 pub returns-clause-told : goal.returns-clause-told

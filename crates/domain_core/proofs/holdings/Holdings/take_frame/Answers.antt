@@ -6,7 +6,8 @@ use Rattle.mc_base.specs.declared.request.Slot.{Slot}
 use Rattle.board_model.specs.Journal.{take_line}
 use Rattle.buffer_book.specs.Book.{queued_in, with_queued}
 use Rattle.message_queue.specs.Queue.{waiting}
-use Rattle.request_set.specs.declared.ask.Complete.TheVariants as complete
+use Rattle.request_set.specs.declared.ask.Complete.{Complete}
+use Rattle.domain_core.specs.InRequests.{handed_by}
 use Rattle.request_set.specs.Requests.{IsPending, with_complete}
 use Rattle.domain_core.specs.declared.holdings.Holdings.TheInside.{Inside}
 use Rattle.domain_core.specs.Doing.{Takes}
@@ -176,9 +177,9 @@ invariant_of-self-in-Handed g c =
     let took = c.take-buffer.ensures in
     let all = subst (λ (f : List ℕ). IsVerdict (state_of (p g d)) x.number f c.deal-verdict.result (desk d.endpoints d.requests x.known x.replies) (desk c.deal-verdict.new.endpoints c.deal-verdict.new.requests c.deal-verdict.new.known c.deal-verdict.new.replies)) frame (c.deal-verdict.ensures d.book (state_of (p g d)) (shows g.P.PeerLane.Moved g.met.P.PeerLane.none (v g) d.book d.endpoints d.requests d.table d.peers.items c.self.invariant c.args.place x at c.take-buffer.result.0 c.take-buffer.result.1 lines lines')) in
     let is = rw c.in-Handed.is at all in
-    let requests = c.complete.ensures ∙ ap (λ (s : Slot). with_complete c.deal-verdict.new.requests c.in-Handed.id (complete.Message s c.in-Handed.max)) c.enqueue-slot-in-Handed.ensures.slot ∙ ap (λ (z : Desk). with_complete z.requests c.in-Handed.id (complete.Message (slot_at x.number c.take-buffer.result.0.number) c.in-Handed.max)) is.2 in
+    let requests = c.complete.ensures ∙ ap (λ (h : Complete). with_complete c.deal-verdict.new.requests c.in-Handed.id h) c.handed.ensures ∙ ap (λ (s : Slot). with_complete c.deal-verdict.new.requests c.in-Handed.id (handed_by c.in-Handed.ask s)) c.enqueue-slot-in-Handed.ensures.slot ∙ ap (λ (z : Desk). with_complete z.requests c.in-Handed.id (handed_by c.in-Handed.ask (slot_at x.number c.take-buffer.result.0.number))) is.2 in
     let book = c.enqueue-slot-in-Handed.ensures.book ∙ ap (λ (s : Slot). with_queued d.book s (queued_in c.take-buffer.result.0 24 c.in-Handed.size)) c.enqueue-slot-in-Handed.ensures.slot in
-    handed-keeps g.P.PeerLane.Moved g.met.P.PeerLane.none (v g) d.book d.endpoints d.requests d.table d.peers.items c.self.invariant c.args.place x at c.take-buffer.result.0 c.take-buffer.result.1 lines lines' c.take-buffer.new.self took.seen took.moved took.apart c.in-Handed.size is.1 c.enqueue-slot-in-Handed.new.self book c.deal-verdict.new.known (ap (λ (z : Desk). z.names) is.2) c.deal-verdict.new.replies (ap (λ (z : Desk). z.replies) is.2) c.in-Handed.id c.in-Handed.max is.0 c.deal-verdict.new.endpoints c.complete.new.self (ap (λ (z : Desk). z.records) is.2) requests
+    handed-keeps g.P.PeerLane.Moved g.met.P.PeerLane.none (v g) d.book d.endpoints d.requests d.table d.peers.items c.self.invariant c.args.place x at c.take-buffer.result.0 c.take-buffer.result.1 lines lines' c.take-buffer.new.self took.seen took.moved took.apart c.in-Handed.size is.1 c.enqueue-slot-in-Handed.new.self book c.deal-verdict.new.known (ap (λ (z : Desk). z.names) is.2) c.deal-verdict.new.replies (ap (λ (z : Desk). z.replies) is.2) c.in-Handed.id c.in-Handed.ask is.0 c.deal-verdict.new.endpoints c.complete.new.self (ap (λ (z : Desk). z.records) is.2) requests
 
 pub returns-in-Handed-clause-takes : goal.returns-in-Handed-clause-takes
 returns-in-Handed-clause-takes g c =
@@ -193,10 +194,10 @@ returns-in-Handed-clause-takes g c =
     let all = subst (λ (f : List ℕ). IsVerdict (state_of (p g d)) x.number f c.deal-verdict.result (desk d.endpoints d.requests x.known x.replies) (desk c.deal-verdict.new.endpoints c.deal-verdict.new.requests c.deal-verdict.new.known c.deal-verdict.new.replies)) frame (c.deal-verdict.ensures d.book (state_of (p g d)) (shows g.P.PeerLane.Moved g.met.P.PeerLane.none (v g) d.book d.endpoints d.requests d.table d.peers.items c.self.invariant c.args.place x at c.take-buffer.result.0 c.take-buffer.result.1 lines lines')) in
     let is = rw c.in-Handed.is at all in
     let told = c.note.ensures.lines ∙ ap (λ (f : List ℕ). lines ++ take_line x.number f c.fate-fate.result ∷ []) frame ∙ ap (λ (w : Fate). lines ++ take_line x.number bytes w ∷ []) (c.fate-fate.ensures ∙ ap fate_of c.in-Handed.is) in
-    let requests = c.complete.ensures ∙ ap (λ (s : Slot). with_complete c.deal-verdict.new.requests c.in-Handed.id (complete.Message s c.in-Handed.max)) c.enqueue-slot-in-Handed.ensures.slot ∙ ap (λ (z : Desk). with_complete z.requests c.in-Handed.id (complete.Message (slot_at x.number c.take-buffer.result.0.number) c.in-Handed.max)) is.2 in
+    let requests = c.complete.ensures ∙ ap (λ (h : Complete). with_complete c.deal-verdict.new.requests c.in-Handed.id h) c.handed.ensures ∙ ap (λ (s : Slot). with_complete c.deal-verdict.new.requests c.in-Handed.id (handed_by c.in-Handed.ask s)) c.enqueue-slot-in-Handed.ensures.slot ∙ ap (λ (z : Desk). with_complete z.requests c.in-Handed.id (handed_by c.in-Handed.ask (slot_at x.number c.take-buffer.result.0.number))) is.2 in
     let book = c.enqueue-slot-in-Handed.ensures.book ∙ ap (λ (s : Slot). with_queued d.book s (queued_in c.take-buffer.result.0 24 c.in-Handed.size)) c.enqueue-slot-in-Handed.ensures.slot in
     subst (λ (h : Holding g.row.P.Denot). Takes g.P.PeerLane.Moved c.args.place 1 h (holding_in (v g) c.enqueue-slot-in-Handed.new.self c.deal-verdict.new.endpoints c.complete.new.self d.table (slice_set d.peers.items c.args.place (record x { ends = c.take-buffer.new.self; known = c.deal-verdict.new.known; replies = c.deal-verdict.new.replies }))) lines lines') c.self.view_is
-    (handed-takes g.P.PeerLane.Moved g.met.P.PeerLane.none (v g) d.book d.endpoints d.requests d.table d.peers.items c.self.invariant c.args.place x at c.take-buffer.result.0 c.take-buffer.result.1 lines lines' c.take-buffer.new.self took.seen took.moved took.apart c.in-Handed.size is.1 c.enqueue-slot-in-Handed.new.self book c.deal-verdict.new.known (ap (λ (z : Desk). z.names) is.2) c.deal-verdict.new.replies (ap (λ (z : Desk). z.replies) is.2) c.in-Handed.id c.in-Handed.max is.0 c.deal-verdict.new.endpoints c.complete.new.self (ap (λ (z : Desk). z.records) is.2) requests told)
+    (handed-takes g.P.PeerLane.Moved g.met.P.PeerLane.none (v g) d.book d.endpoints d.requests d.table d.peers.items c.self.invariant c.args.place x at c.take-buffer.result.0 c.take-buffer.result.1 lines lines' c.take-buffer.new.self took.seen took.moved took.apart c.in-Handed.size is.1 c.enqueue-slot-in-Handed.new.self book c.deal-verdict.new.known (ap (λ (z : Desk). z.names) is.2) c.deal-verdict.new.replies (ap (λ (z : Desk). z.replies) is.2) c.in-Handed.id c.in-Handed.ask is.0 c.deal-verdict.new.endpoints c.complete.new.self (ap (λ (z : Desk). z.records) is.2) requests told)
 
 -- ---- its buffer is given back
 

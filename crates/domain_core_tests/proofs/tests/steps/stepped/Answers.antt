@@ -33,3 +33,9 @@ returns-in-CloseSend g c = ends-go g.S.SendEnd.Moved g.R.RecvEnd.Moved g.met.S.S
 
 pub returns-in-CloseRecv : goal.returns-in-CloseRecv
 returns-in-CloseRecv g c = ends-go g.S.SendEnd.Moved g.R.RecvEnd.Moved g.met.S.SendEnd.both g.met.R.RecvEnd.both _ _ _ _ _ _ _ _ c.close_recv-answer.ensures.call
+
+pub returns-in-BeginPacket : goal.returns-in-BeginPacket
+returns-in-BeginPacket g c = ends-go g.S.SendEnd.Moved g.R.RecvEnd.Moved g.met.S.SendEnd.both g.met.R.RecvEnd.both _ _ _ _ _ _ _ _ c.pkt_recv_i-answer.ensures.call
+
+pub returns-in-Release : goal.returns-in-Release
+returns-in-Release g c = ends-go g.S.SendEnd.Moved g.R.RecvEnd.Moved g.met.S.SendEnd.both g.met.R.RecvEnd.both _ _ _ _ _ _ _ _ c.release-answer.ensures.call

@@ -5,7 +5,7 @@ use Rattle.endpoint_table.specs.Table.{opening_table}
 use Rattle.domain_core.specs.Ends.{ends_seen}
 use Rattle.domain_core.specs.AllMoved.{ends_of}
 use Rattle.domain_core.specs.Opened.{sizes_opened}
-use Rattle.domain_core.specs.Records.{opening_records}
+use Rattle.domain_core.specs.Records.{opening_records, Records}
 use Rattle.domain_core.proofs.Stepping.{sound-seen, state-seen}
 use Rattle.domain_core.proofs.Opening.{ends-opening, kept-none, parts-sound, parts-state, room-fits, sizes-apart}
 use Rattle.domain_core.proofs.holdings.opening.Holdings+Ends+S+R.open.Goals as goal
@@ -56,3 +56,6 @@ returns-clause-ends g c =
 
 pub returns-clause-book : goal.returns-clause-book
 returns-clause-book g c = λ s. ap (λ (b : Book). kept_at b s) c.in_ok-new-2.ensures ∙ kept-none _ s
+
+pub returns-clause-packets : goal.returns-clause-packets
+returns-clause-packets g c = ap (λ (r : Records). r.lent) c.in_ok-open.ensures
