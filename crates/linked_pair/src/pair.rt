@@ -2,23 +2,24 @@ ghost use Rattle.std.specs.Prelude.{◌≡◌, ◌≢◌, ◌≤◌, ◌+◌, �
 ghost use Rattle.lane_end.specs.Numbers.{IsLaneSize};
 ghost use Rattle.lane_end.specs.PlainReceiver.{Receives};
 ghost use Rattle.lane_end.specs.PlainSender.{Sends};
-ghost use Rattle.mc_base.specs.declared.channel.Side.TheVariants.{Receiver, Sender};
-ghost use Rattle.board_model.specs.DomainCall.{create_at, delete_at, lookup_of, turn_alone, send_from, receive_at, request_at, available_at, connect_from, open_at, close_at, test_of, cancel_of};
+ghost use Rattle.board_model.specs.DomainCall.{create_at, delete_at, lookup_of, turn_alone, send_from, receive_at, request_at, available_at, test_of, cancel_of};
 ghost use Rattle.board_model.specs.Journal.{agrees};
 ghost use Rattle.domain_core.specs.Room.{call_entries, call_bytes};
-ghost use Rattle.domain_core.specs.DomainView.{place_of_id};
-ghost use Rattle.domain_core.specs.Calls.{GivesTo, connected, created, deleted, sent, received, requested, given, given_by, available, tested, cancelled};
+ghost use Rattle.domain_core.specs.DomainView.{packet_lent_as, place_of_id};
+ghost use Rattle.domain_core.specs.Calls.{GivesTo, LendsBy, created, deleted, sent, received, requested, given, available, tested, cancelled};
 ghost use Rattle.domain_core.specs.Carrying.{Carries, HasShuttled};
 ghost use Rattle.domain_core.specs.Ends.{EndsMoved};
 ghost use Rattle.domain_core.specs.Turned.{MakesTurn};
 ghost use Rattle.linked_pair.specs.Links.{IsOpen, new_link};
 ghost use Rattle.linked_pair.specs.Pair.{CallsAt, IsMember, IsOpened, domain_of};
 
+mod channels;
+
 use crate::links::{PlainLink, plain_link};
 use crate::member::{Member, Which};
 use domain_core::{Domain, calls_move_ends, carry, domains_stay_linked};
 use lane_end::{LaneFault, PlainRecv, PlainSend};
-use mc_base::{Done, EndName, Got, Kind, Local, NoMemory, Priority, Refusal, RequestId};
+use mc_base::{Done, EndName, Got, Local, NoMemory, Priority, Refusal, RequestId};
 use mc_journal::Journal;
 use std::alloc::Global;
 use std::marker::Model;
@@ -257,115 +258,6 @@ impl LinkedPair {
         }
     }
 
-    /// Connects an endpoint to another and returns the request and the number of the channel, as [`Domain::connect`].
-    pub fn connect(
-        &mut self,
-        which: Which,
-        journal: &mut Journal,
-        from: Local,
-        to: EndName,
-        kind: Kind,
-    ) -> Result<(RequestId, u32), Refusal>
-        requires entry_room { call_entries ≤ journal.old.entry_room }
-        requires byte_room { call_bytes ≤ journal.old.byte_room }
-        ensures call { CallsAt which from.node (connect_from from.port to kind) self.old self.new journal.old.lines journal.new.lines (connected result) (given_by result) }
-        ensures entry_room { journal.old.entry_room ≤ journal.new.entry_room + call_entries }
-        ensures byte_room { journal.old.byte_room ≤ journal.new.byte_room + call_bytes }
-    {
-        calls_move_ends();
-        domains_stay_linked();
-        match which {
-            Which::One => self.one.connect(journal, from, to, kind),
-            Which::Two => self.two.connect(journal, from, to, kind),
-        }
-    }
-
-    /// Opens the sender's end of a channel, as [`Domain::open_send`].
-    pub fn open_send(
-        &mut self,
-        which: Which,
-        journal: &mut Journal,
-        at: Local,
-        kind: Kind,
-    ) -> Result<(), Refusal>
-        requires entry_room { call_entries ≤ journal.old.entry_room }
-        requires byte_room { call_bytes ≤ journal.old.byte_room }
-        ensures call { CallsAt which at.node (open_at at.port Sender kind) self.old self.new journal.old.lines journal.new.lines (sent result) None }
-        ensures entry_room { journal.old.entry_room ≤ journal.new.entry_room + call_entries }
-        ensures byte_room { journal.old.byte_room ≤ journal.new.byte_room + call_bytes }
-    {
-        calls_move_ends();
-        domains_stay_linked();
-        match which {
-            Which::One => self.one.open_send(journal, at, kind),
-            Which::Two => self.two.open_send(journal, at, kind),
-        }
-    }
-
-    /// Opens the receiver's end of a channel, as [`Domain::open_recv`].
-    pub fn open_recv(
-        &mut self,
-        which: Which,
-        journal: &mut Journal,
-        at: Local,
-        kind: Kind,
-    ) -> Result<(), Refusal>
-        requires entry_room { call_entries ≤ journal.old.entry_room }
-        requires byte_room { call_bytes ≤ journal.old.byte_room }
-        ensures call { CallsAt which at.node (open_at at.port Receiver kind) self.old self.new journal.old.lines journal.new.lines (sent result) None }
-        ensures entry_room { journal.old.entry_room ≤ journal.new.entry_room + call_entries }
-        ensures byte_room { journal.old.byte_room ≤ journal.new.byte_room + call_bytes }
-    {
-        calls_move_ends();
-        domains_stay_linked();
-        match which {
-            Which::One => self.one.open_recv(journal, at, kind),
-            Which::Two => self.two.open_recv(journal, at, kind),
-        }
-    }
-
-    /// Closes the sender's end of a channel, as [`Domain::close_send`].
-    pub fn close_send(
-        &mut self,
-        which: Which,
-        journal: &mut Journal,
-        at: Local,
-    ) -> Result<(), Refusal>
-        requires entry_room { call_entries ≤ journal.old.entry_room }
-        requires byte_room { call_bytes ≤ journal.old.byte_room }
-        ensures call { CallsAt which at.node (close_at at.port Sender) self.old self.new journal.old.lines journal.new.lines (sent result) None }
-        ensures entry_room { journal.old.entry_room ≤ journal.new.entry_room + call_entries }
-        ensures byte_room { journal.old.byte_room ≤ journal.new.byte_room + call_bytes }
-    {
-        calls_move_ends();
-        domains_stay_linked();
-        match which {
-            Which::One => self.one.close_send(journal, at),
-            Which::Two => self.two.close_send(journal, at),
-        }
-    }
-
-    /// Closes the receiver's end of a channel and returns how many items were dropped there, as [`Domain::close_recv`].
-    pub fn close_recv(
-        &mut self,
-        which: Which,
-        journal: &mut Journal,
-        at: Local,
-    ) -> Result<u32, Refusal>
-        requires entry_room { call_entries ≤ journal.old.entry_room }
-        requires byte_room { call_bytes ≤ journal.old.byte_room }
-        ensures call { CallsAt which at.node (close_at at.port Receiver) self.old self.new journal.old.lines journal.new.lines (deleted result) None }
-        ensures entry_room { journal.old.entry_room ≤ journal.new.entry_room + call_entries }
-        ensures byte_room { journal.old.byte_room ≤ journal.new.byte_room + call_bytes }
-    {
-        calls_move_ends();
-        domains_stay_linked();
-        match which {
-            Which::One => self.one.close_recv(journal, at),
-            Which::Two => self.two.close_recv(journal, at),
-        }
-    }
-
     /// Ends a request that is complete, as [`Domain::test`]. `out` has at least 488 bytes.
     pub fn test(
         &mut self,
@@ -377,8 +269,9 @@ impl LinkedPair {
         requires entry_room { call_entries ≤ journal.old.entry_room }
         requires byte_room { call_bytes ≤ journal.old.byte_room }
         requires out { 488 ≤ length out.old }
-        ensures call { CallsAt which 0 (test_of (place_of_id (domain_of which self.old).ids id)) self.old self.new journal.old.lines journal.new.lines (tested result out.new) None }
+        ensures call { CallsAt which 0 (test_of (place_of_id (domain_of which self.old).ids id)) self.old self.new journal.old.lines journal.new.lines (tested result out.new (packet_lent_as (domain_of which self.new))) None }
         ensures message { IfOk result (λ done. GivesTo done out.old out.new) }
+        ensures lent { IfOk result (LendsBy (domain_of which self.old) (domain_of which self.new)) }
         ensures refused { OnErr result (out.new ≡ out.old) }
         ensures entry_room { journal.old.entry_room ≤ journal.new.entry_room + call_entries }
         ensures byte_room { journal.old.byte_room ≤ journal.new.byte_room + call_bytes }
