@@ -5,6 +5,7 @@ use Rattle.std.specs.List.{AllByRecursion}
 use Rattle.std.specs.Option.{option_or}
 use Rattle.std.proofs.lemmas.List.Sums.{sum_by-cons, sum_by-append}
 use Rattle.mc_base.specs.declared.refusal.Refusal.{Refusal}
+use Rattle.mc_base.specs.declared.request.PacketId.{PacketId}
 use Rattle.mc_base.specs.declared.request.RequestId.{RequestId}
 use Rattle.lane_end.specs.AnySender.{AnySends}
 use Rattle.lane_end.specs.AnyReceiver.{AnyReceives}
@@ -15,7 +16,7 @@ use Rattle.board_model.specs.DomainCall.{DomainCall}
 use Rattle.board_model.specs.Change.{changed_all}
 use Rattle.board_model.specs.CallChanges.{call_changes, effect, returned, success_changes, success_returned}
 use Rattle.board_model.specs.Journal.{Line, PlainEntry, again, called, PlainAnswer, refuses, agrees, tells, connects, gives, completes, noted, noted_all, joined, call_line, again_line}
-use Rattle.board_model.specs.Labels.{request_given, success_request, with_label}
+use Rattle.board_model.specs.Labels.{Labels, request_given, success_request, packet_given, success_packet, lending_label, with_label}
 use Rattle.board_model.specs.Lists.{without}
 use Rattle.board_model.specs.Loads.{Load, loads_given, with_returned}
 use Rattle.board_model.specs.Scenario.{script, label_in}
@@ -31,16 +32,17 @@ use Rattle.board_model.proofs.UnnamedCalls.{refused-is}
 use Rattle.board_model.proofs.ListsJoined.{entry_lines, JoinsWeighNothing, sum-joined}
 use Rattle.board_model.proofs.WholeStations.{entered_all}
 use Rattle.board_model.proofs.WholeJournals.{call_entries, called_run}
-use Rattle.domain_core.specs.Calls.{Does, place_ended, success_ends}
+use Rattle.domain_core.specs.Calls.{Does, place_ended, place_released, success_ends, success_releases}
 use Rattle.domain_core.specs.Ends.{EndsMoved}
 use Rattle.mc_journal.specs.Entry.{plain_answer}
 use Rattle.board_runner.specs.declared.station.Station.{Station}
 use Rattle.board_runner.specs.declared.line.Made.{Made}
-use Rattle.board_runner.specs.Held.{id_for, told_for}
+use Rattle.board_runner.specs.Held.{id_for, told_for, TellsId}
 use Rattle.board_runner.specs.Lines.{dropped_by, NotesAgain, NotesCalled}
 use Rattle.board_runner.specs.Near.{RunDomain, peers_of, EndsMatch}
-use Rattle.board_runner.specs.Stations.{HoldsIds, IsStation}
+use Rattle.board_runner.specs.Stations.{HoldsIds, HoldsPackets, HoldsLabels, IsStation}
 use Rattle.board_runner.proofs.HeldLemmas.{holds_after, holds_same}
+use Rattle.board_runner.proofs.PacketLemmas.{packets_after, packets_stay}
 
 -- ---- the lines of a journal
 
@@ -92,7 +94,9 @@ pub record IsCall (s : Scenario) (t : run.Station) (line : CallLine) (st called_
   pub does : Does (EndsMoved AnySends AnyReceives) line.node call st.domain called_to.domain (plain_answer m.answer) m.given
   pub told : called_to.journal.lines ≡ noted_all st.journal.lines (map put_entry (puts st.domain.state line.node call))
   pub gives : option_map (λ i. i.serial) m.given ≡ request_given st.domain.state line.node call
+  pub lends : m.lent ≡ does.lent
   pub ids : called_to.ids ≡ st.ids
+  pub packets : called_to.packets ≡ st.packets
   pub number : called_to.number ≡ st.number
   pub dropped : called_to.dropped ≡ st.dropped
   pub domain_number : called_to.domain_number ≡ st.domain_number
@@ -143,22 +147,47 @@ module _ (s : Scenario) (t : run.Station) (line : CallLine) (st called_to new : 
       let by = ap (dropped_by line.call) same_answer in
       omega (arith, notes.dropped, h.dropped, old, by, more, sum_more sc t.entries entries, ap (sum_by (deleted_in sc)) told_after)
 
-  ids_after : HoldsIds new.domain new.ids (entered_all s entries t).run.labels (entered_all s entries t).run.lines_called
-  ids_after =
+  tells_ids : TellsId (label_in line) m.given st.ids new.ids
+  tells_ids = subst (λ ids. (other : List ℕ) → id_for new.ids other ≡ option_or (id_for ids other) (told_for (label_in line) m.given other)) h.ids notes.ids
+
+  tells_packets : TellsId (lending_label line.call (label_in line)) m.lent st.packets new.packets
+  tells_packets = subst (λ ids. (other : List ℕ) → id_for new.packets other ≡ option_or (id_for ids other) (told_for (lending_label line.call (label_in line)) m.lent other)) h.packets notes.packets
+
+  labels_now : Labels
+  labels_now = record {
+    requests = with_label t.run.labels.requests (label_in line) (request_given st.domain.state line.node call);
+    packets = with_label t.run.labels.packets (lending_label line.call (label_in line)) (packet_given st.domain.state line.node call);
+  }
+
+  labels_are : labels_now ≡ (entered_all s entries t).run.labels
+  unfolding labels_now
+  labels_are =
+      ap₂ (λ (x : DomainState) (c : DomainCall). record { requests = with_label t.run.labels.requests (label_in line) (request_given x line.node c); packets = with_label t.run.labels.packets (lending_label line.call (label_in line)) (packet_given x line.node c) }) h.stands.state h.call_is
+      ∙ sym (ap (λ (r : RunState). r.labels) leads)
+
+  held_now : HoldsLabels called_to.domain new.ids new.packets labels_now (t.run.lines_called + 1)
+  unfolding labels_now
+  held_now =
+      let held = h.stands.held in
       let fits = few in
-      let held = h.stands.ids in
-      let moved = holds_after st.domain called_to.domain st.ids new.ids t.run.labels t.run.lines_called line.node call (label_in line) m.given (omega (arith, fits, h.stands.number)) held h.does.state h.does.ids h.does.fresh h.gives (subst (λ ids. (other : List ℕ) → id_for new.ids other ≡ option_or (id_for ids other) (told_for (label_in line) m.given other)) h.ids notes.ids) in
-      let labels : with_label t.run.labels (label_in line) (request_given st.domain.state line.node call) ≡ (entered_all s entries t).run.labels = ap₂ (λ (x : DomainState) (c : DomainCall). with_label t.run.labels (label_in line) (request_given x line.node c)) h.stands.state h.call_is ∙ sym (ap (λ (r : RunState). r.labels) leads) in
+      record {
+        requests = holds_after st.domain called_to.domain st.ids new.ids t.run.labels.requests t.run.lines_called line.node call (label_in line) m.given (omega (arith, fits, h.stands.number)) held.requests h.does.state h.does.ids h.does.fresh h.gives tells_ids;
+        packets = packets_after st.domain called_to.domain st.packets new.packets t.run.labels.packets t.run.lines_called line.node call (lending_label line.call (label_in line)) m.lent (omega (arith, fits, h.stands.number)) held.packets h.does.state
+            (h.does.packets ∙ ap (λ (o : Option PacketId). without (place_released st.domain.state line.node call) st.domain.packets ++ option_to_list o) (sym h.lends)) (ap (option_map (λ (i : PacketId). i.serial)) h.lends ∙ h.does.lends) tells_packets;
+      }
+
+  held_after : HoldsLabels new.domain new.ids new.packets (entered_all s entries t).run.labels (entered_all s entries t).run.lines_called
+  held_after =
       let lines : t.run.lines_called + 1 ≡ (entered_all s entries t).run.lines_called = sym (ap (λ (r : RunState). r.lines_called) leads) in
-      subst (λ d. HoldsIds d new.ids (entered_all s entries t).run.labels (entered_all s entries t).run.lines_called) (sym notes.domain)
-      (subst (λ n. HoldsIds called_to.domain new.ids (entered_all s entries t).run.labels n) lines (subst (λ ls. HoldsIds called_to.domain new.ids ls (t.run.lines_called + 1)) labels moved))
+      subst (λ d. HoldsLabels d new.ids new.packets (entered_all s entries t).run.labels (entered_all s entries t).run.lines_called) (sym notes.domain)
+      (subst (λ n. HoldsLabels called_to.domain new.ids new.packets (entered_all s entries t).run.labels n) lines (subst (λ ls. HoldsLabels called_to.domain new.ids new.packets ls (t.run.lines_called + 1)) labels_are held_now))
 
   pub called_station : IsStation s (entered_all s entries t) new
   called_station = record {
     state = state_after;
     told = told_after;
     number = number_after;
-    ids = ids_after;
+    held = held_after;
     dropped = dropped_after;
     domain_number = notes.domain_number ∙ h.domain_number ∙ h.stands.domain_number;
     own = ap (λ (r : RunState). r.state.number) leads ∙ changes-keep (λ (y : DomainState). y.number) (λ y c. refl) t.run.state (call_changes t.run.state line.node (call_at t.run line)) ∙ h.stands.own;
@@ -175,6 +204,8 @@ pub record DoesNothing (s : DomainState) (node : ℕ) (call : DomainCall) : Type
   pub returns_none : returned s node call ≡ []
   pub gives_none : request_given s node call ≡ None
   pub ends_none : place_ended s node call ≡ None
+  pub releases_none : place_released s node call ≡ None
+  pub lends_none : packet_given s node call ≡ None
 
 pub tried_word : (a : PlainAnswer) → is_tried a ≡ true → (word : Refusal) × (refuses word ≡ a)
 tried_word (refuses word) e = (word, refl)
@@ -195,6 +226,8 @@ tried_nothing s node call e =
       returns_none = ap (λ (o : Option Refusal). unless_refused o [] (success_returned s node call)) is;
       gives_none = ap (λ (o : Option Refusal). unless_refused o None (success_request s call)) is;
       ends_none = ap (λ (o : Option Refusal). unless_refused o None (success_ends call)) is;
+      releases_none = ap (λ (o : Option Refusal). unless_refused o None (success_releases call)) is;
+      lends_none = ap (λ (o : Option Refusal). unless_refused o None (success_packet s call)) is;
     }
 
 -- and so it leaves the lanes
@@ -226,6 +259,25 @@ module _ (s : Scenario) (t : run.Station) (line : CallLine) (st called_to new : 
       ∙ ap₂ (λ (p : Option ℕ) (id : Option RequestId). without p st.domain.ids ++ option_to_list id) nothing.ends_none (none_given m.given (h.gives ∙ nothing.gives_none))
       ∙ append-nil st.domain.ids
 
+  none_lent : (id : Option PacketId) → option_map (λ i. i.serial) id ≡ None → id ≡ None
+  none_lent None e = refl
+  none_lent (Some i) e = absurd cc
+
+  same_packets : new.domain.packets ≡ st.domain.packets
+  same_packets =
+      ap (λ (d : RunDomain). d.packets) notes.domain ∙ h.does.packets
+      ∙ ap₂ (λ (p : Option ℕ) (id : Option PacketId). without p st.domain.packets ++ option_to_list id) nothing.releases_none (none_lent h.does.lent (h.does.lends ∙ nothing.lends_none))
+      ∙ append-nil st.domain.packets
+
+  held_again : HoldsLabels new.domain new.ids new.packets t.run.labels t.run.lines_called
+  held_again =
+      let held = h.stands.held in
+      record {
+        requests = subst (λ ids. HoldsIds new.domain ids t.run.labels.requests t.run.lines_called) (sym (notes.ids ∙ h.ids)) (holds_same st.domain new.domain st.ids t.run.labels.requests t.run.lines_called held.requests same_state same_ids);
+        packets = subst (λ ids. HoldsPackets new.domain ids t.run.labels.packets t.run.lines_called) (sym (notes.packets ∙ h.packets))
+            (packets_stay st.domain new.domain st.packets t.run.labels.packets t.run.lines_called (ap (λ (x : DomainState). x.packets_lent) same_state) (ap (λ (x : DomainState). map (λ p. p.serial) x.lent) same_state) same_packets held.packets);
+      }
+
   told_again : new.journal.lines ≡ joined (t.entries ++ again word ∷ [])
   told_again =
       notes.told
@@ -245,7 +297,7 @@ module _ (s : Scenario) (t : run.Station) (line : CallLine) (st called_to new : 
     state = same_state ∙ h.stands.state;
     told = told_again;
     number = notes.number ∙ h.number ∙ h.stands.number;
-    ids = subst (λ ids. HoldsIds new.domain ids t.run.labels t.run.lines_called) (sym (notes.ids ∙ h.ids)) (holds_same st.domain new.domain st.ids t.run.labels t.run.lines_called h.stands.ids same_state same_ids);
+    held = held_again;
     dropped = dropped_again;
     domain_number = notes.domain_number ∙ h.domain_number ∙ h.stands.domain_number;
     own = h.stands.own;

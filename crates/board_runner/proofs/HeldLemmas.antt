@@ -13,21 +13,22 @@ use Rattle.std.proofs.lemmas.Iterator.Adapters.{position_from-zero}
 use Rattle.mc_base.specs.Limits.{no_key}
 use Rattle.mc_base.specs.declared.request.RequestId.{RequestId}
 use Rattle.board_model.specs.declared.scenario.Call.{Call}
-use Rattle.board_model.specs.declared.scenario.Call.TheVariants.{Create, Delete, Lookup, MsgSend, MsgRecv, MsgRecvI, MsgAvailable, Connect, OpenSend, OpenRecv, CloseSend, CloseRecv, Test, Cancel, Turn}
-use Rattle.board_model.specs.DomainCall.{DomainCall, create_at, delete_at, lookup_of, send_from, receive_at, request_at, available_at, connect_from, open_at, close_at, test_of, cancel_of, turn_alone}
+use Rattle.board_model.specs.declared.scenario.Call.TheVariants.{Create, Delete, Lookup, MsgSend, MsgRecv, MsgRecvI, MsgAvailable, Connect, OpenSend, OpenRecv, PktSend, PktRecv, PktRecvI, Release, SclSend, SclRecv, CloseSend, CloseRecv, Test, Cancel, Turn}
+use Rattle.board_model.specs.DomainCall.{DomainCall, create_at, delete_at, lookup_of, send_from, receive_at, request_at, available_at, connect_from, open_at, packet_from, lend_at, packet_request_at, release_of, scalar_from, scalar_at, close_at, test_of, cancel_of, turn_alone}
 use Rattle.board_model.specs.Lists.{without_at, without}
 use Rattle.board_model.specs.State.{DomainState, place_of_request}
 use Rattle.board_model.specs.Answer.{refusal, unless_refused}
 use Rattle.board_model.specs.CallChanges.{effect}
-use Rattle.board_model.specs.Labels.{Labelled, serial_of, place_of_label, call_of, request_given, with_label}
+use Rattle.board_model.specs.Labels.{Labelled, Labels, serial_of, place_of_label, call_of, request_given, with_label}
 use Rattle.board_model.proofs.MessageAlls.{all-append, all-weaken, all-without}
 use Rattle.board_model.proofs.SerialRequests.{serials, call_serials, call_gives, given_is, request_ended, success_ended, keyed_place}
 use Rattle.domain_core.specs.Calls.{place_ended, success_ends, IsFresh}
 use Rattle.domain_core.specs.DomainView.{place_of_id, has_id}
-use Rattle.board_runner.specs.Held.{Ids, id_for, id_or_none, no_id, told_for, TellsId}
+use Rattle.board_runner.specs.Held.{Held, Ids, PacketIds, id_for, id_or_none, no_id, told_for, TellsId}
 use Rattle.board_runner.specs.Lines.{call_by}
 use Rattle.board_runner.specs.Near.{RunDomain}
-use Rattle.board_runner.specs.Stations.{IsKnown, HoldsIds}
+use Rattle.board_runner.specs.Stations.{IsKnown, HoldsIds, HoldsLabels}
+use Rattle.board_runner.proofs.PacketPlaces.{packet_held}
 
 -- ---- the call of a line
 
@@ -51,22 +52,28 @@ place_held d ids labels k label h = go (id_for ids label) (h.told label) (h.know
     go None told known = nowhere d.ids h.keys ∙ ap (option_and_then (place_of_request d.state)) told
     go (Some id) told known = keyed_place (λ i. i.key) (λ i. i.serial) d.state labels label id.key id.serial d.ids h.serials known.only (sym told)
 
-pub call_is : (d : RunDomain) (ids : Ids) (labels : List Labelled) (k : ℕ) (call : Call) → HoldsIds d ids labels k → call_by ids d.ids call ≡ call_of labels d.state call
-call_is d ids labels k (Create port) h = refl
-call_is d ids labels k (Delete port) h = refl
-call_is d ids labels k (Lookup name) h = refl
-call_is d ids labels k (MsgSend port to priority bytes) h = refl
-call_is d ids labels k (MsgRecv port max) h = refl
-call_is d ids labels k (MsgRecvI port max) h = refl
-call_is d ids labels k (MsgAvailable port) h = refl
-call_is d ids labels k (Connect port to kind) h = refl
-call_is d ids labels k (OpenSend port kind) h = refl
-call_is d ids labels k (OpenRecv port kind) h = refl
-call_is d ids labels k (CloseSend port) h = refl
-call_is d ids labels k (CloseRecv port) h = refl
-call_is d ids labels k (Test label) h = ap test_of (place_held d ids labels k label.items h)
-call_is d ids labels k (Cancel label) h = ap cancel_of (place_held d ids labels k label.items h)
-call_is d ids labels k Turn h = refl
+pub call_is : (d : RunDomain) (ids : Ids) (packets : PacketIds) (labels : Labels) (k : ℕ) (call : Call) → HoldsLabels d ids packets labels k → call_by ids packets d.ids d.packets call ≡ call_of labels d.state call
+call_is d ids packets labels k (Create port) h = refl
+call_is d ids packets labels k (Delete port) h = refl
+call_is d ids packets labels k (Lookup name) h = refl
+call_is d ids packets labels k (MsgSend port to priority bytes) h = refl
+call_is d ids packets labels k (MsgRecv port max) h = refl
+call_is d ids packets labels k (MsgRecvI port max) h = refl
+call_is d ids packets labels k (MsgAvailable port) h = refl
+call_is d ids packets labels k (Connect port to kind) h = refl
+call_is d ids packets labels k (OpenSend port kind) h = refl
+call_is d ids packets labels k (OpenRecv port kind) h = refl
+call_is d ids packets labels k (PktSend port bytes) h = refl
+call_is d ids packets labels k (PktRecv port) h = refl
+call_is d ids packets labels k (PktRecvI port) h = refl
+call_is d ids packets labels k (Release label) h = ap release_of (packet_held d packets labels.packets k label.items h.packets)
+call_is d ids packets labels k (SclSend port bits value) h = refl
+call_is d ids packets labels k (SclRecv port bits) h = refl
+call_is d ids packets labels k (CloseSend port) h = refl
+call_is d ids packets labels k (CloseRecv port) h = refl
+call_is d ids packets labels k (Test label) h = ap test_of (place_held d ids labels.requests k label.items h.requests)
+call_is d ids packets labels k (Cancel label) h = ap cancel_of (place_held d ids labels.requests k label.items h.requests)
+call_is d ids packets labels k Turn h = refl
 
 -- ---- the ids that stand
 
@@ -75,11 +82,11 @@ map-without_at f i [] = refl
 map-without_at f zero (x ∷ xs) = refl
 map-without_at f (suc i) (x ∷ xs) = ap (λ ys. f x ∷ ys) (map-without_at f i xs)
 
-map-without : {A B : Type 0} (f : A → B) (o : Option ℕ) (xs : List A) → map f (without o xs) ≡ without o (map f xs)
+pub map-without : {A B : Type 0} (f : A → B) (o : Option ℕ) (xs : List A) → map f (without o xs) ≡ without o (map f xs)
 map-without f None xs = refl
 map-without f (Some i) xs = map-without_at f i xs
 
-map-option : {A B : Type 0} (f : A → B) (o : Option A) → map f (option_to_list o) ≡ option_to_list (option_map f o)
+pub map-option : {A B : Type 0} (f : A → B) (o : Option A) → map f (option_to_list o) ≡ option_to_list (option_map f o)
 map-option f None = refl
 map-option f (Some x) = refl
 
@@ -93,6 +100,12 @@ same_ends (request_at port max) = refl
 same_ends (available_at port) = refl
 same_ends (connect_from port to kind) = refl
 same_ends (open_at port side kind) = refl
+same_ends (packet_from port bytes) = refl
+same_ends (lend_at port) = refl
+same_ends (packet_request_at port) = refl
+same_ends (release_of place) = refl
+same_ends (scalar_from port bits value) = refl
+same_ends (scalar_at port bits) = refl
 same_ends (close_at port side) = refl
 same_ends (test_of p) = refl
 same_ends (cancel_of p) = refl
@@ -102,10 +115,10 @@ same_ended : (s : DomainState) (node : ℕ) (call : DomainCall) → place_ended 
 same_ended s node call = ap (unless_refused (refusal s node call) None) (same_ends call)
 
 -- ids that were there and one that is given: what holds of them
-all_ids : (P : RequestId → Type 0) (p : Option ℕ) (ids more : List RequestId) (given : Option RequestId) → more ≡ without p ids ++ option_to_list given → AllByRecursion P ids → IfSome given P → AllByRecursion P more
-all_ids P p ids more given e all new = subst (AllByRecursion P) (sym e) (all-append P (without p ids) (option_to_list given) (all-without P p ids all) (one given new))
+pub all_ids : {A : Type 0} (P : A → Type 0) (p : Option ℕ) (ids more : List A) (given : Option A) → more ≡ without p ids ++ option_to_list given → AllByRecursion P ids → IfSome given P → AllByRecursion P more
+all_ids {A} P p ids more given e all new = subst (AllByRecursion P) (sym e) (all-append P (without p ids) (option_to_list given) (all-without P p ids all) (one given new))
   where
-    one : (o : Option RequestId) → IfSome o P → AllByRecursion P (option_to_list o)
+    one : (o : Option A) → IfSome o P → AllByRecursion P (option_to_list o)
     one None h = tt
     one (Some i) h = (h, tt)
 
@@ -118,7 +131,7 @@ one_told label other n = go (bytes_eq label other)
     go true = refl
     go false = refl
 
-map-or : {A B : Type 0} (f : A → B) (x y : Option A) → option_map f (option_or x y) ≡ option_or (option_map f x) (option_map f y)
+pub map-or : {A B : Type 0} (f : A → B) (x y : Option A) → option_map f (option_or x y) ≡ option_or (option_map f x) (option_map f y)
 map-or f None y = refl
 map-or f (Some x) y = refl
 
@@ -127,56 +140,57 @@ or-none None = refl
 or-none (Some x) = refl
 
 -- the serials of the labels after a line
-serial_after : (labels : List Labelled) (label : Option (List ℕ)) (given : Option RequestId) (other : List ℕ) →
-    serial_of (with_label labels label (option_map (λ i. i.serial) given)) other ≡ option_or (serial_of labels other) (option_map (λ i. i.serial) (told_for label given other))
-serial_after labels None given other = sym (or-none (serial_of labels other))
-serial_after labels (Some label) None other = sym (or-none (serial_of labels other))
-serial_after labels (Some label) (Some id) other =
-    ap (option_map (λ (l : Labelled). l.serial)) (find-append (λ (l : Labelled). bytes_eq l.label other) labels (record { label = label; serial = id.serial } ∷ []))
-    ∙ map-or (λ (l : Labelled). l.serial) (find (λ (l : Labelled). bytes_eq l.label other) labels) (find (λ (l : Labelled). bytes_eq l.label other) (record { label = label; serial = id.serial } ∷ []))
-    ∙ ap (option_or (serial_of labels other)) (one_told label other id.serial ∙ told (bytes_eq label other))
+pub serial_after : {A : Type 0} (serial : A → ℕ) (labels : List Labelled) (label : Option (List ℕ)) (given : Option A) (other : List ℕ) →
+    serial_of (with_label labels label (option_map serial given)) other ≡ option_or (serial_of labels other) (option_map serial (told_for label given other))
+serial_after serial labels None given other = sym (or-none (serial_of labels other))
+serial_after serial labels (Some label) None other = sym (or-none (serial_of labels other))
+serial_after {A} serial labels (Some label) (Some id) other =
+    ap (option_map (λ (l : Labelled). l.serial)) (find-append (λ (l : Labelled). bytes_eq l.label other) labels (record { label = label; serial = serial id } ∷ []))
+    ∙ map-or (λ (l : Labelled). l.serial) (find (λ (l : Labelled). bytes_eq l.label other) labels) (find (λ (l : Labelled). bytes_eq l.label other) (record { label = label; serial = serial id } ∷ []))
+    ∙ ap (option_or (serial_of labels other)) (one_told label other (serial id) ∙ told (bytes_eq label other))
   where
-    told : (b : Bool) → cond b (Some id.serial) None ≡ option_map (λ (i : RequestId). i.serial) (cond b (Some id) None)
+    told : (b : Bool) → cond b (Some (serial id)) None ≡ option_map serial (cond b (Some id) None)
     told true = refl
     told false = refl
 
 -- what holds of the ids that were held and of one that is given
-if_or : (P : RequestId → Type 0) (x y : Option RequestId) → IfSome x P → IfSome y P → IfSome (option_or x y) P
-if_or P None y a b = b
-if_or P (Some x) y a b = a
+module _ {A : Type 0} (P : A → Type 0) where
+  pub if_or : (x y : Option A) → IfSome x P → IfSome y P → IfSome (option_or x y) P
+  if_or None y a b = b
+  if_or (Some x) y a b = a
 
-if_told : (P : RequestId → Type 0) (label : Option (List ℕ)) (given : Option RequestId) (other : List ℕ) → IfSome given P → IfSome (told_for label given other) P
-if_told P None given other h = tt
-if_told P (Some label) None other h = tt
-if_told P (Some label) (Some id) other h = go (bytes_eq label other)
-  where
-    go : (b : Bool) → IfSome (cond b (Some id) None) P
-    go true = h
-    go false = tt
+  pub if_told : (label : Option (List ℕ)) (given : Option A) (other : List ℕ) → IfSome given P → IfSome (told_for label given other) P
+  if_told None given other h = tt
+  if_told (Some label) None other h = tt
+  if_told (Some label) (Some id) other h = go (bytes_eq label other)
+    where
+      go : (b : Bool) → IfSome (cond b (Some id) None) P
+      go true = h
+      go false = tt
 
-if_weaker : (P Q : RequestId → Type 0) (o : Option RequestId) → ((i : RequestId) → P i → Q i) → IfSome o P → IfSome o Q
+pub if_weaker : {A : Type 0} (P Q : A → Type 0) (o : Option A) → ((i : A) → P i → Q i) → IfSome o P → IfSome o Q
 if_weaker P Q None f h = tt
 if_weaker P Q (Some i) f h = f i h
 
 -- ---- an id more
 
-same_label : (label other : List ℕ) (ids : Ids) → bytes_eq label other ≡ true → id_for ids label ≡ id_for ids other
+same_label : {A : Type 0} (label other : List ℕ) (ids : Held A) → bytes_eq label other ≡ true → id_for ids label ≡ id_for ids other
 same_label label other ids e = ap (id_for ids) ((bytes_eq-Decides label other).0 e)
 
 -- one is held for the label already
-pub tells_held : (ids more : Ids) (label : List ℕ) (id : RequestId) → is_some (id_for ids label) ≡ true → more ≡ ids → TellsId (Some label) (Some id) ids more
-tells_held ids more label id some same other = ap (λ (m : Ids). id_for m other) same ∙ go (bytes_eq label other) (id_for ids other) (λ e. ap is_some (sym (same_label label other ids e)) ∙ some)
+pub tells_held : {A : Type 0} (ids more : Held A) (label : List ℕ) (id : A) → is_some (id_for ids label) ≡ true → more ≡ ids → TellsId (Some label) (Some id) ids more
+tells_held {A} ids more label id some same other = ap (λ (m : Held A). id_for m other) same ∙ go (bytes_eq label other) (id_for ids other) (λ e. ap is_some (sym (same_label label other ids e)) ∙ some)
   where
-    go : (b : Bool) (o : Option RequestId) → (b ≡ true → is_some o ≡ true) → o ≡ option_or o (cond b (Some id) None)
+    go : (b : Bool) (o : Option A) → (b ≡ true → is_some o ≡ true) → o ≡ option_or o (cond b (Some id) None)
     go b (Some i) h = refl
     go false None h = refl
     go true None h = absurd (true≢false (sym (h refl)))
 
 -- none was held for it
-pub tells_new : (ids more : Ids) (label : List ℕ) (id : RequestId) → is_some (id_for ids label) ≡ false → ((other : List ℕ) → id_for more other ≡ update bytes_eq (id_for ids) label (Some id) other) → TellsId (Some label) (Some id) ids more
-tells_new ids more label id none updated other = updated other ∙ go (bytes_eq label other) (id_for ids other) (λ e. ap is_some (sym (same_label label other ids e)) ∙ none)
+pub tells_new : {A : Type 0} (ids more : Held A) (label : List ℕ) (id : A) → is_some (id_for ids label) ≡ false → ((other : List ℕ) → id_for more other ≡ update bytes_eq (id_for ids) label (Some id) other) → TellsId (Some label) (Some id) ids more
+tells_new {A} ids more label id none updated other = updated other ∙ go (bytes_eq label other) (id_for ids other) (λ e. ap is_some (sym (same_label label other ids e)) ∙ none)
   where
-    go : (b : Bool) (o : Option RequestId) → (b ≡ true → is_some o ≡ false) → cond b (Some id) o ≡ option_or o (cond b (Some id) None)
+    go : (b : Bool) (o : Option A) → (b ≡ true → is_some o ≡ false) → cond b (Some id) o ≡ option_or o (cond b (Some id) None)
     go false None h = refl
     go false (Some i) h = refl
     go true None h = refl
@@ -184,7 +198,7 @@ tells_new ids more label id none updated other = updated other ∙ go (bytes_eq 
 
 -- ---- a call
 
-few_more : (new : Option ℕ) → length (option_to_list new) ≤ 1
+pub few_more : (new : Option ℕ) → length (option_to_list new) ≤ 1
 few_more None = omega arith
 few_more (Some m) = omega arith
 
@@ -253,7 +267,7 @@ holds_after old new ids more labels k node call label id small h is stays fresh 
       keys = all_ids (λ i. i.key ≢ no_key) p old.ids new.ids id stays h.keys (if_weaker (IsNext s total) (λ i. i.key ≢ no_key) id (λ i n. n.is_key) next);
       told = λ other. ap (option_map (λ (i : RequestId). i.serial)) (tells other) ∙ map-or (λ (i : RequestId). i.serial) (id_for ids other) (told_for label id other)
           ∙ ap (λ (x : Option ℕ). option_or x (option_map (λ (i : RequestId). i.serial) (told_for label id other))) (h.told other)
-          ∙ sym (serial_after labels label id other) ∙ ap (λ (o : Option ℕ). serial_of (with_label labels label o) other) gave;
+          ∙ sym (serial_after (λ (i : RequestId). i.serial) labels label id other) ∙ ap (λ (o : Option ℕ). serial_of (with_label labels label o) other) gave;
       known = λ other. subst (λ (o : Option RequestId). IfSome o (IsKnown new)) (sym (tells other)) (if_or (IsKnown new) (id_for ids other) (told_for label id other)
           (if_weaker (IsKnown old) (IsKnown new) (id_for ids other) (still_known old new total p id now rises stays next) (h.known other))
           (if_told (IsKnown new) label id other (newly_known old new total p id now stays h.given next)));

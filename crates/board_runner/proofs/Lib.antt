@@ -54,3 +54,16 @@ pub mod JobLemmas
 pub mod OwnBoardLemmas
 pub mod QueueLemmas
 pub mod ChannelLemmas
+pub mod SerialPackets
+pub mod ItemLines
+pub mod ClosedLines
+pub mod ReceiverEnds
+pub mod ClosedDeeds
+pub mod ClosedRuns
+pub mod ChannelRuns
+pub mod ItemPuts
+pub mod ItemQueues
+pub mod ItemBoard
+pub mod PacketPlaces
+pub mod PacketLemmas
+pub mod ItemCountLemmas

@@ -1,27 +1,34 @@
 -- A call at a domain alone is the call of a line at the line's station.
-use Rattle.std.proofs.Common.{◌≡◌, ℕ, ◌<◌, ◌≤◌, ◌^◌, List, ◌∷◌, ◌++◌, map, Option, Some, None, option_map, option_to_list, refl, sym, ap, ◌∙◌, subst}
-use Rattle.std.specs.Prelude.{IfSome, IfOk, Result, Ok, Err}
+use Rattle.std.proofs.Common.{◌≡◌, ℕ, ◌<◌, ◌≤◌, ◌^◌, List, [], ◌∷◌, ◌++◌, map, Option, Some, None, option_map, option_to_list, refl, sym, ap, ◌∙◌, subst, append-nil}
+use Rattle.std.specs.Prelude.{IfSome, IfOk, IfErr, IsErr, IsNone, length, Result, Ok, Err}
+use Rattle.std.specs.Borrow.{Bor}
 use Rattle.std.specs.Result.{result_ok}
 use Rattle.mc_base.specs.declared.name.EndName.{EndName}
 use Rattle.mc_base.specs.declared.refusal.NoMemory.{NoMemory}
 use Rattle.mc_base.specs.declared.refusal.Refusal.{Refusal}
+use Rattle.mc_base.specs.declared.refusal.Refusal.TheVariants.{BufInvalid}
+use Rattle.mc_base.specs.declared.request.Done.{Done}
+use Rattle.mc_base.specs.declared.request.Done.TheVariants as done
+use Rattle.mc_base.specs.declared.request.PacketId.{PacketId}
 use Rattle.mc_base.specs.declared.request.RequestId.{RequestId}
 use Rattle.lane_end.specs.AnySender.{AnySends}
 use Rattle.lane_end.specs.AnyReceiver.{AnyReceives}
 use Rattle.board_model.specs.declared.scenario.CallLine.{CallLine}
-use Rattle.board_model.specs.DomainCall.{DomainCall, lookup_of}
+use Rattle.board_model.specs.DomainCall.{DomainCall, lookup_of, release_of, test_of, cancel_of, turn_alone}
 use Rattle.board_model.specs.Lists.{without}
-use Rattle.board_model.specs.Journal.{Line, PlainAnswer, tells, connects, turned, noted_all}
-use Rattle.board_model.specs.State.{DomainState}
+use Rattle.board_model.specs.Journal.{Line, PlainAnswer, refuses, tells, gives as gives_bytes, completes, brought, ended_by, connects, turned, noted_all}
+use Rattle.board_model.specs.State.{DomainState, LentPacket}
 use Rattle.board_model.specs.Answer.{refusal, unless_refused, success, answer, answer_by, puts}
-use Rattle.board_model.specs.Labels.{success_request, request_given}
+use Rattle.board_model.specs.Labels.{success_request, request_given, success_packet, packet_given}
 use Rattle.board_model.specs.Serial.{put_entry}
-use Rattle.domain_core.specs.Calls.{Calls, place_ended, IsFresh, requested, given, connected, given_by}
+use Rattle.board_model.proofs.UnnamedCalls.{refused-is}
+use Rattle.domain_core.specs.Calls.{Calls, place_ended, place_released, success_releases, LendsBy, tested, gives_whole, brings_whole, IsFresh, requested, given, connected, given_by}
+use Rattle.domain_core.specs.DomainView.{DomainView, packet_lent_as}
 use Rattle.domain_core.specs.Ends.{EndsMoved}
 use Rattle.mc_journal.specs.Entry.{plain_answer, bytes_in_answer}
 use Rattle.board_runner.specs.declared.station.Station.{Station}
 use Rattle.board_runner.specs.declared.line.Made.{Made}
-use Rattle.board_runner.specs.Lines.{CallsDomain, MakesCall, call_at_station, dropped_by}
+use Rattle.board_runner.specs.Lines.{CallsDomain, GivesWithin, MakesCall, call_at_station, dropped_by}
 use Rattle.board_runner.specs.Near.{RunDomain}
 
 -- ---- requests that calls give
@@ -58,12 +65,75 @@ pub ok_given : (made : Result RequestId Refusal) → result_ok made ≡ given ma
 ok_given (Ok id) = refl
 ok_given (Err w) = refl
 
+-- ---- packets that calls lend
+
+-- none is lent by a call that lends none
+pub lends_none : (s : DomainState) (node : ℕ) (call : DomainCall) (lent : Option PacketId) → option_map (λ i. i.serial) lent ≡ packet_given s node call → success_packet s call ≡ None → None ≡ lent
+lends_none s node call lent told none = go lent (refusal s node call) (told ∙ ap (unless_refused (refusal s node call) None) none)
+  where
+    go : (x : Option PacketId) (o : Option Refusal) → option_map (λ i. i.serial) x ≡ unless_refused o None None → None ≡ x
+    go None o e = refl
+    go (Some i) None e = absurd cc
+    go (Some i) (Some w) e = absurd cc
+
+-- none is lent by a call that is refused
+pub refused_lends : (s : DomainState) (node : ℕ) (call : DomainCall) (word : Refusal) (lent : Option PacketId) → option_map (λ i. i.serial) lent ≡ packet_given s node call → refuses word ≡ answer s node call → None ≡ lent
+refused_lends s node call word lent told is = go lent (told ∙ ap (λ (o : Option Refusal). unless_refused o None (success_packet s call)) (refused-is s node word call is))
+  where
+    go : (x : Option PacketId) → option_map (λ i. i.serial) x ≡ None → None ≡ x
+    go None e = refl
+    go (Some i) e = absurd cc
+
+-- what is lent is what was added to the packets
+front_off : (xs ys zs : List PacketId) → xs ++ ys ≡ xs ++ zs → ys ≡ zs
+front_off [] ys zs e = e
+front_off (x ∷ xs) ys zs e = front_off xs ys zs cc
+
+lent_of : (a b : Option PacketId) → option_to_list a ≡ option_to_list b → a ≡ b
+lent_of None None e = refl
+lent_of None (Some i) e = absurd cc
+lent_of (Some i) None e = absurd cc
+lent_of (Some i) (Some j) e = cc
+
+none_released : (o : Option Refusal) → unless_refused {A = Option ℕ} o None None ≡ None
+none_released None = refl
+none_released (Some w) = refl
+
+pub lends_added : (s : DomainState) (node : ℕ) (call : DomainCall) (before packets after : List PacketId) (lent shown : Option PacketId) → success_releases call ≡ None → packets ≡ before → after ≡ without (place_released s node call) packets ++ option_to_list lent → after ≡ before ++ option_to_list shown → shown ≡ lent
+lends_added s node call before packets after lent shown none same does told =
+    lent_of shown lent (front_off before (option_to_list shown) (option_to_list lent) (sym told ∙ does ∙ ap (λ (o : Option ℕ). without o packets ++ option_to_list lent) (ap (unless_refused (refusal s node call) None) none ∙ none_released (refusal s node call)) ∙ ap (λ (ps : List PacketId). ps ++ option_to_list lent) same))
+
+-- a test that brings no packet lends none
+pub test_lends : {L : Type 0} (s : DomainState) (place : Option ℕ) (old new : DomainView L) (packets : List PacketId) (lent : Option PacketId) (made : Result Done Refusal) (out : List ℕ) (n : ℕ) → IfOk made (GivesWithin n) → packets ≡ old.packets → new.packets ≡ without (place_released s 0 (test_of place)) packets ++ option_to_list lent → option_map (λ i. i.serial) lent ≡ packet_given s 0 (test_of place) → tested made out (packet_lent_as new) ≡ answer s 0 (test_of place) → IfOk made (LendsBy old new) → None ≡ lent
+test_lends s place old new packets lent (Err w) out n within same does told is last = refused_lends s 0 (test_of place) w lent told is
+test_lends s place old new packets lent (Ok (done.Packet id)) out n within same does told is last = absurd within
+test_lends s place old new packets lent (Ok (done.Address a)) out n within same does told is last = lends_added s 0 (test_of place) old.packets packets new.packets lent None refl same does (last ∙ sym (append-nil old.packets))
+test_lends s place old new packets lent (Ok done.Accepted) out n within same does told is last = lends_added s 0 (test_of place) old.packets packets new.packets lent None refl same does (last ∙ sym (append-nil old.packets))
+test_lends s place old new packets lent (Ok (done.Rejected r)) out n within same does told is last = lends_added s 0 (test_of place) old.packets packets new.packets lent None refl same does (last ∙ sym (append-nil old.packets))
+test_lends s place old new packets lent (Ok (done.Message got)) out n within same does told is last = lends_added s 0 (test_of place) old.packets packets new.packets lent None refl same does (last ∙ sym (append-nil old.packets))
+test_lends s place old new packets lent (Ok (done.Ended w)) out n within same does told is last = lends_added s 0 (test_of place) old.packets packets new.packets lent None refl same does (last ∙ sym (append-nil old.packets))
+
+-- ---- packets by their bytes
+
+-- the answer by the bytes of the packet that is lent, or by the word where there is none
+pub whole_told : (p : Option LentPacket) (r : Result (Bor (List ℕ)) Refusal) (a : PlainAnswer) → IfOk r (λ b. Some b.now ≡ option_map (λ p. p.item.content) p) → (IsErr r → IsNone p) → (IsNone p → IsErr r) → IfErr r (λ w. w ≡ BufInvalid) → IfOk r (λ b. a ≡ gives_bytes (length b.now) b.now) → IfErr r (λ w. a ≡ refuses w) → a ≡ gives_whole p
+whole_told None (Ok b) a bytes one two word given refused = absurd cc
+whole_told (Some p) (Ok b) a bytes one two word given refused = let same : b.now ≡ p.item.content = cc in given ∙ ap (λ (bs : List ℕ). gives_bytes (length bs) bs) same
+whole_told None (Err w) a bytes one two word given refused = refused ∙ ap refuses word
+whole_told (Some p) (Err w) a bytes one two word given refused = let none = one refl in absurd cc
+
+pub whole_brought : (p : Option LentPacket) (r : Result (Bor (List ℕ)) Refusal) (a : PlainAnswer) → IfOk r (λ b. Some b.now ≡ option_map (λ p. p.item.content) p) → (IsErr r → IsNone p) → (IsNone p → IsErr r) → IfErr r (λ w. w ≡ BufInvalid) → IfOk r (λ b. a ≡ completes None (brought (length b.now) b.now)) → IfErr r (λ w. a ≡ completes None (ended_by w)) → a ≡ completes None (brings_whole p)
+whole_brought None (Ok b) a bytes one two word given refused = absurd cc
+whole_brought (Some p) (Ok b) a bytes one two word given refused = let same : b.now ≡ p.item.content = cc in given ∙ ap (λ (bs : List ℕ). completes None (brought (length bs) bs)) same
+whole_brought None (Err w) a bytes one two word given refused = refused ∙ ap (λ (v : Refusal). completes None (ended_by v)) word
+whole_brought (Some p) (Err w) a bytes one two word given refused = let none = one refl in absurd cc
+
 -- ---- a call
 
 -- what the domain did, where room was made first, and the answer is written as a journal notes it
 pub calls_domain : (node : ℕ) (call : DomainCall) (old new : RunDomain) (lines start lines' : List Line) (answered : PlainAnswer) (id : Option RequestId) (m : Made) → start ≡ lines → (c : Calls (EndsMoved AnySends AnyReceives) node call old new start lines' answered id) →
-    plain_answer m.answer ≡ answered → m.given ≡ id → option_map (λ i. i.serial) id ≡ request_given c.turned_to.state node call → bytes_in_answer m.answer ≤ 9000 → CallsDomain node call old new lines lines' m
-calls_domain node call old new lines start lines' answered id m same c noted is gives fit = record {
+    plain_answer m.answer ≡ answered → m.given ≡ id → option_map (λ i. i.serial) id ≡ request_given c.turned_to.state node call → m.lent ≡ c.does.lent → bytes_in_answer m.answer ≤ 9000 → CallsDomain node call old new lines lines' m
+calls_domain node call old new lines start lines' answered id m same c noted is gives lends fit = record {
   calls = record {
     visits = c.visits;
     numbers = c.numbers;
@@ -78,14 +148,18 @@ calls_domain node call old new lines start lines' answered id m same c noted is 
       stays = c.does.stays;
       ids = c.does.ids ∙ ap (λ (o : Option RequestId). without (place_ended c.turned_to.state node call) c.turned_to.ids ++ option_to_list o) (sym is);
       fresh = subst (λ (o : Option RequestId). IfSome o (IsFresh c.turned_to.ids c.turned_to.state)) (sym is) c.does.fresh;
+      lent = c.does.lent;
+      packets = c.does.packets;
+      lends = c.does.lends;
     };
     told = c.told ∙ ap (λ (ls : List Line). noted_all ls (turned c.visits ∷ map put_entry (puts c.turned_to.state node call))) same;
   };
   gives = ap (option_map (λ (i : RequestId). i.serial)) is ∙ gives;
+  lends = lends;
   bytes_fit = fit;
 }
 
--- a lookup hangs on no node
+-- a call on requests, packets or names, and a turn, hang on no node
 pub lookup_anywhere : (node : ℕ) (name : EndName) (old new : RunDomain) (lines lines' : List Line) (m : Made) → CallsDomain 0 (lookup_of name) old new lines lines' m → CallsDomain node (lookup_of name) old new lines lines' m
 lookup_anywhere node name old new lines lines' m made =
     let c = made.calls in
@@ -96,10 +170,83 @@ lookup_anywhere node name old new lines lines' m made =
         numbers = c.numbers;
         turned_to = c.turned_to;
         turns = c.turns;
-        does = record { answer = d.answer; state = d.state; slots = d.slots; returned = d.returned; moved = d.moved; stays = d.stays; ids = d.ids; fresh = d.fresh };
+        does = record { answer = d.answer; state = d.state; slots = d.slots; returned = d.returned; moved = d.moved; stays = d.stays; ids = d.ids; fresh = d.fresh; lent = d.lent; packets = d.packets; lends = d.lends };
         told = c.told;
       };
       gives = made.gives;
+      lends = made.lends;
+      bytes_fit = made.bytes_fit;
+    }
+
+pub release_anywhere : (node : ℕ) (place : Option ℕ) (old new : RunDomain) (lines lines' : List Line) (m : Made) → CallsDomain 0 (release_of place) old new lines lines' m → CallsDomain node (release_of place) old new lines lines' m
+release_anywhere node place old new lines lines' m made =
+    let c = made.calls in
+    let d = c.does in
+    record {
+      calls = record {
+        visits = c.visits;
+        numbers = c.numbers;
+        turned_to = c.turned_to;
+        turns = c.turns;
+        does = record { answer = d.answer; state = d.state; slots = d.slots; returned = d.returned; moved = d.moved; stays = d.stays; ids = d.ids; fresh = d.fresh; lent = d.lent; packets = d.packets; lends = d.lends };
+        told = c.told;
+      };
+      gives = made.gives;
+      lends = made.lends;
+      bytes_fit = made.bytes_fit;
+    }
+
+pub test_anywhere : (node : ℕ) (place : Option ℕ) (old new : RunDomain) (lines lines' : List Line) (m : Made) → CallsDomain 0 (test_of place) old new lines lines' m → CallsDomain node (test_of place) old new lines lines' m
+test_anywhere node place old new lines lines' m made =
+    let c = made.calls in
+    let d = c.does in
+    record {
+      calls = record {
+        visits = c.visits;
+        numbers = c.numbers;
+        turned_to = c.turned_to;
+        turns = c.turns;
+        does = record { answer = d.answer; state = d.state; slots = d.slots; returned = d.returned; moved = d.moved; stays = d.stays; ids = d.ids; fresh = d.fresh; lent = d.lent; packets = d.packets; lends = d.lends };
+        told = c.told;
+      };
+      gives = made.gives;
+      lends = made.lends;
+      bytes_fit = made.bytes_fit;
+    }
+
+pub cancel_anywhere : (node : ℕ) (place : Option ℕ) (old new : RunDomain) (lines lines' : List Line) (m : Made) → CallsDomain 0 (cancel_of place) old new lines lines' m → CallsDomain node (cancel_of place) old new lines lines' m
+cancel_anywhere node place old new lines lines' m made =
+    let c = made.calls in
+    let d = c.does in
+    record {
+      calls = record {
+        visits = c.visits;
+        numbers = c.numbers;
+        turned_to = c.turned_to;
+        turns = c.turns;
+        does = record { answer = d.answer; state = d.state; slots = d.slots; returned = d.returned; moved = d.moved; stays = d.stays; ids = d.ids; fresh = d.fresh; lent = d.lent; packets = d.packets; lends = d.lends };
+        told = c.told;
+      };
+      gives = made.gives;
+      lends = made.lends;
+      bytes_fit = made.bytes_fit;
+    }
+
+pub turn_anywhere : (node : ℕ) (old new : RunDomain) (lines lines' : List Line) (m : Made) → CallsDomain 0 turn_alone old new lines lines' m → CallsDomain node turn_alone old new lines lines' m
+turn_anywhere node old new lines lines' m made =
+    let c = made.calls in
+    let d = c.does in
+    record {
+      calls = record {
+        visits = c.visits;
+        numbers = c.numbers;
+        turned_to = c.turned_to;
+        turns = c.turns;
+        does = record { answer = d.answer; state = d.state; slots = d.slots; returned = d.returned; moved = d.moved; stays = d.stays; ids = d.ids; fresh = d.fresh; lent = d.lent; packets = d.packets; lends = d.lends };
+        told = c.told;
+      };
+      gives = made.gives;
+      lends = made.lends;
       bytes_fit = made.bytes_fit;
     }
 
@@ -110,6 +257,6 @@ then_both (Ok x) p q f = f x p q
 then_both (Err e) p q f = tt
 
 -- all of a station but its domain and its journal stays
-pub makes_call : (line : CallLine) (old new : Station) (r : Result Made NoMemory) → new.ids ≡ old.ids → new.number ≡ old.number → new.dropped ≡ old.dropped → new.domain_number ≡ old.domain_number →
+pub makes_call : (line : CallLine) (old new : Station) (r : Result Made NoMemory) → new.ids ≡ old.ids → new.packets ≡ old.packets → new.number ≡ old.number → new.dropped ≡ old.dropped → new.domain_number ≡ old.domain_number →
     IfOk r (λ m. CallsDomain line.node (call_at_station line old) old.domain new.domain old.journal.lines new.journal.lines m) → IfOk r (λ m. dropped_by line.call (plain_answer m.answer) < 2 ^ 32) → IfOk r (λ m. MakesCall line old new m)
-makes_call line old new r ids number dropped domain_number made drops = then_both r made drops (λ m h fit. record { calls = h.calls; gives = h.gives; ids = ids; number = number; dropped = dropped; domain_number = domain_number; bytes_fit = h.bytes_fit; drops_fit = fit })
+makes_call line old new r ids packets number dropped domain_number made drops = then_both r made drops (λ m h fit. record { calls = h.calls; gives = h.gives; lends = h.lends; ids = ids; packets = packets; number = number; dropped = dropped; domain_number = domain_number; bytes_fit = h.bytes_fit; drops_fit = fit })

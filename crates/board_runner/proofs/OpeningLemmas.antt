@@ -6,6 +6,7 @@ use Rattle.std.proofs.lemmas.Bool.{cond_both, ne_eqb, and_from}
 use Rattle.std.proofs.lemmas.Bool.Decides.{eqb_tells}
 use Rattle.std.proofs.lemmas.List.{append-nil}
 use Rattle.mc_base.specs.Limits.{no_key}
+use Rattle.mc_base.specs.declared.request.PacketId.{PacketId}
 use Rattle.mc_base.specs.declared.request.RequestId.{RequestId}
 use Rattle.lane_end.specs.Loop.{Loop, new_loop}
 use Rattle.lane_end.specs.AnyLane.{AreEndsOfOneRing}
@@ -39,7 +40,7 @@ use Rattle.board_runner.specs.Carried.{HasCome}
 use Rattle.board_runner.specs.Wired.{IsNewLink, AreLinksOn, IsWired, wire_at, links_wired}
 use Rattle.board_runner.specs.Opened.{IsOpened}
 use Rattle.board_runner.specs.Runs.{AllCarried}
-use Rattle.board_runner.specs.Stations.{IsKnown, domain_of, near_in, near, LaneHolds, LaneJoins, IsStation, AreStations, IsRun}
+use Rattle.board_runner.specs.Stations.{IsKnown, IsKnownPacket, domain_of, near_in, near, LaneHolds, LaneJoins, IsStation, AreStations, IsRun}
 use Rattle.board_runner.proofs.LinkLemmas.{none-below, links-differ, neighbours-opened}
 use Rattle.board_runner.proofs.WiredLemmas.{find-wired}
 
@@ -132,13 +133,23 @@ module _ (ws : List Wire) where
     state = h.state;
     told = h.told;
     number = h.number;
-    ids = record {
-      few = omega (arith, ap (λ (x : DomainState). x.requests_given) h.state);
-      serials = ap (map (λ (i : RequestId). i.serial)) h.requests ∙ sym (ap (λ (x : DomainState). map (λ q. q.serial) x.requests) h.state);
-      given = subst (AllByRecursion (λ (i : RequestId). i.serial < st.domain.state.requests_given)) (sym h.requests) tt;
-      keys = subst (AllByRecursion (λ (i : RequestId). i.key ≢ no_key)) (sym h.requests) tt;
-      told = λ label. ap (option_map (λ (i : RequestId). i.serial)) (h.labels label);
-      known = λ label. subst (λ (o : Option RequestId). IfSome o (IsKnown st.domain)) (sym (h.labels label)) tt;
+    held = record {
+      requests = record {
+        few = omega (arith, ap (λ (x : DomainState). x.requests_given) h.state);
+        serials = ap (map (λ (i : RequestId). i.serial)) h.requests ∙ sym (ap (λ (x : DomainState). map (λ q. q.serial) x.requests) h.state);
+        given = subst (AllByRecursion (λ (i : RequestId). i.serial < st.domain.state.requests_given)) (sym h.requests) tt;
+        keys = subst (AllByRecursion (λ (i : RequestId). i.key ≢ no_key)) (sym h.requests) tt;
+        told = λ label. ap (option_map (λ (i : RequestId). i.serial)) (h.labels label);
+        known = λ label. subst (λ (o : Option RequestId). IfSome o (IsKnown st.domain)) (sym (h.labels label)) tt;
+      };
+      packets = record {
+        few = omega (arith, ap (λ (x : DomainState). x.packets_lent) h.state);
+        small = omega (arith, ap (λ (x : DomainState). x.packets_lent) h.state);
+        serials = ap (map (λ (i : PacketId). i.serial)) h.packets ∙ sym (ap (λ (x : DomainState). map (λ p. p.serial) x.lent) h.state);
+        lent = subst (AllByRecursion (λ (i : PacketId). i.serial < st.domain.state.packets_lent)) (sym h.packets) tt;
+        told = λ label. ap (option_map (λ (i : PacketId). i.serial)) (h.packet_labels label);
+        known = λ label. subst (λ (o : Option PacketId). IfSome o (IsKnownPacket st.domain)) (sym (h.packet_labels label)) tt;
+      };
     };
     dropped = h.dropped ∙ sym (ap (λ (ls : List Line). sum_by (deleted_in (script s d.domain)) ls) h.told);
     own = refl;

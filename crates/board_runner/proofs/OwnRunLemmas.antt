@@ -5,6 +5,7 @@ use Rattle.std.proofs.lemmas.Option.{slice_get_within}
 use Rattle.lane_end.specs.AnySender.{AnySends}
 use Rattle.lane_end.specs.AnyReceiver.{AnyReceives}
 use Rattle.mc_base.specs.declared.refusal.Refusal.{Refusal}
+use Rattle.mc_base.specs.declared.request.PacketId.{PacketId}
 use Rattle.mc_base.specs.declared.request.RequestId.{RequestId}
 use Rattle.board_model.specs.declared.scenario.CallLine.{CallLine}
 use Rattle.board_model.specs.declared.scenario.DomainLine.{DomainLine}
@@ -135,8 +136,8 @@ module _ (s : Scenario) (board : IsLinkedBoard s) (d : DomainLine) (ends : List 
 
   same_call : call ≡ call_at t.run line
   same_call =
-      ap (λ (ids : List RequestId). call_by old.ids ids line.call) (sym calls.turns.ids)
-      ∙ call_is turned_to.domain old.ids t.run.labels t.run.lines_called line.call turned_stands.ids
+      ap₂ (λ (ids : List RequestId) (packets : List PacketId). call_by old.ids old.packets ids packets line.call) (sym calls.turns.ids) (sym calls.turns.packets)
+      ∙ call_is turned_to.domain old.ids old.packets t.run.labels t.run.lines_called line.call turned_stands.held
       ∙ ap (λ (x : DomainState). call_of t.run.labels x line.call) turned_stands.state
 
   same_answer : plain_answer m.answer ≡ answer t.run.state line.node (call_at t.run line)
@@ -149,7 +150,9 @@ module _ (s : Scenario) (board : IsLinkedBoard s) (d : DomainLine) (ends : List 
     does = calls.does;
     told = calls.told;
     gives = tries.makes.gives;
+    lends = tries.makes.lends;
     ids = tries.makes.ids;
+    packets = tries.makes.packets;
     number = tries.makes.number;
     dropped = tries.makes.dropped;
     domain_number = tries.makes.domain_number;

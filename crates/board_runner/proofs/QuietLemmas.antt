@@ -24,7 +24,7 @@ use Rattle.lane_end.specs.declared.any.AnyRecv.{AnyRecv}
 use Rattle.lane_end.specs.declared.any.AnySend.TheVariants as send
 use Rattle.lane_end.specs.declared.any.AnyRecv.TheVariants as recv
 use Rattle.board_model.specs.declared.scenario.Call.{Call}
-use Rattle.board_model.specs.declared.scenario.Call.TheVariants.{Create, Delete, Lookup, MsgSend, MsgRecv, MsgRecvI, MsgAvailable, Connect, OpenSend, OpenRecv, CloseSend, CloseRecv, Test, Cancel, Turn}
+use Rattle.board_model.specs.declared.scenario.Call.TheVariants.{Create, Delete, Lookup, MsgSend, MsgRecv, MsgRecvI, MsgAvailable, Connect, OpenSend, OpenRecv, PktSend, PktRecv, PktRecvI, Release, SclSend, SclRecv, CloseSend, CloseRecv, Test, Cancel, Turn}
 use Rattle.board_model.specs.declared.scenario.CallLine.{CallLine}
 use Rattle.board_model.specs.Answer.{puts, refusal, unless_refused}
 use Rattle.board_model.specs.DomainCall.{turn_alone}
@@ -287,7 +287,7 @@ nothing_refused (Some word) = refl
 turn_returns : (line : CallLine) (st : Station) (s : DomainState) → is_turn line.call ≡ true → returned s line.node (call_at_station line st) ≡ []
 turn_returns line st s e = go line.call e
   where
-    go : (c : Call) → is_turn c ≡ true → returned s line.node (call_by st.ids st.domain.ids c) ≡ []
+    go : (c : Call) → is_turn c ≡ true → returned s line.node (call_by st.ids st.packets st.domain.ids st.domain.packets c) ≡ []
     go Turn e = nothing_refused (refusal s line.node turn_alone)
     go (Create port) e = absurd cc
     go (Delete port) e = absurd cc
@@ -299,6 +299,12 @@ turn_returns line st s e = go line.call e
     go (Connect port to kind) e = absurd cc
     go (OpenSend port kind) e = absurd cc
     go (OpenRecv port kind) e = absurd cc
+    go (PktSend port bytes) e = absurd cc
+    go (PktRecv port) e = absurd cc
+    go (PktRecvI port) e = absurd cc
+    go (Release label) e = absurd cc
+    go (SclSend port bits value) e = absurd cc
+    go (SclRecv port bits) e = absurd cc
     go (CloseSend port) e = absurd cc
     go (CloseRecv port) e = absurd cc
     go (Test label) e = absurd cc

@@ -20,6 +20,7 @@ use Rattle.board_runner.specs.Near.{Near, IsLinkTo, RunEnds, RunDomain, near_to,
 use Rattle.board_runner.specs.Stations.{domain_of, near, LaneHolds, LaneJoins, IsStation, AreStations, IsRun, IsOnBoard, IsBoard}
 use Rattle.board_runner.specs.Carried.{HasCome, IsTrue, DidNothing, Knows}
 use Rattle.board_runner.specs.StationsMet.{counted}
+use Rattle.board_runner.proofs.PacketLemmas.{packets_stay}
 use Rattle.board_runner.proofs.NearCarried.{Meets, link-met, link-peer, links-met, links-other, linked-near, match-carried, link-other, near-other, near-own}
 use Rattle.board_runner.proofs.RunBoards.{stations-put}
 use Rattle.board_runner.proofs.RunFinds.{map-replaced, some_same}
@@ -106,7 +107,10 @@ station_carried s t st es matched h = record {
   state = h.state;
   told = h.told;
   number = h.number;
-  ids = ids-stay st.domain (with_these st.domain es) st.ids t.run.labels t.run.lines_called refl refl refl h.ids;
+  held = record {
+    requests = ids-stay st.domain (with_these st.domain es) st.ids t.run.labels.requests t.run.lines_called refl refl refl h.held.requests;
+    packets = packets_stay st.domain (with_these st.domain es) st.packets t.run.labels.packets t.run.lines_called refl refl refl h.held.packets;
+  };
   dropped = h.dropped;
   own = h.own;
   domain_number = h.domain_number;

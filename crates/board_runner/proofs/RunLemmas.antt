@@ -19,6 +19,7 @@ use Rattle.board_model.specs.State.{DomainState}
 use Rattle.board_model.specs.Step.{next_line, call_at, is_tried}
 use Rattle.board_model.specs.SerialRun as run
 use Rattle.board_model.specs.SerialRun.{Running, is_station, station_of, turned_once, with_entry, with_entries, word_in, called_by, is_tried_at, loads_with_puts}
+use Rattle.mc_base.specs.declared.request.PacketId.{PacketId}
 use Rattle.mc_base.specs.declared.request.RequestId.{RequestId}
 use Rattle.board_model.proofs.WholeTurns.{turn_number}
 use Rattle.board_model.proofs.WholeJournals.{call_entries}
@@ -107,8 +108,8 @@ module _ (s : Scenario) (board : IsLinkedBoard s) (r : Running) (sts : List Stat
 
   same_call : call ≡ call_at t.run line
   same_call =
-      ap (λ (ids : List RequestId). call_by old.ids ids line.call) (sym makes.calls.turns.ids)
-      ∙ call_is turned_to.domain old.ids t.run.labels t.run.lines_called line.call there.stands.ids
+      ap₂ (λ (ids : List RequestId) (packets : List PacketId). call_by old.ids old.packets ids packets line.call) (sym makes.calls.turns.ids) (sym makes.calls.turns.packets)
+      ∙ call_is turned_to.domain old.ids old.packets t.run.labels t.run.lines_called line.call there.stands.held
       ∙ ap (λ (x : DomainState). call_of t.run.labels x line.call) there.stands.state
 
   is_call : IsCall s t line turned_to called_to m call
@@ -120,7 +121,9 @@ module _ (s : Scenario) (board : IsLinkedBoard s) (r : Running) (sts : List Stat
         does = makes.calls.does;
         told = makes.calls.told;
         gives = makes.gives;
+        lends = makes.lends;
         ids = makes.ids;
+        packets = makes.packets;
         number = makes.number;
         dropped = makes.dropped;
         domain_number = makes.domain_number;

@@ -8,7 +8,7 @@ use Rattle.std.proofs.lemmas.List.{length-map}
 use Rattle.std.proofs.lemmas.List.Elements.{filter-append}
 use Rattle.std.proofs.lemmas.Option.{slice_get-map, slice_get_read, slice_get_within}
 use Rattle.board_model.specs.declared.scenario.Call.{Call}
-use Rattle.board_model.specs.declared.scenario.Call.TheVariants.{Create, Delete, Lookup, MsgSend, MsgRecv, MsgRecvI, MsgAvailable, Connect, OpenSend, OpenRecv, CloseSend, CloseRecv, Test, Cancel, Turn}
+use Rattle.board_model.specs.declared.scenario.Call.TheVariants.{Create, Delete, Lookup, MsgSend, MsgRecv, MsgRecvI, MsgAvailable, Connect, OpenSend, OpenRecv, PktSend, PktRecv, PktRecvI, Release, SclSend, SclRecv, CloseSend, CloseRecv, Test, Cancel, Turn}
 use Rattle.board_model.specs.declared.scenario.CallLine.{CallLine}
 use Rattle.board_model.specs.declared.scenario.DomainLine.{DomainLine}
 use Rattle.board_model.specs.declared.scenario.Scenario.{Scenario}
@@ -27,7 +27,7 @@ use Rattle.board_model.proofs.PlaceBoards.{rising_differ}
 use Rattle.board_model.proofs.WholeJoined.{told_found}
 use Rattle.board_model.proofs.WholeLines.{lines_of}
 use Rattle.board_runner.specs.declared.station.Station.{Station}
-use Rattle.board_runner.specs.Lines.{AsksAtMost}
+use Rattle.board_runner.specs.Lines.{HasFitNumbers}
 use Rattle.board_runner.specs.Runs.{IsSomeNext, AllCarried, At, IsNext, DropsFit, CountsFit, OneLineMore, RunsLine}
 use Rattle.board_runner.specs.StationsMet.{counted}
 use Rattle.board_runner.specs.Stations.{AreStations, IsRun}
@@ -235,8 +235,8 @@ all_along s i sts le h = subst (λ (ls : List CallLine). IsRun s (lines_run s (o
 pub number-fits : (s : Scenario) → IsLinkedBoard s → (i : ℕ) (line : CallLine) → slice_get s.calls i ≡ Some line → line.domain < 8
 number-fits s board i line is = omega (arith, told-fits s board line.domain (all-at (λ c. IsTold s c.domain) s.calls i line board.lines_told is))
 
--- a lawful line asks for 9,000 bytes at most
-asks : (c : Call) → HasFitArguments c → AsksAtMost 9000 c
+-- a lawful line asks for 9,000 bytes at most, and its values fit their bits
+asks : (c : Call) → HasFitArguments c → HasFitNumbers 9000 c
 asks (Create port) h = tt
 asks (Delete port) h = tt
 asks (Lookup name) h = tt
@@ -247,11 +247,17 @@ asks (MsgAvailable port) h = tt
 asks (Connect port to kind) h = tt
 asks (OpenSend port kind) h = tt
 asks (OpenRecv port kind) h = tt
+asks (PktSend port bytes) h = tt
+asks (PktRecv port) h = tt
+asks (PktRecvI port) h = tt
+asks (Release label) h = tt
+asks (SclSend port bits value) h = h.1
+asks (SclRecv port bits) h = tt
 asks (CloseSend port) h = tt
 asks (CloseRecv port) h = tt
 asks (Test label) h = tt
 asks (Cancel label) h = tt
 asks Turn h = tt
 
-pub line_asks : (s : Scenario) → IsLinkedBoard s → (i : ℕ) (line : CallLine) → slice_get s.calls i ≡ Some line → AsksAtMost 9000 line.call
+pub line_asks : (s : Scenario) → IsLinkedBoard s → (i : ℕ) (line : CallLine) → slice_get s.calls i ≡ Some line → HasFitNumbers 9000 line.call
 line_asks s board i line is = asks line.call (all-at (λ (c : CallLine). HasFitArguments c.call) s.calls i line board.arguments_fit is)

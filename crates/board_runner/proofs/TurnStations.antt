@@ -26,6 +26,8 @@ use Rattle.board_runner.specs.Held.{Ids, id_for}
 use Rattle.board_runner.specs.Near.{RunDomain, peers_of, EndsMatch}
 use Rattle.board_runner.specs.Stations.{IsKnown, HoldsIds, IsStation}
 use Rattle.board_runner.proofs.TurnEnds.{Moved}
+use Rattle.board_runner.proofs.PacketLemmas.{packets_stay}
+use Rattle.board_runner.proofs.SerialPackets.{packets, turn-lends, turn-packets}
 
 -- ---- ids
 
@@ -131,10 +133,16 @@ station-turned s t st visits numbers d' j h turns told peers matched =
       state = turns.state ∙ ap (λ (x : DomainState). after_turn x visits) h.state;
       told = lines ∙ sym (noted_all-append [] t.entries (turned visits ∷ []));
       number = h.number;
-      ids =
-          ids-stay st.domain d' st.ids t.run.labels t.run.lines_called
-          (ap (λ (x : DomainState). x.requests_given) turns.state ∙ turn_gives st.domain.state visits)
-          (ap (λ (x : DomainState). map (λ q. q.serial) x.requests) turns.state ∙ turn_serials st.domain.state visits) turns.ids h.ids;
+      held = record {
+        requests =
+            ids-stay st.domain d' st.ids t.run.labels.requests t.run.lines_called
+            (ap (λ (x : DomainState). x.requests_given) turns.state ∙ turn_gives st.domain.state visits)
+            (ap (λ (x : DomainState). map (λ q. q.serial) x.requests) turns.state ∙ turn_serials st.domain.state visits) turns.ids h.held.requests;
+        packets =
+            packets_stay st.domain d' st.packets t.run.labels.packets t.run.lines_called
+            (ap (λ (x : DomainState). x.packets_lent) turns.state ∙ turn-lends st.domain.state visits)
+            (ap packets turns.state ∙ turn-packets st.domain.state visits) turns.packets h.held.packets;
+      };
       dropped =
           h.dropped ∙ ap (sum_by (deleted_in (script s t.line.domain))) h.told
           ∙ sym (deleted-turned (script s t.line.domain) t.entries visits) ∙ ap (sum_by (deleted_in (script s t.line.domain))) (sym lines);

@@ -17,3 +17,5 @@ pub mod OwnBoard
 pub mod Stations
 pub mod Tallied
 pub mod Told
+pub mod Items
+pub mod ItemCounts

@@ -1,59 +1,68 @@
 -- What a runner does with the call of a line at the line's station.
 -- Source: docs/PROFILE.md, "Serial run" and "Tries".
-use Rattle.std.specs.Prelude.{◌≡◌, ℕ, ◌+◌, ◌-◌, ◌≤◌, ◌<◌, ◌^◌, Bool, true, false, ◌&&◌, ◌||◌, Option, Some, slice_get, length, option_map, if◌then◌else◌}
+use Rattle.std.specs.Prelude.{◌≡◌, ℕ, ◌+◌, ◌-◌, ◌≤◌, ◌<◌, ◌^◌, ◌*◌, Bool, true, false, ◌&&◌, ◌||◌, Option, Some, slice_get, length, option_map, if◌then◌else◌}
 use Rattle.std.specs.List.{list_all}
+use Rattle.mc_base.specs.Letter.{bytes_of_bits}
 use Rattle.mc_base.specs.Limits.{asked_limit}
 use Rattle.mc_base.specs.declared.channel.Side.TheVariants.{Sender, Receiver}
 use Rattle.mc_base.specs.declared.request.Done.{Done}
 use Rattle.mc_base.specs.declared.request.Done.TheVariants as done
+use Rattle.mc_base.specs.declared.request.PacketId.{PacketId}
 use Rattle.mc_base.specs.declared.request.RequestId.{RequestId}
 use Rattle.lane_end.specs.AnySender.{AnySends}
 use Rattle.lane_end.specs.AnyReceiver.{AnyReceives}
 use Rattle.board_model.specs.declared.scenario.Call.{Call}
-use Rattle.board_model.specs.declared.scenario.Call.TheVariants.{Create, Delete, Lookup, MsgSend, MsgRecv, MsgRecvI, MsgAvailable, Connect, OpenSend, OpenRecv, CloseSend, CloseRecv, Test, Cancel, Turn}
+use Rattle.board_model.specs.declared.scenario.Call.TheVariants.{Create, Delete, Lookup, MsgSend, MsgRecv, MsgRecvI, MsgAvailable, Connect, OpenSend, OpenRecv, PktSend, PktRecv, PktRecvI, Release, SclSend, SclRecv, CloseSend, CloseRecv, Test, Cancel, Turn}
 use Rattle.board_model.specs.declared.scenario.CallLine.{CallLine}
-use Rattle.board_model.specs.DomainCall.{DomainCall, create_at, delete_at, lookup_of, send_from, receive_at, request_at, available_at, connect_from, open_at, close_at, test_of, cancel_of, turn_alone}
+use Rattle.board_model.specs.DomainCall.{DomainCall, create_at, delete_at, lookup_of, send_from, receive_at, request_at, available_at, connect_from, open_at, packet_from, lend_at, packet_request_at, release_of, scalar_from, scalar_at, close_at, test_of, cancel_of, turn_alone}
 use Rattle.board_model.specs.Journal.{Line, Visit, idle_line, is_idle, PlainAnswer, again, called, noted}
-use Rattle.board_model.specs.Labels.{request_given}
+use Rattle.board_model.specs.Labels.{request_given, lending_label}
 use Rattle.board_model.specs.Scenario.{label_in}
 use Rattle.board_model.specs.Step.{is_tried}
 use Rattle.board_model.specs.SerialRun.{word_in}
 use Rattle.board_model.specs.Tallies.{is_delete, number_told}
 use Rattle.domain_core.specs.Calls.{Calls}
-use Rattle.domain_core.specs.DomainView.{place_of_id}
+use Rattle.domain_core.specs.DomainView.{place_of_id, place_of_packet_id}
 use Rattle.domain_core.specs.Ends.{EndsMoved}
 use Rattle.mc_journal.specs.Entry.{plain_answer, bytes_in_answer}
 use Rattle.std.specs.Prelude.{List}
 use Rattle.board_runner.specs.declared.station.Station.{Station}
 use Rattle.board_runner.specs.declared.line.Made.{Made}
-use Rattle.board_runner.specs.Held.{Ids, id_or_none, TellsId}
+use Rattle.board_runner.specs.Held.{Ids, PacketIds, id_or_none, packet_or_none, TellsId}
 use Rattle.board_runner.specs.Near.{RunDomain}
 
 -- the call of a line as the domain knows it, by the ids that are held for labels
-abbrev pub call_by : Ids → List RequestId → Call → DomainCall
-call_by ids standing (Create port) = create_at port
-call_by ids standing (Delete port) = delete_at port
-call_by ids standing (Lookup name) = lookup_of name
-call_by ids standing (MsgSend port to priority bytes) = send_from port to priority bytes
-call_by ids standing (MsgRecv port max) = receive_at port max
-call_by ids standing (MsgRecvI port max) = request_at port max
-call_by ids standing (MsgAvailable port) = available_at port
-call_by ids standing (Connect port to kind) = connect_from port to kind
-call_by ids standing (OpenSend port kind) = open_at port Sender kind
-call_by ids standing (OpenRecv port kind) = open_at port Receiver kind
-call_by ids standing (CloseSend port) = close_at port Sender
-call_by ids standing (CloseRecv port) = close_at port Receiver
-call_by ids standing (Test label) = test_of (place_of_id standing (id_or_none ids label.items))
-call_by ids standing (Cancel label) = cancel_of (place_of_id standing (id_or_none ids label.items))
-call_by ids standing Turn = turn_alone
+abbrev pub call_by : Ids → PacketIds → List RequestId → List PacketId → Call → DomainCall
+call_by ids packets standing lent (Create port) = create_at port
+call_by ids packets standing lent (Delete port) = delete_at port
+call_by ids packets standing lent (Lookup name) = lookup_of name
+call_by ids packets standing lent (MsgSend port to priority bytes) = send_from port to priority bytes
+call_by ids packets standing lent (MsgRecv port max) = receive_at port max
+call_by ids packets standing lent (MsgRecvI port max) = request_at port max
+call_by ids packets standing lent (MsgAvailable port) = available_at port
+call_by ids packets standing lent (Connect port to kind) = connect_from port to kind
+call_by ids packets standing lent (OpenSend port kind) = open_at port Sender kind
+call_by ids packets standing lent (OpenRecv port kind) = open_at port Receiver kind
+call_by ids packets standing lent (PktSend port bytes) = packet_from port bytes
+call_by ids packets standing lent (PktRecv port) = lend_at port
+call_by ids packets standing lent (PktRecvI port) = packet_request_at port
+call_by ids packets standing lent (Release label) = release_of (place_of_packet_id lent (packet_or_none packets label.items))
+call_by ids packets standing lent (SclSend port bits value) = scalar_from port bits value
+call_by ids packets standing lent (SclRecv port bits) = scalar_at port bits
+call_by ids packets standing lent (CloseSend port) = close_at port Sender
+call_by ids packets standing lent (CloseRecv port) = close_at port Receiver
+call_by ids packets standing lent (Test label) = test_of (place_of_id standing (id_or_none ids label.items))
+call_by ids packets standing lent (Cancel label) = cancel_of (place_of_id standing (id_or_none ids label.items))
+call_by ids packets standing lent Turn = turn_alone
 
 abbrev pub call_at_station : CallLine → Station → DomainCall
-call_at_station line st = call_by st.ids st.domain.ids line.call
+call_at_station line st = call_by st.ids st.packets st.domain.ids st.domain.packets line.call
 
--- a receive asks for so many bytes at most
-abbrev pub AsksAtMost : ℕ → Call → Type 0
-AsksAtMost n (MsgRecv port max) = max ≤ n
-AsksAtMost n other = Unit {0}
+-- a receive asks for so many bytes at most, and a scalar's value fits its bits
+abbrev pub HasFitNumbers : ℕ → Call → Type 0
+HasFitNumbers n (MsgRecv port max) = max ≤ n
+HasFitNumbers n (SclSend port bits value) = value < 2 ^ (8 * bytes_of_bits bits)
+HasFitNumbers n other = Unit {0}
 
 -- how many messages a call dropped, where it is a delete
 abbrev pub dropped_by : Call → PlainAnswer → ℕ
@@ -76,23 +85,26 @@ is_turn other = false
 abbrev pub is_quiet : Call → PlainAnswer → List Line → Bool
 is_quiet call a lines = (is_turn call || is_tried a) && ends_idle lines
 
--- of a message, a test gave so many bytes at most. No packet comes yet
+-- a test gave so many bytes of a message at most, and no packet
 abbrev pub GivesWithin : ℕ → Done → Type 0
 GivesWithin n (done.Message got) = got.given ≤ n
 GivesWithin n (done.Packet id) = ⊥
 GivesWithin n other = Unit {0}
 
--- a call with its turn at a domain alone: its answer, and the id that it gives
+-- a call with its turn at a domain alone: its answer, and the ids that it gives, of a request and of a packet
 pub record CallsDomain (node : ℕ) (call : DomainCall) (old new : RunDomain) (lines lines' : List Line) (m : Made) : Type 0 where
   pub calls : Calls (EndsMoved AnySends AnyReceives) node call old new lines lines' (plain_answer m.answer) m.given
   pub gives : option_map (λ i. i.serial) m.given ≡ request_given calls.turned_to.state node call
+  pub lends : m.lent ≡ calls.does.lent
   pub bytes_fit : bytes_in_answer m.answer ≤ asked_limit
 
--- the call of a line, with its turn. Its answer is not noted yet, and the id that it gives is not held
+-- the call of a line, with its turn. Its answer is not noted yet, and the ids that it gives are not held
 pub record MakesCall (line : CallLine) (old new : Station) (m : Made) : Type 0 where
   pub calls : Calls (EndsMoved AnySends AnyReceives) line.node (call_at_station line old) old.domain new.domain old.journal.lines new.journal.lines (plain_answer m.answer) m.given
   pub gives : option_map (λ i. i.serial) m.given ≡ request_given calls.turned_to.state line.node (call_at_station line old)
+  pub lends : m.lent ≡ calls.does.lent
   pub ids : new.ids ≡ old.ids
+  pub packets : new.packets ≡ old.packets
   pub number : new.number ≡ old.number
   pub dropped : new.dropped ≡ old.dropped
   pub domain_number : new.domain_number ≡ old.domain_number
@@ -104,15 +116,17 @@ pub record NotesAgain (m : Made) (old new : Station) : Type 0 where
   pub told : new.journal.lines ≡ noted old.journal.lines (again (word_in (plain_answer m.answer)))
   pub domain : new.domain ≡ old.domain
   pub ids : new.ids ≡ old.ids
+  pub packets : new.packets ≡ old.packets
   pub number : new.number ≡ old.number
   pub dropped : new.dropped ≡ old.dropped
   pub domain_number : new.domain_number ≡ old.domain_number
 
--- the last call of a line is noted by its answer. The line is counted, and so is what it dropped; the id that it gave is held
+-- the last call of a line is noted by its answer. The line is counted, and so is what it dropped; the ids that it gave are held
 pub record NotesCalled (line : CallLine) (m : Made) (old new : Station) : Type 0 where
   pub told : new.journal.lines ≡ noted old.journal.lines (called (old.number + 1) (plain_answer m.answer))
   pub domain : new.domain ≡ old.domain
   pub ids : TellsId (label_in line) m.given old.ids new.ids
+  pub packets : TellsId (lending_label line.call (label_in line)) m.lent old.packets new.packets
   pub number : new.number ≡ old.number + 1
   pub dropped : new.dropped ≡ old.dropped + dropped_by line.call (plain_answer m.answer)
   pub domain_number : new.domain_number ≡ old.domain_number

@@ -25,6 +25,8 @@ pub record IsOpened (s : Scenario) (ls : List AnyLink) (d : DomainLine) (st : St
   pub requests : st.domain.ids ≡ []
   pub told : st.journal.lines ≡ []
   pub number : st.number ≡ 0
+  pub packets : st.domain.packets ≡ []
   pub labels : (label : List ℕ) → id_for st.ids label ≡ None
+  pub packet_labels : (label : List ℕ) → id_for st.packets label ≡ None
   pub dropped : st.dropped ≡ 0
   pub domain_number : st.domain_number ≡ d.domain

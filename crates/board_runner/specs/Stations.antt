@@ -1,14 +1,15 @@
 -- What a runner holds between two calls, and the run of a board that it stands for.
 -- Source: docs/PROFILE.md, "Serial run". What is on a lane is what its two ends did.
-use Rattle.std.specs.Prelude.{◌≡◌, ◌≢◌, ℕ, ◌+◌, ◌≤◌, ◌<◌, List, [], ◌∷◌, ◌++◌, map, sum_by, find, ◌==◌, Option, None, Some, option_map, IfSome, IsSome}
+use Rattle.std.specs.Prelude.{◌≡◌, ◌≢◌, ℕ, ◌+◌, ◌≤◌, ◌<◌, ◌^◌, List, [], ◌∷◌, ◌++◌, map, sum_by, find, ◌==◌, Option, None, Some, option_map, IfSome, IsSome}
 use Rattle.std.specs.List.{AllByRecursion}
 use Rattle.mc_base.specs.Limits.{no_key}
+use Rattle.mc_base.specs.declared.request.PacketId.{PacketId}
 use Rattle.mc_base.specs.declared.request.RequestId.{RequestId}
 use Rattle.board_model.specs.declared.scenario.DomainLine.{DomainLine}
 use Rattle.board_model.specs.declared.scenario.Scenario.{Scenario}
 use Rattle.board_model.specs.Scenario.{Lane, lanes, script, rising, neighbours}
 use Rattle.board_model.specs.Journal.{joined}
-use Rattle.board_model.specs.Labels.{Labelled, serial_of}
+use Rattle.board_model.specs.Labels.{Labelled, Labels, serial_of}
 use Rattle.board_model.specs.Tallies.{deleted_in}
 use Rattle.board_model.specs.Loads.{Load, is_between, frames_on, returned_on}
 use Rattle.board_model.specs.SerialRun as run
@@ -16,7 +17,7 @@ use Rattle.board_model.specs.SerialRun.{Running}
 use Rattle.lane_end.specs.AnyLane.{AreEndsOfOneRing}
 use Rattle.domain_core.specs.Carrying.{AreLinked}
 use Rattle.board_runner.specs.declared.station.Station.{Station}
-use Rattle.board_runner.specs.Held.{Ids, id_for}
+use Rattle.board_runner.specs.Held.{Ids, PacketIds, id_for}
 use Rattle.board_runner.specs.Near.{Near, nothing_near, RunDomain, near_of, peers_of, EndsMatch}
 
 -- ---- requests and labels
@@ -34,6 +35,25 @@ pub record HoldsIds (d : RunDomain) (ids : Ids) (labels : List Labelled) (lines 
   pub keys : AllByRecursion (λ i. i.key ≢ no_key) d.ids
   pub told : (label : List ℕ) → option_map (λ i. i.serial) (id_for ids label) ≡ serial_of labels label
   pub known : (label : List ℕ) → IfSome (id_for ids label) (IsKnown d)
+
+-- a packet that was lent, and whose serial none but itself can have
+pub record IsKnownPacket (d : RunDomain) (id : PacketId) : Type 0 where
+  pub lent : id.serial < d.state.packets_lent
+  pub only : AllByRecursion (λ i. i.serial ≡ id.serial → i ≡ id) d.packets
+
+-- the ids of packets of a domain are those of the packets that are lent, and the ids held for labels are those of the labels' packets
+pub record HoldsPackets (d : RunDomain) (packets : PacketIds) (labels : List Labelled) (lines : ℕ) : Type 0 where
+  pub few : d.state.packets_lent ≤ lines
+  pub small : d.state.packets_lent < 2 ^ 64
+  pub serials : map (λ i. i.serial) d.packets ≡ map (λ p. p.serial) d.state.lent
+  pub lent : AllByRecursion (λ i. i.serial < d.state.packets_lent) d.packets
+  pub told : (label : List ℕ) → option_map (λ i. i.serial) (id_for packets label) ≡ serial_of labels label
+  pub known : (label : List ℕ) → IfSome (id_for packets label) (IsKnownPacket d)
+
+-- what is held for labels is what was given for them
+pub record HoldsLabels (d : RunDomain) (ids : Ids) (lent : PacketIds) (labels : Labels) (lines : ℕ) : Type 0 where
+  pub requests : HoldsIds d ids labels.requests lines
+  pub packets : HoldsPackets d lent labels.packets lines
 
 -- ---- lanes
 
@@ -64,7 +84,7 @@ pub record IsStation (s : Scenario) (t : run.Station) (st : Station) : Type 0 wh
   pub state : st.domain.state ≡ t.run.state
   pub told : st.journal.lines ≡ joined t.entries
   pub number : st.number ≡ t.run.lines_called
-  pub ids : HoldsIds st.domain st.ids t.run.labels t.run.lines_called
+  pub held : HoldsLabels st.domain st.ids st.packets t.run.labels t.run.lines_called
   pub dropped : st.dropped ≡ sum_by (deleted_in (script s t.line.domain)) st.journal.lines
   pub own : t.run.state.number ≡ t.line.domain
   pub domain_number : st.domain_number ≡ t.line.domain

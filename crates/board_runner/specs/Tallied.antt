@@ -3,7 +3,6 @@
 use Rattle.std.specs.Prelude.{◌≡◌, ℕ, ◌<◌, List, [], ◌∷◌, ◌++◌, length, map, sum_by, find, slice_get, Option, Some, IsSome, option_map}
 use Rattle.std.specs.List.{AllByRecursion}
 use Rattle.board_model.specs.declared.totals.LanePlaces.{LanePlaces}
-use Rattle.board_model.specs.declared.totals.ChannelTotals.{ChannelTotals}
 use Rattle.board_model.specs.declared.totals.Totals.{Totals}
 use Rattle.board_model.specs.declared.scenario.Scenario.{Scenario}
 use Rattle.board_model.specs.Scenario.{script, neighbours, Lane}
@@ -13,7 +12,7 @@ use Rattle.board_model.specs.Tallies.{deleted_in}
 use Rattle.board_model.specs.Run.{left_by}
 use Rattle.board_model.specs.Board.{IsBoardRun}
 use Rattle.board_model.specs.Places.{places_of}
-use Rattle.board_model.specs.Totals.{channel_totals, totals}
+use Rattle.board_model.specs.Totals.{totals}
 use Rattle.board_model.specs.SerialRun.{Station, is_station, journal_left}
 use Rattle.buffer_book.specs.declared.places.Places.{Places}
 use Rattle.domain_core.specs.Hearing.{messages_at}
@@ -30,7 +29,6 @@ places_held n s = record { queue = queued_from n s; lent = lent_from n s }
 -- what a domain in this state holds
 pub record AreHeld (s : DomainState) (h : HeldBuffers) : Type 0 where
   pub queued : h.queued ≡ sum_by messages_at s.endpoints
-  pub channels : h.channels ≡ s.channels_given
   pub places : (n : ℕ) → n < 8 → IsSome (peer_of s n) → slice_get h.places n ≡ Some (places_held n s)
 
 pub record IsTally (s : Scenario) (t : Station) (y : Tally) : Type 0 where
@@ -75,14 +73,6 @@ pub record TallySomeLane (s : Scenario) (from to : ℕ) (sender receiver : Tally
 -- whatever run it is, these are its totals
 abbrev pub TellTotals : Scenario → List Tally → Totals → Type 0
 TellTotals s ys x = (ts : List Station) → RanBoard s ts → AreTallies s ts ys → x ≡ totals s (map journal_left ts)
-
--- a channel on which no item was sent
-abbrev pub without_items : ℕ → ℕ → ChannelTotals
-without_items owner number = record { owner = owner; number = number; totals = record { accepted = 0; taken = 0; dropped = 0; queued = 0; ring = 0 } }
-
--- these are what became of the items of each of its channels
-abbrev pub TellChannels : Scenario → List Tally → List ChannelTotals → Type 0
-TellChannels s ys cs = (ts : List Station) → RanBoard s ts → AreTallies s ts ys → cs ≡ channel_totals s (map journal_left ts)
 
 -- the places of one of its lanes, where there is this lane
 abbrev pub TellLane : Scenario → ℕ → ℕ → Tally → Tally → Option LanePlaces → Type 0

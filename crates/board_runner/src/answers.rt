@@ -1,8 +1,9 @@
 //! The answers of calls, as a journal notes them.
 
-ghost use Rattle.std.specs.Prelude.{◌≡◌, ◌<◌, ◌≤◌, ◌^◌, IfOk, length, take};
+ghost use Rattle.std.specs.Prelude.{◌≡◌, ◌<◌, ◌≤◌, ◌^◌, IfOk, IfErr, None, length, take};
+ghost use Rattle.board_model.specs.Journal.{gives, refuses, completes, brought, ended_by};
 ghost use Rattle.board_model.specs.Tallies.{number_told};
-ghost use Rattle.domain_core.specs.Calls.{connected, created, deleted, sent, received, requested, available, result_of_done, tested, cancelled};
+ghost use Rattle.domain_core.specs.Calls.{Lending, connected, created, deleted, sent, received, requested, available, result_of_done, tested, cancelled};
 ghost use Rattle.mc_journal.specs.Entry.{plain_answer, result_of_told, bytes_in_answer, bytes_in_told};
 ghost use Rattle.board_runner.specs.Lines.{GivesWithin};
 
@@ -75,10 +76,11 @@ pub fn of_receive<'a>(made: Result<Got, Refusal>, out: &'a [u8]) -> Answer<'a>
     }
 }
 
-/// Of a test, which gave the first bytes of `out` where a message came.
+/// Of a test that brought no packet. It gave the first bytes of `out` where a message came.
 pub fn of_test<'a>(made: Result<Done, Refusal>, out: &'a [u8]) -> Answer<'a>
     requires { IfOk made (GivesWithin (length out.now)) }
-    ensures tested { plain_answer result ≡ tested made out.now }
+    ensures tested { (lent : Lending) → plain_answer result ≡ tested made out.now lent }
+    ensures no_packet { IfOk made (GivesWithin (length out.now)) }
     ensures within { bytes_in_answer result ≤ length out.now }
 {
     match made {
@@ -89,7 +91,7 @@ pub fn of_test<'a>(made: Result<Done, Refusal>, out: &'a [u8]) -> Answer<'a>
 
 fn told<'a>(done: Done, out: &'a [u8]) -> Told<'a>
     requires { GivesWithin (length out.now) done }
-    ensures result { result_of_told result ≡ result_of_done done out.now }
+    ensures result { (lent : Lending) → result_of_told result ≡ result_of_done done out.now lent }
     ensures within { bytes_in_told result ≤ length out.now }
 {
     match done {
@@ -100,8 +102,63 @@ fn told<'a>(done: Done, out: &'a [u8]) -> Told<'a>
             size: got.size,
             bytes: given_of(got, out),
         },
-        Done::Packet(_) => unreachable!(), // No packet comes yet.
+        Done::Packet(_) => unreachable!(), // A packet is told by `of_tested_packet`.
         Done::Ended(word) => Told::Ended(word),
+    }
+}
+
+/// Of a receive of a packet, by the bytes of the packet that is lent. They are copied to the front of `out`.
+pub fn of_packet<'a>(bytes: Result<&[u8], Refusal>, out: &'a mut [u8]) -> Answer<'a>
+    requires fits { IfOk bytes (λ b. length b.now ≤ length out.old) }
+    requires small { IfOk bytes (λ b. length b.now < 2 ^ 32) }
+    ensures given { IfOk bytes.entry (λ b. plain_answer result ≡ gives (length b.now) b.now) }
+    ensures refused { IfErr bytes.entry (λ word. plain_answer result ≡ refuses word) }
+    ensures within { bytes_in_answer result ≤ length out.old }
+{
+    match bytes {
+        Ok(bytes) => Answer::Bytes {
+            size: bytes.len() as u32,
+            bytes: copied(bytes, out),
+        },
+        Err(word) => Answer::Refused(word),
+    }
+}
+
+/// Of a test that brought a packet, by the bytes of the packet that is lent. They are copied to the front of `out`.
+pub fn of_tested_packet<'a>(bytes: Result<&[u8], Refusal>, out: &'a mut [u8]) -> Answer<'a>
+    requires fits { IfOk bytes (λ b. length b.now ≤ length out.old) }
+    requires small { IfOk bytes (λ b. length b.now < 2 ^ 32) }
+    ensures given { IfOk bytes.entry (λ b. plain_answer result ≡ completes None (brought (length b.now) b.now)) }
+    ensures refused { IfErr bytes.entry (λ word. plain_answer result ≡ completes None (ended_by word)) }
+    ensures within { bytes_in_answer result ≤ length out.old }
+{
+    match bytes {
+        Ok(bytes) => Answer::Done(Told::Bytes {
+            size: bytes.len() as u32,
+            bytes: copied(bytes, out),
+        }),
+        Err(word) => Answer::Done(Told::Ended(word)),
+    }
+}
+
+/// Copies bytes to the front of `out`, and returns them there.
+fn copied<'a>(bytes: &[u8], out: &'a mut [u8]) -> &'a [u8]
+    requires { length bytes.now ≤ length out.old }
+    ensures { result.now ≡ bytes.now }
+{
+    let (front, _) = out.split_at_mut(bytes.len());
+    front.copy_from_slice(bytes);
+    front
+}
+
+/// Of a receive of a number.
+pub fn of_scalar(made: Result<u64, Refusal>) -> Answer<'static>
+    ensures received { plain_answer result ≡ available made }
+    ensures no_bytes { bytes_in_answer result ≡ 0 }
+{
+    match made {
+        Ok(value) => Answer::Number(value),
+        Err(word) => Answer::Refused(word),
     }
 }
 

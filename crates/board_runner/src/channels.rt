@@ -1,13 +1,12 @@
 //! What became of the items of channels.
 
-ghost use Rattle.std.specs.Prelude.{◌≡◌, ◌++◌, IfOk, OnOk, map};
+ghost use Rattle.std.specs.Prelude.{◌≡◌, ◌<◌, ◌^◌, IfOk, OnOk, length, sum_by};
 ghost use Rattle.board_model.specs.Language.{IsLawfulBoard};
-ghost use Rattle.board_model.specs.Totals.{numbers_to};
-ghost use Rattle.board_runner.specs.Tallied.{TallySomeRun, TellChannels, without_items};
+ghost use Rattle.board_runner.specs.ItemCounts.{AddChannels, AreItemCounts, EndSomeRun, HaveMoreThan, IsOneOf, TellChannels, TellTotalsOf, queued_at};
 
 use crate::adding::add;
-use crate::board::rising_numbers;
-use crate::tally::Tally;
+use crate::items::{ItemCounts, item_counts};
+use crate::station::Station;
 use board_model::{ChannelTotals, Scenario, Seq, Totals};
 use mc_base::NoMemory;
 use std::alloc::Global;
@@ -15,45 +14,88 @@ use std::alloc::Global;
 /// What became of the items of each channel, by the domain that numbered it and by its number.
 pub fn channels_of(
     alloc: Global,
-    scenario: &Scenario,
-    tallies: &[Tally],
+    _scenario: &Scenario,
+    stations: &[Station<'_>],
 ) -> Result<Seq<ChannelTotals>, NoMemory>
-    requires lawful { IsLawfulBoard scenario.now }
-    requires tallies { TallySomeRun scenario.now tallies.now }
-    ensures { IfOk result (TellChannels scenario.now tallies.now) }
+    requires lawful { IsLawfulBoard _scenario.now }
+    requires ends { EndSomeRun _scenario.now stations.now }
+    ensures { IfOk result (TellChannels _scenario.now stations.now) }
 {
-    let numbers = rising_numbers(scenario);
     let mut channels = Seq::new(Vec::new(alloc));
-    for at in 0..numbers.len() {
-        add_channels(numbers[at], tallies[at].held.channels, &mut channels)?;
+    for at in 0..stations.len() {
+        add_channels(alloc, _scenario, stations, at, &mut channels)?;
     }
     Ok(channels)
 }
 
-/// Adds the channels that a domain numbered, from 1 on. No call sends an item on a channel yet.
-fn add_channels(owner: u8, given: u32, channels: &mut Seq<ChannelTotals>) -> Result<(), NoMemory>
-    ensures { OnOk result (channels.new ≡ channels.old ++ map (without_items owner) (numbers_to given)) }
+/// Adds the channels that the domain at a place numbered, from 1 on.
+fn add_channels(
+    alloc: Global,
+    _scenario: &Scenario,
+    stations: &[Station<'_>],
+    at: usize,
+    channels: &mut Seq<ChannelTotals>,
+) -> Result<(), NoMemory>
+    requires lawful { IsLawfulBoard _scenario.now }
+    requires ends { EndSomeRun _scenario.now stations.now }
+    requires at { at < length stations.now }
+    ensures { OnOk result (AddChannels _scenario.now stations.now at channels.old channels.new) }
 {
+    let station = &stations[at];
+    let owner = station.domain_number;
+    let given = station.domain.channels_given();
+    let counts = item_counts(alloc, stations, owner, given)?;
     for before in 0..given {
-        add(channels, without_items(owner, before + 1))?;
+        let number = before + 1;
+        let totals = totals_of(_scenario, stations, owner, number, &counts);
+        let channel = ChannelTotals {
+            owner,
+            number,
+            totals,
+        };
+        add(channels, channel)?;
     }
     Ok(())
 }
 
-/// A channel on which no item was sent.
-fn without_items(owner: u8, number: u32) -> ChannelTotals
-    ensures { result ≡ without_items owner number }
+/// What became of the items of one channel of a domain. None is lost, so those that were taken are the rest.
+fn totals_of(
+    _scenario: &Scenario,
+    stations: &[Station<'_>],
+    owner: u8,
+    number: u32,
+    counts: &ItemCounts,
+) -> Totals
+    requires lawful { IsLawfulBoard _scenario.now }
+    requires ends { EndSomeRun _scenario.now stations.now }
+    requires owner { IsOneOf owner stations.now }
+    requires counts { AreItemCounts owner stations.now counts.now }
+    requires places { HaveMoreThan number counts.now }
+    ensures { TellTotalsOf _scenario.now stations.now owner number result }
 {
-    let totals = Totals {
-        accepted: 0,
-        taken: 0,
-        dropped: 0,
-        queued: 0,
-        ring: 0,
-    };
-    ChannelTotals {
-        owner,
-        number,
-        totals,
+    let place = number as usize;
+    let sent = counts.sent[place];
+    let dropped = counts.dropped[place];
+    let brought = counts.brought[place];
+    let ring = sent - brought;
+    let queued = queued_on(stations, owner, number);
+    Totals {
+        accepted: sent,
+        taken: sent - dropped - queued - ring,
+        dropped,
+        queued,
+        ring,
     }
+}
+
+/// How many items of a channel are queued at all stations.
+fn queued_on(stations: &[Station<'_>], owner: u8, number: u32) -> u64
+    requires { sum_by (queued_at owner number) stations.now < 2 ^ 64 }
+    ensures { result ≡ sum_by (queued_at owner number) stations.now }
+{
+    let mut queued = 0;
+    for station in stations {
+        queued += u64::from(station.domain.queued(owner, number));
+    }
+    queued
 }

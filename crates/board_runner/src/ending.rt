@@ -32,7 +32,7 @@ pub fn outcome_of(
 {
     let tallies = tallies_of(alloc, &stations)?;
     let places = places_of(alloc, scenario, tallies.as_slice())?;
-    let channels = channels_of(alloc, scenario, tallies.as_slice())?;
+    let channels = channels_of(alloc, scenario, &stations)?;
     let messages = totals_of(scenario, tallies.as_slice());
     Ok(Outcome {
         journals: journals_of(alloc, stations)?,
@@ -66,13 +66,12 @@ fn tally_of(station: &Station<'_>) -> Tally
     }
 }
 
-/// How many messages are queued in a domain, how many channels it numbered, and where it holds buffers.
+/// How many messages are queued in a domain, and where it holds buffers.
 fn held_by(domain: &Domain<AnySend<'_>, AnyRecv<'_>>) -> HeldBuffers
     ensures { AreHeld domain.now.state result }
 {
     let mut held = HeldBuffers {
         queued: domain.messages_queued(),
-        channels: domain.channels_given(),
         places: [Places { queue: 0, lent: 0 }; 8],
     };
     for peer in 0..MAX_DOMAINS {

@@ -12,6 +12,7 @@ mod channels;
 mod counts;
 mod ending;
 mod gate;
+mod items;
 mod labels;
 mod line;
 mod links;

@@ -7,31 +7,34 @@ ghost use Rattle.board_model.specs.SerialRun.{more_calls};
 ghost use Rattle.board_model.specs.Step.{is_tried, is_tried_word};
 ghost use Rattle.mc_journal.specs.Entry.{plain_answer, bytes_in_answer};
 ghost use Rattle.board_runner.specs.Carried.{StayCarriedWhere};
-ghost use Rattle.board_runner.specs.Lines.{CallsDomain, MakesCall, NotesCalled, Tries, AsksAtMost, call_by, dropped_by, is_quiet as is_quiet_call, ends_idle as ends_idle_lines};
+ghost use Rattle.board_runner.specs.Lines.{CallsDomain, MakesCall, NotesCalled, Tries, HasFitNumbers, call_by, dropped_by, is_quiet as is_quiet_call, ends_idle as ends_idle_lines};
 ghost use Rattle.board_runner.specs.Runs.{IsSomeNext, AllCarried, MayCount, CountsFit, CallsLine, CountsCall, RunsLine, OneLineMore};
 
 mod channels;
+mod items;
 mod messages;
 mod requests;
 
 use crate::carrying::carry_all;
-use crate::labels::{hold, id_of};
+use crate::labels::{hold, id_of, lending_label_of, packet_of};
 use crate::station::Station;
 use crate::stations::others_turn;
 use board_model::{Call, CallLine};
 use channels::{close_recv, close_send, connect, open_recv, open_send};
 use domain_core::{Answer, Domain, Entry, Journal, Told};
+use items::{receive_packet, receive_scalar, release, request_packet, send_packet, send_scalar};
 use lane_end::{AnyRecv, AnySend};
-use mc_base::{Local, NoMemory, Refusal, RequestId};
+use mc_base::{Local, NoMemory, PacketId, Refusal, RequestId};
 use messages::{available, create, delete, receive, send, turn};
 use requests::{cancel, lookup, request, test};
 use std::collections::BTreeMap;
 
-/// What a call answered, and the request that it gave.
+/// What a call answered, the request that it gave, and the packet that it lent.
 #[derive(Clone, Copy)]
 pub struct Made<'r> {
     pub answer: Answer<'r>,
     pub given: Option<RequestId>,
+    pub lent: Option<PacketId>,
 }
 
 /// How a call ended: whether it is to be made again, and whether it was quiet, so that nothing has to be carried after it.
@@ -57,7 +60,7 @@ pub fn run_line<'a>(
     requires next { IsSomeNext line.now at stations.old }
     requires carried { AllCarried stations.old }
     requires counts { CountsFit stations.old }
-    requires asks { AsksAtMost asked_limit line.now.call }
+    requires asks { HasFitNumbers asked_limit line.now.call }
     requires room { length room.old ≡ asked_limit }
     ensures run { OnOk result (RunsLine line.now at stations.old stations.new) }
     ensures carried { OnOk result (AllCarried stations.new) }
@@ -95,7 +98,7 @@ fn call_once<'a>(
     requires next { IsSomeNext line.now at stations.old }
     requires carried { AllCarried stations.old }
     requires counts { CountsFit stations.old }
-    requires asks { AsksAtMost asked_limit line.now.call }
+    requires asks { HasFitNumbers asked_limit line.now.call }
     requires room { length room.old ≡ asked_limit }
     ensures run { IfOk result (λ is_again. CallsLine line.now may_try is_again at stations.old stations.new) }
     ensures carried { OnOk result (AllCarried stations.new) }
@@ -117,7 +120,7 @@ pub fn call_and_note<'a>(
 ) -> Result<Ended, NoMemory>
     requires count { MayCount station.old }
     requires drops { station.old.dropped ≤ 2 ^ 32 * station.old.number }
-    requires asks { AsksAtMost asked_limit line.now.call }
+    requires asks { HasFitNumbers asked_limit line.now.call }
     requires room { length room.old ≡ asked_limit }
     ensures tries { IfOk result (λ ended. Tries line.now may_try station.old station.new ended.is_again ended.is_quiet) }
     ensures quiet { IfOk result (λ ended. StayCarriedWhere ended.is_quiet station.old.domain.ends station.new.domain.ends) }
@@ -158,13 +161,13 @@ fn ends_idle(journal: &Journal) -> bool
     many > 0 && matches!(journal.entry(many - 1), Some(Entry::Idle { .. }))
 }
 
-/// Makes the call of a line. Of a message, the bytes that are given stand in `room`.
+/// Makes the call of a line. Of a message or packet, the bytes that are given stand in `room`.
 fn call_line<'r>(
     station: &mut Station<'_>,
     line: &CallLine,
     room: &'r mut [u8],
 ) -> Result<Made<'r>, NoMemory>
-    requires asks { AsksAtMost asked_limit line.now.call }
+    requires asks { HasFitNumbers asked_limit line.now.call }
     requires room { length room.old ≡ asked_limit }
     ensures { IfOk result (λ made. MakesCall line.now station.old station.new made) }
 {
@@ -172,22 +175,24 @@ fn call_line<'r>(
         &mut station.domain,
         &mut station.journal,
         &station.ids,
+        &station.packets,
         line,
         room,
     )
 }
 
-/// Makes the call of a line at its domain. Labels name requests by the ids that are held for them.
+/// Makes the call of a line at its domain. Labels name requests and packets by the ids that are held for them.
 fn call_domain<'r>(
     domain: &mut Domain<AnySend<'_>, AnyRecv<'_>>,
     journal: &mut Journal,
     ids: &BTreeMap<&[u8], RequestId>,
+    packets: &BTreeMap<&[u8], PacketId>,
     line: &CallLine,
     room: &'r mut [u8],
 ) -> Result<Made<'r>, NoMemory>
-    requires asks { AsksAtMost asked_limit line.now.call }
+    requires asks { HasFitNumbers asked_limit line.now.call }
     requires room { length room.old ≡ asked_limit }
-    ensures call { IfOk result (λ made. CallsDomain line.now.node (call_by ids.now domain.old.ids line.now.call) domain.old domain.new journal.old.lines journal.new.lines made) }
+    ensures call { IfOk result (λ made. CallsDomain line.now.node (call_by ids.now packets.now domain.old.ids domain.old.packets line.now.call) domain.old domain.new journal.old.lines journal.new.lines made) }
     ensures drops { IfOk result (λ made. dropped_by line.now.call (plain_answer made.answer) < 2 ^ 32) }
 {
     match &line.call {
@@ -214,6 +219,16 @@ fn call_domain<'r>(
         }
         Call::OpenSend { port, kind } => open_send(domain, journal, local(line, *port), *kind),
         Call::OpenRecv { port, kind } => open_recv(domain, journal, local(line, *port), *kind),
+        Call::PktSend { port, bytes } => {
+            send_packet(domain, journal, local(line, *port), bytes.as_slice())
+        }
+        Call::PktRecv { port } => receive_packet(domain, journal, local(line, *port), room),
+        Call::PktRecvI { port } => request_packet(domain, journal, local(line, *port)),
+        Call::Release { label } => release(domain, journal, packet_of(packets, label)),
+        Call::SclSend { port, bits, value } => {
+            send_scalar(domain, journal, local(line, *port), *bits, *value)
+        }
+        Call::SclRecv { port, bits } => receive_scalar(domain, journal, local(line, *port), *bits),
         Call::CloseSend { port } => close_send(domain, journal, local(line, *port)),
         Call::CloseRecv { port } => close_recv(domain, journal, local(line, *port)),
         Call::Test { label } => test(domain, journal, id_of(ids, label), room),
@@ -267,8 +282,8 @@ fn note_again(journal: &mut Journal, word: Refusal) -> Result<(), NoMemory>
     Ok(())
 }
 
-/// Notes the last call of a line. The line is counted, and so are the messages that it dropped; the id that it gave is held for
-/// the line's label.
+/// Notes the last call of a line. The line is counted, and so are the messages that it dropped; the ids that it gave are held for
+/// their labels.
 fn note_called<'a>(
     station: &mut Station<'a>,
     line: &'a CallLine,
@@ -286,7 +301,8 @@ fn note_called<'a>(
         number,
         answer: made.answer,
     });
-    hold(&mut station.ids, line, made.given)?;
+    hold(&mut station.ids, line.label.as_ref(), made.given)?;
+    hold(&mut station.packets, lending_label_of(line), made.lent)?;
     station.number = number;
     station.dropped += dropped_in(&line.call, made.answer);
     Ok(())

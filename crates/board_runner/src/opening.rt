@@ -66,6 +66,7 @@ fn open_station<'a>(
         domain,
         journal,
         ids: BTreeMap::new(alloc),
+        packets: BTreeMap::new(alloc),
         domain_number: line.domain,
         number: 0,
         dropped: 0,

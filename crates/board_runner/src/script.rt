@@ -3,7 +3,7 @@
 ghost use Rattle.std.specs.Prelude.{◌≡◌, ◌≤◌, ◌*◌, ◌^◌, IfOk, OnOk, length};
 ghost use Rattle.mc_base.specs.Limits.{asked_limit};
 ghost use Rattle.board_model.specs.Language.{IsLawfulBoard};
-ghost use Rattle.board_runner.specs.Lines.{AsksAtMost};
+ghost use Rattle.board_runner.specs.Lines.{HasFitNumbers};
 ghost use Rattle.board_runner.specs.OwnRun.{HasNotBegun, CountsOneLine, RunsNextLine, RunsScript};
 ghost use Rattle.board_runner.specs.Runs.{MayCount};
 
@@ -55,7 +55,7 @@ fn run_own_line<'a>(
 ) -> Result<(), NoMemory>
     requires count { MayCount station.old }
     requires drops { station.old.dropped ≤ 2 ^ 32 * station.old.number }
-    requires asks { AsksAtMost asked_limit line.now.call }
+    requires asks { HasFitNumbers asked_limit line.now.call }
     requires room { length room.old ≡ asked_limit }
     ensures run { OnOk result (RunsNextLine line.now station.old station.new) }
     ensures counts { OnOk result (CountsOneLine station.old station.new) }

@@ -2,17 +2,18 @@
 
 use domain_core::{Domain, Journal};
 use lane_end::{AnyRecv, AnySend};
-use mc_base::RequestId;
+use mc_base::{PacketId, RequestId};
 use std::collections::BTreeMap;
 
-/// A domain with its number, its journal, the ids of the requests that were given for labels, how many of its lines were called,
-/// and how many messages its deletes dropped.
+/// A domain with its number, its journal, the ids of the requests that were given for labels and of the packets that were lent under
+/// them, how many of its lines were called, and how many messages its deletes dropped.
 #[derive(Drop)]
 pub struct Station<'a> {
     pub domain: Domain<AnySend<'a>, AnyRecv<'a>>,
     pub domain_number: u8,
     pub journal: Journal,
     pub ids: BTreeMap<&'a [u8], RequestId>,
+    pub packets: BTreeMap<&'a [u8], PacketId>,
     pub number: u32,
     pub dropped: u64,
 }

@@ -3,12 +3,11 @@
 use crate::counts::Counts;
 use domain_core::Places;
 
-/// How many messages are queued in a domain, how many channels it numbered, and where it holds the buffers of the lanes from other
-/// domains and from itself, by their numbers.
+/// How many messages are queued in a domain, and where it holds the buffers of the lanes from other domains and from itself, by
+/// their numbers.
 #[derive(Clone, Copy)]
 pub struct HeldBuffers {
     pub queued: u32,
-    pub channels: u32,
     pub places: [Places; 8],
 }
 

@@ -27,6 +27,7 @@ pub fn connect(
     Ok(Made {
         answer: of_connect(connected),
         given: request_of(connected),
+        lent: None,
     })
 }
 
@@ -54,6 +55,7 @@ pub fn open_send(
     Ok(Made {
         answer,
         given: None,
+        lent: None,
     })
 }
 
@@ -71,6 +73,7 @@ pub fn open_recv(
     Ok(Made {
         answer,
         given: None,
+        lent: None,
     })
 }
 
@@ -87,6 +90,7 @@ pub fn close_send(
     Ok(Made {
         answer,
         given: None,
+        lent: None,
     })
 }
 
@@ -103,5 +107,6 @@ pub fn close_recv(
     Ok(Made {
         answer,
         given: None,
+        lent: None,
     })
 }

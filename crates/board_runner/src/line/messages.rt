@@ -26,6 +26,7 @@ pub fn create(
     Ok(Made {
         answer,
         given: None,
+        lent: None,
     })
 }
 
@@ -43,6 +44,7 @@ pub fn delete(
     Ok(Made {
         answer,
         given: None,
+        lent: None,
     })
 }
 
@@ -62,6 +64,7 @@ pub fn send(
     Ok(Made {
         answer,
         given: None,
+        lent: None,
     })
 }
 
@@ -80,6 +83,7 @@ pub fn receive<'r>(
     Ok(Made {
         answer: of_receive(received, out),
         given: None,
+        lent: None,
     })
 }
 
@@ -96,6 +100,7 @@ pub fn available(
     Ok(Made {
         answer,
         given: None,
+        lent: None,
     })
 }
 
@@ -111,5 +116,6 @@ pub fn turn(
     Ok(Made {
         answer: Answer::Ok,
         given: None,
+        lent: None,
     })
 }

@@ -7,10 +7,10 @@ ghost use Rattle.domain_core.specs.DomainView.{place_of_id};
 ghost use Rattle.board_runner.specs.Lines.{CallsDomain};
 
 use super::Made;
-use crate::answers::{of_request, of_test, of_unit};
+use crate::answers::{of_request, of_test, of_tested_packet, of_unit};
 use domain_core::{CALL_BYTES, CALL_ENTRIES, Domain, Journal};
 use lane_end::{AnyRecv, AnySend};
-use mc_base::{EndName, Local, NoMemory, RequestId};
+use mc_base::{Done, EndName, Local, NoMemory, RequestId};
 
 /// Asks for the address of an endpoint. A call that is refused gives no request.
 pub fn lookup(
@@ -25,6 +25,7 @@ pub fn lookup(
     Ok(Made {
         answer: of_request(found),
         given: found.ok(),
+        lent: None,
     })
 }
 
@@ -42,10 +43,11 @@ pub fn request(
     Ok(Made {
         answer: of_request(requested),
         given: requested.ok(),
+        lent: None,
     })
 }
 
-/// Ends a request if it is complete. What it brings goes to `out`, which has 9,000 bytes.
+/// Ends a request if it is complete. What it brings goes to `out`, which has 9,000 bytes. A packet that it brings is lent.
 pub fn test<'r>(
     domain: &mut Domain<AnySend<'_>, AnyRecv<'_>>,
     journal: &mut Journal,
@@ -57,9 +59,17 @@ pub fn test<'r>(
 {
     journal.reserve(CALL_ENTRIES, CALL_BYTES)?;
     let tested = domain.test(journal, id, out);
+    if let Ok(Done::Packet(packet)) = tested {
+        return Ok(Made {
+            answer: of_tested_packet(domain.pkt_bytes(packet), out),
+            given: None,
+            lent: Some(packet),
+        });
+    }
     Ok(Made {
         answer: of_test(tested, out),
         given: None,
+        lent: None,
     })
 }
 
@@ -76,5 +86,6 @@ pub fn cancel(
     Ok(Made {
         answer,
         given: None,
+        lent: None,
     })
 }

@@ -17,14 +17,12 @@ loop-peer-preserved c =
           let at = ap (λ (i : ℕ). slice_set old.places i p) w.from.ensures in
           record {
             queued = ap (λ (h : HeldBuffers). h.queued) w.held-is ∙ so_far.queued;
-            channels = ap (λ (h : HeldBuffers). h.channels) w.held-is ∙ so_far.channels;
             eight = ap (λ (h : HeldBuffers). length h.places) w.held-is ∙ length-set old.places w.from.result p ∙ so_far.eight;
             places = subst (HeldBelow s (k + 1)) (sym (ap (λ (h : HeldBuffers). h.places) w.held-is ∙ at))
                 (held-more s k old.places so_far.places p (omega (arith, c.loop-peer-test.true, c.loop-peer.auto.peer-end, so_far.eight)) w.in-Some.ensures.queue w.in-Some.ensures.lent);
           }
       | in_default w ↦ record {
         queued = ap (λ (h : HeldBuffers). h.queued) w.held-is ∙ so_far.queued;
-        channels = ap (λ (h : HeldBuffers). h.channels) w.held-is ∙ so_far.channels;
         eight = ap (λ (h : HeldBuffers). length h.places) w.held-is ∙ so_far.eight;
         places = subst (HeldBelow s (k + 1)) (sym (ap (λ (h : HeldBuffers). h.places) w.held-is)) (held-skip s k old.places so_far.places (w.in_default.ensures.none.0 refl));
       }

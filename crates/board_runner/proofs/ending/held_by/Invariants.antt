@@ -6,7 +6,6 @@ use Rattle.board_runner.proofs.ending.held_by.Given as goal
 abbrev pub invariant-loop-peer : goal.invariant-loop-peer
 invariant-loop-peer l = record {
   queued : l.held.queued ≡ sum_by messages_at l.domain.state.endpoints;
-  channels : l.held.channels ≡ l.domain.state.channels_given;
   eight : length l.held.places ≡ 8;
   places : HeldBelow l.domain.state l.peer l.held.places;
 }

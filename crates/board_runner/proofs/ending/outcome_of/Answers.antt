@@ -7,6 +7,8 @@ use Rattle.board_runner.specs.declared.tally.Tally.{Tally}
 use Rattle.board_runner.specs.Stations.{AreStations}
 use Rattle.board_runner.specs.Tallied.{AreTallies, TellStations}
 use Rattle.board_runner.proofs.FinishLemmas.{finished_ran}
+use Rattle.board_runner.specs.ItemCounts.{EndAs}
+use Rattle.board_runner.proofs.ChannelLemmas.{stations-ended}
 use Rattle.board_runner.proofs.TallyLemmas.{stations-tallied, stations-told}
 use Rattle.board_runner.proofs.ending.outcome_of.Goals as goal
 
@@ -23,13 +25,17 @@ places_of-requires-clause-tallies c =
       tallies = tallied s c.args.stations.items _ c.in_ok-tallies.tallies _ c.requires.run.each c.deref.ensures.value c.in_ok-tallies.ensures c.as_slice.ensures;
     }
 
-pub channels_of-requires-clause-tallies : goal.channels_of-requires-clause-tallies
-channels_of-requires-clause-tallies c =
+-- and so are their stations
+ended : (s : Scenario) (sts borrowed : List code.Station) → AreStations s (finished s).stations sts → borrowed ≡ sts → EndAs (finished s).stations borrowed
+ended s sts borrowed are same = subst (EndAs (finished s).stations) (sym same) (stations-ended s (finished s).stations sts are)
+
+pub channels_of-requires-clause-ends : goal.channels_of-requires-clause-ends
+channels_of-requires-clause-ends c =
     let s = c.args.scenario.now in
     record {
       stations = (finished s).stations;
       ran = finished_ran s (lawful_is_linked s c.requires.lawful) c.args.stations.items c.requires.run.each;
-      tallies = tallied s c.args.stations.items _ c.in_ok-tallies.tallies _ c.requires.run.each c.deref.ensures.value c.in_ok-tallies.ensures c.as_slice-2.ensures;
+      ends = ended s c.args.stations.items _ c.requires.run.each c.deref-2.ensures.value;
     }
 
 pub totals_of-messages-requires-clause-tallies : goal.totals_of-messages-requires-clause-tallies
@@ -38,7 +44,7 @@ totals_of-messages-requires-clause-tallies c =
     record {
       stations = (finished s).stations;
       ran = finished_ran s (lawful_is_linked s c.requires.lawful) c.args.stations.items c.requires.run.each;
-      tallies = tallied s c.args.stations.items _ c.in_ok-tallies.tallies _ c.requires.run.each c.deref.ensures.value c.in_ok-tallies.ensures c.as_slice-3.ensures;
+      tallies = tallied s c.args.stations.items _ c.in_ok-tallies.tallies _ c.requires.run.each c.deref.ensures.value c.in_ok-tallies.ensures c.as_slice-2.ensures;
     }
 
 pub returns : goal.returns
@@ -49,6 +55,6 @@ returns c =
       journals = c.in_ok-journals_of.ensures ∙ stations-told s (finished s).stations c.args.stations.items c.requires.run.each;
       places = c.in_ok-places.ensures (finished s).stations ran (tallied s c.args.stations.items _ c.in_ok-tallies.tallies _ c.requires.run.each c.deref.ensures.value c.in_ok-tallies.ensures c.as_slice.ensures);
       rings = c.new-2.ensures ∙ c.new.ensures.items;
-      channels = c.in_ok-channels.ensures (finished s).stations ran (tallied s c.args.stations.items _ c.in_ok-tallies.tallies _ c.requires.run.each c.deref.ensures.value c.in_ok-tallies.ensures c.as_slice-2.ensures);
-      messages = c.totals_of-messages.ensures (finished s).stations ran (tallied s c.args.stations.items _ c.in_ok-tallies.tallies _ c.requires.run.each c.deref.ensures.value c.in_ok-tallies.ensures c.as_slice-3.ensures);
+      channels = c.in_ok-channels.ensures (finished s).stations ran (ended s c.args.stations.items _ c.requires.run.each c.deref-2.ensures.value);
+      messages = c.totals_of-messages.ensures (finished s).stations ran (tallied s c.args.stations.items _ c.in_ok-tallies.tallies _ c.requires.run.each c.deref.ensures.value c.in_ok-tallies.ensures c.as_slice-2.ensures);
     }

@@ -35,7 +35,7 @@ bounds-tallies-to c =
 
 -- a tally that is none, for places that the list has not
 abbrev none : Tally
-none = record { counts = record { puts = []; takes = []; sent = 0; brought = 0; lost = 0 }; deleted = 0; held = record { queued = 0; channels = 0; places = [] } }
+none = record { counts = record { puts = []; takes = []; sent = 0; brought = 0; lost = 0 }; deleted = 0; held = record { queued = 0; places = [] } }
 
 -- those of the domains at two places
 tallies_at : (s : Scenario) → IsLinkedBoard s → (ts : List Station) → RanBoard s ts → (ys : List Tally) → AreTallies s ts ys → (ns : List ℕ) → ns ≡ numbers_of s → (i j : ℕ) → i < length ns → j < length ns → AreTalliesOf s ts (get_or ns i 0) (get_or ns j 0) (get_or ys i none) (get_or ys j none)

@@ -31,9 +31,11 @@ returns c =
       state = c.in_ok-domain.ensures.state ∙ ap (λ (ns : List Neighbour). opening d.domain d.nodes ns) (neighbours-opened c.args._scenario.now c.requires.board d c.args.links.items c.requires.links);
       ends = c.in_ok-domain.ensures.ends;
       requests = c.in_ok-domain.ensures.ids;
+      packets = c.in_ok-domain.ensures.packets;
       told = c.in_ok-journal.ensures.lines;
       number = refl;
       labels = λ label. ap (lookup (is_at (λ k. slice_cmp nat_cmp label k.now))) c.new-2.ensures.empty;
+      packet_labels = λ label. ap (lookup (is_at (λ k. slice_cmp nat_cmp label k.now))) c.new-3.ensures.empty;
       dropped = refl;
       domain_number = refl;
     }

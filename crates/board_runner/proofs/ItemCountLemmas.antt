@@ -1,0 +1,113 @@
+-- Counting the items of channels line by line, and station by station.
+use Rattle.std.proofs.Common.{◌≡◌, ℕ, zero, suc, ◌+◌, ◌≤◌, ◌<◌, ◌^◌, Bool, true, false, cond, List, [], ◌∷◌, ◌++◌, length, take, drop, Option, Some, refl, sym, ap, ◌∙◌, subst, arith, add-one, take-append-drop, sum_by}
+use Rattle.std.specs.Prelude.{◌==◌, count_by, slice_get, slice_index}
+use Rattle.std.proofs.lemmas.List.Sums.{sum_by-cons, sum_by-append}
+use Rattle.board_model.specs.Channels.{is_numbered}
+use Rattle.board_model.specs.Journal.{Line}
+use Rattle.board_model.proofs.ListsCounts.{count-append}
+use Rattle.board_runner.specs.declared.items.ItemCounts.{ItemCounts}
+use Rattle.board_runner.specs.declared.station.Station.{Station}
+use Rattle.board_runner.specs.Counts.{one_if}
+use Rattle.board_runner.specs.Items.{is_item_put, is_item_taken, is_item_lost, is_close_put, told_in, closed_after}
+use Rattle.board_runner.specs.ItemCounts.{CountsLine, CountsStation, HasRoomFor, HasRoomForStation, sent_at, brought_at, dropped_at}
+use Rattle.board_runner.proofs.ClosedLines.{closing_last, closed-append, closing-append}
+use Rattle.board_runner.proofs.CountLemmas.{one_more}
+
+-- ---- one line more
+
+take_next : {A : Type 0} (xs : List A) (i : ℕ) (x : A) → Some x ≡ slice_get xs i → take (suc i) xs ≡ take i xs ++ x ∷ []
+take_next [] i x at = absurd cc
+take_next (y ∷ ys) zero x at = let same : x ≡ y = cc in ap (λ z. z ∷ []) (sym same)
+take_next (y ∷ ys) (suc i) x at = ap (λ zs. y ∷ zs) (take_next ys i x at)
+
+pub take_more : {A : Type 0} (xs : List A) (i : ℕ) (x : A) → Some x ≡ slice_get xs i → take (i + 1) xs ≡ take i xs ++ x ∷ []
+take_more xs i x at = ap (λ k. take k xs) (add-one i) ∙ take_next xs i x at
+
+module _ (o n : ℕ) (lines : List Line) where
+  abbrev so_far : ℕ → ℕ
+  so_far i = closed_after o n false (take i lines)
+
+  pub closed_next : (i : ℕ) (l : Line) → Some l ≡ slice_get lines i → so_far (i + 1) ≡ so_far i + cond (closing_last o n false (take i lines)) (told_in l) 0
+  closed_next i l at = omega (arith, ap (closed_after o n false) (take_more lines i l at), closed-append o n false (take i lines) (l ∷ []))
+
+  pub closing_next : (i : ℕ) (l : Line) → Some l ≡ slice_get lines i → closing_last o n false (take (i + 1) lines) ≡ is_close_put o n l
+  closing_next i l at = ap (closing_last o n false) (take_more lines i l at) ∙ closing-append o n false (take i lines) (l ∷ [])
+
+  pub closed_below : (i : ℕ) → so_far i ≤ closed_after o n false lines
+  closed_below i = omega (arith, ap (closed_after o n false) (sym (take-append-drop i lines)), closed-append o n false (take i lines) (drop i lines))
+
+pub count_below : (p : Line → Bool) (lines : List Line) (i : ℕ) → count_by p (take i lines) ≤ count_by p lines
+count_below p lines i = omega (arith, ap (count_by p) (sym (take-append-drop i lines)), count-append p (take i lines) (drop i lines))
+
+-- ---- the lines of a station, so far
+
+pub record CountsSoFar (owner : ℕ) (own : Bool) (lines : List Line) (i : ℕ) (closing : Option ℕ) (old new : ItemCounts) : Type 0 where
+  pub sent : (n : ℕ) → n < length old.sent.items → slice_index new.sent.items n ≡ slice_index old.sent.items n + cond own (count_by (is_item_put n) (take i lines)) 0
+  pub brought : (n : ℕ) → n < length old.brought.items → slice_index new.brought.items n ≡ slice_index old.brought.items n + count_by (is_item_taken owner n) (take i lines)
+  pub dropped : (n : ℕ) → n < length old.dropped.items → slice_index new.dropped.items n ≡ slice_index old.dropped.items n + (count_by (is_item_lost owner n) (take i lines) + closed_after owner n false (take i lines))
+  pub closes : (n : ℕ) → is_numbered n closing ≡ closing_last owner n false (take i lines)
+  pub sent_places : length new.sent.items ≡ length old.sent.items
+  pub brought_places : length new.brought.items ≡ length old.brought.items
+  pub dropped_places : length new.dropped.items ≡ length old.dropped.items
+
+own_more : (b : Bool) (p : Line → Bool) (lines : List Line) (i : ℕ) (l : Line) → Some l ≡ slice_get lines i → cond b (count_by p (take (i + 1) lines)) 0 ≡ cond b (count_by p (take i lines)) 0 + cond b (one_if (p l)) 0
+own_more true p lines i l at = one_more p lines i l at
+own_more false p lines i l at = refl
+
+own_below : (b : Bool) (p : Line → Bool) (lines : List Line) (i : ℕ) → cond b (count_by p (take i lines)) 0 ≤ cond b (count_by p lines) 0
+own_below true p lines i = count_below p lines i
+own_below false p lines i = omega arith
+
+-- there is room for one line more
+pub room_for_line : (owner : ℕ) (own : Bool) (st : Station) (i : ℕ) (closing : Option ℕ) (l : Line) (old new : ItemCounts) → own ≡ (st.domain_number == owner) → Some l ≡ slice_get st.journal.lines i → HasRoomForStation owner st old → CountsSoFar owner own st.journal.lines i closing old new → HasRoomFor owner own closing l new
+room_for_line owner own st i closing l old new is at room so = record {
+  sent = λ n within.
+      let inside : n < length old.sent.items = omega (arith, within, so.sent_places) in
+      let fits : slice_index old.sent.items n + cond own (count_by (is_item_put n) st.journal.lines) 0 < 2 ^ 64 = subst (λ b. slice_index old.sent.items n + cond b (count_by (is_item_put n) st.journal.lines) 0 < 2 ^ 64) (sym is) (room.sent n inside) in
+      omega (arith, fits, so.sent n inside, own_more own (is_item_put n) st.journal.lines i l at, own_below own (is_item_put n) st.journal.lines (i + 1));
+  brought = λ n within.
+      let inside : n < length old.brought.items = omega (arith, within, so.brought_places) in
+      omega (arith, room.brought n inside, so.brought n inside, one_more (is_item_taken owner n) st.journal.lines i l at, count_below (is_item_taken owner n) st.journal.lines (i + 1));
+  dropped = λ n within.
+      let inside : n < length old.dropped.items = omega (arith, within, so.dropped_places) in
+      omega (
+        arith,
+        room.dropped n inside,
+        so.dropped n inside,
+        one_more (is_item_lost owner n) st.journal.lines i l at,
+        count_below (is_item_lost owner n) st.journal.lines (i + 1),
+        closed_next owner n st.journal.lines i l at,
+        closed_below owner n st.journal.lines (i + 1),
+        ap (λ b. cond b (told_in l) 0) (so.closes n),
+      );
+}
+
+pub line_counted : (owner : ℕ) (own : Bool) (lines : List Line) (i : ℕ) (closing next : Option ℕ) (l : Line) (old mid new : ItemCounts) → Some l ≡ slice_get lines i → CountsSoFar owner own lines i closing old mid → CountsLine owner own closing l mid new → ((n : ℕ) → is_numbered n next ≡ is_close_put owner n l) → CountsSoFar owner own lines (i + 1) next old new
+line_counted owner own lines i closing next l old mid new at so more closes = record {
+  sent = λ n within. omega (arith, so.sent n within, more.sent n (omega (arith, within, so.sent_places)), own_more own (is_item_put n) lines i l at);
+  brought = λ n within. omega (arith, so.brought n within, more.brought n (omega (arith, within, so.brought_places)), one_more (is_item_taken owner n) lines i l at);
+  dropped = λ n within.
+      omega (
+        arith,
+        so.dropped n within,
+        more.dropped n (omega (arith, within, so.dropped_places)),
+        one_more (is_item_lost owner n) lines i l at,
+        closed_next owner n lines i l at,
+        ap (λ b. cond b (told_in l) 0) (so.closes n),
+      );
+  closes = λ n. closes n ∙ sym (closing_next owner n lines i l at);
+  sent_places = more.sent_places ∙ so.sent_places;
+  brought_places = more.brought_places ∙ so.brought_places;
+  dropped_places = more.dropped_places ∙ so.dropped_places;
+}
+
+-- all lines were counted
+pub lines_counted : (owner : ℕ) (own : Bool) (st : Station) (i : ℕ) (closing : Option ℕ) (old new : ItemCounts) → own ≡ (st.domain_number == owner) → take i st.journal.lines ≡ st.journal.lines → CountsSoFar owner own st.journal.lines i closing old new → CountsStation owner st old new
+lines_counted owner own st i closing old new is all so = record {
+  sent = λ n within. so.sent n within ∙ ap (λ ls. slice_index old.sent.items n + cond own (count_by (is_item_put n) ls) 0) all ∙ ap (λ b. slice_index old.sent.items n + cond b (count_by (is_item_put n) st.journal.lines) 0) is;
+  brought = λ n within. so.brought n within ∙ ap (λ ls. slice_index old.brought.items n + count_by (is_item_taken owner n) ls) all;
+  dropped = λ n within. so.dropped n within ∙ ap (λ ls. slice_index old.dropped.items n + (count_by (is_item_lost owner n) ls + closed_after owner n false ls)) all;
+  sent_places = so.sent_places;
+  brought_places = so.brought_places;
+  dropped_places = so.dropped_places;
+}
