@@ -1,6 +1,7 @@
 # Explains a refusal of mcrun by the tables and forms of docs/FORMATS.md:
 #   awk -v answer='refused 5 form' -f scripts/explain.awk docs/FORMATS.md INPUT
-# The answer is the program's line: `refused LINE REASON` of a scenario, or `wrong PLACE REASON` of a frame.
+# The answer is the program's line: `refused LINE REASON` of a scenario, or `wrong PLACE REASON` of a frame
+# or an image.
 
 BEGIN { split(answer, refusal, " ") }
 
@@ -30,7 +31,7 @@ file == 1 && /^PORT and the P of a name are/ { ranges = $0; sub(/[.] .*/, ".", r
 file == 2 && FNR == refusal[2] { refused_line = $0; there_is_line = 1; exit }
 
 END {
-    if (refusal[1] == "wrong") frame()
+    if (refusal[1] == "wrong") wrong()
     else if (refusal[1] == "refused") scenario()
 }
 
@@ -38,7 +39,8 @@ function unquoted(text) { gsub(/`/, "", text); return text }
 
 function say(text) { print "mcrun: " text }
 
-function frame() {
+# A frame or an image.
+function wrong() {
     if (refusal[3] == "hex")
         say("the input spells no bytes: the byte at " refusal[2] " is no hexadecimal digit, or the digits there end as an odd number")
     else

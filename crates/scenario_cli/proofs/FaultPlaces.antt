@@ -12,7 +12,8 @@ use Rattle.mc_base.specs.declared.fault.Fault.{Fault}
 use Rattle.mc_base.specs.declared.fault.Fault.TheVariants as fault_of
 use Rattle.board_model.specs.Dealing.{fault_word}
 use Rattle.board_model.specs.Words.{fate_text}
-use Rattle.scenario_cli.specs.FrameText.{wrong_line, fault_line, frame_wrong}
+use Rattle.scenario_cli.specs.WrongText.{wrong_line}
+use Rattle.scenario_cli.specs.FrameText.{fault_line, frame_wrong}
 use Rattle.scenario_cli.specs.Places.{place_in}
 
 -- a row of the tables has the place that is told of its fault

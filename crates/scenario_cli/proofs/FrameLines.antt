@@ -4,7 +4,8 @@ use Rattle.std.specs.Prelude.{codes, decimal, if◌then◌else◌}
 use Rattle.mc_base.specs.Letter.{PlainLetter, msg, connect, accept, reject, recv_open, send_open, packet, scalar, send_close, recv_close}
 use Rattle.board_model.specs.Grammar.{spaced}
 use Rattle.scenario_cli.specs.Hex.{hex_fault, bytes_spelled}
-use Rattle.scenario_cli.specs.FrameText.{right_line, wrong_line, letter_words, announcement_words, frame_wrong, wrong_by, wrong_in, IsFrameText, TellsRight}
+use Rattle.scenario_cli.specs.WrongText.{wrong_line}
+use Rattle.scenario_cli.specs.FrameText.{right_line, letter_words, announcement_words, frame_wrong, wrong_by, wrong_in, IsFrameText, TellsRight}
 use Rattle.scenario_cli.specs.Content.{IsToldOf, says, fails}
 use Rattle.scenario_cli.specs.Due.{IsFrameDue, right, wrong}
 

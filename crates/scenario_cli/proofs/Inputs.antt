@@ -5,10 +5,13 @@ use Rattle.std.specs.Io.KnownBytes.{Consumes, IsAtEnd}
 use Rattle.board_model.specs.declared.scenario.Scenario.{Scenario}
 use Rattle.board_model.specs.Language.{IsLawfulBoard, RefusedLine}
 use Rattle.board_model.proofs.LawfulRuns.{lawful_run, lawful_headline}
+use Rattle.ring_trace.specs.declared.checking.ImageInfo.{ImageInfo}
+use Rattle.ring_trace.specs.declared.checking.ImageFault.{ImageFault}
 use Rattle.scenario_cli.specs.declared.form.Form.{Form}
 use Rattle.scenario_cli.specs.Words.{input_limit}
 use Rattle.scenario_cli.specs.FrameText.{wrong_in}
-use Rattle.scenario_cli.specs.Due.{IsDue, IsScenario, IsRefused, IsSoundReport, IfScenario, IfNoScenario, IfSoundFrame, IfNoSoundFrame, DueFits}
+use Rattle.scenario_cli.specs.ImageText.{IsImage, IsNoImage}
+use Rattle.scenario_cli.specs.Due.{IsDue, IsScenario, IsRefused, IsSoundReport, IfScenario, IfNoScenario, IfSoundFrame, IfNoSoundFrame, IfSoundImage, IfNoSoundImage, DueFits}
 
 -- all that the source had was read
 pub all_read : (all rest text : List ℕ) → all ≡ text ++ rest → rest ≡ [] → all ≡ text
@@ -31,6 +34,12 @@ if_sound old new text P read end h = if_text old new text (λ t. length t ≤ in
 
 pub if_unsound : (old new : Option (List ℕ)) (text : List ℕ) (P : Type 0) → Consumes old new text → IsAtEnd new → (IsSome (wrong_in text) → P) → IfNoSoundFrame old P
 if_unsound old new text P read end h = if_text old new text (λ t. length t ≤ input_limit → IsSome (wrong_in t) → P) read end (λ fits. h)
+
+pub if_image : (old new : Option (List ℕ)) (bytes : List ℕ) (P : Type 0) → Consumes old new bytes → IsAtEnd new → ((info : ImageInfo) → IsImage bytes info → P) → IfSoundImage old P
+if_image old new bytes P read end h = if_text old new bytes (λ t. length t ≤ input_limit → (info : ImageInfo) → IsImage t info → P) read end (λ fits. h)
+
+pub if_no_image : (old new : Option (List ℕ)) (bytes : List ℕ) (P : Type 0) → Consumes old new bytes → IsAtEnd new → ((fault : ℕ × ImageFault) → IsNoImage bytes fault → P) → IfNoSoundImage old P
+if_no_image old new bytes P read end h = if_text old new bytes (λ t. length t ≤ input_limit → (fault : ℕ × ImageFault) → IsNoImage t fault → P) read end (λ fits. h)
 
 -- whatever is due for the text that was read has at most so many bytes
 pub due_fits : (form : Form) (old new : Option (List ℕ)) (text : List ℕ) (n : ℕ) → Consumes old new text → IsAtEnd new → DueFits form old n → (due : List ℕ) → IsDue form text due → length due ≤ n

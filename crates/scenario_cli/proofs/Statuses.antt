@@ -29,3 +29,10 @@ one_left n (inr (inl e)) ne = inl e
 one_left n (inr (inr (inl e))) ne = inr (inr (inl e))
 one_left n (inr (inr (inr (inl e)))) ne = inr (inr (inr (inl e)))
 one_left n (inr (inr (inr (inr h)))) ne = absurd h
+
+-- a call that takes no memory has one status less
+pub or_no_memory : (n : ℕ) → IsOneOf (0 ∷ 1 ∷ 5 ∷ []) n → IsOneOf (0 ∷ 1 ∷ 5 ∷ 6 ∷ []) n
+or_no_memory n (inl e) = inl e
+or_no_memory n (inr (inl e)) = inr (inl e)
+or_no_memory n (inr (inr (inl e))) = inr (inr (inl e))
+or_no_memory n (inr (inr (inr h))) = absurd h

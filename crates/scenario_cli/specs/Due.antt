@@ -10,11 +10,14 @@ use Rattle.board_model.specs.SerialRun.{serial_run}
 use Rattle.board_model.specs.Report.{report}
 use Rattle.board_model.specs.Headline.{Headline}
 use Rattle.outer_io.specs.Writes.{AppendsPart}
+use Rattle.ring_trace.specs.declared.checking.ImageInfo.{ImageInfo}
+use Rattle.ring_trace.specs.declared.checking.ImageFault.{ImageFault}
 use Rattle.scenario_cli.specs.declared.form.Form.{Form}
-use Rattle.scenario_cli.specs.declared.form.Form.TheVariants.{SerialRun, Frame}
+use Rattle.scenario_cli.specs.declared.form.Form.TheVariants.{SerialRun, Frame, Ring}
 use Rattle.scenario_cli.specs.Words.{input_limit}
 use Rattle.scenario_cli.specs.RefusedText.{refusal_text}
 use Rattle.scenario_cli.specs.FrameText.{TellsRight, TellsWrong, wrong_in}
+use Rattle.scenario_cli.specs.ImageText.{IsImage, IsNoImage, IsImageDue, image_line, image_fault_line}
 
 -- the text tells this scenario
 abbrev pub IsScenario : List ℕ → Scenario → Type 0
@@ -44,6 +47,7 @@ pub data IsFrameDue (text output : List ℕ) : Type 0 where
 abbrev pub IsDue : Form → List ℕ → List ℕ → Type 0
 IsDue SerialRun text output = IsRunDue text output
 IsDue Frame text output = IsFrameDue text output
+IsDue Ring bytes output = IsImageDue bytes output
 
 -- the whole report was written, of an input within the limit
 abbrev pub Reports : Option (List ℕ) → Option (List ℕ) → Option (List ℕ) → Type 0
@@ -60,6 +64,14 @@ IsRight rest old new = IfSome rest (λ text. (length text ≤ input_limit) × ((
 -- what is wrong was written, of an input within the limit that is no sound frame
 abbrev pub IsWrong : Option (List ℕ) → Option (List ℕ) → Option (List ℕ) → Type 0
 IsWrong rest old new = IfSome rest (λ text. (length text ≤ input_limit) × ((output : List ℕ) × TellsWrong text output × Appends old new output))
+
+-- what the image is of was written, of an input within the limit that is an image without a fault
+abbrev pub IsRightImage : Option (List ℕ) → Option (List ℕ) → Option (List ℕ) → Type 0
+IsRightImage rest old new = IfSome rest (λ bytes. (length bytes ≤ input_limit) × ((info : ImageInfo) × IsImage bytes info × Appends old new (image_line info)))
+
+-- the first fault and its place were written, of an input within the limit that is no such image
+abbrev pub IsWrongImage : Option (List ℕ) → Option (List ℕ) → Option (List ℕ) → Type 0
+IsWrongImage rest old new = IfSome rest (λ bytes. (length bytes ≤ input_limit) × ((fault : ℕ × ImageFault) × IsNoImage bytes fault × Appends old new (image_fault_line fault)))
 
 -- a proper prefix of the output that is due for the input was written
 abbrev pub BreaksOff : Form → Option (List ℕ) → Option (List ℕ) → Option (List ℕ) → Type 0
@@ -91,6 +103,13 @@ IfSoundFrame rest P = IfSome rest (λ text. length text ≤ input_limit → wron
 
 abbrev pub IfNoSoundFrame : Option (List ℕ) → Type 0 → Type 0
 IfNoSoundFrame rest P = IfSome rest (λ text. length text ≤ input_limit → IsSome (wrong_in text) → P)
+
+-- for an input within the limit: that is an image without a fault, or that is none
+abbrev pub IfSoundImage : Option (List ℕ) → Type 0 → Type 0
+IfSoundImage rest P = IfSome rest (λ bytes. length bytes ≤ input_limit → (info : ImageInfo) → IsImage bytes info → P)
+
+abbrev pub IfNoSoundImage : Option (List ℕ) → Type 0 → Type 0
+IfNoSoundImage rest P = IfSome rest (λ bytes. length bytes ≤ input_limit → (fault : ℕ × ImageFault) → IsNoImage bytes fault → P)
 
 abbrev pub IfTooLong : Option (List ℕ) → Type 0 → Type 0
 IfTooLong rest P = IfSome rest (λ text. input_limit < length text → P)

@@ -13,6 +13,7 @@ use Rattle.board_model.specs.Grammar.{kind_text, line_of}
 use Rattle.board_model.specs.Dealing.{fault_word}
 use Rattle.board_model.specs.Words.{fate_text, reason_text}
 use Rattle.scenario_cli.specs.Hex.{hex_fault, bytes_spelled}
+use Rattle.scenario_cli.specs.WrongText.{wrong_line}
 
 -- the words of a letter
 abbrev pub letter_words : PlainLetter → List (List ℕ)
@@ -39,10 +40,6 @@ right_line src dst words = line_of (codes "right" ∷ decimal src ∷ decimal ds
 pub data IsFrameText (frame line : List ℕ) : Type 0 where
   of_letter : (src dst : ℕ) (payload : List ℕ) (l : PlainLetter) → IsFrame frame src dst payload → dst ≢ name_service_address → IsLetter payload l → line ≡ right_line src dst (letter_words l) → IsFrameText frame line
   of_announcement : (src : ℕ) (payload name : List ℕ) (address : ℕ) (create : Bool) → IsFrame frame src name_service_address payload → IsNs payload name address create → line ≡ right_line src name_service_address (announcement_words name address create) → IsFrameText frame line
-
--- the line of what is wrong at a place
-abbrev pub wrong_line : ℕ → List ℕ → List ℕ
-wrong_line place reason = line_of (codes "wrong" ∷ decimal place ∷ reason ∷ [])
 
 abbrev pub fault_line : FaultRow Fault → List ℕ
 fault_line r = wrong_line r.place (fate_text (fault_word r.fault))

@@ -1,7 +1,9 @@
 pub mod Words
 pub mod RefusedText
+pub mod WrongText
 pub mod Hex
 pub mod FrameText
+pub mod ImageText
 pub mod Due
 pub mod HexFault
 pub mod Places

@@ -3,7 +3,7 @@
 use Rattle.std.specs.Prelude.{◌≡◌, ◌⊎◌, ℕ, List, [], ◌∷◌, map, codes, string_bytes, String}
 use Rattle.std.specs.Global.{Global}
 use Rattle.scenario_cli.specs.declared.form.Form.{Form}
-use Rattle.scenario_cli.specs.declared.form.Form.TheVariants.{SerialRun, Frame}
+use Rattle.scenario_cli.specs.declared.form.Form.TheVariants.{SerialRun, Frame, Ring}
 
 -- the words as bytes
 abbrev pub words_of : List (String Global) → List (List ℕ)
@@ -13,9 +13,15 @@ words_of words = map (λ w. string_bytes w) words
 abbrev pub form_words : Form → List (List ℕ)
 form_words SerialRun = codes "run" ∷ codes "--serial" ∷ []
 form_words Frame = codes "frame" ∷ []
+form_words Ring = codes "ring" ∷ []
 
 abbrev pub IsForm : Form → List (List ℕ) → Type 0
 IsForm form words = words ≡ form_words form
+
+-- the words are those of one of these forms
+abbrev pub IsOneOfForms : List Form → List (List ℕ) → Type 0
+IsOneOfForms [] words = ⊥
+IsOneOfForms (f ∷ fs) words = IsForm f words ⊎ IsOneOfForms fs words
 
 abbrev pub IsNoForm : List (List ℕ) → Type 0
 IsNoForm words = (form : Form) → IsForm form words → ⊥

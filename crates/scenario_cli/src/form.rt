@@ -10,6 +10,8 @@ pub enum Form {
     SerialRun,
     /// `frame`: the hexadecimal text of a frame in, what it says or its first fault out.
     Frame,
+    /// `ring`: the bytes of the image of a ring in, what it is of or its first fault out.
+    Ring,
 }
 
 /// The form that the words are, or `None` where they are none.
@@ -18,19 +20,21 @@ pub fn form_of(words: &[String]) -> Option<Form>
     ensures none { IsNone result → IsNoForm (words_of words.now) }
 {
     match words {
-        [word] => frame_form(word),
+        [word] => word_form(word),
         [first, second] => run_form(first, second),
         _ => None,
     }
 }
 
 /// The form of one word.
-fn frame_form(word: &String) -> Option<Form>
+fn word_form(word: &String) -> Option<Form>
     ensures form { IfSome result (λ form. IsForm form (string_bytes word.now ∷ [])) }
     ensures none { IsNone result → IsNoForm (string_bytes word.now ∷ []) }
 {
     if word.as_str() == "frame" {
         Some(Form::Frame)
+    } else if word.as_str() == "ring" {
+        Some(Form::Ring)
     } else {
         None
     }

@@ -15,11 +15,12 @@ mod words;
 
 use crate::hex::{HexFault, read_hex};
 use crate::status::{self, after_write};
+use crate::wrong::write_wrong;
 use content::read_content;
 use fault::{fault_word, place_of};
 use outer_io::Sink;
 use std::alloc::Global;
-use words::{write_right, write_wrong};
+use words::write_right;
 
 /// Writes what the frame of a text says, or what is wrong with the text or the frame and where. Returns the status.
 pub fn tell_frame<K: Sink>(alloc: Global, text: &[u8], output: &mut K) -> u8

@@ -4,9 +4,11 @@
 mod form;
 mod frame;
 mod hex;
+mod image;
 mod refused;
 mod run;
 mod status;
 mod top;
+mod wrong;
 
 pub use top::mcrun;

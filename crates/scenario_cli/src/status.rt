@@ -7,7 +7,7 @@ use outer_io::Failed;
 /// The input was read to its end, and the output is written whole.
 pub const DONE: u8 = 0;
 
-/// The input is not a sound frame.
+/// What the input is to be, a frame or an image, has a fault.
 pub const WRONG: u8 = 1;
 
 /// The words are none of the forms.

@@ -3,12 +3,13 @@ ghost use Rattle.std.specs.Io.KnownBytes.{Appends, Keeps, IsAtEnd};
 ghost use Rattle.outer_io.specs.Faults.{Rose};
 ghost use Rattle.outer_io.specs.Calls.{CountsOne};
 ghost use Rattle.outer_io.specs.Writes.{AppendsPart};
-ghost use Rattle.scenario_cli.specs.declared.form.Form.TheVariants.{SerialRun, Frame};
-ghost use Rattle.scenario_cli.specs.Words.{words_of, IsForm, IsNoForm, usage_text, IsOneOf};
-ghost use Rattle.scenario_cli.specs.Due.{Reports, Refuses, IsRight, IsWrong, BreaksOff, IsTooLong, IsSoundReport, IfScenario, IfNoScenario, IfSoundFrame, IfNoSoundFrame, IfTooLong, DueFits};
+ghost use Rattle.scenario_cli.specs.declared.form.Form.TheVariants.{SerialRun, Frame, Ring};
+ghost use Rattle.scenario_cli.specs.Words.{words_of, IsForm, IsNoForm, IsOneOfForms, usage_text, IsOneOf};
+ghost use Rattle.scenario_cli.specs.Due.{Reports, Refuses, IsRight, IsWrong, IsRightImage, IsWrongImage, BreaksOff, IsTooLong, IsSoundReport, IfScenario, IfNoScenario, IfSoundFrame, IfNoSoundFrame, IfSoundImage, IfNoSoundImage, IfTooLong, DueFits};
 
 use crate::form::{Form, form_of};
 use crate::frame::tell_frame;
+use crate::image::tell_image;
 use crate::run::run_text;
 use crate::status::{self, after_write};
 use outer_io::{ReadFault, Sink, Source, read_all, write_all};
@@ -24,12 +25,13 @@ const INPUT_LIMIT: usize = 8_388_608;
 /// Does what the words say with the input, writes the output, and returns the status to end with.
 ///
 /// The form `run --serial` reads a scenario and writes the report of its serial run. The form `frame` reads the hexadecimal
-/// text of a frame and writes what the frame says, or its first fault and the place of it.
+/// text of a frame and writes what the frame says, or its first fault and the place of it. The form `ring` reads the image of a
+/// ring, as its bytes, and writes its size, its queue and its two indices, or its first fault and the place of it.
 ///
-/// The statuses are 0 where the report was written or the frame is sound, 1 where the input is not a sound frame, 2 where
-/// the words are none of the forms and the usage was written, 3 where the input is not a scenario and the refusal was
-/// written, 4 where a read failed, 5 where a write failed, 6 where an allocation failed, and 7 where the input has more than
-/// 8,388,608 bytes. Words come first, then reading, the grammar or the frame, running, and writing.
+/// The statuses are 0 where the report was written or the frame or image is sound, 1 where the input is not a sound frame or
+/// image, 2 where the words are none of the forms and the usage was written, 3 where the input is not a scenario and the refusal
+/// was written, 4 where a read failed, 5 where a write failed, 6 where an allocation failed, and 7 where the input has more than
+/// 8,388,608 bytes. Words come first, then reading, the grammar, the frame or the image, running, and writing.
 pub fn mcrun<T: Threads + Sync, S: Source, K: Sink>(
     _rt: &T,
     alloc: Global,
@@ -47,9 +49,13 @@ pub fn mcrun<T: Threads + Sync, S: Source, K: Sink>(
     // 0 of a frame: what the sound frame says.
     ensures right { IsForm Frame (words_of words.now) → result ≡ 0 → IsRight (S.rest input.old) (K.written output.old) (K.written output.new) }
 
-    // 1: exactly where the input is no sound frame. The first fault and its place.
-    ensures wrong { result ≡ 1 → IsWrong (S.rest input.old) (K.written output.old) (K.written output.new) }
-    ensures wrong_words { result ≡ 1 → IsForm Frame (words_of words.now) }
+    // 0 of an image: its size, its queue and its indices.
+    ensures right_image { IsForm Ring (words_of words.now) → result ≡ 0 → IsRightImage (S.rest input.old) (K.written output.old) (K.written output.new) }
+
+    // 1: exactly where the input is no sound frame, or no sound image. The first fault and its place.
+    ensures wrong { IsForm Frame (words_of words.now) → result ≡ 1 → IsWrong (S.rest input.old) (K.written output.old) (K.written output.new) }
+    ensures wrong_image { IsForm Ring (words_of words.now) → result ≡ 1 → IsWrongImage (S.rest input.old) (K.written output.old) (K.written output.new) }
+    ensures wrong_words { result ≡ 1 → IsOneOfForms (Frame ∷ Ring ∷ []) (words_of words.now) }
 
     // 2: exactly where the words are none of the forms. Nothing is read.
     ensures usage_words { result ≡ 2 → IsNoForm (words_of words.now) }
@@ -86,6 +92,8 @@ pub fn mcrun<T: Threads + Sync, S: Source, K: Sink>(
     ensures no_scenario { IsForm SerialRun (words_of words.now) → IfNoScenario (S.rest input.old) (IsOneOf (3 ∷ 4 ∷ 5 ∷ 6 ∷ []) result) }
     ensures sound_frame { IsForm Frame (words_of words.now) → IfSoundFrame (S.rest input.old) (IsOneOf (0 ∷ 4 ∷ 5 ∷ 6 ∷ []) result) }
     ensures unsound_frame { IsForm Frame (words_of words.now) → IfNoSoundFrame (S.rest input.old) (IsOneOf (1 ∷ 4 ∷ 5 ∷ 6 ∷ []) result) }
+    ensures sound_image { IsForm Ring (words_of words.now) → IfSoundImage (S.rest input.old) (IsOneOf (0 ∷ 4 ∷ 5 ∷ 6 ∷ []) result) }
+    ensures unsound_image { IsForm Ring (words_of words.now) → IfNoSoundImage (S.rest input.old) (IsOneOf (1 ∷ 4 ∷ 5 ∷ 6 ∷ []) result) }
     ensures over_limit { (form : Form) → IsForm form (words_of words.now) → IfTooLong (S.rest input.old) (IsOneOf (4 ∷ 6 ∷ 7 ∷ []) result) }
     ensures sound_source { S.never_fails input.old → result ≢ 4 }
     ensures sound_sink { (form : Form) (n : ℕ) → IsForm form (words_of words.now) → DueFits form (S.rest input.old) n → K.takes output.old n → result ≢ 5 }
@@ -98,6 +106,7 @@ pub fn mcrun<T: Threads + Sync, S: Source, K: Sink>(
         Ok(text) => match form {
             Form::SerialRun => run_text(alloc, &text, output),
             Form::Frame => tell_frame(alloc, &text, output),
+            Form::Ring => tell_image(&text, output),
         },
         Err(ReadFault::Failed) => status::READ_FAILED,
         Err(ReadFault::TooLong) => status::TOO_LONG,

@@ -8,6 +8,7 @@ use std::thread::Threads;
 mod channels;
 mod eight_linked;
 mod frame;
+mod images;
 mod linked;
 mod payloads;
 mod refusals;
@@ -245,6 +246,34 @@ fn repeated_comes_out<T: Threads + Sync>(
         ..serial(&text)
     };
     comes_out(rt, alloc, given, status, written)
+}
+
+/// Asserts the status and the line of each call.
+fn assert_lines<T: Threads + Sync + Abort>(
+    rt: &T,
+    alloc: Global,
+    rows: &[(Given<'_>, u8, &str)],
+) -> Result<(), Fail> {
+    for (i, (given, status, line)) in rows.iter().enumerate() {
+        assert!(rt;
+            comes_out(rt, alloc, *given, *status, line.as_bytes())?,
+            "row {i}"
+        );
+    }
+    Ok(())
+}
+
+/// Asserts the status and the line that come of each text of one byte, so many times.
+fn assert_limits<T: Threads + Sync + Abort>(
+    rt: &T,
+    alloc: Global,
+    words: &[&str],
+    rows: &[((u8, usize), u8, &str)],
+) -> Result<(), Fail> {
+    for (repeated, status, line) in rows {
+        assert!(rt; repeated_comes_out(rt, alloc, words, *repeated, *status, line.as_bytes())?);
+    }
+    Ok(())
 }
 
 /// Words and a text, and the status and the output that come of them.

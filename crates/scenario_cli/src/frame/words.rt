@@ -8,7 +8,7 @@ ghost use Rattle.outer_io.specs.Faults.{HasCause};
 ghost use Rattle.outer_io.specs.Puts.{Puts};
 ghost use Rattle.outer_io.specs.Writes.{Writes};
 ghost use Rattle.board_model.specs.Grammar.{spaced};
-ghost use Rattle.scenario_cli.specs.FrameText.{letter_words, announcement_words, right_line, wrong_line};
+ghost use Rattle.scenario_cli.specs.FrameText.{letter_words, announcement_words, right_line};
 ghost use Rattle.scenario_cli.specs.Content.{content_line};
 
 use crate::frame::content::Content;
@@ -26,27 +26,6 @@ pub fn write_right<K: Sink>(content: Content<'_>, sink: &mut K) -> Result<(), Fa
     let mut out = Writer::new(sink);
     put_right(&mut out, content);
     out.finish()
-}
-
-/// Writes the line of what is wrong at a place.
-pub fn write_wrong<K: Sink>(place: usize, reason: &[u8], sink: &mut K) -> Result<(), Failed>
-    ensures bytes { Writes (K.written sink.old) (K.written sink.new) result (wrong_line place reason.now) }
-    ensures cause { HasCause (K.faults sink.old) (K.faults sink.new) result }
-    ensures room { (n : ℕ) → K.takes sink.old n → length (wrong_line place reason.now) ≤ n → IsOk result }
-{
-    let mut out = Writer::new(sink);
-    put_wrong(&mut out, place, reason);
-    out.finish()
-}
-
-fn put_wrong<K: Sink>(out: &mut Writer<'_, K>, place: usize, reason: &[u8])
-    ensures { Puts K.Sink out.old out.new (wrong_line place reason.now) }
-{
-    out.put(b"wrong ");
-    out.put_number(place as u64);
-    out.put(b" ");
-    out.put(reason);
-    out.put(b"\n");
 }
 
 fn put_right<K: Sink>(out: &mut Writer<'_, K>, content: Content<'_>)

@@ -1,6 +1,7 @@
 //! Channels end to end: how they are connected, opened and closed, and what the report tells of them.
 
 mod closes;
+mod items;
 mod refusals;
 mod rejects;
 

@@ -1,4 +1,4 @@
-use crate::tests::{EMPTY, Given, comes_out, repeated_comes_out};
+use crate::tests::{EMPTY, Given, assert_limits, assert_lines, comes_out};
 use std::alloc::Global;
 use std::process::Abort;
 use std::test::Fail;
@@ -131,11 +131,7 @@ static LIMITS: [((u8, usize), u8, &str); 4] = [
 /// Inputs of the most bytes and of one more. The place of a frame that is too long is the number of its bytes.
 #[test]
 fn limit_of_the_text(rt: HostRuntime) -> Result<(), Fail> {
-    for (repeated, status, line) in &LIMITS {
-        let written = line.as_bytes();
-        assert!(rt; repeated_comes_out(&rt, rt.alloc(), FRAME, *repeated, *status, written)?);
-    }
-    Ok(())
+    assert_limits(&rt, rt.alloc(), FRAME, &LIMITS)
 }
 
 /// A frame that is sound, and a text that spells none.
@@ -194,11 +190,5 @@ static CUTS: [(Given<'static>, u8, &str); 8] = [
 
 #[test]
 fn streams_that_fail(rt: HostRuntime) -> Result<(), Fail> {
-    for (i, (given, status, written)) in CUTS.iter().enumerate() {
-        assert!(rt;
-            comes_out(&rt, rt.alloc(), *given, *status, written.as_bytes())?,
-            "row {i}"
-        );
-    }
-    Ok(())
+    assert_lines(&rt, rt.alloc(), &CUTS)
 }

@@ -1,5 +1,6 @@
 use Rattle.std.proofs.Common.{◌≡◌, ◌∙◌, List, ℕ, Some, sym, ap₂, arith}
-use Rattle.scenario_cli.specs.FrameText.{frame_wrong, wrong_line}
+use Rattle.scenario_cli.specs.WrongText.{wrong_line}
+use Rattle.scenario_cli.specs.FrameText.{frame_wrong}
 use Rattle.scenario_cli.specs.Content.{says, fails, content_line}
 use Rattle.scenario_cli.proofs.Written.{whole_text, part_text, no_failure, no_other}
 use Rattle.scenario_cli.proofs.FaultPlaces.{wrong_of, nothing_wrong}

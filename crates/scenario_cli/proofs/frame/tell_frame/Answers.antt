@@ -1,6 +1,7 @@
 use Rattle.std.proofs.Common.{◌≡◌, ◌∙◌, Some, arith}
 use Rattle.std.specs.Prelude.{codes}
-use Rattle.scenario_cli.specs.FrameText.{wrong_in, wrong_line}
+use Rattle.scenario_cli.specs.WrongText.{wrong_line}
+use Rattle.scenario_cli.specs.FrameText.{wrong_in}
 use Rattle.scenario_cli.specs.Due.{wrong}
 use Rattle.scenario_cli.proofs.Written.{part_text, no_failure}
 use Rattle.scenario_cli.proofs.FrameLines.{tells_right, due_of, hex_wrong}

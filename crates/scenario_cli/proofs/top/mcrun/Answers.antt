@@ -1,13 +1,16 @@
 use Rattle.std.proofs.Common.{◌≡◌, ◌≤◌, ◌<◌, ℕ, ◌∷◌, [], List, length, refl, arith}
 use Rattle.std.specs.Io.KnownBytes.{Appends}
 use Rattle.outer_io.specs.Writes.{AppendsPart}
-use Rattle.scenario_cli.specs.declared.form.Form.TheVariants.{SerialRun, Frame}
+use Rattle.ring_trace.specs.declared.checking.ImageInfo.{ImageInfo}
+use Rattle.ring_trace.specs.declared.checking.ImageFault.{ImageFault}
+use Rattle.scenario_cli.specs.declared.form.Form.TheVariants.{SerialRun, Frame, Ring}
 use Rattle.scenario_cli.specs.Words.{IsOneOf, input_limit}
 use Rattle.scenario_cli.specs.FrameText.{TellsRight, TellsWrong}
+use Rattle.scenario_cli.specs.ImageText.{IsImage, IsNoImage, image_line, image_fault_line}
 use Rattle.scenario_cli.specs.Due.{IsDue}
 use Rattle.scenario_cli.proofs.WordLemmas.{one_form}
-use Rattle.scenario_cli.proofs.Inputs.{if_text, if_scenario, if_no_scenario, if_sound, if_unsound, due_fits, sound_report}
-use Rattle.scenario_cli.proofs.Statuses.{not_three, not_zero, not_one, one_left}
+use Rattle.scenario_cli.proofs.Inputs.{if_text, if_scenario, if_no_scenario, if_sound, if_unsound, if_image, if_no_image, due_fits, sound_report}
+use Rattle.scenario_cli.proofs.Statuses.{not_three, not_zero, not_one, one_left, or_no_memory}
 use Rattle.scenario_cli.proofs.top.mcrun.Goals as goal
 
 pub returns-in_default-clause-scenario : goal.returns-in_default-clause-scenario
@@ -21,6 +24,12 @@ returns-in_default-clause-sound_frame g c = λ form. absurd (c.in_default.ensure
 
 pub returns-in_default-clause-unsound_frame : goal.returns-in_default-clause-unsound_frame
 returns-in_default-clause-unsound_frame g c = λ form. absurd (c.in_default.ensures.none refl Frame form)
+
+pub returns-in_default-clause-sound_image : goal.returns-in_default-clause-sound_image
+returns-in_default-clause-sound_image g c = λ form. absurd (c.in_default.ensures.none refl Ring form)
+
+pub returns-in_default-clause-unsound_image : goal.returns-in_default-clause-unsound_image
+returns-in_default-clause-unsound_image g c = λ form. absurd (c.in_default.ensures.none refl Ring form)
 
 pub returns-in-SerialRun-clause-headline : goal.returns-in-SerialRun-clause-headline
 returns-in-SerialRun-clause-headline g c = λ form is. sound_report (g.S.Source.rest c.args.input.now)
@@ -44,36 +53,70 @@ returns-in-SerialRun-clause-sound_sink g c = λ f n form fits takes.
     let same : f ≡ SerialRun = one_form f SerialRun _ form (rw c.in-SerialRun.is at c.in-Some.ensures.form) in
     c.run_text.ensures.room n (due_fits SerialRun _ _ _ n (rw (← c.deref.ensures.value) at c.in-Ok.ensures.bytes) c.in-Ok.ensures.end (rw same at fits)) takes
 
-pub returns-in-Ok-clause-right : goal.returns-in-Ok-clause-right
-returns-in-Ok-clause-right g c = λ form is.
+pub returns-in-Frame-clause-right : goal.returns-in-Frame-clause-right
+returns-in-Frame-clause-right g c = λ form is.
     let within : length c.deref-in-Frame.result.now ≤ 8388608 = rw (← c.deref-in-Frame.ensures.value) at c.in-Ok.ensures.within in
     if_text _ _ _ (λ t. (length t ≤ input_limit) × ((output : List ℕ) × TellsRight t output × Appends (g.K.Sink.written c.args.output.now) (g.K.Sink.written c.tell_frame.new.output) output)) (rw (← c.deref-in-Frame.ensures.value) at c.in-Ok.ensures.bytes) c.in-Ok.ensures.end (within, c.tell_frame.ensures.right is)
 
-pub returns-in-Ok-clause-wrong : goal.returns-in-Ok-clause-wrong
-returns-in-Ok-clause-wrong g c = λ is.
+pub returns-in-Frame-clause-wrong : goal.returns-in-Frame-clause-wrong
+returns-in-Frame-clause-wrong g c = λ form is.
     let within : length c.deref-in-Frame.result.now ≤ 8388608 = rw (← c.deref-in-Frame.ensures.value) at c.in-Ok.ensures.within in
     if_text _ _ _ (λ t. (length t ≤ input_limit) × ((output : List ℕ) × TellsWrong t output × Appends (g.K.Sink.written c.args.output.now) (g.K.Sink.written c.tell_frame.new.output) output)) (rw (← c.deref-in-Frame.ensures.value) at c.in-Ok.ensures.bytes) c.in-Ok.ensures.end (within, c.tell_frame.ensures.wrong is)
 
-pub returns-in-Ok-clause-breaks_off : goal.returns-in-Ok-clause-breaks_off
-returns-in-Ok-clause-breaks_off g c = λ f form is.
+pub returns-in-Frame-clause-breaks_off : goal.returns-in-Frame-clause-breaks_off
+returns-in-Frame-clause-breaks_off g c = λ f form is.
     let same : f ≡ Frame = one_form f Frame _ form (rw c.in-Frame.is at c.in-Some.ensures.form) in
     let within : length c.deref-in-Frame.result.now ≤ 8388608 = rw (← c.deref-in-Frame.ensures.value) at c.in-Ok.ensures.within in
     rw same (if_text _ _ _ (λ t. (length t ≤ input_limit) × ((output : List ℕ) × IsDue Frame t output × AppendsPart (g.K.Sink.written c.args.output.now) (g.K.Sink.written c.tell_frame.new.output) output)) (rw (← c.deref-in-Frame.ensures.value) at c.in-Ok.ensures.bytes) c.in-Ok.ensures.end (within, c.tell_frame.ensures.breaks_off is))
 
-pub returns-in-Ok-clause-sound_frame : goal.returns-in-Ok-clause-sound_frame
-returns-in-Ok-clause-sound_frame g c = λ form.
+pub returns-in-Frame-clause-sound_frame : goal.returns-in-Frame-clause-sound_frame
+returns-in-Frame-clause-sound_frame g c = λ form.
     if_sound _ _ _ _ (rw (← c.deref-in-Frame.ensures.value) at c.in-Ok.ensures.bytes) c.in-Ok.ensures.end (λ sound. not_one c.tell_frame.result c.tell_frame.ensures.status (c.tell_frame.ensures.sound sound))
 
-pub returns-in-Ok-clause-unsound_frame : goal.returns-in-Ok-clause-unsound_frame
-returns-in-Ok-clause-unsound_frame g c = λ form.
+pub returns-in-Frame-clause-unsound_frame : goal.returns-in-Frame-clause-unsound_frame
+returns-in-Frame-clause-unsound_frame g c = λ form.
     if_unsound _ _ _ _ (rw (← c.deref-in-Frame.ensures.value) at c.in-Ok.ensures.bytes) c.in-Ok.ensures.end (λ unsound. one_left c.tell_frame.result c.tell_frame.ensures.status (c.tell_frame.ensures.unsound unsound))
 
-pub returns-in-Ok-clause-over_limit : goal.returns-in-Ok-clause-over_limit
-returns-in-Ok-clause-over_limit g c = λ f form.
+pub returns-in-Frame-clause-over_limit : goal.returns-in-Frame-clause-over_limit
+returns-in-Frame-clause-over_limit g c = λ f form.
     let within : length c.deref-in-Frame.result.now ≤ 8388608 = rw (← c.deref-in-Frame.ensures.value) at c.in-Ok.ensures.within in
     if_text _ _ _ (λ t. input_limit < length t → IsOneOf (4 ∷ 6 ∷ 7 ∷ []) c.tell_frame.result) (rw (← c.deref-in-Frame.ensures.value) at c.in-Ok.ensures.bytes) c.in-Ok.ensures.end (λ over. absurd (omega (arith, within, over)))
 
-pub returns-in-Ok-clause-sound_sink : goal.returns-in-Ok-clause-sound_sink
-returns-in-Ok-clause-sound_sink g c = λ f n form fits takes.
+pub returns-in-Frame-clause-sound_sink : goal.returns-in-Frame-clause-sound_sink
+returns-in-Frame-clause-sound_sink g c = λ f n form fits takes.
     let same : f ≡ Frame = one_form f Frame _ form (rw c.in-Frame.is at c.in-Some.ensures.form) in
     c.tell_frame.ensures.room n (due_fits Frame _ _ _ n (rw (← c.deref-in-Frame.ensures.value) at c.in-Ok.ensures.bytes) c.in-Ok.ensures.end (rw same at fits)) takes
+
+pub returns-in-Ok-clause-right_image : goal.returns-in-Ok-clause-right_image
+returns-in-Ok-clause-right_image g c = λ form is.
+    let within : length c.deref-in-Ring.result.now ≤ 8388608 = rw (← c.deref-in-Ring.ensures.value) at c.in-Ok.ensures.within in
+    if_text _ _ _ (λ t. (length t ≤ input_limit) × ((info : ImageInfo) × IsImage t info × Appends (g.K.Sink.written c.args.output.now) (g.K.Sink.written c.tell_image.new.output) (image_line info))) (rw (← c.deref-in-Ring.ensures.value) at c.in-Ok.ensures.bytes) c.in-Ok.ensures.end (within, c.tell_image.ensures.right is)
+
+pub returns-in-Ok-clause-wrong_image : goal.returns-in-Ok-clause-wrong_image
+returns-in-Ok-clause-wrong_image g c = λ form is.
+    let within : length c.deref-in-Ring.result.now ≤ 8388608 = rw (← c.deref-in-Ring.ensures.value) at c.in-Ok.ensures.within in
+    if_text _ _ _ (λ t. (length t ≤ input_limit) × ((fault : ℕ × ImageFault) × IsNoImage t fault × Appends (g.K.Sink.written c.args.output.now) (g.K.Sink.written c.tell_image.new.output) (image_fault_line fault))) (rw (← c.deref-in-Ring.ensures.value) at c.in-Ok.ensures.bytes) c.in-Ok.ensures.end (within, c.tell_image.ensures.wrong is)
+
+pub returns-in-Ok-clause-breaks_off : goal.returns-in-Ok-clause-breaks_off
+returns-in-Ok-clause-breaks_off g c = λ f form is.
+    let same : f ≡ Ring = one_form f Ring _ form (rw c.in-Ring.is at c.in-Some.ensures.form) in
+    let within : length c.deref-in-Ring.result.now ≤ 8388608 = rw (← c.deref-in-Ring.ensures.value) at c.in-Ok.ensures.within in
+    rw same (if_text _ _ _ (λ t. (length t ≤ input_limit) × ((output : List ℕ) × IsDue Ring t output × AppendsPart (g.K.Sink.written c.args.output.now) (g.K.Sink.written c.tell_image.new.output) output)) (rw (← c.deref-in-Ring.ensures.value) at c.in-Ok.ensures.bytes) c.in-Ok.ensures.end (within, c.tell_image.ensures.breaks_off is))
+
+pub returns-in-Ok-clause-sound_image : goal.returns-in-Ok-clause-sound_image
+returns-in-Ok-clause-sound_image g c = λ form.
+    if_image _ _ _ _ (rw (← c.deref-in-Ring.ensures.value) at c.in-Ok.ensures.bytes) c.in-Ok.ensures.end (λ info is. not_one c.tell_image.result (or_no_memory _ c.tell_image.ensures.status) (c.tell_image.ensures.sound info is))
+
+pub returns-in-Ok-clause-unsound_image : goal.returns-in-Ok-clause-unsound_image
+returns-in-Ok-clause-unsound_image g c = λ form.
+    if_no_image _ _ _ _ (rw (← c.deref-in-Ring.ensures.value) at c.in-Ok.ensures.bytes) c.in-Ok.ensures.end (λ fault is. one_left c.tell_image.result (or_no_memory _ c.tell_image.ensures.status) (c.tell_image.ensures.unsound fault is))
+
+pub returns-in-Ok-clause-over_limit : goal.returns-in-Ok-clause-over_limit
+returns-in-Ok-clause-over_limit g c = λ f form.
+    let within : length c.deref-in-Ring.result.now ≤ 8388608 = rw (← c.deref-in-Ring.ensures.value) at c.in-Ok.ensures.within in
+    if_text _ _ _ (λ t. input_limit < length t → IsOneOf (4 ∷ 6 ∷ 7 ∷ []) c.tell_image.result) (rw (← c.deref-in-Ring.ensures.value) at c.in-Ok.ensures.bytes) c.in-Ok.ensures.end (λ over. absurd (omega (arith, within, over)))
+
+pub returns-in-Ok-clause-sound_sink : goal.returns-in-Ok-clause-sound_sink
+returns-in-Ok-clause-sound_sink g c = λ f n form fits takes.
+    let same : f ≡ Ring = one_form f Ring _ form (rw c.in-Ring.is at c.in-Some.ensures.form) in
+    c.tell_image.ensures.room n (due_fits Ring _ _ _ n (rw (← c.deref-in-Ring.ensures.value) at c.in-Ok.ensures.bytes) c.in-Ok.ensures.end (rw same at fits)) takes

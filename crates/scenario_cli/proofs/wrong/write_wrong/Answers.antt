@@ -1,6 +1,6 @@
 use Rattle.std.proofs.Common.{rules}
 use Rattle.outer_io.proofs.Finishing.{finished, puts_same}
-use Rattle.scenario_cli.proofs.frame.words.write_wrong.Goals as goal
+use Rattle.scenario_cli.proofs.wrong.write_wrong.Goals as goal
 
 pub returns-clause-bytes : goal.returns-clause-bytes
 returns-clause-bytes g c =

@@ -1,6 +1,6 @@
 use Rattle.std.proofs.Common.{append_assoc}
 use Rattle.outer_io.proofs.Writing.{puts_then}
-use Rattle.scenario_cli.proofs.frame.words.put_wrong.Goals as goal
+use Rattle.scenario_cli.proofs.wrong.put_wrong.Goals as goal
 
 pub returns : goal.returns
 returns g c =
