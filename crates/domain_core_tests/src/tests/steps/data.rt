@@ -224,3 +224,78 @@ fn packets_are_requested(rt: HostRuntime) -> Result<(), Fail> {
         assert_rows(&rt, lone, &REQUESTED)
     })
 }
+
+/// Sends 64 packets of one byte, each of which is received and stays lent. The frames that opened the channel used the
+/// first four buffers, and a lane's buffers go round.
+fn assert_all_lent(rt: &impl Abort, lone: &mut Lone) -> Result<(), Fail> {
+    for n in 0..64 {
+        let before = (0, u32::from(n));
+        let after = (0, u32::from(n) + 1);
+        let answer = Lent((u16::from(n) + 4) % 64, u64::from(n), 1);
+        let rows = [
+            (SendPacket(1, n, 1), Ok(Number(0)), before),
+            (ReceivePacket(2, n), Ok(answer), after),
+        ];
+        assert_rows(rt, lone, &rows)?;
+    }
+    Ok(())
+}
+
+const ALL_LENT: (u32, u32) = (0, 64);
+
+/// The buffer of the first packet is lent anew, under another serial.
+const LENT_ANEW: [Row; 7] = [
+    (SendPacket(1, 9, 2), Err(Refusal::NoBuffer), ALL_LENT),
+    (Release(4, 0), Ok(Number(0)), (0, 63)),
+    (SendPacket(1, 9, 2), Ok(Number(0)), (0, 63)),
+    (ReceivePacket(2, 9), Ok(Lent(4, 64, 2)), ALL_LENT),
+    (ReadPacket(4, 0, 9), Err(Refusal::BufInvalid), ALL_LENT),
+    (Release(4, 0), Err(Refusal::BufInvalid), ALL_LENT),
+    (Release(4, 64), Ok(Number(0)), (0, 63)),
+];
+
+/// Releases the other 63 in steps of five, and asserts that each id is good once.
+fn assert_others_released(rt: &impl Abort, lone: &mut Lone) -> Result<(), Fail> {
+    for i in 1..64u16 {
+        let n = i * 5 % 64;
+        let release = Release((n + 4) % 64, u64::from(n));
+        let left = (0, 63 - u32::from(i));
+        let rows = [
+            (release, Ok(Number(0)), left),
+            (release, Err(Refusal::BufInvalid), left),
+        ];
+        assert_rows(rt, lone, &rows)?;
+    }
+    Ok(())
+}
+
+#[test]
+fn sixty_four_packets_at_once(rt: HostRuntime) -> Result<(), Fail> {
+    assert_of(Lone::open(rt.alloc(), 1, 64), |lone| {
+        assert_rows(&rt, lone, &opened(Packet))?;
+        assert_all_lent(&rt, lone)?;
+        assert_rows(&rt, lone, &LENT_ANEW)?;
+        assert_others_released(&rt, lone)
+    })
+}
+
+/// Two requests wait when the sender closes. The first has its packet, also once the receiver closes, and the second ends.
+const SENDER_CLOSES: [Row; 9] = [
+    (BeginPacket(2), Ok(Number(1)), NONE_HELD),
+    (BeginPacket(2), Ok(Number(2)), NONE_HELD),
+    (SendPacket(1, 5, 3), Ok(Number(0)), NONE_HELD),
+    (CloseSend(1), Ok(Number(0)), ONE_LENT),
+    (Test(2, 0), Ok(Ended(Refusal::ChanClosed)), ONE_LENT),
+    (ReceivePacket(2, 0), Err(Refusal::ChanClosed), ONE_LENT),
+    (CloseRecv(2), Ok(Number(0)), ONE_LENT),
+    (Test(1, 5), Ok(Lent(0, 0, 3)), ONE_LENT),
+    (Release(0, 0), Ok(Number(0)), NONE_HELD),
+];
+
+#[test]
+fn requests_for_packets_end_where_the_sender_closes(rt: HostRuntime) -> Result<(), Fail> {
+    assert_of(Lone::open(rt.alloc(), 1, 2), |lone| {
+        assert_rows(&rt, lone, &opened(Packet))?;
+        assert_rows(&rt, lone, &SENDER_CLOSES)
+    })
+}

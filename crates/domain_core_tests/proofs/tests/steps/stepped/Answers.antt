@@ -1,4 +1,5 @@
 use Rattle.domain_core.proofs.Going.{ends-go}
+use Rattle.domain_core_tests.proofs.Staying.{stays}
 use Rattle.domain_core_tests.proofs.tests.steps.stepped.Goals as goal
 
 pub returns-in-Delete : goal.returns-in-Delete
@@ -39,3 +40,18 @@ returns-in-BeginPacket g c = ends-go g.S.SendEnd.Moved g.R.RecvEnd.Moved g.met.S
 
 pub returns-in-Release : goal.returns-in-Release
 returns-in-Release g c = ends-go g.S.SendEnd.Moved g.R.RecvEnd.Moved g.met.S.SendEnd.both g.met.R.RecvEnd.both _ _ _ _ _ _ _ _ c.release-answer.ensures.call
+
+pub returns-in-SendPacket : goal.returns-in-SendPacket
+returns-in-SendPacket g c = ends-go g.S.SendEnd.Moved g.R.RecvEnd.Moved g.met.S.SendEnd.both g.met.R.RecvEnd.both _ _ _ _ _ _ _ _ c.pkt_send-answer.ensures.call
+
+pub returns-in-Ok : goal.returns-in-Ok
+returns-in-Ok g c = ends-go g.S.SendEnd.Moved g.R.RecvEnd.Moved g.met.S.SendEnd.both g.met.R.RecvEnd.both _ _ _ _ _ _ _ _ c.pkt_recv.ensures.call
+
+pub returns-in-Err : goal.returns-in-Err
+returns-in-Err g c = ends-go g.S.SendEnd.Moved g.R.RecvEnd.Moved g.met.S.SendEnd.both g.met.R.RecvEnd.both _ _ _ _ _ _ _ _ c.pkt_recv.ensures.call
+
+pub returns-in-ReceiveScalar : goal.returns-in-ReceiveScalar
+returns-in-ReceiveScalar g c = ends-go g.S.SendEnd.Moved g.R.RecvEnd.Moved g.met.S.SendEnd.both g.met.R.RecvEnd.both _ _ _ _ _ _ _ _ c.scl_recv-answer.ensures.call
+
+pub returns-in-ReadPacket : goal.returns-in-ReadPacket
+returns-in-ReadPacket g c = stays g.S.SendEnd.Moved g.R.RecvEnd.Moved g.met.S.SendEnd.none g.met.R.RecvEnd.none c.args.domain.now
