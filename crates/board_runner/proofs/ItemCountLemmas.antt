@@ -1,7 +1,7 @@
 -- Counting the items of channels line by line, and station by station.
-use Rattle.std.proofs.Common.{◌≡◌, ℕ, zero, suc, ◌+◌, ◌≤◌, ◌<◌, ◌^◌, Bool, true, false, cond, List, [], ◌∷◌, ◌++◌, length, take, drop, Option, Some, refl, sym, ap, ◌∙◌, subst, arith, add-one, take-append-drop, sum_by}
+use Rattle.std.proofs.Common.{◌≡◌, ℕ, zero, suc, ◌+◌, ◌≤◌, ◌<◌, ◌^◌, Bool, true, false, cond, List, [], ◌∷◌, ◌++◌, length, take, drop, get_or, Option, Some, None, refl, sym, ap, ◌∙◌, subst, arith, add-one, take-append-drop, sum_by}
 use Rattle.std.specs.Prelude.{◌==◌, count_by, slice_get, slice_index}
-use Rattle.std.proofs.lemmas.List.Sums.{sum_by-cons, sum_by-append}
+use Rattle.std.proofs.lemmas.List.Sums.{sum_by_more, sum_by_more_le}
 use Rattle.board_model.specs.Channels.{is_numbered}
 use Rattle.board_model.specs.Journal.{Line}
 use Rattle.board_model.proofs.ListsCounts.{count-append}
@@ -9,7 +9,7 @@ use Rattle.board_runner.specs.declared.items.ItemCounts.{ItemCounts}
 use Rattle.board_runner.specs.declared.station.Station.{Station}
 use Rattle.board_runner.specs.Counts.{one_if}
 use Rattle.board_runner.specs.Items.{is_item_put, is_item_taken, is_item_lost, is_close_put, told_in, closed_after}
-use Rattle.board_runner.specs.ItemCounts.{CountsLine, CountsStation, HasRoomFor, HasRoomForStation, sent_at, brought_at, dropped_at}
+use Rattle.board_runner.specs.ItemCounts.{CountsLine, CountsStation, HasRoomFor, HasRoomForStation, HavePlaces, HaveSamePlaces, ItemsFit, TellItems, sent_at, brought_at, dropped_at}
 use Rattle.board_runner.proofs.ClosedLines.{closing_last, closed-append, closing-append}
 use Rattle.board_runner.proofs.CountLemmas.{one_more}
 
@@ -58,6 +58,25 @@ own_below : (b : Bool) (p : Line → Bool) (lines : List Line) (i : ℕ) → con
 own_below true p lines i = count_below p lines i
 own_below false p lines i = omega arith
 
+-- before the first line
+pub none_counted : (owner : ℕ) (own : Bool) (lines : List Line) (old : ItemCounts) → CountsSoFar owner own lines 0 None old old
+none_counted owner own lines old = record {
+  sent = λ n within. nothing own n (slice_index old.sent.items n);
+  brought = λ n within. omega arith;
+  dropped = λ n within. omega arith;
+  closes = λ n. refl;
+  sent_places = refl;
+  brought_places = refl;
+  dropped_places = refl;
+}
+  where
+    nothing : (b : Bool) (n x : ℕ) → x ≡ x + cond b (count_by (is_item_put n) (take 0 lines)) 0
+    nothing true n x = omega arith
+    nothing false n x = omega arith
+
+pub places_then : (old mid new : ItemCounts) → HaveSamePlaces old mid → HaveSamePlaces mid new → HaveSamePlaces old new
+places_then old mid new first then = record { sent = then.sent ∙ first.sent; brought = then.brought ∙ first.brought; dropped = then.dropped ∙ first.dropped }
+
 -- there is room for one line more
 pub room_for_line : (owner : ℕ) (own : Bool) (st : Station) (i : ℕ) (closing : Option ℕ) (l : Line) (old new : ItemCounts) → own ≡ (st.domain_number == owner) → Some l ≡ slice_get st.journal.lines i → HasRoomForStation owner st old → CountsSoFar owner own st.journal.lines i closing old new → HasRoomFor owner own closing l new
 room_for_line owner own st i closing l old new is at room so = record {
@@ -82,8 +101,8 @@ room_for_line owner own st i closing l old new is at room so = record {
       );
 }
 
-pub line_counted : (owner : ℕ) (own : Bool) (lines : List Line) (i : ℕ) (closing next : Option ℕ) (l : Line) (old mid new : ItemCounts) → Some l ≡ slice_get lines i → CountsSoFar owner own lines i closing old mid → CountsLine owner own closing l mid new → ((n : ℕ) → is_numbered n next ≡ is_close_put owner n l) → CountsSoFar owner own lines (i + 1) next old new
-line_counted owner own lines i closing next l old mid new at so more closes = record {
+pub line_counted : (owner : ℕ) (own : Bool) (lines : List Line) (i : ℕ) (closing next : Option ℕ) (l : Line) (old mid new : ItemCounts) → Some l ≡ slice_get lines i → CountsSoFar owner own lines i closing old mid → CountsLine owner own closing l mid new → HaveSamePlaces mid new → ((n : ℕ) → is_numbered n next ≡ is_close_put owner n l) → CountsSoFar owner own lines (i + 1) next old new
+line_counted owner own lines i closing next l old mid new at so more same closes = record {
   sent = λ n within. omega (arith, so.sent n within, more.sent n (omega (arith, within, so.sent_places)), own_more own (is_item_put n) lines i l at);
   brought = λ n within. omega (arith, so.brought n within, more.brought n (omega (arith, within, so.brought_places)), one_more (is_item_taken owner n) lines i l at);
   dropped = λ n within.
@@ -96,9 +115,9 @@ line_counted owner own lines i closing next l old mid new at so more closes = re
         ap (λ b. cond b (told_in l) 0) (so.closes n),
       );
   closes = λ n. closes n ∙ sym (closing_next owner n lines i l at);
-  sent_places = more.sent_places ∙ so.sent_places;
-  brought_places = more.brought_places ∙ so.brought_places;
-  dropped_places = more.dropped_places ∙ so.dropped_places;
+  sent_places = same.sent ∙ so.sent_places;
+  brought_places = same.brought ∙ so.brought_places;
+  dropped_places = same.dropped ∙ so.dropped_places;
 }
 
 -- all lines were counted
@@ -107,7 +126,34 @@ lines_counted owner own st i closing old new is all so = record {
   sent = λ n within. so.sent n within ∙ ap (λ ls. slice_index old.sent.items n + cond own (count_by (is_item_put n) ls) 0) all ∙ ap (λ b. slice_index old.sent.items n + cond b (count_by (is_item_put n) st.journal.lines) 0) is;
   brought = λ n within. so.brought n within ∙ ap (λ ls. slice_index old.brought.items n + count_by (is_item_taken owner n) ls) all;
   dropped = λ n within. so.dropped n within ∙ ap (λ ls. slice_index old.dropped.items n + (count_by (is_item_lost owner n) ls + closed_after owner n false ls)) all;
-  sent_places = so.sent_places;
-  brought_places = so.brought_places;
-  dropped_places = so.dropped_places;
 }
+
+-- ---- the stations, so far
+
+abbrev TellSoFar : ℕ → List Station → ℕ → ItemCounts → Type 0
+TellSoFar owner sts i c = TellItems (λ n. sum_by (sent_at owner n) (take i sts)) (λ n. sum_by (brought_at owner n) (take i sts)) (λ n. sum_by (dropped_at owner n) (take i sts)) c
+
+module _ (owner : ℕ) (sts : List Station) (i : ℕ) (st : Station) (within : i < length sts) (is : st ≡ get_or sts i st) where
+  sum_below : (f : Station → ℕ) → sum_by f (take i sts) + f st ≤ sum_by f sts
+  sum_below f = subst (λ (x : Station). sum_by f (take i sts) + f x ≤ sum_by f sts) (sym is) (sum_by_more_le f sts i st within)
+
+  sum_next : (f : Station → ℕ) → sum_by f (take (i + 1) sts) ≡ sum_by f (take i sts) + f st
+  sum_next f = sum_by_more f sts i st within ∙ ap (λ (x : Station). sum_by f (take i sts) + f x) (sym is)
+
+  -- there is room for one station more
+  pub room_for_station : (c : ItemCounts) → ItemsFit owner sts → TellSoFar owner sts i c → HasRoomForStation owner st c
+  room_for_station c fits so = record {
+    sent = λ n inside. let so_far : slice_index c.sent.items n ≡ sum_by (sent_at owner n) (take i sts) = so.sent n inside in omega (arith, fits.sent n, so_far, sum_below (sent_at owner n));
+    brought = λ n inside. let so_far : slice_index c.brought.items n ≡ sum_by (brought_at owner n) (take i sts) = so.brought n inside in omega (arith, fits.brought n, so_far, sum_below (brought_at owner n));
+    dropped = λ n inside. let so_far : slice_index c.dropped.items n ≡ sum_by (dropped_at owner n) (take i sts) = so.dropped n inside in omega (arith, fits.dropped n, so_far, sum_below (dropped_at owner n));
+  }
+
+  pub station_counted : (old new : ItemCounts) → TellSoFar owner sts i old → CountsStation owner st old new → HaveSamePlaces old new → TellSoFar owner sts (i + 1) new
+  station_counted old new so more same = record {
+    sent = λ n inside. let there : n < length old.sent.items = omega (arith, inside, same.sent) in more.sent n there ∙ ap (λ (k : ℕ). k + sent_at owner n st) (so.sent n there) ∙ sym (sum_next (sent_at owner n));
+    brought = λ n inside. let there : n < length old.brought.items = omega (arith, inside, same.brought) in more.brought n there ∙ ap (λ (k : ℕ). k + brought_at owner n st) (so.brought n there) ∙ sym (sum_next (brought_at owner n));
+    dropped = λ n inside. let there : n < length old.dropped.items = omega (arith, inside, same.dropped) in more.dropped n there ∙ ap (λ (k : ℕ). k + dropped_at owner n st) (so.dropped n there) ∙ sym (sum_next (dropped_at owner n));
+  }
+
+pub places_kept : (many : ℕ) (old new : ItemCounts) → HavePlaces many old → HaveSamePlaces old new → HavePlaces many new
+places_kept many old new have same = record { sent = same.sent ∙ have.sent; brought = same.brought ∙ have.brought; dropped = same.dropped ∙ have.dropped }

@@ -60,7 +60,7 @@ between-joined s a b size at = elim (eqb_tells a b) [
 
 -- ---- the ends of a lane
 
-journal_found : (ts : List Station) (n : ℕ) (t : Station) → find (is_station n) ts ≡ Some t → find (λ j. j.line.domain == n) (map journal_left ts) ≡ Some (journal_left t)
+pub journal_found : (ts : List Station) (n : ℕ) (t : Station) → find (is_station n) ts ≡ Some t → find (λ j. j.line.domain == n) (map journal_left ts) ≡ Some (journal_left t)
 journal_found ts n t found = find-mapped (λ (j : DomainJournal). j.line.domain == n) journal_left ts ∙ ap (option_map journal_left) found
 
 -- what holds of a domain at the end

@@ -67,3 +67,8 @@ pub mod ItemBoard
 pub mod PacketPlaces
 pub mod PacketLemmas
 pub mod ItemCountLemmas
+pub mod FittingLemmas
+pub mod EndedLemmas
+pub mod MovedLemmas
+pub mod FinishingLemmas
+pub mod ThreadLemmas

@@ -3,6 +3,7 @@ use Rattle.std.proofs.Common.{◌≡◌, ℕ, ◌+◌, ◌≤◌, Bool, true, fa
 use Rattle.std.specs.Prelude.{◌==◌}
 use Rattle.std.proofs.lemmas.List.{length-map, map-append}
 use Rattle.mc_base.specs.declared.request.Slot.{Slot}
+use Rattle.lane_end.specs.Halves.{IsRingSend, IsRingRecv}
 use Rattle.lane_end.specs.SendMoves.{SendMove, Sent}
 use Rattle.lane_end.specs.ReceiveMoves.{ReceiveMove, Gave}
 use Rattle.lane_end.specs.SendParts.{frames_sent, back_counts}
@@ -28,7 +29,7 @@ use Rattle.domain_core.specs.LoopMoved.{LoopMoved, loop_after}
 use Rattle.domain_core.specs.VisitMoves.{putting}
 use Rattle.domain_core.specs.AllMoved.{AllMoved, giving, frames_to, buffers_of, moves_at, call_moves}
 use Rattle.domain_core.specs.Carrying.{AnyLink}
-use Rattle.board_runner.specs.Near.{Near, SentNear, GotNear, RunEnds, sent_by, got_by, sent_near, got_near, IsRingSend, IsRingRecv, IsLinkTo, frame_in, near_to, near_among, EndsMatch}
+use Rattle.board_runner.specs.Near.{Near, SentNear, GotNear, RunEnds, sent_by, got_by, sent_near, got_near, IsLinkTo, frame_in, near_to, near_among, EndsMatch}
 use Rattle.board_runner.proofs.NearEnds.{contents, loads-frames, sent_puts, puts_show_none, sends_putting, receives_putting, loop-put}
 use Rattle.board_runner.proofs.PeersLanes.{HasPeer}
 use Rattle.board_runner.proofs.TurnEnds.{Moved}

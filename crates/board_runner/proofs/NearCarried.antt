@@ -2,6 +2,7 @@
 use Rattle.std.proofs.Common.{◌≡◌, ◌≢◌, ℕ, ◌+◌, ◌≤◌, Bool, true, false, cond, List, [], ◌∷◌, ◌++◌, length, sum, Option, Some, refl, sym, ap, ap₂, ◌∙◌, subst, arith, eqb-true, ne_eqb}
 use Rattle.std.specs.Prelude.{◌==◌}
 use Rattle.std.proofs.lemmas.List.{map-append}
+use Rattle.lane_end.specs.Halves.{IsRingSend, IsRingRecv}
 use Rattle.lane_end.specs.AnyLane.{EndsHaveMet}
 use Rattle.lane_end.specs.AnyLaneLaws.{over-either}
 use Rattle.lane_end.specs.RingLane.{HaveMet}
@@ -17,7 +18,7 @@ use Rattle.domain_core.specs.declared.ends.Ends.TheVariants.{Own, Linked}
 use Rattle.domain_core.specs.Carrying.{AnyLink, LinksMeet, leads_to, link_to, with_link}
 use Rattle.domain_core.specs.Opening.{links_in}
 use Rattle.domain_core.proofs.Carries.{link-with}
-use Rattle.board_runner.specs.Near.{Near, SentNear, GotNear, RunEnds, sent_by, got_by, sent_near, got_near, IsRingSend, IsRingRecv, IsLinkTo, frame_in, near_to, near_among, EndsMatch}
+use Rattle.board_runner.specs.Near.{Near, SentNear, GotNear, RunEnds, sent_by, got_by, sent_near, got_near, IsLinkTo, frame_in, near_to, near_among, EndsMatch}
 use Rattle.board_runner.specs.Carried.{HasCome, IsTrue, Knows, DidNothing}
 use Rattle.board_runner.proofs.NearEnds.{contents, loads-frames}
 

@@ -2,6 +2,7 @@
 use Rattle.std.proofs.Common.{◌≡◌, ℕ, ◌+◌, ◌≤◌, Bool, true, false, not, cond, List, [], ◌∷◌, ◌++◌, length, map, drop, sum, slice_get, slice_index, Some, refl, sym, ap, ap₂, ◌∙◌, subst, arith, append_assoc, append-nil, length-append}
 use Rattle.std.proofs.lemmas.List.{map-append, length-map}
 use Rattle.std.proofs.lemmas.List.Sums.{sum_by-append}
+use Rattle.lane_end.specs.Halves.{IsRingSend, IsRingRecv}
 use Rattle.lane_end.specs.SendMoves.{SendMove, Looked, Sent}
 use Rattle.lane_end.specs.ReceiveMoves.{ReceiveMove, Took, Gave}
 use Rattle.lane_end.specs.ReceiveMoves as receiving
@@ -30,7 +31,7 @@ use Rattle.domain_core.specs.LinkMoved.{LinkMoved}
 use Rattle.domain_core.specs.LoopMoved.{LoopMoved, loop_after}
 use Rattle.domain_core.specs.VisitMoves.{putting, taking, visit_moves}
 use Rattle.domain_core.specs.Carrying.{AnyLink}
-use Rattle.board_runner.specs.Near.{Near, SentNear, GotNear, sent_by, got_by, sent_near, got_near, IsRingSend, IsRingRecv, IsLinkTo, frame_in, near_to}
+use Rattle.board_runner.specs.Near.{Near, SentNear, GotNear, sent_by, got_by, sent_near, got_near, IsLinkTo, frame_in, near_to}
 
 -- a visit of a link: the frames that it put and took, what its looks showed, and what it gave back at once. A look shows no less than
 -- was known before, and no more than is known then

@@ -38,7 +38,7 @@ use Rattle.board_runner.specs.Lanes.{line_of_domain, joins, size_between}
 use Rattle.board_runner.specs.declared.wires.Wire.{Wire}
 use Rattle.board_runner.specs.Carried.{HasCome}
 use Rattle.board_runner.specs.Wired.{IsNewLink, AreLinksOn, IsWired, wire_at, links_wired}
-use Rattle.board_runner.specs.Opened.{IsOpened}
+use Rattle.board_runner.specs.Opened.{IsOpened, AreOpened}
 use Rattle.board_runner.specs.Runs.{AllCarried}
 use Rattle.board_runner.specs.Stations.{IsKnown, IsKnownPacket, domain_of, near_in, near, LaneHolds, LaneJoins, IsStation, AreStations, IsRun}
 use Rattle.board_runner.proofs.LinkLemmas.{none-below, links-differ, neighbours-opened}
@@ -77,20 +77,14 @@ linked_in : (ls : List AnyLink) → links_in (map (λ l. Linked l) ls) ≡ ls
 linked_in [] = refl
 linked_in (l ∷ ls) = ap (λ ks. l ∷ ks) (linked_in ls)
 
-opened_in : (number : ℕ) (own : Loop) (ls : List AnyLink) → links_in (ends_opened number own ls) ≡ ls
-opened_in number own [] = refl
-opened_in number own (l ∷ ls) =
+pub opened-links : (number : ℕ) (own : Loop) (ls : List AnyLink) → links_in (ends_opened number own ls) ≡ ls
+opened-links number own [] = refl
+opened-links number own (l ∷ ls) =
     cond_both (nat_lt number l.peer) (Own own ∷ map (λ m. Linked m) (l ∷ ls)) (Linked l ∷ ends_opened number own ls) (λ es. links_in es ≡ l ∷ ls)
     (λ before. linked_in (l ∷ ls))
-    (λ behind. ap (λ ks. l ∷ ks) (opened_in number own ls))
+    (λ behind. ap (λ ks. l ∷ ks) (opened-links number own ls))
 
 -- ---- the stations
-
--- each with its links of these wires
-abbrev pub AreOpened : Scenario → List Wire → List DomainLine → List Station → Type 0
-AreOpened s ws [] [] = Unit {0}
-AreOpened s ws (d ∷ ds) (st ∷ sts) = IsOpened s (links_wired ws d.domain 8) d st × AreOpened s ws ds sts
-AreOpened s ws ds sts = ⊥
 
 module _ (ws : List Wire) where
   one_more : (s : Scenario) (ds : List DomainLine) (sts : List Station) (d : DomainLine) (st : Station) → AreOpened s ws ds sts → IsOpened s (links_wired ws d.domain 8) d st → AreOpened s ws (ds ++ d ∷ []) (sts ++ st ∷ [])
@@ -116,8 +110,8 @@ module _ (ws : List Wire) where
       subst (AreOpened s ws (below (λ (e : DomainLine). e.domain) (i + 1) (rising s))) (sym same)
       (subst (λ (ds : List DomainLine). AreOpened s ws ds sts) (sym (next_line s board i None at ∙ append-nil (below (λ (e : DomainLine). e.domain) i (rising s)))) so_far)
 
-  opened_done : (s : Scenario) → IsLinkedBoard s → (sts : List Station) → AreOpened s ws (below (λ d. d.domain) 8 (rising s)) sts → AreOpened s ws (rising s) sts
-  opened_done s board sts all =
+  pub opened-done : (s : Scenario) → IsLinkedBoard s → (sts : List Station) → AreOpened s ws (below (λ d. d.domain) 8 (rising s)) sts → AreOpened s ws (rising s) sts
+  opened-done s board sts all =
       subst (λ (ds : List DomainLine). AreOpened s ws ds sts)
       (rising-done (λ (d : DomainLine). d.domain) 8 (rising s) (all-weaken IsLawfulDomain (λ d. d.domain < 8) (λ d lawful. omega (arith, lawful.domain_fits)) (rising s) (rising-lawful s board))) all
 
@@ -300,7 +294,7 @@ module _ (ws : List Wire) where
           let is_a : d.domain ≡ a = eqb-true d.domain a (found-passes (λ e. e.domain == a) (rising s) d at) in
           let stands = stands_at s a d (rising s) sts all at in
           let same : one ≡ stands.station.domain = cc (found, stands.is) in
-          ap (λ (x : RunDomain). link_to b x.ends) same ∙ ap (link_to b) stands.opens.ends ∙ ap (find (λ (k : AnyLink). k.peer == b)) (opened_in d.domain (new_loop d.pool) (links_wired ws d.domain 8))
+          ap (λ (x : RunDomain). link_to b x.ends) same ∙ ap (link_to b) stands.opens.ends ∙ ap (find (λ (k : AnyLink). k.peer == b)) (opened-links d.domain (new_loop d.pool) (links_wired ws d.domain 8))
           ∙ ap (λ (n : ℕ). find (λ (k : AnyLink). k.peer == b) (links_wired ws n 8)) is_a ∙ find-wired ws a b 8 few l wire
 
   lane_joins : (s : Scenario) → IsLinkedBoard s → IsWired s ws → (sts : List Station) → AreOpened s ws (rising s) sts → (l : Lane) → Joined s l.sender l.receiver l.size → LaneJoins (domains_of sts) l
@@ -333,8 +327,8 @@ module _ (ws : List Wire) where
   -- each knows of all that was done, which is nothing
   pub opened-carried : (s : Scenario) → IsLinkedBoard s → (sts : List Station) → AreOpened s ws (below (λ d. d.domain) 8 (rising s)) sts → AllCarried sts
   opened-carried s board sts all a b =
-      let none : (x y : ℕ) → near (domains_of sts) x y ≡ nothing_near = nothing (domains_of sts) (all_nothing s (rising s) sts (opened_done s board sts all)) in
+      let none : (x y : ℕ) → near (domains_of sts) x y ≡ nothing_near = nothing (domains_of sts) (all_nothing s (rising s) sts (opened-done s board sts all)) in
       subst (λ (n : Near). HasCome n (near (domains_of sts) b a)) (sym (none a b)) (subst (HasCome nothing_near) (sym (none b a)) (record { put = omega arith; given = omega arith }))
 
   pub opened-runs : (s : Scenario) → IsLinkedBoard s → IsWired s ws → (sts : List Station) → AreOpened s ws (below (λ d. d.domain) 8 (rising s)) sts → IsRun s (opened s) sts
-  opened-runs s board wired sts all = is_run s board wired sts (opened_done s board sts all)
+  opened-runs s board wired sts all = is_run s board wired sts (opened-done s board sts all)

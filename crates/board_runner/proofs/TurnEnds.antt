@@ -2,14 +2,9 @@
 use Rattle.std.proofs.Common.{◌≡◌, ℕ, Bool, true, false, cond, List, [], ◌∷◌, map, refl, sym, ap, ap₂, ◌∙◌, subst, eq-eqb, ne_eqb, eqb-true, true≢false}
 use Rattle.std.specs.Prelude.{◌==◌}
 use Rattle.std.specs.List.{AllByRecursion}
+use Rattle.lane_end.specs.Halves.{RingSend-stays, RingRecv-stays}
 use Rattle.lane_end.specs.AnySender.{AnySends}
 use Rattle.lane_end.specs.AnyReceiver.{AnyReceives}
-use Rattle.lane_end.specs.SendMoves.{SendMove}
-use Rattle.lane_end.specs.ReceiveMoves.{ReceiveMove}
-use Rattle.lane_end.specs.declared.any.AnySend.{AnySend}
-use Rattle.lane_end.specs.declared.any.AnyRecv.{AnyRecv}
-use Rattle.lane_end.specs.declared.any.AnySend.TheVariants as send
-use Rattle.lane_end.specs.declared.any.AnyRecv.TheVariants as recv
 use Rattle.board_model.specs.Scenario.{Lane}
 use Rattle.board_model.specs.Journal.{Visit}
 use Rattle.board_model.specs.State.{DomainState}
@@ -26,7 +21,7 @@ use Rattle.domain_core.specs.Carrying.{AnyLink}
 use Rattle.domain_core.specs.Ends.{EndsMoved}
 use Rattle.domain_core.specs.AllMoved.{AllMoved, turn_moves}
 use Rattle.domain_core.specs.Turned.{HaveNumbers, Turns}
-use Rattle.board_runner.specs.Near.{Near, IsRingSend, IsRingRecv, IsLinkTo, RunEnds, RunDomain, near_to, near_among, near_of, peers_of, EndsMatch}
+use Rattle.board_runner.specs.Near.{Near, IsLinkTo, RunEnds, RunDomain, near_to, near_among, near_of, peers_of, EndsMatch}
 use Rattle.board_runner.proofs.NearEnds.{NearVisited, LinkVisited, link-visited, own-visited}
 use Rattle.board_runner.proofs.LanesNear.{LaneStands, Exact, near_now, with_near}
 use Rattle.board_runner.proofs.TurnLanes.{Stands, HasBoth, PeerTurn, peer_in, visits_in, peers_in, IsPeerTurn, IsExactTurn, near_after, turn-stands}
@@ -37,26 +32,8 @@ Moved = EndsMoved AnySends AnyReceives
 
 -- ---- whose ends they are
 
-sends_stay : (s t : AnySend) (ms : List SendMove) → IsRingSend s → AnySends s ms t → IsRingSend t
-sends_stay (send.Driver s) (send.Driver t) ms ring moved = tt
-sends_stay (send.Device s) (send.Device t) ms ring moved = tt
-sends_stay (send.Plain s) t ms ring moved = absurd ring
-sends_stay (send.Driver s) (send.Plain t) ms ring moved = absurd moved
-sends_stay (send.Driver s) (send.Device t) ms ring moved = absurd moved
-sends_stay (send.Device s) (send.Plain t) ms ring moved = absurd moved
-sends_stay (send.Device s) (send.Driver t) ms ring moved = absurd moved
-
-receives_stay : (r q : AnyRecv) (ms : List ReceiveMove) → IsRingRecv r → AnyReceives r ms q → IsRingRecv q
-receives_stay (recv.Driver r) (recv.Driver q) ms ring moved = tt
-receives_stay (recv.Device r) (recv.Device q) ms ring moved = tt
-receives_stay (recv.Plain r) q ms ring moved = absurd ring
-receives_stay (recv.Driver r) (recv.Plain q) ms ring moved = absurd moved
-receives_stay (recv.Driver r) (recv.Device q) ms ring moved = absurd moved
-receives_stay (recv.Device r) (recv.Plain q) ms ring moved = absurd moved
-receives_stay (recv.Device r) (recv.Driver q) ms ring moved = absurd moved
-
 link-stays : (p : ℕ) (a b : AnyLink) (ms : List LaneMove) → IsLinkTo p a → LinkMoved AnySends AnyReceives a ms b → IsLinkTo p b
-link-stays p a b ms h moved = record { peer = moved.peer ∙ h.peer; sends = sends_stay a.send b.send (sends ms) h.sends moved.sent; receives = receives_stay a.recv b.recv (receives ms) h.receives moved.received }
+link-stays p a b ms h moved = record { peer = moved.peer ∙ h.peer; sends = RingSend-stays a.send b.send (sends ms) h.sends moved.sent; receives = RingRecv-stays a.recv b.recv (receives ms) h.receives moved.received }
 
 pub ends-match : (n : ℕ) (ps : List ℕ) (es : List RunEnds) (moves : List (List LaneMove)) (es' : List RunEnds) → EndsMatch n ps es → AllMoved Moved es moves es' → EndsMatch n ps es'
 ends-match n [] [] [] [] matched moved = tt

@@ -312,7 +312,7 @@ removed-other (x ∷ ws) zero a b w at other =
     sym (ap (λ (c : Bool). cond c (Some x) (find (leads_from a b) ws)) (ap (leads_from a b) is ∙ other))
 removed-other (x ∷ ws) (suc i) a b w at other = ap (λ (o : Option Wire). cond (leads_from a b x) (Some x) o) (removed-other ws i a b w at other)
 
-leads_no : (a b : ℕ) (w : Wire) → (w.owner ≡ a → w.link.peer ≡ b → ⊥) → leads_from a b w ≡ false
+pub leads_no : (a b : ℕ) (w : Wire) → (w.owner ≡ a → w.link.peer ≡ b → ⊥) → leads_from a b w ≡ false
 leads_no a b w other = elim (eqb_tells w.owner a) [
   | inl own ↦ ap (λ (c : Bool). c && (w.link.peer == b)) own.0 ∙ ne_eqb w.link.peer b (other own.1)
   | inr not ↦ ap (λ (c : Bool). c && (w.link.peer == b)) not.0

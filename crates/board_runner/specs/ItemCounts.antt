@@ -43,6 +43,12 @@ pub record HavePlaces (many : ℕ) (c : ItemCounts) : Type 0 where
   pub brought : length c.brought.items ≡ many
   pub dropped : length c.dropped.items ≡ many
 
+-- the same channels have places
+pub record HaveSamePlaces (old new : ItemCounts) : Type 0 where
+  pub sent : length new.sent.items ≡ length old.sent.items
+  pub brought : length new.brought.items ≡ length old.brought.items
+  pub dropped : length new.dropped.items ≡ length old.dropped.items
+
 abbrev pub HaveMoreThan : ℕ → ItemCounts → Type 0
 HaveMoreThan number c = (many : ℕ) × (number < many) × HavePlaces many c
 
@@ -65,9 +71,6 @@ pub record CountsLine (owner : ℕ) (own : Bool) (closing : Option ℕ) (l : Lin
   pub sent : (n : ℕ) → n < length old.sent.items → slice_index new.sent.items n ≡ slice_index old.sent.items n + (if own then one_if (is_item_put n l) else 0)
   pub brought : (n : ℕ) → n < length old.brought.items → slice_index new.brought.items n ≡ slice_index old.brought.items n + one_if (is_item_taken owner n l)
   pub dropped : (n : ℕ) → n < length old.dropped.items → slice_index new.dropped.items n ≡ slice_index old.dropped.items n + one_if (is_item_lost owner n l) + (if is_numbered n closing then told_in l else 0)
-  pub sent_places : length new.sent.items ≡ length old.sent.items
-  pub brought_places : length new.brought.items ≡ length old.brought.items
-  pub dropped_places : length new.dropped.items ≡ length old.dropped.items
 
 pub record HasRoomFor (owner : ℕ) (own : Bool) (closing : Option ℕ) (l : Line) (c : ItemCounts) : Type 0 where
   pub sent : (n : ℕ) → n < length c.sent.items → slice_index c.sent.items n + (if own then one_if (is_item_put n l) else 0) < 2 ^ 64
@@ -79,9 +82,6 @@ pub record CountsStation (owner : ℕ) (st : code.Station) (old new : ItemCounts
   pub sent : (n : ℕ) → n < length old.sent.items → slice_index new.sent.items n ≡ slice_index old.sent.items n + sent_at owner n st
   pub brought : (n : ℕ) → n < length old.brought.items → slice_index new.brought.items n ≡ slice_index old.brought.items n + brought_at owner n st
   pub dropped : (n : ℕ) → n < length old.dropped.items → slice_index new.dropped.items n ≡ slice_index old.dropped.items n + dropped_at owner n st
-  pub sent_places : length new.sent.items ≡ length old.sent.items
-  pub brought_places : length new.brought.items ≡ length old.brought.items
-  pub dropped_places : length new.dropped.items ≡ length old.dropped.items
 
 pub record HasRoomForStation (owner : ℕ) (st : code.Station) (c : ItemCounts) : Type 0 where
   pub sent : (n : ℕ) → n < length c.sent.items → slice_index c.sent.items n + sent_at owner n st < 2 ^ 64
@@ -99,12 +99,6 @@ abbrev pub EndAs : List Station → List code.Station → Type 0
 EndAs [] [] = Unit {0}
 EndAs (t ∷ ts) (st ∷ sts) = EndsAs t st × EndAs ts sts
 EndAs ts sts = ⊥
-
--- the stations are those of the domains of some such board
-pub record EndSomeRun (s : Scenario) (sts : List code.Station) : Type 0 where
-  pub stations : List Station
-  pub ran : RanBoard s stations
-  pub ends : EndAs stations sts
 
 -- whatever run it is, these are what became of the items of its channels
 abbrev pub TellChannels : Scenario → List code.Station → List ChannelTotals → Type 0

@@ -1,5 +1,8 @@
 pub mod Carried
+pub mod Apart
 pub mod Counts
+pub mod Ended
+pub mod Finishing
 pub mod Held
 pub mod Lines
 pub mod Meeting
@@ -10,12 +13,14 @@ pub mod Wired
 pub mod Opened
 pub mod Lanes
 pub mod Looks
+pub mod Mode
 pub mod Outcome
 pub mod OwnRun
 pub mod Jobs
 pub mod OwnBoard
 pub mod Stations
 pub mod Tallied
+pub mod ThreadRun
 pub mod Told
 pub mod Items
 pub mod ItemCounts

@@ -3,6 +3,7 @@
 -- took, and what has yet to come back is what the receiver gave back beyond what the sender's looks showed.
 use Rattle.std.specs.Prelude.{◌≡◌, ◌≢◌, ℕ, List, [], ◌∷◌, length, map, sum, ◌==◌, if◌then◌else◌}
 use Rattle.lane_end.specs.Entries.{frames_in}
+use Rattle.lane_end.specs.Halves.{IsRingSend, IsRingRecv}
 use Rattle.lane_end.specs.RingSender.{RingSender, put_by, back_known}
 use Rattle.lane_end.specs.RingReceiver.{RingReceiver, given_entries, come_known}
 use Rattle.lane_end.specs.declared.any.AnySend.{AnySend}
@@ -61,14 +62,6 @@ abbrev pub got_near : AnyRecv → GotNear
 got_near (recv.Driver r) = got_by r
 got_near (recv.Device r) = got_by r
 got_near (recv.Plain r) = nothing_got
-
-abbrev pub IsRingSend : AnySend → Type 0
-IsRingSend (send.Plain s) = ⊥
-IsRingSend other = Unit {0}
-
-abbrev pub IsRingRecv : AnyRecv → Type 0
-IsRingRecv (recv.Plain r) = ⊥
-IsRingRecv other = Unit {0}
 
 abbrev pub frame_in : ℕ × List ℕ → List ℕ
 frame_in f = f.1

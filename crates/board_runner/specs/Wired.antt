@@ -7,6 +7,7 @@ use Rattle.shared_words.specs.Shown.{TableShown, size_of}
 use Rattle.shared_words.specs.declared.view.Role.TheVariants as role
 use Rattle.split_ring.specs.Ends.{new_end, AreHeld, IsSound}
 use Rattle.lane_end.specs.AnyLane.{AreEndsOfOneRing}
+use Rattle.lane_end.specs.Halves.{IsRingSend, IsRingRecv}
 use Rattle.lane_end.specs.AnySender as sending
 use Rattle.lane_end.specs.AnyReceiver as receiving
 use Rattle.lane_end.specs.RingOpening.{new_buffers, queue1_sender, queue1_receiver, queue0_sender, queue0_receiver}
@@ -24,7 +25,7 @@ use Rattle.board_runner.specs.declared.rings.LinkHalves.{LinkHalves}
 use Rattle.board_runner.specs.declared.rings.LinkRings.{LinkRings}
 use Rattle.board_runner.specs.declared.wires.Wire.{Wire}
 use Rattle.board_runner.specs.Lanes.{size_between}
-use Rattle.board_runner.specs.Near.{sent_near, got_near, nothing_sent, nothing_got, IsRingSend, IsRingRecv}
+use Rattle.board_runner.specs.Near.{sent_near, got_near, nothing_sent, nothing_got}
 
 -- ---- rings
 

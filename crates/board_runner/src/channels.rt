@@ -2,7 +2,7 @@
 
 ghost use Rattle.std.specs.Prelude.{◌≡◌, ◌<◌, ◌^◌, IfOk, OnOk, length, sum_by};
 ghost use Rattle.board_model.specs.Language.{IsLawfulBoard};
-ghost use Rattle.board_runner.specs.ItemCounts.{AddChannels, AreItemCounts, EndSomeRun, HaveMoreThan, IsOneOf, TellChannels, TellTotalsOf, queued_at};
+ghost use Rattle.board_runner.specs.ItemCounts.{AddChannels, AreItemCounts, HaveMoreThan, IsOneOf, ItemsFit, TellChannels, TellTotalsOf, queued_at};
 
 use crate::adding::add;
 use crate::items::{ItemCounts, item_counts};
@@ -11,14 +11,14 @@ use board_model::{ChannelTotals, Scenario, Seq, Totals};
 use mc_base::NoMemory;
 use std::alloc::Global;
 
-/// What became of the items of each channel, by the domain that numbered it and by its number.
+/// What became of the items of each channel, by the domain that numbered it and by its number. Whether the journals are a run of the
+/// board need not be known yet: no count or difference leaves its range where they are.
 pub fn channels_of(
     alloc: Global,
     _scenario: &Scenario,
     stations: &[Station<'_>],
 ) -> Result<Seq<ChannelTotals>, NoMemory>
     requires lawful { IsLawfulBoard _scenario.now }
-    requires ends { EndSomeRun _scenario.now stations.now }
     ensures { IfOk result (TellChannels _scenario.now stations.now) }
 {
     let mut channels = Seq::new(Vec::new(alloc));
@@ -37,7 +37,6 @@ fn add_channels(
     channels: &mut Seq<ChannelTotals>,
 ) -> Result<(), NoMemory>
     requires lawful { IsLawfulBoard _scenario.now }
-    requires ends { EndSomeRun _scenario.now stations.now }
     requires at { at < length stations.now }
     ensures { OnOk result (AddChannels _scenario.now stations.now at channels.old channels.new) }
 {
@@ -67,9 +66,8 @@ fn totals_of(
     counts: &ItemCounts,
 ) -> Totals
     requires lawful { IsLawfulBoard _scenario.now }
-    requires ends { EndSomeRun _scenario.now stations.now }
     requires owner { IsOneOf owner stations.now }
-    requires counts { AreItemCounts owner stations.now counts.now }
+    requires counts { ItemsFit owner stations.now → AreItemCounts owner stations.now counts.now }
     requires places { HaveMoreThan number counts.now }
     ensures { TellTotalsOf _scenario.now stations.now owner number result }
 {
@@ -77,11 +75,14 @@ fn totals_of(
     let sent = counts.sent[place];
     let dropped = counts.dropped[place];
     let brought = counts.brought[place];
-    let ring = sent - brought;
+    let ring = sent.saturating_sub(brought);
     let queued = queued_on(stations, owner, number);
     Totals {
         accepted: sent,
-        taken: sent - dropped - queued - ring,
+        taken: sent
+            .saturating_sub(dropped)
+            .saturating_sub(queued)
+            .saturating_sub(ring),
         dropped,
         queued,
         ring,
@@ -90,12 +91,11 @@ fn totals_of(
 
 /// How many items of a channel are queued at all stations.
 fn queued_on(stations: &[Station<'_>], owner: u8, number: u32) -> u64
-    requires { sum_by (queued_at owner number) stations.now < 2 ^ 64 }
-    ensures { result ≡ sum_by (queued_at owner number) stations.now }
+    ensures { sum_by (queued_at owner number) stations.now < 2 ^ 64 → result ≡ sum_by (queued_at owner number) stations.now }
 {
-    let mut queued = 0;
+    let mut queued: u64 = 0;
     for station in stations {
-        queued += u64::from(station.domain.queued(owner, number));
+        queued = queued.saturating_add(u64::from(station.domain.queued(owner, number)));
     }
     queued
 }

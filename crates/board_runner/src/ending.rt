@@ -44,7 +44,7 @@ pub fn outcome_of(
 }
 
 /// The tallies of stations.
-fn tallies_of(alloc: Global, stations: &[Station<'_>]) -> Result<Seq<Tally>, NoMemory>
+pub fn tallies_of(alloc: Global, stations: &[Station<'_>]) -> Result<Seq<Tally>, NoMemory>
     ensures { IfOk result (λ tallies. TellStations stations.now tallies) }
 {
     let mut tallies = Seq::new(Vec::new(alloc));

@@ -5,7 +5,7 @@ ghost use Rattle.mc_base.specs.Reading.{reading};
 ghost use Rattle.mc_journal.specs.Entry.{line_of_entry};
 ghost use Rattle.board_model.specs.Channels.{is_numbered, is_lost as is_lost_fate};
 ghost use Rattle.board_runner.specs.Items.{item_said, close_said, is_close_put};
-ghost use Rattle.board_runner.specs.ItemCounts.{AreItemCounts, CountsLine, CountsStation, HasRoomFor, HasRoomForStation, HavePlaces, ItemsFit};
+ghost use Rattle.board_runner.specs.ItemCounts.{AreItemCounts, CountsLine, CountsStation, HasRoomFor, HasRoomForStation, HavePlaces, HaveSamePlaces, ItemsFit};
 
 use crate::station::Station;
 use domain_core::{Answer, Entry};
@@ -22,15 +22,15 @@ pub struct ItemCounts {
     pub dropped: Vec<u64>,
 }
 
-/// Counts the items of the channels that a domain numbered, in the journals of all stations.
+/// Counts the items of the channels that a domain numbered, in the journals of all stations. The counts stop at the largest number,
+/// which no board's run comes to.
 pub fn item_counts(
     alloc: Global,
     stations: &[Station<'_>],
     owner: u8,
     given: u32,
 ) -> Result<ItemCounts, NoMemory>
-    requires { ItemsFit owner stations.now }
-    ensures counts { IfOk result (AreItemCounts owner stations.now) }
+    ensures counts { ItemsFit owner stations.now → IfOk result (AreItemCounts owner stations.now) }
     ensures places { IfOk result (HavePlaces (given + 1)) }
 {
     let many = given as usize + 1;
@@ -58,8 +58,8 @@ fn zeros(alloc: Global, many: usize) -> Result<Vec<u64>, NoMemory>
 
 /// Counts the entries of a station's journal, each once.
 fn count_items(counts: &mut ItemCounts, owner: u8, station: &Station<'_>)
-    requires { HasRoomForStation owner station.now counts.old }
-    ensures { CountsStation owner station.now counts.old counts.new }
+    ensures counts { HasRoomForStation owner station.now counts.old → CountsStation owner station.now counts.old counts.new }
+    ensures places { HaveSamePlaces counts.old counts.new }
 {
     let own = station.domain_number == owner;
     let mut closing = None;
@@ -78,8 +78,8 @@ fn count_entry(
     closing: Option<u32>,
     entry: Entry<'_>,
 )
-    requires { HasRoomFor owner own closing (line_of_entry entry) counts.old }
-    ensures { CountsLine owner own closing (line_of_entry entry.entry) counts.old counts.new }
+    ensures counts { HasRoomFor owner own closing (line_of_entry entry.entry) counts.old → CountsLine owner own closing (line_of_entry entry.entry) counts.old counts.new }
+    ensures places { HaveSamePlaces counts.old counts.new }
 {
     match entry {
         Entry::Put { frame, .. } if own => add_at(&mut counts.sent, item_in(frame), 1),
@@ -100,14 +100,13 @@ fn count_entry(
 
 /// Adds to the number of a channel.
 fn add_at(numbers: &mut Vec<u64>, channel: Option<u32>, count: u64)
-    requires { (n : ℕ) → n < length numbers.old.items → slice_index numbers.old.items n + (if is_numbered n channel then count else 0) < 2 ^ 64 }
-    ensures added { (n : ℕ) → n < length numbers.old.items → slice_index numbers.new.items n ≡ slice_index numbers.old.items n + (if is_numbered n channel then count else 0) }
+    ensures added { (n : ℕ) → n < length numbers.old.items → slice_index numbers.old.items n + (if is_numbered n channel then count else 0) < 2 ^ 64 → slice_index numbers.new.items n ≡ slice_index numbers.old.items n + (if is_numbered n channel then count else 0) }
     ensures places { length numbers.new.items ≡ length numbers.old.items }
 {
     if let Some(channel) = channel {
         let place = channel as usize;
         if place < numbers.len() {
-            numbers[place] += count;
+            numbers[place] = numbers[place].saturating_add(count);
         }
     }
 }

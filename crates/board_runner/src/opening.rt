@@ -3,8 +3,9 @@
 ghost use Rattle.std.specs.Prelude.{◌≡◌, IfOk};
 ghost use Rattle.board_model.specs.Language.{IsLawfulBoard};
 ghost use Rattle.board_model.specs.LinkedBoard.{IsLinkedBoard};
+ghost use Rattle.board_model.specs.Scenario.{rising};
 ghost use Rattle.board_model.specs.SerialRun.{opened};
-ghost use Rattle.board_runner.specs.Opened.{IsLineIn, IsOpened};
+ghost use Rattle.board_runner.specs.Opened.{AreOpened, IsLineIn, IsOpened};
 ghost use Rattle.board_runner.specs.Wired.{IsWired, AreLinksOn};
 ghost use Rattle.board_runner.specs.Runs.{AllCarried};
 ghost use Rattle.board_runner.specs.Stations.{IsRun};
@@ -34,6 +35,7 @@ pub(crate) fn open_stations<'a>(
     requires wired { IsWired scenario.now wires.items }
     ensures run { IfOk result (λ v. IsRun scenario.now (opened scenario.now) v.items) }
     ensures carried { IfOk result (λ v. AllCarried v.items) }
+    ensures opens { IfOk result (λ v. AreOpened scenario.now wires.entry.items (rising scenario.now) v.items) }
 {
     let Ok(mut stations) = Vec::with_capacity(alloc, MAX_DOMAINS as usize) else {
         return Err(NoMemory);

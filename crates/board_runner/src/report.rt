@@ -7,7 +7,8 @@ ghost use Rattle.outer_io.specs.Writes.{Writes};
 ghost use Rattle.outer_io.specs.Puts.{Puts};
 ghost use Rattle.board_model.specs.Scenario.{rising};
 ghost use Rattle.board_model.specs.Grammar.{line_of};
-ghost use Rattle.board_model.specs.Report.{report_of, serial, journals_text, lines_text, totals_words, channel_text, messages_text, places_text};
+ghost use Rattle.board_model.specs.Report.{report_of, heading, journals_text, lines_text, totals_words, channel_text, messages_text, places_text};
+ghost use Rattle.board_runner.specs.Mode.{mode_of};
 ghost use Rattle.board_runner.specs.Outcome.{lines_in};
 ghost use Rattle.board_runner.specs.Told.{IsToldByText};
 
@@ -18,38 +19,58 @@ use mc_journal::{Journal, put_entries};
 use outer_io::{Failed, Sink, Writer};
 use scenario_lang::put_scenario;
 
-/// Writes the report: the scenario, the journal of each domain, and what became of the items of channels, of messages and of buffers. It goes to the
-/// sink piece by piece and takes no memory. Some text tells the scenario, of whatever length, and the outcome has one journal
-/// for each of its domains, in rising number.
-/// `Failed` comes where a write failed; a proper prefix of the report was written then.
+/// Writes the report: a heading that says whether the domains ran on threads, the scenario, the journal of each domain, and what
+/// became of the items of channels, of messages and of buffers. It goes to the sink piece by piece and takes no memory. Some text
+/// tells the scenario, of whatever length, and the outcome has one journal for each of its domains, in rising number.
+///
+/// # Errors
+///
+/// `Failed` where a write failed. A proper prefix of the report was written then.
 pub fn write_report<K: Sink>(
     scenario: &Scenario,
     outcome: &Outcome,
+    threads: bool,
     sink: &mut K,
 ) -> Result<(), Failed>
     requires told { IsToldByText scenario.now }
     requires one_each { length outcome.now.journals ≡ length scenario.now.domains }
-    ensures bytes { Writes (K.written sink.old) (K.written sink.new) result (report_of serial scenario.now (lines_in outcome.now.journals) outcome.now.channels outcome.now.messages outcome.now.places []) }
+    ensures bytes { Writes (K.written sink.old) (K.written sink.new) result (report_of (mode_of threads) scenario.now (lines_in outcome.now.journals) outcome.now.channels outcome.now.messages outcome.now.places []) }
     ensures cause { HasCause (K.faults sink.old) (K.faults sink.new) result }
-    ensures room { (n : ℕ) → K.takes sink.old n → length (report_of serial scenario.now (lines_in outcome.now.journals) outcome.now.channels outcome.now.messages outcome.now.places []) ≤ n → IsOk result }
+    ensures room { (n : ℕ) → K.takes sink.old n → length (report_of (mode_of threads) scenario.now (lines_in outcome.now.journals) outcome.now.channels outcome.now.messages outcome.now.places []) ≤ n → IsOk result }
 {
     let mut out = Writer::new(sink);
-    put_report(&mut out, scenario, outcome);
+    put_report(&mut out, scenario, outcome, threads);
     out.finish()
 }
 
-fn put_report<K: Sink>(out: &mut Writer<'_, K>, scenario: &Scenario, outcome: &Outcome)
+fn put_report<K: Sink>(
+    out: &mut Writer<'_, K>,
+    scenario: &Scenario,
+    outcome: &Outcome,
+    threads: bool,
+)
     requires told { IsToldByText scenario.now }
     requires one_each { length outcome.now.journals ≡ length scenario.now.domains }
-    ensures { Puts K.Sink out.old out.new (report_of serial scenario.now (lines_in outcome.now.journals) outcome.now.channels outcome.now.messages outcome.now.places []) }
+    ensures { Puts K.Sink out.old out.new (report_of (mode_of threads) scenario.now (lines_in outcome.now.journals) outcome.now.channels outcome.now.messages outcome.now.places []) }
 {
-    out.put(b"mcapi-report 1 serial\n");
+    out.put(heading_of(threads));
     put_scenario(out, scenario);
     put_journals(out, scenario, outcome.journals.as_slice());
     put_channels(out, outcome.channels.as_slice());
     put_messages(out, &outcome.messages);
     put_lanes(out, outcome.places.as_slice());
     out.put(b"end\n");
+}
+
+/// Returns the first line.
+fn heading_of(threads: bool) -> &'static [u8]
+    ensures { result.now ≡ heading (mode_of threads) }
+{
+    if threads {
+        b"mcapi-report 1 threads\n"
+    } else {
+        b"mcapi-report 1 serial\n"
+    }
 }
 
 /// The journals of the domains in rising number.

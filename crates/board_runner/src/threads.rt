@@ -3,13 +3,23 @@
 ghost use Rattle.std.specs.Prelude.{◌≡◌, ◌<◌, ℕ, IfOk, Ok, length, map, slice_index_or};
 ghost use Rattle.std.specs.List.{AllByRecursion};
 ghost use Rattle.board_model.specs.Language.{IsLawfulBoard};
+ghost use Rattle.board_runner.specs.Apart.{RanApart};
 ghost use Rattle.board_runner.specs.Jobs.{AreJobs, MayRun, RunsJob, RunScripts};
 ghost use Rattle.board_runner.specs.OwnRun.{HasNotBegun};
+ghost use Rattle.board_runner.specs.ThreadRun.{IsThreadRun};
+ghost use Rattle.board_runner.specs.Wired.{IsWired};
 
+use crate::Outcome;
 use crate::adding::append;
+use crate::ended::{Remains, take_apart};
+use crate::finishing::finish_rings;
 use crate::gate::Gate;
+use crate::numbers::{places_of, totals_of};
+use crate::opening::open_stations;
+use crate::rings::rings_of;
 use crate::script::run_script;
 use crate::station::Station;
+use crate::wires::{Wire, wires_of};
 use board_model::Scenario;
 use mc_base::NoMemory;
 use std::alloc::{AllocError, Global};
@@ -23,12 +33,63 @@ struct Job<'a> {
     station: Station<'a>,
 }
 
+/// Runs a lawful board over rings, each domain on a thread of its own, and returns what the run left. Each script runs whole, in
+/// its order, and each line passes the gate first. Once all domains have ended, their rings are finished.
+///
+/// Nothing is promised of time: neither the order between domains nor that two threads run at once.
+///
+/// # Errors
+///
+/// `NoMemory`, at any time.
+pub fn run_threads<T: Threads + Sync, G: Gate + Sync>(
+    rt: &T,
+    alloc: Global,
+    scenario: &Scenario,
+    gate: &G,
+) -> Result<Outcome, NoMemory>
+    requires { IsLawfulBoard scenario.now }
+    ensures { IfOk result (IsThreadRun scenario.now) }
+{
+    let links = scenario.links.as_slice();
+    let (rings, halves) = rings_of(alloc, links)?;
+    let wires = wires_of(alloc, links, rings.as_slice(), halves)?;
+    let left = run_domains(rt, alloc, scenario, gate, wires)?;
+    let closed = finish_rings(alloc, links, rings, left.links)?;
+    let tallies = left.tallies.as_slice();
+    let places = places_of(alloc, scenario, tallies)?;
+    let messages = totals_of(scenario, tallies);
+    Ok(Outcome {
+        journals: left.journals,
+        rings: closed,
+        places,
+        channels: left.channels,
+        messages,
+    })
+}
+
+/// Runs the domains of a lawful board over these ends of its links, each on a thread of its own, and takes them apart.
+fn run_domains<'a, T: Threads + Sync, G: Gate + Sync>(
+    rt: &T,
+    alloc: Global,
+    scenario: &'a Scenario,
+    gate: &G,
+    wires: Vec<Wire<'a>>,
+) -> Result<Remains, NoMemory>
+    requires lawful { IsLawfulBoard scenario.now }
+    requires wired { IsWired scenario.now wires.items }
+    ensures { IfOk result (RanApart scenario.now wires.entry.items) }
+{
+    let stations = open_stations(alloc, scenario, wires)?;
+    let ran = run_stations(rt, alloc, scenario, gate, stations)?;
+    take_apart(alloc, scenario, ran)
+}
+
 /// Runs the script of each station on a thread of its own, and returns the stations in their order once all have ended.
 ///
 /// # Errors
 ///
 /// `NoMemory`, at any time.
-pub(crate) fn run_stations<'a, T: Threads + Sync, G: Gate + Sync>(
+fn run_stations<'a, T: Threads + Sync, G: Gate + Sync>(
     rt: &T,
     alloc: Global,
     scenario: &'a Scenario,

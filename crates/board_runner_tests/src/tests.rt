@@ -137,7 +137,7 @@ fn write(scenario: &Scenario, outcome: &Outcome, sink: &mut MemSink) -> Option<R
     if outcome.journals.as_slice().len() != scenario.domains.as_slice().len() {
         return None;
     }
-    Some(write_report(scenario, outcome, sink))
+    Some(write_report(scenario, outcome, false, sink))
 }
 
 fn read(alloc: Global, text: &[u8]) -> Option<Scenario>

@@ -5,14 +5,8 @@ use Rattle.board_model.specs.declared.totals.Totals.{Totals}
 use Rattle.board_model.specs.SerialRun.{journal_left}
 use Rattle.board_model.specs.Totals.{numbers_to, totals_of_channel}
 use Rattle.board_model.proofs.LawfulBoards.{lawful_is_linked}
-use Rattle.board_runner.proofs.ChannelLemmas.{items-fit, is-one, owner-channels}
+use Rattle.board_runner.proofs.ChannelLemmas.{is-one, owner-channels}
 use Rattle.board_runner.proofs.channels.add_channels.Goals as goal
-
-pub item_counts-requires : goal.item_counts-requires
-item_counts-requires c =
-    let s = c.args._scenario.now in
-    let run = c.requires.ends in
-    items-fit s (lawful_is_linked s c.requires.lawful) run.stations run.ran c.args.stations.now run.ends _ (is-one c.args.stations.now c.args.at _ c.requires.at c.index-stations-at.is)
 
 pub totals_of-totals-requires-clause-owner : goal.totals_of-totals-requires-clause-owner
 totals_of-totals-requires-clause-owner c = is-one c.args.stations.now c.args.at _ c.requires.at c.index-stations-at.is

@@ -29,15 +29,6 @@ places_of-requires-clause-tallies c =
 ended : (s : Scenario) (sts borrowed : List code.Station) → AreStations s (finished s).stations sts → borrowed ≡ sts → EndAs (finished s).stations borrowed
 ended s sts borrowed are same = subst (EndAs (finished s).stations) (sym same) (stations-ended s (finished s).stations sts are)
 
-pub channels_of-requires-clause-ends : goal.channels_of-requires-clause-ends
-channels_of-requires-clause-ends c =
-    let s = c.args.scenario.now in
-    record {
-      stations = (finished s).stations;
-      ran = finished_ran s (lawful_is_linked s c.requires.lawful) c.args.stations.items c.requires.run.each;
-      ends = ended s c.args.stations.items _ c.requires.run.each c.deref-2.ensures.value;
-    }
-
 pub totals_of-messages-requires-clause-tallies : goal.totals_of-messages-requires-clause-tallies
 totals_of-messages-requires-clause-tallies c =
     let s = c.args.scenario.now in

@@ -8,9 +8,9 @@ use Rattle.board_model.proofs.MessageAlls.{found-passes}
 use Rattle.board_model.proofs.LawfulBoards.{lawful_is_linked}
 use Rattle.domain_core.specs.Carrying.{AnyLink}
 use Rattle.board_runner.specs.Lanes.{line_of_domain}
-use Rattle.board_runner.specs.Opened.{IsLineIn, IsOpened}
+use Rattle.board_runner.specs.Opened.{IsLineIn, IsOpened, AreOpened}
 use Rattle.board_runner.specs.Wired.{wire_at}
-use Rattle.board_runner.proofs.OpeningLemmas.{AreOpened, opened-begin, opened-next, opened-none, opened-runs, opened-carried}
+use Rattle.board_runner.proofs.OpeningLemmas.{opened-begin, opened-done, opened-next, opened-none, opened-runs, opened-carried}
 use Rattle.board_runner.proofs.WiredLemmas.{links-left}
 use Rattle.board_runner.proofs.opening.open_stations.Goals as goal
 use Rattle.board_runner.proofs.opening.open_stations.Goals.{in-Some+in_ok-links+in_ok-station, in_default-line_of}
@@ -82,4 +82,11 @@ returns-clause-run c =
     let s = c.args.scenario.now in
     let all : c.loop-number.number ≡ 8 = omega arith in
     opened-runs c.args.wires.items s (lawful_is_linked s c.requires.lawful) c.requires.wired c.loop-number.stations.items
+    (subst (λ (n : ℕ). AreOpened s c.args.wires.items (below (λ (d : DomainLine). d.domain) n (rising s)) c.loop-number.stations.items) all c.loop-number.invariant.so_far)
+
+pub returns-clause-opens : goal.returns-clause-opens
+returns-clause-opens c =
+    let s = c.args.scenario.now in
+    let all : c.loop-number.number ≡ 8 = omega arith in
+    opened-done c.args.wires.items s (lawful_is_linked s c.requires.lawful) c.loop-number.stations.items
     (subst (λ (n : ℕ). AreOpened s c.args.wires.items (below (λ (d : DomainLine). d.domain) n (rising s)) c.loop-number.stations.items) all c.loop-number.invariant.so_far)

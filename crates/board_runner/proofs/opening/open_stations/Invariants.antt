@@ -2,7 +2,7 @@ use Rattle.std.proofs.Common.{◌≡◌, ◌≤◌, ℕ, vec_len, vec_capacity}
 use Rattle.board_model.specs.Scenario.{rising}
 use Rattle.board_model.proofs.BoardsFound.{below}
 use Rattle.board_runner.specs.Wired.{wire_at}
-use Rattle.board_runner.proofs.OpeningLemmas.{AreOpened}
+use Rattle.board_runner.specs.Opened.{AreOpened}
 use Rattle.board_runner.proofs.opening.open_stations.Given as goal
 
 abbrev pub invariant-loop-number : goal.invariant-loop-number
