@@ -1,0 +1,7 @@
+//! Tests of boards whose domains run on threads, in a crate of their own so that `board_runner` is proved once.
+#![tactic(auto)]
+
+#[cfg(test)]
+mod gates;
+#[cfg(test)]
+mod tests;

@@ -1,0 +1,408 @@
+ghost use Rattle.std.specs.Prelude.{◌≡◌, ◌<◌, IfSome, Ok, length};
+ghost use Rattle.board_model.specs.Language.{told_by};
+
+use crate::gates::{InOrder, Meeting};
+use board_model::Scenario;
+use board_runner::{Gate, NoGate, Outcome, Totals, run_threads};
+use domain_core::{Answer, Entry, Journal};
+use mc_base::Refusal;
+use scenario_lang::read_scenario;
+use std::alloc::{AllocError, Global};
+use std::test::Fail;
+use std::thread::Threads;
+
+fn read(alloc: Global, text: &[u8]) -> Option<Scenario>
+    ensures told { IfSome result (λ s. told_by text.now ≡ Ok s) }
+    ensures short { IfSome result (λ _. length text.now < 1_000_000) }
+{
+    if text.len() >= 1_000_000 {
+        return None;
+    }
+    read_scenario(alloc, text).ok()
+}
+
+/// Runs a board whose lines pass this gate.
+fn run<R: Threads + Sync, G: Gate + Sync>(
+    rt: &R,
+    alloc: Global,
+    board: &[u8],
+    gate: &G,
+) -> Option<Outcome> {
+    let scenario = read(alloc, board)?;
+    run_threads(rt, alloc, &scenario, gate).ok()
+}
+
+/// The answer of a line of a domain's script.
+fn answer_of(journal: &Journal, line: u32) -> Option<Answer<'_>> {
+    for at in 0..journal.len() {
+        if let Some(Entry::Called { number, answer }) = journal.entry(at) {
+            if number == line {
+                return Some(answer);
+            }
+        }
+    }
+    None
+}
+
+fn is_ok(answer: Option<Answer<'_>>) -> bool {
+    matches!(answer, Some(Answer::Ok))
+}
+
+fn is_refused(answer: Option<Answer<'_>>, word: Refusal) -> bool {
+    match answer {
+        Some(Answer::Refused(refused)) => refused == word,
+        _ => false,
+    }
+}
+
+fn is_received(answer: Option<Answer<'_>>, byte: u8) -> bool {
+    match answer {
+        Some(Answer::Bytes { size, bytes }) => size == 1 && bytes.first() == Some(&byte),
+        _ => false,
+    }
+}
+
+/// The journal at a place of an outcome.
+fn journal_at(outcome: &Outcome, at: usize) -> Option<&Journal> {
+    outcome.journals.as_slice().get(at)
+}
+
+// ---- two domains on two threads
+
+const MEETING: &[u8] = b"domain 0 nodes 1 pool 2
+domain 1 nodes 1 pool 2
+link 0 1 size 2
+0.0 create 1
+1.0 create 2
+";
+
+#[test]
+fn two_domains_see_each_others_flag(rt: HostRuntime) -> Result<(), Fail> {
+    let gate = Meeting::new();
+    let outcome = run(&rt, rt.alloc(), MEETING, &gate).ok_or("memory")?;
+    assert!(rt; gate.met() == 2);
+    assert!(rt; outcome.journals.as_slice().len() == 2);
+    assert!(rt; outcome.rings.as_slice().len() == 2);
+    Ok(())
+}
+
+// ---- lines in an order
+
+const ORDER: &[u8] = b"domain 0 nodes 1 pool 2
+domain 1 nodes 1 pool 2
+link 0 1 size 4
+0.0 create 1
+0.0 turn
+0.0 msg_send 1 1:0:2 0 61
+0.0 msg_send 1 1:0:2 0 62
+0.0 turn
+1.0 create 2
+1.0 turn
+1.0 msg_recv 2 488
+1.0 msg_recv 2 488
+1.0 turn
+";
+
+/// A place in the order: a domain and the number of a line of its script.
+type Place = (u8, u32);
+
+static FIRST: [Place; 8] = [
+    (0, 1),
+    (1, 1),
+    (1, 2),
+    (0, 2),
+    (0, 3),
+    (1, 3),
+    (0, 4),
+    (1, 4),
+];
+
+static SECOND: [Place; 8] = [
+    (0, 1),
+    (1, 1),
+    (1, 2),
+    (0, 2),
+    (1, 3),
+    (0, 3),
+    (0, 4),
+    (1, 4),
+];
+
+static THIRD: [Place; 8] = [
+    (0, 1),
+    (1, 1),
+    (0, 2),
+    (0, 3),
+    (1, 2),
+    (1, 3),
+    (0, 4),
+    (1, 4),
+];
+
+/// Runs a board with its lines in this order, or returns `None` where a line waited in vain.
+fn run_in<R: Threads + Sync>(
+    rt: &R,
+    alloc: Global,
+    board: &[u8],
+    order: &[Place],
+) -> Option<Outcome> {
+    let mut list = Vec::new(alloc);
+    list.extend_from_slice(order).ok()?;
+    let gate = InOrder::new(list);
+    let outcome = run(rt, alloc, board, &gate)?;
+    if gate.gave_up() { None } else { Some(outcome) }
+}
+
+#[test]
+fn each_message_is_received_where_it_is_sent_first(rt: HostRuntime) -> Result<(), Fail> {
+    let outcome = run_in(&rt, rt.alloc(), ORDER, &FIRST).ok_or("order")?;
+    let sender = journal_at(&outcome, 0).ok_or("journal")?;
+    let receiver = journal_at(&outcome, 1).ok_or("journal")?;
+    assert!(rt; is_ok(answer_of(sender, 3)));
+    assert!(rt; is_ok(answer_of(sender, 4)));
+    assert!(rt; is_received(answer_of(receiver, 3), 0x61));
+    assert!(rt; is_received(answer_of(receiver, 4), 0x62));
+    Ok(())
+}
+
+#[test]
+fn a_receive_before_the_send_finds_nothing(rt: HostRuntime) -> Result<(), Fail> {
+    let outcome = run_in(&rt, rt.alloc(), ORDER, &SECOND).ok_or("order")?;
+    let sender = journal_at(&outcome, 0).ok_or("journal")?;
+    let receiver = journal_at(&outcome, 1).ok_or("journal")?;
+    assert!(rt; is_ok(answer_of(sender, 3)));
+    assert!(rt; is_ok(answer_of(sender, 4)));
+    assert!(rt; is_refused(answer_of(receiver, 3), Refusal::Empty));
+    assert!(rt; is_received(answer_of(receiver, 4), 0x61));
+    Ok(())
+}
+
+#[test]
+fn a_name_is_unknown_until_its_domain_made_a_turn(rt: HostRuntime) -> Result<(), Fail> {
+    let outcome = run_in(&rt, rt.alloc(), ORDER, &THIRD).ok_or("order")?;
+    let sender = journal_at(&outcome, 0).ok_or("journal")?;
+    let receiver = journal_at(&outcome, 1).ok_or("journal")?;
+    assert!(rt; is_refused(answer_of(sender, 3), Refusal::PeerInvalid));
+    assert!(rt; is_ok(answer_of(sender, 4)));
+    assert!(rt; is_refused(answer_of(receiver, 3), Refusal::Empty));
+    assert!(rt; is_received(answer_of(receiver, 4), 0x62));
+    Ok(())
+}
+
+// ---- one domain
+
+const ONE: &[u8] = b"domain 0 nodes 1 pool 2
+0.0 create 1
+0.0 create 2
+0.0 msg_send 1 0:0:2 1 6869
+0.0 msg_recv 2 488
+";
+
+const ONE_MESSAGE: Totals = Totals {
+    accepted: 1,
+    taken: 1,
+    dropped: 0,
+    queued: 0,
+    ring: 0,
+};
+
+#[test]
+fn two_endpoints_one_message(rt: HostRuntime) -> Result<(), Fail> {
+    let outcome = run(&rt, rt.alloc(), ONE, &NoGate).ok_or("memory")?;
+    assert!(rt; outcome.messages == ONE_MESSAGE);
+    assert!(rt; outcome.rings.as_slice().len() == 0);
+    Ok(())
+}
+
+// ---- eight domains
+
+/// Eight domains with a link of this size between each two. Each looks up each other, sends it a message and receives seven.
+fn all_linked(alloc: Global, size: &[u8]) -> Result<Vec<u8>, AllocError> {
+    let mut text = Vec::new(alloc);
+    add_board(&mut text, size)?;
+    for domain in 0..8 {
+        add_digit(&mut text, b"", domain, b".0 create 1\n")?;
+    }
+    for one in 0..8 {
+        for two in 0..8 {
+            if one != two {
+                add_message(&mut text, one, two)?;
+            }
+        }
+    }
+    for _message in 0..7 {
+        for domain in 0..8 {
+            add_digit(&mut text, b"", domain, b".0 try 4294967295 msg_recv 1 9\n")?;
+        }
+    }
+    Ok(text)
+}
+
+fn add_board(text: &mut Vec<u8>, size: &[u8]) -> Result<(), AllocError> {
+    for domain in 0..8 {
+        add_digit(text, b"domain ", domain, b" nodes 1 pool 2\n")?;
+    }
+    for one in 0..8 {
+        for two in one + 1..8 {
+            add_digit(text, b"link ", one, b" ")?;
+            add_digit(text, b"", two, b" size ")?;
+            text.extend_from_slice(size)?;
+            text.extend_from_slice(b"\n")?;
+        }
+    }
+    Ok(())
+}
+
+/// Looks up the endpoint of the other domain and sends it a message.
+fn add_message(text: &mut Vec<u8>, one: u8, two: u8) -> Result<(), AllocError> {
+    add_digit(text, b"", one, b".0 n")?;
+    add_digit(text, b"", one, b"")?;
+    add_digit(text, b"_", two, b" = lookup ")?;
+    add_digit(text, b"", two, b":0:1\n")?;
+    add_digit(text, b"", one, b".0 try 4294967295 test n")?;
+    add_digit(text, b"", one, b"_")?;
+    add_digit(text, b"", two, b"\n")?;
+    add_digit(text, b"", one, b".0 try 4294967295 msg_send 1 ")?;
+    add_digit(text, b"", two, b":0:1 1 5a\n")
+}
+
+/// Adds a digit between two pieces of text.
+fn add_digit(text: &mut Vec<u8>, before: &[u8], digit: u8, after: &[u8]) -> Result<(), AllocError> {
+    text.extend_from_slice(before)?;
+    text.push(b'0'.wrapping_add(digit))?;
+    text.extend_from_slice(after)
+}
+
+const ALL_TAKEN: Totals = Totals {
+    accepted: 56,
+    taken: 56,
+    dropped: 0,
+    queued: 0,
+    ring: 0,
+};
+
+#[test]
+fn eight_domains_over_rings_of_2(rt: HostRuntime) -> Result<(), Fail> {
+    let text = all_linked(rt.alloc(), b"2")?;
+    let outcome = run(&rt, rt.alloc(), &text, &NoGate).ok_or("memory")?;
+    assert!(rt; outcome.messages == ALL_TAKEN);
+    assert!(rt; outcome.rings.as_slice().len() == 56);
+    Ok(())
+}
+
+#[test]
+fn eight_domains_over_rings_of_256(rt: HostRuntime) -> Result<(), Fail> {
+    let text = all_linked(rt.alloc(), b"256")?;
+    let outcome = run(&rt, rt.alloc(), &text, &NoGate).ok_or("memory")?;
+    assert!(rt; outcome.messages == ALL_TAKEN);
+    assert!(rt; outcome.rings.as_slice().len() == 56);
+    Ok(())
+}
+
+// ---- a host with two remotes
+
+const HOST_BOARD: &[u8] = b"domain 0 nodes 1 pool 2
+domain 1 nodes 1 pool 2
+domain 2 nodes 1 pool 2
+link 0 1 size 256
+link 0 2 size 256
+0.0 create 1
+0.0 one = lookup 1:0:1
+0.0 two = lookup 2:0:1
+0.0 try 100000000 test one
+0.0 try 100000000 test two
+1.0 create 1
+1.0 host = lookup 0:0:1
+1.0 try 100000000 test host
+2.0 create 1
+2.0 host = lookup 0:0:1
+2.0 try 100000000 test host
+";
+
+const HOST_ROUND: &[u8] = b"0.0 try 100000000 msg_send 1 1:0:1 1 7069
+0.0 try 100000000 msg_send 1 2:0:1 1 7069
+0.0 try 100000000 msg_recv 1 9
+0.0 try 100000000 msg_recv 1 9
+1.0 try 100000000 msg_send 1 0:0:1 1 706f
+1.0 try 100000000 msg_recv 1 9
+2.0 try 100000000 msg_send 1 0:0:1 1 706f
+2.0 try 100000000 msg_recv 1 9
+";
+
+/// The host sends 300 messages to each remote and receives as many from each.
+fn host_and_remotes(alloc: Global) -> Result<Vec<u8>, AllocError> {
+    let mut text = Vec::new(alloc);
+    text.extend_from_slice(HOST_BOARD)?;
+    for _round in 0..300 {
+        text.extend_from_slice(HOST_ROUND)?;
+    }
+    Ok(text)
+}
+
+const HOST_TOTALS: Totals = Totals {
+    accepted: 1200,
+    taken: 1200,
+    dropped: 0,
+    queued: 0,
+    ring: 0,
+};
+
+#[test]
+fn a_host_and_two_remotes_ten_times(rt: HostRuntime) -> Result<(), Fail> {
+    let text = host_and_remotes(rt.alloc())?;
+    for _run in 0..10 {
+        let outcome = run(&rt, rt.alloc(), &text, &NoGate).ok_or("memory")?;
+        assert!(rt; outcome.messages == HOST_TOTALS);
+        assert!(rt; outcome.rings.as_slice().len() == 4);
+    }
+    Ok(())
+}
+
+// ---- a slow receiver
+
+const SLOW: &[u8] = b"domain 0 nodes 1 pool 2
+domain 1 nodes 1 pool 2
+link 0 1 size 2
+0.0 create 1
+0.0 slow = lookup 1:0:2
+0.0 test slow
+0.0 msg_send 1 1:0:2 0 61
+0.0 msg_send 1 1:0:2 0 62
+0.0 msg_send 1 1:0:2 0 63
+0.0 try 4294967295 msg_send 1 1:0:2 0 64
+1.0 create 2
+1.0 turn
+1.0 try 4294967295 msg_recv 2 488
+1.0 try 4294967295 msg_recv 2 488
+1.0 try 4294967295 msg_recv 2 488
+";
+
+/// The receiver takes nothing until three messages were sent.
+static SLOW_RECEIVER: [Place; 9] = [
+    (0, 1),
+    (0, 2),
+    (1, 1),
+    (1, 2),
+    (0, 3),
+    (0, 4),
+    (0, 5),
+    (0, 6),
+    (1, 3),
+];
+
+#[test]
+fn a_sender_without_a_buffer_goes_on_once_the_receiver_took_one(
+    rt: HostRuntime,
+) -> Result<(), Fail> {
+    let outcome = run_in(&rt, rt.alloc(), SLOW, &SLOW_RECEIVER).ok_or("order")?;
+    let sender = journal_at(&outcome, 0).ok_or("journal")?;
+    let receiver = journal_at(&outcome, 1).ok_or("journal")?;
+    assert!(rt; is_ok(answer_of(sender, 4)));
+    assert!(rt; is_ok(answer_of(sender, 5)));
+    assert!(rt; is_refused(answer_of(sender, 6), Refusal::NoBuffer));
+    assert!(rt; is_ok(answer_of(sender, 7)));
+    assert!(rt; is_received(answer_of(receiver, 3), 0x61));
+    assert!(rt; is_received(answer_of(receiver, 4), 0x62));
+    assert!(rt; is_received(answer_of(receiver, 5), 0x64));
+    Ok(())
+}
