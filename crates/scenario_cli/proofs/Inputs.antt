@@ -3,15 +3,14 @@ use Rattle.std.proofs.Common.{◌≡◌, ℕ, ◌≤◌, List, ◌++◌, [], len
 use Rattle.std.specs.Prelude.{IfSome, IsSome}
 use Rattle.std.specs.Io.KnownBytes.{Consumes, IsAtEnd}
 use Rattle.board_model.specs.declared.scenario.Scenario.{Scenario}
-use Rattle.board_model.specs.Language.{IsLawfulBoard, RefusedLine}
-use Rattle.board_model.proofs.LawfulRuns.{lawful_run, lawful_headline}
+use Rattle.board_model.specs.Language.{RefusedLine}
 use Rattle.ring_trace.specs.declared.checking.ImageInfo.{ImageInfo}
 use Rattle.ring_trace.specs.declared.checking.ImageFault.{ImageFault}
 use Rattle.scenario_cli.specs.declared.form.Form.{Form}
 use Rattle.scenario_cli.specs.Words.{input_limit}
 use Rattle.scenario_cli.specs.FrameText.{wrong_in}
 use Rattle.scenario_cli.specs.ImageText.{IsImage, IsNoImage}
-use Rattle.scenario_cli.specs.Due.{IsDue, IsScenario, IsRefused, IsSoundReport, IfScenario, IfNoScenario, IfSoundFrame, IfNoSoundFrame, IfSoundImage, IfNoSoundImage, DueFits}
+use Rattle.scenario_cli.specs.Due.{IsDue, IsScenario, IsRefused, IfScenario, IfNoScenario, IfSoundFrame, IfNoSoundFrame, IfSoundImage, IfNoSoundImage, DueFits}
 
 -- all that the source had was read
 pub all_read : (all rest text : List ℕ) → all ≡ text ++ rest → rest ≡ [] → all ≡ text
@@ -46,11 +45,3 @@ pub due_fits : (form : Form) (old new : Option (List ℕ)) (text : List ℕ) (n 
 due_fits form None new text n read end fits = absurd fits
 due_fits form (Some all) None text n read end fits = absurd read
 due_fits form (Some all) (Some rest) text n read end fits = λ due is. fits due (subst (λ (t : List ℕ). IsDue form t due) (sym (all_read all rest text read end)) is)
-
--- the headline holds of the journals of every serial run
-pub sound_report : (rest : Option (List ℕ)) → IsSoundReport rest
-sound_report None = tt
-sound_report (Some text) = λ fits s is.
-    let lawful : IsLawfulBoard s = (text, omega (arith, fits), is) in
-    let run = lawful_run s lawful in
-    record { board_run = run.0; whole = run.1; headline = lawful_headline s lawful }

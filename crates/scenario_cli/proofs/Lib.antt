@@ -1,4 +1,5 @@
 pub mod Written
+pub mod LeftLemmas
 pub mod Inputs
 pub mod WordLemmas
 pub mod Statuses

@@ -5,15 +5,15 @@ use Rattle.std.specs.Prelude.{◌≡◌, ℕ, ◌<◌, ◌≤◌, List, length, 
 use Rattle.std.specs.Io.KnownBytes.{Appends}
 use Rattle.board_model.specs.declared.scenario.Scenario.{Scenario}
 use Rattle.board_model.specs.Language.{RefusedLine, told_by}
-use Rattle.board_model.specs.Board.{IsBoardRun, AreWhole}
+use Rattle.board_model.specs.Board.{DomainJournal, IsBoardRun, AreWhole}
 use Rattle.board_model.specs.SerialRun.{serial_run}
-use Rattle.board_model.specs.Report.{report}
+use Rattle.board_model.specs.Report.{Mode, serial, threads, report}
 use Rattle.board_model.specs.Headline.{Headline}
 use Rattle.outer_io.specs.Writes.{AppendsPart}
 use Rattle.ring_trace.specs.declared.checking.ImageInfo.{ImageInfo}
 use Rattle.ring_trace.specs.declared.checking.ImageFault.{ImageFault}
 use Rattle.scenario_cli.specs.declared.form.Form.{Form}
-use Rattle.scenario_cli.specs.declared.form.Form.TheVariants.{SerialRun, Frame, Ring}
+use Rattle.scenario_cli.specs.declared.form.Form.TheVariants.{Run, SerialRun, Frame, Ring}
 use Rattle.scenario_cli.specs.Words.{input_limit}
 use Rattle.scenario_cli.specs.RefusedText.{refusal_text}
 use Rattle.scenario_cli.specs.FrameText.{TellsRight, TellsWrong, wrong_in}
@@ -27,16 +27,30 @@ IsScenario text s = told_by text ≡ Ok s
 abbrev pub IsRefused : List ℕ → RefusedLine → Type 0
 IsRefused text r = told_by text ≡ Err r
 
--- the output is the report of the serial run of the scenario that the text tells
-pub record IsReport (text output : List ℕ) : Type 0 where
+-- the journals are a whole run of the board, and the headline holds of them
+pub record IsSound (s : Scenario) (js : List DomainJournal) : Type 0 where
+  pub board_run : IsBoardRun s js
+  pub whole : AreWhole s js
+  pub headline : Headline s js
+
+-- a run in this mode may leave these journals: on one thread those of the serial run. Of threads no more is said
+abbrev pub MayLeave : Mode → Scenario → List DomainJournal → Type 0
+MayLeave serial s js = js ≡ serial_run s
+MayLeave threads s js = Unit {0}
+
+-- the output is the report of a run in this mode of the scenario that the text tells, and its journals are sound
+pub record IsReport (mode : Mode) (text output : List ℕ) : Type 0 where
   pub scenario : Scenario
   pub read : IsScenario text scenario
-  pub written : output ≡ report scenario (serial_run scenario)
+  pub journals : List DomainJournal
+  pub left : MayLeave mode scenario journals
+  pub sound : IsSound scenario journals
+  pub written : output ≡ report mode scenario journals
 
 -- the output that is due for a text of a run: the report of its scenario, or the refusal
-pub data IsRunDue (text output : List ℕ) : Type 0 where
-  reported : IsReport text output → IsRunDue text output
-  refused : (r : RefusedLine) → IsRefused text r → output ≡ refusal_text r → IsRunDue text output
+pub data IsRunDue (mode : Mode) (text output : List ℕ) : Type 0 where
+  reported : IsReport mode text output → IsRunDue mode text output
+  refused : (r : RefusedLine) → IsRefused text r → output ≡ refusal_text r → IsRunDue mode text output
 
 -- the output that is due for a text that is to be a frame: what the frame says, or what is wrong
 pub data IsFrameDue (text output : List ℕ) : Type 0 where
@@ -45,13 +59,14 @@ pub data IsFrameDue (text output : List ℕ) : Type 0 where
 
 -- the output that is due for a text, by the form
 abbrev pub IsDue : Form → List ℕ → List ℕ → Type 0
-IsDue SerialRun text output = IsRunDue text output
+IsDue Run text output = IsRunDue threads text output
+IsDue SerialRun text output = IsRunDue serial text output
 IsDue Frame text output = IsFrameDue text output
 IsDue Ring bytes output = IsImageDue bytes output
 
--- the whole report was written, of an input within the limit
-abbrev pub Reports : Option (List ℕ) → Option (List ℕ) → Option (List ℕ) → Type 0
-Reports rest old new = IfSome rest (λ text. (length text ≤ input_limit) × ((output : List ℕ) × IsReport text output × Appends old new output))
+-- the whole report of a run in this mode was written, of an input within the limit
+abbrev pub Reports : Mode → Option (List ℕ) → Option (List ℕ) → Option (List ℕ) → Type 0
+Reports mode rest old new = IfSome rest (λ text. (length text ≤ input_limit) × ((output : List ℕ) × IsReport mode text output × Appends old new output))
 
 -- the whole refusal was written, of an input within the limit that tells no scenario
 abbrev pub Refuses : Option (List ℕ) → Option (List ℕ) → Option (List ℕ) → Type 0
@@ -80,15 +95,6 @@ BreaksOff form rest old new = IfSome rest (λ text. (length text ≤ input_limit
 -- more bytes came than the limit
 abbrev pub IsTooLong : Option (List ℕ) → Type 0
 IsTooLong rest = IfSome rest (λ text. input_limit < length text)
-
--- the journals of the serial run are a whole run of the board, and the headline holds of them
-pub record IsSound (s : Scenario) : Type 0 where
-  pub board_run : IsBoardRun s (serial_run s)
-  pub whole : AreWhole s (serial_run s)
-  pub headline : Headline s (serial_run s)
-
-abbrev pub IsSoundReport : Option (List ℕ) → Type 0
-IsSoundReport rest = IfSome rest (λ text. length text ≤ input_limit → (s : Scenario) → IsScenario text s → IsSound s)
 
 -- for an input within the limit: of a scenario, or of none
 abbrev pub IfScenario : Option (List ℕ) → Type 0 → Type 0

@@ -5,6 +5,7 @@ pub mod Hex
 pub mod FrameText
 pub mod ImageText
 pub mod Due
+pub mod Left
 pub mod HexFault
 pub mod Places
 pub mod Content

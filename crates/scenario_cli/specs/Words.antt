@@ -2,8 +2,9 @@
 -- Source: README.md, "Forms and statuses".
 use Rattle.std.specs.Prelude.{◌≡◌, ◌⊎◌, ℕ, List, [], ◌∷◌, map, codes, string_bytes, String}
 use Rattle.std.specs.Global.{Global}
+use Rattle.board_model.specs.Report.{Mode, serial, threads}
 use Rattle.scenario_cli.specs.declared.form.Form.{Form}
-use Rattle.scenario_cli.specs.declared.form.Form.TheVariants.{SerialRun, Frame, Ring}
+use Rattle.scenario_cli.specs.declared.form.Form.TheVariants.{Run, SerialRun, Frame, Ring}
 
 -- the words as bytes
 abbrev pub words_of : List (String Global) → List (List ℕ)
@@ -11,12 +12,18 @@ words_of words = map (λ w. string_bytes w) words
 
 -- the words of each form
 abbrev pub form_words : Form → List (List ℕ)
+form_words Run = codes "run" ∷ []
 form_words SerialRun = codes "run" ∷ codes "--serial" ∷ []
 form_words Frame = codes "frame" ∷ []
 form_words Ring = codes "ring" ∷ []
 
 abbrev pub IsForm : Form → List (List ℕ) → Type 0
 IsForm form words = words ≡ form_words form
+
+-- the form of a run in this mode
+abbrev pub run_in : Mode → Form
+run_in serial = SerialRun
+run_in threads = Run
 
 -- the words are those of one of these forms
 abbrev pub IsOneOfForms : List Form → List (List ℕ) → Type 0

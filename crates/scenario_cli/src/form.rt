@@ -6,6 +6,8 @@ ghost use Rattle.scenario_cli.specs.Words.{words_of, IsForm, IsNoForm};
 /// What the program is to do, as its words say.
 #[derive(Clone, Copy)]
 pub enum Form {
+    /// `run`: a scenario in, the report of its run on threads out.
+    Run,
     /// `run --serial`: a scenario in, the report of its serial run out.
     SerialRun,
     /// `frame`: the hexadecimal text of a frame in, what it says or its first fault out.
@@ -31,7 +33,9 @@ fn word_form(word: &String) -> Option<Form>
     ensures form { IfSome result (λ form. IsForm form (string_bytes word.now ∷ [])) }
     ensures none { IsNone result → IsNoForm (string_bytes word.now ∷ []) }
 {
-    if word.as_str() == "frame" {
+    if word.as_str() == "run" {
+        Some(Form::Run)
+    } else if word.as_str() == "frame" {
         Some(Form::Frame)
     } else if word.as_str() == "ring" {
         Some(Form::Ring)

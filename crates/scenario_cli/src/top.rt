@@ -1,11 +1,12 @@
 ghost use Rattle.std.specs.Prelude.{◌≡◌, ◌≢◌, ◌≤◌, ◌∷◌, [], ℕ, length};
 ghost use Rattle.std.specs.Io.KnownBytes.{Appends, Keeps, IsAtEnd};
+ghost use Rattle.board_model.specs.Report.{Mode};
 ghost use Rattle.outer_io.specs.Faults.{Rose};
 ghost use Rattle.outer_io.specs.Calls.{CountsOne};
 ghost use Rattle.outer_io.specs.Writes.{AppendsPart};
-ghost use Rattle.scenario_cli.specs.declared.form.Form.TheVariants.{SerialRun, Frame, Ring};
-ghost use Rattle.scenario_cli.specs.Words.{words_of, IsForm, IsNoForm, IsOneOfForms, usage_text, IsOneOf};
-ghost use Rattle.scenario_cli.specs.Due.{Reports, Refuses, IsRight, IsWrong, IsRightImage, IsWrongImage, BreaksOff, IsTooLong, IsSoundReport, IfScenario, IfNoScenario, IfSoundFrame, IfNoSoundFrame, IfSoundImage, IfNoSoundImage, IfTooLong, DueFits};
+ghost use Rattle.scenario_cli.specs.declared.form.Form.TheVariants.{Run, SerialRun, Frame, Ring};
+ghost use Rattle.scenario_cli.specs.Words.{words_of, IsForm, run_in, IsNoForm, IsOneOfForms, usage_text, IsOneOf};
+ghost use Rattle.scenario_cli.specs.Due.{Reports, Refuses, IsRight, IsWrong, IsRightImage, IsWrongImage, BreaksOff, IsTooLong, IfScenario, IfNoScenario, IfSoundFrame, IfNoSoundFrame, IfSoundImage, IfNoSoundImage, IfTooLong, DueFits};
 
 use crate::form::{Form, form_of};
 use crate::frame::tell_frame;
@@ -24,7 +25,8 @@ const INPUT_LIMIT: usize = 8_388_608;
 
 /// Does what the words say with the input, writes the output, and returns the status to end with.
 ///
-/// The form `run --serial` reads a scenario and writes the report of its serial run. The form `frame` reads the hexadecimal
+/// The form `run` reads a scenario, runs its domains on threads and writes the report of that run. The form `run --serial` does so
+/// with the serial run, on one thread. The form `frame` reads the hexadecimal
 /// text of a frame and writes what the frame says, or its first fault and the place of it. The form `ring` reads the image of a
 /// ring, as its bytes, and writes its size, its queue and its two indices, or its first fault and the place of it.
 ///
@@ -32,8 +34,10 @@ const INPUT_LIMIT: usize = 8_388_608;
 /// image, 2 where the words are none of the forms and the usage was written, 3 where the input is not a scenario and the refusal
 /// was written, 4 where a read failed, 5 where a write failed, 6 where an allocation failed, and 7 where the input has more than
 /// 8,388,608 bytes. Words come first, then reading, the grammar, the frame or the image, running, and writing.
+///
+/// The form `run` joins threads, so nothing is promised of whether it returns.
 pub fn mcrun<T: Threads + Sync, S: Source, K: Sink>(
-    _rt: &T,
+    rt: &T,
     alloc: Global,
     words: &[String],
     input: &mut S,
@@ -42,9 +46,8 @@ pub fn mcrun<T: Threads + Sync, S: Source, K: Sink>(
     // The statuses that there are.
     ensures status { IsOneOf (0 ∷ 1 ∷ 2 ∷ 3 ∷ 4 ∷ 5 ∷ 6 ∷ 7 ∷ []) result }
 
-    // 0 of a run: the report of the scenario that was read to its end, and what holds of its journals.
-    ensures reported { IsForm SerialRun (words_of words.now) → result ≡ 0 → Reports (S.rest input.old) (K.written output.old) (K.written output.new) }
-    ensures headline { IsForm SerialRun (words_of words.now) → result ≡ 0 → IsSoundReport (S.rest input.old) }
+    // 0 of a run: the report of journals that are a whole run of the board that was read, and of which the headline holds.
+    ensures headline { (mode : Mode) → IsForm (run_in mode) (words_of words.now) → result ≡ 0 → Reports mode (S.rest input.old) (K.written output.old) (K.written output.new) }
 
     // 0 of a frame: what the sound frame says.
     ensures right { IsForm Frame (words_of words.now) → result ≡ 0 → IsRight (S.rest input.old) (K.written output.old) (K.written output.new) }
@@ -66,7 +69,7 @@ pub fn mcrun<T: Threads + Sync, S: Source, K: Sink>(
 
     // 3: exactly where the input is no scenario.
     ensures refused { result ≡ 3 → Refuses (S.rest input.old) (K.written output.old) (K.written output.new) }
-    ensures refused_words { result ≡ 3 → IsForm SerialRun (words_of words.now) }
+    ensures refused_words { result ≡ 3 → IsOneOfForms (Run ∷ SerialRun ∷ []) (words_of words.now) }
 
     // 4 and 5: exactly where a read or a write failed in this call.
     ensures read_failed { result ≡ 4 → Rose (S.faults input.old) (S.faults input.new) }
@@ -88,8 +91,8 @@ pub fn mcrun<T: Threads + Sync, S: Source, K: Sink>(
     ensures write_faults { K.faults output.old ≤ K.faults output.new }
 
     // Completeness: what the status is where nothing fails and no memory is wanting.
-    ensures scenario { IsForm SerialRun (words_of words.now) → IfScenario (S.rest input.old) (IsOneOf (0 ∷ 4 ∷ 5 ∷ 6 ∷ []) result) }
-    ensures no_scenario { IsForm SerialRun (words_of words.now) → IfNoScenario (S.rest input.old) (IsOneOf (3 ∷ 4 ∷ 5 ∷ 6 ∷ []) result) }
+    ensures scenario { (mode : Mode) → IsForm (run_in mode) (words_of words.now) → IfScenario (S.rest input.old) (IsOneOf (0 ∷ 4 ∷ 5 ∷ 6 ∷ []) result) }
+    ensures no_scenario { (mode : Mode) → IsForm (run_in mode) (words_of words.now) → IfNoScenario (S.rest input.old) (IsOneOf (3 ∷ 4 ∷ 5 ∷ 6 ∷ []) result) }
     ensures sound_frame { IsForm Frame (words_of words.now) → IfSoundFrame (S.rest input.old) (IsOneOf (0 ∷ 4 ∷ 5 ∷ 6 ∷ []) result) }
     ensures unsound_frame { IsForm Frame (words_of words.now) → IfNoSoundFrame (S.rest input.old) (IsOneOf (1 ∷ 4 ∷ 5 ∷ 6 ∷ []) result) }
     ensures sound_image { IsForm Ring (words_of words.now) → IfSoundImage (S.rest input.old) (IsOneOf (0 ∷ 4 ∷ 5 ∷ 6 ∷ []) result) }
@@ -104,7 +107,8 @@ pub fn mcrun<T: Threads + Sync, S: Source, K: Sink>(
     };
     match read_all(alloc, input, INPUT_LIMIT) {
         Ok(text) => match form {
-            Form::SerialRun => run_text(alloc, &text, output),
+            Form::Run => run_text(rt, alloc, true, &text, output),
+            Form::SerialRun => run_text(rt, alloc, false, &text, output),
             Form::Frame => tell_frame(alloc, &text, output),
             Form::Ring => tell_image(&text, output),
         },

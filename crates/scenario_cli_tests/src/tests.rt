@@ -13,6 +13,7 @@ mod linked;
 mod payloads;
 mod refusals;
 mod requests;
+mod threads;
 mod unlinked;
 
 /// Two endpoints and one message.
@@ -279,7 +280,7 @@ fn assert_limits<T: Threads + Sync + Abort>(
 /// Words and a text, and the status and the output that come of them.
 type Outcome<'a> = (&'a [&'a str], &'a [u8], u8, &'a [u8]);
 
-static OUTCOMES: [Outcome<'static>; 15] = [
+static OUTCOMES: [Outcome<'static>; 14] = [
     (SERIAL, MESSAGE, 0, MESSAGE_REPORT),
     (SERIAL, ONE_BUFFER, 0, ONE_BUFFER_REPORT),
     (SERIAL, NO_CALL, 0, NO_CALL_REPORT),
@@ -287,7 +288,6 @@ static OUTCOMES: [Outcome<'static>; 15] = [
     (&["run", "fast"], MESSAGE, 2, USAGE),
     (SERIAL, b"", 3, REFUSED),
     (&[], MESSAGE, 2, USAGE),
-    (&["run"], MESSAGE, 2, USAGE),
     (&["--serial", "run"], MESSAGE, 2, USAGE),
     (&["run", "--serial", ""], MESSAGE, 2, USAGE),
     (&["run", "frame"], MESSAGE, 2, USAGE),

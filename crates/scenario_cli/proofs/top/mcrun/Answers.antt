@@ -3,21 +3,22 @@ use Rattle.std.specs.Io.KnownBytes.{Appends}
 use Rattle.outer_io.specs.Writes.{AppendsPart}
 use Rattle.ring_trace.specs.declared.checking.ImageInfo.{ImageInfo}
 use Rattle.ring_trace.specs.declared.checking.ImageFault.{ImageFault}
-use Rattle.scenario_cli.specs.declared.form.Form.TheVariants.{SerialRun, Frame, Ring}
-use Rattle.scenario_cli.specs.Words.{IsOneOf, input_limit}
+use Rattle.scenario_cli.specs.declared.form.Form.TheVariants.{Run, SerialRun, Frame, Ring}
+use Rattle.board_model.specs.Report.{serial, threads}
+use Rattle.scenario_cli.specs.Words.{IsOneOf, input_limit, run_in}
 use Rattle.scenario_cli.specs.FrameText.{TellsRight, TellsWrong}
 use Rattle.scenario_cli.specs.ImageText.{IsImage, IsNoImage, image_line, image_fault_line}
-use Rattle.scenario_cli.specs.Due.{IsDue}
-use Rattle.scenario_cli.proofs.WordLemmas.{one_form}
-use Rattle.scenario_cli.proofs.Inputs.{if_text, if_scenario, if_no_scenario, if_sound, if_unsound, if_image, if_no_image, due_fits, sound_report}
+use Rattle.scenario_cli.specs.Due.{IsDue, IsReport}
+use Rattle.scenario_cli.proofs.WordLemmas.{one_form, one_mode, run_no_frame, run_no_ring}
+use Rattle.scenario_cli.proofs.Inputs.{if_text, if_scenario, if_no_scenario, if_sound, if_unsound, if_image, if_no_image, due_fits}
 use Rattle.scenario_cli.proofs.Statuses.{not_three, not_zero, not_one, one_left, or_no_memory}
 use Rattle.scenario_cli.proofs.top.mcrun.Goals as goal
 
 pub returns-in_default-clause-scenario : goal.returns-in_default-clause-scenario
-returns-in_default-clause-scenario g c = λ form. absurd (c.in_default.ensures.none refl SerialRun form)
+returns-in_default-clause-scenario g c = λ mode form. absurd (c.in_default.ensures.none refl (run_in mode) form)
 
 pub returns-in_default-clause-no_scenario : goal.returns-in_default-clause-no_scenario
-returns-in_default-clause-no_scenario g c = λ form. absurd (c.in_default.ensures.none refl SerialRun form)
+returns-in_default-clause-no_scenario g c = λ mode form. absurd (c.in_default.ensures.none refl (run_in mode) form)
 
 pub returns-in_default-clause-sound_frame : goal.returns-in_default-clause-sound_frame
 returns-in_default-clause-sound_frame g c = λ form. absurd (c.in_default.ensures.none refl Frame form)
@@ -31,27 +32,64 @@ returns-in_default-clause-sound_image g c = λ form. absurd (c.in_default.ensure
 pub returns-in_default-clause-unsound_image : goal.returns-in_default-clause-unsound_image
 returns-in_default-clause-unsound_image g c = λ form. absurd (c.in_default.ensures.none refl Ring form)
 
+pub returns-in-Run-clause-headline : goal.returns-in-Run-clause-headline
+returns-in-Run-clause-headline g c = λ mode form is.
+    let same : mode ≡ threads = one_mode mode threads _ form (rw c.in-Run.is at c.in-Some.ensures.form) in
+    let within : length c.deref.result.now ≤ 8388608 = rw (← c.deref.ensures.value) at c.in-Ok.ensures.within in
+    rw same (if_text _ _ _ (λ t. (length t ≤ input_limit) × ((output : List ℕ) × IsReport threads t output × Appends (g.K.Sink.written c.args.output.now) (g.K.Sink.written c.run_text.new.output) output)) (rw (← c.deref.ensures.value) at c.in-Ok.ensures.bytes) c.in-Ok.ensures.end (within, c.run_text.ensures.reported is))
+
+pub returns-in-Run-clause-breaks_off : goal.returns-in-Run-clause-breaks_off
+returns-in-Run-clause-breaks_off g c = λ f form is.
+    let same : f ≡ Run = one_form f Run _ form (rw c.in-Run.is at c.in-Some.ensures.form) in
+    let within : length c.deref.result.now ≤ 8388608 = rw (← c.deref.ensures.value) at c.in-Ok.ensures.within in
+    rw same (if_text _ _ _ (λ t. (length t ≤ input_limit) × ((output : List ℕ) × IsDue Run t output × AppendsPart (g.K.Sink.written c.args.output.now) (g.K.Sink.written c.run_text.new.output) output)) (rw (← c.deref.ensures.value) at c.in-Ok.ensures.bytes) c.in-Ok.ensures.end (within, c.run_text.ensures.breaks_off is))
+
+pub returns-in-Run-clause-scenario : goal.returns-in-Run-clause-scenario
+returns-in-Run-clause-scenario g c = λ mode form.
+    if_scenario _ _ _ _ (rw (← c.deref.ensures.value) at c.in-Ok.ensures.bytes) c.in-Ok.ensures.end (λ s is. not_three c.run_text.result c.run_text.ensures.status (c.run_text.ensures.scenario s is))
+
+pub returns-in-Run-clause-no_scenario : goal.returns-in-Run-clause-no_scenario
+returns-in-Run-clause-no_scenario g c = λ mode form.
+    if_no_scenario _ _ _ _ (rw (← c.deref.ensures.value) at c.in-Ok.ensures.bytes) c.in-Ok.ensures.end (λ r is. not_zero c.run_text.result c.run_text.ensures.status (c.run_text.ensures.no_scenario r is))
+
+pub returns-in-Run-clause-sound_sink : goal.returns-in-Run-clause-sound_sink
+returns-in-Run-clause-sound_sink g c = λ f n form fits takes.
+    let same : f ≡ Run = one_form f Run _ form (rw c.in-Run.is at c.in-Some.ensures.form) in
+    c.run_text.ensures.room n (due_fits Run _ _ _ n (rw (← c.deref.ensures.value) at c.in-Ok.ensures.bytes) c.in-Ok.ensures.end (rw same at fits)) takes
+
 pub returns-in-SerialRun-clause-headline : goal.returns-in-SerialRun-clause-headline
-returns-in-SerialRun-clause-headline g c = λ form is. sound_report (g.S.Source.rest c.args.input.now)
+returns-in-SerialRun-clause-headline g c = λ mode form is.
+    let same : mode ≡ serial = one_mode mode serial _ form (rw c.in-SerialRun.is at c.in-Some.ensures.form) in
+    let within : length c.deref-in-SerialRun.result.now ≤ 8388608 = rw (← c.deref-in-SerialRun.ensures.value) at c.in-Ok.ensures.within in
+    rw same (if_text _ _ _ (λ t. (length t ≤ input_limit) × ((output : List ℕ) × IsReport serial t output × Appends (g.K.Sink.written c.args.output.now) (g.K.Sink.written c.run_text-in-SerialRun.new.output) output)) (rw (← c.deref-in-SerialRun.ensures.value) at c.in-Ok.ensures.bytes) c.in-Ok.ensures.end (within, c.run_text-in-SerialRun.ensures.reported is))
 
 pub returns-in-SerialRun-clause-breaks_off : goal.returns-in-SerialRun-clause-breaks_off
 returns-in-SerialRun-clause-breaks_off g c = λ f form is.
     let same : f ≡ SerialRun = one_form f SerialRun _ form (rw c.in-SerialRun.is at c.in-Some.ensures.form) in
-    let within : length c.deref.result.now ≤ 8388608 = rw (← c.deref.ensures.value) at c.in-Ok.ensures.within in
-    rw same (if_text _ _ _ (λ t. (length t ≤ input_limit) × ((output : List ℕ) × IsDue SerialRun t output × AppendsPart (g.K.Sink.written c.args.output.now) (g.K.Sink.written c.run_text.new.output) output)) (rw (← c.deref.ensures.value) at c.in-Ok.ensures.bytes) c.in-Ok.ensures.end (within, c.run_text.ensures.breaks_off is))
+    let within : length c.deref-in-SerialRun.result.now ≤ 8388608 = rw (← c.deref-in-SerialRun.ensures.value) at c.in-Ok.ensures.within in
+    rw same (if_text _ _ _ (λ t. (length t ≤ input_limit) × ((output : List ℕ) × IsDue SerialRun t output × AppendsPart (g.K.Sink.written c.args.output.now) (g.K.Sink.written c.run_text-in-SerialRun.new.output) output)) (rw (← c.deref-in-SerialRun.ensures.value) at c.in-Ok.ensures.bytes) c.in-Ok.ensures.end (within, c.run_text-in-SerialRun.ensures.breaks_off is))
 
 pub returns-in-SerialRun-clause-scenario : goal.returns-in-SerialRun-clause-scenario
-returns-in-SerialRun-clause-scenario g c = λ form.
-    if_scenario _ _ _ _ (rw (← c.deref.ensures.value) at c.in-Ok.ensures.bytes) c.in-Ok.ensures.end (λ s is. not_three c.run_text.result c.run_text.ensures.status (c.run_text.ensures.scenario s is))
+returns-in-SerialRun-clause-scenario g c = λ mode form.
+    if_scenario _ _ _ _ (rw (← c.deref-in-SerialRun.ensures.value) at c.in-Ok.ensures.bytes) c.in-Ok.ensures.end (λ s is. not_three c.run_text-in-SerialRun.result c.run_text-in-SerialRun.ensures.status (c.run_text-in-SerialRun.ensures.scenario s is))
 
 pub returns-in-SerialRun-clause-no_scenario : goal.returns-in-SerialRun-clause-no_scenario
-returns-in-SerialRun-clause-no_scenario g c = λ form.
-    if_no_scenario _ _ _ _ (rw (← c.deref.ensures.value) at c.in-Ok.ensures.bytes) c.in-Ok.ensures.end (λ r is. not_zero c.run_text.result c.run_text.ensures.status (c.run_text.ensures.no_scenario r is))
+returns-in-SerialRun-clause-no_scenario g c = λ mode form.
+    if_no_scenario _ _ _ _ (rw (← c.deref-in-SerialRun.ensures.value) at c.in-Ok.ensures.bytes) c.in-Ok.ensures.end (λ r is. not_zero c.run_text-in-SerialRun.result c.run_text-in-SerialRun.ensures.status (c.run_text-in-SerialRun.ensures.no_scenario r is))
 
 pub returns-in-SerialRun-clause-sound_sink : goal.returns-in-SerialRun-clause-sound_sink
 returns-in-SerialRun-clause-sound_sink g c = λ f n form fits takes.
     let same : f ≡ SerialRun = one_form f SerialRun _ form (rw c.in-SerialRun.is at c.in-Some.ensures.form) in
-    c.run_text.ensures.room n (due_fits SerialRun _ _ _ n (rw (← c.deref.ensures.value) at c.in-Ok.ensures.bytes) c.in-Ok.ensures.end (rw same at fits)) takes
+    c.run_text-in-SerialRun.ensures.room n (due_fits SerialRun _ _ _ n (rw (← c.deref-in-SerialRun.ensures.value) at c.in-Ok.ensures.bytes) c.in-Ok.ensures.end (rw same at fits)) takes
+
+pub returns-in-Frame-clause-headline : goal.returns-in-Frame-clause-headline
+returns-in-Frame-clause-headline g c = λ mode form. absurd (run_no_frame mode _ form (rw c.in-Frame.is at c.in-Some.ensures.form))
+
+pub returns-in-Frame-clause-scenario : goal.returns-in-Frame-clause-scenario
+returns-in-Frame-clause-scenario g c = λ mode form. absurd (run_no_frame mode _ form (rw c.in-Frame.is at c.in-Some.ensures.form))
+
+pub returns-in-Frame-clause-no_scenario : goal.returns-in-Frame-clause-no_scenario
+returns-in-Frame-clause-no_scenario g c = λ mode form. absurd (run_no_frame mode _ form (rw c.in-Frame.is at c.in-Some.ensures.form))
 
 pub returns-in-Frame-clause-right : goal.returns-in-Frame-clause-right
 returns-in-Frame-clause-right g c = λ form is.
@@ -120,3 +158,12 @@ pub returns-in-Ok-clause-sound_sink : goal.returns-in-Ok-clause-sound_sink
 returns-in-Ok-clause-sound_sink g c = λ f n form fits takes.
     let same : f ≡ Ring = one_form f Ring _ form (rw c.in-Ring.is at c.in-Some.ensures.form) in
     c.tell_image.ensures.room n (due_fits Ring _ _ _ n (rw (← c.deref-in-Ring.ensures.value) at c.in-Ok.ensures.bytes) c.in-Ok.ensures.end (rw same at fits)) takes
+
+pub returns-in-Ok-clause-headline : goal.returns-in-Ok-clause-headline
+returns-in-Ok-clause-headline g c = λ mode form. absurd (run_no_ring mode _ form (rw c.in-Ring.is at c.in-Some.ensures.form))
+
+pub returns-in-Ok-clause-scenario : goal.returns-in-Ok-clause-scenario
+returns-in-Ok-clause-scenario g c = λ mode form. absurd (run_no_ring mode _ form (rw c.in-Ring.is at c.in-Some.ensures.form))
+
+pub returns-in-Ok-clause-no_scenario : goal.returns-in-Ok-clause-no_scenario
+returns-in-Ok-clause-no_scenario g c = λ mode form. absurd (run_no_ring mode _ form (rw c.in-Ring.is at c.in-Some.ensures.form))

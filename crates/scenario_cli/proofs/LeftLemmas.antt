@@ -1,0 +1,60 @@
+-- What the run of a board leaves is written as a report, in either mode.
+use Rattle.std.proofs.Common.{◌≡◌, ℕ, List, [], Result, Ok, Err, length, ap, arith, refl}
+use Rattle.std.specs.Prelude.{IfOk}
+use Rattle.mc_base.specs.declared.refusal.NoMemory.{NoMemory}
+use Rattle.std.proofs.lemmas.List.{length-map}
+use Rattle.board_model.specs.declared.scenario.Scenario.{Scenario}
+use Rattle.board_model.specs.SerialRun.{serial_run}
+use Rattle.board_model.specs.Report.{Mode, serial, threads, report, report_of, lines_of}
+use Rattle.board_model.specs.Board.{DomainJournal, IsBoardRun, AreWhole}
+use Rattle.board_model.specs.Language.{IsLawfulBoard}
+use Rattle.board_model.proofs.BoardsNeighbours.{rising-length}
+use Rattle.board_model.proofs.Headlines.{linked_headline}
+use Rattle.board_model.proofs.LawfulBoards.{lawful_is_linked}
+use Rattle.board_model.proofs.LawfulRuns.{lawful_run}
+use Rattle.mc_journal.specs.Written.{Written}
+use Rattle.board_runner.specs.declared.outcome.Outcome.{Outcome}
+use Rattle.board_runner.specs.Outcome.{IsOutcome, lines_in}
+use Rattle.board_runner.specs.ThreadRun.{IsThreadRun}
+use Rattle.scenario_cli.specs.Due.{IsSound, IsScenario, IsReport}
+use Rattle.scenario_cli.specs.Left.{IsLeft, IsReportOf}
+
+-- the headline holds of every whole run of the board
+sound_of : (s : Scenario) (js : List DomainJournal) → IsLawfulBoard s → IsBoardRun s js → AreWhole s js → IsSound s js
+sound_of s js lawful run whole = record { board_run = run; whole = whole; headline = linked_headline s js (lawful_is_linked s lawful) run }
+
+left_serial : (s : Scenario) (o : Outcome) → IsLawfulBoard s → IsOutcome s o (serial_run s) → IsLeft serial s o
+left_serial s o lawful is =
+    let run = lawful_run s lawful in
+    record { journals = serial_run s; left = refl; sound = sound_of s (serial_run s) lawful run.0 run.1; told = record { journals = is.journals; rings = refl; places = is.places; channels = is.channels; messages = is.messages } }
+
+left_threads : (s : Scenario) (o : Outcome) → IsLawfulBoard s → IsThreadRun s o → IsLeft threads s o
+left_threads s o lawful is = record { journals = is.journals; left = tt; sound = sound_of s is.journals lawful is.run is.whole; told = is.tells }
+
+-- so it is with what a run answers
+pub if_left_serial : (s : Scenario) (r : Result Outcome NoMemory) → IsLawfulBoard s → IfOk r (λ o. IsOutcome s o (serial_run s)) → IfOk r (IsLeft serial s)
+if_left_serial s (Ok o) lawful is = left_serial s o lawful is
+if_left_serial s (Err e) lawful is = tt
+
+pub if_left_threads : (s : Scenario) (r : Result Outcome NoMemory) → IsLawfulBoard s → IfOk r (IsThreadRun s) → IfOk r (IsLeft threads s)
+if_left_threads s (Ok o) lawful is = left_threads s o lawful is
+if_left_threads s (Err e) lawful is = tt
+
+-- its report is what is written of the outcome
+pub report_left : (mode : Mode) (s : Scenario) (o : Outcome) → IsLeft mode s o → IsReportOf mode s (report_of mode s (lines_in o.journals) o.channels o.messages o.places [])
+unfolding report
+report_left mode s o is = record { journals = is.journals; left = is.left; sound = is.sound; written = rw (is.told.journals, is.told.channels, is.told.messages, is.told.places) (cc) }
+
+-- it has a journal for each domain
+pub journals-each : (mode : Mode) (s : Scenario) (o : Outcome) → IsLeft mode s o → length o.journals ≡ length s.domains
+journals-each mode s o is =
+    let told = ap length is.told.journals in
+    let each = ap length is.sound.board_run.each_domain in
+    let counted = length-map o.journals (λ (j : Written). j.lines) in
+    let runs = length-map is.journals lines_of in
+    let lines = length-map is.journals (λ (j : DomainJournal). j.line) in
+    omega (arith, told, each, counted, runs, lines, rising-length s)
+
+-- of the scenario that a text tells
+pub reported_of : (mode : Mode) (text output : List ℕ) (s : Scenario) → IsScenario text s → IsReportOf mode s output → IsReport mode text output
+reported_of mode text output s read is = record { scenario = s; read = read; journals = is.journals; left = is.left; sound = is.sound; written = is.written }

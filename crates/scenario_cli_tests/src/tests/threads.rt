@@ -1,0 +1,185 @@
+use super::{
+    EMPTY, Given, MESSAGE, MESSAGE_REPORT, NO_CALL, NO_CALL_REPORT, ONE_BUFFER, ONE_BUFFER_REPORT,
+    REFUSED, comes_out, outcome_of, repeated_comes_out,
+};
+use std::test::Fail;
+
+const THREADS: &[&str] = &["run"];
+
+const SERIAL_HEADING: &[u8] = b"mcapi-report 1 serial\n";
+
+const THREADS_HEADING: &[u8] = b"mcapi-report 1 threads\n";
+
+/// The form `run` on the scenario of one message, with streams that fail nowhere.
+const ON_THREADS: Given<'static> = Given {
+    words: THREADS,
+    text: MESSAGE,
+    ..EMPTY
+};
+
+/// How long its report is.
+const LENGTH: usize = MESSAGE_REPORT.len() + 1;
+
+static ONE_DOMAIN: [(&[u8], &[u8]); 3] = [
+    (MESSAGE, MESSAGE_REPORT),
+    (ONE_BUFFER, ONE_BUFFER_REPORT),
+    (NO_CALL, NO_CALL_REPORT),
+];
+
+/// The bytes after a front, or `None` where they begin otherwise.
+fn after<'a>(front: &[u8], bytes: &'a [u8]) -> Option<&'a [u8]> {
+    if bytes.starts_with(front) {
+        bytes.get(front.len()..)
+    } else {
+        None
+    }
+}
+
+/// One domain has nobody to run beside, so its report is that of the serial run under another heading.
+#[test]
+fn one_domain_on_threads(rt: HostRuntime) -> Result<(), Fail> {
+    for (text, report) in &ONE_DOMAIN {
+        let given = Given {
+            text: *text,
+            ..ON_THREADS
+        };
+        let (status, output) = outcome_of(&rt, rt.alloc(), given)?;
+        let written = after(THREADS_HEADING, output.written()).ok_or("heading")?;
+        assert!(rt; status == 0);
+        assert!(rt; after(SERIAL_HEADING, *report) == Some(written));
+    }
+    Ok(())
+}
+
+/// A call, its status, and how many bytes of the report it writes.
+static CUTS: [(Given<'static>, u8, usize); 6] = [
+    (
+        Given {
+            failing_read: 0,
+            ..ON_THREADS
+        },
+        4,
+        0,
+    ),
+    (
+        Given {
+            failing_read: 1,
+            ..ON_THREADS
+        },
+        4,
+        0,
+    ),
+    (
+        Given {
+            failing_write: 0,
+            ..ON_THREADS
+        },
+        5,
+        0,
+    ),
+    (
+        Given {
+            failing_write: 14,
+            step: 1,
+            ..ON_THREADS
+        },
+        5,
+        14,
+    ),
+    (
+        Given {
+            room: LENGTH,
+            ..ON_THREADS
+        },
+        0,
+        LENGTH,
+    ),
+    (
+        Given {
+            room: LENGTH - 1,
+            ..ON_THREADS
+        },
+        5,
+        LENGTH - 1,
+    ),
+];
+
+#[test]
+fn streams_that_fail_on_threads(rt: HostRuntime) -> Result<(), Fail> {
+    let (_, whole) = outcome_of(&rt, rt.alloc(), ON_THREADS)?;
+    for (i, (given, status, length)) in CUTS.iter().enumerate() {
+        let written = whole.written().get(..*length).ok_or("length")?;
+        assert!(rt;
+            comes_out(&rt, rt.alloc(), *given, *status, written)?,
+            "row {i}"
+        );
+    }
+    Ok(())
+}
+
+/// Texts that are no scenario, and the refusal of each.
+static REFUSALS: [(&[u8], &[u8]); 3] = [
+    (b"", REFUSED),
+    (b"domain 0 nodes 0 pool 2\n", b"refused 1 number\n"),
+    (b"domain 0 nodes 1 pool 2\n0.0 fly 1\n", b"refused 2 form\n"),
+];
+
+#[test]
+fn refusals_on_threads(rt: HostRuntime) -> Result<(), Fail> {
+    for (i, (text, written)) in REFUSALS.iter().enumerate() {
+        let given = Given {
+            text: *text,
+            ..ON_THREADS
+        };
+        assert!(rt; comes_out(&rt, rt.alloc(), given, 3, *written)?, "row {i}");
+    }
+    Ok(())
+}
+
+#[test]
+fn limit_of_the_input_on_threads(rt: HostRuntime) -> Result<(), Fail> {
+    let long = (b'7', 8_388_608);
+    assert!(rt; repeated_comes_out(&rt, rt.alloc(), THREADS, long, 3, b"refused 1 long\n")?);
+    let longer = (b'7', 8_388_609);
+    assert!(rt; repeated_comes_out(&rt, rt.alloc(), THREADS, longer, 7, b"")?);
+    Ok(())
+}
+
+/// Two linked domains that send each other a message, and tell by tries when it came.
+const LINKED: &[u8] = b"domain 0 nodes 1 pool 2
+domain 1 nodes 1 pool 2
+link 0 1 size 4
+0.0 create 1
+0.0 far = lookup 1:0:1
+0.0 try 4294967295 test far
+0.0 try 4294967295 msg_send 1 1:0:1 1 7069
+0.0 try 4294967295 msg_recv 1 9
+1.0 create 1
+1.0 far = lookup 0:0:1
+1.0 try 4294967295 test far
+1.0 try 4294967295 msg_send 1 0:0:1 1 706f
+1.0 try 4294967295 msg_recv 1 9
+";
+
+const LINKED_MESSAGES: &[u8] = b"messages accepted 2 taken 2 dropped 0 queued 0 ring 0\n";
+
+/// How long four lines of lanes with numbers of one digit are, with the last line of the report.
+const LINKED_END: usize = 4 * b"lane 0 0 free 2 ring 0 queue 0 lent 0\n".len() + b"end\n".len();
+
+#[test]
+fn two_linked_domains_on_threads(rt: HostRuntime) -> Result<(), Fail> {
+    let given = Given {
+        text: LINKED,
+        ..ON_THREADS
+    };
+    for _run in 0..20 {
+        let (status, output) = outcome_of(&rt, rt.alloc(), given)?;
+        let written = output.written();
+        assert!(rt; status == 0);
+        assert!(rt; written.starts_with(THREADS_HEADING));
+        let above = written.len().saturating_sub(LINKED_END);
+        let messages = written.get(..above).ok_or("length")?;
+        assert!(rt; messages.ends_with(LINKED_MESSAGES));
+    }
+    Ok(())
+}
