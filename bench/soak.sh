@@ -1,0 +1,71 @@
+#!/bin/sh
+# Runs boards on threads for a long time, and stops at the first report whose totals are wrong:
+#   as many messages over one link as an input of `run` holds, again and again until MESSAGES have gone over;
+#   a host that sends 300 messages to each of two remotes and receives as many from each, RUNS times;
+#   two domains whose journals outgrow their memory: out of memory on a thread is status 6, and nothing is written.
+# Run it at the top of the repository, where crates/mcrun is built: sh bench/soak.sh [MESSAGES [RUNS]]
+# Without numbers MESSAGES is 10,000,000 and RUNS 1,000.
+set -e
+exec python3 - crates/mcrun/out/mcrun "$@" <<'END'
+import resource, subprocess, sys, tempfile, time
+
+PROGRAM = sys.argv[1]
+MESSAGES, RUNS = [int(n) for n in sys.argv[2:] + ["10000000", "1000"][len(sys.argv) - 2:]]
+LIMIT = 8_388_608           # the most bytes of an input
+TRY = "try 99999999"        # until the answer is there
+
+def text(lines):
+    return ("\n".join(lines) + "\n").encode()
+
+def board(domains, links):
+    head = [f"domain {d} nodes 1 pool 2" for d in range(domains)] + [f"link {a} {b} size 256" for a, b in links]
+    head += [f"{d}.0 create 1" for d in range(domains)]
+    both = [*links, *((b, a) for a, b in links)]
+    return head + [f"{a}.0 n{b} = lookup {b}:0:1" for a, b in both] + [f"{a}.0 {TRY} test n{b}" for a, b in both]
+
+def send(here, there):
+    return f"{here}.0 {TRY} msg_send 1 {there}:0:1 0 -"
+
+def receive(here):
+    return f"{here}.0 {TRY} msg_recv 1 0"
+
+def run(given, memory=None):
+    limit = (lambda: resource.setrlimit(resource.RLIMIT_DATA, (memory, memory))) if memory else None
+    with tempfile.TemporaryFile() as file, tempfile.TemporaryFile() as written:
+        file.write(given)
+        file.seek(0)
+        done = subprocess.run([PROGRAM, "run"], stdin=file, stdout=written, preexec_fn=limit)
+        written.seek(0)
+        return done.returncode, written.read()
+
+def run_whole(given, messages):
+    status, report = run(given)
+    totals = f"\nmessages accepted {messages} taken {messages} dropped 0 queued 0 ring 0\n"
+    if status or totals.encode() not in report:
+        sys.exit(f"status {status}, and not {messages} messages taken")
+
+def soak(name, given, messages, runs):
+    start = time.perf_counter()
+    for _ in range(runs):
+        run_whole(given, messages)
+    print(f"{name}: {messages * runs} messages in {runs} runs, {time.perf_counter() - start:.0f} s", flush=True)
+
+head = board(2, [(0, 1)])
+pair = [send(0, 1), receive(1)]
+count = (LIMIT - len(text(head))) // len(text(pair))
+soak("one link", text(head + pair * count), count, -(-MESSAGES // count))
+
+rounds = [send(0, 1), send(0, 2), receive(0), receive(0), send(1, 0), receive(1), send(2, 0), receive(2)]
+soak("a host and two remotes", text(board(3, [(0, 1), (0, 2)]) + rounds * 300), 1200, RUNS)
+
+alone = [line for d in range(2) for line in [f"domain {d} nodes 1 pool 2"]] + [f"{d}.0 create 1" for d in range(2)]
+alone += [line for d in range(2) for line in [f"{d}.0 msg_send 1 {d}:0:1 0 " + "ab" * 488, f"{d}.0 msg_recv 1 0"]] * 1000
+whole = b"\nmessages accepted 2000 taken 2000 dropped 0 queued 0 ring 0\n"
+statuses = []
+for megabytes in range(1, 25):
+    status, written = run(text(alone), megabytes << 20)
+    statuses.append(status)
+    if not (status == 6 and not written or status == 0 and whole in written):
+        sys.exit(f"status {status} with {megabytes} MB, and {len(written)} bytes written")
+print(f"data of 1 to 24 MB: {statuses.count(6)} times out of memory and nothing written, {statuses.count(0)} times a whole report")
+END
