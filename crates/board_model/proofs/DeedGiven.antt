@@ -7,7 +7,7 @@ use Rattle.board_model.specs.declared.scenario.CallLine.{CallLine}
 use Rattle.board_model.specs.declared.scenario.Scenario.{Scenario}
 use Rattle.board_model.specs.Scenario.{script}
 use Rattle.board_model.specs.LinkedBoard.{IsLinkedBoard}
-use Rattle.board_model.specs.Journal.{PlainEntry, turned, put, again, called, refuses, Visit, Taken, PlainAnswer}
+use Rattle.board_model.specs.Journal.{PlainEntry, turned, put, again, waits, called, refuses, Visit, Taken, PlainAnswer}
 use Rattle.board_model.specs.State.{DomainState, is_from}
 use Rattle.board_model.specs.Dealing.{keeps_buffer}
 use Rattle.board_model.specs.Answer.{answer}
@@ -61,6 +61,7 @@ entry-names : (lines : List CallLine) (before : List PlainEntry) (r : RunState) 
 entry-names lines before r (turned vs) = turn_names before vs
 entry-names lines before r (put q frame) = tt
 entry-names lines before r (again word) = call_names (next_line lines r) r (refuses word)
+entry-names lines before r (waits k) = tt
 entry-names lines before r (called k a) = call_names (next_line lines r) r a
 
 module _ (p : ℕ) where
@@ -122,6 +123,7 @@ module _ (p : ℕ) where
         let told : refuses word ≡ answer t line.node (call_at r line) = allowed.2 ∙ (ap (λ s. answer s line.node (call_at r line)) same ∙ answer-unnamed t line.node (call_at r line)) in
         ap (λ o. length (along (names_given p) t (call_deeds o r (refuses word)))) allowed.1
         ∙ ap (λ items. length (frames_from p items ++ [])) (none-returned t line.node word (call_at r line) told)
+    entry_given before r t (waits k) same held allowed = refl
     entry_given before r t (called k a) same held allowed =
         let line : CallLine = allowed.0 in
         ap (λ o. length (along (names_given p) t (call_deeds o r a))) allowed.1

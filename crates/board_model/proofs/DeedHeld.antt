@@ -7,8 +7,8 @@ use Rattle.mc_base.specs.declared.channel.Side.TheVariants.{Sender, Receiver}
 use Rattle.mc_base.specs.declared.refusal.Refusal.{Refusal}
 use Rattle.board_model.specs.State.{Item, Endpoint, name_of, channel_of, message_at, packet_at, Asked, Outcome, has_address, is_accepted, is_rejected, has_item, has_ended, item_in, Request, LentPacket, DomainState, live_at, request_at_place, packet_at_place, is_from}
 use Rattle.board_model.specs.Choice.{oldest}
-use Rattle.board_model.specs.DomainCall.{DomainCall, delete_at, receive_at, release_of, scalar_at, close_at, test_of}
-use Rattle.board_model.specs.Answer.{local, refusal, answer, unless_refused}
+use Rattle.board_model.specs.DomainCall.{DomainCall, delete_at, receive_at, release_of, scalar_at, close_at, test_of, wait_for}
+use Rattle.board_model.specs.Answer.{first_complete, local, refusal, answer, unless_refused}
 use Rattle.board_model.specs.Journal.{refuses}
 use Rattle.board_model.specs.CallChanges.{at_live, best_item, item_lent, message_held, held_by, success_returned, returned}
 use Rattle.board_model.specs.Deeds.{Deed, looks_back, puts_owed, looks_ahead, takes, calls, after_deed, after_deeds}
@@ -18,7 +18,7 @@ use Rattle.board_model.proofs.LaneRows.{item-frames}
 use Rattle.board_model.proofs.ItemsHeld.{Held, BringsItems, deed-holds, returned-holds}
 use Rattle.board_model.proofs.DeedRuns.{unnamed_item, unnamed_end, unnamed_request, unnamed_outcome, unnamed_packet, unnamed}
 use Rattle.board_model.proofs.UnnamedChanges.{live-unnamed}
-use Rattle.board_model.proofs.UnnamedCalls.{refusal-unnamed, request-unnamed, packet-unnamed, best-unnamed, oldest-unnamed, refused-is}
+use Rattle.board_model.proofs.UnnamedCalls.{refusal-unnamed, request-unnamed, packet-unnamed, best-unnamed, oldest-unnamed, refused-is, first-unnamed}
 
 -- brought by one frame
 abbrev pub IsOne : Item → Type 0
@@ -98,6 +98,9 @@ module _ (t : DomainState) (node : ℕ) where
   success_same (close_at port Sender) = refl
   success_same (close_at port Receiver) = live_same t (local node port) (λ e. e.queue) (λ e. refl)
   success_same (test_of request) = ap held_by (request-unnamed t request) ∙ same_held (request_at_place t request)
+  success_same (wait_for requests says_place) =
+      ap (λ p. held_by (request_at_place (unnamed t) p)) (first-unnamed t requests)
+      ∙ (ap held_by (request-unnamed t (first_complete t requests)) ∙ same_held (request_at_place t (first_complete t requests)))
   success_same other = refl
 
   pub returned-same : (call : DomainCall) → returned (unnamed t) node call ≡ map unnamed_item (returned t node call)

@@ -7,7 +7,7 @@ use Rattle.std.proofs.lemmas.List.{append_assoc, append-nil, map-append}
 use Rattle.std.proofs.lemmas.List.Concat.{flat_map-append}
 use Rattle.board_model.specs.declared.scenario.CallLine.{CallLine}
 use Rattle.board_model.specs.LinkedBoard.{Differ}
-use Rattle.board_model.specs.Journal.{PlainEntry, turned, put, again, called, PlainAnswer, refuses, Visit, Taken}
+use Rattle.board_model.specs.Journal.{PlainEntry, turned, put, again, waits, called, PlainAnswer, refuses, Visit, Taken}
 use Rattle.board_model.specs.State.{DomainState}
 use Rattle.board_model.specs.Step.{RunState, next_line, after}
 use Rattle.board_model.specs.Traffic.{visits_to, puts_in, takes_in, takes_from, taken_from}
@@ -95,6 +95,7 @@ module _ (p : ℕ) where
   entry-take lines before r (turned vs) = turn_take before vs
   entry-take lines before r (put q frame) = refl
   entry-take lines before r (again word) = call_take (next_line lines r) r (refuses word)
+  entry-take lines before r (waits k) = refl
   entry-take lines before r (called k a) = call_take (next_line lines r) r a
 
   pub run-takes : (lines : List CallLine) (before : List PlainEntry) (r : RunState) (es : List PlainEntry) → flat_map (takes_by p) (deeds_along lines before r es) ≡ taken_from p es

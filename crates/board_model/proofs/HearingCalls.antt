@@ -13,12 +13,12 @@ use Rattle.board_model.proofs.HearingChanges.{is_live}
 use Rattle.board_model.proofs.HearingRuns.{FitAll}
 use Rattle.board_model.proofs.ChannelWords.{is_sender, end_is, contents_if}
 use Rattle.board_model.proofs.MessageLists.{get-position}
-use Rattle.board_model.specs.Answer.{local, channel_at, has_channel, holds_at_end, end_holds, holds, words_of, refusal, unless_refused}
+use Rattle.board_model.specs.Answer.{first_complete, local, channel_at, has_channel, holds_at_end, end_holds, holds, words_of, refusal, unless_refused}
 use Rattle.board_model.specs.CallChanges.{at_channel, at_end, at_live, lent_by, lent_by_test, lending, success_changes, call_changes, new_sender}
 use Rattle.board_model.specs.Change.{Change, with_channel}
 use Rattle.board_model.specs.ChannelEnds.{EndCall, opens, receives, closes, end_refuses, is_closed, same_side, hears_from, closed_end}
 use Rattle.board_model.specs.Choice.{oldest}
-use Rattle.board_model.specs.DomainCall.{DomainCall, create_at, delete_at, lookup_of, send_from, receive_at, request_at, available_at, connect_from, open_at, packet_from, lend_at, packet_request_at, release_of, scalar_from, scalar_at, close_at, test_of, cancel_of, turn_alone}
+use Rattle.board_model.specs.DomainCall.{DomainCall, create_at, delete_at, lookup_of, send_from, receive_at, request_at, available_at, connect_from, open_at, packet_from, lend_at, packet_request_at, release_of, scalar_from, scalar_at, close_at, test_of, wait_for, cancel_of, turn_alone}
 use Rattle.board_model.specs.State.{Item, ChannelEnd, Endpoint, Asked, packet_at, Outcome, has_item, Request, DomainState, opened, closed, endpoint_at, is_at, live_at, endpoint_of, channel_in, request_at_place}
 use Rattle.board_model.proofs.OrderCalls.{none_holds}
 
@@ -141,6 +141,7 @@ module _ (o n : ℕ) (s : DomainState) (own : Own s) where
       let live = of_end s (local node port) (closes Receiver) ChanClosed e c is has no_word.1.1.1.0 in
       (tt, (tt, (rw (own (local node port) e is, has) (shuts_heard o n c e.queue live), tt))))
   success_fits node (test_of request) no_word = (tt, lends_fit _ (request_at_place s request))
+  success_fits node (wait_for requests says_place) no_word = (tt, lends_fit _ (request_at_place s (first_complete s requests)))
   success_fits node (cancel_of request) no_word = (tt, tt)
   success_fits node turn_alone no_word = tt
 

@@ -14,14 +14,14 @@ use Rattle.mc_base.specs.declared.channel.Bits.{Bits}
 use Rattle.mc_base.specs.declared.channel.Side.TheVariants.{Sender, Receiver}
 use Rattle.mc_base.specs.declared.refusal.Refusal.{Refusal}
 use Rattle.mc_base.specs.declared.refusal.Refusal.TheVariants.{NotConnected, ChanDirection, EndpInvalid, ChanClosed}
-use Rattle.board_model.specs.Answer.{local, address_of, channel_at, has_channel, holds_at_end, end_holds, holds, words_of, refusal, unless_refused, answer, answer_by, success, lent_whole, value_of, given}
+use Rattle.board_model.specs.Answer.{first_complete, local, address_of, channel_at, has_channel, holds_at_end, end_holds, holds, words_of, refusal, unless_refused, answer, answer_by, success, lent_whole, value_of, given}
 use Rattle.board_model.specs.CallChanges.{at_channel, at_end, at_live, best_item, lent_by, lent_by_test, lending, success_changes, call_changes, new_sender}
 use Rattle.board_model.specs.Change.{Change, oldest_gone, best_gone, request_added, request_gone, packet_lent, asks_for, with_queue, changed, changed_all}
 use Rattle.board_model.specs.ChannelEnds.{EndCall, opens, sends, closes, end_refuses, same_side, opened_end, closed_end}
 use Rattle.board_model.specs.Channels.{contents_of, lost_by}
 use Rattle.board_model.specs.Choice.{least, best, oldest, without_best}
 use Rattle.board_model.specs.Deeds.{calls}
-use Rattle.board_model.specs.DomainCall.{DomainCall, create_at, delete_at, lookup_of, send_from, receive_at, request_at, available_at, connect_from, open_at, packet_from, lend_at, packet_request_at, release_of, scalar_from, scalar_at, close_at, test_of, cancel_of, turn_alone}
+use Rattle.board_model.specs.DomainCall.{DomainCall, create_at, delete_at, lookup_of, send_from, receive_at, request_at, available_at, connect_from, open_at, packet_from, lend_at, packet_request_at, release_of, scalar_from, scalar_at, close_at, test_of, wait_for, cancel_of, turn_alone}
 use Rattle.board_model.specs.Journal.{PlainAnswer, refuses, agrees, tells}
 use Rattle.board_model.specs.Lists.{changed_first}
 use Rattle.board_model.specs.State.{Item, ChannelEnd, Endpoint, Asked, name_of, channel_of, message_at, packet_at, Outcome, has_address, has_item, Request, DomainState, is_at, has_address_of, place_at, live_at, endpoint_at, endpoint_of, queue_at, queue_in, channel_in, receives_at, one_waits, request_at_place}
@@ -309,6 +309,12 @@ module _ (o n : ℕ) (s : DomainState) (sound : Sound s) (below : Below s.reques
   success_yields (test_of place) no_word = lent_cases (λ cs. Yields (test_of place) (success s node (test_of place)) (request_gone place ∷ cs))
       (quiet_call (test_of place) (success s node (test_of place)) (request_gone place ∷ []) refl refl (tt, tt) (omega arith) (old_without s place s.requests (all_old s)) refl refl)
       (λ i. quiet_call (test_of place) (success s node (test_of place)) (request_gone place ∷ packet_lent i ∷ []) refl refl (tt, (tt, tt)) (omega arith) (old_without s place s.requests (all_old s)) refl refl) (request_at_place s place)
+  success_yields (wait_for requests says_place) no_word =
+      let wait : DomainCall = wait_for requests says_place in
+      let place : Option ℕ = first_complete s requests in
+      lent_cases (λ cs. Yields wait (success s node wait) (request_gone place ∷ cs))
+      (quiet_call wait (success s node wait) (request_gone place ∷ []) refl refl (tt, tt) (omega arith) (old_without s place s.requests (all_old s)) refl refl)
+      (λ i. quiet_call wait (success s node wait) (request_gone place ∷ packet_lent i ∷ []) refl refl (tt, (tt, tt)) (omega arith) (old_without s place s.requests (all_old s)) refl refl) (request_at_place s place)
   success_yields (cancel_of place) no_word = quiet_call (cancel_of place) agrees _ refl refl (tt, tt) (omega arith) (old_without s place s.requests (all_old s)) refl refl
   success_yields turn_alone no_word = quiet_call turn_alone agrees [] refl refl tt (omega arith) (all_old s) refl refl
 

@@ -13,12 +13,12 @@ use Rattle.mc_base.specs.declared.name.EndName.{EndName}
 use Rattle.mc_base.specs.declared.refusal.Refusal.{Refusal}
 use Rattle.mc_base.specs.declared.name.Local.{Local}
 use Rattle.board_model.specs.Honesty.{IsMade}
-use Rattle.board_model.specs.DomainCall.{DomainCall, create_at, delete_at, lookup_of, send_from, receive_at, request_at, available_at, connect_from, open_at, packet_from, lend_at, packet_request_at, release_of, scalar_from, scalar_at, close_at, test_of, cancel_of, turn_alone}
+use Rattle.board_model.specs.DomainCall.{DomainCall, create_at, delete_at, lookup_of, send_from, receive_at, request_at, available_at, connect_from, open_at, packet_from, lend_at, packet_request_at, release_of, scalar_from, scalar_at, close_at, test_of, wait_for, cancel_of, turn_alone}
 use Rattle.board_model.specs.State.{Item, ChannelEnd, Endpoint, Announcement, Reply, Peer, DomainState, is_at, live_at, place_at, address_at, peer_at, is_numbered, request_at_place, announcing, replying, owed_to}
 use Rattle.board_model.specs.Change.{Change, item_queued, item_handed, item_lost, packet_lent, names_known, name_found, changed_all}
 use Rattle.board_model.specs.TakenFrames.{Row, names_of, rejecting, accepting, acting, item_of, row_of}
 use Rattle.board_model.specs.Messages.{said_by}
-use Rattle.board_model.specs.Answer.{local, holds, words_of, refusal, unless_refused, channel_at, channel_limit, over_channel, opening_letter, closing_letter, Post, put_of, success_posts, success_puts, puts}
+use Rattle.board_model.specs.Answer.{first_complete, local, holds, words_of, refusal, unless_refused, channel_at, channel_limit, over_channel, opening_letter, closing_letter, Post, put_of, success_posts, success_puts, puts}
 use Rattle.board_model.specs.CallChanges.{at_live, closing, lending, lent_by_test, success_changes}
 use Rattle.board_model.specs.Deeds.{Deed, looks_back, puts_owed, looks_ahead, takes, calls, happens_by, after_deed, MayDo}
 use Rattle.board_model.proofs.DeedRuns.{frames_if, frames_to, puts_by}
@@ -151,6 +151,7 @@ module _ (made : ℕ) (known : ℕ → ℕ → Type 0) (ns : List ℕ) where
         closes_fit Sender e c = (tt, (tt, tt))
         closes_fit Receiver e c = (tt, (tt, (tt, tt)))
     success_fits node (test_of request) no_word within = (tt, tested_fits _ (lent_by_test (request_at_place s request)) (tested-are (request_at_place s request)))
+    success_fits node (wait_for requests says_place) no_word within = (tt, tested_fits _ (lent_by_test (request_at_place s (first_complete s requests))) (tested-are (request_at_place s (first_complete s requests))))
     success_fits node (cancel_of request) no_word within = (tt, tt)
     success_fits node turn_alone no_word within = tt
 

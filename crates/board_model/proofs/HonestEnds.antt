@@ -1,6 +1,6 @@
 -- What a domain's ends of channels know of their far ends is as what it took says: an address that may be known of the peer, and the
 -- number of a channel.
-use Rattle.std.proofs.Common.{◌≡◌, ℕ, ◌+◌, ◌≤◌, ◌<◌, Bool, true, false, not, ◌&&◌, cond, List, [], ◌∷◌, ◌++◌, drop, Option, Some, None, refl, sym, ap, subst, arith}
+use Rattle.std.proofs.Common.{◌≡◌, ℕ, ◌≤◌, ◌<◌, Bool, true, false, not, ◌&&◌, cond, List, [], ◌∷◌, ◌++◌, drop, Option, Some, None, refl, sym, ap, subst, arith}
 use Rattle.std.specs.Prelude.{find, ◌==◌, is_some, option_map, unwrap_or}
 use Rattle.std.specs.List.{AllByRecursion}
 use Rattle.std.proofs.lemmas.Bool.{leb-false, eqb-true}
@@ -17,7 +17,7 @@ use Rattle.mc_base.specs.declared.channel.Side.TheVariants.{Sender, Receiver}
 use Rattle.mc_base.specs.declared.refusal.Refusal.{Refusal}
 use Rattle.board_model.specs.Honesty.{IsMade}
 use Rattle.board_model.specs.Choice.{without_best}
-use Rattle.board_model.specs.DomainCall.{DomainCall, create_at, delete_at, lookup_of, send_from, receive_at, request_at, available_at, connect_from, open_at, packet_from, lend_at, packet_request_at, release_of, scalar_from, scalar_at, close_at, test_of, cancel_of, turn_alone}
+use Rattle.board_model.specs.DomainCall.{DomainCall, create_at, delete_at, lookup_of, send_from, receive_at, request_at, available_at, connect_from, open_at, packet_from, lend_at, packet_request_at, release_of, scalar_from, scalar_at, close_at, test_of, wait_for, cancel_of, turn_alone}
 use Rattle.board_model.specs.State.{connected, closed, Stage, ChannelEnd, Endpoint, Peer, DomainState, is_at, has_address_of, live_at, endpoint_at, peer_of, is_numbered}
 use Rattle.board_model.specs.Change.{Change, endpoint_made, endpoint_gone, item_queued, best_gone, oldest_gone, channel_set, queue_dropped, item_handed, item_lost, names_known, name_found, endpoint_with, with_queue, with_channel, without_queue, changed, changed_all}
 use Rattle.board_model.specs.ChannelEnds.{is_closed, is_connecting, same_kind, sends_to, hears_from, closed_end, far_closed_end, EndRow, end_row, left_row, end_row_of}
@@ -204,6 +204,7 @@ module _ (known : ℕ → ℕ → Type 0) where
       success_far node (scalar_at port bits) no_word = live_holds (AllByRecursion FitsFar) tt (live_at s (local node port)) _ (λ e is. (tt, tt))
       success_far node (close_at port side) no_word = end-holds (AllByRecursion FitsFar) tt (live_at s (local node port)) (closing side) (λ e c is has. closes_far side e c (end_real (is_at (local node port)) e c is has))
       success_far node (test_of request) no_word = (tt, tested-holds FitsFar (λ i. tt) _)
+      success_far node (wait_for requests says_place) no_word = (tt, tested-holds FitsFar (λ i. tt) _)
       success_far node (cancel_of request) no_word = (tt, tt)
       success_far node turn_alone no_word = tt
 

@@ -3,7 +3,7 @@ use Rattle.std.proofs.Common.{◌≡◌, ℕ, List, [], ◌∷◌, ◌++◌, len
 use Rattle.std.proofs.lemmas.List.{map_push, length_push}
 use Rattle.board_model.specs.declared.scenario.CallLine.{CallLine}
 use Rattle.board_model.specs.LinkedBoard.{Differ}
-use Rattle.board_model.specs.Journal.{PlainEntry, turned, put, again, called, Line, put_line, call_line, noted, noted_all, joined}
+use Rattle.board_model.specs.Journal.{PlainEntry, turned, put, again, waits, called, Line, put_line, wait_line, call_line, noted, noted_all, joined}
 use Rattle.board_model.specs.Unjoined.{entries_in}
 use Rattle.board_model.specs.JournalForm.{IsFrom}
 use Rattle.board_model.proofs.JournalReading.{put_lines, put_entries, entries-more, read-called}
@@ -47,6 +47,14 @@ module _ (peers : List ℕ) (script : List CallLine) where
       ∙ read_back differ new [] es h.1
       ∙ ap (λ fs. fs ++ es) (again_noted peers script one_word word ls)
       ∙ append_assoc (E ls) (again word ∷ []) es)
+  read_back differ ls ps (waits k ∷ es) h =
+      let new = noted ls (waits k) in
+      from_none ls (waits k ∷ es) ps h.0
+      (ap (λ ks. E (noted_all (noted ks (waits k)) es)) (append-nil ls)
+      ∙ ap (λ ks. E (noted_all ks es)) (sym (append-nil new))
+      ∙ read_back differ new [] es h.1
+      ∙ ap (λ fs. fs ++ es) (entries-more peers script ls (wait_line k ∷ []) (waits k ∷ []) refl)
+      ∙ append_assoc (E ls) (waits k ∷ []) es)
   read_back differ ls ps (called k a ∷ es) h =
       let new = (ls ++ put_lines ps) ++ call_line k a ∷ [] in
       let lines : new ≡ ls ++ (put_lines ps ++ call_line k a ∷ []) = append_assoc ls (put_lines ps) (call_line k a ∷ []) in

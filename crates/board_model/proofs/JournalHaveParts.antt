@@ -8,9 +8,9 @@ use Rattle.mc_base.specs.declared.refusal.Refusal.{Refusal}
 use Rattle.board_model.specs.declared.scenario.CallLine.{CallLine}
 use Rattle.board_model.specs.Scenario.{script}
 use Rattle.board_model.specs.Words.{same_word}
-use Rattle.board_model.specs.Journal.{Visit, PlainEntry, turned, put, again, called, Line, idle_line, again_line, spin_line, turn_line, back_line, put_line, see_line, take_line, call_line, visit_lines, is_idle, joinable, spinning, is_one_idle, joined}
+use Rattle.board_model.specs.Journal.{Visit, PlainEntry, turned, put, again, waits, called, Line, idle_line, again_line, spin_line, turn_line, back_line, put_line, see_line, take_line, wait_line, call_line, visit_lines, is_idle, joinable, spinning, is_one_idle, joined}
 use Rattle.board_model.specs.Unjoined.{times, idle_turn, visit_in}
-use Rattle.board_model.specs.JournalParts.{Part, idles, spins, tries, turn_of, call_of, part_lines, part_entries, last_line, StandsBehind, StandBehind}
+use Rattle.board_model.specs.JournalParts.{Part, idles, spins, tries, turn_of, wait_of, call_of, part_lines, part_entries, last_line, StandsBehind, StandBehind}
 use Rattle.board_model.specs.JournalLaws.{JournalsHaveParts}
 use Rattle.board_model.proofs.JournalReading.{IsOfTurn, put_entries, times-more}
 use Rattle.board_model.proofs.JournalVisits.{visits_all, idle_is}
@@ -56,6 +56,7 @@ turn_no_join (again_line w) h j = h
 turn_no_join (spin_line n w) h j = h
 turn_no_join turn_line h j = h
 turn_no_join (call_line k a) h j = h
+turn_no_join (wait_line k) h j = h
 
 last_apart : (ls : List Line) (y : Line) (xs : List Line) (l : Line) → (IsJoin y → ⊥) → AllByRecursion IsOfTurn xs → last_line (ls ++ y ∷ xs) ≡ Some l → IsJoin l → ⊥
 last_apart ls y [] l apart all e join = let same : y ≡ l = some_is y l (sym (last-is ls y) ∙ e) in apart (subst IsJoin (sym same) join)
@@ -72,6 +73,7 @@ part_is (idles n) ls l e join = ap part_of (line_is (idle_line n) l (sym (last-i
 part_is (spins n w) ls l e join = ap part_of (line_is (spin_line n w) l (sym (last-is ls (spin_line n w)) ∙ e))
 part_is (tries w) ls l e join = absurd (subst IsJoin (sym (line_is (again_line w) l (sym (last-is ls (again_line w)) ∙ e))) join)
 part_is (turn_of vs) ls l e join = absurd (last_apart ls turn_line (flat_map visit_lines vs) l (λ h. h) (visits_all vs) e join)
+part_is (wait_of k) ls l e join = absurd (subst IsJoin (sym (line_is (wait_line k) l (sym (last-is ls (wait_line k)) ∙ e))) join)
 part_is (call_of qs k a) ls l e join =
     let put_all = map (λ q. put_line q.0 q.1) qs in
     absurd (subst IsJoin (sym (line_is (call_line k a) l (sym (last-is (ls ++ put_all) (call_line k a)) ∙ ap last_line (append_assoc ls put_all (call_line k a ∷ [])) ∙ e))) join)
@@ -115,6 +117,7 @@ joinable_small (Some (put_line p f)) n e = absurd cc
 joinable_small (Some (see_line p k)) n e = absurd cc
 joinable_small (Some (take_line p f w)) n e = absurd cc
 joinable_small (Some (call_line k a)) n e = absurd cc
+joinable_small (Some (wait_line k)) n e = absurd cc
 
 spinning_small : (w : Refusal) (o : Option Line) (n : ℕ) → spinning w o ≡ Some n → n < 2 ^ 64 - 1
 spinning_small w None n e = absurd cc
@@ -132,6 +135,7 @@ spinning_small w (Some (put_line p f)) n e = absurd cc
 spinning_small w (Some (see_line p k)) n e = absurd cc
 spinning_small w (Some (take_line p f v)) n e = absurd cc
 spinning_small w (Some (call_line k a)) n e = absurd cc
+spinning_small w (Some (wait_line k)) n e = absurd cc
 
 module _ (peers : List ℕ) where
   -- the parts of what was done so far
@@ -221,6 +225,8 @@ module _ (peers : List ℕ) where
         subst (λ xs. Told (done ++ xs)) as_entries (all_told done t push es (subst (λ n. IsFrom peers lines n es) (sym (length_push pend (p, frame))) h))
     all_told done t pend (again word ∷ es) h =
         apart done (again word ∷ es) pend h.0 (subst Told (append_assoc done (again word ∷ []) es) (all_told (done ++ again word ∷ []) (one_again word done t) [] es h.1))
+    all_told done t pend (waits k ∷ es) h =
+        apart done (waits k ∷ es) pend h.0 (subst Told (append_assoc done (waits k ∷ []) es) (all_told (done ++ waits k ∷ []) (one_part done t (wait_of k) tt) [] es h.1))
     all_told done t pend (called k a ∷ es) h =
         let whole : (done ++ (put_entries pend ++ called k a ∷ [])) ++ es ≡ done ++ (put_entries pend ++ called k a ∷ es) = append_assoc done (put_entries pend ++ called k a ∷ []) es ∙ ap (λ xs. done ++ xs) (append_assoc (put_entries pend) (called k a ∷ []) es) in
         subst Told whole (all_told (done ++ (put_entries pend ++ called k a ∷ [])) (one_part done t (call_of pend k a) tt) [] es h.1)

@@ -9,7 +9,7 @@ use Rattle.mc_base.specs.declared.refusal.Refusal.{Refusal}
 use Rattle.board_model.specs.declared.scenario.CallLine.{CallLine}
 use Rattle.board_model.specs.Words.{same_word}
 use Rattle.board_model.specs.LinkedBoard.{Differ}
-use Rattle.board_model.specs.Journal.{PlainEntry, turned, again, Visit, Line, idle_line, again_line, spin_line, turn_line, back_line, put_line, see_line, take_line, call_line, is_idle, visit_lines, joinable, with_idle, noted_idle, spinning, with_spin, noted_spin, is_one_idle, noted_again, noted}
+use Rattle.board_model.specs.Journal.{PlainEntry, turned, again, Visit, Line, idle_line, again_line, spin_line, turn_line, back_line, put_line, see_line, take_line, wait_line, call_line, is_idle, visit_lines, joinable, with_idle, noted_idle, spinning, with_spin, noted_spin, is_one_idle, noted_again, noted}
 use Rattle.board_model.specs.Unjoined.{times, tail, read_onto, entries_in, idle_turn, turn_in, visit_in}
 use Rattle.board_model.proofs.JournalReading.{times-more, entries-more, read-turn}
 use Rattle.board_model.proofs.JournalVisits.{visits_all, visits_back, idle_is}
@@ -48,6 +48,7 @@ joinable-tells (Some (put_line p f)) n e = absurd cc
 joinable-tells (Some (see_line p k)) n e = absurd cc
 joinable-tells (Some (take_line p f w)) n e = absurd cc
 joinable-tells (Some (call_line k a)) n e = absurd cc
+joinable-tells (Some (wait_line k)) n e = absurd cc
 
 module _ (one_word : (v w : Refusal) → same_word v w ≡ true → v ≡ w) where
   spin_if : (c b : Bool) (m n : ℕ) (v w : Refusal) → (c ≡ true → v ≡ w) → cond (c && b) (Some m) None ≡ Some n → Some (spin_line m v) ≡ Some (spin_line n w)
@@ -66,6 +67,7 @@ module _ (one_word : (v w : Refusal) → same_word v w ≡ true → v ≡ w) whe
   spinning-tells word (Some (see_line p k)) n e = absurd cc
   spinning-tells word (Some (take_line p f w)) n e = absurd cc
   spinning-tells word (Some (call_line k a)) n e = absurd cc
+  spinning-tells word (Some (wait_line k)) n e = absurd cc
 
 pub one_idle-tells : (o : Option Line) → is_one_idle o ≡ true → o ≡ Some (idle_line 1)
 one_idle-tells None e = absurd cc
@@ -78,6 +80,7 @@ one_idle-tells (Some (put_line p f)) e = absurd cc
 one_idle-tells (Some (see_line p k)) e = absurd cc
 one_idle-tells (Some (take_line p f w)) e = absurd cc
 one_idle-tells (Some (call_line k a)) e = absurd cc
+one_idle-tells (Some (wait_line k)) e = absurd cc
 
 module _ (peers : List ℕ) (script : List CallLine) where
   abbrev E : List Line → List PlainEntry

@@ -9,7 +9,7 @@ use Rattle.mc_base.specs.declared.refusal.Refusal.{Refusal}
 use Rattle.board_model.specs.Words.{refusal_text, same_word}
 use Rattle.board_model.specs.Journal.{PlainAnswer, PlainEntry, put, again, called, Line, idle_line, again_line, spin_line, turn_line, put_line, call_line, visit_lines, is_idle, joinable, with_idle, noted_idle, spinning, with_spin, noted_spin, is_one_idle, noted_again, noted, noted_all}
 use Rattle.board_model.specs.Unjoined.{times, idle_turn, visit_in}
-use Rattle.board_model.specs.JournalParts.{Part, idles, spins, tries, turn_of, call_of, part_lines, part_entries, last_line, StandsBehind, StandBehind}
+use Rattle.board_model.specs.JournalParts.{Part, idles, spins, tries, turn_of, wait_of, call_of, part_lines, part_entries, last_line, StandsBehind, StandBehind}
 use Rattle.board_model.specs.JournalLaws.{PartsAreJoined}
 
 -- ---- the last line
@@ -114,6 +114,7 @@ module _ (peers : List ℕ) where
   part-noted (spins n word) ls h = spins-all word n ls h.0.0 h.0.1 h.1 h.2
   part-noted (tries word) ls h = ap (λ b. cond b (noted_spin word (take (length ls - 1) ls)) (ls ++ again_line word ∷ [])) h
   part-noted (turn_of vs) ls h = ap (λ b. cond b (noted_idle ls) (ls ++ turn_line ∷ flat_map visit_lines vs)) h
+  part-noted (wait_of k) ls h = refl
   part-noted (call_of qs k a) ls h = puts-all qs k a ls
 
   noted_all-append : (es fs : List PlainEntry) (ls : List Line) → noted_all ls (es ++ fs) ≡ noted_all (noted_all ls es) fs

@@ -3,7 +3,7 @@ use Rattle.std.proofs.Common.{◌≡◌, ℕ, zero, suc, ◌+◌, ◌-◌, Bool,
 use Rattle.std.specs.Prelude.{nat_lt}
 use Rattle.std.specs.List.{AllByRecursion}
 use Rattle.board_model.specs.declared.scenario.CallLine.{CallLine}
-use Rattle.board_model.specs.Journal.{PlainEntry, put, again, called, Line, idle_line, again_line, spin_line, turn_line, back_line, put_line, see_line, take_line, call_line}
+use Rattle.board_model.specs.Journal.{PlainEntry, put, again, called, Line, idle_line, again_line, spin_line, turn_line, back_line, put_line, see_line, take_line, wait_line, call_line}
 use Rattle.board_model.specs.Unjoined.{times, Tail, tail, with_line, read_onto, entries_in, idle_turn, turn_in, puts_of, line_numbered}
 
 -- n + 1 times
@@ -52,6 +52,7 @@ module _ (peers : List ℕ) (lines : List CallLine) where
   with_line-more (see_line p n) t es = refl
   with_line-more (take_line p frame fate) t es = refl
   with_line-more (call_line k a) t es = refl
+  with_line-more (wait_line k) t es = refl
 
   read-more : (xs : List Line) (t : Tail) (es : List PlainEntry) → read_onto peers lines xs (more t es) ≡ more (read_onto peers lines xs t) es
   read-more [] t es = refl
@@ -91,6 +92,7 @@ module _ (peers : List ℕ) (lines : List CallLine) where
   read-turn_lines (spin_line n w ∷ xs) behind es all = absurd all.0
   read-turn_lines (turn_line ∷ xs) behind es all = absurd all.0
   read-turn_lines (call_line k a ∷ xs) behind es all = absurd all.0
+  read-turn_lines (wait_line k ∷ xs) behind es all = absurd all.0
 
   pub read-turn : (xs : List Line) → AllByRecursion IsOfTurn xs → read_onto peers lines (turn_line ∷ xs) (tail 0 [] []) ≡ tail 0 [] (turn_in peers xs ∷ [])
   read-turn xs all = ap (with_line peers lines turn_line) (read-turn_lines xs [] [] all) ∙ ap (λ ys. tail 0 [] (turn_in peers ys ∷ [])) (append-nil xs)

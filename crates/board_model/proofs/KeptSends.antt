@@ -15,7 +15,7 @@ use Rattle.mc_base.specs.declared.name.Local.{Local}
 use Rattle.mc_base.specs.declared.name.EndName.{EndName}
 use Rattle.mc_base.specs.declared.refusal.Refusal.{Refusal}
 use Rattle.board_model.specs.LinkedBoard.{Differ}
-use Rattle.board_model.specs.DomainCall.{DomainCall, create_at, delete_at, lookup_of, send_from, receive_at, request_at, available_at, connect_from, open_at, packet_from, lend_at, packet_request_at, release_of, scalar_from, scalar_at, close_at, test_of, cancel_of, turn_alone}
+use Rattle.board_model.specs.DomainCall.{DomainCall, create_at, delete_at, lookup_of, send_from, receive_at, request_at, available_at, connect_from, open_at, packet_from, lend_at, packet_request_at, release_of, scalar_from, scalar_at, close_at, test_of, wait_for, cancel_of, turn_alone}
 use Rattle.board_model.specs.Journal.{PlainAnswer, refuses, agrees}
 use Rattle.board_model.specs.State.{ChannelEnd, Endpoint, DomainState, is_at, address_at, live_at}
 use Rattle.board_model.specs.Answer.{local, address_of, holds, words_of, refusal, success, answer_by, channel_at, over_channel, opening_letter, closing_letter, Post, put_of, success_posts, success_puts, unless_refused}
@@ -139,6 +139,7 @@ module _ (test : Message → Bool) (made_in : ℕ) (known : ℕ → ℕ → Type
     success_sends d node (scalar_at port bits) fits free = none_put
     success_sends d node (close_at port side) fits free = none_sent d (success_posts s node (close_at port side)) (over_silent (live_at s (local node port)) (channel_at s (local node port)) (closing_letter side) (closing_silent side))
     success_sends d node (test_of request) fits free = none_put
+    success_sends d node (wait_for requests says_place) fits free = none_put
     success_sends d node (cancel_of request) fits free = none_put
     success_sends d node turn_alone fits free = none_put
 

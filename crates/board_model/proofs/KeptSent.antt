@@ -5,7 +5,7 @@ use Rattle.std.specs.Prelude.{count_by, is_some, ◌==◌}
 use Rattle.std.specs.List.{AllByRecursion, flat_map}
 use Rattle.std.proofs.lemmas.Bool.{eqb-true, eq-eqb}
 use Rattle.board_model.specs.LinkedBoard.{Differ}
-use Rattle.board_model.specs.Journal.{PlainEntry, turned, put, again, called, Visit, turn_line, taken_line, visit_lines, joined}
+use Rattle.board_model.specs.Journal.{PlainEntry, turned, put, again, waits, called, Visit, turn_line, taken_line, visit_lines, joined}
 use Rattle.board_model.specs.State.{DomainState}
 use Rattle.board_model.specs.Answer.{puts}
 use Rattle.board_model.specs.Deeds.{Deed, looks_back, puts_owed, looks_ahead, takes, calls, after_deed, after_deeds, MayDo, AllMayDo, along}
@@ -149,6 +149,7 @@ module _ (ns : List ℕ) where
   entry_sent (put q f) on =
       sym (total-same (λ n. carried (puts_in n (put q f))) (λ n. cond (q == n) (carried (f ∷ [])) 0) (λ n. one_put (q == n) f) ns ∙ on_lane q (f ∷ []) (put_on q f (on q)))
   entry_sent (again word) on = sym (total-zero (λ (n : ℕ). 0) (λ n. refl) ns)
+  entry_sent (waits k) on = sym (total-zero (λ (n : ℕ). 0) (λ n. refl) ns)
   entry_sent (called k a) on = sym (total-zero (λ (n : ℕ). 0) (λ n. refl) ns)
 
   entries_sent : (es : List PlainEntry) → ((q : ℕ) → AreOn ns q (put_to q es)) → count_by is_sent_line (flat_map entry_lines es) ≡ total (λ n. carried (put_to n es)) ns

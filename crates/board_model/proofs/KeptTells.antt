@@ -4,13 +4,13 @@ use Rattle.std.proofs.Common.{◌≡◌, ℕ, ◌+◌, ◌<◌, ◌^◌, List, [
 use Rattle.std.specs.Prelude.{◌==◌}
 use Rattle.std.specs.List.{AllByRecursion, flat_map}
 use Rattle.board_model.specs.declared.scenario.Call.{Call}
-use Rattle.board_model.specs.declared.scenario.Call.TheVariants.{Create, Delete, Lookup, MsgSend, MsgRecv, MsgRecvI, MsgAvailable, Connect, OpenSend, OpenRecv, PktSend, PktRecv, PktRecvI, Release, SclSend, SclRecv, CloseSend, CloseRecv, Test, Cancel, Turn}
+use Rattle.board_model.specs.declared.scenario.Call.TheVariants.{Create, Delete, Lookup, MsgSend, MsgRecv, MsgRecvI, MsgAvailable, Connect, OpenSend, OpenRecv, PktSend, PktRecv, PktRecvI, Release, SclSend, SclRecv, CloseSend, CloseRecv, Test, Wait, WaitAny, Cancel, Turn}
 use Rattle.board_model.specs.declared.scenario.CallLine.{CallLine}
 use Rattle.board_model.specs.declared.scenario.DomainLine.{DomainLine}
 use Rattle.board_model.specs.declared.scenario.Scenario.{Scenario}
 use Rattle.board_model.specs.Scenario.{script, neighbours}
 use Rattle.board_model.specs.LinkedBoard.{HasFitArguments, IsLinkedBoard}
-use Rattle.board_model.specs.Journal.{PlainEntry, turned, put, again, called, PlainAnswer, refuses, Visit, Taken}
+use Rattle.board_model.specs.Journal.{PlainEntry, turned, put, again, waits, called, PlainAnswer, refuses, Visit, Taken}
 use Rattle.board_model.specs.State.{DomainState}
 use Rattle.board_model.specs.Labels.{Labels, call_of}
 use Rattle.board_model.specs.Step.{RunState, Allowed, next_line, after}
@@ -98,6 +98,8 @@ fits_call labels s node (SclRecv port bits) a fits = tt
 fits_call labels s node (CloseSend port) a fits = tt
 fits_call labels s node (CloseRecv port) a fits = tt
 fits_call labels s node (Test label) a fits = tt
+fits_call labels s node (Wait label limit) a fits = tt
+fits_call labels s node (WaitAny names limit) a fits = tt
 fits_call labels s node (Cancel label) a fits = tt
 fits_call labels s node Turn a fits = tt
 
@@ -109,6 +111,7 @@ fits_entry : (lines : List CallLine) (before : List PlainEntry) (r : RunState) (
 fits_entry lines before r (turned vs) fit = each_turn FitsDeed (λ q. Unit {0}) (λ q n. tt) (λ q f. tt) (λ q n. tt) (λ q name t is. tt) before vs (any_visit vs)
 fits_entry lines before r (put peer frame) fit = tt
 fits_entry lines before r (again word) fit = fits_line lines r (refuses word) (next_line lines r) fit refl
+fits_entry lines before r (waits k) fit = tt
 fits_entry lines before r (called k a) fit = fits_line lines r a (next_line lines r) fit refl
 
 pub fits_along : (lines : List CallLine) (before : List PlainEntry) (r : RunState) (es : List PlainEntry) → AllByRecursion (λ c. HasFitArguments c.call) lines → AllByRecursion FitsDeed (deeds_along lines before r es)
@@ -146,6 +149,7 @@ module _ (s : Scenario) (board : IsLinkedBoard s) where
         from_call : (o : Option CallLine) (a : PlainAnswer) → AllByRecursion FromPeers (call_deeds o (after_all lines (start s d) before) a)
         from_call None a = tt
         from_call (Some line) a = (tt, tt)
+    from_entry before (waits k) so_far allowed = tt
     from_entry before (called k a) so_far allowed = from_call (next_line lines (after_all lines (start s d) before))
       where
         from_call : (o : Option CallLine) → AllByRecursion FromPeers (call_deeds o (after_all lines (start s d) before) a)

@@ -7,13 +7,13 @@ use Rattle.std.proofs.lemmas.List.Sums.{sum_by-cons}
 use Rattle.mc_base.specs.Reading.{reading}
 use Rattle.mc_base.specs.declared.refusal.Refusal.{Refusal}
 use Rattle.board_model.specs.declared.scenario.Call.{Call}
-use Rattle.board_model.specs.declared.scenario.Call.TheVariants.{Create, Delete, Lookup, MsgSend, MsgRecv, MsgRecvI, MsgAvailable, Connect, OpenSend, OpenRecv, PktSend, PktRecv, PktRecvI, Release, SclSend, SclRecv, CloseSend, CloseRecv, Test, Cancel, Turn}
+use Rattle.board_model.specs.declared.scenario.Call.TheVariants.{Create, Delete, Lookup, MsgSend, MsgRecv, MsgRecvI, MsgAvailable, Connect, OpenSend, OpenRecv, PktSend, PktRecv, PktRecvI, Release, SclSend, SclRecv, CloseSend, CloseRecv, Test, Wait, WaitAny, Cancel, Turn}
 use Rattle.board_model.specs.declared.scenario.CallLine.{CallLine}
-use Rattle.board_model.specs.Journal.{PlainEntry, turned, put, again, called, PlainAnswer, refuses, agrees, tells, connects, gives, completes, Visit, Taken, Line, turn_line, back_line, put_line, see_line, call_line, taken_line, looked, visit_lines, joined}
+use Rattle.board_model.specs.Journal.{PlainEntry, turned, put, again, waits, called, PlainAnswer, refuses, agrees, tells, connects, gives, completes, Visit, Taken, Line, turn_line, back_line, put_line, see_line, call_line, taken_line, looked, visit_lines, joined}
 use Rattle.board_model.specs.State.{Item, DomainState, Endpoint, is_at, live_at, endpoint_at, queue_in, queue_at}
 use Rattle.board_model.specs.Labels.{Labels, call_of}
 use Rattle.mc_base.specs.declared.name.Local.{Local}
-use Rattle.board_model.specs.DomainCall.{DomainCall, create_at, delete_at, lookup_of, send_from, receive_at, request_at, available_at, connect_from, open_at, packet_from, lend_at, packet_request_at, release_of, scalar_from, scalar_at, close_at, test_of, cancel_of, turn_alone}
+use Rattle.board_model.specs.DomainCall.{DomainCall, create_at, delete_at, lookup_of, send_from, receive_at, request_at, available_at, connect_from, open_at, packet_from, lend_at, packet_request_at, release_of, scalar_from, scalar_at, close_at, test_of, wait_for, cancel_of, turn_alone}
 use Rattle.board_model.specs.Answer.{local, has_channel, holds, words_of, refusal, answer_by}
 use Rattle.board_model.specs.Step.{RunState, Allowed, next_line, call_at, after}
 use Rattle.board_model.specs.CallChanges.{at_live}
@@ -101,6 +101,7 @@ call_lost d s node (scalar_from port bits value) a order may = refl
 call_lost d s node (scalar_at port bits) a order may = refl
 call_lost d s node (close_at port side) a order may = refl
 call_lost d s node (test_of request) a order may = refl
+call_lost d s node (wait_for requests says_place) a order may = refl
 call_lost d s node (cancel_of request) a order may = refl
 call_lost d s node turn_alone a order may = refl
 
@@ -170,6 +171,7 @@ entry_brought : (lines : List CallLine) (before : List PlainEntry) (r : RunState
 entry_brought lines before r (turned vs) = turn-count brought_deed is_brought_line brought_counts before vs
 entry_brought lines before r (put peer frame) = refl
 entry_brought lines before r (again word) = call_brings r (refuses word) (next_line lines r)
+entry_brought lines before r (waits k) = refl
 entry_brought lines before r (called k a) = call_brings r a (next_line lines r)
 
 brought_along : (lines : List CallLine) (before : List PlainEntry) (r : RunState) (es : List PlainEntry) → total brought_deed (deeds_along lines before r es) ≡ count_by is_brought_line (flat_map entry_lines es)
@@ -218,6 +220,8 @@ line_lost labels s node (SclRecv port bits) a = refl
 line_lost labels s node (CloseSend port) a = refl
 line_lost labels s node (CloseRecv port) a = refl
 line_lost labels s node (Test label) a = refl
+line_lost labels s node (Wait label limit) a = refl
+line_lost labels s node (WaitAny names limit) a = refl
 line_lost labels s node (Cancel label) a = refl
 line_lost labels s node Turn a = refl
 
@@ -239,6 +243,7 @@ entry_lost : (lines : List CallLine) (before : List PlainEntry) (r : RunState) (
 entry_lost lines before r (turned vs) allowed = omega (arith, turn-count lost_deed is_lost_line lost_counts before vs)
 entry_lost lines before r (put peer frame) allowed = refl
 entry_lost lines before r (again word) allowed = again_lost r word (next_line lines r)
+entry_lost lines before r (waits k) allowed = refl
 entry_lost lines before r (called k a) allowed = omega (arith, called_lost lines r k a allowed.0 allowed.1 allowed.2)
 
 lost_along : (lines : List CallLine) (before : List PlainEntry) (r : RunState) (es : List PlainEntry) → AllAllowed lines r es → total lost_deed (deeds_along lines before r es) ≡ count_by is_lost_line (flat_map entry_lines es) + sum_by (deleted_by lines) es
@@ -290,6 +295,7 @@ module _ (lines : List CallLine) where
   agree (turned vs ∷ es) = (sym (sum_none (deleted_in lines) (turn_line ∷ flat_map visit_lines vs) (refl, visits_none vs)), agree es)
   agree (put peer frame ∷ es) = (refl, agree es)
   agree (again word ∷ es) = (refl, agree es)
+  agree (waits k ∷ es) = (refl, agree es)
   agree (called k a ∷ es) = (sym (sum_by-cons (deleted_in lines) (call_line k a) [] ∙ omega arith), agree es)
 
   pub lost-told : (before : List PlainEntry) (r : RunState) (es : List PlainEntry) → AllAllowed lines r es → total lost_deed (deeds_along lines before r es) ≡ count_by is_lost_line (joined es) + sum_by (deleted_in lines) (joined es)

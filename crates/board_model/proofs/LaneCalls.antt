@@ -8,14 +8,14 @@ use Rattle.mc_base.specs.declared.name.Local.{Local}
 use Rattle.mc_base.specs.declared.channel.Side.TheVariants.{Sender, Receiver}
 use Rattle.mc_base.specs.declared.refusal.Refusal.{Refusal}
 use Rattle.mc_base.specs.declared.refusal.Refusal.TheVariants as word
-use Rattle.board_model.specs.DomainCall.{DomainCall, create_at, delete_at, lookup_of, send_from, receive_at, request_at, available_at, connect_from, open_at, packet_from, lend_at, packet_request_at, release_of, scalar_from, scalar_at, close_at, test_of, cancel_of, turn_alone}
+use Rattle.board_model.specs.DomainCall.{DomainCall, create_at, delete_at, lookup_of, send_from, receive_at, request_at, available_at, connect_from, open_at, packet_from, lend_at, packet_request_at, release_of, scalar_from, scalar_at, close_at, test_of, wait_for, cancel_of, turn_alone}
 use Rattle.board_model.specs.Lists.{without_first, without}
 use Rattle.board_model.specs.State.{DomainState, ChannelEnd, Endpoint, Item, Request, LentPacket, Asked, Outcome, name_of, channel_of, message_at, packet_at, has_address, is_accepted, is_rejected, has_item, has_ended, item_in, request_at_place, is_at, has_address_of, live_at, endpoint_of, channel_in}
 use Rattle.board_model.specs.Choice.{without_best, oldest}
 use Rattle.board_model.specs.ChannelEnds.{EndCall, opened_end, closed_end, closes}
-use Rattle.board_model.specs.Answer.{local, end_holds, holds, words_of, is_complete, refusal, unless_refused, address_of}
+use Rattle.board_model.specs.Answer.{first_complete, local, end_holds, holds, words_of, is_complete, refusal, unless_refused, address_of}
 use Rattle.board_model.specs.Change.{Change, endpoint_gone, best_gone, oldest_gone, channel_set, request_added, request_gone, waiting_ended, end_announced, buffer_used, packet_lent, packet_gone, channel_given, endpoint_with, with_queue, without_queue, changed, changed_all}
-use Rattle.board_model.specs.CallChanges.{at_live, at_channel, at_end, new_sender, closing, lending, lent_by, lent_by_test, best_item, success_changes, effect, item_lent, message_held, held_by, success_returned, returned}
+use Rattle.board_model.specs.CallChanges.{at_live, at_channel, at_end, new_sender, closing, lending, lent_by, lent_by_test, best_item, success_changes, effect, item_lent, message_held, held_by, success_returned, returned, tested}
 use Rattle.board_model.proofs.ListsCounts.{count-cons, count-append, find-none}
 use Rattle.board_model.proofs.MessageBest.{count-best}
 use Rattle.board_model.proofs.StateEnds.{Ends, by_address, end-holds}
@@ -191,6 +191,11 @@ module _ (w : Item → Bool) (s : DomainState) (ends : Ends s) where
       go None is = omega arith
       go (Some e) is = each e is
 
+  told_counts : (request : Option ℕ) → held w (changed_all s (tested s request)) + count_by w (held_by (request_at_place s request)) ≡ held w s
+  told_counts request =
+      let u : DomainState = changed s (request_gone request) in
+      omega (arith, tested_counts w u (request_at_place s request), ended_counts w request s.requests, lent_counts w s, lent_counts w u)
+
   success_counts : (node : ℕ) (call : DomainCall) → refusal s node call ≡ None → held w (changed_all s (success_changes s node call)) + count_by w (success_returned s node call) ≡ held w s
   success_counts node (create_at port) e =
       let t = changed_all s (success_changes s node (create_at port)) in
@@ -247,9 +252,8 @@ module _ (w : Item → Bool) (s : DomainState) (ends : Ends s) where
       let there = end-there (closes Receiver) (live_at s (local node port)) words.1.0 in
       subst (λ o. held w (changed_all s (at_end o (closing Receiver))) + count_by w (at_live o (λ e. e.queue)) ≡ held w s) (sym there.live)
       (subst (λ c. held w (changed_all s (at_channel c (closing Receiver there.end))) + count_by w there.end.queue ≡ held w s) (sym there.has) (dropped_counts (local node port) there.end there.channel there.live))
-  success_counts node (test_of request) e =
-      let u : DomainState = changed s (request_gone request) in
-      omega (arith, tested_counts w u (request_at_place s request), ended_counts w request s.requests, lent_counts w s, lent_counts w u)
+  success_counts node (test_of request) e = told_counts request
+  success_counts node (wait_for requests says_place) e = told_counts (first_complete s requests)
   success_counts node (cancel_of request) e =
       omega (arith, ended_counts w request s.requests, lent_counts w s, lent_counts w (changed_all s (success_changes s node (cancel_of request))), ap (count_by w) (cancelled_holds s node request e))
   success_counts node turn_alone e = omega arith

@@ -5,14 +5,16 @@ use Rattle.std.specs.Prelude.{◌==◌, unwrap_or}
 use Rattle.std.proofs.lemmas.Bool.{ne_eqb}
 use Rattle.std.proofs.lemmas.Bool.Decides.{eqb_tells}
 use Rattle.std.proofs.lemmas.List.Sums.{sum_by-append, sum_by-cons}
+use Rattle.board_model.proofs.WaitCalls.{wait-puts}
+use Rattle.board_model.specs.Answer.{puts}
 use Rattle.board_model.specs.declared.scenario.CallLine.{CallLine}
-use Rattle.board_model.specs.Journal.{PlainEntry, turned, put, again, called, Visit, Taken}
+use Rattle.board_model.specs.Journal.{PlainEntry, turned, put, again, waits, called, Visit, Taken}
 use Rattle.board_model.specs.State.{DomainState, Peer, peer_at, peer_of, free_to, is_from, held_from, owed_to}
 use Rattle.board_model.specs.Dealing.{keeps_buffer}
 use Rattle.board_model.specs.Turn.{turn_limit, nameless, visit_deeds, after_visit, IsVisit, AreVisits, after_turn}
 use Rattle.board_model.specs.DomainCall.{DomainCall}
 use Rattle.board_model.specs.CallChanges.{effect, returned}
-use Rattle.board_model.specs.Step.{RunState, HasNoPuts, next_line, call_at, Allowed, effect_of_line, after}
+use Rattle.board_model.specs.Step.{RunState, HasNoPuts, next_line, call_at, Allowed, effect_of_line, after, limit_of, MayCome}
 use Rattle.board_model.specs.Traffic.{visits_to, puts_in, takes_in, put_to, takes_from, returned_by, given_in, given, backs_in, back_looks}
 use Rattle.board_model.specs.Run.{Leads}
 use Rattle.board_model.proofs.ListsCounts.{one_if, count-cons, count-append}
@@ -150,6 +152,7 @@ pub ends-after : (script : List CallLine) (r : RunState) (e : PlainEntry) → En
 ends-after script r (turned vs) ends = turn_ends r.state vs ends
 ends-after script r (put to frame) ends = ends
 ends-after script r (again word) ends = ends
+ends-after script r (waits k) ends = ends
 ends-after script r (called k a) ends = line_ends (next_line script r)
   where
     line_ends : (o : Option CallLine) → Ends (effect_of_line o r)
@@ -161,6 +164,11 @@ ends-leads script r new [] leads ends = subst (λ (x : RunState). Ends x.state) 
 ends-leads script r new (e ∷ es) leads ends =
     ends-leads script leads.0 new es leads.2 (subst (λ (x : RunState). Ends x.state) (sym leads.1.leads) (ends-after script r e ends))
 
+-- a call comes with the frames that it puts
+came_with : (n : ℕ) (line : CallLine) (r : RunState) (limit : Option ℕ) → limit_of line.call ≡ limit → MayCome limit r line → waiting n r.put_since_turn ≡ count_by (goes_to n) (puts r.state line.node (call_at r line))
+came_with n line r None is come = ap (waiting n) come
+came_with n line r (Some limit) is come = waiting_none n r.put_since_turn come.0 ∙ ap (count_by (goes_to n)) (sym (wait-puts r line limit is))
+
 -- an entry adds what it does
 sums_after : (script : List CallLine) (n size p b t g : ℕ) (r : RunState) (e : PlainEntry) → Ends r.state → Allowed script r e → Sums n size p b t g r → Sums n size (p + length (puts_in n e)) (b + sum (backs_in n e)) (t + length (takes_in n e)) (g + given_in script r n e) (after script r e)
 sums_after script n size p b t g r (turned vs) ends allowed h =
@@ -170,11 +178,12 @@ sums_after script n size p b t g r (put to frame) ends allowed h =
     record { frees = omega (arith, h.frees, waiting_more n r.put_since_turn to frame allowed); holds = omega (arith, h.holds) }
 sums_after script n size p b t g r (again word) ends allowed h =
     record { frees = omega (arith, h.frees, ap (waiting n) allowed.3); holds = omega (arith, h.holds) }
+sums_after script n size p b t g r (waits k) ends allowed h = record { frees = omega (arith, h.frees); holds = omega (arith, h.holds) }
 sums_after script n size p b t g r (called k a) ends allowed h =
     let line = allowed.0 in
     let here = allowed.1 in
     record {
-      frees = omega (arith, h.frees, call_frees r.state n line.node (call_at r line), ap (λ o. free_to (effect_of_line o r) n) here, ap (waiting n) allowed.4);
+      frees = omega (arith, h.frees, call_frees r.state n line.node (call_at r line), ap (λ o. free_to (effect_of_line o r) n) here, came_with n line r (limit_of line.call) refl allowed.4);
       holds = omega (arith, h.holds, call_holds n r.state ends line.node (call_at r line), ap (λ o. held_from n (effect_of_line o r)) here, ap (λ o. count_by (is_from n) (returned_by o r)) here);
     }
 

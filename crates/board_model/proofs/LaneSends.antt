@@ -9,13 +9,13 @@ use Rattle.mc_base.specs.declared.name.EndName.{EndName}
 use Rattle.mc_base.specs.declared.channel.Side.TheVariants.{Sender, Receiver}
 use Rattle.mc_base.specs.declared.refusal.Refusal.{Refusal}
 use Rattle.mc_base.specs.declared.refusal.Refusal.TheVariants as word
-use Rattle.board_model.specs.DomainCall.{DomainCall, create_at, delete_at, lookup_of, send_from, receive_at, request_at, available_at, connect_from, open_at, packet_from, lend_at, packet_request_at, release_of, scalar_from, scalar_at, close_at, test_of, cancel_of, turn_alone}
+use Rattle.board_model.specs.DomainCall.{DomainCall, create_at, delete_at, lookup_of, send_from, receive_at, request_at, available_at, connect_from, open_at, packet_from, lend_at, packet_request_at, release_of, scalar_from, scalar_at, close_at, test_of, wait_for, cancel_of, turn_alone}
 use Rattle.board_model.specs.State.{DomainState, ChannelEnd, Endpoint, Peer, channel_of, message_at, packet_at, has_item, address_at, live_at, request_at_place, channel_in, peer_at, free_to}
 use Rattle.board_model.specs.Choice.{oldest}
 use Rattle.board_model.specs.ChannelEnds.{opened_end, closed_end}
-use Rattle.board_model.specs.Answer.{local, put_of, over_channel, opening_letter, closing_letter, lacks_buffers, holds, words_of, refusal, unless_refused, success_puts, puts, address_of}
+use Rattle.board_model.specs.Answer.{first_complete, local, put_of, over_channel, opening_letter, closing_letter, lacks_buffers, holds, words_of, refusal, unless_refused, success_puts, puts, address_of}
 use Rattle.board_model.specs.Change.{Change, endpoint_gone, best_gone, oldest_gone, channel_set, queue_dropped, request_added, request_gone, waiting_ended, end_announced, buffer_used, channel_given, changed, changed_all}
-use Rattle.board_model.specs.CallChanges.{at_live, at_channel, at_end, new_sender, lending, lent_by_test, best_item, success_changes, effect}
+use Rattle.board_model.specs.CallChanges.{at_live, at_channel, at_end, new_sender, lending, lent_by_test, best_item, success_changes, effect, tested}
 use Rattle.board_model.proofs.ListsCounts.{one_if, count-cons, find-none}
 use Rattle.board_model.proofs.StateEnds.{there_is, lending-holds, tested-holds}
 use Rattle.board_model.proofs.LanePeers.{Keeps, read-all, peer-changed, owed-free, free-at}
@@ -116,6 +116,7 @@ success_frees s n node (close_at port Receiver) e =
     let words = find-none (holds s node (close_at port Receiver)) (words_of (close_at port Receiver)) e in
     over_frees s n (λ e c. waiting_ended e.address word.ChanClosed ∷ queue_dropped e.address (closed_end c) ∷ []) (closing_letter Receiver) (λ e c. ((λ p. refl), ((λ p. refl), tt))) (live_at s (local node port)) words.1.1.1.1.0
 success_frees s n node (test_of request) e = kept_frees s n (request_gone request ∷ lent_by_test (request_at_place s request)) ((λ p. refl), tested-holds (Keeps (λ p. p.free) s.number n) (λ i p. refl) (request_at_place s request))
+success_frees s n node (wait_for requests says_place) e = kept_frees s n (tested s (first_complete s requests)) ((λ p. refl), tested-holds (Keeps (λ p. p.free) s.number n) (λ i p. refl) (request_at_place s (first_complete s requests)))
 success_frees s n node (cancel_of request) e = omega arith
 success_frees s n node turn_alone e = omega arith
 

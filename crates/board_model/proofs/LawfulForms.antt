@@ -1,21 +1,25 @@
 -- The words of a call that fit its form and pass as numbers and bytes tell a call whose arguments are in their ranges.
-use Rattle.std.proofs.Common.{◌≡◌, ℕ, ◌-◌, ◌*◌, ◌≤◌, ◌<◌, ◌^◌, true, ◌&&◌, List, [], ◌∷◌, length, refl, arith}
+use Rattle.std.proofs.Common.{◌≡◌, ℕ, ◌-◌, ◌*◌, ◌≤◌, ◌<◌, ◌^◌, true, ◌&&◌, List, [], ◌∷◌, length, refl, ap, ◌∙◌, arith, map, cond, Bool, false}
 use Rattle.std.specs.List.{AllByRecursion, list_all}
 use Rattle.std.proofs.lemmas.Bool.{and_parts}
-use Rattle.mc_base.specs.Limits.{asked_limit}
+use Rattle.arrayvec.specs.ArrayVec.{ArrayVec}
+use Rattle.mc_base.specs.Limits.{asked_limit, try_limit}
 use Rattle.mc_base.specs.Letter.{bytes_of_bits}
 use Rattle.mc_base.specs.declared.channel.Bits.{Bits}
 use Rattle.mc_base.specs.declared.channel.Bits.TheVariants.{B8, B16, B32, B64}
+use Rattle.std.specs.Prelude.{nat_le, ◌==◌}
+use Rattle.std.proofs.lemmas.Bool.Decides.{nat_tests}
+use Rattle.std.proofs.lemmas.List.{length-map}
 use Rattle.board_model.specs.declared.scenario.Call.{Call}
 use Rattle.board_model.specs.declared.form.ArgumentKind.{ArgumentKind}
-use Rattle.board_model.specs.declared.form.ArgumentKind.TheVariants.{Port, Name, Priority, Content, Maximum, ChannelKind, ScalarBits, ScalarValue, RequestLabel, PacketLabel}
+use Rattle.board_model.specs.declared.form.ArgumentKind.TheVariants.{Port, Name, Priority, Content, Maximum, ChannelKind, ScalarBits, ScalarValue, RequestLabel, RequestLabels, PacketLabel, Limit}
 use Rattle.board_model.specs.declared.form.Callee.{Callee}
 use Rattle.board_model.specs.declared.form.Callee.TheVariants as callee
 use Rattle.board_model.specs.Grammar.{IsLawfulName, form_words, call_words}
 use Rattle.board_model.specs.LinkedBoard.{HasFitArguments}
 use Rattle.board_model.specs.FileWords.{numeral, is_number, number, content, are_bytes, is_label}
-use Rattle.board_model.specs.FileLines.{parts_at}
-use Rattle.board_model.specs.Forms.{Value, bits_told, are_three, argument_fits, name_numerals, argument_numerals, argument_contents, name_from, value, Values, made, form, arguments_fit, arguments_numerals, arguments_contents, values, call_made}
+use Rattle.board_model.specs.FileLines.{parts_at, onto_first}
+use Rattle.board_model.specs.Forms.{Value, bits_told, are_three, argument_fits, name_numerals, argument_numerals, argument_contents, name_from, value, Values, made, form, arguments_fit, arguments_numerals, arguments_contents, values, call_made, are_labels, group_limit, label_of}
 use Rattle.std.proofs.Math.Nat.{pow-le-pow_right}
 use Rattle.board_model.proofs.LawfulTests.{all-both}
 use Rattle.board_model.proofs.LawfulWords.{number_fits, bytes_below, bytes_few}
@@ -23,6 +27,12 @@ use Rattle.board_model.proofs.LawfulWords.{number_fits, bytes_below, bytes_few}
 -- ---- kinds of arguments
 
 -- an argument in its range, where the one before it tells so many bits
+-- one to eight labels
+pub record IsGroup (labels : List (ArrayVec ℕ)) : Type 0 where
+  pub some : 1 ≤ length labels
+  pub few : length labels ≤ group_limit
+  pub are_labels : list_all is_label (map (λ l. l.items) labels) ≡ true
+
 abbrev pub IsFit : (kind : ArgumentKind) → (bits : ℕ) → Value kind → Type 0
 IsFit Port bits n = n < 2 ^ 16
 IsFit Name bits n = IsLawfulName n
@@ -33,6 +43,8 @@ IsFit ChannelKind bits kind = Unit {0}
 IsFit ScalarBits bits value = Unit {0}
 IsFit ScalarValue bits n = (n < 2 ^ bits) × (bits ≤ 64)
 IsFit RequestLabel bits label = is_label label.items ≡ true
+IsFit RequestLabels bits labels = IsGroup labels.items
+IsFit Limit bits n = n ≤ try_limit
 IsFit PacketLabel bits label = is_label label.items ≡ true
 
 abbrev pub AreFit : (kinds : List ArgumentKind) → (bits : ℕ) → Values kinds → Type 0
@@ -69,10 +81,39 @@ told_few Maximum v = omega arith
 told_few ChannelKind v = omega arith
 told_few ScalarValue v = omega arith
 told_few RequestLabel v = omega arith
+told_few RequestLabels v = omega arith
+told_few Limit v = omega arith
 told_few PacketLabel v = omega arith
 
 value_below : (bits n : ℕ) → n ≤ 2 ^ bits - 1 → n < 2 ^ bits
 value_below bits n le = let least : 0 ≤ bits = omega arith in let some : 2 ^ 0 ≤ 2 ^ bits = pow-le-pow_right (omega arith) least in omega (arith, le, some)
+
+some_first : (b : ℕ) (parts : List (List ℕ)) → 1 ≤ length (onto_first b parts)
+some_first b [] = omega arith
+some_first b (p ∷ ps) = omega arith
+
+some_if : (b : Bool) (xs ys : List (List ℕ)) → 1 ≤ length ys → 1 ≤ length (cond b ([] ∷ xs) ys)
+some_if true xs ys some = omega arith
+some_if false xs ys some = some
+
+some_parts : (c : ℕ) (word : List ℕ) → 1 ≤ length (parts_at c word)
+some_parts c [] = omega arith
+some_parts c (b ∷ bs) = some_if (b == c) (parts_at c bs) (onto_first b (parts_at c bs)) (some_first b (parts_at c bs))
+
+pub spelled_back : (parts : List (List ℕ)) → map (λ (l : ArrayVec ℕ). l.items) (map label_of parts) ≡ parts
+spelled_back [] = refl
+spelled_back (p ∷ ps) = ap (λ (qs : List (List ℕ)). p ∷ qs) (spelled_back ps)
+
+group_fits : (parts : List (List ℕ)) → 1 ≤ length parts → are_labels parts ≡ true → IsGroup (map label_of parts)
+group_fits parts some fit =
+    let both = and_parts (list_all is_label parts) (nat_le (length parts) group_limit) fit in
+    let few : nat_le (length parts) group_limit ≡ true = both.1 in
+    let le : length parts ≤ group_limit = grind (arith, nat_tests) in
+    record {
+      some = omega (arith, some, length-map parts label_of);
+      few = omega (arith, le, length-map parts label_of);
+      are_labels = ap (list_all is_label) (spelled_back parts) ∙ both.0;
+    }
 
 kind_fits : (kind : ArgumentKind) (bits : ℕ) (word : List ℕ) → bits ≤ 64 → argument_fits kind word ≡ true → list_all is_number (argument_numerals kind bits word) ≡ true → list_all are_bytes (argument_contents kind word) ≡ true → IsFit kind bits (value kind word)
 kind_fits Port bits word few fit numbers bytes = omega (arith, one_number 0 65535 word numbers)
@@ -84,6 +125,8 @@ kind_fits ChannelKind bits word few fit numbers bytes = tt
 kind_fits ScalarBits bits word few fit numbers bytes = tt
 kind_fits ScalarValue bits word few fit numbers bytes = (value_below bits (number word) (one_number 0 (2 ^ bits - 1) word numbers), few)
 kind_fits RequestLabel bits word few fit numbers bytes = fit
+kind_fits RequestLabels bits word few fit numbers bytes = group_fits (parts_at 44 word) (some_parts 44 word) fit
+kind_fits Limit bits word few fit numbers bytes = one_number 0 try_limit word numbers
 kind_fits PacketLabel bits word few fit numbers bytes = fit
 
 pub values-fit : (kinds : List ArgumentKind) (bits : ℕ) (words : List (List ℕ)) → bits ≤ 64 → arguments_fit kinds words ≡ true → list_all is_number (arguments_numerals kinds bits words) ≡ true → list_all are_bytes (arguments_contents kinds words) ≡ true → AreFit kinds bits (values kinds words)
@@ -122,6 +165,8 @@ words-made callee.SclRecv arguments = refl
 words-made callee.CloseSend arguments = refl
 words-made callee.CloseRecv arguments = refl
 words-made callee.Test arguments = refl
+words-made callee.Wait arguments = refl
+words-made callee.WaitAny arguments = refl
 words-made callee.Cancel arguments = refl
 words-made callee.Turn arguments = refl
 
@@ -145,6 +190,8 @@ has_fit callee.SclRecv arguments h = h.0
 has_fit callee.CloseSend arguments h = h.0
 has_fit callee.CloseRecv arguments h = h.0
 has_fit callee.Test arguments h = tt
+has_fit callee.Wait arguments h = h.1.0
+has_fit callee.WaitAny arguments h = (h.0.some, h.0.few, h.1.0)
 has_fit callee.Cancel arguments h = tt
 has_fit callee.Turn arguments h = tt
 

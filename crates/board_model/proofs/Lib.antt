@@ -75,6 +75,7 @@ pub mod OrderStands
 pub mod OrderTakings
 pub mod PlaceBoards
 pub mod PlaceCounts
+pub mod WaitCalls
 pub mod RunDeeds
 pub mod RunFronts
 pub mod SerialFrames
@@ -91,6 +92,9 @@ pub mod WholeHas
 pub mod WholeJoined
 pub mod WholeJournals
 pub mod WholeLanes
+pub mod WholeRests
+pub mod WholeRounds
+pub mod WholeWaits
 pub mod WholeLines
 pub mod WholeLoads
 pub mod WholeOpening

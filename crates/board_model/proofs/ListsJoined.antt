@@ -7,7 +7,7 @@ use Rattle.std.proofs.lemmas.Bool.{and_parts}
 use Rattle.std.proofs.lemmas.Option.{slice_get_within, get_or_from_slice_get}
 use Rattle.std.proofs.lemmas.List.Sums.{sum_by-cons, sum_by-append, sum_by-set}
 use Rattle.mc_base.specs.declared.refusal.Refusal.{Refusal}
-use Rattle.board_model.specs.Journal.{PlainEntry, turned, put, again, called, Visit, Line, idle_line, again_line, spin_line, turn_line, back_line, put_line, see_line, take_line, call_line, is_idle, looked, taken_line, visit_lines, joinable, with_idle, noted_idle, spinning, with_spin, noted_spin, is_one_idle, noted, noted_all, joined}
+use Rattle.board_model.specs.Journal.{PlainEntry, turned, put, again, waits, called, Visit, Line, idle_line, again_line, spin_line, turn_line, back_line, put_line, see_line, take_line, wait_line, call_line, is_idle, looked, taken_line, visit_lines, joinable, with_idle, noted_idle, spinning, with_spin, noted_spin, is_one_idle, noted, noted_all, joined}
 use Rattle.board_model.specs.Words.{same_word}
 
 -- the lines of an entry, those of an idle turn too
@@ -15,6 +15,7 @@ abbrev pub entry_lines : PlainEntry → List Line
 entry_lines (turned visits) = turn_line ∷ flat_map visit_lines visits
 entry_lines (put peer frame) = put_line peer frame ∷ []
 entry_lines (again word) = again_line word ∷ []
+entry_lines (waits number) = wait_line number ∷ []
 entry_lines (called number answer) = call_line number answer ∷ []
 
 -- ---- idle turns
@@ -34,6 +35,7 @@ joinable-tells (Some (put_line p f)) n e = absurd cc
 joinable-tells (Some (see_line p k)) n e = absurd cc
 joinable-tells (Some (take_line p f w)) n e = absurd cc
 joinable-tells (Some (call_line k a)) n e = absurd cc
+joinable-tells (Some (wait_line k)) n e = absurd cc
 
 -- idle lines, lines of tries and the line of a turn weigh nothing
 pub record JoinsWeighNothing (f : Line → ℕ) : Type 0 where
@@ -83,6 +85,7 @@ spinning-tells word (Some (put_line p f)) n e = absurd cc
 spinning-tells word (Some (see_line p k)) n e = absurd cc
 spinning-tells word (Some (take_line p f w)) n e = absurd cc
 spinning-tells word (Some (call_line k a)) n e = absurd cc
+spinning-tells word (Some (wait_line k)) n e = absurd cc
 
 sum-with_spin : (f : Line → ℕ) → JoinsWeighNothing f → (word : Refusal) (lines : List Line) (o : Option ℕ) → spinning word (slice_get lines (length lines - 1)) ≡ o → sum_by f (with_spin word o lines) ≡ sum_by f lines
 sum-with_spin f joins word lines None e = omega (arith, sum_by-append f lines (spin_line 1 word ∷ []), sum_by-cons f (spin_line 1 word) [], joins.spin 1 word)
@@ -101,6 +104,7 @@ one_idle-tells (Some (put_line p f)) e = absurd cc
 one_idle-tells (Some (see_line p k)) e = absurd cc
 one_idle-tells (Some (take_line p f w)) e = absurd cc
 one_idle-tells (Some (call_line k a)) e = absurd cc
+one_idle-tells (Some (wait_line k)) e = absurd cc
 
 sum-again : (f : Line → ℕ) → JoinsWeighNothing f → (word : Refusal) (lines : List Line) (b : Bool) → is_one_idle (slice_get lines (length lines - 1)) ≡ b → sum_by f (cond b (noted_spin word (take (length lines - 1) lines)) (lines ++ again_line word ∷ [])) ≡ sum_by f lines
 sum-again f joins word lines true e =
@@ -143,6 +147,7 @@ sum-noted f joins lines (turned vs) = sum-turned f joins lines vs (list_all is_i
 sum-noted f joins lines (put peer frame) = sum_by-append f lines (put_line peer frame ∷ [])
 sum-noted f joins lines (again word) =
     omega (arith, sum-again f joins word lines (is_one_idle (slice_get lines (length lines - 1))) refl, sum_by-cons f (again_line word) [], joins.again word)
+sum-noted f joins lines (waits number) = sum_by-append f lines (wait_line number ∷ [])
 sum-noted f joins lines (called number answer) = sum_by-append f lines (call_line number answer ∷ [])
 
 sum-noted_all : (f : Line → ℕ) (g : PlainEntry → ℕ) → JoinsWeighNothing f → (lines : List Line) (es : List PlainEntry) → AllByRecursion (λ e. g e ≡ sum_by f (entry_lines e)) es → sum_by f (noted_all lines es) ≡ sum_by f lines + sum_by g es

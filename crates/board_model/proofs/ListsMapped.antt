@@ -83,6 +83,12 @@ pub find-alike : {A : Type 0} (p q : A → Bool) → ((x : A) → p x ≡ q x) �
 find-alike p q alike [] = refl
 find-alike p q alike (x ∷ xs) = ap (λ b. cond b (Some x) (find p xs)) (alike x) ∙ ap (λ o. cond (q x) (Some x) o) (find-alike p q alike xs)
 
+pub position-alike : {A : Type 0} (p q : A → Bool) → ((x : A) → p x ≡ q x) → (xs : List A) → position p xs ≡ position q xs
+position-alike p q alike [] = refl
+position-alike p q alike (x ∷ xs) =
+    position-cons p x xs ∙ (ap (λ b. cond b (Some 0) (option_map suc (position p xs))) (alike x)
+    ∙ (ap (λ o. cond (q x) (Some 0) (option_map suc o)) (position-alike p q alike xs) ∙ sym (position-cons q x xs)))
+
 -- ---- the best of mapped items
 
 pub best-mapped : {A : Type 0} (g : A → A) (priority : A → ℕ) (same : (x : A) → priority (g x) ≡ priority x) (xs : List A) → best priority (map g xs) ≡ option_map g (best priority xs)

@@ -17,11 +17,11 @@ use Rattle.mc_base.specs.declared.channel.Side.{Side}
 use Rattle.mc_base.specs.declared.channel.Side.TheVariants.{Sender, Receiver}
 use Rattle.mc_base.specs.declared.refusal.Refusal.{Refusal}
 use Rattle.mc_base.specs.declared.refusal.Refusal.TheVariants.{EndpInvalid, NotConnected, ChanDirection, ChanClosed}
-use Rattle.board_model.specs.DomainCall.{DomainCall, create_at, delete_at, lookup_of, send_from, receive_at, request_at, available_at, connect_from, open_at, packet_from, lend_at, packet_request_at, release_of, scalar_from, scalar_at, close_at, test_of, cancel_of, turn_alone}
+use Rattle.board_model.specs.DomainCall.{DomainCall, create_at, delete_at, lookup_of, send_from, receive_at, request_at, available_at, connect_from, open_at, packet_from, lend_at, packet_request_at, release_of, scalar_from, scalar_at, close_at, test_of, wait_for, cancel_of, turn_alone}
 use Rattle.board_model.specs.Journal.{PlainAnswer, refuses, agrees}
 use Rattle.board_model.specs.Choice.{least, best, without_best, oldest}
 use Rattle.board_model.specs.State.{Item, ChannelEnd, Endpoint, Asked, name_of, channel_of, message_at, packet_at, has_address, has_item, DomainState, is_at, has_address_of, live_at, place_at, endpoint_at, queue_at, endpoint_of, request_at_place, queue_in, channel_in, one_waits, receives_at}
-use Rattle.board_model.specs.Answer.{local, holds, words_of, refusal, success, answer, answer_by, unless_refused, lent_whole, value_of, given as given_first, address_of, has_channel, channel_at, end_holds, holds_at_end}
+use Rattle.board_model.specs.Answer.{first_complete, local, holds, words_of, refusal, success, answer, answer_by, unless_refused, lent_whole, value_of, given as given_first, address_of, has_channel, channel_at, end_holds, holds_at_end}
 use Rattle.board_model.specs.Change.{Change, end_announced, asks_for, all_done, best_gone, oldest_gone, channel_set, queue_dropped, request_added, request_gone, endpoint_gone, waiting_ended, ended_in, with_queue, with_channel, buffer_used, packet_lent, packet_gone, channel_given, at_address, changed, changed_all}
 use Rattle.board_model.specs.ChannelEnds.{EndCall, opens, sends, receives, closes, same_side, opened_end, closed_end}
 use Rattle.board_model.specs.CallChanges.{at_live, at_channel, at_end, best_item, new_sender, closing, lending, lent_by_test, success_changes, call_changes}
@@ -235,6 +235,12 @@ module _ (room : ℕ) (before : List Deed) (s : DomainState) (moment : Moment ro
   test_effect : (place : Option ℕ) (lent : List Change) → (lent ≡ []) ⊎ ((i : Item) × (lent ≡ packet_lent i ∷ [])) → Effect before s (request_gone place ∷ lent) [] (λ b. [])
   test_effect place lent (inl none) = subst (λ cs. Effect before s (request_gone place ∷ cs) [] (λ b. [])) (sym none) (quiet before s (request_gone place ∷ []) (tt, tt) (old_without s place s.requests (all_old s)) (λ b. refl) (gone place))
   test_effect place lent (inr one) = subst (λ cs. Effect before s (request_gone place ∷ cs) [] (λ b. [])) (sym one.1) (quiet before s (request_gone place ∷ packet_lent one.0 ∷ []) (tt, (tt, tt)) (old_without s place s.requests (all_old s)) (λ b. refl) (gone place))
+
+  wait_does : (requests : List (Option ℕ)) (says_place : Bool) → refusal s node (wait_for requests says_place) ≡ None → Does room before s (calls node (wait_for requests says_place) (success s node (wait_for requests says_place)))
+  wait_does requests says_place is =
+      let place : Option ℕ = first_complete s requests in
+      let tested = tested-are (request_at_place s place) in
+      quiet_does (wait_for requests says_place) (success s node (wait_for requests says_place)) is refl (λ b. refl) (omega (arith, test_given (lent_by_test (request_at_place s place)) tested)) (test_effect place (lent_by_test (request_at_place s place)) tested)
 
   test_does : (place : Option ℕ) → refusal s node (test_of place) ≡ None → Does room before s (calls node (test_of place) (success s node (test_of place)))
   test_does place is =
@@ -679,6 +685,7 @@ module _ (room : ℕ) (before : List Deed) (s : DomainState) (moment : Moment ro
   success_does (scalar_at port bits) is fits = value_does port bits is
   success_does (close_at port side) is fits = close_does port side is
   success_does (test_of place) is fits = test_does place is
+  success_does (wait_for requests says_place) is fits = wait_does requests says_place is
   success_does (cancel_of place) is fits = cancel_does place is
   success_does turn_alone is fits = turn_does
 
@@ -738,6 +745,7 @@ success_given s node (scalar_from port bits value) = zero_less (end_given (live_
 success_given s node (scalar_at port bits) = zero_less (live_given (live_at s (local node port)) (λ e. oldest_gone e.address ∷ []) 0 (λ e. omega arith))
 success_given s node (close_at port side) = zero_less (end_given (live_at s (local node port)) (closing side) (closing_given side))
 success_given s node (test_of place) = omega (arith, test_given (lent_by_test (request_at_place s place)) (tested-are (request_at_place s place)))
+success_given s node (wait_for requests says_place) = omega (arith, test_given (lent_by_test (request_at_place s (first_complete s requests))) (tested-are (request_at_place s (first_complete s requests))))
 success_given s node (cancel_of place) = omega arith
 success_given s node turn_alone = omega arith
 

@@ -1,20 +1,20 @@
 -- What a cancel leaves: a request that took nothing, and that is gone. And what a test answers of the request that it names.
-use Rattle.std.proofs.Common.{◌≡◌, ℕ, zero, suc, ◌<◌, false, not, cond, List, [], ◌∷◌, ◌++◌, flat_map, Option, Some, None, option_map, option_to_list, refl, sym, ap, ap₂, ◌∙◌, subst, arith}
+use Rattle.std.proofs.Common.{◌≡◌, ℕ, zero, suc, ◌<◌, false, not, cond, List, [], ◌∷◌, ◌++◌, flat_map, Option, Some, None, option_map, option_to_list, refl, sym, ap, ap₂, ◌∙◌, subst, arith, Bool, true, ◌||◌, find}
 use Rattle.std.specs.Prelude.{◌==◌, is_some, slice_get, option_and_then}
-use Rattle.std.specs.List.{AllByRecursion}
+use Rattle.std.specs.List.{AllByRecursion, list_all, list_any}
 use Rattle.std.proofs.lemmas.Bool.{eqb-true, eq-eqb}
 use Rattle.mc_base.specs.declared.refusal.Refusal.{Refusal}
-use Rattle.mc_base.specs.declared.refusal.Refusal.TheVariants.{RequestInvalid, Pending}
+use Rattle.mc_base.specs.declared.refusal.Refusal.TheVariants.{RequestInvalid, Pending, Timeout}
 use Rattle.board_model.specs.Lists.{without, without_at}
-use Rattle.board_model.specs.DomainCall.{test_of, cancel_of}
+use Rattle.board_model.specs.DomainCall.{test_of, wait_for, cancel_of}
 use Rattle.board_model.specs.Journal.{PlainAnswer, refuses, agrees, completes}
-use Rattle.board_model.specs.State.{Asked, name_of, channel_of, message_at, packet_at, Outcome, has_address, is_accepted, is_rejected, has_item, has_ended, Request, DomainState, request_at_place}
-use Rattle.board_model.specs.Answer.{holds, words_of, refusal, answer, answer_by, unless_refused, is_complete, result_by, result_of}
+use Rattle.board_model.specs.State.{Asked, name_of, channel_of, message_at, packet_at, Outcome, has_address, is_accepted, is_rejected, has_item, has_ended, Request, DomainState, request_at_place, Item}
+use Rattle.board_model.specs.Answer.{holds, words_of, refusal, answer, answer_by, unless_refused, is_complete, result_by, result_of, stands_at, is_complete_at, first_complete, place_said}
 use Rattle.board_model.specs.Change.{request_gone, changed_all}
 use Rattle.board_model.specs.CallChanges.{success_changes, call_changes}
-use Rattle.board_model.specs.Deeds.{Deed, calls, after_deed, MayDo}
+use Rattle.board_model.specs.Deeds.{Deed, calls, after_deed, MayDo, after_deeds}
 use Rattle.board_model.specs.Takings.{item_held, completed_by, takings_by, cancelled_by}
-use Rattle.board_model.specs.MessageOrder.{taken_for, TellsAsked, TellsOf}
+use Rattle.board_model.specs.MessageOrder.{taken_for, TellsAsked, TellsOf, WaitTells}
 use Rattle.board_model.proofs.OrderCalls.{none_holds}
 use Rattle.board_model.proofs.OrderRequests.{Took, Holds, Held, IsDone, FitsAsked, items_by}
 use Rattle.board_model.proofs.OrderSerials.{IsOther, Differ, Below}
@@ -128,3 +128,60 @@ module _ (start : DomainState) (before : List Deed) (s : DomainState) (differ : 
 
   pub test_tells : (node : ℕ) (place : Option ℕ) (a : PlainAnswer) → a ≡ answer s node (test_of place) → TellsOf start before (request_at_place s place) a
   test_tells node place a is = subst (TellsOf start before (request_at_place s place)) (sym is) (tells_of (request_at_place s place) (λ r at. all_at (Holds (taken_for start before)) s.requests place r at held.each))
+
+-- ---- waits
+
+module _ (start : DomainState) (before : List Deed) (differ : Differ (after_deeds start before).requests) (below : Below (after_deeds start before).requests_given (after_deeds start before).requests) (held : Held (taken_for start before) (after_deeds start before).requests (after_deeds start before).requests_given) where
+  abbrev now : DomainState
+  now = after_deeds start before
+
+  holds_at : (request : Option ℕ) (r : Request) → request_at_place now request ≡ Some r → Holds (taken_for start before) r
+  holds_at request r at = all_at (Holds (taken_for start before)) now.requests request r at held.each
+
+  tells_done : (o : Option Request) → is_complete o ≡ true → ((r : Request) → o ≡ Some r → Holds (taken_for start before) r) → TellsOf start before o (completes None (result_of o))
+  tells_done None done holds = absurd cc
+  tells_done (Some r) done holds = go r.outcome done (holds r refl).items (holds r refl).fits
+    where
+      go : (x : Option Outcome) → is_some x ≡ true → taken_for start before r.serial ≡ item_held x → FitsAsked r.asked x → TellsAsked r.asked (taken_for start before r.serial) (completes None (result_by r.asked x))
+      go None done items fits = absurd cc
+      go (Some x) done items fits = tells_held start before now differ below held r.asked x r.serial fits items
+
+  none_told : (asked : Asked) (took : List Item) → took ≡ [] → TellsAsked asked took (refuses Timeout)
+  none_told (message_at at max) took is = is
+  none_told (name_of n) took is = is
+  none_told (channel_of n) took is = is
+  none_told (packet_at at) took is = is
+
+  tells_none : (o : Option Request) → is_complete o ≡ false → ((r : Request) → o ≡ Some r → Holds (taken_for start before) r) → TellsOf start before o (refuses Timeout)
+  tells_none None pends holds = tt
+  tells_none (Some r) pends holds = none_told r.asked (taken_for start before r.serial) ((holds r refl).items ∙ pending_holds r.outcome pends)
+
+  first_done : (requests : List (Option ℕ)) → not (list_any (is_complete_at now) requests) ≡ false → is_complete (request_at_place now (first_complete now requests)) ≡ true
+  first_done [] some = absurd cc
+  first_done (r ∷ rs) some = go (is_complete_at now r) refl some (first_done rs)
+    where
+      go : (b : Bool) → is_complete_at now r ≡ b → not (b || list_any (is_complete_at now) rs) ≡ false →
+          (not (list_any (is_complete_at now) rs) ≡ false → is_complete (request_at_place now (first_complete now rs)) ≡ true) →
+          is_complete (request_at_place now (option_and_then (λ x. x) (cond b (Some r) (find (is_complete_at now) rs)))) ≡ true
+      go true is some later = is
+      go false is some later = later some
+
+  none_done : (requests : List (Option ℕ)) → not (list_any (is_complete_at now) requests) ≡ true → AllByRecursion (λ r. TellsOf start before (request_at_place now r) (refuses Timeout)) requests
+  none_done [] none = tt
+  none_done (r ∷ rs) none = go (is_complete_at now r) refl none (none_done rs)
+    where
+      go : (b : Bool) → is_complete_at now r ≡ b → not (b || list_any (is_complete_at now) rs) ≡ true →
+          (not (list_any (is_complete_at now) rs) ≡ true → AllByRecursion (λ q. TellsOf start before (request_at_place now q) (refuses Timeout)) rs) →
+          AllByRecursion (λ q. TellsOf start before (request_at_place now q) (refuses Timeout)) (r ∷ rs)
+      go true is none later = absurd cc
+      go false is none later = (tells_none (request_at_place now r) is (holds_at r), later none)
+
+  -- what a wait answers, by whether all of its requests stand, and whether one is complete
+  wait_answers : (requests : List (Option ℕ)) (says_place stand lacks : Bool) → not (list_any (is_complete_at now) requests) ≡ lacks →
+      WaitTells start before requests says_place (answer_by (cond stand (Some RequestInvalid) (cond lacks (Some Timeout) None)) (completes (place_said now requests says_place) (result_of (request_at_place now (first_complete now requests)))))
+  wait_answers requests says_place true lacks is = tt
+  wait_answers requests says_place false true is = none_done requests is
+  wait_answers requests says_place false false is = (refl, tells_done (request_at_place now (first_complete now requests)) (first_done requests is) (holds_at (first_complete now requests)))
+
+  pub wait_tells : (node : ℕ) (requests : List (Option ℕ)) (says_place : Bool) (a : PlainAnswer) → a ≡ answer now node (wait_for requests says_place) → WaitTells start before requests says_place a
+  wait_tells node requests says_place a is = subst (WaitTells start before requests says_place) (sym is) (wait_answers requests says_place (not (list_all (stands_at now) requests)) (not (list_any (is_complete_at now) requests)) refl)

@@ -7,7 +7,7 @@ use Rattle.std.proofs.lemmas.List.{append-nil, append_assoc}
 use Rattle.std.proofs.lemmas.List.Elements.{Contains-append_cases, Contains-push_cases}
 use Rattle.mc_base.specs.declared.refusal.Refusal.{Refusal}
 use Rattle.board_model.specs.Choice.{best}
-use Rattle.board_model.specs.DomainCall.{delete_at, receive_at, test_of}
+use Rattle.board_model.specs.DomainCall.{delete_at, receive_at, test_of, wait_for}
 use Rattle.board_model.specs.Journal.{tells, gives}
 use Rattle.board_model.specs.Scenario.{Neighbour}
 use Rattle.board_model.specs.State.{Item, Endpoint, DomainState, opening, live_at, endpoint_at, queue_at, queue_in}
@@ -24,7 +24,7 @@ use Rattle.board_model.proofs.OrderDeeds.{Takes}
 use Rattle.board_model.proofs.OrderSound.{Sound, sound_own}
 use Rattle.board_model.proofs.OrderTakings.{all_old, none_taken}
 use Rattle.board_model.proofs.OrderStands.{Stands, stands_more, given_few, after_append, all_done, done_same, taken_after}
-use Rattle.board_model.proofs.OrderCancels.{cancels_done, test_tells}
+use Rattle.board_model.proofs.OrderCancels.{cancels_done, test_tells, wait_tells}
 use Rattle.board_model.proofs.OrderRequests.{IsDone, items_by, taken_more}
 use Rattle.board_model.proofs.OrderSerials.{succeeds, all_succeed}
 
@@ -139,6 +139,7 @@ delete_tells start room before other stands may named few = tt
 
 test_tells_taken : (start : DomainState) (room : ℕ) (before : List Deed) (d : Deed) → Stands room start before → MayDo (after_deeds start before) d → IsNamed before d → succeeds d ≤ room → TestTells start before d
 test_tells_taken start room before (calls node (test_of place) a) stands may named few = test_tells start before (after_deeds start before) stands.moment.serials.differ stands.moment.serials.below stands.held node place a may
+test_tells_taken start room before (calls node (wait_for requests says_place) a) stands may named few = wait_tells start before stands.moment.serials.differ stands.moment.serials.below stands.held node requests says_place a may
 test_tells_taken start room before other stands may named few = tt
 
 -- ---- along a run from an opening

@@ -7,7 +7,7 @@ use Rattle.board_model.specs.declared.scenario.CallLine.{CallLine}
 use Rattle.board_model.specs.declared.scenario.Scenario.{Scenario}
 use Rattle.board_model.specs.Scenario.{script, neighbours}
 use Rattle.board_model.specs.LinkedBoard.{IsLinkedBoard}
-use Rattle.board_model.specs.Journal.{PlainEntry, turned, put, again, called, PlainAnswer, refuses, agrees, tells, connects, gives, completes, Visit, Taken}
+use Rattle.board_model.specs.Journal.{PlainEntry, turned, put, again, waits, called, PlainAnswer, refuses, agrees, tells, connects, gives, completes, Visit, Taken}
 use Rattle.board_model.specs.Step.{RunState, next_line, after}
 use Rattle.board_model.specs.Run.{start, left_by, IsDomainRun}
 use Rattle.board_model.specs.Board.{DomainJournal}
@@ -68,6 +68,7 @@ few_left lines before r (turned vs ∷ es) allowed le =
 few_left lines before r (put q f ∷ es) allowed le = few_left lines (before ++ put q f ∷ []) (after lines r (put q f)) es allowed.1 le
 few_left lines before r (again w ∷ es) allowed le =
     omega (arith, succeed_join (call_deeds (next_line lines r) r (refuses w)) (deeds_along lines (before ++ again w ∷ []) (after lines r (again w)) es), no_call (next_line lines r) r w, few_left lines (before ++ again w ∷ []) (after lines r (again w)) es allowed.1 le)
+few_left lines before r (waits k ∷ es) allowed le = few_left lines (before ++ waits k ∷ []) (after lines r (waits k)) es allowed.1 le
 few_left lines before r (called k a ∷ es) allowed le =
     let more : r.lines_called < length lines = within lines r.lines_called allowed.0.0 allowed.0.1 in
     omega (arith, succeed_join (call_deeds (next_line lines r) r a) (deeds_along lines (before ++ called k a ∷ []) (after lines r (called k a)) es), one_call (next_line lines r) r a, few_left lines (before ++ called k a ∷ []) (after lines r (called k a)) es allowed.1 (omega arith))

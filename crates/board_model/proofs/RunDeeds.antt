@@ -11,13 +11,13 @@ use Rattle.board_model.specs.declared.scenario.DomainLine.{DomainLine}
 use Rattle.board_model.specs.declared.scenario.Scenario.{Scenario}
 use Rattle.board_model.specs.Scenario.{script, neighbours}
 use Rattle.board_model.specs.LinkedBoard.{Differ, IsLinkedBoard}
-use Rattle.board_model.specs.Journal.{PlainEntry, turned, put, again, called, PlainAnswer, refuses, Visit}
+use Rattle.board_model.specs.Journal.{PlainEntry, turned, put, again, waits, called, PlainAnswer, refuses, Visit}
 use Rattle.board_model.specs.State.{DomainState, new_peer}
 use Rattle.board_model.specs.Answer.{answer, unless_refused, success_puts, puts}
 use Rattle.board_model.specs.Change.{changed_all}
 use Rattle.board_model.specs.CallChanges.{success_changes, effect}
 use Rattle.board_model.specs.Turn.{AreVisits, after_turn}
-use Rattle.board_model.specs.Step.{RunState, HasNoPuts, next_line, call_at, Allowed, effect_of_line, after}
+use Rattle.board_model.specs.Step.{RunState, HasNoPuts, next_line, call_at, limit_of, MayCome, Allowed, effect_of_line, after}
 use Rattle.board_model.specs.Run as runs
 use Rattle.board_model.specs.Run.{start, after_all, left_by, IsDomainRun}
 use Rattle.board_model.specs.Traffic.{puts_in, takes_in, put_to, takes_from, taken_from}
@@ -25,6 +25,7 @@ use Rattle.board_model.specs.Board.{DomainJournal}
 use Rattle.board_model.specs.Deeds.{Deed, calls, after_deeds, along}
 use Rattle.board_model.specs.JournalDeeds.{named_deeds, call_deeds, entry_deeds, deeds_along, deeds_of, opened, left_in}
 use Rattle.board_model.proofs.DeedRuns.{count_taken, AreNamed, IsDeedRun, frames_if, frames_to, puts_by, takes_by, unnamed}
+use Rattle.board_model.proofs.WaitCalls.{wait-puts}
 use Rattle.board_model.proofs.PlaceBoards.{neighbours_differ}
 use Rattle.board_model.proofs.UnnamedCalls.{answer-unnamed, puts-unnamed, refused-is}
 use Rattle.board_model.proofs.StateEnds.{numbers_in}
@@ -61,6 +62,7 @@ module _ (lines : List CallLine) (before : List PlainEntry) (r : RunState) (t : 
       let stays : effect (unnamed t) line.node (call_at r line) ≡ unnamed t = ap (λ o. changed_all (unnamed t) (unless_refused o [] (success_changes (unnamed t) line.node (call_at r line)))) (refused-is (unnamed t) line.node word (call_at r line) told) in
       subst (λ o. Leads t (call_deeds o r (refuses word)) r.state) (sym allowed.1)
       (subst (λ s. Leads t (call_deeds (Some line) r (refuses word)) s) (stays ∙ sym same) (call_leads line (refuses word) allowed.2))
+  entry_leads (waits k) allowed = record { may = tt; leads = sym same }
   entry_leads (called k a) allowed =
       let line : CallLine = allowed.0 in
       subst (λ o. Leads t (call_deeds o r a) (effect_of_line o r)) (sym allowed.1)
@@ -80,6 +82,7 @@ module _ (lines : List CallLine) (before : List PlainEntry) (r : RunState) (t : 
       all_counted (w ∷ ws) = (counts w.peer, all_counted ws)
   entry_named differ bd counts (put q frame) allowed = tt
   entry_named differ bd counts (again word) allowed = call_named bd (next_line lines r) (refuses word)
+  entry_named differ bd counts (waits k) allowed = tt
   entry_named differ bd counts (called k a) allowed = call_named bd (next_line lines r) a
 
 -- ---- a run
@@ -128,6 +131,11 @@ one_more p q frame None some = absurd cc
 one_more p q frame (Some ps) some =
     flat_map-append (λ (x : ℕ × List ℕ). frames_if (x.0 == p) (x.1 ∷ [])) ps ((q, frame) ∷ []) ∙ ap (λ x. frames_to p ps ++ x) (append-nil (frames_if (q == p) (frame ∷ [])))
 
+-- a call comes with the frames that it puts
+came_with : (p : ℕ) (line : CallLine) (r : RunState) (limit : Option ℕ) → limit_of line.call ≡ limit → MayCome limit r line → pending p r.put_since_turn ≡ frames_to p (puts r.state line.node (call_at r line))
+came_with p line r None is come = ap (pending p) come
+came_with p line r (Some limit) is come = none_pending p r.put_since_turn come.0 ∙ ap (frames_to p) (sym (wait-puts r line limit is))
+
 module _ (lines : List CallLine) (p : ℕ) where
   -- the frames of an entry are those of its deeds, and of the call that is to come
   entry_puts : (before : List PlainEntry) (r : RunState) (t : DomainState) (e : PlainEntry) → r.state ≡ unnamed t → Allowed lines r e →
@@ -143,10 +151,11 @@ module _ (lines : List CallLine) (p : ℕ) where
       ap (λ o. pending p o ++ []) allowed.3
       ∙ (ap (λ x. (x ++ []) ++ []) (sym silent)
       ∙ ap (λ o. along (puts_by p) t (call_deeds o r (refuses word)) ++ []) (sym allowed.1))
+  entry_puts before r t (waits k) same allowed = append-nil (pending p r.put_since_turn)
   entry_puts before r t (called k a) same allowed =
       let line : CallLine = allowed.0 in
       let put_so : puts r.state line.node (call_at r line) ≡ puts t line.node (call_at r line) = ap (λ s. puts s line.node (call_at r line)) same ∙ puts-unnamed t line.node (call_at r line) in
-      ap (λ o. pending p o ++ []) allowed.4
+      ap (λ xs. xs ++ []) (came_with p line r (limit_of line.call) refl allowed.4)
       ∙ (ap (λ x. frames_to p x ++ []) put_so
       ∙ (sym (append-nil (frames_to p (puts t line.node (call_at r line)) ++ []))
       ∙ ap (λ o. along (puts_by p) t (call_deeds o r a) ++ []) (sym allowed.1)))

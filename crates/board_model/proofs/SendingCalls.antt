@@ -22,13 +22,13 @@ use Rattle.board_model.proofs.MessageLists.{get-position}
 use Rattle.board_model.proofs.Sending.{sent_of, sent, Accepted, Outgoing, SentAt, NoneSends, Sending, fresh, numbered, Alters, same, FitAllOut, sending_changes}
 use Rattle.board_model.proofs.SendingFrames.{turned_to, gone_from}
 use Rattle.board_model.proofs.ChannelWords.{is_sender, Way, not_begun, goes_to, is_over, Sent, sent_by, letter_on, letters, contents, Follows, way_after, InOrder, way_of}
-use Rattle.board_model.specs.Answer.{Post, post, put_of, local, channel_at, has_channel, over_channel, success_posts, success_puts, holds, words_of, refusal, unless_refused, address_of}
+use Rattle.board_model.specs.Answer.{first_complete, Post, post, put_of, local, channel_at, has_channel, over_channel, success_posts, success_puts, holds, words_of, refusal, unless_refused, address_of}
 use Rattle.board_model.specs.CallChanges.{at_channel, at_live, at_end, closing, lent_by, lent_by_test, lending, success_changes, call_changes, new_sender}
 use Rattle.board_model.specs.Change.{Change, channel_set, buffer_used, request_added, channel_given, with_channel, changed, changed_all}
 use Rattle.board_model.specs.ChannelEnds.{EndCall, opens, sends, closes, is_closed, is_connecting, same_kind, same_side, opened_end, closed_end}
 use Rattle.board_model.specs.Choice.{oldest}
 use Rattle.board_model.specs.Deeds.{calls}
-use Rattle.board_model.specs.DomainCall.{DomainCall, create_at, delete_at, lookup_of, send_from, receive_at, request_at, available_at, connect_from, open_at, packet_from, lend_at, packet_request_at, release_of, scalar_from, scalar_at, close_at, test_of, cancel_of, turn_alone}
+use Rattle.board_model.specs.DomainCall.{DomainCall, create_at, delete_at, lookup_of, send_from, receive_at, request_at, available_at, connect_from, open_at, packet_from, lend_at, packet_request_at, release_of, scalar_from, scalar_at, close_at, test_of, wait_for, cancel_of, turn_alone}
 use Rattle.board_model.specs.Journal.{PlainAnswer}
 use Rattle.board_model.specs.State.{Item, ChannelEnd, Endpoint, Asked, channel_of, packet_at, Outcome, has_item, Request, DomainState, closed, is_at, endpoint_at, address_at, live_at, endpoint_of, channel_in, request_at_place}
 use Rattle.board_model.proofs.OrderCalls.{none_holds}
@@ -344,6 +344,7 @@ module _ (n p : ℕ) (w : Way) (t m : List (List ℕ)) (s : DomainState) (own : 
         ),
       ))
   success_posted node (test_of request) no_word = nobody_posts (success_changes s node (test_of request)) (tt, lends_out _ (request_at_place s request))
+  success_posted node (wait_for requests says_place) no_word = nobody_posts (success_changes s node (wait_for requests says_place)) (tt, lends_out _ (request_at_place s (first_complete s requests)))
   success_posted node (cancel_of request) no_word = nobody_posts (success_changes s node (cancel_of request)) (tt, tt)
   success_posted node turn_alone no_word = nobody_posts [] tt
 

@@ -12,16 +12,16 @@ use Rattle.mc_base.specs.declared.channel.Side.TheVariants.{Sender, Receiver}
 use Rattle.mc_base.specs.declared.name.EndName.{EndName}
 use Rattle.mc_base.specs.declared.refusal.Refusal.{Refusal}
 use Rattle.mc_base.specs.declared.refusal.Refusal.TheVariants.{EndpInvalid, ChanClosed}
-use Rattle.board_model.specs.DomainCall.{DomainCall, create_at, delete_at, lookup_of, send_from, receive_at, request_at, available_at, connect_from, open_at, packet_from, lend_at, packet_request_at, release_of, scalar_from, scalar_at, close_at, test_of, cancel_of, turn_alone}
+use Rattle.board_model.specs.DomainCall.{DomainCall, create_at, delete_at, lookup_of, send_from, receive_at, request_at, available_at, connect_from, open_at, packet_from, lend_at, packet_request_at, release_of, scalar_from, scalar_at, close_at, test_of, wait_for, cancel_of, turn_alone}
 use Rattle.board_model.specs.Lists.{without_at, without}
 use Rattle.board_model.specs.Journal.{Visit}
 use Rattle.board_model.specs.State.{DomainState, ChannelEnd, Endpoint, Item, Asked, Request, Outcome, channel_of, message_at, packet_at, has_address, has_item, has_ended, has_serial, endpoint_of, live_at, request_at_place, place_of_request, waits_at}
 use Rattle.board_model.specs.Change.{Change, endpoint_gone, best_gone, oldest_gone, channel_set, item_handed, waiting_ended, name_found, connect_settled, request_added, request_gone, end_announced, buffer_used, packet_lent, channel_given, asks_for, connects_on, all_done, done_with, handed_in, ended_in, changed, changed_all}
 use Rattle.board_model.specs.ChannelEnds.{opened_end}
-use Rattle.board_model.specs.CallChanges.{at_live, at_end, new_sender, closing, best_item, lending, lent_by, lent_by_test, success_changes, effect}
+use Rattle.board_model.specs.CallChanges.{at_live, at_end, new_sender, closing, best_item, lending, lent_by, lent_by_test, success_changes, effect, tested}
 use Rattle.board_model.specs.Choice.{oldest}
 use Rattle.board_model.specs.Turn.{after_turn}
-use Rattle.board_model.specs.Answer.{local, holds, words_of, refusal, unless_refused}
+use Rattle.board_model.specs.Answer.{first_complete, local, holds, words_of, refusal, unless_refused}
 use Rattle.board_model.specs.Labels.{Labelled, serial_of, place_of_label, success_request, request_given}
 use Rattle.board_model.proofs.MessageAlls.{none-passes}
 use Rattle.board_model.proofs.ListsMapped.{map-changed_first}
@@ -77,13 +77,14 @@ turn_gives s vs = turn-keeps (λ t. t.requests_given) change_gives s vs
 -- ---- calls
 
 -- the place of the request that a call ends
-abbrev pub success_ended : DomainCall → Option ℕ
-success_ended (test_of p) = p
-success_ended (cancel_of p) = p
-success_ended other = None
+abbrev pub success_ended : DomainState → DomainCall → Option ℕ
+success_ended s (test_of p) = p
+success_ended s (wait_for requests says_place) = first_complete s requests
+success_ended s (cancel_of p) = p
+success_ended s other = None
 
 abbrev pub request_ended : DomainState → ℕ → DomainCall → Option ℕ
-request_ended s node call = unless_refused (refusal s node call) None (success_ended call)
+request_ended s node call = unless_refused (refusal s node call) None (success_ended s call)
 
 map-without_at : {A B : Type 0} (f : A → B) (i : ℕ) (xs : List A) → map f (without_at i xs) ≡ without_at i (map f xs)
 map-without_at f i [] = refl
@@ -155,7 +156,12 @@ closing_gives : (s : DomainState) (side : Side) (e : Endpoint) (c : ChannelEnd) 
 closing_gives s Sender e c = refl
 closing_gives s Receiver e c = refl
 
-success_serials : (s : DomainState) (node : ℕ) (call : DomainCall) → refusal s node call ≡ None → serials (changed_all s (success_changes s node call)) ≡ without (success_ended call) (serials s) ++ option_to_list (success_request s call)
+tested_serials : (s : DomainState) (p : Option ℕ) → serials (changed_all s (tested s p)) ≡ without p (serials s) ++ []
+tested_serials s p =
+    tested_same serials (λ t i. refl) (changed s (request_gone p)) (request_at_place s p)
+    ∙ map-without (λ r. r.serial) p s.requests ∙ sym (append-nil (without p (serials s)))
+
+success_serials : (s : DomainState) (node : ℕ) (call : DomainCall) → refusal s node call ≡ None → serials (changed_all s (success_changes s node call)) ≡ without (success_ended s call) (serials s) ++ option_to_list (success_request s call)
 success_serials s node (create_at port) none = complete_serials (asks_for (end_name s.number (local node port))) (has_address (1024 + s.endpoints_given)) s.requests ∙ sym (append-nil (serials s))
 success_serials s node (delete_at port) none =
     live_same serials s (live_at s (local node port)) (λ e. waiting_ended e.address EndpInvalid ∷ endpoint_gone e.address ∷ end_announced (record { local = e.local; address = e.address; create = false }) ∷ [])
@@ -178,9 +184,8 @@ success_serials s node (release_of place) none = sym (append-nil (serials s))
 success_serials s node (scalar_from port bits value) none = end_same serials s (live_at s (local node port)) sends (λ e c. refl) ∙ sym (append-nil (serials s))
 success_serials s node (scalar_at port bits) none = live_same serials s (live_at s (local node port)) (λ e. oldest_gone e.address ∷ []) (λ e. refl) ∙ sym (append-nil (serials s))
 success_serials s node (close_at port side) none = end_same serials s (live_at s (local node port)) (closing side) (closing_serials s side) ∙ sym (append-nil (serials s))
-success_serials s node (test_of p) none =
-    tested_same serials (λ t i. refl) (changed s (request_gone p)) (request_at_place s p)
-    ∙ map-without (λ r. r.serial) p s.requests ∙ sym (append-nil (without p (serials s)))
+success_serials s node (test_of p) none = tested_serials s p
+success_serials s node (wait_for requests says_place) none = tested_serials s (first_complete s requests)
 success_serials s node (cancel_of p) none = map-without (λ r. r.serial) p s.requests ∙ sym (append-nil (without p (serials s)))
 success_serials s node turn_alone none = sym (append-nil (serials s))
 
@@ -188,7 +193,7 @@ success_serials s node turn_alone none = sym (append-nil (serials s))
 pub call_serials : (s : DomainState) (node : ℕ) (call : DomainCall) → serials (effect s node call) ≡ without (request_ended s node call) (serials s) ++ option_to_list (request_given s node call)
 call_serials s node call = go (refusal s node call) refl
   where
-    go : (o : Option Refusal) → refusal s node call ≡ o → serials (changed_all s (unless_refused o [] (success_changes s node call))) ≡ without (unless_refused o None (success_ended call)) (serials s) ++ option_to_list (unless_refused o None (success_request s call))
+    go : (o : Option Refusal) → refusal s node call ≡ o → serials (changed_all s (unless_refused o [] (success_changes s node call))) ≡ without (unless_refused o None (success_ended s call)) (serials s) ++ option_to_list (unless_refused o None (success_request s call))
     go (Some w) is = sym (append-nil (serials s))
     go None is = success_serials s node call is
 
@@ -212,6 +217,7 @@ success_gives s node (scalar_from port bits value) none small = omega (arith, en
 success_gives s node (scalar_at port bits) none small = omega (arith, live_same (λ t. t.requests_given) s (live_at s (local node port)) (λ e. oldest_gone e.address ∷ []) (λ e. refl))
 success_gives s node (close_at port side) none small = omega (arith, end_same (λ t. t.requests_given) s (live_at s (local node port)) (closing side) (closing_gives s side))
 success_gives s node (test_of p) none small = omega (arith, tested_same (λ t. t.requests_given) (λ t i. refl) (changed s (request_gone p)) (request_at_place s p))
+success_gives s node (wait_for requests says_place) none small = omega (arith, tested_same (λ t. t.requests_given) (λ t i. refl) (changed s (request_gone (first_complete s requests))) (request_at_place s (first_complete s requests)))
 success_gives s node (cancel_of p) none small = omega arith
 success_gives s node turn_alone none small = omega arith
 
@@ -241,6 +247,7 @@ success_is s (scalar_from port bits value) m e = absurd cc
 success_is s (scalar_at port bits) m e = absurd cc
 success_is s (close_at port side) m e = absurd cc
 success_is s (test_of p) m e = absurd cc
+success_is s (wait_for requests says_place) m e = absurd cc
 success_is s (cancel_of p) m e = absurd cc
 success_is s turn_alone m e = absurd cc
 

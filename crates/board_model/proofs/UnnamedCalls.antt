@@ -1,6 +1,6 @@
 -- What a call answers, puts and does in a state but for the names of frames is as in the state.
-use Rattle.std.proofs.Common.{◌≡◌, ℕ, ◌+◌, true, false, not, ◌||◌, cond, List, [], ◌∷◌, map, length, Option, Some, None, refl, sym, ap, ap₂, ◌∙◌}
-use Rattle.std.specs.Prelude.{nat_le, option_map, ◌==◌, is_some, unwrap_or}
+use Rattle.std.proofs.Common.{◌≡◌, ℕ, ◌+◌, true, false, not, ◌||◌, cond, List, [], ◌∷◌, map, length, Option, Some, None, refl, sym, ap, ap₂, ◌∙◌, ◌&&◌, Bool}
+use Rattle.std.specs.Prelude.{nat_le, option_map, ◌==◌, is_some, unwrap_or, option_and_then}
 use Rattle.std.proofs.lemmas.List.{length-map}
 use Rattle.mc_base.specs.Limits.{record_limit, request_limit}
 use Rattle.mc_base.specs.Letter.{PlainLetter, msg, connect, packet, scalar}
@@ -10,20 +10,21 @@ use Rattle.mc_base.specs.declared.channel.Bits.{Bits}
 use Rattle.mc_base.specs.declared.channel.Side.{Side}
 use Rattle.mc_base.specs.declared.channel.Side.TheVariants.{Sender, Receiver}
 use Rattle.mc_base.specs.declared.refusal.Refusal.{Refusal}
-use Rattle.mc_base.specs.declared.refusal.Refusal.TheVariants.{ExistsAlready, EndpLimit, EndpInvalid, PeerInvalid, OnChannel, ChanConnected, EndpBusy, NotConnected, ChanDirection, ChanType, ChanClosed, AlreadyOpen, NotOpen, SclSize, BufInvalid, NoBuffer, Empty, RequestLimit, RequestInvalid, Pending, TooLate}
+use Rattle.mc_base.specs.declared.refusal.Refusal.TheVariants.{ExistsAlready, EndpLimit, EndpInvalid, PeerInvalid, OnChannel, ChanConnected, EndpBusy, NotConnected, ChanDirection, ChanType, ChanClosed, AlreadyOpen, NotOpen, SclSize, BufInvalid, NoBuffer, Empty, RequestLimit, RequestInvalid, Pending, TooLate, Timeout}
+use Rattle.std.specs.List.{list_all, list_any}
 use Rattle.board_model.specs.State.{Item, ChannelEnd, Endpoint, Outcome, has_address, is_accepted, is_rejected, has_item, has_ended, Asked, name_of, channel_of, message_at, packet_at, Request, DomainState, is_at, live_at, endpoint_at, address_at, channel_in, queue_in, queue_at, request_at_place, packet_at_place, peer_of}
 use Rattle.board_model.specs.Choice.{best, oldest}
-use Rattle.board_model.specs.DomainCall.{DomainCall, create_at, delete_at, lookup_of, send_from, receive_at, request_at, available_at, connect_from, open_at, packet_from, lend_at, packet_request_at, release_of, scalar_from, scalar_at, close_at, test_of, cancel_of, turn_alone}
+use Rattle.board_model.specs.DomainCall.{DomainCall, create_at, delete_at, lookup_of, send_from, receive_at, request_at, available_at, connect_from, open_at, packet_from, lend_at, packet_request_at, release_of, scalar_from, scalar_at, close_at, test_of, wait_for, cancel_of, turn_alone}
 use Rattle.board_model.specs.Journal.{refuses, tells, completes}
-use Rattle.board_model.specs.Answer.{local, here, known_address, address_of, has_channel, named, end_call, holds_at_end, channel_at, post, put_of, over_channel, over_end, opening_letter, closing_letter, request_named, is_complete, packet_named, is_of_other_size, success_posts, success_puts, lacks_buffers, holds, words_of, refusal, lent_whole, value_of, given, result_by, result_of, success, answer_by, answer, unless_refused, puts}
+use Rattle.board_model.specs.Answer.{first_complete, local, here, known_address, address_of, has_channel, named, end_call, holds_at_end, channel_at, post, put_of, over_channel, over_end, opening_letter, closing_letter, request_named, is_complete, packet_named, is_of_other_size, success_posts, success_puts, lacks_buffers, holds, words_of, refusal, lent_whole, value_of, given, result_by, result_of, success, answer_by, answer, unless_refused, puts, is_complete_at, stands_at, lacks_request, lacks_complete, place_said}
 use Rattle.board_model.specs.Change.{Change, endpoint_gone, best_gone, oldest_gone, channel_set, request_added, waiting_ended, request_gone, end_announced, buffer_used, channel_given}
 use Rattle.board_model.specs.ChannelEnds.{connecting_end, opened_end}
-use Rattle.board_model.specs.CallChanges.{at_live, at_channel, at_end, new_sender, closing, lending, lent_by, lent_by_test, best_item, success_changes, call_changes}
+use Rattle.board_model.specs.CallChanges.{at_live, at_channel, at_end, new_sender, closing, lending, lent_by, lent_by_test, best_item, success_changes, call_changes, tested}
 use Rattle.board_model.proofs.DeedRuns.{unnamed_item, unnamed_end, unnamed_outcome, unnamed_request, unnamed_packet, unnamed}
 use Rattle.board_model.proofs.MessageAlls.{none-passes}
 use Rattle.board_model.proofs.MessageBest.{best-none}
 use Rattle.board_model.proofs.MessageLists.{get-position}
-use Rattle.board_model.proofs.ListsMapped.{is_some-map, option-map-map, get-mapped, find-alike, best-mapped}
+use Rattle.board_model.proofs.ListsMapped.{is_some-map, option-map-map, get-mapped, find-alike, best-mapped, position-alike}
 use Rattle.board_model.proofs.UnnamedChanges.{live-unnamed, place-unnamed, one_waits-unnamed, unnamed_change}
 
 -- ---- endpoints
@@ -85,6 +86,37 @@ named_unnamed : (s : DomainState) (call : DomainCall) → request_named (unnamed
 named_unnamed s (test_of request) = request-unnamed s request
 named_unnamed s (cancel_of request) = request-unnamed s request
 named_unnamed s other = refl
+
+complete_at_unnamed : (s : DomainState) (request : Option ℕ) → is_complete_at (unnamed s) request ≡ is_complete_at s request
+complete_at_unnamed s request = ap is_complete (request-unnamed s request) ∙ complete_unnamed (request_at_place s request)
+
+stands_at_unnamed : (s : DomainState) (request : Option ℕ) → stands_at (unnamed s) request ≡ stands_at s request
+stands_at_unnamed s request = ap is_some (request-unnamed s request) ∙ is_some-map unnamed_request (request_at_place s request)
+
+all_stand_unnamed : (s : DomainState) (requests : List (Option ℕ)) → list_all (stands_at (unnamed s)) requests ≡ list_all (stands_at s) requests
+all_stand_unnamed s [] = refl
+all_stand_unnamed s (r ∷ rs) = ap₂ (λ a b. a && b) (stands_at_unnamed s r) (all_stand_unnamed s rs)
+
+one_complete_unnamed : (s : DomainState) (requests : List (Option ℕ)) → list_any (is_complete_at (unnamed s)) requests ≡ list_any (is_complete_at s) requests
+one_complete_unnamed s [] = refl
+one_complete_unnamed s (r ∷ rs) = ap₂ (λ a b. a || b) (complete_at_unnamed s r) (one_complete_unnamed s rs)
+
+pub first-unnamed : (s : DomainState) (requests : List (Option ℕ)) → first_complete (unnamed s) requests ≡ first_complete s requests
+first-unnamed s requests = ap (option_and_then (λ r. r)) (find-alike (is_complete_at (unnamed s)) (is_complete_at s) (complete_at_unnamed s) requests)
+
+place_said_unnamed : (s : DomainState) (requests : List (Option ℕ)) (says_place : Bool) → place_said (unnamed s) requests says_place ≡ place_said s requests says_place
+place_said_unnamed s requests false = refl
+place_said_unnamed s requests true = ap (option_map (λ i. i + 1)) (position-alike (is_complete_at (unnamed s)) (is_complete_at s) (complete_at_unnamed s) requests)
+
+lacks_request_unnamed : (s : DomainState) (call : DomainCall) → lacks_request (unnamed s) call ≡ lacks_request s call
+lacks_request_unnamed s (wait_for requests says_place) = ap not (all_stand_unnamed s requests)
+lacks_request_unnamed s (test_of request) = ap not (stands_at_unnamed s request)
+lacks_request_unnamed s (cancel_of request) = ap not (stands_at_unnamed s request)
+lacks_request_unnamed s other = refl
+
+lacks_complete_unnamed : (s : DomainState) (call : DomainCall) → lacks_complete (unnamed s) call ≡ lacks_complete s call
+lacks_complete_unnamed s (wait_for requests says_place) = ap not (one_complete_unnamed s requests)
+lacks_complete_unnamed s other = refl
 
 addressed_unnamed : (s : DomainState) (call : DomainCall) → named (unnamed s) call ≡ named s call
 addressed_unnamed s (send_from port to priority bytes) = address_of_unnamed s to
@@ -149,7 +181,8 @@ module _ (s : DomainState) (node : ℕ) (call : DomainCall) where
   holds_unnamed NoBuffer = ap (lacks_buffers (unnamed s)) (success_puts_unnamed s node call) ∙ lacks_unnamed s (success_puts s node call)
   holds_unnamed Empty = ap (λ n. n == 0) (queue_length s (here node call))
   holds_unnamed RequestLimit = ap (λ n. nat_le request_limit n) (length-map s.requests unnamed_request)
-  holds_unnamed RequestInvalid = ap (λ o. not (is_some o)) (named_unnamed s call) ∙ ap not (is_some-map unnamed_request (request_named s call))
+  holds_unnamed RequestInvalid = lacks_request_unnamed s call
+  holds_unnamed Timeout = lacks_complete_unnamed s call
   holds_unnamed Pending = ap (λ o. not (is_complete o)) (named_unnamed s call) ∙ ap not (complete_unnamed (request_named s call))
   holds_unnamed TooLate = ap is_complete (named_unnamed s call) ∙ complete_unnamed (request_named s call)
   holds_unnamed other = refl
@@ -215,6 +248,10 @@ module _ (s : DomainState) (node : ℕ) where
   success_unnamed (close_at port Sender) = refl
   success_unnamed (close_at port Receiver) = ap tells (queue_length s (local node port))
   success_unnamed (test_of request) = ap (λ o. completes None (result_of o)) (request-unnamed s request) ∙ ap (completes None) (result_of_unnamed (request_at_place s request))
+  success_unnamed (wait_for requests says_place) =
+      ap₂ (λ o p. completes o (result_of (request_at_place (unnamed s) p))) (place_said_unnamed s requests says_place) (first-unnamed s requests)
+      ∙ (ap (λ o. completes (place_said s requests says_place) (result_of o)) (request-unnamed s (first_complete s requests))
+      ∙ ap (completes (place_said s requests says_place)) (result_of_unnamed (request_at_place s (first_complete s requests))))
   success_unnamed (cancel_of request) = refl
   success_unnamed turn_alone = refl
 
@@ -270,6 +307,9 @@ module _ (s : DomainState) (node : ℕ) where
   tested_unnamed None = refl
   tested_unnamed (Some r) = lent_unnamed r.asked r.outcome
 
+  told_unnamed : (request : Option ℕ) → map unnamed_change (tested s request) ≡ tested (unnamed s) request
+  told_unnamed request = ap (λ cs. request_gone request ∷ cs) (tested_unnamed (request_at_place s request) ∙ ap lent_by_test (sym (request-unnamed s request)))
+
   changes_unnamed : (call : DomainCall) → map unnamed_change (success_changes s node call) ≡ success_changes (unnamed s) node call
   changes_unnamed (create_at port) = refl
   changes_unnamed (delete_at port) =
@@ -295,7 +335,8 @@ module _ (s : DomainState) (node : ℕ) where
   changes_unnamed (scalar_from port bits value) = end_unnamed_at (λ e c. buffer_used c.peer ∷ []) (λ e c. refl) (local node port)
   changes_unnamed (scalar_at port bits) = at_unnamed (λ e. oldest_gone e.address ∷ []) (λ e. refl) (local node port)
   changes_unnamed (close_at port side) = end_unnamed_at (closing side) (closing_unnamed side) (local node port)
-  changes_unnamed (test_of request) = ap (λ cs. request_gone request ∷ cs) (tested_unnamed (request_at_place s request) ∙ ap lent_by_test (sym (request-unnamed s request)))
+  changes_unnamed (test_of request) = told_unnamed request
+  changes_unnamed (wait_for requests says_place) = told_unnamed (first_complete s requests) ∙ ap (tested (unnamed s)) (sym (first-unnamed s requests))
   changes_unnamed (cancel_of request) = refl
   changes_unnamed turn_alone = refl
 
@@ -350,6 +391,7 @@ refused-is u node word call is = go (refusal u node call) refl is
     never (close_at port Sender) none told = absurd cc
     never (close_at port Receiver) none told = absurd cc
     never (test_of request) none told = absurd cc
+    never (wait_for requests says_place) none told = absurd cc
     never (cancel_of request) none told = absurd cc
     never turn_alone none told = absurd cc
 

@@ -21,11 +21,12 @@ use Rattle.board_model.proofs.WholeStations.{station, entries_in, gives_in}
 use Rattle.board_model.proofs.WholeGoing.{Going}
 use Rattle.board_model.proofs.WholeJoined.{Joined, lanes_join}
 use Rattle.board_model.proofs.WholeOpening.{opened_going}
+use Rattle.board_model.proofs.WholeRests.{opened_rests}
 use Rattle.board_model.proofs.WholeLines.{lines_go}
 
 -- every line is called once, and no call is made of a next one
 finished_going : (s : Scenario) → IsLinkedBoard s → Going s (Joined s) (λ n. length (script s n)) (λ n. 0) (finished s)
-finished_going s board = lines_go s board [] s.calls refl board.lines_told (opened s) (opened_going s board)
+finished_going s board = lines_go s board [] s.calls refl board.lines_told (opened s) (opened_rests s) (opened_going s board)
 
 -- ---- journals
 

@@ -1,16 +1,16 @@
 -- Journals with more entries at their end: the steps, the traffic and the looks of both parts.
-use Rattle.std.proofs.Common.{◌≡◌, ℕ, ◌+◌, ◌≤◌, Bool, true, false, cond, List, [], ◌∷◌, ◌++◌, length, map, sum, count_by, Some, None, refl, ap, ◌∙◌, subst, arith, append_assoc, append-nil, length-append}
+use Rattle.std.proofs.Common.{◌≡◌, ℕ, ◌+◌, ◌≤◌, Bool, true, false, cond, List, [], ◌∷◌, ◌++◌, length, map, sum, count_by, Some, None, refl, ap, ◌∙◌, subst, arith, append_assoc, append-nil, length-append, sym}
 use Rattle.std.specs.Prelude.{◌==◌}
 use Rattle.std.proofs.lemmas.List.{map-append, length-map}
 use Rattle.std.proofs.lemmas.List.Concat.{flat_map-append}
 use Rattle.std.proofs.lemmas.List.Sums.{sum_by-append}
 use Rattle.board_model.specs.declared.scenario.CallLine.{CallLine}
-use Rattle.board_model.specs.Journal.{PlainEntry, turned, put, again, called, PlainAnswer, Visit, Taken}
+use Rattle.board_model.specs.Journal.{PlainEntry, turned, put, again, waits, called, PlainAnswer, Visit, Taken}
 use Rattle.board_model.specs.State.{is_from}
 use Rattle.board_model.specs.Answer.{answer, puts}
 use Rattle.board_model.specs.CallChanges.{effect, returned}
 use Rattle.board_model.specs.Labels.{labels_after}
-use Rattle.board_model.specs.Step.{RunState, Allowed, next_line, call_at, tries_again, effect_of_line, labels_of_line, after}
+use Rattle.board_model.specs.Step.{RunState, Allowed, next_line, call_at, tries_again, effect_of_line, labels_of_line, after, limit_of, MayCome}
 use Rattle.board_model.specs.Run.{Leads, after_all}
 use Rattle.board_model.specs.Traffic.{visits_to, puts_in, takes_in, put_to, takes_from, taken_from, returned_by, given, backs_in, back_looks}
 use Rattle.board_model.specs.Board.{SeeAtMost, SeesAtMost}
@@ -62,6 +62,7 @@ sees-more n total more t [] le h = tt
 sees-more n total more t (turned vs ∷ es) le h = (see-more total more t (visits_to n vs) le h.0, sees-more n total more (t + length (takes_in n (turned vs))) es le h.1)
 sees-more n total more t (put to frame ∷ es) le h = sees-more n total more t es le h
 sees-more n total more t (again word ∷ es) le h = sees-more n total more t es le h
+sees-more n total more t (waits k ∷ es) le h = sees-more n total more t es le h
 sees-more n total more t (called k a ∷ es) le h = sees-more n total more t es le h
 
 pub sees-append : (n total t u : ℕ) (es fs : List PlainEntry) → u ≡ t + length (takes_from n es) → SeesAtMost n total t es → SeesAtMost n total u fs → SeesAtMost n total t (es ++ fs)
@@ -70,6 +71,7 @@ sees-append n total t u (turned vs ∷ es) fs e h l =
     (h.0, sees-append n total (t + length (takes_in n (turned vs))) u es fs (omega (arith, e, length-append (takes_in n (turned vs)) (takes_from n es))) h.1 l)
 sees-append n total t u (put to frame ∷ es) fs e h l = sees-append n total t u es fs e h l
 sees-append n total t u (again word ∷ es) fs e h l = sees-append n total t u es fs e h l
+sees-append n total t u (waits k ∷ es) fs e h l = sees-append n total t u es fs e h l
 sees-append n total t u (called k a ∷ es) fs e h l = sees-append n total t u es fs e h l
 
 -- ---- the entries of a call
@@ -108,10 +110,10 @@ given_call script r n acc (p ∷ ps) k a line here = omega (arith, given_call sc
 
 -- a run after the last call of a line
 abbrev pub called_run : RunState → CallLine → RunState
-called_run r line = record { state = effect r.state line.node (call_at r line); lines_called = r.lines_called + 1; calls_made = 0; labels = labels_after r.labels r.state line; put_since_turn = None }
+called_run r line = record { state = effect r.state line.node (call_at r line); lines_called = r.lines_called + 1; calls_made = 0; labels = labels_after r.labels r.state line; put_since_turn = None; waited = None }
 
 pub after_call : (script : List CallLine) (r : RunState) (acc ps : List (ℕ × List ℕ)) (k : ℕ) (a : PlainAnswer) (line : CallLine) → next_line script r ≡ Some line → after_all script (with_puts r acc) (call_entries ps k a) ≡ called_run r line
-after_call script r acc [] k a line here = ap (λ o. record { state = effect_of_line o (with_puts r acc); lines_called = r.lines_called + 1; calls_made = 0; labels = labels_of_line o (with_puts r acc); put_since_turn = None }) here
+after_call script r acc [] k a line here = ap (λ o. record { state = effect_of_line o (with_puts r acc); lines_called = r.lines_called + 1; calls_made = 0; labels = labels_of_line o (with_puts r acc); put_since_turn = None; waited = None }) here
 after_call script r acc (p ∷ ps) k a line here = after_call script r (acc ++ p ∷ []) ps k a line here
 
 leads_puts : (script : List CallLine) (r : RunState) (acc ps : List (ℕ × List ℕ)) → Leads script (with_puts r acc) (map put_entry ps) (with_puts r (acc ++ ps))
@@ -121,12 +123,12 @@ leads_puts script r acc (p ∷ ps) =
     (with_puts r (acc ++ p ∷ []), record { allowed = refl; leads = refl }, subst (λ (x : List (ℕ × List ℕ)). Leads script (with_puts r (acc ++ p ∷ [])) (map put_entry ps) (with_puts r x)) (append_assoc acc (p ∷ []) ps) later)
 
 -- the entries of a last call are steps
-pub leads_call : (script : List CallLine) (r : RunState) (line : CallLine) → next_line script r ≡ Some line → tries_again line r (answer r.state line.node (call_at r line)) ≡ false →
+pub leads_call : (script : List CallLine) (r : RunState) (line : CallLine) → next_line script r ≡ Some line → limit_of line.call ≡ None → tries_again line r (answer r.state line.node (call_at r line)) ≡ false →
     (let ps = puts r.state line.node (call_at r line) in let a = answer r.state line.node (call_at r line) in
     Leads script (with_puts r []) (call_entries ps (r.lines_called + 1) a) (after script (with_puts r ps) (called (r.lines_called + 1) a)))
-leads_call script r line here last =
+leads_call script r line here ready last =
     let ps = puts r.state line.node (call_at r line) in
     let a = answer r.state line.node (call_at r line) in
     let new = after script (with_puts r ps) (called (r.lines_called + 1) a) in
     leads-append script (with_puts r []) (with_puts r ps) new (map put_entry ps) (called (r.lines_called + 1) a ∷ []) (leads_puts script r [] ps)
-    (new, record { allowed = (line, here, refl, refl, refl, last); leads = refl }, refl)
+    (new, record { allowed = (line, here, refl, refl, subst (λ o. MayCome o (with_puts r ps) line) (sym ready) refl, last); leads = refl }, refl)

@@ -10,20 +10,16 @@ use Rattle.board_model.specs.declared.scenario.Scenario.{Scenario}
 use Rattle.board_model.specs.Scenario.{script}
 use Rattle.board_model.specs.LinkedBoard.{IsTold, IsLinkedBoard}
 use Rattle.board_model.specs.Answer.{answer}
-use Rattle.board_model.specs.Step.{call_at, is_tried, may_try, tries_again}
-use Rattle.board_model.specs.SerialRun.{Station, Running, turned_once, all_turned, others, called_by, again_by, is_tried_at, after_turn_of, last_call, tried, more_calls, line_run, lines_run}
+use Rattle.board_model.specs.Step.{call_at, is_tried, may_try, tries_again, limit_of}
+use Rattle.board_model.specs.SerialRun.{Station, Running, turned_once, others, called_by, again_by, is_tried_at, after_turn_of, last_call, tried, more_calls, line_run, lines_run, line_by}
 use Rattle.board_model.proofs.ListsCounts.{one_if}
 use Rattle.board_model.proofs.WholeFinds.{find-mapped, some_tells}
 use Rattle.board_model.proofs.WholeStations.{station}
 use Rattle.board_model.proofs.WholeGoing.{Going}
 use Rattle.board_model.proofs.WholeJoined.{Joined, told_found}
-use Rattle.board_model.proofs.WholeSteps.{turn_goes, made_of, made_own, again_goes, one_more, call_goes}
-
--- ---- turns of others
-
-turns_go : (s : Scenario) (counts made : ℕ → ℕ) (r : Running) (ds : List ℕ) → Going s (Joined s) counts made r → Going s (Joined s) counts made (all_turned s r ds)
-turns_go s counts made r [] h = h
-turns_go s counts made r (d ∷ ds) h = turns_go s counts made (turned_once s r d) ds (turn_goes s counts made r d h).going
+use Rattle.board_model.proofs.WholeSteps.{turn_goes, turns_go, made_of, made_own, again_goes, one_more, call_goes}
+use Rattle.board_model.proofs.WholeRests.{Rest, Each, run_rests}
+use Rattle.board_model.proofs.WholeRounds.{wait_goes}
 
 -- ---- stations that are there
 
@@ -49,25 +45,25 @@ and_false : (x : Bool) → (x && false) ≡ false
 and_false true = refl
 and_false false = refl
 
-tried_goes : (s : Scenario) → IsLinkedBoard s → (line : CallLine) → IsTold s line.domain → (counts : ℕ → ℕ) → slice_get (script s line.domain) (counts line.domain) ≡ Some line → (more k : ℕ) → k + more ≡ more_calls line.tries → (r : Running) → Going s (Joined s) counts (made_of line.domain k) r → Going s (Joined s) (one_more counts line.domain) (λ n. 0) (tried s line more r)
-tried_goes s board line told counts here zero k e r h =
+tried_goes : (s : Scenario) → IsLinkedBoard s → (line : CallLine) → IsTold s line.domain → limit_of line.call ≡ None → (counts : ℕ → ℕ) → slice_get (script s line.domain) (counts line.domain) ≡ Some line → (more k : ℕ) → k + more ≡ more_calls line.tries → (r : Running) → Going s (Joined s) counts (made_of line.domain k) r → Going s (Joined s) (one_more counts line.domain) (λ n. 0) (tried s line more r)
+tried_goes s board line told ready counts here zero k e r h =
     let f = turn_goes s counts (made_of line.domain k) r line.domain h in
     let q = turned_once s r line.domain in
     let t = told_station s board counts (made_of line.domain k) q line.domain told f.going in
     let made : t.0.run.calls_made ≡ k = (f.going.each line.domain t.0 t.1).calls ∙ made_own line.domain k in
     let a = answer t.0.run.state line.node (call_at t.0.run line) in
     let last : tries_again line t.0.run a ≡ false = ap (λ n. is_tried a && may_try line.tries n) made ∙ ap (λ b. is_tried a && b) (may_not line.tries k (omega (arith, e))) ∙ and_false (is_tried a) in
-    subst (λ o. Going s (Joined s) (one_more counts line.domain) (λ n. 0) (last_call s line o q)) (sym t.1) (call_goes s counts k q line t.0 f.going t.1 here (f.fresh t.0 t.1) last)
-tried_goes s board line told counts here (suc more) k e r h =
+    subst (λ o. Going s (Joined s) (one_more counts line.domain) (λ n. 0) (last_call s line o q)) (sym t.1) (call_goes s counts k q line t.0 f.going t.1 here (f.fresh t.0 t.1) ready last)
+tried_goes s board line told ready counts here (suc more) k e r h =
     let f = turn_goes s counts (made_of line.domain k) r line.domain h in
     let q = turned_once s r line.domain in
     let t = told_station s board counts (made_of line.domain k) q line.domain told f.going in
     let a = answer t.0.run.state line.node (call_at t.0.run line) in
     subst (λ o. Going s (Joined s) (one_more counts line.domain) (λ n. 0) (after_turn_of s line o (tried s line more) q)) (sym t.1)
     (go t.0 (is_tried_at line t.0) refl
-    (λ tries. tried_goes s board line told counts here more (k + 1) (omega (arith, e)) (again_by s line t.0 q)
+    (λ tries. tried_goes s board line told ready counts here more (k + 1) (omega (arith, e)) (again_by s line t.0 q)
     (turns_go s counts (made_of line.domain (k + 1)) _ (others s line.domain) (again_goes s counts k q line t.0 f.going t.1 here (f.fresh t.0 t.1) tries (may line.tries k more e))))
-    (λ untried. call_goes s counts k q line t.0 f.going t.1 here (f.fresh t.0 t.1) (ap (λ b. b && may_try line.tries t.0.run.calls_made) untried)))
+    (λ untried. call_goes s counts k q line t.0 f.going t.1 here (f.fresh t.0 t.1) ready (ap (λ b. b && may_try line.tries t.0.run.calls_made) untried)))
   where
     go : (t : Station) (b : Bool) → is_tried_at line t ≡ b →
         (is_tried_at line t ≡ true → Going s (Joined s) (one_more counts line.domain) (λ n. 0) (tried s line more (again_by s line t (turned_once s r line.domain)))) →
@@ -75,6 +71,14 @@ tried_goes s board line told counts here (suc more) k e r h =
         Going s (Joined s) (one_more counts line.domain) (λ n. 0) (if b then tried s line more (again_by s line t (turned_once s r line.domain)) else called_by s line t (turned_once s r line.domain))
     go t true is again last = again is
     go t false is again last = last is
+
+-- ---- a line
+
+line_goes : (s : Scenario) → IsLinkedBoard s → (line : CallLine) → IsTold s line.domain → (counts : ℕ → ℕ) → slice_get (script s line.domain) (counts line.domain) ≡ Some line → (o : Option ℕ) → limit_of line.call ≡ o → (r : Running) → Rest Each r → Going s (Joined s) counts (made_of line.domain 0) r → Going s (Joined s) (one_more counts line.domain) (λ n. 0) (line_by s line o r)
+line_goes s board line told counts here None ready r rests h = tried_goes s board line told ready counts here (more_calls line.tries) 0 (omega arith) r h
+line_goes s board line told counts here (Some limit) waits r rests h =
+    let t = told_station s board counts (made_of line.domain 0) r line.domain told h in
+    wait_goes s board line told counts here limit waits r t.0 t.1 (rests line.domain t.0 tt t.1) h
 
 -- ---- lines
 
@@ -111,14 +115,14 @@ one_counted before line n =
       | inr differ ↦ omega (arith, ap (λ b. length (cond b (line ∷ []) [])) differ.0, ap one_if (ne_eqb n line.domain (λ e. differ.1 (sym e))))
     ]
 
-pub lines_go : (s : Scenario) → IsLinkedBoard s → (before rest : List CallLine) → s.calls ≡ before ++ rest → AllByRecursion (λ c. IsTold s c.domain) rest → (r : Running) → Going s (Joined s) (λ n. length (lines_of before n)) (λ n. 0) r → Going s (Joined s) (λ n. length (script s n)) (λ n. 0) (lines_run s r rest)
-lines_go s board before [] e told r h =
+pub lines_go : (s : Scenario) → IsLinkedBoard s → (before rest : List CallLine) → s.calls ≡ before ++ rest → AllByRecursion (λ c. IsTold s c.domain) rest → (r : Running) → Rest Each r → Going s (Joined s) (λ n. length (lines_of before n)) (λ n. 0) r → Going s (Joined s) (λ n. length (script s n)) (λ n. 0) (lines_run s r rest)
+lines_go s board before [] e told r rests h =
     going_same s (λ n. length (lines_of before n)) (λ n. 0) (λ n. length (script s n)) (λ n. 0) r (λ n. ap (λ ls. length (lines_of ls n)) (e ∙ append-nil before)) (λ n. refl) h
-lines_go s board before (line ∷ ls) e told r h =
+lines_go s board before (line ∷ ls) e told r rests h =
     let here : slice_get (script s line.domain) (length (lines_of before line.domain)) ≡ Some line = ap (λ xs. slice_get (lines_of xs line.domain) (length (lines_of before line.domain))) e ∙ next_line_is before ls line in
-    let now = tried_goes s board line told.0 (λ n. length (lines_of before n)) here (more_calls line.tries) 0 (omega arith) r
+    let now = line_goes s board line told.0 (λ n. length (lines_of before n)) here (limit_of line.call) refl r rests
     (going_same s (λ n. length (lines_of before n)) (λ n. 0) (λ n. length (lines_of before n)) (made_of line.domain 0) r (λ n. refl) (λ n. none (n == line.domain)) h) in
-    lines_go s board (before ++ line ∷ []) ls (e ∙ sym (append_assoc before (line ∷ []) ls)) told.1 (line_run s r line)
+    lines_go s board (before ++ line ∷ []) ls (e ∙ sym (append_assoc before (line ∷ []) ls)) told.1 (line_run s r line) (run_rests s line r rests)
     (going_same s (one_more (λ n. length (lines_of before n)) line.domain) (λ n. 0) (λ n. length (lines_of (before ++ line ∷ []) n)) (λ n. 0) (line_run s r line) (one_counted before line) (λ n. refl) now)
   where
     none : (b : Bool) → ◌≡◌ {A = ℕ} (cond b 0 0) 0

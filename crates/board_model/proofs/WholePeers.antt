@@ -9,8 +9,8 @@ use Rattle.mc_base.specs.declared.refusal.Refusal.{Refusal}
 use Rattle.mc_base.specs.declared.refusal.Refusal.TheVariants.{EndpInvalid}
 use Rattle.board_model.specs.Journal.{Visit, Taken}
 use Rattle.board_model.specs.State.{DomainState, ChannelEnd, Endpoint, Peer, channel_of, message_at, packet_at, has_item, live_at, request_at_place, peer_at, peer_of, free_to}
-use Rattle.board_model.specs.DomainCall.{DomainCall, create_at, delete_at, lookup_of, send_from, receive_at, request_at, available_at, connect_from, open_at, packet_from, lend_at, packet_request_at, release_of, scalar_from, scalar_at, close_at, test_of, cancel_of, turn_alone}
-use Rattle.board_model.specs.Answer.{local, refusal, unless_refused}
+use Rattle.board_model.specs.DomainCall.{DomainCall, create_at, delete_at, lookup_of, send_from, receive_at, request_at, available_at, connect_from, open_at, packet_from, lend_at, packet_request_at, release_of, scalar_from, scalar_at, close_at, test_of, wait_for, cancel_of, turn_alone}
+use Rattle.board_model.specs.Answer.{first_complete, local, refusal, unless_refused}
 use Rattle.board_model.specs.Choice.{oldest}
 use Rattle.board_model.specs.ChannelEnds.{opened_end}
 use Rattle.board_model.specs.Change.{Change, endpoint_gone, best_gone, oldest_gone, channel_set, request_added, waiting_ended, end_announced, buffer_used, channel_given}
@@ -101,6 +101,7 @@ module _ (s : DomainState) (node n : ℕ) where
   success_shown (scalar_at port bits) = live_shown (live_at s (local node port)) (λ e. oldest_gone e.address ∷ []) (λ e. ((λ p. refl), tt))
   success_shown (close_at port side) = end-holds KeepShown tt (live_at s (local node port)) (closing side) (λ e c live has. closing_shown side e c)
   success_shown (test_of request) = ((λ p. refl), tested-holds (Keeps (λ p. p.shown) s.number n) (λ i p. refl) (request_at_place s request))
+  success_shown (wait_for requests says_place) = ((λ p. refl), tested-holds (Keeps (λ p. p.shown) s.number n) (λ i p. refl) (request_at_place s (first_complete s requests)))
   success_shown (cancel_of request) = ((λ p. refl), tt)
   success_shown turn_alone = tt
 

@@ -1,20 +1,22 @@
 -- A board that runs serially goes on through turns, calls that are made again, and last calls.
-use Rattle.std.proofs.Common.{◌≡◌, ℕ, ◌+◌, Bool, true, false, ◌&&◌, cond, List, [], ◌∷◌, ◌++◌, length, sum, Option, Some, None, slice_get, refl, sym, ap, ap₂, ◌∙◌, subst, inl, inr, arith, append-nil, eq-eqb}
-use Rattle.std.specs.Prelude.{◌==◌}
+use Rattle.std.proofs.Common.{◌≡◌, ℕ, ◌+◌, Bool, true, false, ◌&&◌, cond, List, [], ◌∷◌, ◌++◌, length, sum, Option, Some, None, slice_get, refl, sym, ap, ap₂, ◌∙◌, subst, inl, inr, arith, append-nil, eq-eqb, count_by}
+use Rattle.std.specs.Prelude.{◌==◌, IsSome}
 use Rattle.std.specs.List.{AllByRecursion}
 use Rattle.std.proofs.lemmas.Bool.{ne_eqb}
 use Rattle.std.proofs.lemmas.Bool.Decides.{eqb_tells}
+use Rattle.board_model.proofs.WaitCalls.{wait-puts, wait-untried}
+use Rattle.board_model.specs.State.{is_from}
 use Rattle.board_model.specs.declared.scenario.CallLine.{CallLine}
 use Rattle.board_model.specs.declared.scenario.Scenario.{Scenario}
 use Rattle.board_model.specs.Scenario.{script}
-use Rattle.board_model.specs.Journal.{turned, again, called, PlainAnswer, refuses, agrees, tells, connects, gives, completes, Visit}
+use Rattle.board_model.specs.Journal.{turned, again, waits, called, PlainAnswer, refuses, agrees, tells, connects, gives, completes, Visit}
 use Rattle.board_model.specs.Answer.{answer, puts}
 use Rattle.board_model.specs.CallChanges.{call_changes, returned}
-use Rattle.board_model.specs.Step.{HasNoPuts, next_line, call_at, is_tried, may_try, tries_again, after}
+use Rattle.board_model.specs.Step.{HasNoPuts, next_line, call_at, is_tried, may_try, tries_again, after, limit_of, is_timeout, MayCome, EndsWait, effect_of_line, labels_of_line}
 use Rattle.board_model.specs.Run.{start, Leads, after_all}
-use Rattle.board_model.specs.Traffic.{puts_in, takes_in, given, backs_in}
+use Rattle.board_model.specs.Traffic.{puts_in, takes_in, given, backs_in, returned_by}
 use Rattle.board_model.specs.Loads.{turn_of, loads_turned, loads_given}
-use Rattle.board_model.specs.SerialRun.{Station, Running, with_entry, turned_by, turned_once, loads_with_puts, word_in, is_tried_at, called_by}
+use Rattle.board_model.specs.SerialRun.{Station, Running, with_entry, turned_by, turned_once, all_turned, loads_with_puts, word_in, is_tried_at, called_by, with_entries}
 use Rattle.board_model.proofs.ListsCounts.{one_if}
 use Rattle.board_model.proofs.DeedJoins.{changes-keep}
 use Rattle.board_model.proofs.LaneRuns.{ends-leads}
@@ -97,10 +99,14 @@ turn_goes s counts made r d h = go (station r d) refl
               put_of (sym (ap (λ b. cond b (Some (entered_all s (turned vs ∷ []) t)) (station r d)) (eq-eqb d d refl)) ∙ sym (station_after s d (turned vs ∷ []) (record r { loads = loads_turned st r.loads }) t e d) ∙ here) refl;
         }
 
+pub turns_go : (s : Scenario) (counts made : ℕ → ℕ) (r : Running) (ds : List ℕ) → Going s (Joined s) counts made r → Going s (Joined s) counts made (all_turned s r ds)
+turns_go s counts made r [] h = h
+turns_go s counts made r (d ∷ ds) h = turns_go s counts made (turned_once s r d) ds (turn_goes s counts made r d h).going
+
 -- ---- calls
 
 -- what comes next for the station of a line's domain
-next_of : (s : Scenario) (counts made : ℕ → ℕ) (r : Running) (line : CallLine) (t : Station) → Going s (Joined s) counts made r → station r line.domain ≡ Some t → slice_get (script s line.domain) (counts line.domain) ≡ Some line → next_line (script s t.line.domain) t.run ≡ Some line
+pub next_of : (s : Scenario) (counts made : ℕ → ℕ) (r : Running) (line : CallLine) (t : Station) → Going s (Joined s) counts made r → station r line.domain ≡ Some t → slice_get (script s line.domain) (counts line.domain) ≡ Some line → next_line (script s t.line.domain) t.run ≡ Some line
 next_of s counts made r line t h e here = ap₂ (λ n k. slice_get (script s n) k) (station_domain r line.domain t e) (h.each line.domain t e).lines ∙ here
 
 tried_word : (a : PlainAnswer) → is_tried a ≡ true → refuses (word_in a) ≡ a
@@ -160,8 +166,8 @@ call_adds s d t line k x a b book next run =
 abbrev pub one_more : (ℕ → ℕ) → ℕ → ℕ → ℕ
 one_more counts d n = counts n + one_if (n == d)
 
-pub call_goes : (s : Scenario) (counts : ℕ → ℕ) (k : ℕ) (r : Running) (line : CallLine) (t : Station) → Going s (Joined s) counts (made_of line.domain k) r → station r line.domain ≡ Some t → slice_get (script s line.domain) (counts line.domain) ≡ Some line → t.run.put_since_turn ≡ Some [] → tries_again line t.run (answer t.run.state line.node (call_at t.run line)) ≡ false → Going s (Joined s) (one_more counts line.domain) (λ n. 0) (called_by s line t r)
-call_goes s counts k r line t h e here fresh last =
+pub call_goes : (s : Scenario) (counts : ℕ → ℕ) (k : ℕ) (r : Running) (line : CallLine) (t : Station) → Going s (Joined s) counts (made_of line.domain k) r → station r line.domain ≡ Some t → slice_get (script s line.domain) (counts line.domain) ≡ Some line → t.run.put_since_turn ≡ Some [] → limit_of line.call ≡ None → tries_again line t.run (answer t.run.state line.node (call_at t.run line)) ≡ false → Going s (Joined s) (one_more counts line.domain) (λ n. 0) (called_by s line t r)
+call_goes s counts k r line t h e here fresh ready last =
     let d = line.domain in
     let ok = h.each d t e in
     let sc = script s t.line.domain in
@@ -173,7 +179,7 @@ call_goes s counts k r line t h e here fresh last =
     let es = call_entries ps (t.run.lines_called + 1) x in
     let next = next_of s counts (made_of d k) r line t h e here in
     let run : t.run ≡ with_puts t.run [] = ap (λ p. record t.run { put_since_turn = p }) fresh in
-    let steps = leads_call sc t.run line next last in
+    let steps = leads_call sc t.run line next ready last in
     let all : Leads sc (with_puts t.run []) es (after_all sc (with_puts t.run []) es) = subst (λ y. Leads sc (with_puts t.run []) es y) (leads_to sc (with_puts t.run []) (after sc (with_puts t.run ps) (called (t.run.lines_called + 1) x)) es steps) steps in
     let new_run : after_all sc t.run es ≡ called_run t.run line = ap (λ y. after_all sc y es) run ∙ after_call sc t.run [] ps (t.run.lines_called + 1) x line next in
     let new : StationOk s (Joined s) d (one_more counts d d) 0 (entered_all s es t) = record {
@@ -191,3 +197,65 @@ call_goes s counts k r line t h e here fresh last =
     (λ a b size j. call_lane (states_of r) d st (ends-leads sc (start s t.line) t.run t.entries ok.leads (record { apart = tt; below = tt })) line.node call r.loads size a b (book_of s r a b) (old a b size j)))
     (λ a b. call_adds s d t line (t.run.lines_called + 1) x a b (book_of s r a b) next run)
     (λ a size j. sees_call a (length (called_book d ps items a d (book_of s r a d)).puts) (length (book_of s r a d).taken) ps (t.run.lines_called + 1) x)
+
+-- a wait begins
+pub begin_goes : (s : Scenario) (counts : ℕ → ℕ) (r : Running) (line : CallLine) (t : Station) → Going s (Joined s) counts (made_of line.domain 0) r → station r line.domain ≡ Some t → slice_get (script s line.domain) (counts line.domain) ≡ Some line → IsSome (limit_of line.call) → is_timeout (answer t.run.state line.node (call_at t.run line)) ≡ true → t.run.waited ≡ None → Going s (Joined s) counts (made_of line.domain 0) (with_entry s line.domain (waits (t.run.lines_called + 1)) r)
+begin_goes s counts r line t h e here is_wait pends rests =
+    let d = line.domain in
+    let ok = h.each d t e in
+    let sc = script s t.line.domain in
+    let k : ℕ = t.run.lines_called + 1 in
+    let new : StationOk s (Joined s) d (counts d) (made_of d 0 d) (entered_all s (waits k ∷ []) t) = record {
+      leads = leads-append sc (start s t.line) t.run (after_all sc t.run (waits k ∷ [])) t.entries (waits k ∷ []) ok.leads (leads_one sc t.run (waits k) (line, next_of s counts (made_of d 0) r line t h e here, refl, is_wait, pends, ok.no_puts, rests));
+      no_puts = ok.no_puts;
+      lines = ok.lines;
+      calls = ok.calls;
+      number = ok.number;
+      peers = ok.peers;
+    } in
+    goes_on s (Joined s) counts (made_of d 0) counts (made_of d 0) r d t (waits k ∷ []) r.loads (book_of s r) h e new
+    (λ n differ. (refl, refl))
+    (lanes_placed s counts (made_of d 0) r d t h e)
+    (λ a b. record { puts = no_more (a == d) (book_of s r a b).puts; backs = none_more (a == d) (book_of s r a b).backs; taken = no_more (b == d) (book_of s r a b).taken; gives = none_more (b == d) (book_of s r a b).gives })
+    (λ a size j. tt)
+
+-- a wait ends
+pub wait_call_goes : (s : Scenario) (counts : ℕ → ℕ) (r : Running) (line : CallLine) (t : Station) (limit : ℕ) → Going s (Joined s) counts (made_of line.domain 0) r → station r line.domain ≡ Some t → slice_get (script s line.domain) (counts line.domain) ≡ Some line → limit_of line.call ≡ Some limit → EndsWait limit (answer t.run.state line.node (call_at t.run line)) t.run.waited → Going s (Joined s) (one_more counts line.domain) (λ n. 0) (called_by s line t r)
+wait_call_goes s counts r line t limit h e here is_wait ends =
+    let d = line.domain in
+    let ok = h.each d t e in
+    let sc = script s t.line.domain in
+    let st = t.run.state in
+    let call = call_at t.run line in
+    let items = returned st line.node call in
+    let x = answer st line.node call in
+    let k : ℕ = t.run.lines_called + 1 in
+    let next = next_of s counts (made_of d 0) r line t h e here in
+    let none : puts st line.node call ≡ [] = wait-puts t.run line limit is_wait in
+    let last : tries_again line t.run x ≡ false = ap (λ b. b && may_try line.tries t.run.calls_made) (wait-untried t.run line limit is_wait) in
+    let come : MayCome (limit_of line.call) t.run line = subst (λ o. MayCome o t.run line) (sym is_wait) (ok.no_puts, ends) in
+    let new_run : after sc t.run (called k x) ≡ called_run t.run line = ap (λ o. record { state = effect_of_line o t.run; lines_called = t.run.lines_called + 1; calls_made = 0; labels = labels_of_line o t.run; put_since_turn = None; waited = None }) next in
+    let new : StationOk s (Joined s) d (one_more counts d d) 0 (entered_all s (called k x ∷ []) t) = record {
+      leads = leads-append sc (start s t.line) t.run (after_all sc t.run (called k x ∷ [])) t.entries (called k x ∷ []) ok.leads (leads_one sc t.run (called k x) (line, next, refl, refl, come, last));
+      no_puts = tt;
+      lines = omega (arith, ok.lines, ap one_if (eq-eqb d d refl));
+      calls = refl;
+      number = ap (λ y. y.state.number) new_run ∙ changes-keep (λ y. y.number) (λ y c. refl) st (call_changes st line.node call) ∙ ok.number;
+      peers = subst (AllByRecursion (λ p. (size : ℕ) × Joined s d p size)) (sym (ap (λ y. numbers y.state) new_run ∙ call_numbers st line.node call)) ok.peers;
+    } in
+    let old = lanes_placed s counts (made_of d 0) r d t h e in
+    let lanes_ok =
+    subst (λ y. AllOk (Joined s) (placed (states_of r) d y) (λ a b. called_book d (puts st line.node call) items a b (book_of s r a b)) (loads_given d items (loads_with_puts d (puts st line.node call) r.loads))) (sym (ap (λ y. y.state) new_run))
+    (λ a b size j. call_lane (states_of r) d st (ends-leads sc (start s t.line) t.run t.entries ok.leads (record { apart = tt; below = tt })) line.node call r.loads size a b (book_of s r a b) (old a b size j)) in
+    let silent = subst (λ qs. AllOk (Joined s) (placed (states_of r) d (after sc t.run (called k x)).state) (λ a b. called_book d qs items a b (book_of s r a b)) (loads_given d items (loads_with_puts d qs r.loads))) none lanes_ok in
+    subst (λ qs. Going s (Joined s) (one_more counts d) (λ n. 0) (with_entries s d (call_entries qs k x) (record r { loads = loads_given d items (loads_with_puts d qs r.loads) }))) (sym none)
+    (goes_on s (Joined s) counts (made_of d 0) (one_more counts d) (λ n. 0) r d t (called k x ∷ []) (loads_given d items r.loads) (λ a b. called_book d [] items a b (book_of s r a b)) h e new
+    (λ n differ. (omega (arith, ap one_if (ne_eqb n d differ)), sym (made_other d 0 n differ)))
+    silent
+    (λ a b. record {
+      puts = refl;
+      backs = none_more (a == d) (book_of s r a b).backs;
+      taken = no_more (b == d) (book_of s r a b).taken;
+      gives = ap (λ n. (book_of s r a b).gives + cond (b == d) n 0) (sym (omega (arith, ap (λ o. count_by (is_from a) (returned_by o t.run)) next)));
+    })
+    (λ a size j. tt))

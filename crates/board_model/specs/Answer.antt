@@ -1,6 +1,7 @@
 -- The answer of a call: the first refusal whose condition holds, or else the answer of success.
 -- Source: docs/PROFILE.md, "Calls" and "Words of refusal". E is the endpoint of the line's domain, node and port.
-use Rattle.std.specs.Prelude.{ℕ, ◌+◌, Bool, true, false, not, ◌||◌, List, [], ◌∷◌, map, length, take, nat_lt, nat_le, ◌==◌, find, Option, None, Some, is_some, unwrap_or, if◌then◌else◌}
+use Rattle.std.specs.Prelude.{ℕ, ◌+◌, Bool, true, false, not, ◌||◌, List, [], ◌∷◌, map, length, take, nat_lt, nat_le, ◌==◌, find, position, option_map, option_and_then, Option, None, Some, is_some, unwrap_or, if◌then◌else◌}
+use Rattle.std.specs.List.{list_all, list_any}
 use Rattle.byteorder.specs.Endian.{little_number}
 use Rattle.mc_base.specs.Limits.{item_size, first_address, record_limit, creation_limit, request_limit}
 use Rattle.mc_base.specs.NameMap.{address_in}
@@ -8,14 +9,13 @@ use Rattle.mc_base.specs.Frame.{made}
 use Rattle.mc_base.specs.Letter.{PlainLetter, spelling, bytes_of_bits, msg, connect, packet, scalar, send_open, recv_open, send_close, recv_close}
 use Rattle.mc_base.specs.declared.name.Local.{Local}
 use Rattle.mc_base.specs.declared.name.EndName.{EndName}
-use Rattle.mc_base.specs.declared.channel.Kind.{Kind}
 use Rattle.mc_base.specs.declared.channel.Kind.TheVariants.{Packet, Scalar}
 use Rattle.mc_base.specs.declared.channel.Bits.{Bits}
 use Rattle.mc_base.specs.declared.channel.Side.{Side}
 use Rattle.mc_base.specs.declared.channel.Side.TheVariants.{Sender, Receiver}
 use Rattle.mc_base.specs.declared.refusal.Refusal.{Refusal}
-use Rattle.mc_base.specs.declared.refusal.Refusal.TheVariants.{NodeInvalid, ExistsAlready, EndpLimit, AddressSpent, EndpInvalid, PeerInvalid, OnChannel, ChanConnected, EndpBusy, ChanLimit, NotConnected, ChanDirection, ChanType, ChanClosed, AlreadyOpen, NotOpen, MsgSize, PktSize, SclSize, BufInvalid, NoBuffer, Empty, RequestLimit, RequestInvalid, Pending, TooLate}
-use Rattle.board_model.specs.DomainCall.{DomainCall, create_at, delete_at, lookup_of, send_from, receive_at, request_at, available_at, connect_from, open_at, packet_from, lend_at, packet_request_at, release_of, scalar_from, scalar_at, close_at, test_of, cancel_of, turn_alone}
+use Rattle.mc_base.specs.declared.refusal.Refusal.TheVariants.{NodeInvalid, ExistsAlready, EndpLimit, AddressSpent, EndpInvalid, PeerInvalid, OnChannel, ChanConnected, EndpBusy, ChanLimit, NotConnected, ChanDirection, ChanType, ChanClosed, AlreadyOpen, NotOpen, MsgSize, PktSize, SclSize, BufInvalid, NoBuffer, Empty, RequestLimit, RequestInvalid, Pending, TooLate, Timeout}
+use Rattle.board_model.specs.DomainCall.{DomainCall, create_at, delete_at, lookup_of, send_from, receive_at, request_at, available_at, connect_from, open_at, packet_from, lend_at, packet_request_at, release_of, scalar_from, scalar_at, close_at, test_of, wait_for, cancel_of, turn_alone}
 use Rattle.board_model.specs.Journal.{PlainResult, found_at, was_accepted, was_rejected, brought, ended_by, PlainAnswer, refuses, agrees, tells, connects, gives, completes}
 use Rattle.board_model.specs.State.{DomainState, Item, ChannelEnd, Endpoint, Peer, Asked, message_at, Outcome, has_address, is_accepted, is_rejected, has_item, has_ended, Request, LentPacket, request_at_place, packet_at_place, place_at, endpoint_at, live_at, address_at, channel_in, queue_at, one_waits, peer_of, free_to}
 use Rattle.board_model.specs.Choice.{best, oldest}
@@ -44,6 +44,7 @@ port_of (scalar_from port bits value) = port
 port_of (scalar_at port bits) = port
 port_of (close_at port side) = port
 port_of (test_of request) = 0
+port_of (wait_for requests says_place) = 0
 port_of (cancel_of request) = 0
 port_of turn_alone = 0
 
@@ -139,6 +140,32 @@ abbrev pub is_complete : Option Request → Bool
 is_complete None = false
 is_complete (Some r) = is_some r.outcome
 
+-- ---- the requests that a wait names
+
+abbrev pub stands_at : DomainState → Option ℕ → Bool
+stands_at s request = is_some (request_at_place s request)
+
+abbrev pub is_complete_at : DomainState → Option ℕ → Bool
+is_complete_at s request = is_complete (request_at_place s request)
+
+-- the first that is complete, by its place among the requests that stand
+abbrev pub first_complete : DomainState → List (Option ℕ) → Option ℕ
+first_complete s requests = option_and_then (λ r. r) (find (is_complete_at s) requests)
+
+-- and by its place among those that are named, counted from 1, where the answer says it
+abbrev pub place_said : DomainState → List (Option ℕ) → Bool → Option ℕ
+place_said s requests says_place = if says_place then option_map (λ i. i + 1) (position (is_complete_at s) requests) else None
+
+-- a request that a call names does not stand
+abbrev pub lacks_request : DomainState → DomainCall → Bool
+lacks_request s (wait_for requests says_place) = not (list_all (stands_at s) requests)
+lacks_request s call = not (is_some (request_named s call))
+
+-- none of the requests that a wait names is complete
+abbrev pub lacks_complete : DomainState → DomainCall → Bool
+lacks_complete s (wait_for requests says_place) = not (list_any (is_complete_at s) requests)
+lacks_complete s call = false
+
 -- the lent packet that a call names, where there is one
 abbrev pub packet_named : DomainState → DomainCall → Option LentPacket
 packet_named s (release_of place) = packet_at_place s place
@@ -201,9 +228,10 @@ holds s node call BufInvalid = not (is_some (packet_named s call))
 holds s node call NoBuffer = lacks_buffers s (success_puts s node call)
 holds s node call Empty = length (queue_at s (here node call)) == 0
 holds s node call RequestLimit = nat_le request_limit (length s.requests)
-holds s node call RequestInvalid = not (is_some (request_named s call))
+holds s node call RequestInvalid = lacks_request s call
 holds s node call Pending = not (is_complete (request_named s call))
 holds s node call TooLate = is_complete (request_named s call)
+holds s node call Timeout = lacks_complete s call
 holds s node call other = false
 
 -- the words of a call, in their order
@@ -225,6 +253,7 @@ words_of (scalar_from port bits value) = EndpInvalid ∷ NotConnected ∷ ChanDi
 words_of (scalar_at port bits) = EndpInvalid ∷ NotConnected ∷ ChanDirection ∷ ChanType ∷ ChanClosed ∷ NotOpen ∷ Empty ∷ SclSize ∷ []
 words_of (close_at port side) = EndpInvalid ∷ NotConnected ∷ ChanDirection ∷ ChanClosed ∷ NoBuffer ∷ []
 words_of (test_of request) = RequestInvalid ∷ Pending ∷ []
+words_of (wait_for requests says_place) = RequestInvalid ∷ Timeout ∷ []
 words_of (cancel_of request) = RequestInvalid ∷ TooLate ∷ []
 words_of turn_alone = []
 
@@ -284,6 +313,7 @@ success s node (scalar_at port bits) = value_of bits (oldest (queue_at s (local 
 success s node (close_at port Sender) = agrees
 success s node (close_at port Receiver) = tells (length (queue_at s (local node port)))
 success s node (test_of request) = completes None (result_of (request_at_place s request))
+success s node (wait_for requests says_place) = completes (place_said s requests says_place) (result_of (request_at_place s (first_complete s requests)))
 success s node (cancel_of request) = agrees
 success s node turn_alone = agrees
 

@@ -7,7 +7,7 @@ use Rattle.board_model.specs.declared.scenario.DomainLine.{DomainLine}
 use Rattle.board_model.specs.declared.scenario.Scenario.{Scenario}
 use Rattle.board_model.specs.Lists.{IsPrefix}
 use Rattle.board_model.specs.Scenario.{script, Lane, lanes, rising}
-use Rattle.board_model.specs.Journal.{PlainEntry, turned, put, again, called, Visit}
+use Rattle.board_model.specs.Journal.{PlainEntry, turned, put, again, waits, called, Visit}
 use Rattle.board_model.specs.Traffic.{put_to, taken_from, takes_in, visits_to, given, back_looks}
 use Rattle.board_model.specs.Run.{start, IsDomainRun, IsWhole}
 
@@ -42,6 +42,7 @@ SeesAtMost peer total taken [] = Unit {0}
 SeesAtMost peer total taken (turned visits ∷ es) = SeeAtMost total taken (visits_to peer visits) × SeesAtMost peer total (taken + length (takes_in peer (turned visits))) es
 SeesAtMost peer total taken (put to frame ∷ es) = SeesAtMost peer total taken es
 SeesAtMost peer total taken (again word ∷ es) = SeesAtMost peer total taken es
+SeesAtMost peer total taken (waits k ∷ es) = SeesAtMost peer total taken es
 SeesAtMost peer total taken (called k a ∷ es) = SeesAtMost peer total taken es
 
 -- the two ends of a lane fit together: what is taken is a front of what is put, and no look shows more than there ever is

@@ -9,11 +9,11 @@ use Rattle.mc_base.specs.declared.channel.Side.{Side}
 use Rattle.mc_base.specs.declared.channel.Side.TheVariants.{Sender, Receiver}
 use Rattle.mc_base.specs.declared.refusal.Refusal.TheVariants.{EndpInvalid, ChanClosed}
 use Rattle.board_model.specs.Choice.{best, oldest}
-use Rattle.board_model.specs.DomainCall.{DomainCall, create_at, delete_at, lookup_of, send_from, receive_at, request_at, available_at, connect_from, open_at, packet_from, lend_at, packet_request_at, release_of, scalar_from, scalar_at, close_at, test_of, cancel_of, turn_alone}
+use Rattle.board_model.specs.DomainCall.{DomainCall, create_at, delete_at, lookup_of, send_from, receive_at, request_at, available_at, connect_from, open_at, packet_from, lend_at, packet_request_at, release_of, scalar_from, scalar_at, close_at, test_of, wait_for, cancel_of, turn_alone}
 use Rattle.board_model.specs.State.{Item, ChannelEnd, Endpoint, Asked, Outcome, Request, LentPacket, name_of, channel_of, message_at, packet_at, has_address, has_item, item_in, DomainState, live_at, request_at_place, packet_at_place}
 use Rattle.board_model.specs.Change.{Change, endpoint_made, endpoint_gone, best_gone, oldest_gone, channel_set, queue_dropped, request_added, waiting_ended, name_found, request_gone, end_announced, buffer_used, packet_lent, packet_gone, channel_given, changed_all}
 use Rattle.board_model.specs.ChannelEnds.{connecting_end, opened_end, closed_end}
-use Rattle.board_model.specs.Answer.{local, address_of, refusal, unless_refused}
+use Rattle.board_model.specs.Answer.{local, address_of, first_complete, refusal, unless_refused}
 
 -- by a call at a live endpoint
 abbrev pub at_live : {A : Type 0} → Option Endpoint → (Endpoint → List A) → List A
@@ -55,6 +55,10 @@ abbrev pub lent_by_test : Option Request → List Change
 lent_by_test None = []
 lent_by_test (Some r) = lent_by r.asked r.outcome
 
+-- a request that is told of ends
+abbrev pub tested : DomainState → Option ℕ → List Change
+tested s request = request_gone request ∷ lent_by_test (request_at_place s request)
+
 -- what happens by success
 abbrev pub success_changes : DomainState → ℕ → DomainCall → List Change
 success_changes s node (create_at port) =
@@ -92,7 +96,8 @@ success_changes s node (release_of place) = packet_gone place ∷ []
 success_changes s node (scalar_from port bits value) = at_end (live_at s (local node port)) (λ e c. buffer_used c.peer ∷ [])
 success_changes s node (scalar_at port bits) = at_live (live_at s (local node port)) (λ e. oldest_gone e.address ∷ [])
 success_changes s node (close_at port side) = at_end (live_at s (local node port)) (closing side)
-success_changes s node (test_of request) = request_gone request ∷ lent_by_test (request_at_place s request)
+success_changes s node (test_of request) = tested s request
+success_changes s node (wait_for requests says_place) = tested s (first_complete s requests)
 success_changes s node (cancel_of request) = request_gone request ∷ []
 success_changes s node turn_alone = []
 
@@ -124,6 +129,7 @@ success_returned s node (release_of place) = item_lent (packet_at_place s place)
 success_returned s node (scalar_at port bits) = at_live (live_at s (local node port)) (λ e. option_to_list (oldest e.queue))
 success_returned s node (close_at port Receiver) = at_live (live_at s (local node port)) (λ e. e.queue)
 success_returned s node (test_of request) = held_by (request_at_place s request)
+success_returned s node (wait_for requests says_place) = held_by (request_at_place s (first_complete s requests))
 success_returned s node other = []
 
 abbrev pub returned : DomainState → ℕ → DomainCall → List Item

@@ -6,12 +6,12 @@ use Rattle.std.specs.List.{flat_map, AllByRecursion}
 use Rattle.byteorder.specs.Endian.{little_bytes}
 use Rattle.mc_base.specs.Letter.{PlainLetter, packet, scalar, bytes_of_bits}
 use Rattle.mc_base.specs.Reading.{Reading, says, reading}
-use Rattle.mc_base.specs.declared.channel.Side.TheVariants.{Sender, Receiver}
+use Rattle.mc_base.specs.declared.channel.Side.TheVariants.{Receiver}
 use Rattle.mc_base.specs.declared.fate.Fate.{Fate}
 use Rattle.mc_base.specs.declared.fate.Fate.TheVariants.{Closed, Handed, Queued}
 use Rattle.board_model.specs.declared.scenario.Scenario.{Scenario}
 use Rattle.board_model.specs.Scenario.{Lane, lanes}
-use Rattle.board_model.specs.Journal.{PlainAnswer, agrees, tells}
+use Rattle.board_model.specs.Journal.{agrees, tells}
 use Rattle.board_model.specs.DomainCall.{packet_from, scalar_from, close_at}
 use Rattle.board_model.specs.State.{Item, Endpoint, ChannelEnd, DomainState, live_at}
 use Rattle.board_model.specs.Answer.{local, channel_at}

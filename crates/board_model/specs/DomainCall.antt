@@ -1,12 +1,13 @@
 -- Calls as a domain knows them: requests are named by their places among those that stand, lent packets by theirs, and no label is left.
 -- Source: docs/PROFILE.md, "Calls".
-use Rattle.std.specs.Prelude.{ℕ, List, Option}
+use Rattle.std.specs.Prelude.{ℕ, Bool, List, Option}
 use Rattle.mc_base.specs.declared.name.EndName.{EndName}
 use Rattle.mc_base.specs.declared.channel.Kind.{Kind}
 use Rattle.mc_base.specs.declared.channel.Bits.{Bits}
 use Rattle.mc_base.specs.declared.channel.Side.{Side}
 
--- the port at which a call is made comes first; a request or packet that does not exist is none
+-- the port at which a call is made comes first; a request or packet that does not exist is none. A wait has all the requests that it
+-- names, in its line's order, and whether its answer says which of them is complete
 pub data DomainCall : Type 0 where
   create_at : ℕ → DomainCall
   delete_at : ℕ → DomainCall
@@ -25,5 +26,6 @@ pub data DomainCall : Type 0 where
   scalar_at : ℕ → Bits → DomainCall
   close_at : ℕ → Side → DomainCall
   test_of : Option ℕ → DomainCall
+  wait_for : List (Option ℕ) → Bool → DomainCall
   cancel_of : Option ℕ → DomainCall
   turn_alone : DomainCall

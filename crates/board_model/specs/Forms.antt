@@ -1,6 +1,7 @@
 -- The forms of a line: the words that it may have, and what they say.
 -- Source: docs/FORMATS.md, "Scenario files": the lines of domains and links, and the table of calls.
-use Rattle.std.specs.Prelude.{ℕ, ◌-◌, ◌*◌, ◌^◌, ◌&&◌, Bool, true, false, List, [], ◌∷◌, ◌++◌, codes, bytes_eq, Option, None, Some, option_map, is_some, unwrap_or, ◌==◌, if◌then◌else◌}
+use Rattle.std.specs.Prelude.{ℕ, ◌-◌, ◌*◌, ◌^◌, ◌&&◌, Bool, true, false, List, [], ◌∷◌, ◌++◌, map, length, nat_le, codes, bytes_eq, Option, None, Some, option_map, is_some, unwrap_or, ◌==◌, if◌then◌else◌}
+use Rattle.std.specs.List.{list_all}
 use Rattle.arrayvec.specs.ArrayVec.{ArrayVec}
 use Rattle.mc_base.specs.Limits.{asked_limit, try_limit}
 use Rattle.mc_base.specs.Letter.{bytes_of_bits}
@@ -12,10 +13,10 @@ use Rattle.mc_base.specs.declared.channel.Bits.TheVariants.{B8, B16, B32, B64}
 use Rattle.board_model.specs.declared.scenario.DomainLine.{DomainLine}
 use Rattle.board_model.specs.declared.scenario.LinkLine.{LinkLine}
 use Rattle.board_model.specs.declared.scenario.Call.{Call}
-use Rattle.board_model.specs.declared.scenario.Call.TheVariants.{Create, Delete, Lookup, MsgSend, MsgRecv, MsgRecvI, MsgAvailable, Connect, OpenSend, OpenRecv, PktSend, PktRecv, PktRecvI, Release, SclSend, SclRecv, CloseSend, CloseRecv, Test, Cancel, Turn}
+use Rattle.board_model.specs.declared.scenario.Call.TheVariants.{Create, Delete, Lookup, MsgSend, MsgRecv, MsgRecvI, MsgAvailable, Connect, OpenSend, OpenRecv, PktSend, PktRecv, PktRecvI, Release, SclSend, SclRecv, CloseSend, CloseRecv, Test, Wait, WaitAny, Cancel, Turn}
 use Rattle.board_model.specs.declared.scenario.CallLine.{CallLine}
 use Rattle.board_model.specs.declared.form.ArgumentKind.{ArgumentKind}
-use Rattle.board_model.specs.declared.form.ArgumentKind.TheVariants.{Port, Name, Priority, Content, Maximum, ChannelKind, ScalarBits, ScalarValue, RequestLabel, PacketLabel}
+use Rattle.board_model.specs.declared.form.ArgumentKind.TheVariants.{Port, Name, Priority, Content, Maximum, ChannelKind, ScalarBits, ScalarValue, RequestLabel, RequestLabels, PacketLabel, Limit}
 use Rattle.board_model.specs.declared.form.Callee.{Callee}
 use Rattle.board_model.specs.declared.form.Callee.TheVariants as callee
 use Rattle.board_model.specs.FileLines.{parts_at, says_nothing}
@@ -35,7 +36,9 @@ Value ChannelKind = Kind
 Value ScalarBits = Bits
 Value ScalarValue = ℕ
 Value RequestLabel = ArrayVec ℕ
+Value RequestLabels = ArrayVec (ArrayVec ℕ)
 Value PacketLabel = ArrayVec ℕ
+Value Limit = ℕ
 
 -- how many bits the argument after this one has, where this one tells it
 abbrev pub bits_told : (kind : ArgumentKind) → Value kind → ℕ
@@ -54,11 +57,20 @@ kind_in word = if bytes_eq word (codes "packet") then Some kind.Packet else if b
 abbrev pub bits_of : ℕ → Option Bits
 bits_of n = if n == 8 then Some B8 else if n == 16 then Some B16 else if n == 32 then Some B32 else if n == 64 then Some B64 else None
 
+-- the most requests of one wait
+abbrev pub group_limit : ℕ
+group_limit = 8
+
+-- labels with commas between them: 44 is the comma
+abbrev pub are_labels : List (List ℕ) → Bool
+are_labels words = list_all is_label words && nat_le (length words) group_limit
+
 -- the form of a word. A name has two colons, whatever stands between them: 58 is the colon
 abbrev pub argument_fits : ArgumentKind → List ℕ → Bool
 argument_fits Name word = are_three (parts_at 58 word)
 argument_fits ChannelKind word = is_some (kind_in word)
 argument_fits RequestLabel word = is_label word
+argument_fits RequestLabels word = are_labels (parts_at 44 word)
 argument_fits PacketLabel word = is_label word
 argument_fits kind word = true
 
@@ -74,6 +86,7 @@ argument_numerals Priority bits word = numeral 0 3 word ∷ []
 argument_numerals Maximum bits word = numeral 0 asked_limit word ∷ []
 argument_numerals ScalarBits bits word = record { admits = λ n. is_some (bits_of n); word = word } ∷ []
 argument_numerals ScalarValue bits word = numeral 0 (2 ^ bits - 1) word ∷ []
+argument_numerals Limit bits word = numeral 0 try_limit word ∷ []
 argument_numerals kind bits word = []
 
 -- what has to be bytes in it
@@ -100,9 +113,13 @@ pub record NamedLabel : Type 0 where
   pub may_be_of : Call → Bool
   pub word : List ℕ
 
--- the label that an argument names
+abbrev pub request_label : List ℕ → NamedLabel
+request_label word = record { may_be_of = gives_request; word = word }
+
+-- the labels that an argument names
 abbrev pub argument_labels : ArgumentKind → List ℕ → List NamedLabel
-argument_labels RequestLabel word = record { may_be_of = gives_request; word = word } ∷ []
+argument_labels RequestLabel word = request_label word ∷ []
+argument_labels RequestLabels word = map request_label (parts_at 44 word)
 argument_labels PacketLabel word = record { may_be_of = gives_packet; word = word } ∷ []
 argument_labels kind word = []
 
@@ -128,7 +145,9 @@ value ChannelKind word = unwrap_or (kind_in word) kind.Packet
 value ScalarBits word = unwrap_or (bits_of (number word)) B64
 value ScalarValue word = number word
 value RequestLabel word = label_of word
+value RequestLabels word = record { items = map label_of (parts_at 44 word) }
 value PacketLabel word = label_of word
+value Limit word = number word
 
 -- ---- calls
 
@@ -167,6 +186,9 @@ a_label = true
 abbrev may_try : Bool
 may_try = true
 
+abbrev one_try : Bool
+one_try = false
+
 -- the table of calls
 abbrev pub form : Callee → CallForm
 form callee.Create = row (codes "create") (Port ∷ []) no_label may_try Create
@@ -188,6 +210,8 @@ form callee.SclRecv = row (codes "scl_recv") (Port ∷ ScalarBits ∷ []) no_lab
 form callee.CloseSend = row (codes "close_send") (Port ∷ []) no_label may_try CloseSend
 form callee.CloseRecv = row (codes "close_recv") (Port ∷ []) no_label may_try CloseRecv
 form callee.Test = row (codes "test") (RequestLabel ∷ []) no_label may_try Test
+form callee.Wait = row (codes "wait") (RequestLabel ∷ Limit ∷ []) no_label one_try Wait
+form callee.WaitAny = row (codes "wait_any") (RequestLabels ∷ Limit ∷ []) no_label one_try WaitAny
 form callee.Cancel = row (codes "cancel") (RequestLabel ∷ []) no_label may_try Cancel
 form callee.Turn = row (codes "turn") [] no_label may_try Turn
 
@@ -212,6 +236,8 @@ callees =
     ∷ callee.CloseSend
     ∷ callee.CloseRecv
     ∷ callee.Test
+    ∷ callee.Wait
+    ∷ callee.WaitAny
     ∷ callee.Cancel
     ∷ callee.Turn
     ∷ []

@@ -1,6 +1,6 @@
 -- How a scenario is written: its canonical text, and the ranges of its names and domains.
 -- Source: docs/FORMATS.md, "Scenario files".
-use Rattle.std.specs.Prelude.{ℕ, ◌*◌, ◌<◌, ◌≤◌, ◌^◌, List, [], ◌∷◌, ◌++◌, codes, decimal, Option, None, Some}
+use Rattle.std.specs.Prelude.{ℕ, ◌*◌, ◌<◌, ◌≤◌, ◌^◌, List, [], ◌∷◌, ◌++◌, map, codes, decimal, Option, None, Some}
 use Rattle.std.specs.List.{flat_map}
 use Rattle.mc_base.specs.Text.{hex_text}
 use Rattle.mc_base.specs.Letter.{bytes_of_bits}
@@ -10,11 +10,11 @@ use Rattle.mc_base.specs.declared.channel.Kind.TheVariants as kind
 use Rattle.board_model.specs.declared.scenario.DomainLine.{DomainLine}
 use Rattle.board_model.specs.declared.scenario.LinkLine.{LinkLine}
 use Rattle.board_model.specs.declared.scenario.Call.{Call}
-use Rattle.board_model.specs.declared.scenario.Call.TheVariants.{Create, Delete, Lookup, MsgSend, MsgRecv, MsgRecvI, MsgAvailable, Connect, OpenSend, OpenRecv, PktSend, PktRecv, PktRecvI, Release, SclSend, SclRecv, CloseSend, CloseRecv, Test, Cancel, Turn}
+use Rattle.board_model.specs.declared.scenario.Call.TheVariants.{Create, Delete, Lookup, MsgSend, MsgRecv, MsgRecvI, MsgAvailable, Connect, OpenSend, OpenRecv, PktSend, PktRecv, PktRecvI, Release, SclSend, SclRecv, CloseSend, CloseRecv, Test, Wait, WaitAny, Cancel, Turn}
 use Rattle.board_model.specs.declared.scenario.CallLine.{CallLine}
 use Rattle.board_model.specs.declared.scenario.Scenario.{Scenario}
 use Rattle.board_model.specs.declared.form.ArgumentKind.{ArgumentKind}
-use Rattle.board_model.specs.declared.form.ArgumentKind.TheVariants.{Port, Name, Priority, Content, Maximum, ChannelKind, ScalarBits, ScalarValue, RequestLabel, PacketLabel}
+use Rattle.board_model.specs.declared.form.ArgumentKind.TheVariants.{Port, Name, Priority, Content, Maximum, ChannelKind, ScalarBits, ScalarValue, RequestLabel, RequestLabels, PacketLabel, Limit}
 use Rattle.board_model.specs.declared.form.Callee.{Callee}
 use Rattle.board_model.specs.declared.form.Callee.TheVariants as callee
 use Rattle.board_model.specs.Scenario.{label_in}
@@ -44,6 +44,12 @@ abbrev pub kind_text : Kind → List ℕ
 kind_text kind.Packet = codes "packet"
 kind_text kind.Scalar = codes "scalar"
 
+-- words with one comma between them
+abbrev pub with_commas : List (List ℕ) → List ℕ
+with_commas [] = []
+with_commas (w ∷ []) = w
+with_commas (w ∷ v ∷ ws) = w ++ (44 ∷ with_commas (v ∷ ws))
+
 -- an argument as its word
 abbrev pub argument_text : (kind : ArgumentKind) → Value kind → List ℕ
 argument_text Port n = decimal n
@@ -55,7 +61,9 @@ argument_text ChannelKind kind = kind_text kind
 argument_text ScalarBits bits = decimal (8 * bytes_of_bits bits)
 argument_text ScalarValue n = decimal n
 argument_text RequestLabel label = label.items
+argument_text RequestLabels labels = with_commas (map (λ l. l.items) labels.items)
 argument_text PacketLabel label = label.items
+argument_text Limit n = decimal n
 
 abbrev pub argument_texts : (kinds : List ArgumentKind) → Values kinds → List (List ℕ)
 argument_texts [] arguments = []
@@ -86,6 +94,8 @@ call_words (SclRecv port bits) = form_words callee.SclRecv (port, (bits, tt))
 call_words (CloseSend port) = form_words callee.CloseSend (port, tt)
 call_words (CloseRecv port) = form_words callee.CloseRecv (port, tt)
 call_words (Test label) = form_words callee.Test (label, tt)
+call_words (Wait label limit) = form_words callee.Wait (label, (limit, tt))
+call_words (WaitAny labels limit) = form_words callee.WaitAny (labels, (limit, tt))
 call_words (Cancel label) = form_words callee.Cancel (label, tt)
 call_words Turn = form_words callee.Turn tt
 

@@ -44,12 +44,13 @@ pub record Visit : Type 0 where
   pub see : ℕ
   pub takes : List Taken
 
--- an entry of a plain journal: a turn, a frame that a call puts to a peer, a call that answered this word and is made again, or
--- a call with its line's number
+-- an entry of a plain journal: a turn, a frame that a call puts to a peer, a call that answered this word and is made again, a wait
+-- that begins, or a call, each of these two with its line's number
 pub data PlainEntry : Type 0 where
   turned : List Visit → PlainEntry
   put : ℕ → List ℕ → PlainEntry
   again : Refusal → PlainEntry
+  waits : ℕ → PlainEntry
   called : ℕ → PlainAnswer → PlainEntry
 
 -- a line of a written journal
@@ -62,6 +63,7 @@ pub data Line : Type 0 where
   put_line : ℕ → List ℕ → Line
   see_line : ℕ → ℕ → Line
   take_line : ℕ → List ℕ → Fate → Line
+  wait_line : ℕ → Line
   call_line : ℕ → PlainAnswer → Line
 
 -- a turn in which nothing was shown, put or taken
@@ -118,6 +120,7 @@ abbrev pub noted : List Line → PlainEntry → List Line
 noted lines (turned visits) = if list_all is_idle visits then noted_idle lines else lines ++ turn_line ∷ flat_map visit_lines visits
 noted lines (put peer frame) = lines ++ put_line peer frame ∷ []
 noted lines (again word) = noted_again word lines
+noted lines (waits number) = lines ++ wait_line number ∷ []
 noted lines (called number answer) = lines ++ call_line number answer ∷ []
 
 abbrev pub noted_all : List Line → List PlainEntry → List Line

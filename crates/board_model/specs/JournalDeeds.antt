@@ -5,7 +5,7 @@ use Rattle.std.specs.List.{flat_map}
 use Rattle.board_model.specs.declared.scenario.CallLine.{CallLine}
 use Rattle.board_model.specs.declared.scenario.Scenario.{Scenario}
 use Rattle.board_model.specs.Scenario.{script, neighbours}
-use Rattle.board_model.specs.Journal.{PlainEntry, turned, put, again, called, PlainAnswer, refuses, Visit}
+use Rattle.board_model.specs.Journal.{PlainEntry, turned, put, again, waits, called, PlainAnswer, refuses, Visit}
 use Rattle.board_model.specs.State.{DomainState, opening}
 use Rattle.board_model.specs.Step.{RunState, next_line, call_at, after}
 use Rattle.board_model.specs.Run.{start}
@@ -27,11 +27,13 @@ abbrev pub call_deeds : Option CallLine → RunState → PlainAnswer → List De
 call_deeds None r a = []
 call_deeds (Some line) r a = calls line.node (call_at r line) a ∷ []
 
--- an entry. A call that is made again is a deed too; the frames that a call puts are of the call's deed
+-- an entry. A call that is made again is a deed too; the frames that a call puts are of the call's deed, and where a wait begins nothing
+-- is done
 abbrev pub entry_deeds : List CallLine → List PlainEntry → RunState → PlainEntry → List Deed
 entry_deeds script before r (turned visits) = flat_map (named_deeds before) visits
 entry_deeds script before r (put peer frame) = []
 entry_deeds script before r (again word) = call_deeds (next_line script r) r (refuses word)
+entry_deeds script before r (waits k) = []
 entry_deeds script before r (called k a) = call_deeds (next_line script r) r a
 
 -- entries, after those before them

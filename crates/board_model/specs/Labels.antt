@@ -1,16 +1,16 @@
 -- Labels: the names that a script gives to its requests and packets.
 -- Source: docs/PROFILE.md, "Requests" and "Packets and scalars". A label whose call was refused names neither, and a request that ended or a
 -- packet that was released is none.
-use Rattle.std.specs.Prelude.{ℕ, List, [], ◌∷◌, ◌++◌, find, Option, Some, None, option_map, option_and_then}
+use Rattle.std.specs.Prelude.{ℕ, Bool, true, false, List, [], ◌∷◌, ◌++◌, map, find, Option, Some, None, option_map, option_and_then}
 use Rattle.std.specs.Str.{bytes_eq}
 use Rattle.mc_base.specs.declared.channel.Side.TheVariants.{Sender, Receiver}
 use Rattle.board_model.specs.declared.scenario.Call.{Call}
-use Rattle.board_model.specs.declared.scenario.Call.TheVariants.{Create, Delete, Lookup, MsgSend, MsgRecv, MsgRecvI, MsgAvailable, Connect, OpenSend, OpenRecv, PktSend, PktRecv, PktRecvI, Release, SclSend, SclRecv, CloseSend, CloseRecv, Test, Cancel, Turn}
+use Rattle.board_model.specs.declared.scenario.Call.TheVariants.{Create, Delete, Lookup, MsgSend, MsgRecv, MsgRecvI, MsgAvailable, Connect, OpenSend, OpenRecv, PktSend, PktRecv, PktRecvI, Release, SclSend, SclRecv, CloseSend, CloseRecv, Test, Wait, WaitAny, Cancel, Turn}
 use Rattle.board_model.specs.declared.scenario.CallLine.{CallLine}
 use Rattle.board_model.specs.Scenario.{label_in}
-use Rattle.board_model.specs.DomainCall.{DomainCall, create_at, delete_at, lookup_of, send_from, receive_at, request_at, available_at, connect_from, open_at, packet_from, lend_at, packet_request_at, release_of, scalar_from, scalar_at, close_at, test_of, cancel_of, turn_alone}
+use Rattle.board_model.specs.DomainCall.{DomainCall, create_at, delete_at, lookup_of, send_from, receive_at, request_at, available_at, connect_from, open_at, packet_from, lend_at, packet_request_at, release_of, scalar_from, scalar_at, close_at, test_of, wait_for, cancel_of, turn_alone}
 use Rattle.board_model.specs.State.{DomainState, Asked, Outcome, Request, packet_at, has_item, request_at_place, place_of_request, place_of_packet}
-use Rattle.board_model.specs.Answer.{refusal, unless_refused}
+use Rattle.board_model.specs.Answer.{is_complete_at, first_complete, refusal, unless_refused}
 
 -- a label, and the serial of the request or packet that was given for it
 pub record Labelled : Type 0 where
@@ -58,6 +58,8 @@ call_of labels s (SclRecv port bits) = scalar_at port bits
 call_of labels s (CloseSend port) = close_at port Sender
 call_of labels s (CloseRecv port) = close_at port Receiver
 call_of labels s (Test label) = test_of (place_of_label labels.requests s label.items)
+call_of labels s (Wait label limit) = wait_for (place_of_label labels.requests s label.items ∷ []) false
+call_of labels s (WaitAny names limit) = wait_for (map (λ l. place_of_label labels.requests s l.items) names.items) true
 call_of labels s (Cancel label) = cancel_of (place_of_label labels.requests s label.items)
 call_of labels s Turn = turn_alone
 
@@ -85,6 +87,7 @@ packet_tested s (Some r) = packet_brought s r.asked r.outcome
 abbrev pub success_packet : DomainState → DomainCall → Option ℕ
 success_packet s (lend_at port) = Some s.packets_lent
 success_packet s (test_of request) = packet_tested s (request_at_place s request)
+success_packet s (wait_for requests says_place) = packet_tested s (request_at_place s (first_complete s requests))
 success_packet s other = None
 
 abbrev pub packet_given : DomainState → ℕ → DomainCall → Option ℕ
@@ -95,14 +98,19 @@ abbrev pub with_label : List Labelled → Option (List ℕ) → Option ℕ → L
 with_label labels (Some label) (Some serial) = labels ++ record { label = label; serial = serial } ∷ []
 with_label labels label serial = labels
 
--- the label that a packet is lent under: the line's own, or the one that it tests
-abbrev pub lending_label : Call → Option (List ℕ) → Option (List ℕ)
-lending_label (Test label) own = Some label.items
-lending_label call own = own
+-- the label that a packet is lent under: the line's own, or that of the request which is told of
+abbrev pub is_complete_label : Labels → DomainState → List ℕ → Bool
+is_complete_label labels s label = is_complete_at s (place_of_label labels.requests s label)
+
+abbrev pub lending_label : Labels → DomainState → Call → Option (List ℕ) → Option (List ℕ)
+lending_label labels s (Test label) own = Some label.items
+lending_label labels s (Wait label limit) own = Some label.items
+lending_label labels s (WaitAny names limit) own = find (is_complete_label labels s) (map (λ l. l.items) names.items)
+lending_label labels s call own = own
 
 -- the labels after a line whose call is made in this state
 abbrev pub labels_after : Labels → DomainState → CallLine → Labels
 labels_after labels s line = record {
   requests = with_label labels.requests (label_in line) (request_given s line.node (call_of labels s line.call));
-  packets = with_label labels.packets (lending_label line.call (label_in line)) (packet_given s line.node (call_of labels s line.call));
+  packets = with_label labels.packets (lending_label labels s line.call (label_in line)) (packet_given s line.node (call_of labels s line.call));
 }

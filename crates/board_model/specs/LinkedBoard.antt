@@ -2,12 +2,13 @@
 -- Source: docs/FORMATS.md, "Scenario files".
 use Rattle.std.specs.Prelude.{◌≡◌, ◌⊎◌, ℕ, ◌*◌, ◌≤◌, ◌<◌, ◌^◌, List, [], ◌∷◌, map, length, Contains}
 use Rattle.std.specs.List.{AllByRecursion}
-use Rattle.mc_base.specs.Limits.{asked_limit}
+use Rattle.mc_base.specs.Limits.{asked_limit, try_limit}
 use Rattle.mc_base.specs.Letter.{bytes_of_bits}
 use Rattle.board_model.specs.declared.scenario.LinkLine.{LinkLine}
 use Rattle.board_model.specs.declared.scenario.Call.{Call}
-use Rattle.board_model.specs.declared.scenario.Call.TheVariants.{Create, Delete, Lookup, MsgSend, MsgRecv, MsgRecvI, MsgAvailable, Connect, OpenSend, OpenRecv, PktSend, PktRecv, PktRecvI, Release, SclSend, SclRecv, CloseSend, CloseRecv, Test, Cancel, Turn}
+use Rattle.board_model.specs.declared.scenario.Call.TheVariants.{Create, Delete, Lookup, MsgSend, MsgRecv, MsgRecvI, MsgAvailable, Connect, OpenSend, OpenRecv, PktSend, PktRecv, PktRecvI, Release, SclSend, SclRecv, CloseSend, CloseRecv, Test, Wait, WaitAny, Cancel, Turn}
 use Rattle.board_model.specs.declared.scenario.Scenario.{Scenario}
+use Rattle.board_model.specs.Forms.{group_limit}
 use Rattle.board_model.specs.Grammar.{IsLawfulDomain, IsLawfulName}
 
 -- no number comes twice
@@ -56,6 +57,8 @@ HasFitArguments (SclRecv port bits) = port < 2 ^ 16
 HasFitArguments (CloseSend port) = port < 2 ^ 16
 HasFitArguments (CloseRecv port) = port < 2 ^ 16
 HasFitArguments (Test label) = Unit {0}
+HasFitArguments (Wait label limit) = limit ≤ try_limit
+HasFitArguments (WaitAny labels limit) = (1 ≤ length labels.items) × (length labels.items ≤ group_limit) × (limit ≤ try_limit)
 HasFitArguments (Cancel label) = Unit {0}
 HasFitArguments Turn = Unit {0}
 

@@ -5,14 +5,15 @@ use Rattle.std.specs.List.{AllByRecursion, flat_map, list_any}
 use Rattle.std.specs.Str.{bytes_eq}
 use Rattle.mc_base.specs.Letter.{msg}
 use Rattle.mc_base.specs.Reading.{Reading, says, reading}
+use Rattle.mc_base.specs.declared.refusal.Refusal.TheVariants.{Timeout}
 use Rattle.mc_base.specs.declared.fate.Fate.{Fate}
 use Rattle.mc_base.specs.declared.fate.Fate.TheVariants.{Queued, Handed}
 use Rattle.board_model.specs.declared.scenario.Scenario.{Scenario}
-use Rattle.board_model.specs.DomainCall.{delete_at, receive_at, test_of}
+use Rattle.board_model.specs.DomainCall.{delete_at, receive_at, test_of, wait_for}
 use Rattle.board_model.specs.Journal.{found_at, brought, ended_by, PlainAnswer, refuses, tells, gives, completes}
 use Rattle.board_model.specs.State.{DomainState, Item, Endpoint, Asked, name_of, message_at, packet_at, Request, live_at, endpoint_of, oldest_waiting, request_at_place}
 use Rattle.board_model.specs.Choice.{best}
-use Rattle.board_model.specs.Answer.{local}
+use Rattle.board_model.specs.Answer.{local, place_said, first_complete}
 use Rattle.board_model.specs.Board.{DomainJournal}
 use Rattle.board_model.specs.TakenFrames.{message_item}
 use Rattle.board_model.specs.CallChanges.{at_live}
@@ -91,7 +92,7 @@ GivesTaken s other = Unit {0}
 abbrev pub TakesBest : DomainState → List Deed → Deed → Type 0
 TakesBest start before d = EachBest start before d × GivesTaken (after_deeds start before) d
 
--- ---- what a test answers, by what was asked
+-- ---- what a test or a wait answers, by what was asked
 
 -- the items that the request of this serial took
 abbrev pub is_by : ℕ → Option ℕ → Bool
@@ -144,8 +145,17 @@ TellsOf start before None (refuses word) = Unit {0}
 TellsOf start before None other = ⊥
 TellsOf start before (Some r) a = TellsAsked r.asked (taken_for start before r.serial) a
 
+-- a wait tells of the first of its requests that is complete, and says its place where it says one. At its limit none of them has taken
+-- anything
+abbrev pub WaitTells : DomainState → List Deed → List (Option ℕ) → Bool → PlainAnswer → Type 0
+WaitTells start before requests says_place (refuses Timeout) = AllByRecursion (λ r. TellsOf start before (request_at_place (after_deeds start before) r) (refuses Timeout)) requests
+WaitTells start before requests says_place (refuses word) = Unit {0}
+WaitTells start before requests says_place (completes place result) = (place ≡ place_said (after_deeds start before) requests says_place) × TellsOf start before (request_at_place (after_deeds start before) (first_complete (after_deeds start before) requests)) (completes None result)
+WaitTells start before requests says_place other = ⊥
+
 abbrev pub TestTells : DomainState → List Deed → Deed → Type 0
 TestTells start before (calls node (test_of place) a) = TellsOf start before (request_at_place (after_deeds start before) place) a
+TestTells start before (calls node (wait_for requests says_place) a) = WaitTells start before requests says_place a
 TestTells start before other = Unit {0}
 
 -- ---- the number that a delete answers is that of the messages which it drops

@@ -10,7 +10,7 @@ use Rattle.board_model.specs.declared.scenario.DomainLine.{DomainLine}
 use Rattle.board_model.specs.declared.scenario.Scenario.{Scenario}
 use Rattle.board_model.specs.Scenario.{rising, lanes}
 use Rattle.board_model.specs.Grammar.{line_of, canonical}
-use Rattle.board_model.specs.Journal.{PlainResult, found_at, was_accepted, was_rejected, brought, ended_by, PlainAnswer, refuses, agrees, tells, connects, gives, completes, Line, idle_line, again_line, spin_line, turn_line, back_line, put_line, see_line, take_line, call_line, joined}
+use Rattle.board_model.specs.Journal.{PlainResult, found_at, was_accepted, was_rejected, brought, ended_by, PlainAnswer, refuses, agrees, tells, connects, gives, completes, Line, idle_line, again_line, spin_line, turn_line, back_line, put_line, see_line, take_line, wait_line, call_line, joined}
 use Rattle.board_model.specs.Words.{refusal_text, fate_text, reason_text}
 use Rattle.board_model.specs.Board.{DomainJournal}
 use Rattle.board_model.specs.Totals.{channel_totals, totals}
@@ -43,6 +43,7 @@ line_words (back_line peer n) = codes "back" ∷ decimal peer ∷ decimal n ∷ 
 line_words (put_line peer frame) = codes "put" ∷ decimal peer ∷ hex_text frame ∷ []
 line_words (see_line peer n) = codes "see" ∷ decimal peer ∷ decimal n ∷ []
 line_words (take_line peer frame fate) = codes "take" ∷ decimal peer ∷ hex_text frame ∷ fate_text fate ∷ []
+line_words (wait_line number) = codes "wait" ∷ decimal number ∷ []
 line_words (call_line number answer) = codes "call" ∷ decimal number ∷ answer_words answer
 
 abbrev pub line_text : Line → List ℕ

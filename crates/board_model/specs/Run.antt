@@ -12,7 +12,7 @@ use Rattle.board_model.specs.Step.{RunState, Step, HasNoPuts, after}
 
 -- before the first entry
 abbrev pub start : Scenario → DomainLine → RunState
-start s d = record { state = opening d.domain d.nodes (neighbours s d); lines_called = 0; calls_made = 0; labels = no_labels; put_since_turn = None }
+start s d = record { state = opening d.domain d.nodes (neighbours s d); lines_called = 0; calls_made = 0; labels = no_labels; put_since_turn = None; waited = None }
 
 -- the entries lead from the one state to the other, step by step
 abbrev pub Leads : List CallLine → RunState → List PlainEntry → RunState → Type 0

@@ -1,17 +1,18 @@
 -- The serial run of a board: the lines are run in the file's order, and each look shows all that stands. Between two calls of a
--- line with tries every other domain makes one turn, in rising number.
+-- line with tries every other domain makes one turn, in rising number. A wait first tests; then, up to its limit, every domain makes one
+-- turn, in rising number, and it tests again.
 -- Source: docs/PROFILE.md, "Serial run" and "Tries".
-use Rattle.std.specs.Prelude.{ℕ, ◌+◌, Bool, ◌==◌, zero, suc, List, [], ◌∷◌, ◌++◌, map, filter, not, find, Option, None, Some, if◌then◌else◌}
+use Rattle.std.specs.Prelude.{ℕ, ◌+◌, Bool, ◌==◌, zero, suc, List, [], ◌∷◌, ◌++◌, map, filter, not, find, Option, None, Some, if◌then◌else◌, false}
 use Rattle.board_model.specs.declared.scenario.DomainLine.{DomainLine}
 use Rattle.board_model.specs.declared.scenario.CallLine.{CallLine}
 use Rattle.board_model.specs.declared.scenario.Scenario.{Scenario}
 use Rattle.board_model.specs.Scenario.{script, lanes, rising}
-use Rattle.board_model.specs.Journal.{PlainEntry, turned, again, called, PlainAnswer, refuses}
+use Rattle.board_model.specs.Journal.{PlainEntry, turned, again, waits, called, PlainAnswer, refuses}
 use Rattle.mc_base.specs.declared.refusal.Refusal.{Refusal}
 use Rattle.mc_base.specs.declared.refusal.Refusal.TheVariants.{Empty}
 use Rattle.board_model.specs.Answer.{answer, puts}
 use Rattle.board_model.specs.CallChanges.{returned}
-use Rattle.board_model.specs.Step.{RunState, call_at, after, is_tried}
+use Rattle.board_model.specs.Step.{RunState, call_at, after, is_tried, limit_of, is_timeout}
 use Rattle.board_model.specs.Run.{start}
 use Rattle.board_model.specs.Board.{DomainJournal}
 use Rattle.board_model.specs.Serial.{put_entry}
@@ -65,9 +66,12 @@ abbrev pub all_turned : Scenario → Running → List ℕ → Running
 all_turned s r [] = r
 all_turned s r (d ∷ ds) = all_turned s (turned_once s r d) ds
 
--- the other domains, in rising number
+-- all domains in rising number, and all others
+abbrev pub numbers : Scenario → List ℕ
+numbers s = map (λ l. l.domain) (rising s)
+
 abbrev pub others : Scenario → ℕ → List ℕ
-others s d = filter (λ n. not (n == d)) (map (λ l. l.domain) (rising s))
+others s d = filter (λ n. not (n == d)) (numbers s)
 
 -- ---- calls, each after its turn
 
@@ -117,8 +121,35 @@ more_calls None = 0
 more_calls (Some zero) = 0
 more_calls (Some (suc n)) = n
 
+-- ---- waits
+
+-- whether all requests of a wait stand and none is complete, in the state of its domain
+abbrev pub is_waiting_at : CallLine → Option Station → Bool
+is_waiting_at line None = false
+is_waiting_at line (Some t) = is_timeout (answer t.run.state line.node (call_at t.run line))
+
+-- a wait that waits goes on so, and else it is called
+abbrev pub while_waiting : Scenario → CallLine → (Running → Running) → Running → Running
+while_waiting s line next r = if is_waiting_at line (station_of line r) then next r else last_call s line (station_of line r) r
+
+-- so many rounds at most, in each of which every domain makes a turn
+abbrev pub rounds : Scenario → CallLine → ℕ → Running → Running
+rounds s line zero r = last_call s line (station_of line r) r
+rounds s line (suc more) r = while_waiting s line (rounds s line more) (all_turned s r (numbers s))
+
+abbrev pub with_beginning : Scenario → CallLine → Option Station → Running → Running
+with_beginning s line None r = r
+with_beginning s line (Some t) r = with_entry s line.domain (waits (t.run.lines_called + 1)) r
+
+abbrev pub wait_run : Scenario → CallLine → ℕ → Running → Running
+wait_run s line limit r = while_waiting s line (λ b. rounds s line limit (with_beginning s line (station_of line b) b)) r
+
+abbrev pub line_by : Scenario → CallLine → Option ℕ → Running → Running
+line_by s line None r = tried s line (more_calls line.tries) r
+line_by s line (Some limit) r = wait_run s line limit r
+
 abbrev pub line_run : Scenario → Running → CallLine → Running
-line_run s r line = tried s line (more_calls line.tries) r
+line_run s r line = line_by s line (limit_of line.call) r
 
 abbrev pub lines_run : Scenario → Running → List CallLine → Running
 lines_run s r [] = r

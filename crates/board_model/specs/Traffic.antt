@@ -3,7 +3,7 @@
 use Rattle.std.specs.Prelude.{ℕ, ◌+◌, List, [], ◌∷◌, ◌==◌, map, filter, not, count_by, if◌then◌else◌, Option, None, Some}
 use Rattle.std.specs.List.{flat_map}
 use Rattle.board_model.specs.declared.scenario.CallLine.{CallLine}
-use Rattle.board_model.specs.Journal.{PlainEntry, turned, put, again, called, Visit, Taken}
+use Rattle.board_model.specs.Journal.{PlainEntry, turned, put, again, waits, called, Visit, Taken}
 use Rattle.board_model.specs.State.{Item, is_from}
 use Rattle.board_model.specs.Dealing.{keeps_buffer}
 use Rattle.board_model.specs.CallChanges.{returned}
@@ -18,6 +18,7 @@ abbrev pub puts_in : ℕ → PlainEntry → List (List ℕ)
 puts_in peer (turned visits) = flat_map (λ v. v.owed) (visits_to peer visits)
 puts_in peer (put to frame) = if to == peer then frame ∷ [] else []
 puts_in peer (again word) = []
+puts_in peer (waits k) = []
 puts_in peer (called k a) = []
 
 -- the frames that it takes from a peer, with their words
@@ -25,6 +26,7 @@ abbrev pub takes_in : ℕ → PlainEntry → List Taken
 takes_in peer (turned visits) = flat_map (λ v. v.takes) (visits_to peer visits)
 takes_in peer (put to frame) = []
 takes_in peer (again word) = []
+takes_in peer (waits k) = []
 takes_in peer (called k a) = []
 
 abbrev pub put_to : ℕ → List PlainEntry → List (List ℕ)
@@ -45,6 +47,7 @@ abbrev pub given_in : List CallLine → RunState → ℕ → PlainEntry → ℕ
 given_in script r peer (turned visits) = count_by (λ t. not (keeps_buffer t.fate)) (takes_in peer (turned visits))
 given_in script r peer (put to frame) = 0
 given_in script r peer (again word) = 0
+given_in script r peer (waits k) = 0
 given_in script r peer (called k a) = count_by (is_from peer) (returned_by (next_line script r) r)
 
 -- how many buffers a run gives back to a peer
@@ -57,6 +60,7 @@ abbrev pub backs_in : ℕ → PlainEntry → List ℕ
 backs_in peer (turned visits) = map (λ v. v.back) (visits_to peer visits)
 backs_in peer (put to frame) = []
 backs_in peer (again word) = []
+backs_in peer (waits k) = []
 backs_in peer (called k a) = []
 
 abbrev pub back_looks : ℕ → List PlainEntry → List ℕ

@@ -9,7 +9,7 @@ use Rattle.board_model.specs.declared.scenario.CallLine.{CallLine}
 use Rattle.board_model.specs.declared.scenario.DomainLine.{DomainLine}
 use Rattle.board_model.specs.declared.scenario.Scenario.{Scenario}
 use Rattle.board_model.specs.Scenario.{script, neighbours}
-use Rattle.board_model.specs.Journal.{PlainAnswer, refuses, Taken, taken, Visit, PlainEntry, turned, put, again, called, Line, idle_line, again_line, spin_line, turn_line, back_line, put_line, see_line, take_line, call_line}
+use Rattle.board_model.specs.Journal.{PlainAnswer, refuses, Taken, taken, Visit, PlainEntry, turned, put, again, waits, called, Line, idle_line, again_line, spin_line, turn_line, back_line, put_line, see_line, take_line, wait_line, call_line}
 
 -- ---- the puts of a call
 
@@ -93,6 +93,7 @@ with_line peers script (back_line p n) t = tail 0 (back_line p n ∷ t.behind) t
 with_line peers script (put_line p frame) t = if nat_lt 0 t.due then tail (t.due - 1) t.behind (put p frame ∷ t.entries) else tail 0 (put_line p frame ∷ t.behind) t.entries
 with_line peers script (see_line p n) t = tail 0 (see_line p n ∷ t.behind) t.entries
 with_line peers script (take_line p frame fate) t = tail 0 (take_line p frame fate ∷ t.behind) t.entries
+with_line peers script (wait_line k) t = tail 0 [] (waits k ∷ t.entries)
 with_line peers script (call_line k a) t = tail (puts_of (line_numbered script k) a) [] (called k a ∷ t.entries)
 
 abbrev pub read_onto : List ℕ → List CallLine → List Line → Tail → Tail

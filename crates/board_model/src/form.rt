@@ -20,6 +20,8 @@ pub enum Callee {
     CloseSend,
     CloseRecv,
     Test,
+    Wait,
+    WaitAny,
     Cancel,
     Turn,
 }
@@ -45,6 +47,10 @@ pub enum ArgumentKind {
     ScalarValue,
     /// LABEL: that of a request.
     RequestLabel,
+    /// LABEL,LABEL: one to eight, each that of a request, with commas between them.
+    RequestLabels,
     /// LABEL: that of a packet.
     PacketLabel,
+    /// LIMIT: 0 to 4294967295.
+    Limit,
 }
