@@ -10,7 +10,7 @@ pub struct Got {
 }
 
 /// The id of a request. A key is used again once its request is gone; the serials differ then.
-#[derive(Clone, Copy, Debug, PartialEq, Eq)]
+#[derive(Clone, Copy, Debug, Default, PartialEq, Eq)]
 pub struct RequestId {
     /// Any number but 4,294,967,295.
     pub key: u32,
