@@ -16,7 +16,38 @@ fn room_for(alloc: Global, line: &[u8]) -> Result<Vec<u8>, AllocError>
 }
 
 /// A line without its newline, and how its entry is shown.
-const ENTRIES: [(&str, &str); 48] = [
+const ENTRIES: [(&str, &str); 58] = [
+    ("wait 3", "WaitStart { number: 3 }"),
+    ("wait 0", "WaitStart { number: 0 }"),
+    ("wait 4294967295", "WaitStart { number: 4294967295 }"),
+    (
+        "call 5 done 1 accepted",
+        "Called { number: 5, answer: Done { place: Some(1), result: Accepted } }",
+    ),
+    (
+        "call 5 done 8 rejected busy",
+        "Called { number: 5, answer: Done { place: Some(8), result: Rejected(Busy) } }",
+    ),
+    (
+        "call 5 done 2 1030",
+        "Called { number: 5, answer: Done { place: None, result: Bytes { size: 2, bytes: [16, 48] } } }",
+    ),
+    (
+        "call 5 done 3 1030",
+        "Called { number: 5, answer: Done { place: Some(3), result: Address(1030) } }",
+    ),
+    (
+        "call 5 done 2 2 6869",
+        "Called { number: 5, answer: Done { place: Some(2), result: Bytes { size: 2, bytes: [104, 105] } } }",
+    ),
+    (
+        "call 5 done 2 truncated 3 6869",
+        "Called { number: 5, answer: Done { place: Some(2), result: Bytes { size: 3, bytes: [104, 105] } } }",
+    ),
+    (
+        "call 5 done 255 chan_closed",
+        "Called { number: 5, answer: Done { place: Some(255), result: Ended(ChanClosed) } }",
+    ),
     ("turn", "Turn"),
     ("idle 0", "Idle { turns: 0 }"),
     (
@@ -101,55 +132,55 @@ const ENTRIES: [(&str, &str); 48] = [
     ),
     (
         "call 4294967295 done 1030",
-        "Called { number: 4294967295, answer: Done(Address(1030)) }",
+        "Called { number: 4294967295, answer: Done { place: None, result: Address(1030) } }",
     ),
     (
         "call 5 done 0",
-        "Called { number: 5, answer: Done(Address(0)) }",
+        "Called { number: 5, answer: Done { place: None, result: Address(0) } }",
     ),
     (
         "call 5 done 4294967295",
-        "Called { number: 5, answer: Done(Address(4294967295)) }",
+        "Called { number: 5, answer: Done { place: None, result: Address(4294967295) } }",
     ),
     (
         "call 5 done accepted",
-        "Called { number: 5, answer: Done(Accepted) }",
+        "Called { number: 5, answer: Done { place: None, result: Accepted } }",
     ),
     (
         "call 5 done rejected no_endpoint",
-        "Called { number: 5, answer: Done(Rejected(NoEndpoint)) }",
+        "Called { number: 5, answer: Done { place: None, result: Rejected(NoEndpoint) } }",
     ),
     (
         "call 5 done rejected connected",
-        "Called { number: 5, answer: Done(Rejected(Connected)) }",
+        "Called { number: 5, answer: Done { place: None, result: Rejected(Connected) } }",
     ),
     (
         "call 5 done rejected busy",
-        "Called { number: 5, answer: Done(Rejected(Busy)) }",
+        "Called { number: 5, answer: Done { place: None, result: Rejected(Busy) } }",
     ),
     (
         "call 6 done 2 6869",
-        "Called { number: 6, answer: Done(Bytes { size: 2, bytes: [104, 105] }) }",
+        "Called { number: 6, answer: Done { place: None, result: Bytes { size: 2, bytes: [104, 105] } } }",
     ),
     (
         "call 6 done 0 -",
-        "Called { number: 6, answer: Done(Bytes { size: 0, bytes: [] }) }",
+        "Called { number: 6, answer: Done { place: None, result: Bytes { size: 0, bytes: [] } } }",
     ),
     (
         "call 6 done truncated 9 6869",
-        "Called { number: 6, answer: Done(Bytes { size: 9, bytes: [104, 105] }) }",
+        "Called { number: 6, answer: Done { place: None, result: Bytes { size: 9, bytes: [104, 105] } } }",
     ),
     (
         "call 6 done truncated 1 -",
-        "Called { number: 6, answer: Done(Bytes { size: 1, bytes: [] }) }",
+        "Called { number: 6, answer: Done { place: None, result: Bytes { size: 1, bytes: [] } } }",
     ),
     (
         "call 7 done endp_invalid",
-        "Called { number: 7, answer: Done(Ended(EndpInvalid)) }",
+        "Called { number: 7, answer: Done { place: None, result: Ended(EndpInvalid) } }",
     ),
     (
         "call 7 done chan_closed",
-        "Called { number: 7, answer: Done(Ended(ChanClosed)) }",
+        "Called { number: 7, answer: Done { place: None, result: Ended(ChanClosed) } }",
     ),
     (
         "take 1 ff no_endpoint",
@@ -272,7 +303,13 @@ fn each_word_is_read_and_written(rt: HostRuntime) -> Result<(), Fail> {
 }
 
 /// Lines that are no entry, each a little off one that is.
-const NEAR_MISSES: [&str; 74] = [
+const NEAR_MISSES: [&str; 80] = [
+    "wait",
+    "wait ",
+    "wait 01",
+    "wait 1 1",
+    "wait 4294967296",
+    "waits 1",
     "",
     " ",
     "turns",
@@ -349,7 +386,7 @@ const NEAR_MISSES: [&str; 74] = [
     "call 1 truncated 2",
 ];
 
-const NEAR_RESULTS: [&str; 16] = [
+const NEAR_RESULTS: [&str; 19] = [
     "done",
     "done ",
     "done ok",
@@ -360,8 +397,11 @@ const NEAR_RESULTS: [&str; 16] = [
     "done rejected ",
     "done rejected full",
     "done rejected busy busy",
-    "done 3 6869",
-    "done 2 68691",
+    "done 256 accepted",
+    "done 1 2 accepted",
+    "done 3 68691 -",
+    "done 01 accepted",
+    "done 1 ",
     "done truncated 2 6869",
     "done truncated 3",
     "done done 1",

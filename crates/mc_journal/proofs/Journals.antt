@@ -39,12 +39,13 @@ kept_line-append bytes more (kept.Take peer p fate) within = ap (λ (xs : List �
 kept_line-append bytes more (kept.Idle n) within = refl
 kept_line-append bytes more (kept.Again word) within = refl
 kept_line-append bytes more (kept.Spin n word) within = refl
+kept_line-append bytes more (kept.WaitStart k) within = refl
 kept_line-append bytes more (kept.Refused k word) within = refl
 kept_line-append bytes more (kept.Agreed k) within = refl
 kept_line-append bytes more (kept.Number k n) within = refl
 kept_line-append bytes more (kept.Channel k request channel) within = refl
 kept_line-append bytes more (kept.Bytes k size p) within = ap (λ (xs : List ℕ). call_line k (gives size xs)) (piece_of-append bytes more p within)
-kept_line-append bytes more (kept.Done k how) within = ap (λ (r : PlainResult). call_line k (completes None r)) (kept_result-append bytes more how within)
+kept_line-append bytes more (kept.Done k place how) within = ap (λ (r : PlainResult). call_line k (completes place r)) (kept_result-append bytes more how within)
 
 lines-append : (bytes more : List ℕ) (ks : List Kept) → AreWithin bytes ks → map (kept_line (bytes ++ more)) ks ≡ map (kept_line bytes) ks
 lines-append bytes more [] within = refl
@@ -69,12 +70,13 @@ IsWithin-more m n (kept.Take peer p fate) le within = omega arith
 IsWithin-more m n (kept.Idle count) le within = tt
 IsWithin-more m n (kept.Again word) le within = tt
 IsWithin-more m n (kept.Spin count word) le within = tt
+IsWithin-more m n (kept.WaitStart k) le within = tt
 IsWithin-more m n (kept.Refused k word) le within = tt
 IsWithin-more m n (kept.Agreed k) le within = tt
 IsWithin-more m n (kept.Number k count) le within = tt
 IsWithin-more m n (kept.Channel k request channel) le within = tt
 IsWithin-more m n (kept.Bytes k size p) le within = omega arith
-IsWithin-more m n (kept.Done k how) le within = IsResultWithin-more m n how le within
+IsWithin-more m n (kept.Done k place how) le within = IsResultWithin-more m n how le within
 
 pub AreWithin-push : (m n : ℕ) (ks : List Kept) (k : Kept) → m ≤ n → AllByRecursion (IsWithin m) ks → IsWithin n k → AllByRecursion (IsWithin n) (ks ++ k ∷ [])
 AreWithin-push m n [] k le within last = (last, tt)
@@ -137,6 +139,7 @@ noted_entry-appends lines (entry.Take peer frame fate) other = refl
 noted_entry-appends lines (entry.Idle n) other = absurd other
 noted_entry-appends lines (entry.Again word) other = absurd other
 noted_entry-appends lines (entry.Spin n word) other = refl
+noted_entry-appends lines (entry.WaitStart k) other = refl
 noted_entry-appends lines (entry.Called k a) other = refl
 
 pub IsPlain-from : (e : Entry) → ((n : ℕ) → e ≡ entry.Idle n → ⊥) → ((word : Refusal) → e ≡ entry.Again word → ⊥) → IsPlain e
@@ -148,6 +151,7 @@ IsPlain-from (entry.Take peer frame fate) h g = tt
 IsPlain-from (entry.Idle n) h g = h n refl
 IsPlain-from (entry.Again word) h g = g word refl
 IsPlain-from (entry.Spin n word) h g = tt
+IsPlain-from (entry.WaitStart k) h g = tt
 IsPlain-from (entry.Called k a) h g = tt
 
 pub lines-push : (old new more : List ℕ) (ks : List Kept) (k : Kept) (e : Entry) → IsPlain e → AreWithin old ks → new ≡ old ++ more → kept_line new k ≡ line_of_entry e → map (kept_line new) (ks ++ k ∷ []) ≡ noted_entry (map (kept_line old) ks) (line_of_entry e)

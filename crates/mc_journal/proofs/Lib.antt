@@ -2,9 +2,11 @@ pub mod AnswerText
 pub mod AnswersRead
 pub mod BytesRead
 pub mod Cuts
+pub mod DoneRead
 pub mod Journals
 pub mod LinesRead
 pub mod PartsRead
 pub mod RefusalsAlone
+pub mod ResultsRead
 pub mod SameWords
 pub mod Standing

@@ -7,7 +7,7 @@ use Rattle.mc_base.specs.declared.fate.Fate.{Fate}
 use Rattle.mc_base.specs.Text.{hex_text}
 use Rattle.board_model.specs.Grammar.{spaced}
 use Rattle.board_model.specs.Words.{refusal_text, fate_text}
-use Rattle.board_model.specs.Journal.{Taken, taken, PlainAnswer, refuses, agrees, tells, connects, gives, completes, Line, idle_line, again_line, spin_line, turn_line, back_line, put_line, see_line, take_line, call_line}
+use Rattle.board_model.specs.Journal.{Taken, taken, PlainAnswer, refuses, agrees, tells, connects, gives, completes, Line, idle_line, again_line, spin_line, turn_line, back_line, put_line, see_line, take_line, wait_line, call_line}
 use Rattle.board_model.specs.Report.{answer_words, line_words}
 use Rattle.board_model.proofs.WordDecimals.{decimal-is, decimal-read}
 use Rattle.mc_journal.specs.declared.forms.Form.{Form}
@@ -20,7 +20,8 @@ use Rattle.mc_journal.specs.LineForms.{form_text, forms, form_in, by_form, line_
 use Rattle.board_model.proofs.WordsRead.{found-is, refusal-read, fate-read}
 use Rattle.mc_journal.proofs.BytesRead.{bytes-are, bytes-read, bytes-alone}
 use Rattle.mc_journal.proofs.PartsRead.{map_gives, pair_gives, cut-is, decimal-alone, pair_read}
-use Rattle.mc_journal.proofs.AnswersRead.{refusal-is, count-is, long-is, count-read, long-read, answer-is, answer-read}
+use Rattle.mc_journal.proofs.ResultsRead.{refusal-is, count-is, long-is, count-read, long-read}
+use Rattle.mc_journal.proofs.AnswersRead.{answer-is, answer-read}
 
 peer-is : (n : ℕ) (word : List ℕ) → peer_in word ≡ Some n → decimal n ≡ word
 peer-is n word e = decimal-is 255 n word (omega arith) e
@@ -38,7 +39,8 @@ call_spaced k agrees = refl
 call_spaced k (tells n) = refl
 call_spaced k (connects request channel) = refl
 call_spaced k (gives size bytes) = refl
-call_spaced k (completes place result) = refl
+call_spaced k (completes None result) = refl
+call_spaced k (completes (Some place) result) = refl
 
 -- ---- what is read is written so
 
@@ -57,6 +59,7 @@ rest-is form.Back rest l e = pair_gives peer_in count_in back_line (λ l x. spac
 rest-is form.Put rest l e = pair_gives peer_in bytes_in put_line (λ l x. spaced (line_words l) ≡ codes "put " ++ x) (λ u v p bs h k. joins (codes "put ") (peer-is p u h) (bytes-are v bs k)) rest l e
 rest-is form.See rest l e = pair_gives peer_in count_in see_line (λ l x. spaced (line_words l) ≡ codes "see " ++ x) (λ u v p n h k. joins (codes "see ") (peer-is p u h) (count-is n v k)) rest l e
 rest-is form.Take rest l e = pair_gives peer_in taken_in takes (λ l x. spaced (line_words l) ≡ codes "take " ++ x) (λ u v p t h k. joins (codes "take ") (peer-is p u h) (taken-is v t k)) rest l e
+rest-is form.Wait rest l e = map_gives wait_line (count_in rest) (λ (l : Line). spaced (line_words l) ≡ codes "wait " ++ rest) (λ n h. ap (λ xs. codes "wait " ++ xs) (count-is n rest h)) l e
 rest-is form.Call rest l e = pair_gives count_in answer_in call_line (λ l x. spaced (line_words l) ≡ codes "call " ++ x) (λ u v n a h k. call_spaced n a ∙ joins (codes "call ") (count-is n u h) (answer-is v a k)) rest l e
 
 pub line-is : (text : List ℕ) (l : Line) → line_in text ≡ Some l → spaced (line_words l) ≡ text
@@ -91,6 +94,7 @@ line-read (back_line peer n) fits = (back_line peer n, pair_read peer_in count_i
 line-read (put_line peer frame) fits = (put_line peer frame, pair_read peer_in bytes_in put_line (decimal peer) (hex_text frame) peer frame (peer-alone peer fits.0) (peer-read peer fits.0) (bytes-read frame fits.1))
 line-read (see_line peer n) fits = (see_line peer n, pair_read peer_in count_in see_line (decimal peer) (decimal n) peer n (peer-alone peer fits.0) (peer-read peer fits.0) (count-read n fits.1))
 line-read (take_line peer frame fate) fits = (take_line peer frame fate, pair_read peer_in taken_in takes (decimal peer) (hex_text frame ++ 32 ∷ fate_text fate) peer (taken frame fate) (peer-alone peer fits.0) (peer-read peer fits.0) (taken-read frame fate fits.1))
+line-read (wait_line number) fits = (wait_line number, ap (option_map wait_line) (count-read number fits))
 line-read (call_line number answer) fits =
     let read = answer-read answer fits.1 in (
       call_line number read.0,

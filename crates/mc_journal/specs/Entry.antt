@@ -1,7 +1,7 @@
 -- The line that an entry of the code is, and what noting it does.
 -- Source: docs/FORMATS.md, "Journal text".
-use Rattle.std.specs.Prelude.{◌≡◌, ℕ, List, [], ◌∷◌, ◌++◌, length, None}
-use Rattle.board_model.specs.Journal.{Line, PlainResult, found_at, was_accepted, was_rejected, brought, ended_by, PlainAnswer, idle_line, again_line, spin_line, turn_line, back_line, put_line, see_line, take_line, call_line, refuses, agrees, tells, connects, gives, completes, noted_idle, noted_again}
+use Rattle.std.specs.Prelude.{◌≡◌, ℕ, List, [], ◌∷◌, ◌++◌, length}
+use Rattle.board_model.specs.Journal.{Line, PlainResult, found_at, was_accepted, was_rejected, brought, ended_by, PlainAnswer, idle_line, again_line, spin_line, turn_line, back_line, put_line, see_line, take_line, wait_line, call_line, refuses, agrees, tells, connects, gives, completes, noted_idle, noted_again}
 use Rattle.mc_journal.specs.declared.entry.Answer.{Answer}
 use Rattle.mc_journal.specs.declared.entry.Answer.TheVariants as answer
 use Rattle.mc_journal.specs.declared.entry.Told.{Told}
@@ -22,7 +22,7 @@ plain_answer answer.Ok = agrees
 plain_answer (answer.Number n) = tells n
 plain_answer (answer.Channel request channel) = connects request channel
 plain_answer (answer.Bytes size bytes) = gives size bytes.now
-plain_answer (answer.Done result) = completes None (result_of_told result)
+plain_answer (answer.Done place result) = completes place (result_of_told result)
 
 abbrev pub line_of_entry : Entry → Line
 line_of_entry entry.Turn = turn_line
@@ -33,6 +33,7 @@ line_of_entry (entry.Take peer frame fate) = take_line peer frame.now fate
 line_of_entry (entry.Idle n) = idle_line n
 line_of_entry (entry.Again word) = again_line word
 line_of_entry (entry.Spin n word) = spin_line n word
+line_of_entry (entry.WaitStart k) = wait_line k
 line_of_entry (entry.Called k a) = call_line k (plain_answer a)
 
 -- how many bytes an entry carries
@@ -42,7 +43,7 @@ bytes_in_told other = 0
 
 abbrev pub bytes_in_answer : Answer → ℕ
 bytes_in_answer (answer.Bytes size bytes) = length bytes.now
-bytes_in_answer (answer.Done result) = bytes_in_told result
+bytes_in_answer (answer.Done place result) = bytes_in_told result
 bytes_in_answer other = 0
 
 abbrev pub bytes_in : Entry → ℕ

@@ -5,7 +5,7 @@ use Rattle.std.specs.List.{list_all}
 use Rattle.std.specs.Str.{bytes_eq}
 use Rattle.board_model.specs.FileWords.{number_of, pairs_of, is_dash}
 use Rattle.board_model.specs.Numerals.{at_most}
-use Rattle.board_model.specs.Journal.{Taken, taken, PlainResult, found_at, was_accepted, was_rejected, brought, ended_by, PlainAnswer, refuses, agrees, tells, connects, gives, completes, Line, idle_line, again_line, spin_line, back_line, put_line, see_line, take_line, call_line}
+use Rattle.board_model.specs.Journal.{Taken, taken, PlainResult, found_at, was_accepted, was_rejected, brought, ended_by, PlainAnswer, refuses, agrees, tells, connects, gives, completes, Line, idle_line, again_line, spin_line, back_line, put_line, see_line, take_line, wait_line, call_line}
 use Rattle.mc_journal.specs.declared.forms.Form.{Form}
 use Rattle.mc_journal.specs.declared.forms.Form.TheVariants as form
 use Rattle.board_model.specs.WordTables.{refusal_in, fate_in, reason_in}
@@ -103,6 +103,27 @@ result_by text (Some x) = result_after x.0 x.1
 abbrev pub result_in : List ℕ → Option PlainResult
 result_in text = result_by text (cut_at 32 text)
 
+-- ---- results behind places
+
+abbrev pub place_in : List ℕ → Option ℕ
+place_in word = number_in 255 word
+
+-- behind a number, which is a place, or else the size of bytes
+abbrev pub placed_by : ℕ → List ℕ → List ℕ → Option (List ℕ × List ℕ) → Option PlainAnswer
+placed_by place head rest None = or_else (option_map (completes None) (option_map bring (whole_in head rest))) (option_map (completes (Some place)) (result_word rest))
+placed_by place head rest (Some x) = option_map (completes (Some place)) (result_after x.0 x.1)
+
+abbrev pub done_after : List ℕ → List ℕ → Option ℕ → Option PlainAnswer
+done_after head rest None = option_map (completes None) (result_after head rest)
+done_after head rest (Some place) = placed_by place head rest (cut_at 32 rest)
+
+abbrev pub done_by : List ℕ → Option (List ℕ × List ℕ) → Option PlainAnswer
+done_by text None = option_map (completes None) (result_word text)
+done_by text (Some x) = done_after x.0 x.1 (place_in x.0)
+
+abbrev pub done_in : List ℕ → Option PlainAnswer
+done_in text = done_by text (cut_at 32 text)
+
 abbrev pub ok_by : List ℕ → Option (List ℕ × List ℕ) → Option PlainAnswer
 ok_by text None = option_map tells (long_in text)
 ok_by text (Some x) = or_else (option_map give (whole_in x.0 x.1)) (both connects (long_in x.0) (count_in x.1))
@@ -114,7 +135,7 @@ abbrev pub answer_word : List ℕ → Option PlainAnswer
 answer_word word = if bytes_eq word (codes "ok") then Some agrees else option_map refuses (refusal_in word)
 
 abbrev pub answer_after : List ℕ → List ℕ → Option PlainAnswer
-answer_after head rest = if bytes_eq head (codes "ok") then ok_in rest else if bytes_eq head (codes "truncated") then option_map give (cut_in rest) else if bytes_eq head (codes "done") then option_map (completes None) (result_in rest) else None
+answer_after head rest = if bytes_eq head (codes "ok") then ok_in rest else if bytes_eq head (codes "truncated") then option_map give (cut_in rest) else if bytes_eq head (codes "done") then done_in rest else None
 
 abbrev pub answer_by : List ℕ → Option (List ℕ × List ℕ) → Option PlainAnswer
 answer_by text None = answer_word text
@@ -142,4 +163,5 @@ rest_in form.Back rest = pair_in peer_in count_in back_line rest
 rest_in form.Put rest = pair_in peer_in bytes_in put_line rest
 rest_in form.See rest = pair_in peer_in count_in see_line rest
 rest_in form.Take rest = pair_in peer_in taken_in takes rest
+rest_in form.Wait rest = option_map wait_line (count_in rest)
 rest_in form.Call rest = pair_in count_in answer_in call_line rest

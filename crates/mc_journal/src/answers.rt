@@ -2,7 +2,7 @@
 
 ghost use Rattle.std.specs.Prelude.{◌≡◌, ◌≤◌, option_map, length, IfSome};
 ghost use Rattle.mc_journal.specs.Entry.{plain_answer, result_of_told};
-ghost use Rattle.mc_journal.specs.Readers.{answer_after, answer_in, answer_word, count_in, cut_in, long_in, ok_in, result_after, result_in, result_word, whole_in};
+ghost use Rattle.mc_journal.specs.Readers.{answer_after, answer_in, answer_word, count_in, cut_at, cut_in, done_after, done_in, long_in, ok_in, place_in, placed_by, result_after, result_word, whole_in};
 
 use crate::entry::{Answer, Told};
 use crate::pieces::{bytes_of, cut};
@@ -46,7 +46,7 @@ fn answer_behind<'a>(head: &[u8], rest: &[u8], room: &'a mut [u8]) -> Option<Ans
         let (size, bytes) = cut_bytes(rest, room)?;
         Some(Answer::Bytes { size, bytes })
     } else if head == b"done".as_slice() {
-        Some(Answer::Done(result_of(rest, room)?))
+        done_of(rest, room)
     } else {
         None
     }
@@ -71,14 +71,61 @@ fn ok_of<'a>(text: &[u8], room: &'a mut [u8]) -> Option<Answer<'a>>
     }
 }
 
-/// Returns how a request ended.
-fn result_of<'a>(text: &[u8], room: &'a mut [u8]) -> Option<Told<'a>>
+/// What follows `done`: how a request ended, behind its place where it has one.
+fn done_of<'a>(text: &[u8], room: &'a mut [u8]) -> Option<Answer<'a>>
     requires { length text.now ≤ length room.old }
-    ensures { option_map result_of_told result ≡ result_in text.now }
+    ensures { option_map plain_answer result ≡ done_in text.now }
 {
     match cut(text) {
-        None => result_of_word(text),
-        Some((head, rest)) => result_behind(head, rest, room),
+        None => Some(Answer::Done {
+            place: None,
+            result: result_of_word(text)?,
+        }),
+        Some((head, rest)) => done_behind(head, rest, room),
+    }
+}
+
+fn place_of(word: &[u8]) -> Option<u8>
+    ensures { result ≡ place_in word.now }
+{
+    Some(number_to(u8::MAX as u64, word)? as u8)
+}
+
+fn done_behind<'a>(head: &[u8], rest: &[u8], room: &'a mut [u8]) -> Option<Answer<'a>>
+    requires { length rest.now ≤ length room.old }
+    ensures { option_map plain_answer result ≡ done_after head.now rest.now (place_in head.now) }
+{
+    match place_of(head) {
+        None => Some(Answer::Done {
+            place: None,
+            result: result_behind(head, rest, room)?,
+        }),
+        Some(place) => placed(place, head, rest, room),
+    }
+}
+
+/// What follows `done` where it begins with a number, which is a place, or else the size of bytes.
+fn placed<'a>(place: u8, head: &[u8], rest: &[u8], room: &'a mut [u8]) -> Option<Answer<'a>>
+    requires { length rest.now ≤ length room.old }
+    ensures { option_map plain_answer result ≡ placed_by place head.now rest.now (cut_at 32 rest.now) }
+{
+    match cut(rest) {
+        None => {
+            if let Some((size, bytes)) = whole_bytes(head, rest, room) {
+                return Some(Answer::Done {
+                    place: None,
+                    result: Told::Bytes { size, bytes },
+                });
+            }
+            Some(Answer::Done {
+                place: Some(place),
+                result: result_of_word(rest)?,
+            })
+        }
+        Some((first, second)) => Some(Answer::Done {
+            place: Some(place),
+            result: result_behind(first, second, room)?,
+        }),
     }
 }
 

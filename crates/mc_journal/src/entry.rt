@@ -28,8 +28,8 @@ pub enum Answer<'a> {
     Channel { request: u64, channel: u32 },
     /// The size of a message in bytes, and those of its bytes that the caller got.
     Bytes { size: u32, bytes: &'a [u8] },
-    /// A request ended.
-    Done(Told<'a>),
+    /// A request ended. The place, counted from 1, is that of the request among those that a wait for one of several names.
+    Done { place: Option<u8>, result: Told<'a> },
 }
 
 /// An entry of a journal. A peer is named by its domain's number, 0 to 7.
@@ -70,6 +70,10 @@ pub enum Entry<'a> {
     Spin {
         times: u64,
         word: Refusal,
+    },
+    /// The wait of a line began: its requests exist, and none of them is complete. Its turns follow.
+    WaitStart {
+        number: u32,
     },
     /// A call, by the number of its line, and its answer.
     Called {

@@ -14,6 +14,7 @@ pub enum Form {
     Put,
     See,
     Take,
+    Wait,
     Call,
 }
 
@@ -31,6 +32,7 @@ pub fn form_word(form: Form) -> &'static [u8]
         Form::Put => b"put",
         Form::See => b"see",
         Form::Take => b"take",
+        Form::Wait => b"wait",
         Form::Call => b"call",
     }
 }
@@ -49,6 +51,7 @@ fn all_forms() -> &'static [Form]
         Form::Idle,
         Form::Spin,
         Form::Again,
+        Form::Wait,
     ]
 }
 

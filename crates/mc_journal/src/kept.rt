@@ -38,12 +38,13 @@ pub enum Kept {
     Idle(u64),
     Again(Refusal),
     Spin(u64, Refusal),
+    WaitStart(u32),
     Refused(u32, Refusal),
     Agreed(u32),
     Number(u32, u64),
     Channel(u32, u64, u32),
     Bytes(u32, u32, Piece),
-    Done(u32, KeptResult),
+    Done(u32, Option<u8>, KeptResult),
 }
 
 /// Keeps an entry. Its bytes go behind the others, for which there is room.
@@ -63,6 +64,7 @@ pub fn keep(bytes: &mut Vec<u8>, entry: Entry<'_>) -> Kept
         Entry::Idle { turns } => Kept::Idle(turns),
         Entry::Again { word } => Kept::Again(word),
         Entry::Spin { times, word } => Kept::Spin(times, word),
+        Entry::WaitStart { number } => Kept::WaitStart(number),
         Entry::Called { number, answer } => match answer {
             Answer::Refused(word) => Kept::Refused(number, word),
             Answer::Ok => Kept::Agreed(number),
@@ -73,7 +75,9 @@ pub fn keep(bytes: &mut Vec<u8>, entry: Entry<'_>) -> Kept
                 size,
                 keep_bytes(bytes, given),
             ),
-            Answer::Done(told) => Kept::Done(number, keep_result(bytes, told)),
+            Answer::Done { place, result } => {
+                Kept::Done(number, place, keep_result(bytes, result))
+            }
         },
     }
 }
@@ -132,6 +136,7 @@ pub fn entry_of(bytes: &[u8], kept: Kept) -> Entry<'_>
         Kept::Idle(turns) => Entry::Idle { turns },
         Kept::Again(word) => Entry::Again { word },
         Kept::Spin(times, word) => Entry::Spin { times, word },
+        Kept::WaitStart(number) => Entry::WaitStart { number },
         Kept::Refused(number, word) => Entry::Called {
             number,
             answer: Answer::Refused(word),
@@ -155,9 +160,12 @@ pub fn entry_of(bytes: &[u8], kept: Kept) -> Entry<'_>
                 bytes: bytes_of(bytes, piece),
             },
         },
-        Kept::Done(number, how) => Entry::Called {
+        Kept::Done(number, place, how) => Entry::Called {
             number,
-            answer: Answer::Done(told_of(bytes, how)),
+            answer: Answer::Done {
+                place,
+                result: told_of(bytes, how),
+            },
         },
     }
 }

@@ -15,7 +15,7 @@ pub fn entries_have_entry_lines(entry: Entry<'_>)
         Entry::Back { .. } | Entry::See { .. } => (),
         Entry::Put { frame, .. } => look_at(frame),
         Entry::Take { frame, .. } => look_at(frame),
-        Entry::Idle { .. } | Entry::Spin { .. } => (),
+        Entry::Idle { .. } | Entry::Spin { .. } | Entry::WaitStart { .. } => (),
         Entry::Called { answer, .. } => look_at_answer(answer),
     }
 }
@@ -27,7 +27,7 @@ fn look_at_answer(answer: Answer<'_>)
         Answer::Refused(_) | Answer::Ok => (),
         Answer::Number(_) | Answer::Channel { .. } => (),
         Answer::Bytes { bytes, .. } => look_at(bytes),
-        Answer::Done(told) => look_at_result(told),
+        Answer::Done { result, .. } => look_at_result(result),
     }
 }
 

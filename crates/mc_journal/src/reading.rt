@@ -69,6 +69,7 @@ fn entry_behind<'a>(form: Form, rest: &[u8], room: &'a mut [u8]) -> Option<Entry
         Form::Put => put_of(rest, room),
         Form::See => see_of(rest),
         Form::Take => take_of(rest, room),
+        Form::Wait => wait_of(rest),
         Form::Call => call_of(rest, room),
     }
 }
@@ -153,6 +154,14 @@ fn taken_of<'a>(text: &[u8], room: &'a mut [u8]) -> Option<(&'a [u8], Fate)>
 {
     let (frame, fate) = cut(text)?;
     Some((bytes_of(frame, room)?, fate_of(fate)?))
+}
+
+fn wait_of<'a>(rest: &[u8]) -> Option<Entry<'a>>
+    ensures { option_map line_of_entry result ≡ rest_in form.Wait rest.now }
+{
+    Some(Entry::WaitStart {
+        number: count_of(rest)?,
+    })
 }
 
 fn call_of<'a>(rest: &[u8], room: &'a mut [u8]) -> Option<Entry<'a>>

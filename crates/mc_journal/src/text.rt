@@ -4,11 +4,11 @@ ghost use Rattle.std.specs.Prelude.{◌≡◌, ◌++◌, ◌∷◌, [], codes, d
 ghost use Rattle.mc_base.specs.Text.{hex_text};
 ghost use Rattle.outer_io.specs.Puts.{Puts};
 ghost use Rattle.board_model.specs.Grammar.{spaced, line_of};
-ghost use Rattle.board_model.specs.Journal.{brought};
+ghost use Rattle.board_model.specs.Journal.{brought, completes};
 ghost use Rattle.board_model.specs.Report.{line_text, lines_text, answer_words, result_words};
 ghost use Rattle.board_model.specs.Words.{reason_text, fate_text, refusal_text};
 ghost use Rattle.mc_journal.specs.Entry.{line_of_entry, plain_answer, result_of_told};
-ghost use Rattle.mc_journal.specs.LineForms.{form_text};
+ghost use Rattle.mc_journal.specs.LineForms.{form_text, place_front};
 
 use crate::entry::{Answer, Entry, Told};
 use crate::forms::{Form, form_word};
@@ -40,6 +40,7 @@ pub fn put_entry<K: Sink>(out: &mut Writer<'_, K>, entry: Entry<'_>)
         Entry::Idle { turns } => put_idle(out, turns),
         Entry::Again { word } => put_again(out, word),
         Entry::Spin { times, word } => put_spin(out, times, word),
+        Entry::WaitStart { number } => put_wait(out, number),
         Entry::Called { number, answer } => put_call(out, number, answer),
     }
 }
@@ -83,6 +84,14 @@ fn put_spin<K: Sink>(out: &mut Writer<'_, K>, times: u64, word: Refusal)
     out.put_number(times);
     out.put(b" ");
     out.put(refusal_word(word));
+    out.put(b"\n");
+}
+
+fn put_wait<K: Sink>(out: &mut Writer<'_, K>, number: u32)
+    ensures { Puts K.Sink out.old out.new (line_of (codes "wait" ∷ decimal number ∷ [])) }
+{
+    put_head(out, Form::Wait);
+    out.put_number(number as u64);
     out.put(b"\n");
 }
 
@@ -138,16 +147,27 @@ fn put_answer<K: Sink>(out: &mut Writer<'_, K>, answer: Answer<'_>)
         Answer::Number(n) => put_ok_number(out, n),
         Answer::Channel { request, channel } => put_channel(out, request, channel),
         Answer::Bytes { size, bytes } => put_bytes(out, size, bytes),
-        Answer::Done(told) => put_done(out, told),
+        Answer::Done { place, result } => put_done(out, place, result),
     }
 }
 
-/// Puts how a request ended.
-fn put_done<K: Sink>(out: &mut Writer<'_, K>, told: Told<'_>)
-    ensures { Puts K.Sink out.old out.new (spaced (codes "done" ∷ result_words (result_of_told told.entry))) }
+/// Puts how a request ended, and its place where it has one.
+fn put_done<K: Sink>(out: &mut Writer<'_, K>, place: Option<u8>, told: Told<'_>)
+    ensures { Puts K.Sink out.old out.new (spaced (answer_words (completes place (result_of_told told.entry)))) }
 {
     out.put(b"done ");
+    put_place(out, place);
     put_result(out, told);
+}
+
+/// Puts a place and a blank.
+fn put_place<K: Sink>(out: &mut Writer<'_, K>, place: Option<u8>)
+    ensures { Puts K.Sink out.old out.new (place_front place) }
+{
+    if let Some(place) = place {
+        out.put_number(place as u64);
+        out.put(b" ");
+    }
 }
 
 fn put_result<K: Sink>(out: &mut Writer<'_, K>, told: Told<'_>)

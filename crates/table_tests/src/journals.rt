@@ -106,14 +106,29 @@ const ANSWERS: [Answer<'static>; 10] = [
         size: 5,
         bytes: b"he",
     },
-    Answer::Done(Told::Address(1030)),
-    Answer::Done(Told::Accepted),
-    Answer::Done(Told::Rejected(Reason::Busy)),
-    Answer::Done(Told::Bytes {
-        size: 9,
-        bytes: b"hello",
-    }),
-    Answer::Done(Told::Ended(Refusal::ChanClosed)),
+    Answer::Done {
+        place: None,
+        result: Told::Address(1030),
+    },
+    Answer::Done {
+        place: None,
+        result: Told::Accepted,
+    },
+    Answer::Done {
+        place: None,
+        result: Told::Rejected(Reason::Busy),
+    },
+    Answer::Done {
+        place: None,
+        result: Told::Bytes {
+            size: 9,
+            bytes: b"hello",
+        },
+    },
+    Answer::Done {
+        place: None,
+        result: Told::Ended(Refusal::ChanClosed),
+    },
 ];
 
 const NOTED_ANSWERS: [&str; 10] = [
@@ -122,11 +137,11 @@ const NOTED_ANSWERS: [&str; 10] = [
     "Called { number: 1, answer: Number(1024) }",
     "Called { number: 1, answer: Channel { request: 5, channel: 65535 } }",
     "Called { number: 1, answer: Bytes { size: 5, bytes: [104, 101] } }",
-    "Called { number: 1, answer: Done(Address(1030)) }",
-    "Called { number: 1, answer: Done(Accepted) }",
-    "Called { number: 1, answer: Done(Rejected(Busy)) }",
-    "Called { number: 1, answer: Done(Bytes { size: 9, bytes: [104, 101, 108, 108, 111] }) }",
-    "Called { number: 1, answer: Done(Ended(ChanClosed)) }",
+    "Called { number: 1, answer: Done { place: None, result: Address(1030) } }",
+    "Called { number: 1, answer: Done { place: None, result: Accepted } }",
+    "Called { number: 1, answer: Done { place: None, result: Rejected(Busy) } }",
+    "Called { number: 1, answer: Done { place: None, result: Bytes { size: 9, bytes: [104, 101, 108, 108, 111] } } }",
+    "Called { number: 1, answer: Done { place: None, result: Ended(ChanClosed) } }",
 ];
 
 fn note_answers(journal: &mut Journal) -> Result<(), NoMemory> {

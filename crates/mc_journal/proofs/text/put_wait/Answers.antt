@@ -1,0 +1,7 @@
+use Rattle.std.proofs.Common.{append_assoc}
+use Rattle.outer_io.proofs.Writing.{puts_then}
+use Rattle.mc_journal.proofs.text.put_wait.Goals as goal
+
+pub returns : goal.returns
+returns g c =
+    simp append_assoc (puts_then _ _ _ _ _ _ c.put_head.ensures (puts_then _ _ _ _ _ _ c.put_number.ensures c.put.ensures))
