@@ -5,7 +5,7 @@ use Rattle.std.specs.List.{list_all}
 use Rattle.std.proofs.lemmas.List.Folds.{list_all-append}
 use Rattle.mc_base.specs.Limits.{asked_limit}
 use Rattle.board_model.specs.declared.form.ArgumentKind.{ArgumentKind}
-use Rattle.board_model.specs.declared.form.ArgumentKind.TheVariants.{Port, Name, Priority, Content, Maximum, ChannelKind, ScalarBits, ScalarValue, RequestLabel, PacketLabel}
+use Rattle.board_model.specs.declared.form.ArgumentKind.TheVariants.{Port, Name, Priority, Content, Maximum, ChannelKind, ScalarBits, ScalarValue, RequestLabel, RequestLabels, PacketLabel, Limit}
 use Rattle.board_model.specs.declared.form.Callee.{Callee}
 use Rattle.board_model.specs.declared.form.Callee.TheVariants as callee
 use Rattle.board_model.specs.declared.reason.LineReason.{LineReason}
@@ -87,9 +87,13 @@ call_from-checked (ScalarValue ∷ ks) bits (w ∷ ws) makes fit ends = plain_st
 call_from-checked (RequestLabel ∷ ks) bits (w ∷ ws) makes fit ends =
     let h = both_hold (argument_fits RequestLabel w) (arguments_fit ks ws) fit in
     plain_step RequestLabel ks bits w ws makes refl h.0 (call_from-checked ks 0 ws (makes (value RequestLabel w)) h.1 ends)
+call_from-checked (RequestLabels ∷ ks) bits (w ∷ ws) makes fit ends =
+    let h = both_hold (argument_fits RequestLabels w) (arguments_fit ks ws) fit in
+    plain_step RequestLabels ks bits w ws makes refl h.0 (call_from-checked ks 0 ws (makes (value RequestLabels w)) h.1 ends)
 call_from-checked (PacketLabel ∷ ks) bits (w ∷ ws) makes fit ends =
     let h = both_hold (argument_fits PacketLabel w) (arguments_fit ks ws) fit in
     plain_step PacketLabel ks bits w ws makes refl h.0 (call_from-checked ks 0 ws (makes (value PacketLabel w)) h.1 ends)
+call_from-checked (Limit ∷ ks) bits (w ∷ ws) makes fit ends = plain_step Limit ks bits w ws makes refl refl (call_from-checked ks 0 ws (makes (value Limit w)) fit ends)
 
 pub call_by-row : (c : Callee) (words : List (List ℕ)) → call_in c words ≡ call_by c words
 call_by-row callee.Create words = refl
@@ -111,6 +115,8 @@ call_by-row callee.SclRecv words = refl
 call_by-row callee.CloseSend words = refl
 call_by-row callee.CloseRecv words = refl
 call_by-row callee.Test words = refl
+call_by-row callee.Wait words = refl
+call_by-row callee.WaitAny words = refl
 call_by-row callee.Cancel words = refl
 call_by-row callee.Turn words = refl
 

@@ -1,13 +1,14 @@
 -- The text of a line, piece by piece.
-use Rattle.std.proofs.Common.{◌≡◌, List, ℕ, [], ◌∷◌, ◌++◌, append_assoc, Option, None, Some, refl, sym, ap, ◌∙◌}
+use Rattle.std.proofs.Common.{◌≡◌, List, ℕ, ◌-◌, ◌<◌, ◌≤◌, [], ◌∷◌, ◌++◌, length, take, drop, get_or, append_assoc, Option, None, Some, refl, sym, ap, ◌∙◌, arith}
 use Rattle.std.specs.Prelude.{map, codes, decimal}
 use Rattle.std.specs.List.{flat_map}
-use Rattle.std.proofs.lemmas.List.{append-nil}
+use Rattle.std.proofs.lemmas.List.{append-nil, take_rest}
+use Rattle.arrayvec.specs.ArrayVec.{ArrayVec}
 use Rattle.board_model.specs.declared.scenario.Call.{Call}
-use Rattle.board_model.specs.declared.scenario.Call.TheVariants.{Create, Delete, Lookup, MsgSend, MsgRecv, MsgRecvI, MsgAvailable, Connect, OpenSend, OpenRecv, PktSend, PktRecv, PktRecvI, Release, SclSend, SclRecv, CloseSend, CloseRecv, Test, Cancel, Turn}
-use Rattle.board_model.specs.Grammar.{spaced, line_of, call_words, label_words, tries_words}
+use Rattle.board_model.specs.declared.scenario.Call.TheVariants.{Create, Delete, Lookup, MsgSend, MsgRecv, MsgRecvI, MsgAvailable, Connect, OpenSend, OpenRecv, PktSend, PktRecv, PktRecvI, Release, SclSend, SclRecv, CloseSend, CloseRecv, Test, Wait, WaitAny, Cancel, Turn}
+use Rattle.board_model.specs.Grammar.{with_commas, spaced, line_of, call_words, label_words, tries_words}
 use Rattle.scenario_lang.specs.declared.canonical.Argument.{Argument}
-use Rattle.scenario_lang.specs.CallFronts.{label_front, tries_front, argument_word, blank_then}
+use Rattle.scenario_lang.specs.CallFronts.{label_front, tries_front, argument_word, blank_then, comma_then}
 
 -- a line begins with its caller and a blank
 caller_then : (caller words : List ℕ) → (caller ++ 32 ∷ words) ++ (10 ∷ []) ≡ caller ++ (32 ∷ (words ++ (10 ∷ [])))
@@ -39,6 +40,8 @@ some_call (SclRecv port bits) = record { first = _; others = _; whole = refl }
 some_call (CloseSend port) = record { first = _; others = _; whole = refl }
 some_call (CloseRecv port) = record { first = _; others = _; whole = refl }
 some_call (Test label) = record { first = _; others = _; whole = refl }
+some_call (Wait label limit) = record { first = _; others = _; whole = refl }
+some_call (WaitAny labels limit) = record { first = _; others = _; whole = refl }
 some_call (Cancel label) = record { first = _; others = _; whole = refl }
 some_call Turn = record { first = _; others = _; whole = refl }
 
@@ -80,3 +83,19 @@ line_of-call caller label tries c =
 pub spaced-arguments : (word : List ℕ) (arguments : List Argument) → spaced (word ∷ map argument_word arguments) ≡ word ++ flat_map blank_then arguments
 spaced-arguments word [] = sym (append-nil word)
 spaced-arguments word (a ∷ others) = ap (λ (t : List ℕ). word ++ 32 ∷ t) (spaced-arguments (argument_word a) others)
+
+-- labels with commas between them, of which all but the first come after a comma
+pub commas-then : (l : ArrayVec ℕ) (ls : List (ArrayVec ℕ)) → with_commas (map (λ m. m.items) (l ∷ ls)) ≡ l.items ++ flat_map comma_then ls
+commas-then l [] = sym (append-nil l.items)
+commas-then l (m ∷ ms) = ap (λ (t : List ℕ). l.items ++ 44 ∷ t) (commas-then m ms)
+
+pub commas-none : (ls : List (ArrayVec ℕ)) → length ls < 1 → with_commas (map (λ l. l.items) ls) ≡ []
+commas-none [] few = refl
+commas-none (l ∷ ls) few = absurd (omega (arith, few))
+
+pub commas-front : (ls : List (ArrayVec ℕ)) (l : ArrayVec ℕ) → 1 ≤ length ls → l ≡ get_or ls 0 l → with_commas (map (λ m. m.items) ls) ≡ l.items ++ flat_map comma_then (take (length ls - 1) (drop 1 ls))
+commas-front [] l some is = absurd (omega (arith, some))
+commas-front (m ∷ ms) l some is =
+    commas-then m ms
+    ∙ ap (λ (k : ArrayVec ℕ). k.items ++ flat_map comma_then ms) (sym is)
+    ∙ ap (λ (ks : List (ArrayVec ℕ)). l.items ++ flat_map comma_then ks) (sym (take_rest (m ∷ ms) 1))

@@ -96,6 +96,8 @@ gives_made callee.SclRecv arguments = refl
 gives_made callee.CloseSend arguments = refl
 gives_made callee.CloseRecv arguments = refl
 gives_made callee.Test arguments = refl
+gives_made callee.Wait arguments = refl
+gives_made callee.WaitAny arguments = refl
 gives_made callee.Cancel arguments = refl
 gives_made callee.Turn arguments = refl
 

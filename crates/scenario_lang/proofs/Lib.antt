@@ -11,6 +11,7 @@ pub mod TellingLemmas
 pub mod FewCalls
 pub mod SpacedLemmas
 pub mod PlainLemmas
+pub mod GroupLemmas
 pub mod NameWordLemmas
 pub mod ByteWordLemmas
 pub mod CanonicalLines

@@ -20,7 +20,7 @@ pub record IsPlain (most : ℕ) (word : List ℕ) : Type 0 where
 seen_digit : (b : ℕ) → is_digit b ≡ true → is_seen b ≡ true
 seen_digit b digit = grind (arith, nat_tests)
 
-seen_label : (b : ℕ) → is_label_byte b ≡ true → is_seen b ≡ true
+pub seen_label : (b : ℕ) → is_label_byte b ≡ true → is_seen b ≡ true
 seen_label b labels = elim (cases_bool (is_letter_byte b)) [
   | inl letter ↦ grind (arith, nat_tests)
   | inr other ↦ elim (cases_bool (nat_le 48 b && nat_le b 57)) [
@@ -29,7 +29,7 @@ seen_label b labels = elim (cases_bool (is_letter_byte b)) [
   ]
 ]
 
-all_seen : (p : ℕ → Bool) → ((b : ℕ) → p b ≡ true → is_seen b ≡ true) → (bs : List ℕ) → list_all p bs ≡ true → list_all is_seen bs ≡ true
+pub all_seen : (p : ℕ → Bool) → ((b : ℕ) → p b ≡ true → is_seen b ≡ true) → (bs : List ℕ) → list_all p bs ≡ true → list_all is_seen bs ≡ true
 all_seen p is [] all = refl
 all_seen p is (b ∷ bs) all = let parts = and_parts (p b) (list_all p bs) all in and_from (is_seen b) (list_all is_seen bs) (is b parts.0) (all_seen p is bs parts.1)
 

@@ -5,7 +5,8 @@ use Rattle.std.specs.List.{list_all}
 use Rattle.std.proofs.Math.Nat.{pow-le-pow_right}
 use Rattle.std.proofs.lemmas.Bool.{and_from}
 use Rattle.std.proofs.lemmas.List.Folds.{list_all-append}
-use Rattle.mc_base.specs.Limits.{asked_limit}
+use Rattle.arrayvec.specs.ArrayVec.{ArrayVec}
+use Rattle.mc_base.specs.Limits.{asked_limit, try_limit}
 use Rattle.mc_base.specs.Text.{hex_text}
 use Rattle.mc_base.specs.Letter.{bytes_of_bits}
 use Rattle.mc_base.specs.declared.channel.Kind.{Kind}
@@ -13,7 +14,7 @@ use Rattle.mc_base.specs.declared.channel.Kind.TheVariants as kind
 use Rattle.mc_base.specs.declared.channel.Bits.{Bits}
 use Rattle.mc_base.specs.declared.channel.Bits.TheVariants.{B8, B16, B32, B64}
 use Rattle.board_model.specs.declared.form.ArgumentKind.{ArgumentKind}
-use Rattle.board_model.specs.declared.form.ArgumentKind.TheVariants.{Port, Name, Priority, Content, Maximum, ChannelKind, ScalarBits, ScalarValue, RequestLabel, PacketLabel}
+use Rattle.board_model.specs.declared.form.ArgumentKind.TheVariants.{Port, Name, Priority, Content, Maximum, ChannelKind, ScalarBits, ScalarValue, RequestLabel, RequestLabels, PacketLabel, Limit}
 use Rattle.board_model.specs.declared.form.Callee.{Callee}
 use Rattle.board_model.specs.declared.form.Callee.TheVariants as callee
 use Rattle.board_model.specs.Grammar.{argument_text, argument_texts}
@@ -26,6 +27,7 @@ use Rattle.scenario_lang.proofs.Options.{both_hold}
 use Rattle.board_model.proofs.WordDecimals.{number_of-decimal, number-decimal, is_number-decimal}
 use Rattle.scenario_lang.proofs.SpacedLemmas.{is_word, room}
 use Rattle.scenario_lang.proofs.PlainLemmas.{IsPlain, decimal-plain, decimal_plain_64, label-plain}
+use Rattle.scenario_lang.proofs.GroupLemmas.{group-plain, group-fits, group-back, group-same}
 use Rattle.scenario_lang.proofs.NameWordLemmas.{name-plain, name-parts, name-read, name-numbers}
 use Rattle.scenario_lang.proofs.ByteWordLemmas.{hex-plain, are_bytes-hex, bytes-hex}
 
@@ -48,7 +50,9 @@ widest ChannelKind = 6
 widest ScalarBits = 10
 widest ScalarValue = 20
 widest RequestLabel = 16
+widest RequestLabels = 135
 widest PacketLabel = 16
+widest Limit = 10
 
 -- and the arguments of a form, each with a blank
 abbrev pub all_widest : List ArgumentKind → ℕ
@@ -82,6 +86,8 @@ row_plain callee.SclRecv = record { seen = refl; no_try = refl; named = refl; fe
 row_plain callee.CloseSend = record { seen = refl; no_try = refl; named = refl; few = omega arith; ends = refl }
 row_plain callee.CloseRecv = record { seen = refl; no_try = refl; named = refl; few = omega arith; ends = refl }
 row_plain callee.Test = record { seen = refl; no_try = refl; named = refl; few = omega arith; ends = refl }
+row_plain callee.Wait = record { seen = refl; no_try = refl; named = refl; few = omega arith; ends = refl }
+row_plain callee.WaitAny = record { seen = refl; no_try = refl; named = refl; few = omega arith; ends = refl }
 row_plain callee.Cancel = record { seen = refl; no_try = refl; named = refl; few = omega arith; ends = refl }
 row_plain callee.Turn = record { seen = refl; no_try = refl; named = refl; few = omega arith; ends = refl }
 
@@ -157,7 +163,15 @@ text_of ScalarValue bits n h =
     let most = below_64 bits n h.0 h.1 in
     record { plain = decimal_plain_64 n most; fits = refl; numbers = one_number (2 ^ bits - 1) n (omega (arith, below)) most; bytes = refl; back = number-decimal n most }
 text_of RequestLabel bits l h = record { plain = label-plain l.items h; fits = h; numbers = refl; bytes = refl; back = refl }
+text_of RequestLabels bits ls h = record {
+  plain = group-plain ls.items h;
+  fits = group-fits ls.items h;
+  numbers = refl;
+  bytes = refl;
+  back = ap (λ (xs : List (ArrayVec ℕ)). record { items = xs }) (group-back ls.items h);
+}
 text_of PacketLabel bits l h = record { plain = label-plain l.items h; fits = h; numbers = refl; bytes = refl; back = refl }
+text_of Limit bits n h = record { plain = decimal-plain n (omega (arith, h)); fits = refl; numbers = one_number try_limit n h (omega (arith, h)); bytes = refl; back = number-decimal n (omega (arith, h)) }
 
 -- ---- arguments as words
 
@@ -212,7 +226,9 @@ same_label ChannelKind w = refl
 same_label ScalarBits w = refl
 same_label ScalarValue w = refl
 same_label RequestLabel w = refl
+same_label RequestLabels w = ap (argument_labels RequestLabels) (group-same w)
 same_label PacketLabel w = refl
+same_label Limit w = refl
 
 pub same_labels : (ks : List ArgumentKind) (ws : List (List ℕ)) → arguments_fit ks ws ≡ true → arguments_labels ks (argument_texts ks (values ks ws)) ≡ arguments_labels ks ws
 same_labels [] ws fit = refl

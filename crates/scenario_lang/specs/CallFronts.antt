@@ -1,10 +1,11 @@
 -- The pieces in which the line of a call is put: what stands before its words, and its arguments.
 -- Source: docs/FORMATS.md, "Scenario files".
-use Rattle.std.specs.Prelude.{ℕ, List, [], ◌∷◌, ◌++◌, codes, decimal, Option, None, Some}
+use Rattle.std.specs.Prelude.{ℕ, List, [], ◌∷◌, ◌++◌, map, codes, decimal, Option, None, Some}
+use Rattle.arrayvec.specs.ArrayVec.{ArrayVec}
 use Rattle.mc_base.specs.Text.{hex_text}
-use Rattle.board_model.specs.Grammar.{name_text, kind_text}
+use Rattle.board_model.specs.Grammar.{name_text, kind_text, with_commas}
 use Rattle.scenario_lang.specs.declared.canonical.Argument.{Argument}
-use Rattle.scenario_lang.specs.declared.canonical.Argument.TheVariants.{Number, Name, Content, ChannelKind, Label}
+use Rattle.scenario_lang.specs.declared.canonical.Argument.TheVariants.{Number, Name, Content, ChannelKind, Label, Labels}
 
 -- what stands before a call for its label
 abbrev pub label_front : Option (List ℕ) → List ℕ
@@ -23,7 +24,12 @@ argument_word (Name name) = name_text name
 argument_word (Content bytes) = hex_text bytes.now
 argument_word (ChannelKind kind) = kind_text kind
 argument_word (Label label) = label.now
+argument_word (Labels labels) = with_commas (map (λ l. l.items) labels.now)
 
 -- and with a blank before it
 abbrev pub blank_then : Argument → List ℕ
 blank_then argument = 32 ∷ argument_word argument
+
+-- a label of several, after a comma: 44 is the comma
+abbrev pub comma_then : ArrayVec ℕ → List ℕ
+comma_then label = 44 ∷ label.items

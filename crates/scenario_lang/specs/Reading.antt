@@ -16,7 +16,7 @@ use Rattle.board_model.specs.declared.reason.LineReason.{LineReason}
 use Rattle.board_model.specs.declared.reason.LineReason.TheVariants.{Form, Number, Bytes}
 use Rattle.board_model.specs.FileLines.{parts_at}
 use Rattle.board_model.specs.FileWords.{Numeral, numeral, is_number, number, is_within, are_bytes, bytes_of, pairs_of, is_label}
-use Rattle.board_model.specs.Forms.{Value, bits_told, argument_fits, argument_numerals, argument_contents, label_of, value, Makes, form, callee_of, CallParts, told_at, tries_at, fits}
+use Rattle.board_model.specs.Forms.{Value, bits_told, are_labels, argument_fits, argument_numerals, argument_contents, label_of, value, Makes, form, callee_of, CallParts, told_at, tries_at, fits}
 use Rattle.board_model.specs.LineReasons.{is_empty}
 use Rattle.scenario_lang.specs.declared.fault.LineFault.{LineFault}
 use Rattle.scenario_lang.specs.declared.fault.LineFault.TheVariants.{Refused, NoMemory}
@@ -122,6 +122,10 @@ name_at word = do
 abbrev pub label_in : List ℕ → Result (ArrayVec ℕ) LineReason
 label_in word = if is_label word then Ok (label_of word) else Err Form
 
+-- the labels of a word that has the form: 44 is the comma
+abbrev pub labels_of : List ℕ → Option (ArrayVec (ArrayVec ℕ))
+labels_of word = if are_labels (parts_at 44 word) then Some (record { items = map label_of (parts_at 44 word) }) else None
+
 -- what the word of an argument says, or the first reason for which it says none
 abbrev pub value_in : (kind : ArgumentKind) → (bits : ℕ) → List ℕ → Result (Value kind) LineReason
 value_in kind bits word =
@@ -166,6 +170,8 @@ call_in callee.SclRecv words = call_by callee.SclRecv words
 call_in callee.CloseSend words = call_by callee.CloseSend words
 call_in callee.CloseRecv words = call_by callee.CloseRecv words
 call_in callee.Test words = call_by callee.Test words
+call_in callee.Wait words = call_by callee.Wait words
+call_in callee.WaitAny words = call_by callee.WaitAny words
 call_in callee.Cancel words = call_by callee.Cancel words
 call_in callee.Turn words = call_by callee.Turn words
 

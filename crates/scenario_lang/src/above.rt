@@ -5,6 +5,7 @@ ghost use Rattle.std.specs.List.{list_any, list_all};
 ghost use Rattle.board_model.specs.LineReasons.{tells_wrong_label, names_wrong_label, is_same_pair, with_statement};
 ghost use Rattle.board_model.specs.LineReasons.{is_domain as tells_domain, is_text_byte as is_of_text, is_link_size as is_size};
 ghost use Rattle.board_model.specs.Forms.{argument_labels, arguments_labels, gives_request, gives_packet, says_call};
+ghost use Rattle.board_model.specs.declared.form.ArgumentKind.TheVariants as kind;
 ghost use Rattle.board_model.specs.FileLines.{begins_with};
 ghost use Rattle.board_model.specs.Language.{nothing_told};
 ghost use Rattle.board_model.specs.Scenario.{label_in};
@@ -16,7 +17,7 @@ use crate::calls::{call_line, call_parts};
 use crate::fault::LineFault;
 use crate::forms::{domain_line, link_line};
 use crate::labels::Labels;
-use crate::lines::find_words;
+use crate::lines::{cut, find_words};
 use crate::table::row_of;
 use board_model::{ArgumentKind, CallLine, LineReason, LinkLine, Scenario, Seq};
 use std::alloc::Global;
@@ -107,6 +108,21 @@ impl<'a> Above<'a> {
         }
     }
 
+    /// Whether one of the labels of a wait is not that of a request of its domain.
+    fn is_group_named_wrong(&self, domain: u8, word: &'a [u8]) -> bool
+        requires { Keeps self.now.labels self.now.told }
+        ensures { result ≡ names_wrong_label self.now.told domain (argument_labels kind.RequestLabels word.now) }
+    {
+        let mut rest = word;
+        while let Some((label, after)) = cut(b',', rest) {
+            if !self.labels.requests.has(domain, label) {
+                return true;
+            }
+            rest = after;
+        }
+        !self.labels.requests.has(domain, rest)
+    }
+
     /// Whether an argument names a label that its domain has not set, or of the wrong call.
     fn is_named_wrong(&self, domain: u8, kind: ArgumentKind, word: &'a [u8]) -> bool
         requires { Keeps self.now.labels self.now.told }
@@ -114,6 +130,7 @@ impl<'a> Above<'a> {
     {
         match kind {
             ArgumentKind::RequestLabel => !self.labels.requests.has(domain, word),
+            ArgumentKind::RequestLabels => self.is_group_named_wrong(domain, word),
             ArgumentKind::PacketLabel => !self.labels.packets.has(domain, word),
             _ => false,
         }

@@ -1,14 +1,15 @@
 //! The arguments of a call, read one after the other from the words behind its name.
 
-ghost use Rattle.std.specs.Prelude.{◌≡◌, ◌≤◌, ◌*◌, length};
+ghost use Rattle.std.specs.Prelude.{◌≡◌, ◌*◌};
 ghost use Rattle.mc_base.specs.Letter.{bytes_of_bits};
 ghost use Rattle.board_model.specs.declared.form.ArgumentKind.TheVariants as kind;
-ghost use Rattle.scenario_lang.specs.Reading.{Answers, Reads, seen, next_word, name_at, label_in, value_in, argument_in, call_in};
+ghost use Rattle.scenario_lang.specs.Reading.{Answers, Reads, seen, next_word, name_at, value_in, argument_in, call_in};
 
 use crate::fault::LineFault;
+use crate::groups::{LabelGroup, label_group};
 use crate::kinds::{bits_from, greatest, kind_of};
 use crate::lines::name_parts;
-use crate::numerals::{bytes, is_label, number};
+use crate::numerals::{bytes, label, number};
 use board_model::{Call, Callee, Label, LineReason, Seq, number_to};
 use mc_base::{Bits, EndName, Kind, MAX_ASKED, Priority};
 use std::alloc::Global;
@@ -123,6 +124,15 @@ impl<'w, 'a> Arguments<'w, 'a> {
         label(word)
     }
 
+    /// Reads LABEL,LABEL: those of requests.
+    #[tactic(auto, unfolding(crate::specs::Reading::argument_in))]
+    pub fn request_labels(&mut self) -> Result<LabelGroup, LineReason>
+        ensures { Reads (λ x. (x, seen self.new.rest.now)) result (argument_in kind.RequestLabels 0 (seen self.old.rest.now)) }
+    {
+        let word = self.word()?;
+        labels(word)
+    }
+
     /// Reads the LABEL of a packet.
     #[tactic(auto, unfolding(crate::specs::Reading::argument_in))]
     pub fn packet_label(&mut self) -> Result<Label, LineReason>
@@ -130,6 +140,16 @@ impl<'w, 'a> Arguments<'w, 'a> {
     {
         let word = self.word()?;
         label(word)
+    }
+
+    /// Reads LIMIT.
+    #[tactic(auto, unfolding(crate::specs::Reading::argument_in))]
+    pub fn limit(&mut self) -> Result<u32, LineReason>
+        ensures { Reads (λ x. (x, seen self.new.rest.now)) result (argument_in kind.Limit 0 (seen self.old.rest.now)) }
+    {
+        let word = self.word()?;
+        let limit = number(0, 4_294_967_295, word)?;
+        Ok(limit as u32)
     }
 }
 
@@ -174,26 +194,14 @@ fn bits(word: &[u8]) -> Result<Bits, LineReason>
     }
 }
 
-/// Copies the bytes of a label.
-fn label_from(word: &[u8]) -> Label
-    requires { length word.now ≤ 16 }
-    ensures { result.items ≡ word.now }
+/// Reads LABEL,LABEL.
+fn labels(word: &[u8]) -> Result<LabelGroup, LineReason>
+    ensures { Reads (λ labels. labels) result (value_in kind.RequestLabels 0 word.now) }
 {
-    let mut label = Label::new();
-    for byte in word {
-        label.push(*byte);
+    match label_group(word) {
+        Some(labels) => Ok(labels),
+        None => Err(LineReason::Form),
     }
-    label
-}
-
-/// Reads a label.
-pub fn label(word: &[u8]) -> Result<Label, LineReason>
-    ensures { Reads (λ label. label) result (label_in word.now) }
-{
-    if !is_label(word) {
-        return Err(LineReason::Form);
-    }
-    Ok(label_from(word))
 }
 
 /// Reads a call with its arguments.
@@ -272,6 +280,14 @@ pub fn call(alloc: Global, callee: Callee, words: &[&[u8]]) -> Result<Call, Line
         }),
         Callee::Test => Ok(Call::Test {
             label: arguments.request_label()?,
+        }),
+        Callee::Wait => Ok(Call::Wait {
+            label: arguments.request_label()?,
+            limit: arguments.limit()?,
+        }),
+        Callee::WaitAny => Ok(Call::WaitAny {
+            labels: arguments.request_labels()?,
+            limit: arguments.limit()?,
         }),
         Callee::Cancel => Ok(Call::Cancel {
             label: arguments.request_label()?,

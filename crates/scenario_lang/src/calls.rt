@@ -5,12 +5,13 @@ ghost use Rattle.board_model.specs.Forms.{argument_fits, arguments_fit, told_fit
 ghost use Rattle.scenario_lang.specs.Reading.{Answers, Reads, seen, parts_in, tries_in, told_in, call_line_in};
 ghost use Rattle.scenario_lang.specs.Parts.{read_parts};
 
-use crate::arguments::{call, label};
+use crate::arguments::call;
 use crate::fault::LineFault;
 use crate::forms::next;
+use crate::groups::label_group;
 use crate::kinds::kind_of;
 use crate::lines::{caller, name_parts};
-use crate::numerals::{is_label, number};
+use crate::numerals::{is_label, label, number};
 use crate::table::{callee_of, row_of};
 use board_model::{ArgumentKind, CallLine, Callee, Label, LineReason};
 use std::alloc::Global;
@@ -71,6 +72,7 @@ fn is_argument(kind: ArgumentKind, word: &[u8]) -> bool
         ArgumentKind::Name => name_parts(word).is_some(),
         ArgumentKind::ChannelKind => kind_of(word).is_some(),
         ArgumentKind::RequestLabel | ArgumentKind::PacketLabel => is_label(word),
+        ArgumentKind::RequestLabels => label_group(word).is_some(),
         _ => true,
     }
 }

@@ -5,10 +5,10 @@ ghost use Rattle.std.specs.List.{flat_map};
 ghost use Rattle.outer_io.specs.Puts.{Puts};
 ghost use Rattle.board_model.specs.Scenario.{label_in};
 ghost use Rattle.board_model.specs.Forms.{form};
-ghost use Rattle.scenario_lang.specs.CallFronts.{label_front, tries_front, argument_word, blank_then};
-ghost use Rattle.board_model.specs.Grammar.{canonical, domain_text, link_text, call_text, call_words, caller_text, name_text, spaced, line_of};
+ghost use Rattle.scenario_lang.specs.CallFronts.{label_front, tries_front, argument_word, blank_then, comma_then};
+ghost use Rattle.board_model.specs.Grammar.{canonical, domain_text, link_text, call_text, call_words, caller_text, name_text, with_commas, spaced, line_of};
 
-use self::Argument::{ChannelKind, Content, Label, Name, Number};
+use self::Argument::{ChannelKind, Content, Label, Labels, Name, Number};
 use crate::kinds::{bits_count, kind_word};
 use crate::table::row_of;
 use board_model::{Call, CallLine, Callee, DomainLine, LinkLine, Scenario};
@@ -120,6 +120,7 @@ enum Argument<'a> {
     Content(&'a [u8]),
     ChannelKind(Kind),
     Label(&'a [u8]),
+    Labels(&'a [board_model::Label]),
 }
 
 fn put_call<K: Sink>(out: &mut Writer<'_, K>, call: &Call)
@@ -197,6 +198,16 @@ fn put_call<K: Sink>(out: &mut Writer<'_, K>, call: &Call)
         Call::CloseSend { port } => put_form(out, Callee::CloseSend, &[Number(*port as u64)]),
         Call::CloseRecv { port } => put_form(out, Callee::CloseRecv, &[Number(*port as u64)]),
         Call::Test { label } => put_form(out, Callee::Test, &[Label(label.as_slice())]),
+        Call::Wait { label, limit } => put_form(
+            out,
+            Callee::Wait,
+            &[Label(label.as_slice()), Number(*limit as u64)],
+        ),
+        Call::WaitAny { labels, limit } => put_form(
+            out,
+            Callee::WaitAny,
+            &[Labels(labels.as_slice()), Number(*limit as u64)],
+        ),
         Call::Cancel { label } => put_form(out, Callee::Cancel, &[Label(label.as_slice())]),
         Call::Turn => put_form(out, Callee::Turn, &[]),
     }
@@ -229,7 +240,34 @@ fn put_argument<K: Sink>(out: &mut Writer<'_, K>, argument: Argument<'_>)
         Content(bytes) => out.put_hex(bytes),
         ChannelKind(kind) => out.put(kind_word(kind)),
         Label(label) => out.put(label),
+        Labels(labels) => put_labels(out, labels),
     }
+}
+
+/// Puts labels with commas between them.
+fn put_labels<K: Sink>(out: &mut Writer<'_, K>, labels: &[board_model::Label])
+    ensures { Puts K.Sink out.old out.new (with_commas (map (λ l. l.items) labels.now)) }
+{
+    let [first, rest @ ..] = labels else {
+        return;
+    };
+    out.put(first.as_slice());
+    put_more_labels(out, rest);
+}
+
+fn put_more_labels<K: Sink>(out: &mut Writer<'_, K>, labels: &[board_model::Label])
+    ensures { Puts K.Sink out.old out.new (flat_map comma_then labels.now) }
+{
+    for label in labels {
+        put_comma_and(out, label);
+    }
+}
+
+fn put_comma_and<K: Sink>(out: &mut Writer<'_, K>, label: &board_model::Label)
+    ensures { Puts K.Sink out.old out.new (comma_then label.now) }
+{
+    out.put(b",");
+    out.put(label.as_slice());
 }
 
 /// Puts D:N:P.

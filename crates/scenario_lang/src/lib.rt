@@ -11,6 +11,7 @@ mod calls;
 mod canonical;
 mod fault;
 mod forms;
+mod groups;
 mod kinds;
 mod labels;
 mod lines;

@@ -96,7 +96,7 @@ pub fn find_words<'a>(words: &mut Vec<&'a [u8]>, line: &'a [u8]) -> Result<(), L
 }
 
 /// Returns what is before a separator in a word, and after it.
-fn cut(separator: u8, word: &[u8]) -> Option<(&[u8], &[u8])>
+pub fn cut(separator: u8, word: &[u8]) -> Option<(&[u8], &[u8])>
     ensures { Cuts separator word.now result }
 {
     let (front, after) = word.split_at(length_before(separator, word));

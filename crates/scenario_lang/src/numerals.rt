@@ -1,14 +1,14 @@
 //! What a word says: a number, bytes or a label.
 
-ghost use Rattle.std.specs.Prelude.{◌≡◌, ◌≤◌, IfOk};
+ghost use Rattle.std.specs.Prelude.{◌≡◌, ◌≤◌, IfOk, length};
 ghost use Rattle.board_model.specs.FileWords.{numeral, bytes_of};
 ghost use Rattle.board_model.specs.FileWords.{is_label as spells_label};
 ghost use Rattle.std.specs.List.{list_all};
-ghost use Rattle.scenario_lang.specs.Reading.{Answers, Reads, number_in, some_bytes, pairs_in, bytes_in};
+ghost use Rattle.scenario_lang.specs.Reading.{Answers, Reads, number_in, some_bytes, pairs_in, bytes_in, label_in};
 ghost use Rattle.board_model.specs.FileWords.{is_letter_byte, is_label_byte as is_of_label};
 
 use crate::fault::LineFault;
-use board_model::{LineReason, decode_pairs, is_dash, number_to};
+use board_model::{Label, LineReason, decode_pairs, is_dash, number_to};
 use std::alloc::Global;
 
 /// Reads the number that a word writes, in its range.
@@ -86,4 +86,26 @@ pub fn is_label(word: &[u8]) -> bool
         [first, rest @ ..] => is_letter(*first) && rest.len() <= 15 && are_label_bytes(rest),
         [] => false,
     }
+}
+
+/// Copies the bytes of a label.
+pub fn label_from(word: &[u8]) -> Label
+    requires { length word.now ≤ 16 }
+    ensures { result.items ≡ word.now }
+{
+    let mut label = Label::new();
+    for byte in word {
+        label.push(*byte);
+    }
+    label
+}
+
+/// Reads a label.
+pub fn label(word: &[u8]) -> Result<Label, LineReason>
+    ensures { Reads (λ label. label) result (label_in word.now) }
+{
+    if !is_label(word) {
+        return Err(LineReason::Form);
+    }
+    Ok(label_from(word))
 }

@@ -5,8 +5,8 @@ ghost use Rattle.board_model.specs.Forms.{form, callee_of as call_with};
 ghost use Rattle.scenario_lang.specs.Table.{IsRow};
 
 use board_model::ArgumentKind::{
-    self, ChannelKind, Content, Maximum, Name, PacketLabel, Port, Priority, RequestLabel,
-    ScalarBits, ScalarValue,
+    self, ChannelKind, Content, Limit, Maximum, Name, PacketLabel, Port, Priority, RequestLabel,
+    RequestLabels, ScalarBits, ScalarValue,
 };
 use board_model::Callee;
 
@@ -27,6 +27,8 @@ const NO_LABEL: bool = false;
 const A_LABEL: bool = true;
 
 const MAY_TRY: bool = true;
+
+const ONE_TRY: bool = false;
 
 /// Returns the row of a call.
 pub fn row_of(callee: Callee) -> CallRow
@@ -62,6 +64,8 @@ pub fn row_of(callee: Callee) -> CallRow
         Callee::CloseSend => row(b"close_send", &[Port], NO_LABEL, MAY_TRY),
         Callee::CloseRecv => row(b"close_recv", &[Port], NO_LABEL, MAY_TRY),
         Callee::Test => row(b"test", &[RequestLabel], NO_LABEL, MAY_TRY),
+        Callee::Wait => row(b"wait", &[RequestLabel, Limit], NO_LABEL, ONE_TRY),
+        Callee::WaitAny => row(b"wait_any", &[RequestLabels, Limit], NO_LABEL, ONE_TRY),
         Callee::Cancel => row(b"cancel", &[RequestLabel], NO_LABEL, MAY_TRY),
         Callee::Turn => row(b"turn", &[], NO_LABEL, MAY_TRY),
     }
@@ -84,7 +88,7 @@ fn row(
 }
 
 /// Every call, in the order of the table.
-const CALLEES: [Callee; 21] = [
+const CALLEES: [Callee; 23] = [
     Callee::Create,
     Callee::Delete,
     Callee::Lookup,
@@ -104,6 +108,8 @@ const CALLEES: [Callee; 21] = [
     Callee::CloseSend,
     Callee::CloseRecv,
     Callee::Test,
+    Callee::Wait,
+    Callee::WaitAny,
     Callee::Cancel,
     Callee::Turn,
 ];

@@ -179,7 +179,7 @@ static REFUSED_CALLS: [RefusedCall; 73] = [
     (b"0.0 turn 1", LineReason::Form),
     (b"0.0 raw 1 f1", LineReason::Form),
     (b"0.0 raw 0 00", LineReason::Form),
-    (b"0.0 wait a 1", LineReason::Form),
+    (b"0.0 wait a 1", LineReason::Label),
     (b"0.0 lookup 0:0:1", LineReason::Form),
     (b"0.0 x lookup 0:0:1", LineReason::Form),
     (b"0.0 x= lookup 0:0:1", LineReason::Form),
@@ -409,8 +409,81 @@ static REFUSED_DATA: [RefusedCall; 109] = [
     (b"0.0 pkt_available 1", LineReason::Form),
 ];
 
+/// Lines of waits.
+static REFUSED_WAITS: [RefusedCall; 39] = [
+    (b"0.0 wait", LineReason::Form),
+    (b"0.0 wait x", LineReason::Form),
+    (b"0.0 wait x 1 1", LineReason::Form),
+    (b"0.0 wait 1", LineReason::Form),
+    (b"0.0 wait 1 1", LineReason::Form),
+    (b"0.0 wait X 1", LineReason::Form),
+    (b"0.0 wait x, 1", LineReason::Form),
+    (b"0.0 wait x,y 1", LineReason::Form),
+    (b"0.0 wait x -1", LineReason::Number),
+    (b"0.0 wait x 4294967296", LineReason::Number),
+    (b"0.0 wait x 01", LineReason::Number),
+    (b"0.0 wait x -", LineReason::Number),
+    (b"0.0 wait x x", LineReason::Number),
+    (b"1.0 wait x 1", LineReason::Domain),
+    (b"0.0 wait x 1", LineReason::Label),
+    (b"0.0 y = wait x 1", LineReason::Label),
+    (b"0.0 try 2 wait x 1", LineReason::Form),
+    (b"0.0 try 0 wait x 1", LineReason::Form),
+    (b"0.0 try 4294967296 wait x 1", LineReason::Form),
+    (b"0.0 y = try 1 wait x 1", LineReason::Form),
+    (b"0.0 wait_any", LineReason::Form),
+    (b"0.0 wait_any x", LineReason::Form),
+    (b"0.0 wait_any x y 1", LineReason::Form),
+    (b"0.0 wait_any , 1", LineReason::Form),
+    (b"0.0 wait_any x, 1", LineReason::Form),
+    (b"0.0 wait_any ,x 1", LineReason::Form),
+    (b"0.0 wait_any x,,y 1", LineReason::Form),
+    (b"0.0 wait_any x,Y 1", LineReason::Form),
+    (b"0.0 wait_any 1,x 1", LineReason::Form),
+    (b"0.0 wait_any a,b,c,d,e,f,g,h,i 1", LineReason::Form),
+    (b"0.0 wait_any x,abcdefghijklmnopq 1", LineReason::Form),
+    (b"0.0 wait_any x,y 4294967296", LineReason::Number),
+    (b"0.0 wait_any x,y 00", LineReason::Number),
+    (b"1.0 wait_any x,y 1", LineReason::Domain),
+    (b"0.0 wait_any x,y 1", LineReason::Label),
+    (b"0.0 try 1 wait_any x,y 1", LineReason::Form),
+    (b"0.0 waits x 1", LineReason::Form),
+    (b"0.0 wait-any x 1", LineReason::Form),
+    (b"0.0 waitany x 1", LineReason::Form),
+];
+
 /// Texts with labels, of which one is told or used where it may not.
-static REFUSED_LABELS: [Refusal; 30] = [
+static REFUSED_LABELS: [Refusal; 36] = [
+    (
+        b"domain 0 nodes 1 pool 1\ndomain 1 nodes 1 pool 1\n0.0 x = pkt_recv 1\n0.0 wait x 1\n",
+        4,
+        LineReason::Label,
+    ),
+    (
+        b"domain 0 nodes 1 pool 1\ndomain 1 nodes 1 pool 1\n0.0 x = lookup 0:0:1\n1.0 wait x 1\n",
+        4,
+        LineReason::Label,
+    ),
+    (
+        b"domain 0 nodes 1 pool 1\ndomain 1 nodes 1 pool 1\n0.0 x = lookup 0:0:1\n0.0 y = pkt_recv 1\n0.0 wait_any x,y 1\n",
+        5,
+        LineReason::Label,
+    ),
+    (
+        b"domain 0 nodes 1 pool 1\ndomain 1 nodes 1 pool 1\n0.0 x = lookup 0:0:1\n1.0 y = lookup 0:0:1\n0.0 wait_any x,y 1\n",
+        5,
+        LineReason::Label,
+    ),
+    (
+        b"domain 0 nodes 1 pool 1\ndomain 1 nodes 1 pool 1\n0.0 x = lookup 0:0:1\n0.0 wait_any y,x 1\n",
+        4,
+        LineReason::Label,
+    ),
+    (
+        b"domain 0 nodes 1 pool 1\ndomain 1 nodes 1 pool 1\n0.0 x = lookup 0:0:1\n0.0 wait_any x,x,x,x,x,x,x,z 1\n",
+        4,
+        LineReason::Label,
+    ),
     (
         b"domain 0 nodes 1 pool 1\ndomain 1 nodes 1 pool 1\n0.0 x = lookup 0:0:1\n0.0 release x\n",
         4,
@@ -566,7 +639,15 @@ static REFUSED_LABELS: [Refusal; 30] = [
 /// A text that is read, and its canonical text.
 type Read = (&'static [u8], &'static [u8]);
 
-static READ: [Read; 22] = [
+static READ: [Read; 24] = [
+    (
+        b"domain 0 nodes 1 pool 1\n0.0 a = lookup 0:0:1\n0.0 b = msg_recv_i 1 9\n0.0 c = connect 1 0:0:2 packet\n0.0 d = pkt_recv_i 1\n0.0 wait a 0\n0.0 wait b 4294967295\n0.0 wait_any c 1\n0.0 wait_any a,b,c,d 2\n0.0 wait_any a,b,c,d,d,c,b,a 3\n0.0 wait_any a,a 0\n",
+        b"domain 0 nodes 1 pool 1\n0.0 a = lookup 0:0:1\n0.0 b = msg_recv_i 1 9\n0.0 c = connect 1 0:0:2 packet\n0.0 d = pkt_recv_i 1\n0.0 wait a 0\n0.0 wait b 4294967295\n0.0 wait_any c 1\n0.0 wait_any a,b,c,d 2\n0.0 wait_any a,b,c,d,d,c,b,a 3\n0.0 wait_any a,a 0\n",
+    ),
+    (
+        b"domain 0 nodes 1 pool 1\n0.0 wait = lookup 0:0:1\n0.0 try = lookup 0:0:1\n0.0\t wait  wait\t7 \r\n0.0 wait_any wait,try  8",
+        b"domain 0 nodes 1 pool 1\n0.0 wait = lookup 0:0:1\n0.0 try = lookup 0:0:1\n0.0 wait wait 7\n0.0 wait_any wait,try 8\n",
+    ),
     (
         b"domain 0 nodes 1 pool 1\n0.0 pkt_send 1 00ff\n0.0 pkt_send 65535 -\n0.0 x = pkt_recv 0\n0.0 release x\n0.0 y = pkt_recv_i 65535\n0.0 test y\n0.0 release y\n0.0 cancel y\n",
         b"domain 0 nodes 1 pool 1\n0.0 pkt_send 1 00ff\n0.0 pkt_send 65535 -\n0.0 x = pkt_recv 0\n0.0 release x\n0.0 y = pkt_recv_i 65535\n0.0 test y\n0.0 release y\n0.0 cancel y\n",
@@ -718,7 +799,8 @@ fn assert_refused_calls(rt: &impl Abort, alloc: Global, rows: &[RefusedCall]) ->
 fn calls_are_refused_with_their_first_reason(rt: HostRuntime) -> Result<(), Fail> {
     assert_refused_calls(&rt, rt.alloc(), &REFUSED_CALLS)?;
     assert_refused_calls(&rt, rt.alloc(), &REFUSED_CHANNELS)?;
-    assert_refused_calls(&rt, rt.alloc(), &REFUSED_DATA)
+    assert_refused_calls(&rt, rt.alloc(), &REFUSED_DATA)?;
+    assert_refused_calls(&rt, rt.alloc(), &REFUSED_WAITS)
 }
 
 fn assert_read(rt: &impl Abort, alloc: Global, rows: &[Read]) {

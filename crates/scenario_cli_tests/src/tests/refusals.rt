@@ -16,7 +16,7 @@ static REFUSALS: [Outcome<'static>; 12] = [
         SERIAL,
         b"domain 0 nodes 1 pool 1\n0.0 wait a 1\n",
         3,
-        b"refused 2 form\n",
+        b"refused 2 label\n",
     ),
     (
         SERIAL,

@@ -17,3 +17,6 @@ returns-in-ChannelKind g c =
 
 pub returns-in-Label : goal.returns-in-Label
 returns-in-Label g c = rw c.in-Label.is (puts_then _ _ _ _ _ _ c.put.ensures c.put-in-Label.ensures)
+
+pub returns-in-Labels : goal.returns-in-Labels
+returns-in-Labels g c = rw c.in-Labels.is (puts_then _ _ _ _ _ _ c.put.ensures c.put_labels.ensures)
