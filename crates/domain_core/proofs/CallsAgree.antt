@@ -8,7 +8,7 @@ use Rattle.board_model.specs.Lists.{changed_first, with_rising, without}
 use Rattle.board_model.specs.State as state
 use Rattle.board_model.specs.State.{Item, Endpoint, message_at, has_item, DomainState, is_at, is_numbered, place_at, live_at, address_at, queue_in, queue_at}
 use Rattle.board_model.specs.Choice.{best, oldest}
-use Rattle.board_model.specs.DomainCall.{DomainCall, create_at, delete_at, send_from, receive_at, request_at, test_of, close_at, release_of, scalar_at}
+use Rattle.board_model.specs.DomainCall.{DomainCall, create_at, delete_at, send_from, receive_at, request_at, test_of, wait_for, close_at, release_of, scalar_at}
 use Rattle.mc_base.specs.declared.channel.Side.TheVariants.{Receiver, Sender}
 use Rattle.board_model.specs.Answer.{local}
 use Rattle.board_model.specs.Change.{endpoint_gone, best_gone, request_added, waiting_ended, end_announced, ended_in, changed, changed_all}
@@ -103,4 +103,5 @@ returned-agrees u node (close_at port Receiver) = ap queue_in (at-live u (local 
     go (Some e) = refl
 returned-agrees u node (close_at port Sender) = refl
 returned-agrees u node (test_of place) = refl
+returned-agrees u node (wait_for places says_place) = refl
 returned-agrees u node other = refl

@@ -59,7 +59,7 @@ module _ (p : Parts) (sound : Sound p) (at : Local) (i : ℕ) (there : place_at 
   data-puts posts = ap (map put_of) (posts ∙ posts-are (state_of p) at a c address has letter)
 
   pub data-means : success_puts (state_of p) at.node call ≡ (c.peer, frame) ∷ [] → call_steps p at.node call None ≡ putting_all (success_puts (state_of p) at.node call)
-      → success_changes (state_of p) at.node call ≡ at_end (live_at (state_of p) at) (λ e d. buffer_used d.peer ∷ []) → success_returned (state_of p) at.node call ≡ [] → success_ends call ≡ None → success_releases call ≡ None → success_packet (state_of p) call ≡ None → Means p at.node call None
+      → success_changes (state_of p) at.node call ≡ at_end (live_at (state_of p) at) (λ e d. buffer_used d.peer ∷ []) → success_returned (state_of p) at.node call ≡ [] → success_ends (state_of p) call ≡ None → success_releases call ≡ None → success_packet (state_of p) call ≡ None → Means p at.node call None
   data-means puts steps changes back ends releases lends =
       let is = steps ∙ ap putting_all puts in
       record {

@@ -98,10 +98,10 @@ cancel-pending (Some (Some c)) e = absurd cc
 
 -- the place of the request that ended
 pub ended-refused : (s : DomainState) (node : ℕ) (call : DomainCall) (word : Refusal) → refusal s node call ≡ Some word → place_ended s node call ≡ None
-ended-refused s node call word e = ap (λ (o : Option Refusal). unless_refused o None (success_ends call)) e
+ended-refused s node call word e = ap (λ (o : Option Refusal). unless_refused o None (success_ends s call)) e
 
-pub ended-done : (s : DomainState) (node : ℕ) (call : DomainCall) → refusal s node call ≡ None → place_ended s node call ≡ success_ends call
-ended-done s node call e = ap (λ (o : Option Refusal). unless_refused o None (success_ends call)) e
+pub ended-done : (s : DomainState) (node : ℕ) (call : DomainCall) → refusal s node call ≡ None → place_ended s node call ≡ success_ends s call
+ended-done s node call e = ap (λ (o : Option Refusal). unless_refused o None (success_ends s call)) e
 
 -- ---- the request that stood
 

@@ -33,13 +33,13 @@ use Rattle.domain_core.specs.declared.link.Link.{Link}
 
 -- ---- the number
 
-effect-number : (s : DomainState) (node : ℕ) (call : DomainCall) → (effect s node call).number ≡ s.number
+pub effect-number : (s : DomainState) (node : ℕ) (call : DomainCall) → (effect s node call).number ≡ s.number
 effect-number s node call = changes-keep (λ t. t.number) (λ t c. refl) s (call_changes s node call)
 
 -- ---- the moves of a turn and of a call, as one list at each ends
 
 module _ {L : Type 0} (Moved : L → List LaneMove → L → Type 0) (both : (a b c : L) (xs ys : List LaneMove) → Moved a xs b → Moved b ys c → Moved a (xs ++ ys) c) where
-  all-both : (es bs cs : List L) (ms ns : List (List LaneMove)) → AllMoved Moved es ms bs → AllMoved Moved bs ns cs → (os : List (List LaneMove)) × AllMoved Moved es os cs
+  pub all-both : (es bs cs : List L) (ms ns : List (List LaneMove)) → AllMoved Moved es ms bs → AllMoved Moved bs ns cs → (os : List (List LaneMove)) × AllMoved Moved es os cs
   all-both [] [] [] [] [] first then = ([], tt)
   all-both (a ∷ es) (b ∷ bs) (c ∷ cs) (m ∷ ms) (n ∷ ns) first then =
       let rest = all-both es bs cs ms ns first.1 then.1 in

@@ -61,3 +61,7 @@ pub mod Taking
 pub mod Owing
 pub mod Visiting
 pub mod VisitedAll
+pub mod WaitPlaces
+pub mod WaitSteps
+pub mod WaitEnds
+pub mod WaitsGoing

@@ -54,7 +54,7 @@ position_from-same : {X : Type 0} (p q : X → Bool) → ((x : X) → p x ≡ q 
 position_from-same p q same i [] = refl
 position_from-same p q same i (x ∷ xs) = ap (λ (b : Bool). cond b (Some i) (position_from p (i + 1) xs)) (same x) ∙ ap (λ (o : Option ℕ). cond (q x) (Some i) o) (position_from-same p q same (i + 1) xs)
 
-position-same : {X : Type 0} (p q : X → Bool) → ((x : X) → p x ≡ q x) → (xs : List X) → position p xs ≡ position q xs
+pub position-same : {X : Type 0} (p q : X → Bool) → ((x : X) → p x ≡ q x) → (xs : List X) → position p xs ≡ position q xs
 position-same p q same xs = position_from-zero p xs ∙ position_from-same p q same 0 xs ∙ sym (position_from-zero q xs)
 
 pub none-position : {X : Type 0} (p : X → Bool) (xs : List X) → find p xs ≡ None → position p xs ≡ None

@@ -10,10 +10,10 @@ use Rattle.mc_base.specs.declared.refusal.Refusal.TheVariants.{ChanClosed}
 use Rattle.mc_base.specs.declared.request.PacketId.{PacketId}
 use Rattle.mc_base.specs.declared.request.RequestId.{RequestId}
 use Rattle.mc_base.specs.declared.request.Slot.{Slot}
-use Rattle.board_model.specs.Answer.{address_of, answer, channel_at, local, refusal, success_puts}
+use Rattle.board_model.specs.Answer.{address_of, answer, channel_at, first_complete, local, refusal, success_puts}
 use Rattle.board_model.specs.ChannelEnds.{closed_end, opened_end}
 use Rattle.board_model.specs.Choice.{best, oldest}
-use Rattle.board_model.specs.DomainCall.{DomainCall, create_at, delete_at, lookup_of, send_from, receive_at, request_at, connect_from, open_at, packet_from, lend_at, packet_request_at, release_of, scalar_from, scalar_at, close_at, test_of, cancel_of}
+use Rattle.board_model.specs.DomainCall.{DomainCall, create_at, delete_at, lookup_of, send_from, receive_at, request_at, connect_from, open_at, packet_from, lend_at, packet_request_at, release_of, scalar_from, scalar_at, close_at, test_of, wait_for, cancel_of}
 use Rattle.board_model.specs.Change.{changed_all}
 use Rattle.board_model.specs.CallChanges.{new_sender, success_changes, success_returned}
 use Rattle.board_model.specs.Journal.{PlainAnswer}
@@ -132,6 +132,7 @@ call_steps p node (close_at port side) given = at_its_end (state_of p) (local no
     ++ channel_set i (option_map as_channel (closed_end c))
     ∷ []))
 call_steps p node (test_of place) given = ending p.book place (how_held p.requests place) ∷ []
+call_steps p node (wait_for places says_place) given = ending p.book (first_complete (state_of p) places) (how_held p.requests (first_complete (state_of p) places)) ∷ []
 call_steps p node (cancel_of place) given = request_ended place ∷ []
 call_steps p node other given = []
 
@@ -143,7 +144,7 @@ pub record Means (p : Parts) (node : ℕ) (call : DomainCall) (given : Option Re
   pub returned : map (item_at p.book) slots ≡ success_returned (state_of p) node call
   pub moves : (n : ℕ) → all_moves (call_steps p node call given) n ≡ moves_at (success_puts (state_of p) node call) slots n
   pub stays : KeepsBut slots p.book (done_all (call_steps p node call given) p).book
-  pub ids : map (λ r. r.id) (done_all (call_steps p node call given) p).requests.standing ≡ without (success_ends call) (map (λ r. r.id) p.requests.standing) ++ option_to_list given
+  pub ids : map (λ r. r.id) (done_all (call_steps p node call given) p).requests.standing ≡ without (success_ends (state_of p) call) (map (λ r. r.id) p.requests.standing) ++ option_to_list given
   pub fresh : IfSome given (IsFresh (map (λ r. r.id) p.requests.standing) (state_of p))
   pub lent : Option PacketId
   pub packets : (done_all (call_steps p node call given) p).records.lent ≡ without (success_releases call) p.records.lent ++ option_to_list lent

@@ -13,12 +13,12 @@ use Rattle.mc_base.specs.declared.request.Got.{Got}
 use Rattle.mc_base.specs.declared.request.PacketId.{PacketId}
 use Rattle.mc_base.specs.declared.request.RequestId.{RequestId}
 use Rattle.mc_base.specs.declared.request.Slot.{Slot}
-use Rattle.board_model.specs.DomainCall.{DomainCall, release_of, test_of, cancel_of}
+use Rattle.board_model.specs.DomainCall.{DomainCall, release_of, test_of, wait_for, cancel_of}
 use Rattle.board_model.specs.Journal.{Line, Visit, turned, noted_all, PlainResult, found_at, was_accepted, was_rejected, brought, ended_by, PlainAnswer, refuses, agrees, tells, gives, completes, connects}
 use Rattle.board_model.specs.Labels.{packet_given}
 use Rattle.board_model.specs.Lists.{without}
 use Rattle.board_model.specs.State.{DomainState, LentPacket}
-use Rattle.board_model.specs.Answer.{answer, puts, refusal, unless_refused}
+use Rattle.board_model.specs.Answer.{answer, first_complete, puts, refusal, unless_refused}
 use Rattle.board_model.specs.CallChanges as changes
 use Rattle.board_model.specs.Serial.{put_entry}
 use Rattle.domain_core.specs.DomainView.{DomainView}
@@ -29,10 +29,11 @@ use Rattle.domain_core.specs.AllMoved.{AllMoved, call_moves}
 use Rattle.domain_core.specs.Turned.{Turns}
 
 -- the place of the request that success ends
-abbrev pub success_ends : DomainCall → Option ℕ
-success_ends (test_of place) = place
-success_ends (cancel_of place) = place
-success_ends other = None
+abbrev pub success_ends : DomainState → DomainCall → Option ℕ
+success_ends s (test_of place) = place
+success_ends s (wait_for places says_place) = first_complete s places
+success_ends s (cancel_of place) = place
+success_ends s other = None
 
 -- the place of the packet that success releases
 abbrev pub success_releases : DomainCall → Option ℕ
@@ -41,7 +42,7 @@ success_releases other = None
 
 -- that of the request that a call ends, and of the packet that it releases
 abbrev pub place_ended : DomainState → ℕ → DomainCall → Option ℕ
-place_ended s node call = unless_refused (refusal s node call) None (success_ends call)
+place_ended s node call = unless_refused (refusal s node call) None (success_ends s call)
 
 abbrev pub place_released : DomainState → ℕ → DomainCall → Option ℕ
 place_released s node call = unless_refused (refusal s node call) None (success_releases call)

@@ -1,7 +1,7 @@
 -- What a domain keeps through any of its calls.
 -- Source: docs/PROFILE.md, "Lanes". Its number stays, and moves lead from its ends to those after the call; so the ends of a link
 -- between two domains still fit together.
-use Rattle.std.specs.Prelude.{◌≡◌, ℕ, List, Option}
+use Rattle.std.specs.Prelude.{◌≡◌, ℕ, Bool, List, Option}
 use Rattle.mc_base.specs.declared.request.RequestId.{RequestId}
 use Rattle.board_model.specs.DomainCall.{DomainCall}
 use Rattle.board_model.specs.Journal.{Line, PlainAnswer}
@@ -22,6 +22,7 @@ use Rattle.domain_core.specs.AllMoved.{AllMoved}
 use Rattle.domain_core.specs.DomainView.{DomainView}
 use Rattle.domain_core.specs.Calls.{Calls}
 use Rattle.domain_core.specs.Carrying.{AreLinked}
+use Rattle.domain_core.specs.Waiting.{Waits}
 
 pub record Goes {L : Type 0} (Moved : L → List LaneMove → L → Type 0) (old new : DomainView L) : Type 0 where
   pub number : new.state.number ≡ old.state.number
@@ -34,6 +35,10 @@ LinkedDomain S R = DomainView (Ends S R)
 
 abbrev pub CallsGoBy : {S R : Type 0} → (S → List SendMove → S → Type 0) → (R → List ReceiveMove → R → Type 0) → Type 0
 CallsGoBy {S} {R} Sent Received = (node : ℕ) (call : DomainCall) (old new : LinkedDomain S R) (lines lines' : List Line) (answered : PlainAnswer) (given : Option RequestId) → Calls (EndsMoved Sent Received) node call old new lines lines' answered given → Goes (EndsMoved Sent Received) old new
+
+-- and each wait
+abbrev pub WaitsGoBy : {S R : Type 0} → (S → List SendMove → S → Type 0) → (R → List ReceiveMove → R → Type 0) → Type 0
+WaitsGoBy {S} {R} Sent Received = (number limit : ℕ) (ids : List RequestId) (says_place : Bool) (old new : LinkedDomain S R) (lines lines' : List Line) (answered : Option PlainAnswer) → Waits (EndsMoved Sent Received) number limit ids says_place old new lines lines' answered → Goes (EndsMoved Sent Received) old new
 
 -- two domains that are linked stay so, whichever of them it is
 abbrev pub AreLinkedBy : {S R : Type 0} → (S → R → Type 0) → LinkedDomain S R → LinkedDomain S R → Type 0

@@ -27,6 +27,8 @@ pub mod Calls
 pub mod Parts
 pub mod Steps
 pub mod CallSteps
+pub mod Awaiting
+pub mod Waiting
 pub mod Verdicts
 pub mod Accepting
 pub mod Doing

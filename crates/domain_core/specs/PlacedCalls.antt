@@ -7,11 +7,11 @@ use Rattle.mc_base.specs.declared.name.Local.{Local}
 use Rattle.mc_base.specs.declared.refusal.Refusal.{Refusal}
 use Rattle.mc_base.specs.declared.channel.Side.TheVariants.{Receiver}
 use Rattle.mc_base.specs.declared.refusal.Refusal.TheVariants.{EndpInvalid}
-use Rattle.board_model.specs.DomainCall.{DomainCall, delete_at, receive_at, release_of, scalar_at, close_at, test_of}
+use Rattle.board_model.specs.DomainCall.{DomainCall, delete_at, receive_at, release_of, scalar_at, close_at, test_of, wait_for}
 use Rattle.board_model.specs.Lists.{changed, without, with_rising}
 use Rattle.board_model.specs.State.{DomainState, Endpoint, Item, Announcement, Peer, Asked, Outcome, has_ended, Request, request_at_place, packet_at_place, place_at, queue_at, place_of_peer, waits_at}
 use Rattle.board_model.specs.Choice.{best, oldest, without_best}
-use Rattle.board_model.specs.Answer.{local}
+use Rattle.board_model.specs.Answer.{first_complete, local}
 use Rattle.board_model.specs.CallChanges.{held_by, item_lent}
 use Rattle.domain_core.specs.PlacedFrames.{with_found}
 use Rattle.domain_core.specs.PlacedVisits.{with_peers}
@@ -68,4 +68,5 @@ success_returns s node (release_of place) = item_lent (packet_at_place s place)
 success_returns s node (scalar_at port bits) = option_to_list (oldest (queue_at s (local node port)))
 success_returns s node (receive_at port max) = option_to_list (best_queued s (local node port))
 success_returns s node (test_of request) = held_by (request_at_place s request)
+success_returns s node (wait_for requests says_place) = held_by (request_at_place s (first_complete s requests))
 success_returns s node other = []

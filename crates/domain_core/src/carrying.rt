@@ -10,7 +10,7 @@ ghost use Rattle.lane_end.specs.AnyLane.{AreEndsOfOneRing, EndsHaveMet};
 ghost use Rattle.domain_core.specs.AllMoved.{ends_of};
 ghost use Rattle.domain_core.specs.Carried.{MayMeet, PeersMeet};
 ghost use Rattle.domain_core.specs.Carrying.{AreJoined, HasShuttled, LinksMeet, leads_to};
-ghost use Rattle.domain_core.specs.Going.{CallsGoBy, StayLinkedBy};
+ghost use Rattle.domain_core.specs.Going.{CallsGoBy, StayLinkedBy, WaitsGoBy};
 
 use crate::ends::Ends;
 use crate::link::Link;
@@ -22,6 +22,12 @@ use lane_end::{AnyRecv, AnySend, PlainRecv, PlainSend, meet_ends, shuttle};
 pub fn calls_move_ends()
     ensures plain { CallsGoBy Sends Receives }
     ensures rings { CallsGoBy AnySends AnyReceives }
+{}
+
+/// Shows that each wait of a domain keeps its number and moves its ends, over plain lanes and over rings.
+pub fn waits_move_ends()
+    ensures plain { WaitsGoBy Sends Receives }
+    ensures rings { WaitsGoBy AnySends AnyReceives }
 {}
 
 /// Shows that two domains that are linked stay so, whatever calls each of them makes: so they can be carried again.

@@ -14,6 +14,7 @@ ghost use Rattle.domain_core.specs.Calls.{Calls, GivesTo, LendsBy, created, dele
 mod channels;
 mod data;
 mod opening;
+mod waits;
 
 use crate::ends::Ends;
 use crate::holdings::Holdings;
@@ -35,7 +36,8 @@ pub const CALL_BYTES: u32 = 67_584;
 ///
 /// Each call that takes a journal makes one turn first, notes it, and notes what it puts itself. It has the condition that
 /// there is room in the journal for `CALL_ENTRIES` entries of `CALL_BYTES` bytes together. Refusals are tested in the order
-/// told. A refused call changes nothing after its turn. No call uses more than that room.
+/// told. A refused call changes nothing after its turn. No call uses more than that room. Waits alone make as many turns as they
+/// need, and room for each.
 #[derive(Debug, Drop)]
 pub struct Domain<S: SendEnd, R: RecvEnd> {
     inside: Holdings<Ends<S, R>>,

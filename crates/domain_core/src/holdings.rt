@@ -20,6 +20,7 @@ mod owed;
 mod request_calls;
 mod taking;
 mod turns;
+mod wait_calls;
 
 use crate::endpoints::Endpoints;
 use crate::messages::write;

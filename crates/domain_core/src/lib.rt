@@ -1,6 +1,6 @@
 //! One domain over its own lane and its links. What it does is noted in a journal.
 //!
-//! A domain takes memory where it is opened. No other call takes any.
+//! A domain takes memory where it is opened. No other call takes any, but that a wait makes room in the journal for its turns.
 #![tactic(auto)]
 
 mod announcements;
@@ -23,8 +23,9 @@ mod peers;
 mod replies;
 mod requests;
 mod threads;
+mod wait_fault;
 
-pub use carrying::{MeetingEnds, calls_move_ends, domains_stay_linked};
+pub use carrying::{MeetingEnds, calls_move_ends, domains_stay_linked, waits_move_ends};
 pub use domain::{CALL_BYTES, CALL_ENTRIES, Domain, Places, carry, carry_rings};
 pub use ends::Ends;
 pub use fates::fault_fate;
@@ -34,3 +35,4 @@ pub use peer::Peer;
 pub use peer_lane::PeerLane;
 pub use replies::{Replies, Reply};
 pub use threads::{domain_may_cross_threads, domain_may_move, may_cross_threads};
+pub use wait_fault::WaitFault;

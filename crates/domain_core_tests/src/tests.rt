@@ -342,6 +342,7 @@ fn told(entry: Entry<'_>) -> Line {
         Entry::Idle { turns } => (b'i', 0, turns, 0),
         Entry::Again { .. } => (b'a', 0, 0, 0),
         Entry::Spin { times, .. } => (b'w', 0, times, 0),
+        Entry::WaitStart { number } => (b'v', u64::from(number), 0, 0),
         Entry::Called { number, .. } => (b'c', u64::from(number), 0, 0),
     }
 }

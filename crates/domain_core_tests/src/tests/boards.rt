@@ -9,7 +9,7 @@ ghost use Rattle.linked_pair.specs.Links.{IsOpen};
 use super::steps::Said::{Accepted, Address, Connected, Held, Idle, Message, Number, Rejected};
 use super::steps::Step::{
     Available, Begin, Cancel, CloseRecv, CloseSend, Connect, Delete, Lookup, OpenRecv, OpenSend,
-    Plain, SendPacket, Test, Turn,
+    Plain, SendPacket, Test, Turn, Wait,
 };
 use super::steps::{self, Step, stepped};
 use super::*;
@@ -21,6 +21,7 @@ use std::marker::Model;
 mod announcements;
 mod channels;
 mod messages;
+mod waits;
 
 /// What one of the domains does, that their link is carried, or what is asked of them.
 #[derive(Clone, Copy)]

@@ -1,16 +1,19 @@
 //! Calls one after the other, some of which name a request that an earlier one began.
 
-ghost use Rattle.std.specs.Prelude.{◌≤◌};
+ghost use Rattle.std.specs.Prelude.{◌≡◌, ◌≤◌, length};
 ghost use Rattle.domain_core.specs.Ends.{EndsMoved};
 ghost use Rattle.domain_core.specs.Going.{Goes};
 
 use super::*;
+use arrayvec::ArrayVec;
+use domain_core::WaitFault;
 use mc_base::{Bits, Done, Kind, PacketId, Reason};
 
 mod channels;
 mod data;
 mod endpoints;
 mod requests;
+mod waits;
 
 /// A scalar with its bits.
 #[derive(Clone, Copy)]
@@ -57,6 +60,12 @@ pub enum Step {
     Test(u64, u8),
     /// Cancels a request.
     Cancel(u64),
+    /// Waits for a request, for at most so many turns. The message or packet that comes has this byte throughout.
+    Wait(u32, u64, u8),
+    /// The same for one of several, where it is the one at this place that ends.
+    WaitAny(u32, [u64; 8], u8, u8),
+    /// Asks for the first place whose request is complete, and answers 0 where none is.
+    Settled([u64; 8]),
     /// Makes a turn.
     Turn,
 }
@@ -64,7 +73,7 @@ pub enum Step {
 use Step::{
     Available, Begin, BeginPacket, Cancel, CloseRecv, CloseSend, Connect, Delete, Lookup, OpenRecv,
     OpenSend, Plain, ReadPacket, ReceivePacket, ReceiveScalar, Release, SendPacket, SendScalar,
-    Test, Turn,
+    Settled, Test, Turn, Wait, WaitAny,
 };
 
 /// What a call tells that is not refused.
@@ -105,6 +114,23 @@ fn id_of(ids: &[RequestId], serial: u64) -> RequestId {
         }
     }
     RequestId { key: 0, serial }
+}
+
+/// The ids with these serials.
+fn ids_of(ids: &[RequestId], serials: [u64; 8]) -> ArrayVec<RequestId, 8>
+    ensures { length result.items ≡ 8 }
+{
+    let [a, b, c, d, e, f, g, h] = serials;
+    ArrayVec::from([
+        id_of(ids, a),
+        id_of(ids, b),
+        id_of(ids, c),
+        id_of(ids, d),
+        id_of(ids, e),
+        id_of(ids, f),
+        id_of(ids, g),
+        id_of(ids, h),
+    ])
 }
 
 /// Makes a call. Answers `None` where a message has other bytes than it must.
@@ -188,6 +214,14 @@ pub fn stepped<S: SendEnd, R: RecvEnd>(
         Cancel(serial) => {
             let answer = domain.cancel(journal, id_of(ids, serial));
             Ok(Some(answer.map(|()| Number(0))))
+        }
+        Wait(limit, serial, byte) => waited(domain, journal, id_of(ids, serial), limit, byte),
+        WaitAny(limit, serials, place, byte) => {
+            waited_any(domain, journal, &ids_of(ids, serials), limit, place, byte)
+        }
+        Settled(serials) => {
+            let place = domain.settled(&ids_of(ids, serials)).unwrap_or(0);
+            Ok(Some(Ok(Number(u64::from(place)))))
         }
         Turn => Ok(Some(Ok(Idle(domain.turn(journal))))),
     }
@@ -284,19 +318,95 @@ fn tested<S: SendEnd, R: RecvEnd>(
 {
     let mut out = [0xee; 488];
     let answer = domain.test(journal, id, &mut out);
+    ended(domain, answer, &out, byte)
+}
+
+/// Waits for a request, by a line of the number 7.
+fn waited<S: SendEnd, R: RecvEnd>(
+    domain: &mut Domain<S, R>,
+    journal: &mut Journal,
+    id: RequestId,
+    limit: u32,
+    byte: u8,
+) -> Result<Option<Answered>, NoMemory>
+    requires entry_room { 160 ≤ journal.old.entry_room }
+    requires byte_room { 67584 ≤ journal.old.byte_room }
+    ensures { Goes (EndsMoved S.Moved R.Moved) domain.old domain.new }
+{
+    let mut out = [0xee; 488];
+    let answer = domain.wait(journal, 7, id, limit, &mut out);
+    ended_wait(domain, answer, &out, byte)
+}
+
+/// Waits for one of several requests. Answers `None` where another ends than the one at this place.
+fn waited_any<S: SendEnd, R: RecvEnd>(
+    domain: &mut Domain<S, R>,
+    journal: &mut Journal,
+    ids: &ArrayVec<RequestId, 8>,
+    limit: u32,
+    place: u8,
+    byte: u8,
+) -> Result<Option<Answered>, NoMemory>
+    requires some { 1 ≤ length ids.now.items }
+    requires entry_room { 160 ≤ journal.old.entry_room }
+    requires byte_room { 67584 ≤ journal.old.byte_room }
+    ensures { Goes (EndsMoved S.Moved R.Moved) domain.old domain.new }
+{
+    let mut out = [0xee; 488];
+    let answer = domain.wait_any(journal, 7, ids, limit, &mut out);
+    ended_at(domain, answer, place, &out, byte)
+}
+
+/// What the end of a wait for one of several tells.
+fn ended_at<S: SendEnd, R: RecvEnd>(
+    domain: &Domain<S, R>,
+    answer: Result<(u8, Done), WaitFault>,
+    place: u8,
+    out: &[u8],
+    byte: u8,
+) -> Result<Option<Answered>, NoMemory> {
+    match answer {
+        Ok((at, done)) => {
+            if at != place {
+                return Ok(None);
+            }
+            ended_wait(domain, Ok(done), out, byte)
+        }
+        Err(fault) => ended_wait(domain, Err(fault), out, byte),
+    }
+}
+
+/// What the end of a wait tells.
+fn ended_wait<S: SendEnd, R: RecvEnd>(
+    domain: &Domain<S, R>,
+    answer: Result<Done, WaitFault>,
+    out: &[u8],
+    byte: u8,
+) -> Result<Option<Answered>, NoMemory> {
+    match answer {
+        Ok(done) => Ok(ended(domain, Ok(done), out, byte)),
+        Err(WaitFault::Refused(word)) => Ok(ended(domain, Err(word), out, byte)),
+        Err(WaitFault::NoMemory) => Err(NoMemory),
+    }
+}
+
+/// What the end of a request tells. Answers `None` where what came has another byte, or where more than that was written.
+fn ended<S: SendEnd, R: RecvEnd>(
+    domain: &Domain<S, R>,
+    answer: Result<Done, Refusal>,
+    out: &[u8],
+    byte: u8,
+) -> Option<Answered> {
     let (answer, given) = match answer {
         Ok(Done::Message(got)) => (Ok(Message(got.size, got.given)), got.given),
         Ok(Done::Address(address)) => (Ok(Address(address)), 0),
         Ok(Done::Accepted) => (Ok(Accepted), 0),
         Ok(Done::Rejected(reason)) => (Ok(Rejected(reason)), 0),
         Ok(Done::Ended(word)) => (Ok(Ended(word)), 0),
-        Ok(Done::Packet(id)) => match lent(domain, id, byte) {
-            Some(answer) => (answer, 0),
-            None => return None,
-        },
+        Ok(Done::Packet(id)) => (lent(domain, id, byte)?, 0),
         Err(word) => (Err(word), 0),
     };
-    if !is_given(&out, given as usize, byte) {
+    if !is_given(out, given as usize, byte) {
         return None;
     }
     Some(answer)

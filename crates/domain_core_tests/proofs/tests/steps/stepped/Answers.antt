@@ -55,3 +55,6 @@ returns-in-ReceiveScalar g c = ends-go g.S.SendEnd.Moved g.R.RecvEnd.Moved g.met
 
 pub returns-in-ReadPacket : goal.returns-in-ReadPacket
 returns-in-ReadPacket g c = stays g.S.SendEnd.Moved g.R.RecvEnd.Moved g.met.S.SendEnd.none g.met.R.RecvEnd.none c.args.domain.now
+
+pub returns-in-Settled : goal.returns-in-Settled
+returns-in-Settled g c = stays g.S.SendEnd.Moved g.R.RecvEnd.Moved g.met.S.SendEnd.none g.met.R.RecvEnd.none c.args.domain.now

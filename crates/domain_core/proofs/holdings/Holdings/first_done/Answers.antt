@@ -1,0 +1,18 @@
+use Rattle.std.proofs.Common.{◌≡◌, ◌∙◌, refl, subst}
+use Rattle.domain_core.specs.Awaiting.{first_complete_in}
+use Rattle.domain_core.specs.CallSteps.{Rests}
+use Rattle.domain_core.specs.Parts.{Holding, holding_in, shown, state_of}
+use Rattle.domain_core.proofs.Stepping.{quiet-moved}
+use Rattle.domain_core.proofs.WaitPlaces.{first-done, some-within}
+use Rattle.domain_core.proofs.holdings.Holdings.first_done.Goals as goal
+
+pub returns : goal.returns
+returns g c =
+    let d = c.self.inside in
+    let h = holding_in g.P.PeerLane.seen d.book d.endpoints d.requests d.table d.peers.items in
+    let first = c.first_done.ensures ∙ first-done d.book d.requests (state_of h.parts) refl c.args.ids.now in
+    record {
+      first = subst (λ (x : Holding g.row.P.Denot). c.first_done.result ≡ first_complete_in c.args.ids.now (shown x)) c.self.view_is first;
+      within = some-within c.args.ids.now (shown h) c.first_done.result first;
+      rests = subst (λ (x : Holding g.row.P.Denot). Rests g.P.PeerLane.Moved x) c.self.view_is (quiet-moved g.P.PeerLane.Moved g.met.P.PeerLane.none g.P.PeerLane.seen d.peers.items);
+    }

@@ -1,0 +1,84 @@
+//! The calls that wait for requests.
+
+ghost use Rattle.std.specs.Prelude.{◌≡◌, ◌≤◌, ◌∷◌, [], false, true, IfOk, OnErr, length};
+ghost use Rattle.domain_core.specs.Awaiting.{first_settled};
+ghost use Rattle.domain_core.specs.Calls.{GivesTo, LendsBy};
+ghost use Rattle.domain_core.specs.DomainView.{packet_lent_as};
+ghost use Rattle.domain_core.specs.Ends.{EndsMoved};
+ghost use Rattle.domain_core.specs.Room.{call_bytes, call_entries};
+ghost use Rattle.domain_core.specs.Waiting.{Waits, waited, waited_any};
+
+use crate::domain::Domain;
+use crate::wait_fault::WaitFault;
+use arrayvec::ArrayVec;
+use lane_end::{RecvEnd, SendEnd};
+use mc_base::{Done, RequestId};
+use mc_journal::Journal;
+
+impl<S: SendEnd, R: RecvEnd> Domain<S, R> {
+    /// Waits for a request until it is complete, for at most `limit` turns, and ends it then, as `test` does. `number` is that of the
+    /// wait's line. Where the request is complete at once it makes no turn; else it notes that it begins, and then its turns.
+    ///
+    /// # Errors
+    ///
+    /// `Refused` with `RequestInvalid`, without a turn, where no request has the id, and with `Timeout` exactly after `limit` turns,
+    /// none of which completed the request. `NoMemory` where there is no memory for the journal of the next turn: the state is
+    /// as after the last whole turn.
+    pub fn wait(
+        &mut self,
+        journal: &mut Journal,
+        number: u32,
+        id: RequestId,
+        limit: u32,
+        out: &mut [u8],
+    ) -> Result<Done, WaitFault>
+        requires entry_room { call_entries ≤ journal.old.entry_room }
+        requires byte_room { call_bytes ≤ journal.old.byte_room }
+        requires out { 488 ≤ length out.old }
+        ensures wait { Waits (EndsMoved S.Moved R.Moved) number limit (id ∷ []) false self.old self.new journal.old.lines journal.new.lines (waited result out.new (packet_lent_as self.new)) }
+        ensures message { IfOk result (λ done. GivesTo done out.old out.new) }
+        ensures lent { IfOk result (LendsBy self.old self.new) }
+        ensures refused { OnErr result (out.new ≡ out.old) }
+    {
+        let (_, done) = self.inside.wait_for(journal, number, &[id], limit, out)?;
+        Ok(done)
+    }
+
+    /// Waits for one of several requests as `wait` does for one. It returns the first place in the list, counted from 1, whose
+    /// request is complete, and ends that request alone.
+    ///
+    /// # Errors
+    ///
+    /// As `wait`; `RequestInvalid` exactly where one of the requests does not exist.
+    pub fn wait_any(
+        &mut self,
+        journal: &mut Journal,
+        number: u32,
+        ids: &ArrayVec<RequestId, 8>,
+        limit: u32,
+        out: &mut [u8],
+    ) -> Result<(u8, Done), WaitFault>
+        requires some { 1 ≤ length ids.now.items }
+        requires entry_room { call_entries ≤ journal.old.entry_room }
+        requires byte_room { call_bytes ≤ journal.old.byte_room }
+        requires out { 488 ≤ length out.old }
+        ensures wait { Waits (EndsMoved S.Moved R.Moved) number limit ids.now.items true self.old self.new journal.old.lines journal.new.lines (waited_any result out.new (packet_lent_as self.new)) }
+        ensures message { IfOk result (λ x. GivesTo x.1 out.old out.new) }
+        ensures lent { IfOk result (λ x. LendsBy self.old self.new x.1) }
+        ensures refused { OnErr result (out.new ≡ out.old) }
+    {
+        let (at, done) = self
+            .inside
+            .wait_for(journal, number, ids.as_slice(), limit, out)?;
+        Ok((at as u8 + 1, done))
+    }
+
+    /// Returns the first place in the list, counted from 1, whose request is complete, or `None` where none is. It makes no turn.
+    pub fn settled(&self, ids: &ArrayVec<RequestId, 8>) -> Option<u8>
+        requires { 1 ≤ length ids.now.items }
+        ensures { result ≡ first_settled ids.now.items self.now }
+    {
+        let at = self.inside.first_done(ids.as_slice())?;
+        Some(at as u8 + 1)
+    }
+}
