@@ -1,5 +1,5 @@
 -- Two domains that were opened over a link are linked, and stay so through each call.
-use Rattle.std.proofs.Common.{◌≡◌, ◌∙◌, ℕ, List, [], ◌∷◌, Option, Some, None, cond, refl, sym, ap, subst, eq-eqb}
+use Rattle.std.proofs.Common.{◌≡◌, ◌∙◌, ℕ, Bool, List, [], ◌∷◌, Option, Some, None, cond, refl, sym, ap, subst, eq-eqb}
 use Rattle.std.specs.Prelude.{nat_lt, find, ◌==◌}
 use Rattle.std.proofs.lemmas.Bool.{cond_both}
 use Rattle.std.proofs.lemmas.List.FromFn.{length-range_with_len}
@@ -17,7 +17,8 @@ use Rattle.domain_core.specs.Ends.{EndsMoved}
 use Rattle.domain_core.specs.Calls.{Calls}
 use Rattle.domain_core.specs.Opening.{ends_opened, links_in}
 use Rattle.domain_core.specs.Carrying.{PlainLink, link_to}
-use Rattle.domain_core.specs.Going.{AreLinkedDomains, CallsGoBy, PlainDomain, StayLinkedBy}
+use Rattle.domain_core.specs.Going.{AreLinkedDomains, CallsGoBy, PlainDomain, StayLinkedBy, WaitsGoBy}
+use Rattle.domain_core.specs.Waiting.{Waits}
 use Rattle.linked_pair.specs.Links.{IsOpen, new_link}
 use Rattle.linked_pair.specs.Pair.{IsOpened}
 use Rattle.linked_pair.specs.declared.member.Member.{Member}
@@ -63,3 +64,10 @@ module _ (node : ℕ) (call : DomainCall) (old new other : PlainDomain) (lines l
 
   pub second-calls : AreLinkedDomains other old → AreLinkedDomains other new
   second-calls linked = (stay old new other (go node call old new lines lines' answered given calls)).1 linked
+
+module _ (number limit : ℕ) (ids : List RequestId) (says_place : Bool) (old new other : PlainDomain) (lines lines' : List Line) (answered : Option PlainAnswer) (go : WaitsGoBy Sends Receives) (stay : StayLinkedBy Sends Receives AreOneLane) (waits : Waits (EndsMoved Sends Receives) number limit ids says_place old new lines lines' answered) where
+  pub first-waits : AreLinkedDomains old other → AreLinkedDomains new other
+  first-waits linked = (stay old new other (go number limit ids says_place old new lines lines' answered waits)).0 linked
+
+  pub second-waits : AreLinkedDomains other old → AreLinkedDomains other new
+  second-waits linked = (stay old new other (go number limit ids says_place old new lines lines' answered waits)).1 linked

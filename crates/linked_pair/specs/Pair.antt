@@ -1,6 +1,6 @@
 -- Two linked domains, and the calls of each.
 -- Source: docs/PROFILE.md, "Boards" and "Calls".
-use Rattle.std.specs.Prelude.{◌≡◌, ◌≤◌, ℕ, List, [], ◌∷◌, Option, None}
+use Rattle.std.specs.Prelude.{◌≡◌, ◌≤◌, ℕ, Bool, List, [], ◌∷◌, Option, None}
 use Rattle.mc_base.specs.declared.request.RequestId.{RequestId}
 use Rattle.mc_base.specs.declared.request.Slot.{Slot}
 use Rattle.buffer_book.specs.Book.{kept_at}
@@ -14,6 +14,7 @@ use Rattle.domain_core.specs.Ends.{EndsMoved}
 use Rattle.domain_core.specs.Calls.{Calls}
 use Rattle.domain_core.specs.Opening.{ends_opened, neighbours_opened}
 use Rattle.domain_core.specs.Going.{PlainDomain}
+use Rattle.domain_core.specs.Waiting.{Waits}
 use Rattle.linked_pair.specs.Links.{new_link}
 use Rattle.linked_pair.specs.declared.member.Member.{Member}
 use Rattle.linked_pair.specs.declared.member.Which.{Which}
@@ -35,6 +36,11 @@ other_of Two p = p.one
 -- a call of one of them; the other stays as it is
 pub record CallsAt (which : Which) (node : ℕ) (call : DomainCall) (old new : Pair) (lines lines' : List Line) (answered : PlainAnswer) (given : Option RequestId) : Type 0 where
   pub calls : Calls (EndsMoved Sends Receives) node call (domain_of which old) (domain_of which new) lines lines' answered given
+  pub stays : other_of which new ≡ other_of which old
+
+-- a wait of one of them; the other stays as it is
+pub record WaitsAt (which : Which) (number limit : ℕ) (ids : List RequestId) (says_place : Bool) (old new : Pair) (lines lines' : List Line) (answered : Option PlainAnswer) : Type 0 where
+  pub waits : Waits (EndsMoved Sends Receives) number limit ids says_place (domain_of which old) (domain_of which new) lines lines' answered
   pub stays : other_of which new ≡ other_of which old
 
 -- numbers with which a domain may be opened
