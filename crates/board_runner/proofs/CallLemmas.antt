@@ -16,7 +16,7 @@ use Rattle.board_model.specs.DomainCall.{DomainCall}
 use Rattle.board_model.specs.Change.{changed_all}
 use Rattle.board_model.specs.CallChanges.{call_changes, effect, returned, success_changes, success_returned}
 use Rattle.board_model.specs.Journal.{Line, PlainEntry, again, called, PlainAnswer, refuses, agrees, tells, connects, gives, completes, noted, noted_all, joined, call_line, again_line}
-use Rattle.board_model.specs.Labels.{Labels, request_given, success_request, packet_given, success_packet, lending_label, with_label}
+use Rattle.board_model.specs.Labels.{Labels, call_of, request_given, success_request, packet_given, success_packet, lending_label, with_label}
 use Rattle.board_model.specs.Lists.{without}
 use Rattle.board_model.specs.Loads.{Load, loads_given, with_returned}
 use Rattle.board_model.specs.Scenario.{script, label_in}
@@ -38,10 +38,12 @@ use Rattle.mc_journal.specs.Entry.{plain_answer}
 use Rattle.board_runner.specs.declared.station.Station.{Station}
 use Rattle.board_runner.specs.declared.line.Made.{Made}
 use Rattle.board_runner.specs.Held.{id_for, told_for, TellsId}
+use Rattle.board_runner.specs.LendingLabels.{lending_label_by}
 use Rattle.board_runner.specs.Lines.{dropped_by, NotesAgain, NotesCalled}
 use Rattle.board_runner.specs.Near.{RunDomain, peers_of, EndsMatch}
 use Rattle.board_runner.specs.Stations.{HoldsIds, HoldsPackets, HoldsLabels, IsStation}
 use Rattle.board_runner.proofs.HeldLemmas.{holds_after, holds_same}
+use Rattle.board_runner.proofs.LendingLemmas.{lent_under}
 use Rattle.board_runner.proofs.PacketLemmas.{packets_after, packets_stay}
 
 -- ---- the lines of a journal
@@ -81,8 +83,8 @@ call_deletes sc ps k a line is =
 
 -- ---- where the entries lead
 
-after_called : (sc : List CallLine) (r : RunState) (ps : List (ℕ × List ℕ)) (k : ℕ) (a : PlainAnswer) (line : CallLine) → next_line sc r ≡ Some line → after_all sc r (call_entries ps k a) ≡ called_run r line
-after_called sc r [] k a line here = ap (λ (o : Option CallLine). record { state = effect_of_line o r; lines_called = r.lines_called + 1; calls_made = 0; labels = labels_of_line o r; put_since_turn = None }) here
+pub after_called : (sc : List CallLine) (r : RunState) (ps : List (ℕ × List ℕ)) (k : ℕ) (a : PlainAnswer) (line : CallLine) → next_line sc r ≡ Some line → after_all sc r (call_entries ps k a) ≡ called_run r line
+after_called sc r [] k a line here = ap (λ (o : Option CallLine). record { state = effect_of_line o r; lines_called = r.lines_called + 1; calls_made = 0; labels = labels_of_line o r; put_since_turn = None; waited = None }) here
 after_called sc r (p ∷ ps) k a line here = after_called sc (after sc r (put_entry p)) ps k a line here
 
 -- ---- the station of a domain that made a call
@@ -150,19 +152,27 @@ module _ (s : Scenario) (t : run.Station) (line : CallLine) (st called_to new : 
   tells_ids : TellsId (label_in line) m.given st.ids new.ids
   tells_ids = subst (λ ids. (other : List ℕ) → id_for new.ids other ≡ option_or (id_for ids other) (told_for (label_in line) m.given other)) h.ids notes.ids
 
-  tells_packets : TellsId (lending_label line.call (label_in line)) m.lent st.packets new.packets
-  tells_packets = subst (λ ids. (other : List ℕ) → id_for new.packets other ≡ option_or (id_for ids other) (told_for (lending_label line.call (label_in line)) m.lent other)) h.packets notes.packets
+  same_call : call ≡ call_of t.run.labels st.domain.state line.call
+  same_call = h.call_is ∙ ap (λ (x : DomainState). call_of t.run.labels x line.call) (sym h.stands.state)
+
+  tells_packets : TellsId (lending_label t.run.labels st.domain.state line.call (label_in line)) m.lent st.packets new.packets
+  tells_packets =
+      let under = lending_label_by line.call (plain_answer m.answer) (label_in line) in
+      lent_under t.run.labels st.domain.state line.node line.call (label_in line) (plain_answer m.answer) m.lent st.packets new.packets
+      (h.does.answer ∙ ap (λ (c : DomainCall). answer st.domain.state line.node c) same_call)
+      (ap (option_map (λ (i : PacketId). i.serial)) h.lends ∙ h.does.lends ∙ ap (λ (c : DomainCall). packet_given st.domain.state line.node c) same_call)
+      (subst (λ ids. (other : List ℕ) → id_for new.packets other ≡ option_or (id_for ids other) (told_for under m.lent other)) h.packets notes.packets)
 
   labels_now : Labels
   labels_now = record {
     requests = with_label t.run.labels.requests (label_in line) (request_given st.domain.state line.node call);
-    packets = with_label t.run.labels.packets (lending_label line.call (label_in line)) (packet_given st.domain.state line.node call);
+    packets = with_label t.run.labels.packets (lending_label t.run.labels st.domain.state line.call (label_in line)) (packet_given st.domain.state line.node call);
   }
 
   labels_are : labels_now ≡ (entered_all s entries t).run.labels
   unfolding labels_now
   labels_are =
-      ap₂ (λ (x : DomainState) (c : DomainCall). record { requests = with_label t.run.labels.requests (label_in line) (request_given x line.node c); packets = with_label t.run.labels.packets (lending_label line.call (label_in line)) (packet_given x line.node c) }) h.stands.state h.call_is
+      ap₂ (λ (x : DomainState) (c : DomainCall). record { requests = with_label t.run.labels.requests (label_in line) (request_given x line.node c); packets = with_label t.run.labels.packets (lending_label t.run.labels x line.call (label_in line)) (packet_given x line.node c) }) h.stands.state h.call_is
       ∙ sym (ap (λ (r : RunState). r.labels) leads)
 
   held_now : HoldsLabels called_to.domain new.ids new.packets labels_now (t.run.lines_called + 1)
@@ -172,7 +182,7 @@ module _ (s : Scenario) (t : run.Station) (line : CallLine) (st called_to new : 
       let fits = few in
       record {
         requests = holds_after st.domain called_to.domain st.ids new.ids t.run.labels.requests t.run.lines_called line.node call (label_in line) m.given (omega (arith, fits, h.stands.number)) held.requests h.does.state h.does.ids h.does.fresh h.gives tells_ids;
-        packets = packets_after st.domain called_to.domain st.packets new.packets t.run.labels.packets t.run.lines_called line.node call (lending_label line.call (label_in line)) m.lent (omega (arith, fits, h.stands.number)) held.packets h.does.state
+        packets = packets_after st.domain called_to.domain st.packets new.packets t.run.labels.packets t.run.lines_called line.node call (lending_label t.run.labels st.domain.state line.call (label_in line)) m.lent (omega (arith, fits, h.stands.number)) held.packets h.does.state
             (h.does.packets ∙ ap (λ (o : Option PacketId). without (place_released st.domain.state line.node call) st.domain.packets ++ option_to_list o) (sym h.lends)) (ap (option_map (λ (i : PacketId). i.serial)) h.lends ∙ h.does.lends) tells_packets;
       }
 
@@ -215,20 +225,23 @@ tried_word (connects request channel) e = absurd cc
 tried_word (gives size bytes) e = absurd cc
 tried_word (completes place how) e = absurd cc
 
--- so does one whose word is one of those with which it is made again
-pub tried_nothing : (s : DomainState) (node : ℕ) (call : DomainCall) → is_tried (answer s node call) ≡ true → DoesNothing s node call
-tried_nothing s node call e =
-    let tried = tried_word (answer s node call) e in
-    let is = refused-is s node tried.0 call tried.1 in
+-- so does one that is refused
+pub refused_nothing : (s : DomainState) (node : ℕ) (word : Refusal) (call : DomainCall) → refuses word ≡ answer s node call → DoesNothing s node call
+refused_nothing s node word call e =
+    let is = refused-is s node word call e in
     record {
       effect_is = ap (λ (o : Option Refusal). changed_all s (unless_refused o [] (success_changes s node call))) is;
       puts_none = ap (λ (o : Option Refusal). unless_refused o [] (success_puts s node call)) is;
       returns_none = ap (λ (o : Option Refusal). unless_refused o [] (success_returned s node call)) is;
       gives_none = ap (λ (o : Option Refusal). unless_refused o None (success_request s call)) is;
-      ends_none = ap (λ (o : Option Refusal). unless_refused o None (success_ends call)) is;
+      ends_none = ap (λ (o : Option Refusal). unless_refused o None (success_ends s call)) is;
       releases_none = ap (λ (o : Option Refusal). unless_refused o None (success_releases call)) is;
       lends_none = ap (λ (o : Option Refusal). unless_refused o None (success_packet s call)) is;
     }
+
+-- and one whose word is one of those with which it is made again
+pub tried_nothing : (s : DomainState) (node : ℕ) (call : DomainCall) → is_tried (answer s node call) ≡ true → DoesNothing s node call
+tried_nothing s node call e = let tried = tried_word (answer s node call) e in refused_nothing s node tried.0 call tried.1
 
 -- and so it leaves the lanes
 pub nothing_given : (d : ℕ) (loads : List Load) → loads_given d [] loads ≡ loads

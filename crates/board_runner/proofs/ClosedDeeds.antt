@@ -17,7 +17,7 @@ use Rattle.board_model.specs.CallChanges.{at_live}
 use Rattle.board_model.specs.ChannelEnds.{closes, same_side, hears_from}
 use Rattle.board_model.specs.Channels.{contents_of, lost_by, is_numbered}
 use Rattle.board_model.specs.Deeds.{Deed, looks_back, puts_owed, looks_ahead, takes, calls, MayDo, AllMayDo, after_deed, along}
-use Rattle.board_model.specs.DomainCall.{DomainCall, create_at, delete_at, lookup_of, send_from, receive_at, request_at, available_at, connect_from, open_at, packet_from, lend_at, packet_request_at, release_of, scalar_from, scalar_at, close_at, test_of, cancel_of, turn_alone}
+use Rattle.board_model.specs.DomainCall.{DomainCall, create_at, delete_at, lookup_of, send_from, receive_at, request_at, available_at, connect_from, open_at, packet_from, lend_at, packet_request_at, release_of, scalar_from, scalar_at, close_at, test_of, wait_for, cancel_of, turn_alone}
 use Rattle.board_model.specs.Journal.{PlainAnswer, refuses, agrees, tells, connects, gives, completes}
 use Rattle.board_model.specs.State.{Item, ChannelEnd, Endpoint, DomainState, Announcement, Reply, Peer, announcing, replying, owed_to, letter_by, is_at, live_at, queue_at, queue_in, channel_in}
 use Rattle.board_model.specs.Tallies.{number_told}
@@ -162,6 +162,7 @@ module _ (o n : ℕ) where
   refused_told s node (scalar_from port bits value) word = refl
   refused_told s node (scalar_at port bits) word = refl
   refused_told s node (test_of request) word = refl
+  refused_told s node (wait_for requests says_place) word = refl
   refused_told s node (cancel_of request) word = refl
   refused_told s node turn_alone word = refl
 
@@ -186,6 +187,7 @@ module _ (o n : ℕ) where
   success_told s sound owned node (scalar_from port bits value) none read = zero_if _
   success_told s sound owned node (scalar_at port bits) none read = refl
   success_told s sound owned node (test_of request) none read = refl
+  success_told s sound owned node (wait_for requests says_place) none read = refl
   success_told s sound owned node (cancel_of request) none read = refl
   success_told s sound owned node turn_alone none read = refl
 

@@ -7,7 +7,7 @@ use Rattle.std.specs.List.{list_all, AllByRecursion}
 use Rattle.std.proofs.lemmas.Option.{slice_get_within, get_or_from_slice_get}
 use Rattle.std.proofs.lemmas.List.{append_assoc, append-nil}
 use Rattle.mc_base.specs.declared.refusal.Refusal.{Refusal}
-use Rattle.board_model.specs.Journal.{PlainEntry, turned, put, again, called, PlainAnswer, Visit, Taken, Line, idle_line, again_line, spin_line, turn_line, back_line, put_line, see_line, take_line, call_line, is_idle, looked, taken_line, visit_lines, joinable, with_idle, noted_idle, spinning, with_spin, noted_spin, is_one_idle, noted, noted_again}
+use Rattle.board_model.specs.Journal.{PlainEntry, turned, put, again, waits, called, PlainAnswer, Visit, Taken, Line, idle_line, again_line, spin_line, turn_line, back_line, put_line, see_line, take_line, wait_line, call_line, is_idle, looked, taken_line, visit_lines, joinable, with_idle, noted_idle, spinning, with_spin, noted_spin, is_one_idle, noted, noted_again}
 use Rattle.board_model.specs.Words.{same_word}
 use Rattle.board_model.specs.Tallies.{number_told}
 use Rattle.board_model.proofs.MessageAlls.{all-append}
@@ -115,6 +115,7 @@ module _ (o n : ℕ) where
   joinable_tells (Some (put_line p f)) k e = absurd cc
   joinable_tells (Some (see_line p j)) k e = absurd cc
   joinable_tells (Some (take_line p f w)) k e = absurd cc
+  joinable_tells (Some (wait_line j)) k e = absurd cc
   joinable_tells (Some (call_line j a)) k e = absurd cc
 
   idle_leaves : (lines : List Line) (x : Option ℕ) → joinable (slice_get lines (length lines - 1)) ≡ x → Leaves lines (with_idle x lines)
@@ -137,6 +138,7 @@ module _ (o n : ℕ) where
   spinning_tells word (Some (put_line p f)) k e = absurd cc
   spinning_tells word (Some (see_line p j)) k e = absurd cc
   spinning_tells word (Some (take_line p f w)) k e = absurd cc
+  spinning_tells word (Some (wait_line j)) k e = absurd cc
   spinning_tells word (Some (call_line j a)) k e = absurd cc
 
   spin_leaves : (word : Refusal) (lines : List Line) (x : Option ℕ) → spinning word (slice_get lines (length lines - 1)) ≡ x → Leaves lines (with_spin word x lines)
@@ -155,6 +157,7 @@ module _ (o n : ℕ) where
   one_idle_tells (Some (put_line p f)) e = absurd cc
   one_idle_tells (Some (see_line p k)) e = absurd cc
   one_idle_tells (Some (take_line p f w)) e = absurd cc
+  one_idle_tells (Some (wait_line k)) e = absurd cc
   one_idle_tells (Some (call_line k a)) e = absurd cc
 
   again_by : (word : Refusal) (lines : List Line) (b : Bool) → is_one_idle (slice_get lines (length lines - 1)) ≡ b → Leaves lines (cond b (noted_spin word (take (length lines - 1) lines)) (lines ++ again_line word ∷ []))
@@ -223,6 +226,15 @@ module _ (o n : ℕ) where
 
   pub put-closing : (lines : List Line) (p : ℕ) (f : List ℕ) → closing (noted lines (put p f)) ≡ is_close_put o n (put_line p f)
   put-closing lines p f = closing-append false lines (put_line p f ∷ [])
+
+  wait_mute : (k : ℕ) → IsMute (wait_line k)
+  wait_mute k = record { closes = refl; tells = refl }
+
+  pub waits-closed : (lines : List Line) (k : ℕ) → closed_in (noted lines (waits k)) ≡ closed_in lines
+  waits-closed lines k = end-closed lines (wait_line k) (wait_mute k)
+
+  pub waits-closing : (lines : List Line) (k : ℕ) → closing (noted lines (waits k)) ≡ false
+  waits-closing lines k = end-closing lines (wait_line k) (wait_mute k)
 
   pub called-closed : (lines : List Line) (k : ℕ) (a : PlainAnswer) → closed_in (noted lines (called k a)) ≡ closed_in lines + cond (closing lines) (number_told a) 0
   called-closed lines k a = omega (arith, closed-append false lines (call_line k a ∷ []))

@@ -6,10 +6,10 @@ use Rattle.mc_base.specs.declared.refusal.Refusal.{Refusal}
 use Rattle.board_model.specs.declared.scenario.CallLine.{CallLine}
 use Rattle.board_model.specs.Answer.{answer, puts}
 use Rattle.board_model.specs.Deeds.{Deed, looks_back, puts_owed, looks_ahead, takes, calls, MayDo, AllMayDo, after_deed, after_deeds, along}
-use Rattle.board_model.specs.Journal.{PlainEntry, PlainAnswer, turned, put, again, called, refuses, Visit, Taken, Line, noted, noted_all}
+use Rattle.board_model.specs.Journal.{PlainEntry, PlainAnswer, turned, put, again, waits, called, refuses, Visit, Taken, Line, noted, noted_all}
 use Rattle.board_model.specs.JournalDeeds.{names_from, named_deeds, call_deeds, entry_deeds, deeds_along}
 use Rattle.board_model.specs.State.{DomainState, owed_to}
-use Rattle.board_model.specs.Step.{RunState, HasNoPuts, Allowed, next_line, call_at, after}
+use Rattle.board_model.specs.Step.{RunState, HasNoPuts, Allowed, MayCome, limit_of, next_line, call_at, after}
 use Rattle.board_model.specs.Tallies.{number_told}
 use Rattle.board_model.specs.Traffic.{taken_from}
 use Rattle.board_model.specs.Turn.{AreVisits, due_frames, takes_named, after_visit}
@@ -19,12 +19,13 @@ use Rattle.board_model.proofs.HearingLaw.{deed_keeps}
 use Rattle.board_model.proofs.MessageAlls.{all-append, all-parts}
 use Rattle.board_model.proofs.OrderSerials.{Serials, succeeds, all_succeed}
 use Rattle.board_model.proofs.OrderSound.{Sound}
+use Rattle.board_model.proofs.WaitCalls.{wait-puts}
 use Rattle.board_model.proofs.RunDeeds.{AllAllowed, left-leads}
 use Rattle.board_model.proofs.SendingDeeds.{ReadsDeed, AllRead}
 use Rattle.board_model.proofs.UnnamedCalls.{answer-unnamed, puts-unnamed}
 use Rattle.board_runner.specs.Items.{closes_channel}
 use Rattle.board_runner.proofs.ClosedDeeds.{ClosesNone, owed-closes-none, close_lost, closing_put, refused_told, closes-told}
-use Rattle.board_runner.proofs.ClosedLines.{closing, closed_in, OwesNone, again-closed, again-closing, turned-closed, turned-closing, put-closed, put-closing, called-closed, called-closing}
+use Rattle.board_runner.proofs.ClosedLines.{closing, closed_in, OwesNone, again-closed, again-closing, turned-closed, turned-closing, put-closed, put-closing, called-closed, called-closing, waits-closed, waits-closing}
 use Rattle.board_runner.proofs.ReceiverEnds.{OwnedEnds, owned-deed}
 
 -- ---- what holds at each deed
@@ -114,6 +115,15 @@ module _ (o n : ℕ) where
   more_put None p f some = absurd cc
   more_put (Some ps) p f some = last_put false ps p f
 
+  -- before a wait no frame is put, and a wait puts none
+  none_pending : (x : Option (List (ℕ × List ℕ))) → HasNoPuts x → closing_pending x ≡ false
+  none_pending None none = refl
+  none_pending (Some ps) none = ap (closing_put o n false) none
+
+  pending_puts : (r : RunState) (line : CallLine) (m : Option ℕ) → limit_of line.call ≡ m → MayCome m r line → closing_pending r.put_since_turn ≡ closing_put o n false (puts r.state line.node (call_at r line))
+  pending_puts r line None is may = ap closing_pending may
+  pending_puts r line (Some limit) is may = none_pending r.put_since_turn may.0 ∙ sym (ap (closing_put o n false) (wait-puts r line limit is))
+
   -- ---- entries
 
   record Told (script : List CallLine) (lines : List Line) (before : List PlainEntry) (r : RunState) (t : DomainState) (e : PlainEntry) : Type 0 where
@@ -139,13 +149,17 @@ module _ (o n : ℕ) where
       let nothing : length (along (close_lost o n) t (call_deeds (next_line script r) r (refuses word))) ≡ 0
       = ap (λ x. length (along (close_lost o n) t (call_deeds x r (refuses word)))) allowed.1 ∙ (one_more (close_lost o n t (calls line.node (call_at r line) (refuses word))) ∙ refused_told o n t line.node (call_at r line) word) in
       record { closed = omega (arith, again-closed o n word lines, nothing); last = again-closing o n word lines }
+  entry_told script lines before r t (waits k) same allowed fit last = record {
+    closed = omega (arith, waits-closed o n lines k);
+    last = waits-closing o n lines k ∙ sym (none_pending r.put_since_turn allowed.5);
+  }
   entry_told script lines before r t (called k a) same allowed fit last =
       let line : CallLine = allowed.0 in
       let call = call_at r line in
       let may : MayDo t (calls line.node call a) = allowed.3 ∙ (ap (λ s. answer s line.node call) same ∙ answer-unnamed t line.node call) in
       let fits : IsFit t (calls line.node call a) = (subst (λ x. AllFit t (call_deeds x r a)) allowed.1 fit).0 in
       let told = closes-told o n t fits.sound fits.owned line.node call a may fits.reads in
-      let put_so : closing o n lines ≡ closing_put o n false (puts t line.node call) = last ∙ (ap closing_pending allowed.4 ∙ ap (closing_put o n false) (ap (λ s. puts s line.node call) same ∙ puts-unnamed t line.node call)) in
+      let put_so : closing o n lines ≡ closing_put o n false (puts t line.node call) = last ∙ (pending_puts r line (limit_of line.call) refl allowed.4 ∙ ap (closing_put o n false) (ap (λ s. puts s line.node call) same ∙ puts-unnamed t line.node call)) in
       let dropped : length (along (close_lost o n) t (call_deeds (next_line script r) r a)) ≡ cond (closing o n lines) (number_told a) 0
       = ap (λ x. length (along (close_lost o n) t (call_deeds x r a))) allowed.1 ∙ (one_more (close_lost o n t (calls line.node call a)) ∙ (sym told ∙ ap (λ b. cond b (number_told a) 0) (sym put_so))) in
       record { closed = omega (arith, called-closed o n lines k a, dropped); last = called-closing o n lines k a }

@@ -17,6 +17,7 @@ use Rattle.board_model.proofs.WholeJournals.{leads_to}
 use Rattle.board_model.proofs.WholeGoing.{Going}
 use Rattle.board_model.proofs.WholeJoined.{Joined}
 use Rattle.board_model.proofs.WholeOpening.{opened_going}
+use Rattle.board_model.proofs.WholeRests.{opened_rests}
 use Rattle.board_model.proofs.WholeLines.{lines_go}
 use Rattle.board_model.proofs.WholeBoard.{serial_run_is_whole}
 use Rattle.board_runner.specs.declared.station.Station as code
@@ -24,7 +25,7 @@ use Rattle.board_runner.specs.Stations.{AreStations}
 use Rattle.board_runner.specs.Tallied.{RanBoard}
 
 pub finish_going : (s : Scenario) → IsLinkedBoard s → Going s (Joined s) (λ n. length (script s n)) (λ n. 0) (finished s)
-finish_going s board = lines_go s board [] s.calls refl board.lines_told (opened s) (opened_going s board)
+finish_going s board = lines_go s board [] s.calls refl board.lines_told (opened s) (opened_rests s) (opened_going s board)
 
 -- ---- a board that ran
 

@@ -13,7 +13,7 @@ use Rattle.lane_end.specs.Loop.{Loop, new_loop}
 use Rattle.lane_end.specs.LaneRun.{IsLaneRun, SeesAtMost as SeeMovesAtMost}
 use Rattle.board_model.specs.declared.scenario.CallLine.{CallLine}
 use Rattle.board_model.specs.Dealing.{keeps_buffer}
-use Rattle.board_model.specs.Journal.{PlainEntry, turned, put, again, called, Visit, Taken}
+use Rattle.board_model.specs.Journal.{PlainEntry, turned, put, again, waits, called, Visit, Taken}
 use Rattle.board_model.specs.Lists.{IsPrefix}
 use Rattle.board_model.specs.State.{Item, is_from}
 use Rattle.board_model.specs.Step.{RunState, next_line, after}
@@ -79,6 +79,7 @@ sees_told total t lines r p (turned vs ∷ es) h =
 sees_told total t lines r p (put to frame ∷ es) h =
     sees_told total t lines (after lines r (put to frame)) p es (subst (SeeMovesAtMost total t) (receives_putting (puts_in p (put to frame)) (moves_told lines (after lines r (put to frame)) p es)) h)
 sees_told total t lines r p (again word ∷ es) h = sees_told total t lines (after lines r (again word)) p es h
+sees_told total t lines r p (waits k ∷ es) h = sees_told total t lines (after lines r (waits k)) p es h
 sees_told total t lines r p (called k a ∷ es) h =
     let more = moves_told lines (after lines r (called k a)) p es in
     let items = filter (is_from p) (returned_by (next_line lines r) r) in

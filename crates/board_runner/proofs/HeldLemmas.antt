@@ -5,6 +5,7 @@ use Rattle.std.specs.Option.{option_or}
 use Rattle.std.specs.List.{AllByRecursion, position_from}
 use Rattle.std.specs.Str.{bytes_eq}
 use Rattle.std.specs.Map.{update}
+use Rattle.arrayvec.specs.ArrayVec.{ArrayVec}
 use Rattle.std.proofs.lemmas.Bool.Decides.{eqb_tells}
 use Rattle.std.proofs.lemmas.Slice.Eq.{bytes_eq-Decides}
 use Rattle.std.proofs.lemmas.List.{map-append}
@@ -13,8 +14,8 @@ use Rattle.std.proofs.lemmas.Iterator.Adapters.{position_from-zero}
 use Rattle.mc_base.specs.Limits.{no_key}
 use Rattle.mc_base.specs.declared.request.RequestId.{RequestId}
 use Rattle.board_model.specs.declared.scenario.Call.{Call}
-use Rattle.board_model.specs.declared.scenario.Call.TheVariants.{Create, Delete, Lookup, MsgSend, MsgRecv, MsgRecvI, MsgAvailable, Connect, OpenSend, OpenRecv, PktSend, PktRecv, PktRecvI, Release, SclSend, SclRecv, CloseSend, CloseRecv, Test, Cancel, Turn}
-use Rattle.board_model.specs.DomainCall.{DomainCall, create_at, delete_at, lookup_of, send_from, receive_at, request_at, available_at, connect_from, open_at, packet_from, lend_at, packet_request_at, release_of, scalar_from, scalar_at, close_at, test_of, cancel_of, turn_alone}
+use Rattle.board_model.specs.declared.scenario.Call.TheVariants.{Create, Delete, Lookup, MsgSend, MsgRecv, MsgRecvI, MsgAvailable, Connect, OpenSend, OpenRecv, PktSend, PktRecv, PktRecvI, Release, SclSend, SclRecv, CloseSend, CloseRecv, Test, Wait, WaitAny, Cancel, Turn}
+use Rattle.board_model.specs.DomainCall.{DomainCall, create_at, delete_at, lookup_of, send_from, receive_at, request_at, available_at, connect_from, open_at, packet_from, lend_at, packet_request_at, release_of, scalar_from, scalar_at, close_at, test_of, wait_for, cancel_of, turn_alone}
 use Rattle.board_model.specs.Lists.{without_at, without}
 use Rattle.board_model.specs.State.{DomainState, place_of_request}
 use Rattle.board_model.specs.Answer.{refusal, unless_refused}
@@ -52,6 +53,11 @@ place_held d ids labels k label h = go (id_for ids label) (h.told label) (h.know
     go None told known = nowhere d.ids h.keys ∙ ap (option_and_then (place_of_request d.state)) told
     go (Some id) told known = keyed_place (λ i. i.key) (λ i. i.serial) d.state labels label id.key id.serial d.ids h.serials known.only (sym told)
 
+-- and so do those that are held for several
+places_held : (d : RunDomain) (ids : Ids) (labels : List Labelled) (k : ℕ) (names : List (ArrayVec ℕ)) → HoldsIds d ids labels k → map (λ l. place_of_id d.ids (id_or_none ids l.items)) names ≡ map (λ l. place_of_label labels d.state l.items) names
+places_held d ids labels k [] h = refl
+places_held d ids labels k (l ∷ names) h = ap₂ (λ (p : Option ℕ) (ps : List (Option ℕ)). p ∷ ps) (place_held d ids labels k l.items h) (places_held d ids labels k names h)
+
 pub call_is : (d : RunDomain) (ids : Ids) (packets : PacketIds) (labels : Labels) (k : ℕ) (call : Call) → HoldsLabels d ids packets labels k → call_by ids packets d.ids d.packets call ≡ call_of labels d.state call
 call_is d ids packets labels k (Create port) h = refl
 call_is d ids packets labels k (Delete port) h = refl
@@ -72,6 +78,8 @@ call_is d ids packets labels k (SclRecv port bits) h = refl
 call_is d ids packets labels k (CloseSend port) h = refl
 call_is d ids packets labels k (CloseRecv port) h = refl
 call_is d ids packets labels k (Test label) h = ap test_of (place_held d ids labels.requests k label.items h.requests)
+call_is d ids packets labels k (Wait label limit) h = ap (λ p. wait_for (p ∷ []) false) (place_held d ids labels.requests k label.items h.requests)
+call_is d ids packets labels k (WaitAny names limit) h = ap (λ ps. wait_for ps true) (places_held d ids labels.requests k names.items h.requests)
 call_is d ids packets labels k (Cancel label) h = ap cancel_of (place_held d ids labels.requests k label.items h.requests)
 call_is d ids packets labels k Turn h = refl
 
@@ -90,29 +98,30 @@ pub map-option : {A B : Type 0} (f : A → B) (o : Option A) → map f (option_t
 map-option f None = refl
 map-option f (Some x) = refl
 
-same_ends : (call : DomainCall) → success_ends call ≡ success_ended call
-same_ends (create_at port) = refl
-same_ends (delete_at port) = refl
-same_ends (lookup_of name) = refl
-same_ends (send_from port to priority bytes) = refl
-same_ends (receive_at port max) = refl
-same_ends (request_at port max) = refl
-same_ends (available_at port) = refl
-same_ends (connect_from port to kind) = refl
-same_ends (open_at port side kind) = refl
-same_ends (packet_from port bytes) = refl
-same_ends (lend_at port) = refl
-same_ends (packet_request_at port) = refl
-same_ends (release_of place) = refl
-same_ends (scalar_from port bits value) = refl
-same_ends (scalar_at port bits) = refl
-same_ends (close_at port side) = refl
-same_ends (test_of p) = refl
-same_ends (cancel_of p) = refl
-same_ends turn_alone = refl
+same_ends : (s : DomainState) (call : DomainCall) → success_ends s call ≡ success_ended s call
+same_ends s (create_at port) = refl
+same_ends s (delete_at port) = refl
+same_ends s (lookup_of name) = refl
+same_ends s (send_from port to priority bytes) = refl
+same_ends s (receive_at port max) = refl
+same_ends s (request_at port max) = refl
+same_ends s (available_at port) = refl
+same_ends s (connect_from port to kind) = refl
+same_ends s (open_at port side kind) = refl
+same_ends s (packet_from port bytes) = refl
+same_ends s (lend_at port) = refl
+same_ends s (packet_request_at port) = refl
+same_ends s (release_of place) = refl
+same_ends s (scalar_from port bits value) = refl
+same_ends s (scalar_at port bits) = refl
+same_ends s (close_at port side) = refl
+same_ends s (test_of p) = refl
+same_ends s (wait_for requests says_place) = refl
+same_ends s (cancel_of p) = refl
+same_ends s turn_alone = refl
 
 same_ended : (s : DomainState) (node : ℕ) (call : DomainCall) → place_ended s node call ≡ request_ended s node call
-same_ended s node call = ap (unless_refused (refusal s node call) None) (same_ends call)
+same_ended s node call = ap (unless_refused (refusal s node call) None) (same_ends s call)
 
 -- ids that were there and one that is given: what holds of them
 pub all_ids : {A : Type 0} (P : A → Type 0) (p : Option ℕ) (ids more : List A) (given : Option A) → more ≡ without p ids ++ option_to_list given → AllByRecursion P ids → IfSome given P → AllByRecursion P more

@@ -8,7 +8,7 @@ use Rattle.board_model.specs.declared.scenario.CallLine.{CallLine}
 use Rattle.board_model.specs.Channels.{data_in, data_said, is_numbered, is_lost}
 use Rattle.board_model.specs.DomainCall.{DomainCall}
 use Rattle.board_model.specs.Deeds.{Deed, looks_back, puts_owed, looks_ahead, takes, calls}
-use Rattle.board_model.specs.Journal.{PlainEntry, PlainAnswer, turned, put, again, called, refuses, Line, put_line, again_line, call_line, joined, Taken, taken_line}
+use Rattle.board_model.specs.Journal.{PlainEntry, PlainAnswer, turned, put, again, waits, called, refuses, Line, put_line, again_line, wait_line, call_line, joined, Taken, taken_line}
 use Rattle.board_model.specs.JournalDeeds.{call_deeds, entry_deeds, deeds_along}
 use Rattle.board_model.specs.Step.{RunState, next_line, call_at, after}
 use Rattle.board_model.proofs.ListsCounts.{one_if, count-cons, count-append}
@@ -20,7 +20,7 @@ use Rattle.board_runner.specs.Items.{item_letter, item_said, carries_item, is_it
 
 -- ---- a count of frames taken
 
-module _ (w : Deed → ℕ) (test : Line → Bool) (counts : Counts w test) (joins : JoinsWeighNothing (λ l. cond (test l) 1 0)) (no_call : (node : ℕ) (call : DomainCall) (a : PlainAnswer) → w (calls node call a) ≡ 0) (no_answer : (k : ℕ) (a : PlainAnswer) → test (call_line k a) ≡ false) where
+module _ (w : Deed → ℕ) (test : Line → Bool) (counts : Counts w test) (joins : JoinsWeighNothing (λ l. cond (test l) 1 0)) (no_call : (node : ℕ) (call : DomainCall) (a : PlainAnswer) → w (calls node call a) ≡ 0) (no_wait : (k : ℕ) → test (wait_line k) ≡ false) (no_answer : (k : ℕ) (a : PlainAnswer) → test (call_line k a) ≡ false) where
   call_none : (r : RunState) (a : PlainAnswer) (o : Option CallLine) → total w (call_deeds o r a) ≡ 0
   call_none r a None = refl
   call_none r a (Some line) = omega (arith, no_call line.node (call_at r line) a)
@@ -32,6 +32,7 @@ module _ (w : Deed → ℕ) (test : Line → Bool) (counts : Counts w test) (joi
   entry_count lines before r (turned vs) = turn-count w test counts before vs
   entry_count lines before r (put peer frame) = sym (one_none (put_line peer frame) (counts.no_put peer frame))
   entry_count lines before r (again word) = omega (arith, call_none r (refuses word) (next_line lines r), count-cons test (again_line word) [], joins.again word)
+  entry_count lines before r (waits k) = sym (one_none (wait_line k) (no_wait k))
   entry_count lines before r (called k a) = call_none r a (next_line lines r) ∙ sym (one_none (call_line k a) (no_answer k a))
 
   along_count : (lines : List CallLine) (before : List PlainEntry) (r : RunState) (es : List PlainEntry) → total w (deeds_along lines before r es) ≡ count_by test (flat_map entry_lines es)
@@ -82,7 +83,7 @@ module _ (o n : ℕ) where
   lost_counts = record { back = λ q n. refl; owed = λ q f. refl; ahead = λ q n. refl; taken = λ q name t. refl; no_turn = refl; no_back = λ q n. refl; no_see = λ q n. refl; no_put = λ q f. refl }
 
   pub came-told : (lines : List CallLine) (before : List PlainEntry) (r : RunState) (es : List PlainEntry) → total came_deed (deeds_along lines before r es) ≡ count_by (is_item_taken o n) (joined es)
-  came-told = deeds-told came_deed (is_item_taken o n) came_counts (record { idle = λ k. refl; again = λ w. refl; spin = λ k w. refl; turn = refl }) (λ node call a. refl) (λ k a. refl)
+  came-told = deeds-told came_deed (is_item_taken o n) came_counts (record { idle = λ k. refl; again = λ w. refl; spin = λ k w. refl; turn = refl }) (λ node call a. refl) (λ k. refl) (λ k a. refl)
 
   pub lost-told : (lines : List CallLine) (before : List PlainEntry) (r : RunState) (es : List PlainEntry) → total lost_deed (deeds_along lines before r es) ≡ count_by (is_item_lost o n) (joined es)
-  lost-told = deeds-told lost_deed (is_item_lost o n) lost_counts (record { idle = λ k. refl; again = λ w. refl; spin = λ k w. refl; turn = refl }) (λ node call a. refl) (λ k a. refl)
+  lost-told = deeds-told lost_deed (is_item_lost o n) lost_counts (record { idle = λ k. refl; again = λ w. refl; spin = λ k w. refl; turn = refl }) (λ node call a. refl) (λ k. refl) (λ k a. refl)

@@ -6,7 +6,7 @@ use Rattle.std.proofs.lemmas.List.Concat.{flat_map-append}
 use Rattle.std.proofs.lemmas.List.{append-nil}
 use Rattle.mc_base.specs.Reading.{reading}
 use Rattle.board_model.specs.Channels.{data_said}
-use Rattle.board_model.specs.Journal.{PlainEntry, turned, put, again, called, Visit, Taken, Line, put_line, turn_line, again_line, call_line, taken_line, visit_lines, joined}
+use Rattle.board_model.specs.Journal.{PlainEntry, turned, put, again, waits, called, Visit, Taken, Line, put_line, turn_line, again_line, call_line, taken_line, visit_lines, joined}
 use Rattle.board_model.specs.Traffic.{visits_to, puts_in, put_to}
 use Rattle.board_model.proofs.ListsCounts.{one_if, count-cons, count-append}
 use Rattle.board_model.proofs.ListsJoined.{entry_lines}
@@ -74,6 +74,7 @@ module _ (n : ℕ) where
     entry_items (turned vs) none = omega (arith, count-cons (is_item_put n) turn_line (flat_map visit_lines vs), visits_items vs none)
     entry_items (put p f) none = put_items (p == q) f (λ off. put_here (p == p) (eq-eqb p p refl) f (none p off))
     entry_items (again word) none = refl
+    entry_items (waits k) none = refl
     entry_items (called k a) none = refl
 
     entries_items : (es : List PlainEntry) → Elsewhere (λ p. put_to p es) → count_by (is_item_put n) (flat_map entry_lines es) ≡ length (data_on (put_to q es))

@@ -72,3 +72,11 @@ pub mod EndedLemmas
 pub mod MovedLemmas
 pub mod FinishingLemmas
 pub mod ThreadLemmas
+pub mod LendingLemmas
+pub mod WaitLemmas
+pub mod WaitTurns
+pub mod WaitStations
+pub mod WaitRuns
+pub mod WaitTests
+pub mod WaitRounds
+pub mod OwnWaits

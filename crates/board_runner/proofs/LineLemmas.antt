@@ -122,11 +122,11 @@ whole_told (Some p) (Ok b) a bytes one two word given refused = let same : b.now
 whole_told None (Err w) a bytes one two word given refused = refused ∙ ap refuses word
 whole_told (Some p) (Err w) a bytes one two word given refused = let none = one refl in absurd cc
 
-pub whole_brought : (p : Option LentPacket) (r : Result (Bor (List ℕ)) Refusal) (a : PlainAnswer) → IfOk r (λ b. Some b.now ≡ option_map (λ p. p.item.content) p) → (IsErr r → IsNone p) → (IsNone p → IsErr r) → IfErr r (λ w. w ≡ BufInvalid) → IfOk r (λ b. a ≡ completes None (brought (length b.now) b.now)) → IfErr r (λ w. a ≡ completes None (ended_by w)) → a ≡ completes None (brings_whole p)
-whole_brought None (Ok b) a bytes one two word given refused = absurd cc
-whole_brought (Some p) (Ok b) a bytes one two word given refused = let same : b.now ≡ p.item.content = cc in given ∙ ap (λ (bs : List ℕ). completes None (brought (length bs) bs)) same
-whole_brought None (Err w) a bytes one two word given refused = refused ∙ ap (λ (v : Refusal). completes None (ended_by v)) word
-whole_brought (Some p) (Err w) a bytes one two word given refused = let none = one refl in absurd cc
+pub whole_brought : (place : Option ℕ) (p : Option LentPacket) (r : Result (Bor (List ℕ)) Refusal) (a : PlainAnswer) → IfOk r (λ b. Some b.now ≡ option_map (λ p. p.item.content) p) → (IsErr r → IsNone p) → (IsNone p → IsErr r) → IfErr r (λ w. w ≡ BufInvalid) → IfOk r (λ b. a ≡ completes place (brought (length b.now) b.now)) → IfErr r (λ w. a ≡ completes place (ended_by w)) → a ≡ completes place (brings_whole p)
+whole_brought place None (Ok b) a bytes one two word given refused = absurd cc
+whole_brought place (Some p) (Ok b) a bytes one two word given refused = let same : b.now ≡ p.item.content = cc in given ∙ ap (λ (bs : List ℕ). completes place (brought (length bs) bs)) same
+whole_brought place None (Err w) a bytes one two word given refused = refused ∙ ap (λ (v : Refusal). completes place (ended_by v)) word
+whole_brought place (Some p) (Err w) a bytes one two word given refused = let none = one refl in absurd cc
 
 -- ---- a call
 

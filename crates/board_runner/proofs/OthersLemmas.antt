@@ -19,17 +19,17 @@ use Rattle.board_runner.proofs.StationLemmas.{item_at, numbers_are, domains_rise
 
 -- ---- lists
 
-all_turned-append : (s : Scenario) (r : Running) (xs ys : List ℕ) → all_turned s r (xs ++ ys) ≡ all_turned s (all_turned s r xs) ys
+pub all_turned-append : (s : Scenario) (r : Running) (xs ys : List ℕ) → all_turned s r (xs ++ ys) ≡ all_turned s (all_turned s r xs) ys
 all_turned-append s r [] ys = refl
 all_turned-append s r (x ∷ xs) ys = all_turned-append s (turned_once s r x) xs ys
 
 -- one item more
-take-more : {A : Type 0} (xs : List A) (i : ℕ) (x : A) → slice_get xs i ≡ Some x → take (suc i) xs ≡ take i xs ++ x ∷ []
+pub take-more : {A : Type 0} (xs : List A) (i : ℕ) (x : A) → slice_get xs i ≡ Some x → take (suc i) xs ≡ take i xs ++ x ∷ []
 take-more [] i x e = absurd cc
 take-more {A} (y ∷ xs) zero x e = let is : y ≡ x = cc in ap (λ (z : A). z ∷ []) is
 take-more {A} (y ∷ xs) (suc i) x e = ap (λ (ys : List A). y ∷ ys) (take-more xs i x e)
 
-take-all : {A : Type 0} (xs : List A) (i : ℕ) → i ≡ length xs → take i xs ≡ xs
+pub take-all : {A : Type 0} (xs : List A) (i : ℕ) → i ≡ length xs → take i xs ≡ xs
 take-all [] i e = ap (λ (n : ℕ). take n []) e
 take-all {A} (x ∷ xs) zero e = absurd (omega (arith, e))
 take-all {A} (x ∷ xs) (suc i) e = ap (λ (ys : List A). x ∷ ys) (take-all xs i (omega (arith, e)))
@@ -66,7 +66,7 @@ none_turned : (at : ℕ) (sts : List Station) → TurnedBefore 0 at sts sts
 none_turned at sts = at_any (λ st. Leads (λ s r. all_turned s r (others_before 0 s st.domain.state.number)) sts sts) sts at (λ st is s r lawful h. h)
 
 -- the number of the domain at a place
-number_at : (s : Scenario) (r : Running) (sts : List Station) (i : ℕ) (st : Station) → IsRun s r sts → slice_get sts i ≡ Some st → slice_get (board_numbers s) i ≡ Some st.domain.state.number
+pub number_at : (s : Scenario) (r : Running) (sts : List Station) (i : ℕ) (st : Station) → IsRun s r sts → slice_get sts i ≡ Some st → slice_get (board_numbers s) i ≡ Some st.domain.state.number
 number_at s r sts i st h is = ap (λ (ns : List ℕ). slice_get ns i) (sym (numbers_are s r.stations sts h.each ∙ domains_rise s r.stations h.lines)) ∙ slice_get-map (λ (x : Station). x.domain.state.number) sts i ∙ ap (option_map (λ (x : Station). x.domain.state.number)) is
 
 filter_one : (d n : ℕ) (b : Bool) → (n == d) ≡ b → filter (λ m. not (m == d)) (n ∷ []) ≡ cond b [] (n ∷ [])

@@ -1,5 +1,5 @@
 -- A domain on its way through its script: each call of a line is a step of its run, and its ends move as its entries tell.
-use Rattle.std.proofs.Common.{◌≡◌, ◌≢◌, ℕ, length, take, ◌+◌, ◌*◌, ◌≤◌, ◌<◌, ◌^◌, zero, suc, Bool, true, false, ◌&&◌, List, [], ◌∷◌, ◌++◌, map, Some, None, Option, refl, sym, ap, ap₂, ◌∙◌, subst, arith, lt-ltb, le-ltb}
+use Rattle.std.proofs.Common.{◌≡◌, ◌≢◌, ℕ, length, take, ◌+◌, ◌*◌, ◌≤◌, ◌<◌, ◌^◌, zero, suc, Bool, true, false, ◌&&◌, List, [], ◌∷◌, ◌++◌, map, Some, None, Option, option_map, refl, sym, ap, ap₂, ◌∙◌, subst, arith, lt-ltb, le-ltb}
 use Rattle.std.specs.Prelude.{slice_get}
 use Rattle.std.proofs.lemmas.Option.{slice_get_within}
 use Rattle.lane_end.specs.AnySender.{AnySends}
@@ -19,7 +19,7 @@ use Rattle.board_model.specs.Language.{IsLawfulBoard}
 use Rattle.board_model.specs.LinkedBoard.{Differ, IsLinkedBoard}
 use Rattle.board_model.specs.Scenario.{script}
 use Rattle.board_model.specs.State.{DomainState}
-use Rattle.board_model.specs.Step.{RunState, HasNoPuts, next_line, call_at, is_tried, may_try, tries_again, after}
+use Rattle.board_model.specs.Step.{RunState, HasNoPuts, next_line, call_at, is_tried, may_try, tries_again, after, limit_of, is_done_now, one_turn_more}
 use Rattle.board_model.specs.Run.{start, Leads, after_all, left_by}
 use Rattle.board_model.specs.SerialRun as run
 use Rattle.board_model.specs.SerialRun.{entered, word_in, more_calls, opened_station}
@@ -217,6 +217,7 @@ module _ (s : Scenario) (board : IsLinkedBoard s) (d : DomainLine) (ends : List 
           (leads_one lines t.run (again word) (line, comes_now, word_is, refl, tries_more));
       settled = tt;
       made_is = ap (λ (n : ℕ). n + 1) h.made_is;
+      rests = ap (option_map (one_turn_more (is_done_now (next_line lines h.run) h.run))) h.rests;
       moves =
           moves_on (again word ∷ [])
           (again_moved lines (after_all lines begun t.entries) line.node call mid called_to.domain (plain_answer m.answer) m.given calls.does (again word) (λ p. refl) nothing.puts_none nothing.returns_none)
@@ -225,7 +226,7 @@ module _ (s : Scenario) (board : IsLinkedBoard s) (d : DomainLine) (ends : List 
 
   -- ---- the last one of its line
 
-  module _ (e : is_again ≡ false) where
+  module _ (e : is_again ≡ false) (ready : limit_of line.call ≡ None) where
     last_notes : NotesCalled line m called_to new
     last_notes = subst (λ (b : Bool). NotesAnswer b line m called_to new) e tries.notes
 
@@ -243,7 +244,7 @@ module _ (s : Scenario) (board : IsLinkedBoard s) (d : DomainLine) (ends : List 
 
     steps : Leads lines t.run entries (after_all lines t.run entries)
     steps =
-        let led = leads_call lines t.run line comes_now not_again in
+        let led = leads_call lines t.run line comes_now ready not_again in
         subst (λ (x : RunState). Leads lines t.run entries x) (leads_to lines t.run (after lines (with_puts t.run frames) (called (t.run.lines_called + 1) last_answer)) entries led) led
 
     done : after_all lines t.run entries ≡ called_run t.run line
@@ -266,6 +267,7 @@ module _ (s : Scenario) (board : IsLinkedBoard s) (d : DomainLine) (ends : List 
       leads = leads-append lines begun t.run (after_all lines t.run entries) t.entries entries turned_leads steps;
       settled = subst (λ (r : RunState). HasNoPuts r.put_since_turn) (sym done) tt;
       made_is = ap (λ (r : RunState). r.calls_made) done;
+      rests = ap (λ (r : RunState). r.waited) done;
       moves =
           moves_on entries
           (subst (λ (ps : List (ℕ × List ℕ)). MovedAsTold lines (after_all lines begun t.entries) (peers_of mid) (call_entries ps (t.run.lines_called + 1) last_answer) mid.ends called_to.domain.ends) same_frames
@@ -320,10 +322,10 @@ tried-more line made is_again is_quiet first old new less few same before tries 
     goes_again s (lawful_is_linked s lawful) d ends made old new line true is_again is_quiet (before s d ends lawful own comes h)
     (ap (slice_get (script s d.domain)) same.number ∙ comes) (omega (arith, few, same.number)) (more_may line.tries made less) tries e
 
-pub tried-last : (line : CallLine) (made : ℕ) (may is_again is_quiet : Bool) (first old new : Station) → may_try line.tries made ≡ may → first.number + 1 < 2 ^ 32 → CountsNothing first old → Tried line made first old → Tries line may old new is_again is_quiet → is_again ≡ false → RunsNextLine line first new
-tried-last line made may is_again is_quiet first old new may_is few same before tries e s d ends lawful own comes h =
+pub tried-last : (line : CallLine) (made : ℕ) (may is_again is_quiet : Bool) (first old new : Station) → limit_of line.call ≡ None → may_try line.tries made ≡ may → first.number + 1 < 2 ^ 32 → CountsNothing first old → Tried line made first old → Tries line may old new is_again is_quiet → is_again ≡ false → RunsNextLine line first new
+tried-last line made may is_again is_quiet first old new ready may_is few same before tries e s d ends lawful own comes h =
     goes_called s (lawful_is_linked s lawful) d ends made old new line may is_again is_quiet (before s d ends lawful own comes h)
-    (ap (slice_get (script s d.domain)) same.number ∙ comes) (omega (arith, few, same.number)) may_is tries e
+    (ap (slice_get (script s d.domain)) same.number ∙ comes) (omega (arith, few, same.number)) may_is tries e ready
 
 -- ---- the lines before a place
 
@@ -343,6 +345,7 @@ ran_none s st h = record {
     leads = refl;
     settled = tt;
     made_is = refl;
+    rests = refl;
     moves = none_moved (script s d.domain) (start s d) d.domain (peers_of st.domain) st.domain.ends opened.matched;
   };
   number = h.number ∙ none s.calls;

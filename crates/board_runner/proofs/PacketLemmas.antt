@@ -6,7 +6,7 @@ use Rattle.std.specs.List.{AllByRecursion}
 use Rattle.std.proofs.lemmas.List.{map-append}
 use Rattle.mc_base.specs.declared.refusal.Refusal.{Refusal}
 use Rattle.mc_base.specs.declared.request.PacketId.{PacketId}
-use Rattle.board_model.specs.DomainCall.{DomainCall, create_at, delete_at, lookup_of, send_from, receive_at, request_at, available_at, connect_from, open_at, packet_from, lend_at, packet_request_at, release_of, scalar_from, scalar_at, close_at, test_of, cancel_of, turn_alone}
+use Rattle.board_model.specs.DomainCall.{DomainCall, create_at, delete_at, lookup_of, send_from, receive_at, request_at, available_at, connect_from, open_at, packet_from, lend_at, packet_request_at, release_of, scalar_from, scalar_at, close_at, test_of, wait_for, cancel_of, turn_alone}
 use Rattle.board_model.specs.Answer.{refusal, unless_refused}
 use Rattle.board_model.specs.CallChanges.{effect}
 use Rattle.board_model.specs.Labels.{Labelled, serial_of, packet_given, with_label}
@@ -38,6 +38,7 @@ same_releases (scalar_from port bits value) = refl
 same_releases (scalar_at port bits) = refl
 same_releases (close_at port side) = refl
 same_releases (test_of p) = refl
+same_releases (wait_for requests says_place) = refl
 same_releases (cancel_of p) = refl
 same_releases turn_alone = refl
 

@@ -24,7 +24,7 @@ use Rattle.lane_end.specs.declared.any.AnyRecv.{AnyRecv}
 use Rattle.lane_end.specs.declared.any.AnySend.TheVariants as send
 use Rattle.lane_end.specs.declared.any.AnyRecv.TheVariants as recv
 use Rattle.board_model.specs.declared.scenario.Call.{Call}
-use Rattle.board_model.specs.declared.scenario.Call.TheVariants.{Create, Delete, Lookup, MsgSend, MsgRecv, MsgRecvI, MsgAvailable, Connect, OpenSend, OpenRecv, PktSend, PktRecv, PktRecvI, Release, SclSend, SclRecv, CloseSend, CloseRecv, Test, Cancel, Turn}
+use Rattle.board_model.specs.declared.scenario.Call.TheVariants.{Create, Delete, Lookup, MsgSend, MsgRecv, MsgRecvI, MsgAvailable, Connect, OpenSend, OpenRecv, PktSend, PktRecv, PktRecvI, Release, SclSend, SclRecv, CloseSend, CloseRecv, Test, Wait, WaitAny, Cancel, Turn}
 use Rattle.board_model.specs.declared.scenario.CallLine.{CallLine}
 use Rattle.board_model.specs.Answer.{puts, refusal, unless_refused}
 use Rattle.board_model.specs.DomainCall.{turn_alone}
@@ -308,6 +308,8 @@ turn_returns line st s e = go line.call e
     go (CloseSend port) e = absurd cc
     go (CloseRecv port) e = absurd cc
     go (Test label) e = absurd cc
+    go (Wait label limit) e = absurd cc
+    go (WaitAny names limit) e = absurd cc
     go (Cancel label) e = absurd cc
 
 either : {P : Type 0} (x y : Bool) → (x || y) ≡ true → (x ≡ true → P) → (y ≡ true → P) → P

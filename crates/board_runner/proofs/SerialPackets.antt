@@ -8,7 +8,7 @@ use Rattle.mc_base.specs.declared.channel.Side.{Side}
 use Rattle.mc_base.specs.declared.channel.Side.TheVariants.{Sender, Receiver}
 use Rattle.mc_base.specs.declared.refusal.Refusal.{Refusal}
 use Rattle.mc_base.specs.declared.refusal.Refusal.TheVariants.{EndpInvalid, Empty}
-use Rattle.board_model.specs.DomainCall.{DomainCall, create_at, delete_at, lookup_of, send_from, receive_at, request_at, available_at, connect_from, open_at, packet_from, lend_at, packet_request_at, release_of, scalar_from, scalar_at, close_at, test_of, cancel_of, turn_alone}
+use Rattle.board_model.specs.DomainCall.{DomainCall, create_at, delete_at, lookup_of, send_from, receive_at, request_at, available_at, connect_from, open_at, packet_from, lend_at, packet_request_at, release_of, scalar_from, scalar_at, close_at, test_of, wait_for, cancel_of, turn_alone}
 use Rattle.board_model.specs.Lists.{without_at, without}
 use Rattle.board_model.specs.Journal.{Visit}
 use Rattle.board_model.specs.State.{DomainState, ChannelEnd, Endpoint, Item, Asked, Request, LentPacket, Outcome, channel_of, message_at, packet_at, has_item, is_lent_as, is_at, endpoint_at, queue_in, queue_at, live_at, request_at_place, place_of_packet}
@@ -17,7 +17,7 @@ use Rattle.board_model.specs.ChannelEnds.{opened_end}
 use Rattle.board_model.specs.CallChanges.{at_live, at_end, new_sender, closing, best_item, lending, lent_by, lent_by_test, success_changes, effect}
 use Rattle.board_model.specs.Choice.{oldest}
 use Rattle.board_model.specs.Turn.{after_turn}
-use Rattle.board_model.specs.Answer.{local, holds, words_of, refusal, unless_refused}
+use Rattle.board_model.specs.Answer.{first_complete, local, holds, words_of, refusal, unless_refused}
 use Rattle.board_model.specs.Labels.{success_packet, packet_given, packet_tested, packet_brought}
 use Rattle.board_model.proofs.MessageAlls.{none-passes}
 use Rattle.board_model.proofs.MessageLists.{get-position}
@@ -132,6 +132,10 @@ success_packets s node (close_at port side) none = closing_keeps packets closing
 success_packets s node (test_of p) none =
     let t = changed s (request_gone p) in
     tested_is packets (λ o. packets s ++ option_to_list o) t (sym (append-nil (packets s))) (λ i. map-append (λ p. p.serial) s.lent _) (request_at_place s p)
+success_packets s node (wait_for requests says_place) none =
+    let p = first_complete s requests in
+    let t = changed s (request_gone p) in
+    tested_is packets (λ o. packets s ++ option_to_list o) t (sym (append-nil (packets s))) (λ i. map-append (λ p. p.serial) s.lent _) (request_at_place s p)
 success_packets s node (cancel_of p) none = sym (append-nil (packets s))
 success_packets s node turn_alone none = sym (append-nil (packets s))
 
@@ -163,6 +167,10 @@ success_lends s node (scalar_from port bits value) none small = omega (arith, en
 success_lends s node (scalar_at port bits) none small = omega (arith, live_same (λ t. t.packets_lent) s (live_at s (local node port)) (λ e. oldest_gone e.address ∷ []) (λ e. refl))
 success_lends s node (close_at port side) none small = omega (arith, closing_keeps (λ t. t.packets_lent) closing_lends s side (live_at s (local node port)))
 success_lends s node (test_of p) none small =
+    let t = changed s (request_gone p) in
+    tested_is (λ t. t.packets_lent) (λ o. s.packets_lent + length (option_to_list o)) t (omega arith) (λ i. mod-eq_of_lt small) (request_at_place s p)
+success_lends s node (wait_for requests says_place) none small =
+    let p = first_complete s requests in
     let t = changed s (request_gone p) in
     tested_is (λ t. t.packets_lent) (λ o. s.packets_lent + length (option_to_list o)) t (omega arith) (λ i. mod-eq_of_lt small) (request_at_place s p)
 success_lends s node (cancel_of p) none small = omega arith
@@ -202,6 +210,7 @@ success_is s (scalar_from port bits value) m e = absurd cc
 success_is s (scalar_at port bits) m e = absurd cc
 success_is s (close_at port side) m e = absurd cc
 success_is s (test_of p) m e = tested_serial s (request_at_place s p) m e
+success_is s (wait_for requests says_place) m e = tested_serial s (request_at_place s (first_complete s requests)) m e
 success_is s (cancel_of p) m e = absurd cc
 success_is s turn_alone m e = absurd cc
 

@@ -64,7 +64,7 @@ module _ (old carried : List Station) (at : ℕ) (st new : Station) (same : Keep
   pub counts_stay : counted new ≡ counted st → KeepCounts old (set carried at new)
   counts_stay e = map-set counted carried at new ∙ ap (set (map counted carried) at) e ∙ set-same (map counted carried) at (counted st) (slice_get-map counted carried at ∙ ap (option_map counted) is) ∙ same
 
-  one_more : new.number ≡ st.number + 1 → (n : ℕ) → n < 2 ^ 32 → new.dropped ≡ st.dropped + n → OneLineMore at old (set carried at new)
+  pub one_more : new.number ≡ st.number + 1 → (n : ℕ) → n < 2 ^ 32 → new.dropped ≡ st.dropped + n → OneLineMore at old (set carried at new)
   one_more number n small dropped = record {
     lines =
         map-set (λ (x : Station). x.number) carried at new ∙ ap (set (map (λ (x : Station). x.number) carried) at) number

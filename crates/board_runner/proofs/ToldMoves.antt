@@ -210,7 +210,7 @@ moved_then lines r ps es fs olds bs cs first then = record {
   moved = moved_both first.moves then.moves ps olds bs cs first.moved then.moved;
 }
 
-all_rest : (n : ℕ) (ps : List ℕ) (es : List RunEnds) → EndsMatch n ps es → AllMoved Moved es (map (λ p. []) ps) es
+pub all_rest : (n : ℕ) (ps : List ℕ) (es : List RunEnds) → EndsMatch n ps es → AllMoved Moved es (map (λ p. []) ps) es
 all_rest n [] [] matched = tt
 all_rest n [] (e ∷ es) matched = absurd matched
 all_rest n (p ∷ ps) [] matched = absurd matched

@@ -8,7 +8,7 @@ use Rattle.lane_end.specs.SendParts.{frames_sent, back_counts}
 use Rattle.lane_end.specs.ReceiveParts.{frames_taken, numbers_given, see_counts}
 use Rattle.board_model.specs.declared.scenario.CallLine.{CallLine}
 use Rattle.board_model.specs.Dealing.{keeps_buffer}
-use Rattle.board_model.specs.Journal.{PlainEntry, turned, put, again, called, Visit, Taken}
+use Rattle.board_model.specs.Journal.{PlainEntry, turned, put, again, waits, called, Visit, Taken}
 use Rattle.board_model.specs.Serial.{returned_at_once}
 use Rattle.board_model.specs.State.{Item, is_from}
 use Rattle.board_model.specs.Step.{RunState, next_line, after}
@@ -126,6 +126,7 @@ sent_by_entry : (lines : List CallLine) (p : ℕ) (r : RunState) (e : PlainEntry
 sent_by_entry lines p r (turned vs) = of_visits sent refl sent_append (λ v. v.owed) sent_by_visit (visits_to p vs)
 sent_by_entry lines p r (put to frame) = sent_putting (puts_in p (put to frame))
 sent_by_entry lines p r (again word) = refl
+sent_by_entry lines p r (waits k) = refl
 sent_by_entry lines p r (called k a) = sent_back (filter (is_from p) (returned_by (next_line lines r) r))
 
 backs_putting : (fs : List (List ℕ)) → backs (putting fs) ≡ []
@@ -147,6 +148,7 @@ backs_by_entry : (lines : List CallLine) (p : ℕ) (r : RunState) (e : PlainEntr
 backs_by_entry lines p r (turned vs) = of_visits backs refl backs_append (λ v. v.back ∷ []) backs_by_visit (visits_to p vs) ∙ one_each (λ v. v.back) (visits_to p vs)
 backs_by_entry lines p r (put to frame) = backs_putting (puts_in p (put to frame))
 backs_by_entry lines p r (again word) = refl
+backs_by_entry lines p r (waits k) = refl
 backs_by_entry lines p r (called k a) = backs_back (filter (is_from p) (returned_by (next_line lines r) r))
 
 -- a visit's taking end
@@ -175,6 +177,7 @@ taken_by_entry : (lines : List CallLine) (p : ℕ) (r : RunState) (e : PlainEntr
 taken_by_entry lines p r (turned vs) = of_visits taken refl taken_append (λ v. frames_of v.takes) taken_by_visit (visits_to p vs) ∙ frames_flat (visits_to p vs)
 taken_by_entry lines p r (put to frame) = taken_putting (puts_in p (put to frame))
 taken_by_entry lines p r (again word) = refl
+taken_by_entry lines p r (waits k) = refl
 taken_by_entry lines p r (called k a) = taken_back (filter (is_from p) (returned_by (next_line lines r) r))
 
 frames_of_entries : (p : ℕ) (es : List PlainEntry) → flat_map (λ e. frames_of (takes_in p e)) es ≡ taken_from p es
@@ -205,6 +208,7 @@ sees_by_entry : (lines : List CallLine) (p : ℕ) (r : RunState) (e : PlainEntry
 sees_by_entry lines p r (turned vs) = of_visits sees refl sees_append (λ v. v.see ∷ []) sees_by_visit (visits_to p vs) ∙ one_each (λ v. v.see) (visits_to p vs)
 sees_by_entry lines p r (put to frame) = sees_putting (puts_in p (put to frame))
 sees_by_entry lines p r (again word) = refl
+sees_by_entry lines p r (waits k) = refl
 sees_by_entry lines p r (called k a) = sees_back (filter (is_from p) (returned_by (next_line lines r) r))
 
 -- what goes back
@@ -236,6 +240,7 @@ gives_by_entry : (lines : List CallLine) (p : ℕ) (r : RunState) (e : PlainEntr
 gives_by_entry lines p r (turned vs) = gives_by_visits (visits_to p vs)
 gives_by_entry lines p r (put to frame) = gives_putting (puts_in p (put to frame))
 gives_by_entry lines p r (again word) = refl
+gives_by_entry lines p r (waits k) = refl
 gives_by_entry lines p r (called k a) = gives_back p (returned_by (next_line lines r) r)
 
 gives_by_run : (lines : List CallLine) (p : ℕ) (r : RunState) (es : List PlainEntry) → gives (moves_told lines r p es) ≡ given lines r p es

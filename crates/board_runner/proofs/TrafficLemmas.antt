@@ -3,7 +3,7 @@ use Rattle.std.proofs.Common.{◌≡◌, ℕ, ◌+◌, Bool, true, false, cond, 
 use Rattle.std.specs.Prelude.{count_by, ◌==◌}
 use Rattle.std.specs.List.{flat_map}
 use Rattle.std.proofs.lemmas.List.{length-map}
-use Rattle.board_model.specs.Journal.{PlainEntry, turned, put, again, called, Visit, Taken, put_line, turn_line, taken_line, visit_lines, joined}
+use Rattle.board_model.specs.Journal.{PlainEntry, turned, put, again, waits, called, Visit, Taken, put_line, turn_line, taken_line, visit_lines, joined}
 use Rattle.board_model.specs.Traffic.{visits_to, puts_in, takes_in, put_to, takes_from, taken_from}
 use Rattle.board_model.specs.Tallies.{is_put_to, is_taken_from}
 use Rattle.board_model.proofs.ListsJoined.{entry_lines}
@@ -42,6 +42,7 @@ module _ (n : ℕ) where
   entry_puts (turned vs) = omega (arith, count-cons (is_put_to n) turn_line (flat_map visit_lines vs), visits_puts vs)
   entry_puts (put peer frame) = one_put (peer == n) frame
   entry_puts (again word) = refl
+  entry_puts (waits k) = refl
   entry_puts (called k a) = refl
 
   pub put-lines : (es : List PlainEntry) → count_by (is_put_to n) (joined es) ≡ length (put_to n es)
@@ -72,6 +73,7 @@ module _ (n : ℕ) where
   entry_takes (turned vs) = omega (arith, count-cons (is_taken_from n) turn_line (flat_map visit_lines vs), visits_takes vs)
   entry_takes (put peer frame) = refl
   entry_takes (again word) = refl
+  entry_takes (waits k) = refl
   entry_takes (called k a) = refl
 
   pub take-lines : (es : List PlainEntry) → count_by (is_taken_from n) (joined es) ≡ length (taken_from n es)

@@ -1,10 +1,11 @@
 -- The calls of a line, one after the other.
-use Rattle.std.proofs.Common.{◌≡◌, ℕ, suc, ◌<◌, Bool, true, false, ◌&&◌, cond, List, length, Option, sym, ap, ◌∙◌, subst}
+use Rattle.std.proofs.Common.{◌≡◌, ℕ, suc, ◌<◌, Bool, true, false, ◌&&◌, cond, List, length, None, Option, sym, ap, ◌∙◌, subst}
 use Rattle.board_model.specs.declared.scenario.CallLine.{CallLine}
 use Rattle.board_model.specs.declared.scenario.Scenario.{Scenario}
 use Rattle.board_model.specs.Language.{IsLawfulBoard}
+use Rattle.board_model.specs.Step.{limit_of}
 use Rattle.board_model.specs.SerialRun as run
-use Rattle.board_model.specs.SerialRun.{Running, station_of, turned_once, all_turned, others, again_by, called_by, is_tried_at, after_turn_of, last_call, tried, more_calls, line_run}
+use Rattle.board_model.specs.SerialRun.{Running, station_of, turned_once, all_turned, others, again_by, called_by, is_tried_at, after_turn_of, last_call, tried, more_calls, line_by, line_run}
 use Rattle.board_runner.specs.declared.station.Station.{Station}
 use Rattle.board_runner.specs.Runs.{IsSomeRun, IsSomeNext, At, Leads, OthersTurn, KeepCounts, IsNext, after_call, CallsLine, RunsLine}
 use Rattle.board_runner.specs.Stations.{IsRun}
@@ -20,11 +21,11 @@ pub record GoesTo (s : Scenario) (line : CallLine) (left : ℕ) (final : Running
 abbrev pub TriedTo : CallLine → ℕ → ℕ → List Station → List Station → Type 0
 TriedTo line at left old new = (s : Scenario) (r : Running) → IsLawfulBoard s → At at (IsNext s line) old → IsRun s r old → GoesTo s line left (line_run s r line) new
 
-pub none_tried : (line : CallLine) (at left : ℕ) (sts : List Station) → left ≡ more_calls line.tries → TriedTo line at left sts sts
-none_tried line at left sts e s r lawful next h = record { run = r; stands = h; goes = ap (λ (n : ℕ). tried s line n r) e }
+pub none_tried : (line : CallLine) (at left : ℕ) (sts : List Station) → limit_of line.call ≡ None → left ≡ more_calls line.tries → TriedTo line at left sts sts
+none_tried line at left sts ready e s r lawful next h = record { run = r; stands = h; goes = ap (λ (n : ℕ). tried s line n r) e ∙ sym (ap (λ (o : Option ℕ). line_by s line o r) ready) }
 
 -- the line still comes next
-next_stays : (s : Scenario) (r q : Running) (line : CallLine) (old new : List Station) (at : ℕ) → at < length new → IsRun s r old → IsRun s q new → KeepCounts old new → At at (IsNext s line) old → At at (IsNext s line) new
+pub next_stays : (s : Scenario) (r q : Running) (line : CallLine) (old new : List Station) (at : ℕ) → at < length new → IsRun s r old → IsRun s q new → KeepCounts old new → At at (IsNext s line) old → At at (IsNext s line) new
 next_stays s r q line old new at lt h k same next =
     let st = item_at new at lt in
     place_at (IsNext s line) new at st.0 st.1 (next_at s r q line old new at st.0 h k same st.1 next)

@@ -24,3 +24,5 @@ pub mod ThreadRun
 pub mod Told
 pub mod Items
 pub mod ItemCounts
+pub mod LendingLabels
+pub mod Waits

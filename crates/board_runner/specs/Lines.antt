@@ -12,11 +12,11 @@ use Rattle.mc_base.specs.declared.request.RequestId.{RequestId}
 use Rattle.lane_end.specs.AnySender.{AnySends}
 use Rattle.lane_end.specs.AnyReceiver.{AnyReceives}
 use Rattle.board_model.specs.declared.scenario.Call.{Call}
-use Rattle.board_model.specs.declared.scenario.Call.TheVariants.{Create, Delete, Lookup, MsgSend, MsgRecv, MsgRecvI, MsgAvailable, Connect, OpenSend, OpenRecv, PktSend, PktRecv, PktRecvI, Release, SclSend, SclRecv, CloseSend, CloseRecv, Test, Cancel, Turn}
+use Rattle.board_model.specs.declared.scenario.Call.TheVariants.{Create, Delete, Lookup, MsgSend, MsgRecv, MsgRecvI, MsgAvailable, Connect, OpenSend, OpenRecv, PktSend, PktRecv, PktRecvI, Release, SclSend, SclRecv, CloseSend, CloseRecv, Test, Wait, WaitAny, Cancel, Turn}
 use Rattle.board_model.specs.declared.scenario.CallLine.{CallLine}
-use Rattle.board_model.specs.DomainCall.{DomainCall, create_at, delete_at, lookup_of, send_from, receive_at, request_at, available_at, connect_from, open_at, packet_from, lend_at, packet_request_at, release_of, scalar_from, scalar_at, close_at, test_of, cancel_of, turn_alone}
+use Rattle.board_model.specs.DomainCall.{DomainCall, create_at, delete_at, lookup_of, send_from, receive_at, request_at, available_at, connect_from, open_at, packet_from, lend_at, packet_request_at, release_of, scalar_from, scalar_at, close_at, test_of, wait_for, cancel_of, turn_alone}
 use Rattle.board_model.specs.Journal.{Line, Visit, idle_line, is_idle, PlainAnswer, again, called, noted}
-use Rattle.board_model.specs.Labels.{request_given, lending_label}
+use Rattle.board_model.specs.Labels.{request_given}
 use Rattle.board_model.specs.Scenario.{label_in}
 use Rattle.board_model.specs.Step.{is_tried}
 use Rattle.board_model.specs.SerialRun.{word_in}
@@ -25,10 +25,11 @@ use Rattle.domain_core.specs.Calls.{Calls}
 use Rattle.domain_core.specs.DomainView.{place_of_id, place_of_packet_id}
 use Rattle.domain_core.specs.Ends.{EndsMoved}
 use Rattle.mc_journal.specs.Entry.{plain_answer, bytes_in_answer}
-use Rattle.std.specs.Prelude.{List}
+use Rattle.std.specs.Prelude.{List, [], ◌∷◌, map}
 use Rattle.board_runner.specs.declared.station.Station.{Station}
 use Rattle.board_runner.specs.declared.line.Made.{Made}
 use Rattle.board_runner.specs.Held.{Ids, PacketIds, id_or_none, packet_or_none, TellsId}
+use Rattle.board_runner.specs.LendingLabels.{lending_label_by}
 use Rattle.board_runner.specs.Near.{RunDomain}
 
 -- the call of a line as the domain knows it, by the ids that are held for labels
@@ -52,16 +53,19 @@ call_by ids packets standing lent (SclRecv port bits) = scalar_at port bits
 call_by ids packets standing lent (CloseSend port) = close_at port Sender
 call_by ids packets standing lent (CloseRecv port) = close_at port Receiver
 call_by ids packets standing lent (Test label) = test_of (place_of_id standing (id_or_none ids label.items))
+call_by ids packets standing lent (Wait label limit) = wait_for (place_of_id standing (id_or_none ids label.items) ∷ []) false
+call_by ids packets standing lent (WaitAny names limit) = wait_for (map (λ l. place_of_id standing (id_or_none ids l.items)) names.items) true
 call_by ids packets standing lent (Cancel label) = cancel_of (place_of_id standing (id_or_none ids label.items))
 call_by ids packets standing lent Turn = turn_alone
 
 abbrev pub call_at_station : CallLine → Station → DomainCall
 call_at_station line st = call_by st.ids st.packets st.domain.ids st.domain.packets line.call
 
--- a receive asks for so many bytes at most, and a scalar's value fits its bits
+-- a receive asks for so many bytes at most, a scalar's value fits its bits, and a wait for several requests names one at least
 abbrev pub HasFitNumbers : ℕ → Call → Type 0
 HasFitNumbers n (MsgRecv port max) = max ≤ n
 HasFitNumbers n (SclSend port bits value) = value < 2 ^ (8 * bytes_of_bits bits)
+HasFitNumbers n (WaitAny names limit) = 1 ≤ length names.items
 HasFitNumbers n other = Unit {0}
 
 -- how many messages a call dropped, where it is a delete
@@ -126,7 +130,7 @@ pub record NotesCalled (line : CallLine) (m : Made) (old new : Station) : Type 0
   pub told : new.journal.lines ≡ noted old.journal.lines (called (old.number + 1) (plain_answer m.answer))
   pub domain : new.domain ≡ old.domain
   pub ids : TellsId (label_in line) m.given old.ids new.ids
-  pub packets : TellsId (lending_label line.call (label_in line)) m.lent old.packets new.packets
+  pub packets : TellsId (lending_label_by line.call (plain_answer m.answer) (label_in line)) m.lent old.packets new.packets
   pub number : new.number ≡ old.number + 1
   pub dropped : new.dropped ≡ old.dropped + dropped_by line.call (plain_answer m.answer)
   pub domain_number : new.domain_number ≡ old.domain_number

@@ -1,6 +1,6 @@
 -- A domain that runs its script on its own, whatever the other domains do.
 -- Source: docs/PROFILE.md, "Runs", "Lanes" and "Tries". Between two calls of a line with tries it makes only the turns of its calls.
-use Rattle.std.specs.Prelude.{◌≡◌, ℕ, ◌+◌, ◌*◌, ◌≤◌, ◌^◌, List, [], ◌∷◌, ◌++◌, map, filter, slice_get, Some}
+use Rattle.std.specs.Prelude.{◌≡◌, ℕ, ◌+◌, ◌*◌, ◌≤◌, ◌^◌, List, [], ◌∷◌, ◌++◌, map, filter, slice_get, None, Some}
 use Rattle.std.specs.List.{flat_map}
 use Rattle.lane_end.specs.AnySender.{AnySends}
 use Rattle.lane_end.specs.AnyReceiver.{AnyReceives}
@@ -9,7 +9,7 @@ use Rattle.board_model.specs.declared.scenario.CallLine.{CallLine}
 use Rattle.board_model.specs.declared.scenario.DomainLine.{DomainLine}
 use Rattle.board_model.specs.declared.scenario.Scenario.{Scenario}
 use Rattle.board_model.specs.Scenario.{script}
-use Rattle.board_model.specs.Journal.{PlainEntry, turned, put, again, called, Visit}
+use Rattle.board_model.specs.Journal.{PlainEntry, turned, put, again, waits, called, Visit}
 use Rattle.board_model.specs.Language.{IsLawfulBoard}
 use Rattle.board_model.specs.State.{is_from}
 use Rattle.board_model.specs.Step.{RunState, HasNoPuts, next_line, after}
@@ -43,6 +43,7 @@ abbrev pub entry_told : List CallLine → RunState → ℕ → PlainEntry → Li
 entry_told lines r peer (turned visits) = flat_map visit_told (visits_to peer visits)
 entry_told lines r peer (put to frame) = putting (puts_in peer (put to frame))
 entry_told lines r peer (again word) = []
+entry_told lines r peer (waits k) = []
 entry_told lines r peer (called k a) = map (λ i. receiver (Gave 0)) (filter (is_from peer) (returned_by (next_line lines r) r))
 
 -- and of a run
@@ -75,7 +76,7 @@ pub record CountsOneLine (old new : Station) : Type 0 where
 abbrev pub station_in : DomainLine → RunState → List PlainEntry → run.Station
 station_in d r entries = record { line = d; run = r; entries = entries }
 
--- on its way from these ends through its script, with so many calls made of the next line
+-- on its way from these ends through its script, with so many calls made of the next line, of which no wait has begun
 pub record IsOnItsWay (s : Scenario) (d : DomainLine) (ends : List RunEnds) (made : ℕ) (st : Station) : Type 0 where
   pub entries : List PlainEntry
   pub run : RunState
@@ -83,6 +84,7 @@ pub record IsOnItsWay (s : Scenario) (d : DomainLine) (ends : List RunEnds) (mad
   pub leads : Leads (script s d.domain) (start s d) entries run
   pub settled : HasNoPuts run.put_since_turn
   pub made_is : run.calls_made ≡ made
+  pub rests : run.waited ≡ None
   pub moves : MovedAsTold (script s d.domain) (start s d) (peers_of st.domain) entries ends st.domain.ends
 
 -- the line is run, whatever run it was in which it came next

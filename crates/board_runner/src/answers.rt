@@ -84,8 +84,24 @@ pub fn of_test<'a>(made: Result<Done, Refusal>, out: &'a [u8]) -> Answer<'a>
     ensures within { bytes_in_answer result ≤ length out.now }
 {
     match made {
-        Ok(done) => Answer::Done(told(done, out)),
+        Ok(done) => Answer::Done {
+            place: None,
+            result: told(done, out),
+        },
         Err(word) => Answer::Refused(word),
+    }
+}
+
+/// Of a wait that ended with a request, which brought no packet: it tells the place of the request among several. It gave the first
+/// bytes of `out` where a message came.
+pub fn of_wait<'a>(place: Option<u8>, done: Done, out: &'a [u8]) -> Answer<'a>
+    requires { GivesWithin (length out.now) done }
+    ensures completed { (lent : Lending) → plain_answer result ≡ completes place (result_of_done done out.now lent) }
+    ensures within { bytes_in_answer result ≤ length out.now }
+{
+    Answer::Done {
+        place,
+        result: told(done, out),
     }
 }
 
@@ -124,20 +140,30 @@ pub fn of_packet<'a>(bytes: Result<&[u8], Refusal>, out: &'a mut [u8]) -> Answer
     }
 }
 
-/// Of a test that brought a packet, by the bytes of the packet that is lent. They are copied to the front of `out`.
-pub fn of_tested_packet<'a>(bytes: Result<&[u8], Refusal>, out: &'a mut [u8]) -> Answer<'a>
+/// Of a test or a wait that brought a packet, by the bytes of the packet that is lent. They are copied to the front of `out`.
+pub fn of_tested_packet<'a>(
+    place: Option<u8>,
+    bytes: Result<&[u8], Refusal>,
+    out: &'a mut [u8],
+) -> Answer<'a>
     requires fits { IfOk bytes (λ b. length b.now ≤ length out.old) }
     requires small { IfOk bytes (λ b. length b.now < 2 ^ 32) }
-    ensures given { IfOk bytes.entry (λ b. plain_answer result ≡ completes None (brought (length b.now) b.now)) }
-    ensures refused { IfErr bytes.entry (λ word. plain_answer result ≡ completes None (ended_by word)) }
+    ensures given { IfOk bytes.entry (λ b. plain_answer result ≡ completes place (brought (length b.now) b.now)) }
+    ensures refused { IfErr bytes.entry (λ word. plain_answer result ≡ completes place (ended_by word)) }
     ensures within { bytes_in_answer result ≤ length out.old }
 {
     match bytes {
-        Ok(bytes) => Answer::Done(Told::Bytes {
-            size: bytes.len() as u32,
-            bytes: copied(bytes, out),
-        }),
-        Err(word) => Answer::Done(Told::Ended(word)),
+        Ok(bytes) => Answer::Done {
+            place,
+            result: Told::Bytes {
+                size: bytes.len() as u32,
+                bytes: copied(bytes, out),
+            },
+        },
+        Err(word) => Answer::Done {
+            place,
+            result: Told::Ended(word),
+        },
     }
 }
 

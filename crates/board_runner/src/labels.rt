@@ -1,11 +1,15 @@
 //! The ids of the requests that were given for labels, and of the packets that were lent under them.
 
-ghost use Rattle.std.specs.Prelude.{◌≡◌, Some, OnOk, option_map};
-ghost use Rattle.board_model.specs.Labels.{lending_label};
+ghost use Rattle.std.specs.Prelude.{◌≡◌, ◌≤◌, Some, OnOk, length, map, option_map};
 ghost use Rattle.board_model.specs.Scenario.{label_in};
+ghost use Rattle.mc_journal.specs.Entry.{plain_answer};
 ghost use Rattle.board_runner.specs.Held.{id_or_none, packet_or_none, TellsId};
+ghost use Rattle.board_runner.specs.LendingLabels.{label_told, lending_label_by};
+ghost use Rattle.board_runner.specs.Waits.{ids_named};
 
+use arrayvec::ArrayVec;
 use board_model::{Call, CallLine, Label};
+use domain_core::Answer;
 use mc_base::{NoMemory, PacketId, RequestId};
 use std::collections::BTreeMap;
 
@@ -32,6 +36,33 @@ pub fn id_of(ids: &BTreeMap<&[u8], RequestId>, label: &Label) -> RequestId
     }
 }
 
+/// The ids of the requests that a wait names: of one, or of several.
+pub fn ids_of(ids: &BTreeMap<&[u8], RequestId>, call: &Call) -> ArrayVec<RequestId, 8>
+    ensures { result.items ≡ ids_named ids.now call.now }
+{
+    match call {
+        Call::Wait { label, .. } => {
+            let mut one = ArrayVec::new();
+            one.push(id_of(ids, label));
+            one
+        }
+        Call::WaitAny { labels, .. } => ids_for(ids, labels.as_slice()),
+        _ => ArrayVec::new(),
+    }
+}
+
+/// The ids that are held for labels, in their order.
+fn ids_for(ids: &BTreeMap<&[u8], RequestId>, labels: &[Label]) -> ArrayVec<RequestId, 8>
+    requires { length labels.now ≤ 8 }
+    ensures { result.items ≡ map (λ l. id_or_none ids.now l.items) labels.now }
+{
+    let mut named = ArrayVec::new();
+    for label in labels {
+        named.push(id_of(ids, label));
+    }
+    named
+}
+
 /// The id of the packet that was lent under a label. Where none was, it is an id that names no packet.
 pub fn packet_of(packets: &BTreeMap<&[u8], PacketId>, label: &Label) -> PacketId
     ensures { result ≡ packet_or_none packets.now label.now.items }
@@ -42,14 +73,25 @@ pub fn packet_of(packets: &BTreeMap<&[u8], PacketId>, label: &Label) -> PacketId
     }
 }
 
-/// The label that a packet is lent under by a line: its own, or the one whose request it tests.
-pub fn lending_label_of(line: &CallLine) -> Option<&Label>
-    ensures { option_map (λ l. l.now.items) result ≡ lending_label line.now.call (label_in line.now) }
+/// The label that a packet is lent under by a line that was answered so: its own, or that of the request which it tests, or which its
+/// wait ended with.
+pub fn lending_label_of<'a>(line: &'a CallLine, answer: Answer<'_>) -> Option<&'a Label>
+    ensures { option_map (λ l. l.now.items) result ≡ lending_label_by line.now.call (plain_answer answer.entry) (label_in line.now) }
 {
-    match &line.call {
-        Call::Test { label } => Some(label),
+    match (&line.call, answer) {
+        (Call::Test { label } | Call::Wait { label, .. }, _) => Some(label),
+        (Call::WaitAny { labels, .. }, Answer::Done { place, .. }) => label_at(labels, place),
+        (Call::WaitAny { .. }, _) => None,
         _ => line.label.as_ref(),
     }
+}
+
+/// The label at a place of a list, counted from 1.
+fn label_at(labels: &ArrayVec<Label, 8>, place: Option<u8>) -> Option<&Label>
+    ensures { option_map (λ l. l.now.items) result ≡ label_told (map (λ l. l.items) labels.now.items) place }
+{
+    let place = usize::from(place?).checked_sub(1)?;
+    labels.as_slice().get(place)
 }
 
 /// Holds the id that was given for a label. One that is held for the label already stays.

@@ -1,10 +1,10 @@
 //! The calls of a line: each with its turn, and made again as often as the line says where it is refused with one of six words.
 
-ghost use Rattle.std.specs.Prelude.{◌≡◌, ◌<◌, ◌≤◌, ◌+◌, ◌*◌, ◌^◌, true, false, IfOk, OnOk, MatchOption, length};
+ghost use Rattle.std.specs.Prelude.{◌≡◌, ◌<◌, ◌≤◌, ◌+◌, ◌*◌, ◌^◌, true, false, None, IfOk, OnOk, MatchOption, length};
 ghost use Rattle.mc_base.specs.Limits.{asked_limit};
 ghost use Rattle.board_model.specs.Journal.{refuses, noted_again};
 ghost use Rattle.board_model.specs.SerialRun.{more_calls};
-ghost use Rattle.board_model.specs.Step.{is_tried, is_tried_word};
+ghost use Rattle.board_model.specs.Step.{is_tried, is_tried_word, limit_of};
 ghost use Rattle.mc_journal.specs.Entry.{plain_answer, bytes_in_answer};
 ghost use Rattle.board_runner.specs.Carried.{StayCarriedWhere};
 ghost use Rattle.board_runner.specs.Lines.{CallsDomain, MakesCall, NotesCalled, Tries, HasFitNumbers, call_by, dropped_by, is_quiet as is_quiet_call, ends_idle as ends_idle_lines};
@@ -14,6 +14,7 @@ mod channels;
 mod items;
 mod messages;
 mod requests;
+pub mod waits;
 
 use crate::carrying::carry_all;
 use crate::labels::{hold, id_of, lending_label_of, packet_of};
@@ -28,6 +29,7 @@ use mc_base::{Local, NoMemory, PacketId, Refusal, RequestId};
 use messages::{available, create, delete, receive, send, turn};
 use requests::{cancel, lookup, request, test};
 use std::collections::BTreeMap;
+use waits::{run_wait, wait_limit};
 
 /// What a call answered, the request that it gave, and the packet that it lent.
 #[derive(Clone, Copy)]
@@ -44,8 +46,8 @@ pub struct Ended {
     pub is_quiet: bool,
 }
 
-/// Runs a line at the station of its domain. Between two of its calls every other domain makes a turn. What is received goes
-/// through `room`.
+/// Runs a line at the station of its domain. Between two of its calls every other domain makes a turn, and a wait makes rounds of
+/// turns of all domains. What is received goes through `room`.
 ///
 /// # Errors
 ///
@@ -66,6 +68,10 @@ pub fn run_line<'a>(
     ensures carried { OnOk result (AllCarried stations.new) }
     ensures counts { OnOk result (OneLineMore at stations.old stations.new) }
 {
+    if let Some(limit) = wait_limit(&line.call) {
+        run_wait(stations, at, line, limit, room)?;
+        return Ok(());
+    }
     for _call in 0..more_calls_of(line.tries) {
         if !call_once(stations, at, line, true, room)? {
             return Ok(());
@@ -98,6 +104,7 @@ fn call_once<'a>(
     requires next { IsSomeNext line.now at stations.old }
     requires carried { AllCarried stations.old }
     requires counts { CountsFit stations.old }
+    requires no_wait { limit_of line.now.call ≡ None }
     requires asks { HasFitNumbers asked_limit line.now.call }
     requires room { length room.old ≡ asked_limit }
     ensures run { IfOk result (λ is_again. CallsLine line.now may_try is_again at stations.old stations.new) }
@@ -120,6 +127,7 @@ pub fn call_and_note<'a>(
 ) -> Result<Ended, NoMemory>
     requires count { MayCount station.old }
     requires drops { station.old.dropped ≤ 2 ^ 32 * station.old.number }
+    requires no_wait { limit_of line.now.call ≡ None }
     requires asks { HasFitNumbers asked_limit line.now.call }
     requires room { length room.old ≡ asked_limit }
     ensures tries { IfOk result (λ ended. Tries line.now may_try station.old station.new ended.is_again ended.is_quiet) }
@@ -167,6 +175,7 @@ fn call_line<'r>(
     line: &CallLine,
     room: &'r mut [u8],
 ) -> Result<Made<'r>, NoMemory>
+    requires no_wait { limit_of line.now.call ≡ None }
     requires asks { HasFitNumbers asked_limit line.now.call }
     requires room { length room.old ≡ asked_limit }
     ensures { IfOk result (λ made. MakesCall line.now station.old station.new made) }
@@ -190,6 +199,7 @@ fn call_domain<'r>(
     line: &CallLine,
     room: &'r mut [u8],
 ) -> Result<Made<'r>, NoMemory>
+    requires no_wait { limit_of line.now.call ≡ None }
     requires asks { HasFitNumbers asked_limit line.now.call }
     requires room { length room.old ≡ asked_limit }
     ensures call { IfOk result (λ made. CallsDomain line.now.node (call_by ids.now packets.now domain.old.ids domain.old.packets line.now.call) domain.old domain.new journal.old.lines journal.new.lines made) }
@@ -232,6 +242,7 @@ fn call_domain<'r>(
         Call::CloseSend { port } => close_send(domain, journal, local(line, *port)),
         Call::CloseRecv { port } => close_recv(domain, journal, local(line, *port)),
         Call::Test { label } => test(domain, journal, id_of(ids, label), room),
+        Call::Wait { .. } | Call::WaitAny { .. } => unreachable!(), // A wait is called in `waits`.
         Call::Cancel { label } => cancel(domain, journal, id_of(ids, label)),
         Call::Turn => turn(domain, journal),
     }
@@ -302,7 +313,11 @@ fn note_called<'a>(
         answer: made.answer,
     });
     hold(&mut station.ids, line.label.as_ref(), made.given)?;
-    hold(&mut station.packets, lending_label_of(line), made.lent)?;
+    hold(
+        &mut station.packets,
+        lending_label_of(line, made.answer),
+        made.lent,
+    )?;
     station.number = number;
     station.dropped += dropped_in(&line.call, made.answer);
     Ok(())
@@ -323,7 +338,11 @@ fn bytes_of(answer: Answer<'_>) -> u32
     ensures { result ≡ bytes_in_answer answer.entry }
 {
     match answer {
-        Answer::Bytes { bytes, .. } | Answer::Done(Told::Bytes { bytes, .. }) => bytes.len() as u32,
+        Answer::Bytes { bytes, .. }
+        | Answer::Done {
+            result: Told::Bytes { bytes, .. },
+            ..
+        } => bytes.len() as u32,
         _ => 0,
     }
 }

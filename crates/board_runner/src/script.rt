@@ -8,6 +8,7 @@ ghost use Rattle.board_runner.specs.OwnRun.{HasNotBegun, CountsOneLine, RunsNext
 ghost use Rattle.board_runner.specs.Runs.{MayCount};
 
 use crate::gate::Gate;
+use crate::line::waits::{wait_alone, wait_limit};
 use crate::line::{call_and_note, more_calls_of};
 use crate::station::Station;
 use board_model::{CallLine, Scenario};
@@ -42,8 +43,8 @@ pub(crate) fn run_script<'a, G: Gate>(
     Ok(station)
 }
 
-/// Runs a line at its domain alone. Between two of its calls the domain makes only the turns of these calls. What is received goes
-/// through `room`.
+/// Runs a line at its domain alone. Between two of its calls the domain makes only the turns of these calls, and a wait makes its own.
+/// What is received goes through `room`.
 ///
 /// # Errors
 ///
@@ -60,6 +61,10 @@ fn run_own_line<'a>(
     ensures run { OnOk result (RunsNextLine line.now station.old station.new) }
     ensures counts { OnOk result (CountsOneLine station.old station.new) }
 {
+    if let Some(limit) = wait_limit(&line.call) {
+        wait_alone(station, line, limit, room)?;
+        return Ok(());
+    }
     for _call in 0..more_calls_of(line.tries) {
         if !call_and_note(station, line, true, room)?.is_again {
             return Ok(());

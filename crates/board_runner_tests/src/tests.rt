@@ -131,7 +131,11 @@ fn outcome(alloc: Global) -> Option<Outcome> {
 }
 
 /// Writes the report of the board of `TEXT`.
-fn write(scenario: &Scenario, outcome: &Outcome, sink: &mut MemSink) -> Option<Result<(), Failed>>
+pub fn write(
+    scenario: &Scenario,
+    outcome: &Outcome,
+    sink: &mut MemSink,
+) -> Option<Result<(), Failed>>
     requires told { IsToldByText scenario.now }
 {
     if outcome.journals.as_slice().len() != scenario.domains.as_slice().len() {
@@ -140,7 +144,7 @@ fn write(scenario: &Scenario, outcome: &Outcome, sink: &mut MemSink) -> Option<R
     Some(write_report(scenario, outcome, false, sink))
 }
 
-fn read(alloc: Global, text: &[u8]) -> Option<Scenario>
+pub fn read(alloc: Global, text: &[u8]) -> Option<Scenario>
     ensures told { IfSome result (λ s. told_by text.now ≡ Ok s) }
     ensures short { IfSome result (λ _. length text.now < 1_000_000) }
 {

@@ -5,3 +5,5 @@
 mod gates;
 #[cfg(test)]
 mod tests;
+#[cfg(test)]
+mod waits;

@@ -22,7 +22,7 @@ fn read(alloc: Global, text: &[u8]) -> Option<Scenario>
 }
 
 /// Runs a board whose lines pass this gate.
-fn run<R: Threads + Sync, G: Gate + Sync>(
+pub fn run<R: Threads + Sync, G: Gate + Sync>(
     rt: &R,
     alloc: Global,
     board: &[u8],
@@ -33,7 +33,7 @@ fn run<R: Threads + Sync, G: Gate + Sync>(
 }
 
 /// The answer of a line of a domain's script.
-fn answer_of(journal: &Journal, line: u32) -> Option<Answer<'_>> {
+pub fn answer_of(journal: &Journal, line: u32) -> Option<Answer<'_>> {
     for at in 0..journal.len() {
         if let Some(Entry::Called { number, answer }) = journal.entry(at) {
             if number == line {
@@ -48,7 +48,7 @@ fn is_ok(answer: Option<Answer<'_>>) -> bool {
     matches!(answer, Some(Answer::Ok))
 }
 
-fn is_refused(answer: Option<Answer<'_>>, word: Refusal) -> bool {
+pub fn is_refused(answer: Option<Answer<'_>>, word: Refusal) -> bool {
     match answer {
         Some(Answer::Refused(refused)) => refused == word,
         _ => false,
@@ -63,7 +63,7 @@ fn is_received(answer: Option<Answer<'_>>, byte: u8) -> bool {
 }
 
 /// The journal at a place of an outcome.
-fn journal_at(outcome: &Outcome, at: usize) -> Option<&Journal> {
+pub fn journal_at(outcome: &Outcome, at: usize) -> Option<&Journal> {
     outcome.journals.as_slice().get(at)
 }
 

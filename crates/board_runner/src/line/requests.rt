@@ -61,7 +61,7 @@ pub fn test<'r>(
     let tested = domain.test(journal, id, out);
     if let Ok(Done::Packet(packet)) = tested {
         return Ok(Made {
-            answer: of_tested_packet(domain.pkt_bytes(packet), out),
+            answer: of_tested_packet(None, domain.pkt_bytes(packet), out),
             given: None,
             lent: Some(packet),
         });

@@ -1,7 +1,15 @@
-use Rattle.std.proofs.Common.{◌<◌, ◌≤◌, true, false, refl, arith}
+use Rattle.std.proofs.Common.{◌<◌, ◌≤◌, true, false, refl, rules, sym, arith}
 use Rattle.board_model.specs.SerialRun.{more_calls}
 use Rattle.board_runner.proofs.OwnRunLemmas.{more_may, none_may, counts-nothing, nothing-then, never-again, tried-more, tried-last}
+use Rattle.board_runner.proofs.OwnWaits.{counts-wait, runs-next}
 use Rattle.board_runner.proofs.script.run_own_line.Goals as goal
+
+-- a wait
+pub returns-in-Some-clause-run : goal.returns-in-Some-clause-run
+returns-in-Some-clause-run c = runs-next c.args.line.now c.in-Some.limit c.args.station.now c.wait_alone.new.station (sym c.in-Some.ensures) c.requires.count c.in_ok-wait_alone.ensures
+
+pub returns-in-Some-clause-counts : goal.returns-in-Some-clause-counts
+returns-in-Some-clause-counts c = counts-wait c.args.line.now c.in-Some.limit c.args.station.now c.wait_alone.new.station (sym c.in-Some.ensures) c.requires.drops c.in_ok-wait_alone.ensures
 
 pub loop-call-init : goal.loop-call-init
 loop-call-init c = record { tried = λ s d ends lawful own comes h. h; counts = record { number = refl; dropped = refl; domain_number = refl }; room = c.requires.room }
@@ -33,7 +41,7 @@ returns-then-not-branch-clause-run c =
     let ended = c.in_ok-call_and_note.field-0 in
     let made = c.loop-call._call in
     let less : made < more_calls line.tries = omega (arith, c.loop-call-test.true, c.more_calls_of-call-end.ensures) in
-    tried-last line made true ended.is_again ended.is_quiet c.args.station.now c.loop-call.station c.call_and_note.new.station (more_may line.tries made less) c.requires.count c.loop-call.invariant.counts c.loop-call.invariant.tried c.in_ok-call_and_note.ensures.tries
+    tried-last line made true ended.is_again ended.is_quiet c.args.station.now c.loop-call.station c.call_and_note.new.station (search rules) (more_may line.tries made less) c.requires.count c.loop-call.invariant.counts c.loop-call.invariant.tried c.in_ok-call_and_note.ensures.tries
     c.if-not-branch.true
 
 pub returns-clause-run : goal.returns-clause-run
@@ -43,5 +51,5 @@ returns-clause-run c =
     let made = c.loop-call._call in
     let none : more_calls line.tries ≤ made = omega (arith, c.loop-call-test.false, c.more_calls_of-call-end.ensures) in
     let tries = c.in_ok-call_and_note-2.ensures.tries in
-    tried-last line made false ended.is_again ended.is_quiet c.args.station.now c.loop-call.station c.call_and_note-2.new.station (none_may line.tries made none) c.requires.count c.loop-call.invariant.counts c.loop-call.invariant.tried tries
+    tried-last line made false ended.is_again ended.is_quiet c.args.station.now c.loop-call.station c.call_and_note-2.new.station (search rules) (none_may line.tries made none) c.requires.count c.loop-call.invariant.counts c.loop-call.invariant.tried tries
     (never-again line ended.is_again ended.is_quiet c.loop-call.station c.call_and_note-2.new.station tries)

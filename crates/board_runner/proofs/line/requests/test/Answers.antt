@@ -22,7 +22,7 @@ returns-in-Ok-Packet c node =
     let s = made.turned_to.state in
     let same : c.in-Ok-Packet.field-0 ≡ done.Packet c.in-Ok-Packet.packet = subst (λ r. (values_d (result_c.enum done_c.the_row refusal_c.the_row) 0 (done.Address 0, tt) r).0 ≡ done.Packet c.in-Ok-Packet.packet) c.in-Ok-Packet.is c.in-Ok-Packet.field-0-is in
     test_anywhere node _ _ _ _ _ _ (calls_domain _ _ _ _ _ _ _ _ _ _ c.reserve.ensures.lines made
-    (whole_brought _ _ _ bytes.bytes bytes.refused.0 bytes.refused.1 bytes.word told.given told.refused ∙ (sym (ap (λ (d : Done). completes None (result_of_done d c.test-tested.new.out (packet_lent_as c.test-tested.new.self))) same) ∙ sym (ap (λ r. tested r c.test-tested.new.out (packet_lent_as c.test-tested.new.self)) c.in-Ok-Packet.is))) refl (gives_none s 0 call refl)
+    (whole_brought None _ _ _ bytes.bytes bytes.refused.0 bytes.refused.1 bytes.word told.given told.refused ∙ (sym (ap (λ (d : Done). completes None (result_of_done d c.test-tested.new.out (packet_lent_as c.test-tested.new.self))) same) ∙ sym (ap (λ r. tested r c.test-tested.new.out (packet_lent_as c.test-tested.new.self)) c.in-Ok-Packet.is))) refl (gives_none s 0 call refl)
     (lends_added s 0 call c.args.domain.now.packets made.turned_to.packets c.test-tested.new.self.packets made.does.lent (Some c.in-Ok-Packet.packet) refl made.turns.packets made.does.packets (subst (λ (d : Done). LendsBy c.args.domain.now c.test-tested.new.self d) same (subst (λ r. IfOk r (LendsBy c.args.domain.now c.test-tested.new.self)) c.in-Ok-Packet.is c.test-tested.ensures.lent))) (omega (arith, told.within, c.requires)))
 
 pub returns : goal.returns

@@ -1,0 +1,15 @@
+use Rattle.std.proofs.Common.{◌∷◌, [], None, false}
+use Rattle.domain_core.specs.DomainView.{packet_lent_as}
+use Rattle.board_runner.proofs.WaitLemmas.{ends-with, one-without}
+use Rattle.board_runner.proofs.line.waits.wait_one.Goals as goal
+
+pub returns-in-Ok : goal.returns-in-Ok
+returns-in-Ok c =
+    let made = c.ended_with.ensures in
+    ends-with c.args.number c.args.limit (c.args.id ∷ []) false c.args.domain.now c.wait.new.self c.args.journal.now.lines c.wait.new.journal.lines None c.in-Ok.done c.wait.new.out c.ended_with.result
+    c.in-Ok.ensures.wait c.in-Ok.ensures.lent made.answer made.given made.lent made.bytes_fit
+
+pub returns-in-Err : goal.returns-in-Err
+returns-in-Err c =
+    one-without c.args.number c.args.limit (c.args.id ∷ []) false c.args.domain.now c.wait.new.self c.args.journal.now.lines c.wait.new.journal.lines c.in-Err.fault c.wait.new.out (packet_lent_as c.wait.new.self) c.not_ended.result
+    c.in-Err.ensures.wait c.not_ended.ensures
