@@ -146,9 +146,9 @@ pub fn write(
 
 pub fn read(alloc: Global, text: &[u8]) -> Option<Scenario>
     ensures told { IfSome result (λ s. told_by text.now ≡ Ok s) }
-    ensures short { IfSome result (λ _. length text.now < 1_000_000) }
+    ensures short { IfSome result (λ _. length text.now < 8_000_000) }
 {
-    if text.len() >= 1_000_000 {
+    if text.len() >= 8_000_000 {
         return None;
     }
     read_scenario(alloc, text).ok()
@@ -215,7 +215,7 @@ static PLACES: [Lane; 4] = [
     (5, 5, 2, 0, 0, 0),
 ];
 
-fn run(alloc: Global, text: &[u8]) -> Option<Outcome> {
+pub fn run(alloc: Global, text: &[u8]) -> Option<Outcome> {
     let scenario = read(alloc, text)?;
     run_serial(alloc, &scenario).ok()
 }

@@ -286,6 +286,175 @@ channel 0 1 accepted 1 taken 1 dropped 0 queued 0 ring 0
     ],
 );
 
+/// Two domains over a ring of 2: the wait ends after two rounds, and a third message finds no buffer.
+const SMALL_RING: Row = (
+    b"domain 0 nodes 1 pool 2
+domain 1 nodes 1 pool 2
+link 0 1 size 2
+0.0 create 1
+1.0 create 2
+0.0 a = lookup 1:0:2
+0.0 wait a 10
+0.0 msg_send 1 1:0:2 0 61
+0.0 msg_send 1 1:0:2 0 62
+0.0 msg_send 1 1:0:2 0 63
+1.0 msg_recv 2 488
+0.0 msg_send 1 1:0:2 0 63
+1.0 msg_recv 2 0
+",
+    &[
+        b"
+journal 0
+idle 1
+call 1 ok 1024
+turn
+put 1 000400003500000000000000280000006d636170693a303a303a310000000000000000000000000000000000000000000004000000000000
+call 2 ok 0
+wait 3
+idle 1
+turn
+back 1 1
+see 1 1
+take 1 000400003500000000000000280000006d636170693a313a303a320000000000000000000000000000000000000000000004000000000000 acted
+call 3 done 1024
+idle 1
+put 1 000400000004000000000000090000004d0101000000000061
+call 4 ok
+idle 1
+put 1 000400000004000000000000090000004d0101000000000062
+call 5 ok
+idle 1
+call 6 no_buffer
+turn
+back 1 1
+put 1 000400000004000000000000090000004d0101000000000063
+call 7 ok
+journal 1
+idle 1
+call 1 ok 1024
+turn
+put 0 000400003500000000000000280000006d636170693a313a303a320000000000000000000000000000000000000000000004000000000000
+see 0 1
+take 0 000400003500000000000000280000006d636170693a303a303a310000000000000000000000000000000000000000000004000000000000 acted
+turn
+back 0 1
+turn
+see 0 2
+take 0 000400000004000000000000090000004d0101000000000061 queued
+take 0 000400000004000000000000090000004d0101000000000062 queued
+call 2 ok 1 61
+turn
+see 0 1
+take 0 000400000004000000000000090000004d0101000000000063 queued
+call 3 truncated 1 -
+messages accepted 3 taken 2 dropped 0 queued 1 ring 0
+lane 0 0 free 2 ring 0 queue 0 lent 0
+lane 0 1 free 1 ring 0 queue 1 lent 0
+lane 1 0 free 2 ring 0 queue 0 lent 0
+lane 1 1 free 2 ring 0 queue 0 lent 0
+end
+",
+    ],
+);
+
+/// A channel of scalars, whose connect is waited for: another size leaves the item, and a packet is of another type.
+const SCALARS: Row = (
+    b"domain 0 nodes 1 pool 2
+domain 1 nodes 1 pool 2
+link 0 1 size 4
+0.0 create 1
+1.0 create 2
+0.0 a = lookup 1:0:2
+0.0 wait a 10
+0.0 c = connect 1 1:0:2 scalar
+0.0 wait c 10
+1.0 open_recv 2 scalar
+0.0 open_send 1 scalar
+0.0 scl_send 1 16 4660
+1.0 scl_recv 2 32
+1.0 scl_recv 2 16
+1.0 scl_recv 2 16
+1.0 p = pkt_recv 2
+1.0 release p
+",
+    &[
+        b"
+journal 0
+idle 1
+call 1 ok 1024
+turn
+put 1 000400003500000000000000280000006d636170693a303a303a310000000000000000000000000000000000000000000004000000000000
+call 2 ok 0
+wait 3
+idle 1
+turn
+back 1 1
+see 1 1
+take 1 000400003500000000000000280000006d636170693a313a303a320000000000000000000000000000000000000000000004000000000000 acted
+call 3 done 1024
+idle 1
+put 1 000400000004000000000000080000004d01020101000000
+call 4 ok 1 1
+wait 5
+idle 1
+turn
+back 1 1
+turn
+see 1 1
+take 1 000400000004000000000000080000004d01030001000000 acted
+call 5 done accepted
+turn
+see 1 1
+take 1 000400000004000000000000080000004d01050001000000 acted
+put 1 000400000004000000000000080000004d01060001000000
+call 6 ok
+idle 1
+put 1 0004000000040000000000000a0000004d010802010000003412
+call 7 ok
+journal 1
+idle 1
+call 1 ok 1024
+turn
+put 0 000400003500000000000000280000006d636170693a313a303a320000000000000000000000000000000000000000000004000000000000
+see 0 1
+take 0 000400003500000000000000280000006d636170693a303a303a310000000000000000000000000000000000000000000004000000000000 acted
+turn
+back 0 1
+turn
+see 0 1
+take 0 000400000004000000000000080000004d01020101000000 owed
+turn
+put 0 000400000004000000000000080000004d01030001000000
+turn
+back 0 1
+idle 1
+put 0 000400000004000000000000080000004d01050001000000
+call 2 ok
+turn
+back 0 1
+see 0 2
+take 0 000400000004000000000000080000004d01060001000000 acted
+take 0 0004000000040000000000000a0000004d010802010000003412 queued
+call 3 scl_size
+idle 1
+call 4 ok 4660
+idle 1
+call 5 empty
+idle 1
+call 6 chan_type
+idle 1
+call 7 buf_invalid
+channel 0 1 accepted 1 taken 1 dropped 0 queued 0 ring 0
+messages accepted 0 taken 0 dropped 0 queued 0 ring 0
+lane 0 0 free 2 ring 0 queue 0 lent 0
+lane 0 1 free 4 ring 0 queue 0 lent 0
+lane 1 0 free 4 ring 0 queue 0 lent 0
+lane 1 1 free 2 ring 0 queue 0 lent 0
+end
+",
+    ],
+);
+
 /// Whether these bytes stand somewhere in a text.
 fn has_part(text: &[u8], part: &[u8]) -> bool {
     for at in 0..text.len() {
@@ -313,7 +482,16 @@ fn tells(alloc: Global, row: Row) -> Option<bool> {
 
 #[test]
 fn waits_are_told_line_by_line(rt: HostRuntime) -> Result<(), Fail> {
-    for row in [TIMEOUTS, SECOND_OF_TWO, GROUPS, ENDED, ROUNDS, CLOSES] {
+    for row in [
+        TIMEOUTS,
+        SMALL_RING,
+        SCALARS,
+        SECOND_OF_TWO,
+        GROUPS,
+        ENDED,
+        ROUNDS,
+        CLOSES,
+    ] {
         assert!(rt; tells(rt.alloc(), row).ok_or("memory")?);
     }
     Ok(())
