@@ -38,6 +38,11 @@ hex_length : (bs : List ℕ) → length (flat_map hex_byte bs) ≡ 2 * length bs
 hex_length [] = refl
 hex_length (b ∷ bs) = omega (arith, hex_length bs)
 
+-- two digits a byte, or one dash
+pub hex-short : (bs : List ℕ) → length (hex_text bs) ≤ 2 * length bs + 1
+hex-short [] = omega arith
+hex-short (b ∷ bs) = omega (arith, hex_length (b ∷ bs))
+
 pub are_bytes-hex : (bs : List ℕ) → AllByRecursion (λ b. b < 256) bs → length bs ≤ asked_limit → are_bytes (content 0 asked_limit (hex_text bs)) ≡ true
 are_bytes-hex bs small few =
     ap (are_within 0 asked_limit) (bytes_of-hex bs small) ∙ and_from (nat_le 0 (length bs)) (nat_le (length bs) asked_limit) (le-leb 0 (length bs) (omega arith)) (le-leb (length bs) asked_limit few)

@@ -106,7 +106,7 @@ both_seen most more vs ws first rest = record {
   few = omega (arith, room-append vs ws, first.few, rest.few);
 }
 
-caller_plain : (k : CallLine) → k.domain ≤ 7 → k.node ≤ 15 → IsPlain 21 (caller_text k)
+pub caller_plain : (k : CallLine) → k.domain ≤ 7 → k.node ≤ 15 → IsPlain 21 (caller_text k)
 caller_plain k domain_small node_small =
     begun_plain 21 (decimal k.domain) (46 ∷ decimal k.node) (decimal-begins k.domain (omega arith)) (joined-seen 46 k.domain k.node refl (omega arith) (omega arith))
     (omega (arith, length-append (decimal k.domain) (46 ∷ decimal k.node), decimal-few k.domain (omega arith), decimal-few k.node (omega arith)))

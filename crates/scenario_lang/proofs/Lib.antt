@@ -18,3 +18,5 @@ pub mod CanonicalLines
 pub mod CanonicalCallLines
 pub mod LinesTold
 pub mod ReadBack
+pub mod LoadLines
+pub mod LoadBoards

@@ -9,9 +9,10 @@ use Rattle.board_model.specs.declared.scenario.LinkLine.{LinkLine}
 use Rattle.board_model.specs.declared.scenario.CallLine.{CallLine}
 use Rattle.board_model.specs.declared.scenario.Scenario.{Scenario}
 use Rattle.board_model.specs.declared.form.ArgumentKind.{ArgumentKind}
+use Rattle.board_model.specs.declared.form.Callee.{Callee}
 use Rattle.board_model.specs.Grammar.{argument_texts, canonical, IsLawfulDomain}
 use Rattle.board_model.specs.FileWords.{numeral, is_number, number, are_bytes}
-use Rattle.board_model.specs.Forms.{form, NamedLabel, label_of, CallParts, LineParts, no_parts, domain_parts, link_parts, call_parts, told_fits, tries_fit, numerals, contents, tries_numerals, arguments_numerals, arguments_labels, values, says_domain, says_link, says_call, call_line}
+use Rattle.board_model.specs.Forms.{form, NamedLabel, label_of, Values, CallParts, LineParts, no_parts, domain_parts, link_parts, call_parts, told_fits, tries_fit, numerals, contents, tries_numerals, arguments_numerals, arguments_labels, values, says_domain, says_link, says_call, call_line}
 use Rattle.board_model.specs.LineReasons.{is_empty, is_domain, is_same_pair, is_link_size, tells_wrong_label, names_wrong_label, word_reasons, with_statement, with_parts}
 use Rattle.board_model.specs.Language.{nothing_told, told_from, told_by, IsLawfulBoard}
 use Rattle.board_model.proofs.LawfulTests.{all-both}
@@ -29,7 +30,7 @@ use Rattle.scenario_lang.proofs.LinesTold.{domain_line, link_line, called_line, 
 -- ---- a line that is not refused
 
 -- the lines of the canonical text tell the scenario
-abbrev IsReadBack : Scenario → Type 0
+abbrev pub IsReadBack : Scenario → Type 0
 IsReadBack s = AreRead nothing_told (lines_told s.domains s.links s.calls) s
 
 domain_on : (s : Scenario) (d n p : List ℕ) → HoldNot (word_reasons s (Some (domain_parts d n p))) → IsReadBack s → IsReadBack (with_parts s (Some (domain_parts d n p)))
@@ -98,12 +99,15 @@ call_fits s c fits none =
           ∙ none.1.1.1.1.1.1.0;
     }
 
-call_on : (s : Scenario) (c : CallParts) → FitsCall c → HoldNot (word_reasons s (Some (call_parts c))) → IsReadBack s → IsReadBack (with_parts s (Some (call_parts c)))
-call_on s c fits none back =
-    let k : CallLine = call_line c in
+-- a call line more that may be told here
+pub call-more : (s : Scenario) (k : CallLine) (c : Callee) (arguments : Values (form c).arguments) → FitsHere s k c arguments → IsReadBack s → IsReadBack (with_statement s (says_call k))
+call-more s k c arguments fits back =
     let t : Scenario = with_statement s (says_call k) in
     subst (λ (ls : List (List ℕ)). AreRead nothing_told ls t) (sym (one_call_more s.domains s.links s.calls k))
-    (one_more nothing_told (lines_told s.domains s.links s.calls) s (called_line k) t back (call-read s k c.callee (values (form c.callee).arguments c.arguments) (call_fits s c fits none)))
+    (one_more nothing_told (lines_told s.domains s.links s.calls) s (called_line k) t back (call-read s k c arguments fits))
+
+call_on : (s : Scenario) (c : CallParts) → FitsCall c → HoldNot (word_reasons s (Some (call_parts c))) → IsReadBack s → IsReadBack (with_parts s (Some (call_parts c)))
+call_on s c fits none back = call-more s (call_line c) c.callee (values (form c.callee).arguments c.arguments) (call_fits s c fits none) back
 
 line_on : (n : ℕ) (s : Scenario) (p : Option LineParts) → FitsIfRead p → HoldNot (word_reasons s p) → IsReadBack s → IsReadBack (with_parts s p)
 line_on n s None fits none back = absurd (let e = none.0 in cc)
@@ -118,8 +122,11 @@ some_domain : (ds : List DomainLine) → 1 ≤ length ds → is_empty ds ≡ fal
 some_domain [] some = absurd (omega arith)
 some_domain (d ∷ ds) some = refl
 
-pub canonical_read_back : (s : Scenario) → IsLawfulBoard s → told_by (canonical s) ≡ Ok s
-canonical_read_back s h =
-    let back : IsReadBack s = text-keeps (λ n t. IsReadBack t) line_on h.0 s h.2 refl in
+-- a text whose lines tell the scenario tells it
+pub told-back : (s : Scenario) → 1 ≤ length s.domains → IsReadBack s → told_by (canonical s) ≡ Ok s
+told-back s some back =
     ap (told_from 1 nothing_told) (canonical_lines s (are_texts nothing_told (lines_told s.domains s.links s.calls) s back))
-    ∙ are_told 1 nothing_told (lines_told s.domains s.links s.calls) s (some_domain s.domains (lawful-some s h)) back
+    ∙ are_told 1 nothing_told (lines_told s.domains s.links s.calls) s (some_domain s.domains some) back
+
+pub canonical_read_back : (s : Scenario) → IsLawfulBoard s → told_by (canonical s) ≡ Ok s
+canonical_read_back s h = told-back s (lawful-some s h) (text-keeps (λ n t. IsReadBack t) line_on h.0 s h.2 refl)

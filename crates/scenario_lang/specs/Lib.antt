@@ -6,3 +6,4 @@ pub mod Parts
 pub mod Table
 pub mod Telling
 pub mod LanguageLaws
+pub mod LoadGroups

@@ -15,6 +15,7 @@ mod groups;
 mod kinds;
 mod labels;
 mod lines;
+mod load;
 mod numerals;
 mod reading;
 mod table;
@@ -24,5 +25,6 @@ pub use board_model::{Call, CallLine, DomainLine, LineReason, LinkLine, Scenario
 pub use canonical::put_scenario;
 pub use fault::ScenarioFault;
 pub use kinds::kind_word;
+pub use load::{load_boards_are_lawful, load_scenario};
 pub use reading::{canonical_text_is_read_back, read_scenario};
 pub use writing::write_scenario;

@@ -1,0 +1,368 @@
+-- The load boards are lawful: their canonical texts tell them, line by line, and are short enough to be read.
+use Rattle.std.proofs.Common.{◌≡◌, ℕ, zero, suc, ◌+◌, ◌-◌, ◌*◌, ◌≤◌, ◌<◌, ◌^◌, Bool, true, false, ◌&&◌, ◌||◌, List, [], ◌∷◌, ◌++◌, length, refl, sym, subst, ap, ap₂, ◌∙◌, arith, append_assoc, length-append, inl, inr}
+use Rattle.std.specs.Prelude.{codes, decimal, bytes_eq}
+use Rattle.std.specs.List.{list_any, flat_map, AllByRecursion}
+use Rattle.std.proofs.lemmas.List.{append-nil}
+use Rattle.std.proofs.lemmas.List.Folds.{list_any-append}
+use Rattle.std.proofs.lemmas.Grind.{flat_map-append}
+use Rattle.std.proofs.lemmas.Slice.Eq.{bytes_eq-Decides}
+use Rattle.board_model.specs.declared.scenario.DomainLine.{DomainLine}
+use Rattle.board_model.specs.declared.scenario.LinkLine.{LinkLine}
+use Rattle.board_model.specs.declared.scenario.Call.TheVariants.{PktSend, PktRecv, Release}
+use Rattle.board_model.specs.declared.scenario.CallLine.{CallLine}
+use Rattle.board_model.specs.declared.scenario.Scenario.{Scenario}
+use Rattle.board_model.specs.Grammar.{domain_text, link_text, call_text, canonical, IsLawfulDomain}
+use Rattle.board_model.specs.FileWords.{number, is_label}
+use Rattle.board_model.specs.Forms.{label_of, gives_packet}
+use Rattle.board_model.specs.LineReasons.{tells, is_told_of}
+use Rattle.board_model.specs.Language.{nothing_told, IsLawfulBoard}
+use Rattle.board_model.specs.LoadBoard.{ring_numbers, ring_domain, ring_link, tried, once, labelled_tried, packet_label, packet_bytes, for_each, opening, exchange, exchanges, closing, load_calls, ring_board, load_board, load_limit}
+use Rattle.board_model.proofs.WordDecimals.{number-decimal}
+use Rattle.scenario_lang.proofs.Options.{cases_bool}
+use Rattle.scenario_lang.proofs.CanonicalLines.{domain-read, link-read}
+use Rattle.scenario_lang.proofs.ReadBack.{IsReadBack, call-more, told-back}
+use Rattle.scenario_lang.proofs.LoadLines.{CanTell, create-can, open_recv-can, open_send-can, send-can, close_send-can, close_recv-can, lookup-can, connect-can, receive-can, wait-can, release-can, packet_label-is, packet_label-few, packet_bytes-fit}
+
+-- ---- lines one after the other
+
+-- each of these lines may be told after those above and those in front of it
+abbrev AreTold : (above front lines : List CallLine) → Type 0
+AreTold above front [] = Unit {0}
+AreTold above front (k ∷ ks) = CanTell (above ++ front) k × AreTold above (front ++ (k ∷ [])) ks
+
+-- the ring with these lines is read back
+abbrev AreReadBack : List CallLine → Type 0
+AreReadBack lines = IsReadBack (ring_board lines)
+
+lines_on : (above front lines : List CallLine) → AreTold above front lines → AreReadBack (above ++ front) → AreReadBack (above ++ (front ++ lines))
+lines_on above front [] told back = subst (λ (ks : List CallLine). AreReadBack (above ++ ks)) (sym (append-nil front)) back
+lines_on above front (k ∷ ks) told back =
+    let can = told.0 in
+    let here : AreReadBack ((above ++ front) ++ (k ∷ [])) = call-more (ring_board (above ++ front)) k can.callee can.arguments can.fits back in
+    let next : AreReadBack (above ++ (front ++ (k ∷ []))) = subst AreReadBack (append_assoc above front (k ∷ [])) here in
+    subst (λ (xs : List CallLine). AreReadBack (above ++ xs)) (append_assoc front (k ∷ []) ks) (lines_on above (front ++ (k ∷ [])) ks told.1 next)
+
+-- the same from the first of the lines
+lines_after : (above lines : List CallLine) → AreTold above [] lines → AreReadBack above → AreReadBack (above ++ lines)
+lines_after above lines told back = lines_on above [] lines told (subst AreReadBack (sym (append-nil above)) back)
+
+lines_few : (above front lines : List CallLine) → AreTold above front lines → length (flat_map call_text lines) ≤ 200 * length lines
+lines_few above front [] told = omega arith
+lines_few above front (k ∷ ks) told = omega (arith, length-append (call_text k) (flat_map call_text ks), told.0.few, lines_few above (front ++ (k ∷ [])) ks told.1)
+
+-- ---- domains and links
+
+ring_lawful : (d : ℕ) → d ≤ 3 → IsLawfulDomain (ring_domain d)
+ring_lawful d small = record { domain_fits = omega (arith, small); some_nodes = omega arith; nodes_fit = omega arith; some_pool = omega arith; pool_fits = omega arith }
+
+-- a board without calls
+abbrev so_far : List DomainLine → List LinkLine → Scenario
+so_far ds ls = record { domains = ds; links = ls; calls = [] }
+
+ring_read : AreReadBack []
+ring_read =
+    let d0 : DomainLine = ring_domain 0 in
+    let d1 : DomainLine = ring_domain 1 in
+    let d2 : DomainLine = ring_domain 2 in
+    let d3 : DomainLine = ring_domain 3 in
+    let ds : List DomainLine = d0 ∷ d1 ∷ d2 ∷ d3 ∷ [] in
+    let l0 : LinkLine = ring_link 0 in
+    let l1 : LinkLine = ring_link 1 in
+    let l2 : LinkLine = ring_link 2 in
+    let l3 : LinkLine = ring_link 3 in (
+      so_far (d0 ∷ []) [],
+      domain-read nothing_told d0 (ring_lawful 0 (omega arith)) refl refl,
+      (
+        so_far (d0 ∷ d1 ∷ []) [],
+        domain-read (so_far (d0 ∷ []) []) d1 (ring_lawful 1 (omega arith)) refl refl,
+        (
+          so_far (d0 ∷ d1 ∷ d2 ∷ []) [],
+          domain-read (so_far (d0 ∷ d1 ∷ []) []) d2 (ring_lawful 2 (omega arith)) refl refl,
+          (
+            so_far ds [],
+            domain-read (so_far (d0 ∷ d1 ∷ d2 ∷ []) []) d3 (ring_lawful 3 (omega arith)) refl refl,
+            (
+              so_far ds (l0 ∷ []),
+              link-read (so_far ds []) l0 (omega arith) (omega arith) (omega arith) refl refl refl,
+              (
+                so_far ds (l0 ∷ l1 ∷ []),
+                link-read (so_far ds (l0 ∷ [])) l1 (omega arith) (omega arith) (omega arith) refl refl refl,
+                (
+                  so_far ds (l0 ∷ l1 ∷ l2 ∷ []),
+                  link-read (so_far ds (l0 ∷ l1 ∷ [])) l2 (omega arith) (omega arith) (omega arith) refl refl refl,
+                  (
+                    so_far ds (l0 ∷ l1 ∷ l2 ∷ l3 ∷ []),
+                    link-read (so_far ds (l0 ∷ l1 ∷ l2 ∷ [])) l3 (omega arith) (omega arith) (omega arith) refl refl refl,
+                    refl,
+                  ),
+                ),
+              ),
+            ),
+          ),
+        ),
+      ),
+    )
+
+-- ---- the opening and the closing
+
+opening_told : AreTold [] [] opening
+opening_told = (
+  create-can _ 0 1 (omega arith) (omega arith),
+  (
+    create-can _ 0 2 (omega arith) (omega arith),
+    (
+      create-can _ 1 1 (omega arith) (omega arith),
+      (
+        create-can _ 1 2 (omega arith) (omega arith),
+        (
+          create-can _ 2 1 (omega arith) (omega arith),
+          (
+            create-can _ 2 2 (omega arith) (omega arith),
+            (
+              create-can _ 3 1 (omega arith) (omega arith),
+              (
+                create-can _ 3 2 (omega arith) (omega arith),
+                (
+                  lookup-can _ 0 (omega arith) refl,
+                  (
+                    wait-can _ 0 (codes "a") (omega arith) refl (omega arith) refl,
+                    (
+                      lookup-can _ 1 (omega arith) refl,
+                      (
+                        wait-can _ 1 (codes "a") (omega arith) refl (omega arith) refl,
+                        (
+                          lookup-can _ 2 (omega arith) refl,
+                          (
+                            wait-can _ 2 (codes "a") (omega arith) refl (omega arith) refl,
+                            (
+                              lookup-can _ 3 (omega arith) refl,
+                              (
+                                wait-can _ 3 (codes "a") (omega arith) refl (omega arith) refl,
+                                (
+                                  connect-can _ 0 (omega arith) refl,
+                                  (
+                                    wait-can _ 0 (codes "c") (omega arith) refl (omega arith) refl,
+                                    (
+                                      connect-can _ 1 (omega arith) refl,
+                                      (
+                                        wait-can _ 1 (codes "c") (omega arith) refl (omega arith) refl,
+                                        (
+                                          connect-can _ 2 (omega arith) refl,
+                                          (
+                                            wait-can _ 2 (codes "c") (omega arith) refl (omega arith) refl,
+                                            (
+                                              connect-can _ 3 (omega arith) refl,
+                                              (
+                                                wait-can _ 3 (codes "c") (omega arith) refl (omega arith) refl,
+                                                (
+                                                  open_recv-can _ 0 (omega arith),
+                                                  (
+                                                    open_send-can _ 0 (omega arith),
+                                                    (
+                                                      open_recv-can _ 1 (omega arith),
+                                                      (
+                                                        open_send-can _ 1 (omega arith),
+                                                        (
+                                                          open_recv-can _ 2 (omega arith),
+                                                          (
+                                                            open_send-can _ 2 (omega arith),
+                                                            (
+                                                              open_recv-can _ 3 (omega arith),
+                                                              (
+                                                                open_send-can _ 3 (omega arith),
+                                                                tt,
+                                                              ),
+                                                            ),
+                                                          ),
+                                                        ),
+                                                      ),
+                                                    ),
+                                                  ),
+                                                ),
+                                              ),
+                                            ),
+                                          ),
+                                        ),
+                                      ),
+                                    ),
+                                  ),
+                                ),
+                              ),
+                            ),
+                          ),
+                        ),
+                      ),
+                    ),
+                  ),
+                ),
+              ),
+            ),
+          ),
+        ),
+      ),
+    ),
+  ),
+)
+
+closing_told : (above : List CallLine) → AreTold above [] closing
+closing_told above = (
+  close_send-can _ 0 (omega arith),
+  (
+    close_recv-can _ 0 (omega arith),
+    (
+      close_send-can _ 1 (omega arith),
+      (
+        close_recv-can _ 1 (omega arith),
+        (
+          close_send-can _ 2 (omega arith),
+          (
+            close_recv-can _ 2 (omega arith),
+            (
+              close_send-can _ 3 (omega arith),
+              (
+                close_recv-can _ 3 (omega arith),
+                tt,
+              ),
+            ),
+          ),
+        ),
+      ),
+    ),
+  ),
+)
+
+-- ---- an exchange
+
+-- with any label and any bytes
+abbrev exchange_with : List ℕ → List ℕ → List CallLine
+exchange_with label bytes =
+    for_each (λ d. tried d (PktSend 1 bytes) ∷ []) ++ (for_each (λ d. labelled_tried d label (PktRecv 2) ∷ []) ++ for_each (λ d. once d (Release (label_of label)) ∷ []))
+
+-- a label that no line tells is still new after lines that do not tell it
+still_new : (d : ℕ) (label : List ℕ) (above front : List CallLine) → list_any (tells d label) above ≡ false → list_any (tells d label) front ≡ false → list_any (tells d label) (above ++ front) ≡ false
+still_new d label above front first second = list_any-append (tells d label) above front ∙ ap₂ (λ (a : Bool) (b : Bool). a || b) first second
+
+or_true : (a b : Bool) → b ≡ true → (a || b) ≡ true
+or_true true b is = refl
+or_true false b is = is
+
+-- and one that the last lines tell is told
+told_last : (d : ℕ) (label : List ℕ) (above front : List CallLine) → list_any (λ c. tells d label c && gives_packet c.call) front ≡ true → is_told_of gives_packet (ring_board (above ++ front)) d label ≡ true
+told_last d label above front is =
+    list_any-append (λ (c : CallLine). tells d label c && gives_packet c.call) above front
+    ∙ or_true (list_any (λ (c : CallLine). tells d label c && gives_packet c.call) above) (list_any (λ (c : CallLine). tells d label c && gives_packet c.call) front) is
+
+exchange_told : (above : List CallLine) (label bytes : List ℕ) → is_label label ≡ true → length label ≤ 16 → length bytes ≤ 4 → AllByRecursion (λ b. b < 256) bytes → ((d : ℕ) → d ≤ 3 → list_any (tells d label) above ≡ false) → AreTold above [] (exchange_with label bytes)
+exchange_told above label bytes is few short fit new =
+    let same : bytes_eq label label ≡ true = (bytes_eq-Decides label label).1 refl in (
+      send-can _ 0 bytes (omega arith) short fit,
+      (
+        send-can _ 1 bytes (omega arith) short fit,
+        (
+          send-can _ 2 bytes (omega arith) short fit,
+          (
+            send-can _ 3 bytes (omega arith) short fit,
+            (
+              receive-can _ 0 label (omega arith) is few (still_new 0 label above _ (new 0 (omega arith)) refl),
+              (
+                receive-can _ 1 label (omega arith) is few (still_new 1 label above _ (new 1 (omega arith)) refl),
+                (
+                  receive-can _ 2 label (omega arith) is few (still_new 2 label above _ (new 2 (omega arith)) refl),
+                  (
+                    receive-can _ 3 label (omega arith) is few (still_new 3 label above _ (new 3 (omega arith)) refl),
+                    (
+                      release-can _ 0 label (omega arith) is few (told_last 0 label above _ (rw same refl)),
+                      (
+                        release-can _ 1 label (omega arith) is few (told_last 1 label above _ (rw same refl)),
+                        (
+                          release-can _ 2 label (omega arith) is few (told_last 2 label above _ (rw same refl)),
+                          (
+                            release-can _ 3 label (omega arith) is few (told_last 3 label above _ (rw same refl)),
+                            tt,
+                          ),
+                        ),
+                      ),
+                    ),
+                  ),
+                ),
+              ),
+            ),
+          ),
+        ),
+      ),
+    )
+
+-- lines of one label tell no other
+apart : (d : ℕ) (label other bytes : List ℕ) → d ≤ 3 → bytes_eq label other ≡ false → list_any (tells d label) (exchange_with other bytes) ≡ false
+apart zero label other bytes small differ = rw differ refl
+apart (suc zero) label other bytes small differ = rw differ refl
+apart (suc (suc zero)) label other bytes small differ = rw differ refl
+apart (suc (suc (suc zero))) label other bytes small differ = rw differ refl
+apart (suc (suc (suc (suc d)))) label other bytes small differ = absurd (omega (arith, small))
+
+abbrev after_first : List ℕ → List ℕ
+after_first [] = []
+after_first (b ∷ bs) = bs
+
+labels_differ : (k m : ℕ) → m < k → k < 2 ^ 64 → bytes_eq (packet_label k) (packet_label m) ≡ false
+labels_differ k m less small = elim (cases_bool (bytes_eq (packet_label k) (packet_label m))) [
+  | inr other ↦ other
+  | inl same ↦
+      let is : packet_label k ≡ packet_label m = (bytes_eq-Decides (packet_label k) (packet_label m)).0 same in
+      let digits : decimal k ≡ decimal m = ap after_first is in
+      let equal : k ≡ m = sym (number-decimal k small) ∙ ap number digits ∙ number-decimal m (omega (arith, less, small)) in
+      absurd (omega (arith, equal, less))
+]
+
+-- the label of a packet is new after the packets before it
+new_label : (d k m : ℕ) → d ≤ 3 → m < k → k < 2 ^ 64 → list_any (tells d (packet_label k)) (exchanges m) ≡ false
+new_label d k zero small less few = refl
+new_label d k (suc m) small less few =
+    still_new d (packet_label k) (exchanges m) (exchange (suc m)) (new_label d k m small (omega (arith, less)) few)
+    (apart d (packet_label k) (packet_label (suc m)) (packet_bytes (suc m)) small (labels_differ k (suc m) less few))
+
+opening_apart : (d : ℕ) (digits : List ℕ) → d ≤ 3 → list_any (tells d (112 ∷ digits)) opening ≡ false
+opening_apart zero digits small = refl
+opening_apart (suc zero) digits small = refl
+opening_apart (suc (suc zero)) digits small = refl
+opening_apart (suc (suc (suc zero))) digits small = refl
+opening_apart (suc (suc (suc (suc d)))) digits small = absurd (omega (arith, small))
+
+-- ---- the board
+
+next_told : (n : ℕ) → suc n ≤ load_limit → AreTold (opening ++ exchanges n) [] (exchange (suc n))
+next_told n few =
+    let k : ℕ = suc n in
+    exchange_told (opening ++ exchanges n) (packet_label k) (packet_bytes k) (packet_label-is k (omega (arith, few))) (packet_label-few k (omega (arith, few))) (omega arith) (packet_bytes-fit k)
+    (λ d small. still_new d (packet_label k) opening (exchanges n) (opening_apart d (decimal k) small) (new_label d k n small (omega arith) (omega (arith, few))))
+
+exchanges_read : (n : ℕ) → n ≤ load_limit → AreReadBack (opening ++ exchanges n)
+exchanges_read zero few = subst AreReadBack (sym (append-nil opening)) (lines_after [] opening opening_told ring_read)
+exchanges_read (suc n) few =
+    subst AreReadBack (append_assoc opening (exchanges n) (exchange (suc n))) (lines_after (opening ++ exchanges n) (exchange (suc n)) (next_told n few) (exchanges_read n (omega (arith, few))))
+
+load_read : (n : ℕ) → n ≤ load_limit → AreReadBack (load_calls n)
+load_read n few = subst AreReadBack (append_assoc opening (exchanges n) closing) (lines_after (opening ++ exchanges n) closing (closing_told (opening ++ exchanges n)) (exchanges_read n few))
+
+-- ---- its size
+
+exchanges_few : (n : ℕ) → n ≤ load_limit → length (flat_map call_text (exchanges n)) ≤ 2400 * n
+exchanges_few zero few = omega arith
+exchanges_few (suc n) few =
+    omega (arith, ap length (flat_map-append call_text (exchanges n) (exchange (suc n))), length-append (flat_map call_text (exchanges n)) (flat_map call_text (exchange (suc n))), lines_few (opening ++ exchanges n) [] (exchange (suc n)) (next_told n few), exchanges_few n (omega (arith, few)))
+
+calls_few : (n : ℕ) → n ≤ load_limit → length (flat_map call_text (load_calls n)) ≤ 2400 * n + 8000
+calls_few n few =
+    omega (arith, ap length (flat_map-append call_text opening (exchanges n ++ closing)), length-append (flat_map call_text opening) (flat_map call_text (exchanges n ++ closing)), ap length (flat_map-append call_text (exchanges n) closing), length-append (flat_map call_text (exchanges n)) (flat_map call_text closing), lines_few [] [] opening opening_told, lines_few [] [] closing (closing_told []), exchanges_few n few)
+
+text_few : (n : ℕ) → n ≤ load_limit → length (canonical (load_board n)) < 2 ^ 32 - 2
+text_few n few =
+    let b = load_board n in
+    let ds : List ℕ = flat_map domain_text b.domains in
+    let ls : List ℕ = flat_map link_text b.links in
+    let domains : length ds ≤ 1000 = omega arith in
+    let links : length ls ≤ 1000 = omega arith in
+    omega (arith, length-append ds (ls ++ flat_map call_text b.calls), length-append ls (flat_map call_text b.calls), domains, links, calls_few n few, few)
+
+pub load-lawful : (n : ℕ) → n ≤ load_limit → IsLawfulBoard (load_board n)
+load-lawful n few = (canonical (load_board n), text_few n few, told-back (load_board n) (omega arith) (load_read n few))
