@@ -117,7 +117,8 @@ load_calls n = opening ++ (exchanges n ++ closing)
 abbrev pub ring_board : List CallLine → Scenario
 ring_board calls = record { domains = map ring_domain ring_numbers; links = map ring_link ring_numbers; calls = calls }
 
-abbrev pub load_board : ℕ → Scenario
+-- it stands by itself, so that a run of it is not computed
+unfoldable pub load_board : ℕ → Scenario
 load_board n = ring_board (load_calls n)
 
 -- the most packets

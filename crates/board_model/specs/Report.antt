@@ -74,6 +74,10 @@ places_text p = line_of (codes "lane" ∷ decimal p.from ∷ decimal p.to ∷ co
 abbrev pub channel_text : ChannelTotals → List ℕ
 channel_text c = line_of (codes "channel" ∷ decimal c.owner ∷ decimal c.number ∷ totals_words c.totals)
 
+-- the lines of these channels, and that of the messages
+abbrev pub summary_text : List ChannelTotals → Totals → List ℕ
+summary_text channels messages = flat_map channel_text channels ++ messages_text messages
+
 -- how the board was run: its domains by turns on one thread, or each on its own
 pub data Mode : Type 0 where
   serial : Mode

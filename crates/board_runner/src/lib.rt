@@ -34,6 +34,6 @@ mod wires;
 pub use board_model::{ChannelTotals, LanePlaces, Totals};
 pub use gate::{Gate, NoGate};
 pub use outcome::Outcome;
-pub use report::write_report;
+pub use report::{put_summary, write_report};
 pub use serial::run_serial;
 pub use threads::run_threads;

@@ -7,7 +7,7 @@ ghost use Rattle.outer_io.specs.Writes.{Writes};
 ghost use Rattle.outer_io.specs.Puts.{Puts};
 ghost use Rattle.board_model.specs.Scenario.{rising};
 ghost use Rattle.board_model.specs.Grammar.{line_of};
-ghost use Rattle.board_model.specs.Report.{report_of, heading, journals_text, lines_text, totals_words, channel_text, messages_text, places_text};
+ghost use Rattle.board_model.specs.Report.{report_of, heading, journals_text, lines_text, totals_words, channel_text, messages_text, summary_text, places_text};
 ghost use Rattle.board_runner.specs.Mode.{mode_of};
 ghost use Rattle.board_runner.specs.Outcome.{lines_in};
 ghost use Rattle.board_runner.specs.Told.{IsToldByText};
@@ -93,6 +93,14 @@ fn put_journal<K: Sink>(out: &mut Writer<'_, K>, domain: u8, journal: &Journal)
     out.put_number(domain as u64);
     out.put(b"\n");
     put_entries(out, journal);
+}
+
+/// Puts the lines of a report that tell what became of the items of each channel, and of the messages.
+pub fn put_summary<K: Sink>(out: &mut Writer<'_, K>, outcome: &Outcome)
+    ensures { Puts K.Sink out.old out.new (summary_text outcome.now.channels outcome.now.messages) }
+{
+    put_channels(out, outcome.channels.as_slice());
+    put_messages(out, &outcome.messages);
 }
 
 fn put_channels<K: Sink>(out: &mut Writer<'_, K>, channels: &[ChannelTotals])

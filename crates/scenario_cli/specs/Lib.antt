@@ -1,4 +1,6 @@
 pub mod Words
+pub mod LoadText
+pub mod Loading
 pub mod RefusedText
 pub mod WrongText
 pub mod Hex

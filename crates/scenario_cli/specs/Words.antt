@@ -5,12 +5,13 @@ use Rattle.std.specs.Global.{Global}
 use Rattle.board_model.specs.Report.{Mode, serial, threads}
 use Rattle.scenario_cli.specs.declared.form.Form.{Form}
 use Rattle.scenario_cli.specs.declared.form.Form.TheVariants.{Run, SerialRun, Frame, Ring}
+use Rattle.scenario_cli.specs.LoadText.{IsLoad}
 
 -- the words as bytes
 abbrev pub words_of : List (String Global) → List (List ℕ)
 words_of words = map (λ w. string_bytes w) words
 
--- the words of each form
+-- the words of each form that reads an input. Those of `load N` stand in LoadText
 abbrev pub form_words : Form → List (List ℕ)
 form_words Run = codes "run" ∷ []
 form_words SerialRun = codes "run" ∷ codes "--serial" ∷ []
@@ -30,8 +31,17 @@ abbrev pub IsOneOfForms : List Form → List (List ℕ) → Type 0
 IsOneOfForms [] words = ⊥
 IsOneOfForms (f ∷ fs) words = IsForm f words ⊎ IsOneOfForms fs words
 
-abbrev pub IsNoForm : List (List ℕ) → Type 0
-IsNoForm words = (form : Form) → IsForm form words → ⊥
+-- the words are those of no form that reads an input
+abbrev pub IsNoInputForm : List (List ℕ) → Type 0
+IsNoInputForm words = (form : Form) → IsForm form words → ⊥
+
+abbrev pub IsNoLoad : List (List ℕ) → Type 0
+IsNoLoad words = (packets : ℕ) → IsLoad packets words → ⊥
+
+-- the words are those of no form
+pub record IsNoForm (words : List (List ℕ)) : Type 0 where
+  pub no_input : IsNoInputForm words
+  pub no_load : IsNoLoad words
 
 -- what is written where the words are none of the forms
 abbrev pub usage_text : List ℕ

@@ -1,9 +1,16 @@
 //! The forms of the program.
 
-ghost use Rattle.std.specs.Prelude.{◌∷◌, [], IfSome, IsNone, string_bytes};
-ghost use Rattle.scenario_cli.specs.Words.{words_of, IsForm, IsNoForm};
+ghost use Rattle.std.specs.Prelude.{◌≡◌, ◌≤◌, ◌∷◌, [], ℕ, IfSome, IsNone, codes, decimal, string_bytes};
+ghost use Rattle.scenario_cli.specs.Words.{words_of, IsForm, IsNoInputForm};
+ghost use Rattle.board_model.specs.LoadBoard.{load_limit};
+ghost use Rattle.scenario_cli.specs.LoadText.{IsLoad};
 
-/// What the program is to do, as its words say.
+use board_model::number_to;
+
+/// The most packets of a load board.
+const MOST_PACKETS: u64 = 100_000;
+
+/// What the program is to do with the input, as its words say.
 #[derive(Clone, Copy)]
 pub enum Form {
     /// `run`: a scenario in, the report of its run on threads out.
@@ -16,10 +23,46 @@ pub enum Form {
     Ring,
 }
 
-/// The form that the words are, or `None` where they are none.
+/// The number of packets that the words `load N` tell, or `None` where they are not of this form.
+pub fn load_of(words: &[String]) -> Option<u32>
+    ensures load { IfSome result (λ packets. IsLoad packets (words_of words.now)) }
+    ensures none { IsNone result → (packets : ℕ) → IsLoad packets (words_of words.now) → ⊥ }
+{
+    match words {
+        [first, second] => load_form(first, second),
+        _ => None,
+    }
+}
+
+/// The number of packets that two words tell.
+fn load_form(first: &String, second: &String) -> Option<u32>
+    ensures load { IfSome result (λ packets. IsLoad packets (string_bytes first.now ∷ string_bytes second.now ∷ [])) }
+    ensures none { IsNone result → (packets : ℕ) → IsLoad packets (string_bytes first.now ∷ string_bytes second.now ∷ []) → ⊥ }
+{
+    if first.as_str() == "load" {
+        packets_of(second.as_bytes())
+    } else {
+        None
+    }
+}
+
+/// The number of packets that a word tells, from 1 to the most.
+fn packets_of(word: &[u8]) -> Option<u32>
+    ensures number { IfSome result (λ packets. word.now ≡ decimal packets) }
+    ensures some { IfSome result (λ packets. 1 ≤ packets) }
+    ensures few { IfSome result (λ packets. packets ≤ load_limit) }
+    ensures none { IsNone result → (packets : ℕ) → 1 ≤ packets → packets ≤ load_limit → word.now ≡ decimal packets → ⊥ }
+{
+    match number_to(MOST_PACKETS, word) {
+        Some(0) | None => None,
+        Some(packets) => Some(packets as u32),
+    }
+}
+
+/// The form with an input that the words are, or `None` where they are none.
 pub fn form_of(words: &[String]) -> Option<Form>
     ensures form { IfSome result (λ form. IsForm form (words_of words.now)) }
-    ensures none { IsNone result → IsNoForm (words_of words.now) }
+    ensures none { IsNone result → IsNoInputForm (words_of words.now) }
 {
     match words {
         [word] => word_form(word),
@@ -31,7 +74,7 @@ pub fn form_of(words: &[String]) -> Option<Form>
 /// The form of one word.
 fn word_form(word: &String) -> Option<Form>
     ensures form { IfSome result (λ form. IsForm form (string_bytes word.now ∷ [])) }
-    ensures none { IsNone result → IsNoForm (string_bytes word.now ∷ []) }
+    ensures none { IsNone result → IsNoInputForm (string_bytes word.now ∷ []) }
 {
     if word.as_str() == "run" {
         Some(Form::Run)
@@ -47,7 +90,7 @@ fn word_form(word: &String) -> Option<Form>
 /// The form of two words.
 fn run_form(first: &String, second: &String) -> Option<Form>
     ensures form { IfSome result (λ form. IsForm form (string_bytes first.now ∷ string_bytes second.now ∷ [])) }
-    ensures none { IsNone result → IsNoForm (string_bytes first.now ∷ string_bytes second.now ∷ []) }
+    ensures none { IsNone result → IsNoInputForm (string_bytes first.now ∷ string_bytes second.now ∷ []) }
 {
     if first.as_str() == "run" && second.as_str() == "--serial" {
         Some(Form::SerialRun)

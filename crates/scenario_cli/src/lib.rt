@@ -5,6 +5,7 @@ mod form;
 mod frame;
 mod hex;
 mod image;
+mod load;
 mod refused;
 mod run;
 mod status;

@@ -6,29 +6,30 @@ ghost use Rattle.outer_io.specs.Calls.{CountsOne};
 ghost use Rattle.outer_io.specs.Writes.{AppendsPart};
 ghost use Rattle.scenario_cli.specs.declared.form.Form.TheVariants.{Run, SerialRun, Frame, Ring};
 ghost use Rattle.scenario_cli.specs.Words.{words_of, IsForm, run_in, IsNoForm, IsOneOfForms, usage_text, IsOneOf};
+ghost use Rattle.scenario_cli.specs.LoadText.{IsLoad};
+ghost use Rattle.scenario_cli.specs.Loading.{Loads};
 ghost use Rattle.scenario_cli.specs.Due.{Reports, Refuses, IsRight, IsWrong, IsRightImage, IsWrongImage, BreaksOff, IsTooLong, IfScenario, IfNoScenario, IfSoundFrame, IfNoSoundFrame, IfSoundImage, IfNoSoundImage, IfTooLong, DueFits};
 
 use crate::form::{Form, form_of};
 use crate::frame::tell_frame;
 use crate::image::tell_image;
+use crate::load::without_input;
 use crate::run::run_text;
-use crate::status::{self, after_write};
-use outer_io::{ReadFault, Sink, Source, read_all, write_all};
+use crate::status;
+use outer_io::{ReadFault, Sink, Source, read_all};
 use std::alloc::Global;
 use std::thread::Threads;
-
-/// What is written where the words are none of the forms.
-const USAGE: &[u8] = b"usage: mcrun run | run --serial | check | frame | ring | load N\n";
 
 /// The most bytes of an input.
 const INPUT_LIMIT: usize = 8_388_608;
 
-/// Does what the words say with the input, writes the output, and returns the status to end with.
+/// Does what the words say, writes the output, and returns the status to end with.
 ///
 /// The form `run` reads a scenario, runs its domains on threads and writes the report of that run. The form `run --serial` does so
 /// with the serial run, on one thread. The form `frame` reads the hexadecimal
 /// text of a frame and writes what the frame says, or its first fault and the place of it. The form `ring` reads the image of a
-/// ring, as its bytes, and writes its size, its queue and its two indices, or its first fault and the place of it.
+/// ring, as its bytes, and writes its size, its queue and its two indices, or its first fault and the place of it. The form `load N`
+/// reads nothing: it runs the load board of N packets, from 1 to 100,000, serially, and writes what became of its packets.
 ///
 /// The statuses are 0 where the report was written or the frame or image is sound, 1 where the input is not a sound frame or
 /// image, 2 where the words are none of the forms and the usage was written, 3 where the input is not a scenario and the refusal
@@ -54,6 +55,10 @@ pub fn mcrun<T: Threads + Sync, S: Source, K: Sink>(
 
     // 0 of an image: its size, its queue and its indices.
     ensures right_image { IsForm Ring (words_of words.now) → result ≡ 0 → IsRightImage (S.rest input.old) (K.written output.old) (K.written output.new) }
+
+    // A load, which reads nothing: 0 with what became of the packets of its board, 5, or 6 where memory ran out.
+    ensures load { (packets : ℕ) → IsLoad packets (words_of words.now) → Loads packets result (K.written output.old) (K.written output.new) (K.takes output.old) }
+    ensures load_reads_nothing { (packets : ℕ) → IsLoad packets (words_of words.now) → input.new ≡ input.old }
 
     // 1: exactly where the input is no sound frame, or no sound image. The first fault and its place.
     ensures wrong { IsForm Frame (words_of words.now) → result ≡ 1 → IsWrong (S.rest input.old) (K.written output.old) (K.written output.new) }
@@ -81,10 +86,10 @@ pub fn mcrun<T: Threads + Sync, S: Source, K: Sink>(
     // 7: exactly where more bytes came than the limit.
     ensures too_long { result ≡ 7 → IsTooLong (S.rest input.old) }
 
-    // At 4, 6 and 7 nothing was written; at 0, 1 and 3 the input was read to its end.
+    // At 4, 6 and 7 nothing was written; at 0, 1 and 3 the input was read to its end, but by a load.
     ensures nothing_written { IsOneOf (4 ∷ 6 ∷ 7 ∷ []) result → Keeps (K.written output.old) (K.written output.new) }
-    ensures read_to_end { IsOneOf (0 ∷ 1 ∷ 3 ∷ []) result → IsAtEnd (S.rest input.new) }
-    ensures end_once { IsOneOf (0 ∷ 1 ∷ 3 ∷ []) result → CountsOne (S.ends input.old) (S.ends input.new) }
+    ensures read_to_end { (form : Form) → IsForm form (words_of words.now) → IsOneOf (0 ∷ 1 ∷ 3 ∷ []) result → IsAtEnd (S.rest input.new) }
+    ensures end_once { (form : Form) → IsForm form (words_of words.now) → IsOneOf (0 ∷ 1 ∷ 3 ∷ []) result → CountsOne (S.ends input.old) (S.ends input.new) }
 
     // The counts of faults never fall.
     ensures read_faults { S.faults input.old ≤ S.faults input.new }
@@ -103,7 +108,7 @@ pub fn mcrun<T: Threads + Sync, S: Source, K: Sink>(
     ensures sound_usage { (n : ℕ) → IsNoForm (words_of words.now) → length usage_text ≤ n → K.takes output.old n → result ≢ 5 }
 {
     let Some(form) = form_of(words) else {
-        return after_write(write_all(output, USAGE), status::USAGE);
+        return without_input(alloc, words, output);
     };
     match read_all(alloc, input, INPUT_LIMIT) {
         Ok(text) => match form {

@@ -18,5 +18,6 @@ pub mod CanonicalLines
 pub mod CanonicalCallLines
 pub mod LinesTold
 pub mod ReadBack
+pub mod LoadLemmas
 pub mod LoadLines
 pub mod LoadBoards

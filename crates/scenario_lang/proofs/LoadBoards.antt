@@ -355,9 +355,9 @@ calls_few : (n : ℕ) → n ≤ load_limit → length (flat_map call_text (load_
 calls_few n few =
     omega (arith, ap length (flat_map-append call_text opening (exchanges n ++ closing)), length-append (flat_map call_text opening) (flat_map call_text (exchanges n ++ closing)), ap length (flat_map-append call_text (exchanges n) closing), length-append (flat_map call_text (exchanges n)) (flat_map call_text closing), lines_few [] [] opening opening_told, lines_few [] [] closing (closing_told []), exchanges_few n few)
 
-text_few : (n : ℕ) → n ≤ load_limit → length (canonical (load_board n)) < 2 ^ 32 - 2
+text_few : (n : ℕ) → n ≤ load_limit → length (canonical (ring_board (load_calls n))) < 2 ^ 32 - 2
 text_few n few =
-    let b = load_board n in
+    let b = ring_board (load_calls n) in
     let ds : List ℕ = flat_map domain_text b.domains in
     let ls : List ℕ = flat_map link_text b.links in
     let domains : length ds ≤ 1000 = omega arith in
@@ -365,4 +365,5 @@ text_few n few =
     omega (arith, length-append ds (ls ++ flat_map call_text b.calls), length-append ls (flat_map call_text b.calls), domains, links, calls_few n few, few)
 
 pub load-lawful : (n : ℕ) → n ≤ load_limit → IsLawfulBoard (load_board n)
-load-lawful n few = (canonical (load_board n), text_few n few, told-back (load_board n) (omega arith) (load_read n few))
+unfolding load_board
+load-lawful n few = (canonical (ring_board (load_calls n)), text_few n few, told-back (ring_board (load_calls n)) (omega arith) (load_read n few))

@@ -72,6 +72,7 @@ enum Group {
 /// # Errors
 ///
 /// `NoMemory` where an allocation fails.
+#[tactic(auto, unfolding(board_model::specs::LoadBoard::load_board))]
 pub fn load_scenario(alloc: Global, packets: u32) -> Result<Scenario, NoMemory>
     requires some { 1 ≤ packets }
     requires few { packets ≤ load_limit }
