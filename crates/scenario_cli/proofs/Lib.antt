@@ -7,3 +7,4 @@ pub mod HexLemmas
 pub mod FaultPlaces
 pub mod FrameLines
 pub mod RefusalPieces
+pub mod LoadWords

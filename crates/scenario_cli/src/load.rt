@@ -27,7 +27,6 @@ const USAGE: &[u8] = b"usage: mcrun run | run --serial | check | frame | ring | 
 pub fn without_input<K: Sink>(alloc: Global, words: &[String], output: &mut K) -> u8
     ensures status { IsOneOf (0 ∷ 2 ∷ 5 ∷ 6 ∷ []) result }
     ensures load { (packets : ℕ) → IsLoad packets (words_of words.now) → Loads packets result (K.written output.old) (K.written output.new) (K.takes output.old) }
-    ensures done_words { IsOneOf (0 ∷ 6 ∷ []) result → IsNoLoad (words_of words.now) → ⊥ }
     ensures usage_words { result ≡ 2 → IsNoLoad (words_of words.now) }
     ensures usage { result ≡ 2 → Appends (K.written output.old) (K.written output.new) usage_text }
     ensures no_form { IsNoLoad (words_of words.now) → IsOneOf (2 ∷ 5 ∷ []) result }

@@ -11,6 +11,7 @@ use Rattle.scenario_cli.specs.ImageText.{IsImage, IsNoImage, image_line, image_f
 use Rattle.scenario_cli.specs.Due.{IsDue, IsReport}
 use Rattle.scenario_cli.proofs.WordLemmas.{one_form, one_mode, run_no_frame, run_no_ring}
 use Rattle.scenario_cli.proofs.Inputs.{if_text, if_scenario, if_no_scenario, if_sound, if_unsound, if_image, if_no_image, due_fits}
+use Rattle.scenario_cli.proofs.LoadWords.{form_no_load}
 use Rattle.scenario_cli.proofs.Statuses.{not_three, not_zero, not_one, one_left, or_no_memory}
 use Rattle.scenario_cli.proofs.top.mcrun.Goals as goal
 
@@ -167,3 +168,82 @@ returns-in-Ok-clause-scenario g c = λ mode form. absurd (run_no_ring mode _ for
 
 pub returns-in-Ok-clause-no_scenario : goal.returns-in-Ok-clause-no_scenario
 returns-in-Ok-clause-no_scenario g c = λ mode form. absurd (run_no_ring mode _ form (rw c.in-Ring.is at c.in-Some.ensures.form))
+
+-- ---- no form with an input
+
+pub returns-in_default-clause-headline : goal.returns-in_default-clause-headline
+returns-in_default-clause-headline g c = λ mode form is. absurd (c.in_default.ensures.none refl (run_in mode) form)
+
+pub returns-in_default-clause-right : goal.returns-in_default-clause-right
+returns-in_default-clause-right g c = λ form is. absurd (c.in_default.ensures.none refl Frame form)
+
+pub returns-in_default-clause-right_image : goal.returns-in_default-clause-right_image
+returns-in_default-clause-right_image g c = λ form is. absurd (c.in_default.ensures.none refl Ring form)
+
+pub returns-in_default-clause-load : goal.returns-in_default-clause-load
+returns-in_default-clause-load g c = c.without_input.ensures.load
+
+pub returns-in_default-clause-usage_words : goal.returns-in_default-clause-usage_words
+returns-in_default-clause-usage_words g c = λ is. record { no_input = c.in_default.ensures.none refl; no_load = c.without_input.ensures.usage_words is }
+
+pub returns-in_default-clause-no_form : goal.returns-in_default-clause-no_form
+returns-in_default-clause-no_form g c = λ none. c.without_input.ensures.no_form none.no_load
+
+pub returns-in_default-clause-usage_breaks_off : goal.returns-in_default-clause-usage_breaks_off
+returns-in_default-clause-usage_breaks_off g c = λ none is. c.without_input.ensures.breaks_off none.no_load is
+
+pub returns-in_default-clause-breaks_off : goal.returns-in_default-clause-breaks_off
+returns-in_default-clause-breaks_off g c = λ f form is. absurd (c.in_default.ensures.none refl f form)
+
+pub returns-in_default-clause-read_to_end : goal.returns-in_default-clause-read_to_end
+returns-in_default-clause-read_to_end g c = λ f form is. absurd (c.in_default.ensures.none refl f form)
+
+pub returns-in_default-clause-end_once : goal.returns-in_default-clause-end_once
+returns-in_default-clause-end_once g c = λ f form is. absurd (c.in_default.ensures.none refl f form)
+
+pub returns-in_default-clause-sound_usage : goal.returns-in_default-clause-sound_usage
+returns-in_default-clause-sound_usage g c = λ n none fits takes. c.without_input.ensures.room n none.no_load fits takes
+
+-- ---- the words of a form with an input are not those of a load
+
+pub returns-in-Run-clause-load : goal.returns-in-Run-clause-load
+returns-in-Run-clause-load g c = λ packets is. absurd (form_no_load Run packets _ (rw c.in-Run.is at c.in-Some.ensures.form) is)
+
+pub returns-in-Run-clause-load_reads_nothing : goal.returns-in-Run-clause-load_reads_nothing
+returns-in-Run-clause-load_reads_nothing g c = λ packets is. absurd (form_no_load Run packets _ (rw c.in-Run.is at c.in-Some.ensures.form) is)
+
+pub returns-in-SerialRun-clause-load : goal.returns-in-SerialRun-clause-load
+returns-in-SerialRun-clause-load g c = λ packets is. absurd (form_no_load SerialRun packets _ (rw c.in-SerialRun.is at c.in-Some.ensures.form) is)
+
+pub returns-in-SerialRun-clause-load_reads_nothing : goal.returns-in-SerialRun-clause-load_reads_nothing
+returns-in-SerialRun-clause-load_reads_nothing g c = λ packets is. absurd (form_no_load SerialRun packets _ (rw c.in-SerialRun.is at c.in-Some.ensures.form) is)
+
+pub returns-in-Frame-clause-load : goal.returns-in-Frame-clause-load
+returns-in-Frame-clause-load g c = λ packets is. absurd (form_no_load Frame packets _ (rw c.in-Frame.is at c.in-Some.ensures.form) is)
+
+pub returns-in-Frame-clause-load_reads_nothing : goal.returns-in-Frame-clause-load_reads_nothing
+returns-in-Frame-clause-load_reads_nothing g c = λ packets is. absurd (form_no_load Frame packets _ (rw c.in-Frame.is at c.in-Some.ensures.form) is)
+
+pub returns-in-Ok-clause-load : goal.returns-in-Ok-clause-load
+returns-in-Ok-clause-load g c = λ packets is. absurd (form_no_load Ring packets _ (rw c.in-Ring.is at c.in-Some.ensures.form) is)
+
+pub returns-in-Ok-clause-load_reads_nothing : goal.returns-in-Ok-clause-load_reads_nothing
+returns-in-Ok-clause-load_reads_nothing g c = λ packets is. absurd (form_no_load Ring packets _ (rw c.in-Ring.is at c.in-Some.ensures.form) is)
+
+pub returns-in-Err-Failed-clause-load : goal.returns-in-Err-Failed-clause-load
+returns-in-Err-Failed-clause-load g c = λ packets is. absurd (form_no_load c.in-Some.form packets _ c.in-Some.ensures.form is)
+
+pub returns-in-Err-Failed-clause-load_reads_nothing : goal.returns-in-Err-Failed-clause-load_reads_nothing
+returns-in-Err-Failed-clause-load_reads_nothing g c = λ packets is. absurd (form_no_load c.in-Some.form packets _ c.in-Some.ensures.form is)
+
+pub returns-in-Err-TooLong-clause-load : goal.returns-in-Err-TooLong-clause-load
+returns-in-Err-TooLong-clause-load g c = λ packets is. absurd (form_no_load c.in-Some.form packets _ c.in-Some.ensures.form is)
+
+pub returns-in-Err-TooLong-clause-load_reads_nothing : goal.returns-in-Err-TooLong-clause-load_reads_nothing
+returns-in-Err-TooLong-clause-load_reads_nothing g c = λ packets is. absurd (form_no_load c.in-Some.form packets _ c.in-Some.ensures.form is)
+
+pub returns-in-Err-NoMemory-clause-load : goal.returns-in-Err-NoMemory-clause-load
+returns-in-Err-NoMemory-clause-load g c = λ packets is. absurd (form_no_load c.in-Some.form packets _ c.in-Some.ensures.form is)
+
+pub returns-in-Err-NoMemory-clause-load_reads_nothing : goal.returns-in-Err-NoMemory-clause-load_reads_nothing
+returns-in-Err-NoMemory-clause-load_reads_nothing g c = λ packets is. absurd (form_no_load c.in-Some.form packets _ c.in-Some.ensures.form is)

@@ -1,0 +1,82 @@
+-- Words of a load: their number, and that they are no other form; and the statuses that a load leaves.
+use Rattle.std.proofs.Common.{◌≡◌, ◌≢◌, ℕ, ◌≤◌, ◌<◌, ◌^◌, List, [], ◌∷◌, ◌++◌, Option, Some, Result, Ok, Err, refl, sym, ap, ◌∙◌, arith, append_assoc, inl, inr}
+use Rattle.std.specs.Prelude.{OnOk, OnErr, codes, decimal}
+use Rattle.outer_io.specs.declared.Failed.{Failed}
+use Rattle.board_model.specs.FileWords.{number, number_of}
+use Rattle.board_model.specs.Numerals.{at_most}
+use Rattle.board_model.specs.LoadBoard.{load_limit}
+use Rattle.board_model.specs.Grammar.{line_of}
+use Rattle.board_model.specs.Report.{ending}
+use Rattle.board_model.proofs.WordDecimals.{number-decimal, decimal-is, decimal-read}
+use Rattle.scenario_cli.specs.declared.form.Form.{Form}
+use Rattle.scenario_cli.specs.declared.form.Form.TheVariants.{Run, SerialRun, Frame, Ring}
+use Rattle.scenario_cli.specs.Words.{IsForm, IsOneOf}
+use Rattle.scenario_cli.specs.LoadText.{IsLoad}
+use Rattle.scenario_cli.specs.Loading.{Loads}
+
+-- ---- the number
+
+-- a word that is read as a number is its decimal
+pub number-word : (word : List ℕ) (n : ℕ) → at_most 100000 (number_of word) ≡ Some n → word ≡ decimal n
+number-word word n read = sym (decimal-is 100000 n word (omega arith) read)
+
+-- and a decimal is read
+pub word-number : (word : List ℕ) (n : ℕ) → n ≤ load_limit → word ≡ decimal n → at_most 100000 (number_of word) ≡ Some n
+word-number word n few is = ap (λ (w : List ℕ). at_most 100000 (number_of w)) is ∙ decimal-read 100000 n few (omega arith)
+
+abbrev second_word : List (List ℕ) → List ℕ
+second_word [] = []
+second_word (w ∷ []) = []
+second_word (w ∷ v ∷ vs) = v
+
+-- words tell one number of packets at most
+pub one_load : (n m : ℕ) (words : List (List ℕ)) → IsLoad n words → IsLoad m words → n ≡ m
+one_load n m words this that =
+    let small = this.few in
+    let few = that.few in
+    let digits : decimal n ≡ decimal m = ap second_word (sym this.told ∙ that.told) in
+    sym (number-decimal n (omega (arith, small))) ∙ ap number digits ∙ number-decimal m (omega (arith, few))
+
+-- ---- the words
+
+two_words : (form : Form) (digits : List ℕ) (words : List (List ℕ)) → IsForm form words → words ≡ codes "load" ∷ digits ∷ [] → ⊥
+two_words Run digits words form told = let same = sym form ∙ told in cc
+two_words SerialRun digits words form told = let same = sym form ∙ told in cc
+two_words Frame digits words form told = let same = sym form ∙ told in cc
+two_words Ring digits words form told = let same = sym form ∙ told in cc
+
+-- the words of a load are those of no form with an input
+pub form_no_load : (form : Form) (packets : ℕ) (words : List (List ℕ)) → IsForm form words → IsLoad packets words → ⊥
+form_no_load form packets words is load = two_words form (decimal packets) words is load.told
+
+-- ---- the statuses
+
+pub after_load : (r : Result (Unit {0}) Failed) (status : ℕ) → OnOk r (status ≡ 0) → OnErr r (status ≡ 5) → IsOneOf (0 ∷ 5 ∷ 6 ∷ []) status
+after_load (Ok x) status whole failed = inl whole
+after_load (Err e) status whole failed = inr (inl failed)
+
+-- nothing is said where memory ran out
+pub out_of_memory : (packets : ℕ) (old new : Option (List ℕ)) (takes : ℕ → Type 0) → Loads packets 6 old new takes
+out_of_memory packets old new takes = record {
+  statuses = inr (inr (inl refl));
+  whole = λ is. absurd (omega (arith, is));
+  breaks_off = λ is. absurd (omega (arith, is));
+  room = λ n fits taken is. omega (arith, is);
+}
+
+pub load_statuses : (n : ℕ) → IsOneOf (0 ∷ 5 ∷ 6 ∷ []) n → IsOneOf (0 ∷ 2 ∷ 5 ∷ 6 ∷ []) n
+load_statuses n (inl e) = inl e
+load_statuses n (inr (inl e)) = inr (inr (inl e))
+load_statuses n (inr (inr (inl e))) = inr (inr (inr (inl e)))
+load_statuses n (inr (inr (inr h))) = absurd h
+
+pub no_usage : (n : ℕ) → IsOneOf (0 ∷ 5 ∷ 6 ∷ []) n → n ≢ 2
+no_usage n (inl e) is = omega (arith, e, is)
+no_usage n (inr (inl e)) is = omega (arith, e, is)
+no_usage n (inr (inr (inl e))) is = omega (arith, e, is)
+no_usage n (inr (inr (inr h))) is = h
+
+-- ---- the text
+
+pub load-pieces : (n : ℕ) (summary : List ℕ) → codes "load " ++ (decimal n ++ (codes "\n" ++ (summary ++ ending))) ≡ line_of (codes "load" ∷ decimal n ∷ []) ++ (summary ++ ending)
+load-pieces n summary = ap (λ (t : List ℕ). codes "load " ++ t) (sym (append_assoc (decimal n) (10 ∷ []) (summary ++ ending)))
