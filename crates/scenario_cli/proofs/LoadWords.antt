@@ -1,6 +1,6 @@
 -- Words of a load: their number, and that they are no other form; and the statuses that a load leaves.
-use Rattle.std.proofs.Common.{◌≡◌, ◌≢◌, ℕ, ◌≤◌, ◌<◌, ◌^◌, List, [], ◌∷◌, ◌++◌, Option, Some, Result, Ok, Err, refl, sym, ap, ◌∙◌, arith, append_assoc, inl, inr}
-use Rattle.std.specs.Prelude.{OnOk, OnErr, codes, decimal}
+use Rattle.std.proofs.Common.{◌≡◌, ◌≢◌, ℕ, ◌≤◌, ◌<◌, ◌^◌, List, [], ◌∷◌, ◌++◌, Option, Some, None, Result, Ok, Err, refl, sym, ap, ap₂, ◌∙◌, arith, append_assoc, inl, inr}
+use Rattle.std.specs.Prelude.{OnOk, OnErr, IfSome, codes, decimal}
 use Rattle.outer_io.specs.declared.Failed.{Failed}
 use Rattle.board_model.specs.FileWords.{number, number_of}
 use Rattle.board_model.specs.Numerals.{at_most}
@@ -10,7 +10,7 @@ use Rattle.board_model.specs.Report.{ending}
 use Rattle.board_model.proofs.WordDecimals.{number-decimal, decimal-is, decimal-read}
 use Rattle.scenario_cli.specs.declared.form.Form.{Form}
 use Rattle.scenario_cli.specs.declared.form.Form.TheVariants.{Run, SerialRun, Frame, Ring}
-use Rattle.scenario_cli.specs.Words.{IsForm, IsOneOf}
+use Rattle.scenario_cli.specs.Words.{IsForm, IsNoLoad, IsOneOf}
 use Rattle.scenario_cli.specs.LoadText.{IsLoad}
 use Rattle.scenario_cli.specs.Loading.{Loads}
 
@@ -28,6 +28,9 @@ abbrev second_word : List (List ℕ) → List ℕ
 second_word [] = []
 second_word (w ∷ []) = []
 second_word (w ∷ v ∷ vs) = v
+
+pub some_is : (m n : ℕ) → ◌≡◌ {A = Option ℕ} (Some m) (Some n) → m ≡ n
+some_is m n e = cc
 
 -- words tell one number of packets at most
 pub one_load : (n m : ℕ) (words : List (List ℕ)) → IsLoad n words → IsLoad m words → n ≡ m
@@ -48,6 +51,23 @@ two_words Ring digits words form told = let same = sym form ∙ told in cc
 -- the words of a load are those of no form with an input
 pub form_no_load : (form : Form) (packets : ℕ) (words : List (List ℕ)) → IsForm form words → IsLoad packets words → ⊥
 form_no_load form packets words is load = two_words form (decimal packets) words is load.told
+
+abbrev first_word : List (List ℕ) → List ℕ
+first_word [] = []
+first_word (w ∷ ws) = w
+
+-- two words, of which the second is a number of packets
+pub load_words : (first second : List ℕ) (r : Option ℕ) → first ≡ codes "load" → IfSome r (λ n. second ≡ decimal n) → IfSome r (λ n. 1 ≤ n) → IfSome r (λ n. n ≤ load_limit) → IfSome r (λ n. IsLoad n (first ∷ second ∷ []))
+load_words first second None load is some few = tt
+load_words first second (Some n) load is some few = record { told = ap₂ (λ (v : List ℕ) (w : List ℕ). v ∷ w ∷ []) load is; some = some; few = few }
+
+-- or is none
+pub no_load_number : (first second : List ℕ) → ((n : ℕ) → 1 ≤ n → n ≤ load_limit → second ≡ decimal n → ⊥) → IsNoLoad (first ∷ second ∷ [])
+no_load_number first second none n load = none n load.some load.few (ap second_word load.told)
+
+-- or the first is another
+pub no_load_word : (first second : List ℕ) → (first ≡ codes "load" → ⊥) → IsNoLoad (first ∷ second ∷ [])
+no_load_word first second other n load = other (ap first_word load.told)
 
 -- ---- the statuses
 

@@ -53,10 +53,13 @@ fn packets_of(word: &[u8]) -> Option<u32>
     ensures few { IfSome result (λ packets. packets ≤ load_limit) }
     ensures none { IsNone result → (packets : ℕ) → 1 ≤ packets → packets ≤ load_limit → word.now ≡ decimal packets → ⊥ }
 {
-    match number_to(MOST_PACKETS, word) {
-        Some(0) | None => None,
-        Some(packets) => Some(packets as u32),
+    let Some(packets) = number_to(MOST_PACKETS, word) else {
+        return None;
+    };
+    if packets == 0 {
+        return None;
     }
+    Some(packets as u32)
 }
 
 /// The form with an input that the words are, or `None` where they are none.
