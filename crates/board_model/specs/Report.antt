@@ -94,7 +94,7 @@ ending = codes "end\n"
 -- these rings
 unfoldable pub report_of : Mode → Scenario → List (List Line) → List ChannelTotals → Totals → List LanePlaces → List (List ℕ) → List ℕ
 report_of mode s journals channels messages places rings =
-    heading mode ++ (canonical s ++ (journals_text (rising s) journals ++ (flat_map channel_text channels ++ (messages_text messages ++ (flat_map places_text places ++ (flat_map (λ r. r) rings ++ ending))))))
+    heading mode ++ (canonical s ++ (journals_text (rising s) journals ++ (summary_text channels messages ++ (flat_map places_text places ++ (flat_map (λ r. r) rings ++ ending)))))
 
 abbrev pub lines_of : DomainJournal → List Line
 lines_of j = joined j.entries

@@ -56,8 +56,7 @@ fn put_report<K: Sink>(
     out.put(heading_of(threads));
     put_scenario(out, scenario);
     put_journals(out, scenario, outcome.journals.as_slice());
-    put_channels(out, outcome.channels.as_slice());
-    put_messages(out, &outcome.messages);
+    put_summary(out, outcome);
     put_lanes(out, outcome.places.as_slice());
     out.put(b"end\n");
 }

@@ -10,6 +10,7 @@ mod eight_linked;
 mod frame;
 mod images;
 mod linked;
+mod loads;
 mod payloads;
 mod refusals;
 mod requests;

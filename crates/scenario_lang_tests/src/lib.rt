@@ -4,4 +4,6 @@
 #[cfg(test)]
 mod largest;
 #[cfg(test)]
+mod loads;
+#[cfg(test)]
 mod tests;
