@@ -1,6 +1,6 @@
 -- The load boards are lawful: their canonical texts tell them, line by line, and are short enough to be read.
-use Rattle.std.proofs.Common.{◌≡◌, ℕ, zero, suc, ◌+◌, ◌-◌, ◌*◌, ◌≤◌, ◌<◌, ◌^◌, Bool, true, false, ◌&&◌, ◌||◌, List, [], ◌∷◌, ◌++◌, length, refl, sym, subst, ap, ap₂, ◌∙◌, arith, append_assoc, length-append, inl, inr}
-use Rattle.std.specs.Prelude.{codes, decimal, bytes_eq}
+use Rattle.std.proofs.Common.{◌≡◌, ℕ, zero, suc, ◌+◌, ◌-◌, ◌*◌, ◌≤◌, ◌<◌, ◌^◌, Bool, true, false, ◌&&◌, ◌||◌, List, [], ◌∷◌, ◌++◌, length, take, refl, sym, subst, ap, ap₂, ◌∙◌, arith, append_assoc, length-append, inl, inr}
+use Rattle.std.specs.Prelude.{codes, decimal, bytes_eq, map}
 use Rattle.std.specs.List.{list_any, flat_map, AllByRecursion}
 use Rattle.std.proofs.lemmas.List.{append-nil}
 use Rattle.std.proofs.lemmas.List.Folds.{list_any-append}
@@ -254,30 +254,31 @@ told_last d label above front is =
 
 exchange_told : (above : List CallLine) (label bytes : List ℕ) → is_label label ≡ true → length label ≤ 16 → length bytes ≤ 4 → AllByRecursion (λ b. b < 256) bytes → ((d : ℕ) → d ≤ 3 → list_any (tells d label) above ≡ false) → AreTold above [] (exchange_with label bytes)
 exchange_told above label bytes is few short fit new =
-    let same : bytes_eq label label ≡ true = (bytes_eq-Decides label label).1 refl in (
-      send-can _ 0 bytes (omega arith) short fit,
+    let same : bytes_eq label label ≡ true = (bytes_eq-Decides label label).1 refl in
+    let ks : List CallLine = exchange_with label bytes in (
+      send-can (above ++ take 0 ks) 0 bytes (omega arith) short fit,
       (
-        send-can _ 1 bytes (omega arith) short fit,
+        send-can (above ++ take 1 ks) 1 bytes (omega arith) short fit,
         (
-          send-can _ 2 bytes (omega arith) short fit,
+          send-can (above ++ take 2 ks) 2 bytes (omega arith) short fit,
           (
-            send-can _ 3 bytes (omega arith) short fit,
+            send-can (above ++ take 3 ks) 3 bytes (omega arith) short fit,
             (
-              receive-can _ 0 label (omega arith) is few (still_new 0 label above _ (new 0 (omega arith)) refl),
+              receive-can (above ++ take 4 ks) 0 label (omega arith) is few (still_new 0 label above (take 4 ks) (new 0 (omega arith)) refl),
               (
-                receive-can _ 1 label (omega arith) is few (still_new 1 label above _ (new 1 (omega arith)) refl),
+                receive-can (above ++ take 5 ks) 1 label (omega arith) is few (still_new 1 label above (take 5 ks) (new 1 (omega arith)) refl),
                 (
-                  receive-can _ 2 label (omega arith) is few (still_new 2 label above _ (new 2 (omega arith)) refl),
+                  receive-can (above ++ take 6 ks) 2 label (omega arith) is few (still_new 2 label above (take 6 ks) (new 2 (omega arith)) refl),
                   (
-                    receive-can _ 3 label (omega arith) is few (still_new 3 label above _ (new 3 (omega arith)) refl),
+                    receive-can (above ++ take 7 ks) 3 label (omega arith) is few (still_new 3 label above (take 7 ks) (new 3 (omega arith)) refl),
                     (
-                      release-can _ 0 label (omega arith) is few (told_last 0 label above _ (rw same refl)),
+                      release-can (above ++ take 8 ks) 0 label (omega arith) is few (told_last 0 label above (take 8 ks) (rw same refl)),
                       (
-                        release-can _ 1 label (omega arith) is few (told_last 1 label above _ (rw same refl)),
+                        release-can (above ++ take 9 ks) 1 label (omega arith) is few (told_last 1 label above (take 9 ks) (rw same refl)),
                         (
-                          release-can _ 2 label (omega arith) is few (told_last 2 label above _ (rw same refl)),
+                          release-can (above ++ take 10 ks) 2 label (omega arith) is few (told_last 2 label above (take 10 ks) (rw same refl)),
                           (
-                            release-can _ 3 label (omega arith) is few (told_last 3 label above _ (rw same refl)),
+                            release-can (above ++ take 11 ks) 3 label (omega arith) is few (told_last 3 label above (take 11 ks) (rw same refl)),
                             tt,
                           ),
                         ),
@@ -346,23 +347,34 @@ load_read n few = subst AreReadBack (append_assoc opening (exchanges n) closing)
 
 -- ---- its size
 
+two_few : (xs ys : List CallLine) (a b : ℕ) → length (flat_map call_text xs) ≤ a → length (flat_map call_text ys) ≤ b → length (flat_map call_text (xs ++ ys)) ≤ a + b
+two_few xs ys a b first second = omega (arith, ap length (flat_map-append call_text xs ys), length-append (flat_map call_text xs) (flat_map call_text ys), first, second)
+
 exchanges_few : (n : ℕ) → n ≤ load_limit → length (flat_map call_text (exchanges n)) ≤ 2400 * n
 exchanges_few zero few = omega arith
 exchanges_few (suc n) few =
-    omega (arith, ap length (flat_map-append call_text (exchanges n) (exchange (suc n))), length-append (flat_map call_text (exchanges n)) (flat_map call_text (exchange (suc n))), lines_few (opening ++ exchanges n) [] (exchange (suc n)) (next_told n few), exchanges_few n (omega (arith, few)))
+    let one_more : 2400 * n + 2400 ≡ 2400 * suc n = omega arith in
+    let both = two_few (exchanges n) (exchange (suc n)) (2400 * n) 2400 (exchanges_few n (omega (arith, few))) (lines_few (opening ++ exchanges n) [] (exchange (suc n)) (next_told n few)) in
+    subst (λ (m : ℕ). length (flat_map call_text (exchanges n ++ exchange (suc n))) ≤ m) one_more both
 
-calls_few : (n : ℕ) → n ≤ load_limit → length (flat_map call_text (load_calls n)) ≤ 2400 * n + 8000
+calls_few : (n : ℕ) → n ≤ load_limit → length (flat_map call_text (load_calls n)) ≤ 6400 + (2400 * n + 1600)
 calls_few n few =
-    omega (arith, ap length (flat_map-append call_text opening (exchanges n ++ closing)), length-append (flat_map call_text opening) (flat_map call_text (exchanges n ++ closing)), ap length (flat_map-append call_text (exchanges n) closing), length-append (flat_map call_text (exchanges n)) (flat_map call_text closing), lines_few [] [] opening opening_told, lines_few [] [] closing (closing_told []), exchanges_few n few)
+    two_few opening (exchanges n ++ closing) 6400 (2400 * n + 1600) (lines_few [] [] opening opening_told)
+    (two_few (exchanges n) closing (2400 * n) 1600 (exchanges_few n few) (lines_few [] [] closing (closing_told [])))
+
+three_few : (ds ls cs : List ℕ) (most : ℕ) → length ds ≤ 1000 → length ls ≤ 1000 → length cs ≤ most → length (ds ++ (ls ++ cs)) ≤ most + 2000
+three_few ds ls cs most first second third = omega (arith, length-append ds (ls ++ cs), length-append ls cs, first, second, third)
+
+below : (l most : ℕ) → l ≤ most → most < 2 ^ 32 - 2 → l < 2 ^ 32 - 2
+below l most le lt = omega (arith, le, lt)
 
 text_few : (n : ℕ) → n ≤ load_limit → length (canonical (ring_board (load_calls n))) < 2 ^ 32 - 2
 text_few n few =
-    let b = ring_board (load_calls n) in
-    let ds : List ℕ = flat_map domain_text b.domains in
-    let ls : List ℕ = flat_map link_text b.links in
-    let domains : length ds ≤ 1000 = omega arith in
-    let links : length ls ≤ 1000 = omega arith in
-    omega (arith, length-append ds (ls ++ flat_map call_text b.calls), length-append ls (flat_map call_text b.calls), domains, links, calls_few n few, few)
+    let ds : List ℕ = flat_map domain_text (map ring_domain ring_numbers) in
+    let ls : List ℕ = flat_map link_text (map ring_link ring_numbers) in
+    let cs : List ℕ = flat_map call_text (load_calls n) in
+    let most : ℕ = 6400 + (2400 * n + 1600) in
+    below (length (canonical (ring_board (load_calls n)))) (most + 2000) (three_few ds ls cs most (omega arith) (omega arith) (calls_few n few)) (omega (arith, few))
 
 pub load-lawful : (n : ℕ) → n ≤ load_limit → IsLawfulBoard (load_board n)
 unfolding load_board
