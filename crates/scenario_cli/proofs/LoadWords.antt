@@ -10,7 +10,7 @@ use Rattle.board_model.specs.Report.{ending}
 use Rattle.board_model.proofs.WordDecimals.{number-decimal, decimal-is, decimal-read}
 use Rattle.scenario_cli.specs.declared.form.Form.{Form}
 use Rattle.scenario_cli.specs.declared.form.Form.TheVariants.{Run, SerialRun, Frame, Ring}
-use Rattle.scenario_cli.specs.Words.{IsForm, IsNoLoad, IsOneOf}
+use Rattle.scenario_cli.specs.Words.{IsForm, IsNoLoad, IsNoForm, IsOneOf}
 use Rattle.scenario_cli.specs.LoadText.{IsLoad}
 use Rattle.scenario_cli.specs.Loading.{Loads}
 
@@ -68,6 +68,10 @@ no_load_number first second none n load = none n load.some load.few (ap second_w
 -- or the first is another
 pub no_load_word : (first second : List ℕ) → (first ≡ codes "load" → ⊥) → IsNoLoad (first ∷ second ∷ [])
 no_load_word first second other n load = other (ap first_word load.told)
+
+-- and words of such a form are not those of no form
+pub form_no_usage : (form : Form) (words : List (List ℕ)) → IsForm form words → IsNoForm words → ⊥
+form_no_usage form words is none = none.no_input form is
 
 -- ---- the statuses
 

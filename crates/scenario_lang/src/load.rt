@@ -1,8 +1,7 @@
 //! The load board: four domains in a ring of links, of which each sends packets to the next one.
 
-ghost use Rattle.std.specs.Prelude.{◌≡◌, ◌≤◌, ◌+◌, ◌++◌, ◌∷◌, [], IfOk, OnOk, Some, None, decimal, length, map};
+ghost use Rattle.std.specs.Prelude.{◌≡◌, ◌≤◌, ◌+◌, ◌++◌, ◌∷◌, [], IfOk, OnOk, decimal, length, map};
 ghost use Rattle.arrayvec.specs.ArrayVec.{array_vec_len};
-ghost use Rattle.mc_base.specs.Limits.{try_limit};
 ghost use Rattle.board_model.specs.Forms.{label_of};
 ghost use Rattle.board_model.specs.Language.{IsLawfulBoard};
 ghost use Rattle.board_model.specs.LoadBoard.{

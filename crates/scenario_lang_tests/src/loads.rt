@@ -107,9 +107,7 @@ fn the_load_board_of_2000_packets(rt: HostRuntime) -> Result<(), Fail> {
     let text = load_text(rt.alloc(), 2000).ok_or("memory")?;
     assert!(rt; text.as_slice().ends_with(END));
     assert!(rt; text.len() == 752416);
-    let Ok(scenario) = read_scenario(rt.alloc(), &text) else {
-        return Err("refused".into());
-    };
+    let scenario = read_scenario(rt.alloc(), &text).ok().ok_or("refused")?;
     assert!(rt; scenario.calls.as_slice().len() == 24_040);
     Ok(())
 }

@@ -5,6 +5,12 @@ use scenario_lang::{load_scenario, write_scenario};
 use std::alloc::Global;
 use std::test::Fail;
 
+const LOAD_3: &[&str] = &["load", "3"];
+
+const LOAD_2000: &[&str] = &["load", "2000"];
+
+const THREADS: &[&str] = &["run"];
+
 const THREE: &[u8] = b"load 3
 channel 0 1 accepted 3 taken 3 dropped 0 queued 0 ring 0
 channel 1 1 accepted 3 taken 3 dropped 0 queued 0 ring 0
@@ -59,14 +65,14 @@ fn unread<'a>(words: &'a [&'a str]) -> Given<'a> {
 
 #[test]
 fn three_packets_on_each_channel(rt: HostRuntime) -> Result<(), Fail> {
-    let given = unread(&["load", "3"]);
+    let given = unread(LOAD_3);
     assert!(rt; comes_out(&rt, rt.alloc(), given, 0, THREE)?);
     Ok(())
 }
 
 #[test]
 fn two_thousand_packets_on_each_channel(rt: HostRuntime) -> Result<(), Fail> {
-    let (status, output) = outcome_of(&rt, rt.alloc(), unread(&["load", "2000"]))?;
+    let (status, output) = outcome_of(&rt, rt.alloc(), unread(LOAD_2000))?;
     let written = output.written();
     assert!(rt; status == 0);
     assert!(rt; written.len() == HEADING.len() + SUMMARY.len() + ENDING.len());
@@ -105,7 +111,7 @@ fn the_report_of_its_serial_run_has_the_same_totals(rt: HostRuntime) -> Result<(
 fn a_run_on_threads_has_the_same_totals(rt: HostRuntime) -> Result<(), Fail> {
     let text = load_text(rt.alloc()).ok_or("memory")?;
     let given = Given {
-        words: &["run"],
+        words: THREADS,
         text: &text,
         room: 40_000_000,
         ..EMPTY
@@ -155,14 +161,14 @@ fn a_load_breaks_off_where_a_write_fails(rt: HostRuntime) -> Result<(), Fail> {
     let given = Given {
         failing_write: 9,
         step: 1,
-        ..unread(&["load", "3"])
+        ..unread(LOAD_3)
     };
     let (front, _) = THREE.split_at(9);
     assert!(rt; comes_out(&rt, rt.alloc(), given, 5, front)?);
     let given = Given {
         room: THREE.len() - 1,
         failing_write: NEVER,
-        ..unread(&["load", "3"])
+        ..unread(LOAD_3)
     };
     let (front, _) = THREE.split_at(THREE.len() - 1);
     assert!(rt; comes_out(&rt, rt.alloc(), given, 5, front)?);
