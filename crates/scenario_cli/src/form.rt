@@ -1,7 +1,7 @@
 //! The forms of the program.
 
-ghost use Rattle.std.specs.Prelude.{◌≡◌, ◌≤◌, ◌∷◌, [], ℕ, IfSome, IsNone, codes, decimal, string_bytes};
-ghost use Rattle.scenario_cli.specs.Words.{words_of, IsForm, IsNoInputForm};
+ghost use Rattle.std.specs.Prelude.{◌≡◌, ◌≤◌, ◌∷◌, [], ℕ, IfSome, IsNone, decimal, string_bytes};
+ghost use Rattle.scenario_cli.specs.Words.{words_of, IsForm, IsNoInputForm, IsNoLoad};
 ghost use Rattle.board_model.specs.LoadBoard.{load_limit};
 ghost use Rattle.scenario_cli.specs.LoadText.{IsLoad};
 
@@ -26,7 +26,7 @@ pub enum Form {
 /// The number of packets that the words `load N` tell, or `None` where they are not of this form.
 pub fn load_of(words: &[String]) -> Option<u32>
     ensures load { IfSome result (λ packets. IsLoad packets (words_of words.now)) }
-    ensures none { IsNone result → (packets : ℕ) → IsLoad packets (words_of words.now) → ⊥ }
+    ensures none { IsNone result → IsNoLoad (words_of words.now) }
 {
     match words {
         [first, second] => load_form(first, second),
@@ -37,7 +37,7 @@ pub fn load_of(words: &[String]) -> Option<u32>
 /// The number of packets that two words tell.
 fn load_form(first: &String, second: &String) -> Option<u32>
     ensures load { IfSome result (λ packets. IsLoad packets (string_bytes first.now ∷ string_bytes second.now ∷ [])) }
-    ensures none { IsNone result → (packets : ℕ) → IsLoad packets (string_bytes first.now ∷ string_bytes second.now ∷ []) → ⊥ }
+    ensures none { IsNone result → IsNoLoad (string_bytes first.now ∷ string_bytes second.now ∷ []) }
 {
     if first.as_str() == "load" {
         packets_of(second.as_bytes())
