@@ -1,6 +1,8 @@
 -- Words of a load: their number, and that they are no other form; and the statuses that a load leaves.
-use Rattle.std.proofs.Common.{◌≡◌, ◌≢◌, ℕ, ◌≤◌, ◌<◌, ◌^◌, List, [], ◌∷◌, ◌++◌, Option, Some, None, Result, Ok, Err, refl, sym, ap, ap₂, ◌∙◌, arith, append_assoc, inl, inr}
-use Rattle.std.specs.Prelude.{OnOk, OnErr, IfSome, codes, decimal}
+use Rattle.std.proofs.Common.{◌≡◌, ◌≢◌, ℕ, ◌≤◌, ◌<◌, ◌^◌, List, [], ◌∷◌, ◌++◌, length, Option, Some, None, Result, Ok, Err, refl, sym, ap, ap₂, ◌∙◌, arith, append_assoc, inl, inr}
+use Rattle.std.specs.Prelude.{OnOk, OnErr, IfSome, codes, decimal, string_bytes, String}
+use Rattle.std.specs.Global.{Global}
+use Rattle.std.proofs.lemmas.List.{length-map}
 use Rattle.outer_io.specs.declared.Failed.{Failed}
 use Rattle.board_model.specs.FileWords.{number, number_of}
 use Rattle.board_model.specs.Numerals.{at_most}
@@ -10,7 +12,7 @@ use Rattle.board_model.specs.Report.{ending}
 use Rattle.board_model.proofs.WordDecimals.{number-decimal, decimal-is, decimal-read}
 use Rattle.scenario_cli.specs.declared.form.Form.{Form}
 use Rattle.scenario_cli.specs.declared.form.Form.TheVariants.{Run, SerialRun, Frame, Ring}
-use Rattle.scenario_cli.specs.Words.{IsForm, IsNoLoad, IsNoForm, IsOneOf}
+use Rattle.scenario_cli.specs.Words.{words_of, IsForm, IsNoLoad, IsNoForm, IsOneOf}
 use Rattle.scenario_cli.specs.LoadText.{IsLoad}
 use Rattle.scenario_cli.specs.Loading.{Loads}
 
@@ -68,6 +70,10 @@ no_load_number first second none n load = none n load.some load.few (ap second_w
 -- or the first is another
 pub no_load_word : (first second : List ℕ) → (first ≡ codes "load" → ⊥) → IsNoLoad (first ∷ second ∷ [])
 no_load_word first second other n load = other (ap first_word load.told)
+
+-- or there are not two of them
+pub no_load_many : (words : List (String Global)) → (length words ≡ 2 → ⊥) → IsNoLoad (words_of words)
+no_load_many words other n load = other (sym (length-map words (λ (w : String Global). string_bytes w)) ∙ ap length load.told)
 
 -- and words of such a form are not those of no form
 pub form_no_usage : (form : Form) (words : List (List ℕ)) → IsForm form words → IsNoForm words → ⊥
