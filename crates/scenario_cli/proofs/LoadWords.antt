@@ -106,6 +106,21 @@ no_usage n (inr (inl e)) is = omega (arith, e, is)
 no_usage n (inr (inr (inl e))) is = omega (arith, e, is)
 no_usage n (inr (inr (inr h))) is = h
 
+-- the statuses where nothing is read
+pub unread_statuses : (n : ℕ) → IsOneOf (0 ∷ 2 ∷ 5 ∷ 6 ∷ []) n → IsOneOf (0 ∷ 1 ∷ 2 ∷ 3 ∷ 4 ∷ 5 ∷ 6 ∷ 7 ∷ []) n
+unread_statuses n (inl e) = inl e
+unread_statuses n (inr (inl e)) = inr (inr (inl e))
+unread_statuses n (inr (inr (inl e))) = inr (inr (inr (inr (inr (inl e)))))
+unread_statuses n (inr (inr (inr (inl e)))) = inr (inr (inr (inr (inr (inr (inl e))))))
+unread_statuses n (inr (inr (inr (inr h)))) = absurd h
+
+pub unread_not : (n m : ℕ) → IsOneOf (0 ∷ 2 ∷ 5 ∷ 6 ∷ []) n → m ≢ 0 → m ≢ 2 → m ≢ 5 → m ≢ 6 → n ≢ m
+unread_not n m (inl e) naught two five six is = naught (sym is ∙ e)
+unread_not n m (inr (inl e)) naught two five six is = two (sym is ∙ e)
+unread_not n m (inr (inr (inl e))) naught two five six is = five (sym is ∙ e)
+unread_not n m (inr (inr (inr (inl e)))) naught two five six is = six (sym is ∙ e)
+unread_not n m (inr (inr (inr (inr h)))) naught two five six is = h
+
 -- ---- the text
 
 pub load-pieces : (n : ℕ) (summary : List ℕ) → codes "load " ++ (decimal n ++ (codes "\n" ++ (summary ++ ending))) ≡ line_of (codes "load" ∷ decimal n ∷ []) ++ (summary ++ ending)

@@ -11,7 +11,7 @@ use Rattle.scenario_cli.specs.ImageText.{IsImage, IsNoImage, image_line, image_f
 use Rattle.scenario_cli.specs.Due.{IsDue, IsReport}
 use Rattle.scenario_cli.proofs.WordLemmas.{one_form, one_mode, run_no_frame, run_no_ring}
 use Rattle.scenario_cli.proofs.Inputs.{if_text, if_scenario, if_no_scenario, if_sound, if_unsound, if_image, if_no_image, due_fits}
-use Rattle.scenario_cli.proofs.LoadWords.{form_no_load}
+use Rattle.scenario_cli.proofs.LoadWords.{form_no_load, unread_statuses, unread_not}
 use Rattle.scenario_cli.proofs.Statuses.{not_three, not_zero, not_one, one_left, or_no_memory}
 use Rattle.scenario_cli.proofs.top.mcrun.Goals as goal
 
@@ -203,6 +203,33 @@ returns-in_default-clause-end_once g c = λ f form is. absurd (c.in_default.ensu
 
 pub returns-in_default-clause-sound_usage : goal.returns-in_default-clause-sound_usage
 returns-in_default-clause-sound_usage g c = λ n none fits takes. c.without_input.ensures.room n none.no_load fits takes
+
+pub returns-in_default-clause-status : goal.returns-in_default-clause-status
+returns-in_default-clause-status g c = unread_statuses c.without_input.result c.without_input.ensures.status
+
+pub returns-in_default-clause-wrong : goal.returns-in_default-clause-wrong
+returns-in_default-clause-wrong g c = λ form is. absurd (c.in_default.ensures.none refl Frame form)
+
+pub returns-in_default-clause-wrong_image : goal.returns-in_default-clause-wrong_image
+returns-in_default-clause-wrong_image g c = λ form is. absurd (c.in_default.ensures.none refl Ring form)
+
+pub returns-in_default-clause-wrong_words : goal.returns-in_default-clause-wrong_words
+returns-in_default-clause-wrong_words g c = λ is. absurd (unread_not c.without_input.result 1 c.without_input.ensures.status (omega arith) (omega arith) (omega arith) (omega arith) is)
+
+pub returns-in_default-clause-refused : goal.returns-in_default-clause-refused
+returns-in_default-clause-refused g c = λ is. absurd (unread_not c.without_input.result 3 c.without_input.ensures.status (omega arith) (omega arith) (omega arith) (omega arith) is)
+
+pub returns-in_default-clause-refused_words : goal.returns-in_default-clause-refused_words
+returns-in_default-clause-refused_words g c = λ is. absurd (unread_not c.without_input.result 3 c.without_input.ensures.status (omega arith) (omega arith) (omega arith) (omega arith) is)
+
+pub returns-in_default-clause-read_failed : goal.returns-in_default-clause-read_failed
+returns-in_default-clause-read_failed g c = λ is. absurd (unread_not c.without_input.result 4 c.without_input.ensures.status (omega arith) (omega arith) (omega arith) (omega arith) is)
+
+pub returns-in_default-clause-too_long : goal.returns-in_default-clause-too_long
+returns-in_default-clause-too_long g c = λ is. absurd (unread_not c.without_input.result 7 c.without_input.ensures.status (omega arith) (omega arith) (omega arith) (omega arith) is)
+
+pub returns-in_default-clause-sound_source : goal.returns-in_default-clause-sound_source
+returns-in_default-clause-sound_source g c = λ sound. unread_not c.without_input.result 4 c.without_input.ensures.status (omega arith) (omega arith) (omega arith) (omega arith)
 
 -- ---- the words of a form with an input are not those of a load
 
