@@ -1,6 +1,6 @@
 -- The load board of n packets: four domains in a ring of links, of which each sends n packets to the domain after it over one
 -- channel, and receives and releases those of the domain before it.
--- Source: docs/FORMATS.md, "The load board". The lines come in groups. Each group is told for the domains 0 to 3, before the next begins.
+-- Source: docs/FORMATS.md, "The load board". The lines come in groups. Each group is written for the domains 0 to 3 before the next begins.
 use Rattle.std.specs.Prelude.{ℕ, zero, suc, ◌+◌, ◌%◌, List, [], ◌∷◌, ◌++◌, map, codes, decimal, Option, None, Some}
 use Rattle.std.specs.List.{flat_map}
 use Rattle.byteorder.specs.Endian.{little_bytes}
@@ -89,7 +89,7 @@ closes d = tried d (CloseSend 1) ∷ tried d (CloseRecv 2) ∷ []
 
 -- ---- the board
 
--- a group, told for each domain
+-- a group, for each domain
 abbrev pub for_each : (ℕ → List CallLine) → List CallLine
 for_each group = flat_map group ring_numbers
 

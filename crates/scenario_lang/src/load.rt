@@ -42,7 +42,7 @@ use itoa::Buffer;
 use mc_base::{EndName, Kind, NoMemory};
 use std::alloc::Global;
 
-/// A group of lines, which is told for each domain before the next group begins.
+/// A group of lines, which is written for each domain before the next group begins.
 #[derive(Clone, Copy)]
 enum Group {
     /// Two endpoints, 1 to send and 2 to receive.
