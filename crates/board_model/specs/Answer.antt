@@ -1,10 +1,11 @@
 -- The answer of a call: the first refusal whose condition holds, or else the answer of success.
 -- Source: docs/PROFILE.md, "Calls" and "Words of refusal". E is the endpoint of the line's domain, node and port.
-use Rattle.std.specs.Prelude.{ℕ, ◌+◌, Bool, true, false, not, ◌||◌, List, [], ◌∷◌, map, length, take, nat_lt, nat_le, ◌==◌, find, position, option_map, option_and_then, Option, None, Some, is_some, unwrap_or, if◌then◌else◌}
+use Rattle.std.specs.Prelude.{ℕ, ◌+◌, Bool, true, false, not, ◌||◌, List, [], ◌∷◌, map, length, take, nat_lt, nat_le, ◌==◌, find, position, option_map, option_and_then, Option, None, Some, is_none, is_some, unwrap_or, if◌then◌else◌}
 use Rattle.std.specs.List.{list_all, list_any}
 use Rattle.byteorder.specs.Endian.{little_number}
 use Rattle.mc_base.specs.Limits.{item_size, first_address, record_limit, creation_limit, request_limit}
 use Rattle.mc_base.specs.NameMap.{address_in}
+use Rattle.mc_base.specs.Fault.{fault}
 use Rattle.mc_base.specs.Frame.{made}
 use Rattle.mc_base.specs.Letter.{PlainLetter, spelling, bytes_of_bits, msg, connect, packet, scalar, send_open, recv_open, send_close, recv_close}
 use Rattle.mc_base.specs.declared.name.Local.{Local}
@@ -14,10 +15,10 @@ use Rattle.mc_base.specs.declared.channel.Bits.{Bits}
 use Rattle.mc_base.specs.declared.channel.Side.{Side}
 use Rattle.mc_base.specs.declared.channel.Side.TheVariants.{Sender, Receiver}
 use Rattle.mc_base.specs.declared.refusal.Refusal.{Refusal}
-use Rattle.mc_base.specs.declared.refusal.Refusal.TheVariants.{NodeInvalid, ExistsAlready, EndpLimit, AddressSpent, EndpInvalid, PeerInvalid, OnChannel, ChanConnected, EndpBusy, ChanLimit, NotConnected, ChanDirection, ChanType, ChanClosed, AlreadyOpen, NotOpen, MsgSize, PktSize, SclSize, BufInvalid, NoBuffer, Empty, RequestLimit, RequestInvalid, Pending, TooLate, Timeout}
-use Rattle.board_model.specs.DomainCall.{DomainCall, create_at, delete_at, lookup_of, send_from, receive_at, request_at, available_at, connect_from, open_at, packet_from, lend_at, packet_request_at, release_of, scalar_from, scalar_at, close_at, test_of, wait_for, cancel_of, turn_alone}
+use Rattle.mc_base.specs.declared.refusal.Refusal.TheVariants.{NodeInvalid, ExistsAlready, EndpLimit, AddressSpent, EndpInvalid, PeerInvalid, OnChannel, ChanConnected, EndpBusy, ChanLimit, NotConnected, ChanDirection, ChanType, ChanClosed, AlreadyOpen, NotOpen, MsgSize, PktSize, SclSize, BufInvalid, NoBuffer, Empty, RequestLimit, RequestInvalid, Pending, TooLate, Timeout, LinkInvalid, RawSound}
+use Rattle.board_model.specs.DomainCall.{DomainCall, create_at, delete_at, lookup_of, send_from, receive_at, request_at, available_at, connect_from, open_at, packet_from, lend_at, packet_request_at, release_of, scalar_from, scalar_at, close_at, test_of, wait_for, cancel_of, raw_to, turn_alone}
 use Rattle.board_model.specs.Journal.{PlainResult, found_at, was_accepted, was_rejected, brought, ended_by, PlainAnswer, refuses, agrees, tells, connects, gives, completes}
-use Rattle.board_model.specs.State.{DomainState, Item, ChannelEnd, Endpoint, Peer, Asked, message_at, Outcome, has_address, is_accepted, is_rejected, has_item, has_ended, Request, LentPacket, request_at_place, packet_at_place, place_at, endpoint_at, live_at, address_at, channel_in, queue_at, one_waits, peer_of, free_to}
+use Rattle.board_model.specs.State.{DomainState, Item, ChannelEnd, Endpoint, Peer, Asked, message_at, Outcome, has_address, is_accepted, is_rejected, has_item, has_ended, Request, LentPacket, request_at_place, packet_at_place, place_at, endpoint_at, live_at, address_at, channel_in, queue_at, one_waits, place_of_peer, peer_of, free_to}
 use Rattle.board_model.specs.Choice.{best, oldest}
 use Rattle.board_model.specs.ChannelEnds.{EndCall, opens, sends, receives, closes, end_refuses}
 
@@ -25,7 +26,7 @@ use Rattle.board_model.specs.ChannelEnds.{EndCall, opens, sends, receives, close
 abbrev pub local : ℕ → ℕ → Local
 local node port = record { node = node; port = port }
 
--- the port of E. Calls on requests and names, and a turn, are made at none
+-- the port of E. Calls on requests and names, a raw frame and a turn are made at none
 abbrev pub port_of : DomainCall → ℕ
 port_of (create_at port) = port
 port_of (delete_at port) = port
@@ -46,6 +47,7 @@ port_of (close_at port side) = port
 port_of (test_of request) = 0
 port_of (wait_for requests says_place) = 0
 port_of (cancel_of request) = 0
+port_of (raw_to to bytes) = 0
 port_of turn_alone = 0
 
 abbrev pub here : ℕ → DomainCall → Local
@@ -166,6 +168,18 @@ abbrev pub lacks_complete : DomainState → DomainCall → Bool
 lacks_complete s (wait_for requests says_place) = not (list_any (is_complete_at s) requests)
 lacks_complete s call = false
 
+-- ---- a raw frame
+
+-- its peer is neither linked nor the domain itself
+abbrev pub lacks_lane : DomainState → DomainCall → Bool
+lacks_lane s (raw_to to bytes) = not (is_some (place_of_peer s to))
+lacks_lane s call = false
+
+-- it has no fault
+abbrev pub is_sound_raw : DomainCall → Bool
+is_sound_raw (raw_to to bytes) = is_none (fault bytes)
+is_sound_raw call = false
+
 -- the lent packet that a call names, where there is one
 abbrev pub packet_named : DomainState → DomainCall → Option LentPacket
 packet_named s (release_of place) = packet_at_place s place
@@ -181,7 +195,7 @@ content_size (send_from port to priority bytes) = length bytes
 content_size (packet_from port bytes) = length bytes
 content_size other = 0
 
--- the letters that success puts, and their frames, each with its peer
+-- the letters that success puts
 abbrev pub success_posts : DomainState → ℕ → DomainCall → List Post
 success_posts s node (send_from port to priority bytes) = post to.domain (unwrap_or (address_at s (local node port)) 0) (unwrap_or (address_of s to) 0) (msg priority bytes) ∷ []
 success_posts s node (connect_from port to kind) = post to.domain (unwrap_or (address_at s (local node port)) 0) (unwrap_or (address_of s to) 0) (connect (s.channels_given + 1) kind) ∷ []
@@ -191,8 +205,10 @@ success_posts s node (scalar_from port bits value) = over_end s (local node port
 success_posts s node (close_at port side) = over_end s (local node port) (closing_letter side)
 success_posts s node other = []
 
+-- the frames that success puts, each with its peer: those of its letters, and a raw frame as it is
 abbrev pub success_puts : DomainState → ℕ → DomainCall → List (ℕ × List ℕ)
-success_puts s node call = map put_of (success_posts s node call)
+success_puts s node (raw_to to bytes) = (to, bytes) ∷ []
+success_puts s node other = map put_of (success_posts s node other)
 
 -- whether the lane to a peer has fewer buffers free than these frames need
 abbrev pub lacks_buffers : DomainState → List (ℕ × List ℕ) → Bool
@@ -232,6 +248,8 @@ holds s node call RequestInvalid = lacks_request s call
 holds s node call Pending = not (is_complete (request_named s call))
 holds s node call TooLate = is_complete (request_named s call)
 holds s node call Timeout = lacks_complete s call
+holds s node call LinkInvalid = lacks_lane s call
+holds s node call RawSound = is_sound_raw call
 holds s node call other = false
 
 -- the words of a call, in their order
@@ -255,6 +273,7 @@ words_of (close_at port side) = EndpInvalid ∷ NotConnected ∷ ChanDirection �
 words_of (test_of request) = RequestInvalid ∷ Pending ∷ []
 words_of (wait_for requests says_place) = RequestInvalid ∷ Timeout ∷ []
 words_of (cancel_of request) = RequestInvalid ∷ TooLate ∷ []
+words_of (raw_to to bytes) = LinkInvalid ∷ RawSound ∷ NoBuffer ∷ []
 words_of turn_alone = []
 
 -- the first word that holds
@@ -315,6 +334,7 @@ success s node (close_at port Receiver) = tells (length (queue_at s (local node 
 success s node (test_of request) = completes None (result_of (request_at_place s request))
 success s node (wait_for requests says_place) = completes (place_said s requests says_place) (result_of (request_at_place s (first_complete s requests)))
 success s node (cancel_of request) = agrees
+success s node (raw_to to bytes) = agrees
 success s node turn_alone = agrees
 
 abbrev pub answer_by : Option Refusal → PlainAnswer → PlainAnswer

@@ -9,7 +9,7 @@ use Rattle.mc_base.specs.declared.channel.Side.{Side}
 use Rattle.mc_base.specs.declared.channel.Side.TheVariants.{Sender, Receiver}
 use Rattle.mc_base.specs.declared.refusal.Refusal.TheVariants.{EndpInvalid, ChanClosed}
 use Rattle.board_model.specs.Choice.{best, oldest}
-use Rattle.board_model.specs.DomainCall.{DomainCall, create_at, delete_at, lookup_of, send_from, receive_at, request_at, available_at, connect_from, open_at, packet_from, lend_at, packet_request_at, release_of, scalar_from, scalar_at, close_at, test_of, wait_for, cancel_of, turn_alone}
+use Rattle.board_model.specs.DomainCall.{DomainCall, create_at, delete_at, lookup_of, send_from, receive_at, request_at, available_at, connect_from, open_at, packet_from, lend_at, packet_request_at, release_of, scalar_from, scalar_at, close_at, test_of, wait_for, cancel_of, raw_to, turn_alone}
 use Rattle.board_model.specs.State.{Item, ChannelEnd, Endpoint, Asked, Outcome, Request, LentPacket, name_of, channel_of, message_at, packet_at, has_address, has_item, item_in, DomainState, live_at, request_at_place, packet_at_place}
 use Rattle.board_model.specs.Change.{Change, endpoint_made, endpoint_gone, best_gone, oldest_gone, channel_set, queue_dropped, request_added, waiting_ended, name_found, request_gone, end_announced, buffer_used, packet_lent, packet_gone, channel_given, changed_all}
 use Rattle.board_model.specs.ChannelEnds.{connecting_end, opened_end, closed_end}
@@ -99,6 +99,7 @@ success_changes s node (close_at port side) = at_end (live_at s (local node port
 success_changes s node (test_of request) = tested s request
 success_changes s node (wait_for requests says_place) = tested s (first_complete s requests)
 success_changes s node (cancel_of request) = request_gone request ∷ []
+success_changes s node (raw_to to bytes) = buffer_used to ∷ []
 success_changes s node turn_alone = []
 
 abbrev pub call_changes : DomainState → ℕ → DomainCall → List Change

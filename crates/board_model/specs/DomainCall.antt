@@ -6,7 +6,7 @@ use Rattle.mc_base.specs.declared.channel.Kind.{Kind}
 use Rattle.mc_base.specs.declared.channel.Bits.{Bits}
 use Rattle.mc_base.specs.declared.channel.Side.{Side}
 
--- the port at which a call is made comes first; a request or packet that does not exist is none. A wait has all the requests that it
+-- the port at which a call is made comes first, and the peer of a raw frame; a request or packet that does not exist is none. A wait has all the requests that it
 -- names, in its line's order, and whether its answer says which of them is complete
 pub data DomainCall : Type 0 where
   create_at : ℕ → DomainCall
@@ -28,4 +28,5 @@ pub data DomainCall : Type 0 where
   test_of : Option ℕ → DomainCall
   wait_for : List (Option ℕ) → Bool → DomainCall
   cancel_of : Option ℕ → DomainCall
+  raw_to : ℕ → List ℕ → DomainCall
   turn_alone : DomainCall

@@ -3,7 +3,7 @@
 use Rattle.std.specs.Prelude.{ℕ, ◌-◌, ◌*◌, ◌^◌, ◌&&◌, Bool, true, false, List, [], ◌∷◌, ◌++◌, map, length, nat_le, codes, bytes_eq, Option, None, Some, option_map, is_some, unwrap_or, ◌==◌, if◌then◌else◌}
 use Rattle.std.specs.List.{list_all}
 use Rattle.arrayvec.specs.ArrayVec.{ArrayVec}
-use Rattle.mc_base.specs.Limits.{asked_limit, try_limit}
+use Rattle.mc_base.specs.Limits.{asked_limit, longest_frame, try_limit}
 use Rattle.mc_base.specs.Letter.{bytes_of_bits}
 use Rattle.mc_base.specs.declared.name.EndName.{EndName}
 use Rattle.mc_base.specs.declared.channel.Kind.{Kind}
@@ -13,10 +13,10 @@ use Rattle.mc_base.specs.declared.channel.Bits.TheVariants.{B8, B16, B32, B64}
 use Rattle.board_model.specs.declared.scenario.DomainLine.{DomainLine}
 use Rattle.board_model.specs.declared.scenario.LinkLine.{LinkLine}
 use Rattle.board_model.specs.declared.scenario.Call.{Call}
-use Rattle.board_model.specs.declared.scenario.Call.TheVariants.{Create, Delete, Lookup, MsgSend, MsgRecv, MsgRecvI, MsgAvailable, Connect, OpenSend, OpenRecv, PktSend, PktRecv, PktRecvI, Release, SclSend, SclRecv, CloseSend, CloseRecv, Test, Wait, WaitAny, Cancel, Turn}
+use Rattle.board_model.specs.declared.scenario.Call.TheVariants.{Create, Delete, Lookup, MsgSend, MsgRecv, MsgRecvI, MsgAvailable, Connect, OpenSend, OpenRecv, PktSend, PktRecv, PktRecvI, Release, SclSend, SclRecv, CloseSend, CloseRecv, Test, Wait, WaitAny, Cancel, Raw, Turn}
 use Rattle.board_model.specs.declared.scenario.CallLine.{CallLine}
 use Rattle.board_model.specs.declared.form.ArgumentKind.{ArgumentKind}
-use Rattle.board_model.specs.declared.form.ArgumentKind.TheVariants.{Port, Name, Priority, Content, Maximum, ChannelKind, ScalarBits, ScalarValue, RequestLabel, RequestLabels, PacketLabel, Limit}
+use Rattle.board_model.specs.declared.form.ArgumentKind.TheVariants.{Port, Name, Priority, Content, Maximum, ChannelKind, ScalarBits, ScalarValue, RequestLabel, RequestLabels, PacketLabel, Limit, PeerDomain, RawFrame}
 use Rattle.board_model.specs.declared.form.Callee.{Callee}
 use Rattle.board_model.specs.declared.form.Callee.TheVariants as callee
 use Rattle.board_model.specs.FileLines.{parts_at, says_nothing}
@@ -39,6 +39,8 @@ Value RequestLabel = ArrayVec ℕ
 Value RequestLabels = ArrayVec (ArrayVec ℕ)
 Value PacketLabel = ArrayVec ℕ
 Value Limit = ℕ
+Value PeerDomain = ℕ
+Value RawFrame = List ℕ
 
 -- how many bits the argument after this one has, where this one tells it
 abbrev pub bits_told : (kind : ArgumentKind) → Value kind → ℕ
@@ -87,11 +89,13 @@ argument_numerals Maximum bits word = numeral 0 asked_limit word ∷ []
 argument_numerals ScalarBits bits word = record { admits = λ n. is_some (bits_of n); word = word } ∷ []
 argument_numerals ScalarValue bits word = numeral 0 (2 ^ bits - 1) word ∷ []
 argument_numerals Limit bits word = numeral 0 try_limit word ∷ []
+argument_numerals PeerDomain bits word = numeral 0 7 word ∷ []
 argument_numerals kind bits word = []
 
 -- what has to be bytes in it
 abbrev pub argument_contents : ArgumentKind → List ℕ → List Bytes
 argument_contents Content word = content 0 asked_limit word ∷ []
+argument_contents RawFrame word = content 1 longest_frame word ∷ []
 argument_contents kind word = []
 
 -- calls that give a request, which can be tested and cancelled
@@ -148,6 +152,8 @@ value RequestLabel word = label_of word
 value RequestLabels word = record { items = map label_of (parts_at 44 word) }
 value PacketLabel word = label_of word
 value Limit word = number word
+value PeerDomain word = number word
+value RawFrame word = bytes word
 
 -- ---- calls
 
@@ -213,6 +219,7 @@ form callee.Test = row (codes "test") (RequestLabel ∷ []) no_label may_try Tes
 form callee.Wait = row (codes "wait") (RequestLabel ∷ Limit ∷ []) no_label one_try Wait
 form callee.WaitAny = row (codes "wait_any") (RequestLabels ∷ Limit ∷ []) no_label one_try WaitAny
 form callee.Cancel = row (codes "cancel") (RequestLabel ∷ []) no_label may_try Cancel
+form callee.Raw = row (codes "raw") (PeerDomain ∷ RawFrame ∷ []) no_label may_try Raw
 form callee.Turn = row (codes "turn") [] no_label may_try Turn
 
 abbrev pub callees : List Callee
@@ -239,6 +246,7 @@ callees =
     ∷ callee.Wait
     ∷ callee.WaitAny
     ∷ callee.Cancel
+    ∷ callee.Raw
     ∷ callee.Turn
     ∷ []
 

@@ -10,11 +10,11 @@ use Rattle.mc_base.specs.declared.channel.Kind.TheVariants as kind
 use Rattle.board_model.specs.declared.scenario.DomainLine.{DomainLine}
 use Rattle.board_model.specs.declared.scenario.LinkLine.{LinkLine}
 use Rattle.board_model.specs.declared.scenario.Call.{Call}
-use Rattle.board_model.specs.declared.scenario.Call.TheVariants.{Create, Delete, Lookup, MsgSend, MsgRecv, MsgRecvI, MsgAvailable, Connect, OpenSend, OpenRecv, PktSend, PktRecv, PktRecvI, Release, SclSend, SclRecv, CloseSend, CloseRecv, Test, Wait, WaitAny, Cancel, Turn}
+use Rattle.board_model.specs.declared.scenario.Call.TheVariants.{Create, Delete, Lookup, MsgSend, MsgRecv, MsgRecvI, MsgAvailable, Connect, OpenSend, OpenRecv, PktSend, PktRecv, PktRecvI, Release, SclSend, SclRecv, CloseSend, CloseRecv, Test, Wait, WaitAny, Cancel, Raw, Turn}
 use Rattle.board_model.specs.declared.scenario.CallLine.{CallLine}
 use Rattle.board_model.specs.declared.scenario.Scenario.{Scenario}
 use Rattle.board_model.specs.declared.form.ArgumentKind.{ArgumentKind}
-use Rattle.board_model.specs.declared.form.ArgumentKind.TheVariants.{Port, Name, Priority, Content, Maximum, ChannelKind, ScalarBits, ScalarValue, RequestLabel, RequestLabels, PacketLabel, Limit}
+use Rattle.board_model.specs.declared.form.ArgumentKind.TheVariants.{Port, Name, Priority, Content, Maximum, ChannelKind, ScalarBits, ScalarValue, RequestLabel, RequestLabels, PacketLabel, Limit, PeerDomain, RawFrame}
 use Rattle.board_model.specs.declared.form.Callee.{Callee}
 use Rattle.board_model.specs.declared.form.Callee.TheVariants as callee
 use Rattle.board_model.specs.Scenario.{label_in}
@@ -64,6 +64,8 @@ argument_text RequestLabel label = label.items
 argument_text RequestLabels labels = with_commas (map (λ l. l.items) labels.items)
 argument_text PacketLabel label = label.items
 argument_text Limit n = decimal n
+argument_text PeerDomain n = decimal n
+argument_text RawFrame bytes = hex_text bytes
 
 abbrev pub argument_texts : (kinds : List ArgumentKind) → Values kinds → List (List ℕ)
 argument_texts [] arguments = []
@@ -97,6 +99,7 @@ call_words (Test label) = form_words callee.Test (label, tt)
 call_words (Wait label limit) = form_words callee.Wait (label, (limit, tt))
 call_words (WaitAny labels limit) = form_words callee.WaitAny (labels, (limit, tt))
 call_words (Cancel label) = form_words callee.Cancel (label, tt)
+call_words (Raw domain bytes) = form_words callee.Raw (domain, (bytes, tt))
 call_words Turn = form_words callee.Turn tt
 
 -- a label, and the sign that sets it apart

@@ -5,10 +5,10 @@ use Rattle.std.specs.Prelude.{ℕ, Bool, true, false, List, [], ◌∷◌, ◌++
 use Rattle.std.specs.Str.{bytes_eq}
 use Rattle.mc_base.specs.declared.channel.Side.TheVariants.{Sender, Receiver}
 use Rattle.board_model.specs.declared.scenario.Call.{Call}
-use Rattle.board_model.specs.declared.scenario.Call.TheVariants.{Create, Delete, Lookup, MsgSend, MsgRecv, MsgRecvI, MsgAvailable, Connect, OpenSend, OpenRecv, PktSend, PktRecv, PktRecvI, Release, SclSend, SclRecv, CloseSend, CloseRecv, Test, Wait, WaitAny, Cancel, Turn}
+use Rattle.board_model.specs.declared.scenario.Call.TheVariants.{Create, Delete, Lookup, MsgSend, MsgRecv, MsgRecvI, MsgAvailable, Connect, OpenSend, OpenRecv, PktSend, PktRecv, PktRecvI, Release, SclSend, SclRecv, CloseSend, CloseRecv, Test, Wait, WaitAny, Cancel, Raw, Turn}
 use Rattle.board_model.specs.declared.scenario.CallLine.{CallLine}
 use Rattle.board_model.specs.Scenario.{label_in}
-use Rattle.board_model.specs.DomainCall.{DomainCall, create_at, delete_at, lookup_of, send_from, receive_at, request_at, available_at, connect_from, open_at, packet_from, lend_at, packet_request_at, release_of, scalar_from, scalar_at, close_at, test_of, wait_for, cancel_of, turn_alone}
+use Rattle.board_model.specs.DomainCall.{DomainCall, create_at, delete_at, lookup_of, send_from, receive_at, request_at, available_at, connect_from, open_at, packet_from, lend_at, packet_request_at, release_of, scalar_from, scalar_at, close_at, test_of, wait_for, cancel_of, raw_to, turn_alone}
 use Rattle.board_model.specs.State.{DomainState, Asked, Outcome, Request, packet_at, has_item, request_at_place, place_of_request, place_of_packet}
 use Rattle.board_model.specs.Answer.{is_complete_at, first_complete, refusal, unless_refused}
 
@@ -61,6 +61,7 @@ call_of labels s (Test label) = test_of (place_of_label labels.requests s label.
 call_of labels s (Wait label limit) = wait_for (place_of_label labels.requests s label.items ∷ []) false
 call_of labels s (WaitAny names limit) = wait_for (map (λ l. place_of_label labels.requests s l.items) names.items) true
 call_of labels s (Cancel label) = cancel_of (place_of_label labels.requests s label.items)
+call_of labels s (Raw domain bytes) = raw_to domain bytes
 call_of labels s Turn = turn_alone
 
 -- the serial of the request that success gives

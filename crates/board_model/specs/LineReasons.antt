@@ -2,12 +2,14 @@
 -- Source: docs/FORMATS.md, "Scenario files", the list of reasons. The first that holds counts.
 use Rattle.std.specs.Prelude.{ℕ, Bool, true, false, not, ◌&&◌, ◌||◌, List, [], ◌∷◌, ◌++◌, length, bytes_eq, nat_le, nat_lt, ◌==◌, Option, None, Some, is_none, if◌then◌else◌}
 use Rattle.std.specs.List.{list_all, list_any}
+use Rattle.mc_base.specs.Fault.{fault}
 use Rattle.board_model.specs.declared.scenario.LinkLine.{LinkLine}
 use Rattle.board_model.specs.declared.scenario.Call.{Call}
+use Rattle.board_model.specs.declared.scenario.Call.TheVariants.{Raw}
 use Rattle.board_model.specs.declared.scenario.CallLine.{CallLine}
 use Rattle.board_model.specs.declared.scenario.Scenario.{Scenario}
 use Rattle.board_model.specs.declared.reason.LineReason.{LineReason}
-use Rattle.board_model.specs.declared.reason.LineReason.TheVariants.{Byte, Long, Form, Number, Bytes, Order, Domain, Link, Label}
+use Rattle.board_model.specs.declared.reason.LineReason.TheVariants.{Byte, Long, Form, Number, Bytes, Order, Domain, Link, Label, Sound}
 use Rattle.board_model.specs.Scenario.{label_in}
 use Rattle.board_model.specs.FileLines.{words_of}
 use Rattle.board_model.specs.FileWords.{number, is_number, are_bytes}
@@ -78,6 +80,15 @@ has_wrong_label above (call_parts c) =
     tells_wrong_label above (form c.callee).labelled (number c.domain) c.told || names_wrong_label above (number c.domain) (arguments_labels (form c.callee).arguments c.arguments)
 has_wrong_label above parts = false
 
+-- a raw frame without a fault
+abbrev pub puts_sound : Call → Bool
+puts_sound (Raw domain bytes) = is_none (fault bytes)
+puts_sound call = false
+
+abbrev pub has_sound_frame : Statement → Bool
+has_sound_frame (says_call c) = puts_sound c.call
+has_sound_frame other = false
+
 -- a reason, and whether it holds
 pub record LineTest : Type 0 where
   pub reason : LineReason
@@ -101,6 +112,7 @@ word_reasons above parts =
     ∷ test Domain (of_parts (λ p. has_wrong_domain above (statement p)) parts)
     ∷ test Link (of_parts (λ p. has_wrong_link above (statement p)) parts)
     ∷ test Label (of_parts (has_wrong_label above) parts)
+    ∷ test Sound (of_parts (λ p. has_sound_frame (statement p)) parts)
     ∷ []
 
 -- all reasons, those of the bytes first

@@ -2,11 +2,11 @@
 -- Source: docs/FORMATS.md, "Scenario files".
 use Rattle.std.specs.Prelude.{◌≡◌, ◌⊎◌, ℕ, ◌*◌, ◌≤◌, ◌<◌, ◌^◌, List, [], ◌∷◌, map, length, Contains}
 use Rattle.std.specs.List.{AllByRecursion}
-use Rattle.mc_base.specs.Limits.{asked_limit, try_limit}
+use Rattle.mc_base.specs.Limits.{asked_limit, longest_frame, try_limit}
 use Rattle.mc_base.specs.Letter.{bytes_of_bits}
 use Rattle.board_model.specs.declared.scenario.LinkLine.{LinkLine}
 use Rattle.board_model.specs.declared.scenario.Call.{Call}
-use Rattle.board_model.specs.declared.scenario.Call.TheVariants.{Create, Delete, Lookup, MsgSend, MsgRecv, MsgRecvI, MsgAvailable, Connect, OpenSend, OpenRecv, PktSend, PktRecv, PktRecvI, Release, SclSend, SclRecv, CloseSend, CloseRecv, Test, Wait, WaitAny, Cancel, Turn}
+use Rattle.board_model.specs.declared.scenario.Call.TheVariants.{Create, Delete, Lookup, MsgSend, MsgRecv, MsgRecvI, MsgAvailable, Connect, OpenSend, OpenRecv, PktSend, PktRecv, PktRecvI, Release, SclSend, SclRecv, CloseSend, CloseRecv, Test, Wait, WaitAny, Cancel, Raw, Turn}
 use Rattle.board_model.specs.declared.scenario.Scenario.{Scenario}
 use Rattle.board_model.specs.Forms.{group_limit}
 use Rattle.board_model.specs.Grammar.{IsLawfulDomain, IsLawfulName}
@@ -60,6 +60,7 @@ HasFitArguments (Test label) = Unit {0}
 HasFitArguments (Wait label limit) = limit ≤ try_limit
 HasFitArguments (WaitAny labels limit) = (1 ≤ length labels.items) × (length labels.items ≤ group_limit) × (limit ≤ try_limit)
 HasFitArguments (Cancel label) = Unit {0}
+HasFitArguments (Raw domain bytes) = (domain ≤ 7) × (1 ≤ length bytes) × (length bytes ≤ longest_frame) × AllByRecursion (λ b. b < 256) bytes
 HasFitArguments Turn = Unit {0}
 
 pub record IsLinkedBoard (s : Scenario) : Type 0 where

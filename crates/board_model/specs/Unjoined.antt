@@ -4,7 +4,7 @@
 use Rattle.std.specs.Prelude.{ℕ, zero, suc, ◌-◌, nat_lt, List, [], ◌∷◌, ◌++◌, ◌==◌, if◌then◌else◌, map, sum_by, Option, Some, None, slice_get}
 use Rattle.std.specs.List.{flat_map}
 use Rattle.board_model.specs.declared.scenario.Call.{Call}
-use Rattle.board_model.specs.declared.scenario.Call.TheVariants.{MsgSend, Connect, OpenSend, OpenRecv, PktSend, SclSend, CloseSend, CloseRecv}
+use Rattle.board_model.specs.declared.scenario.Call.TheVariants.{MsgSend, Connect, OpenSend, OpenRecv, PktSend, SclSend, CloseSend, CloseRecv, Raw}
 use Rattle.board_model.specs.declared.scenario.CallLine.{CallLine}
 use Rattle.board_model.specs.declared.scenario.DomainLine.{DomainLine}
 use Rattle.board_model.specs.declared.scenario.Scenario.{Scenario}
@@ -23,6 +23,7 @@ frames_put (PktSend port bytes) = 1
 frames_put (SclSend port bits value) = 1
 frames_put (CloseSend port) = 1
 frames_put (CloseRecv port) = 1
+frames_put (Raw domain bytes) = 1
 frames_put other = 0
 
 -- a call's line, by its number from 1

@@ -23,6 +23,7 @@ pub enum Callee {
     Wait,
     WaitAny,
     Cancel,
+    Raw,
     Turn,
 }
 
@@ -53,4 +54,8 @@ pub enum ArgumentKind {
     PacketLabel,
     /// LIMIT: 0 to 4294967295.
     Limit,
+    /// D: the number of a domain, 0 to 7.
+    PeerDomain,
+    /// BYTES: 1 to 512, a frame that is put as it is.
+    RawFrame,
 }

@@ -15,8 +15,8 @@ pub enum LineReason {
     /// A number isn't written in decimal without leading zeros, or is out of its range.
     #[error("a number is out of its range, or has a sign or leading zeros")]
     Number,
-    /// Bytes have an odd number of digits or other digits, or are more than 9,000.
-    #[error("bytes are not hexadecimal digits, two a byte, or are more than 9,000")]
+    /// Bytes have an odd number of digits or other digits, or are more than 9,000, or those of a raw frame are not 1 to 512.
+    #[error("bytes are not hexadecimal digits, two a byte, or are too many: at most 9,000, and 1 to 512 in a raw frame")]
     Bytes,
     /// A domain line stands after a link or call line, or a link line after a call line.
     #[error("a domain line comes after a link or call line, or a link line after a call line")]
@@ -32,4 +32,7 @@ pub enum LineReason {
     /// domain for a request.
     #[error("a label is set twice, stands where none may, or is not set above by the same domain")]
     Label,
+    /// A raw frame has no fault.
+    #[error("the raw frame has no fault; only faulty frames are put raw")]
+    Sound,
 }
