@@ -18,7 +18,7 @@ use Rattle.board_model.specs.CallChanges.{at_channel, at_end, at_live, lent_by, 
 use Rattle.board_model.specs.Change.{Change, with_channel}
 use Rattle.board_model.specs.ChannelEnds.{EndCall, opens, receives, closes, end_refuses, is_closed, same_side, hears_from, closed_end}
 use Rattle.board_model.specs.Choice.{oldest}
-use Rattle.board_model.specs.DomainCall.{DomainCall, create_at, delete_at, lookup_of, send_from, receive_at, request_at, available_at, connect_from, open_at, packet_from, lend_at, packet_request_at, release_of, scalar_from, scalar_at, close_at, test_of, wait_for, cancel_of, turn_alone}
+use Rattle.board_model.specs.DomainCall.{DomainCall, create_at, delete_at, lookup_of, send_from, receive_at, request_at, available_at, connect_from, open_at, packet_from, lend_at, packet_request_at, release_of, scalar_from, scalar_at, close_at, test_of, wait_for, cancel_of, raw_to, turn_alone}
 use Rattle.board_model.specs.State.{Item, ChannelEnd, Endpoint, Asked, packet_at, Outcome, has_item, Request, DomainState, opened, closed, endpoint_at, is_at, live_at, endpoint_of, channel_in, request_at_place}
 use Rattle.board_model.proofs.OrderCalls.{none_holds}
 
@@ -143,6 +143,7 @@ module _ (o n : ℕ) (s : DomainState) (own : Own s) where
   success_fits node (test_of request) no_word = (tt, lends_fit _ (request_at_place s request))
   success_fits node (wait_for requests says_place) no_word = (tt, lends_fit _ (request_at_place s (first_complete s requests)))
   success_fits node (cancel_of request) no_word = (tt, tt)
+  success_fits node (raw_to to bytes) no_word = (tt, tt)
   success_fits node turn_alone no_word = tt
 
   pub call_fits : (node : ℕ) (call : DomainCall) → FitAll o n s (call_changes s node call)

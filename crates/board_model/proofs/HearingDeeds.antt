@@ -1,6 +1,6 @@
 -- The receiving end of a channel along a run: each deed keeps what is known of it.
 use Rattle.std.proofs.Common.{◌≡◌, ℕ, Bool, true, false, cond, List, [], ◌∷◌, ◌++◌, map, Option, Some, None, refl, sym, ap, ◌∙◌, subst}
-use Rattle.std.specs.Prelude.{◌==◌}
+use Rattle.std.specs.Prelude.{is_none, ◌==◌}
 use Rattle.std.proofs.lemmas.Bool.{eqb-true, eq-eqb}
 use Rattle.mc_base.specs.Letter.{PlainLetter, msg, connect, accept, reject, recv_open, send_open, packet, scalar, send_close, recv_close, spelling}
 use Rattle.mc_base.specs.Reading.{Reading, is_faulty, announces, says, reading}
@@ -8,6 +8,7 @@ use Rattle.mc_base.specs.declared.channel.Kind.{Kind}
 use Rattle.board_model.specs.Answer.{Post, puts}
 use Rattle.board_model.proofs.MessageAlls.{all-append}
 use Rattle.board_model.proofs.PostsSent.{MaySend, puts_all, frames_all}
+use Rattle.mc_base.specs.Fault.{fault}
 use Rattle.mc_base.specs.Frame.{made}
 use Rattle.board_model.specs.Change.{Change, frame_taken, changed, changed_all}
 use Rattle.board_model.specs.Deeds.{Deed, looks_back, puts_owed, looks_ahead, takes, calls, happens_by, MayDo}
@@ -21,6 +22,7 @@ use Rattle.board_model.proofs.HearingCalls.{Own, call_fits}
 use Rattle.board_model.proofs.HearingFrames.{RepliesRead, IsNoAccept, IsSmall, IsForeign, frame_fits}
 use Rattle.board_model.proofs.HearingLetters.{IsQuiet, begins, gets_packet, gets_scalar, closes}
 use Rattle.board_model.proofs.TakenRows.{row_same}
+use Rattle.board_model.proofs.RawFrames.{raw_faulty}
 
 -- the numbers of the connects that are read fit
 abbrev pub IsSmallReading : Reading → Type 0
@@ -152,11 +154,14 @@ module _ (read : RepliesRead) (o n : ℕ) (s : DomainState) where
       go [] e = first (map replying p.replies) e silent
       go (a ∷ news) e = let same : announcing s.number a ≡ frame = cc in subst (λ k. accepts n (reading k) ≡ false) same (read.announced_other n s.number a)
 
+  raw_silent : (to : ℕ) (bytes : List ℕ) → is_none (fault bytes) ≡ false → IsSilent bytes
+  raw_silent to bytes unsound = ap (accepts n) (raw_faulty bytes unsound).1
+
   puts_silent : (d : Deed) → MayDo s d → NoAccept n (owed_replies (peer_at s o)) → NoAccept n (puts_by o s d)
   puts_silent (looks_back p count) may silent = tt
   puts_silent (looks_ahead p count) may silent = tt
   puts_silent (takes p name frame word) may silent = tt
-  puts_silent (calls node call a) may silent = frames_all IsSilent o (puts s node call) (puts_all (λ q. IsSilent q.1) s node sent_silent call)
+  puts_silent (calls node call a) may silent = frames_all IsSilent o (puts s node call) (puts_all (λ q. IsSilent q.1) s node sent_silent raw_silent call)
   puts_silent (puts_owed p frame) may silent = go (p == o) refl
     where
       go : (b : Bool) → (p == o) ≡ b → NoAccept n (frames_if b (frame ∷ []))

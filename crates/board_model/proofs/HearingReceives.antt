@@ -21,7 +21,7 @@ use Rattle.board_model.specs.ChannelEnds.{EndCall, opens, sends, closes, end_ref
 use Rattle.board_model.specs.Channels.{contents_of, lost_by}
 use Rattle.board_model.specs.Choice.{least, best, oldest, without_best}
 use Rattle.board_model.specs.Deeds.{calls}
-use Rattle.board_model.specs.DomainCall.{DomainCall, create_at, delete_at, lookup_of, send_from, receive_at, request_at, available_at, connect_from, open_at, packet_from, lend_at, packet_request_at, release_of, scalar_from, scalar_at, close_at, test_of, wait_for, cancel_of, turn_alone}
+use Rattle.board_model.specs.DomainCall.{DomainCall, create_at, delete_at, lookup_of, send_from, receive_at, request_at, available_at, connect_from, open_at, packet_from, lend_at, packet_request_at, release_of, scalar_from, scalar_at, close_at, test_of, wait_for, cancel_of, raw_to, turn_alone}
 use Rattle.board_model.specs.Journal.{PlainAnswer, refuses, agrees, tells}
 use Rattle.board_model.specs.Lists.{changed_first}
 use Rattle.board_model.specs.State.{Item, ChannelEnd, Endpoint, Asked, name_of, channel_of, message_at, packet_at, Outcome, has_address, has_item, Request, DomainState, is_at, has_address_of, place_at, live_at, endpoint_at, endpoint_of, queue_at, queue_in, channel_in, receives_at, one_waits, request_at_place}
@@ -316,6 +316,7 @@ module _ (o n : ℕ) (s : DomainState) (sound : Sound s) (below : Below s.reques
       (quiet_call wait (success s node wait) (request_gone place ∷ []) refl refl (tt, tt) (omega arith) (old_without s place s.requests (all_old s)) refl refl)
       (λ i. quiet_call wait (success s node wait) (request_gone place ∷ packet_lent i ∷ []) refl refl (tt, (tt, tt)) (omega arith) (old_without s place s.requests (all_old s)) refl refl) (request_at_place s place)
   success_yields (cancel_of place) no_word = quiet_call (cancel_of place) agrees _ refl refl (tt, tt) (omega arith) (old_without s place s.requests (all_old s)) refl refl
+  success_yields (raw_to to bytes) no_word = quiet_call (raw_to to bytes) agrees _ refl refl (tt, tt) (omega arith) (all_old s) refl refl
   success_yields turn_alone no_word = quiet_call turn_alone agrees [] refl refl tt (omega arith) (all_old s) refl refl
 
   -- ---- a refused call

@@ -1,8 +1,9 @@
 -- The numbers of the Connects that a domain puts fit: a domain numbers 65,535 channels at most, and a frame that it owes is no Connect.
 use Rattle.std.proofs.Common.{◌≡◌, ℕ, ◌<◌, ◌^◌, Bool, true, false, List, [], ◌∷◌, map, Option, None, Some, sym, subst, arith}
-use Rattle.std.specs.Prelude.{◌==◌}
+use Rattle.std.specs.Prelude.{is_none, ◌==◌}
 use Rattle.std.specs.List.{AllByRecursion}
 use Rattle.mc_base.specs.Letter.{PlainLetter, msg, connect, accept, reject, recv_open, send_open, packet, scalar, send_close, recv_close, fields_of, spelling}
+use Rattle.mc_base.specs.Fault.{fault}
 use Rattle.mc_base.specs.Frame.{made}
 use Rattle.mc_base.specs.Reading.{Reading, reading}
 use Rattle.mc_base.specs.declared.channel.Reason.{Reason}
@@ -16,6 +17,7 @@ use Rattle.board_model.proofs.HearingLaw.{IsSmallFrame}
 use Rattle.board_model.proofs.HonestFrames.{MadeReads, made_faulty, made_letter, reads_made, Tells, tells_faulty, tells_name, tells_made, first_version}
 use Rattle.board_model.proofs.MessageAlls.{all-append}
 use Rattle.board_model.proofs.PostsSent.{MaySend, puts_all, frames_all}
+use Rattle.board_model.proofs.RawFrames.{raw_faulty}
 
 -- ---- frames
 
@@ -69,8 +71,11 @@ sent_small s p may = letter_small p.source p.destination p.letter (go p.letter m
     go (connect m kind) sends = let few : s.channels_given < channel_limit = sends.1 in omega (arith, sends.0)
     go other sends = tt
 
+raw_small : (to : ℕ) (bytes : List ℕ) → is_none (fault bytes) ≡ false → IsSmallFrame bytes
+raw_small to bytes unsound = subst IsSmallReading (sym (raw_faulty bytes unsound).1) tt
+
 deed_small : (p : ℕ) (s : DomainState) (d : Deed) → MayDo s d → AllByRecursion IsSmallFrame (puts_by p s d)
-deed_small p s (calls node call a) may = frames_all IsSmallFrame p (puts s node call) (puts_all (λ q. IsSmallFrame q.1) s node (sent_small s) call)
+deed_small p s (calls node call a) may = frames_all IsSmallFrame p (puts s node call) (puts_all (λ q. IsSmallFrame q.1) s node (sent_small s) raw_small call)
 deed_small p s (puts_owed q frame) may = one (q == p)
   where
     one : (b : Bool) → AllByRecursion IsSmallFrame (frames_if b (frame ∷ []))

@@ -13,7 +13,7 @@ use Rattle.mc_base.specs.declared.name.EndName.{EndName}
 use Rattle.mc_base.specs.declared.refusal.Refusal.{Refusal}
 use Rattle.mc_base.specs.declared.name.Local.{Local}
 use Rattle.board_model.specs.Honesty.{IsMade}
-use Rattle.board_model.specs.DomainCall.{DomainCall, create_at, delete_at, lookup_of, send_from, receive_at, request_at, available_at, connect_from, open_at, packet_from, lend_at, packet_request_at, release_of, scalar_from, scalar_at, close_at, test_of, wait_for, cancel_of, turn_alone}
+use Rattle.board_model.specs.DomainCall.{DomainCall, create_at, delete_at, lookup_of, send_from, receive_at, request_at, available_at, connect_from, open_at, packet_from, lend_at, packet_request_at, release_of, scalar_from, scalar_at, close_at, test_of, wait_for, cancel_of, raw_to, turn_alone}
 use Rattle.board_model.specs.State.{Item, ChannelEnd, Endpoint, Announcement, Reply, Peer, DomainState, is_at, live_at, place_at, address_at, peer_at, is_numbered, request_at_place, announcing, replying, owed_to}
 use Rattle.board_model.specs.Change.{Change, item_queued, item_handed, item_lost, packet_lent, names_known, name_found, changed_all}
 use Rattle.board_model.specs.TakenFrames.{Row, names_of, rejecting, accepting, acting, item_of, row_of}
@@ -29,6 +29,7 @@ use Rattle.board_model.proofs.LaneRows.{Deals, stays, learns, forgets, hands, qu
 use Rattle.board_model.proofs.StateEnds.{there_is, end-holds, tested-are}
 use Rattle.board_model.proofs.HonestFrames.{HonestLetter, Honest, letter_honest, announcing_honest, announcing_silent, replying_replies, reply_honest, reply_silent}
 use Rattle.board_model.proofs.HonestSound.{own, PeerSound, Sound, FitAll, given_changes, sound_changes}
+use Rattle.board_model.proofs.RawFrames.{raw_faulty}
 
 peer_number : (q : ℕ) (ps : List Peer) (p : Peer) → find (is_numbered q) ps ≡ Some p → q ≡ p.number
 peer_number q ps p is = sym (eqb-true p.number q (found-passes (is_numbered q) ps p is))
@@ -153,6 +154,7 @@ module _ (made : ℕ) (known : ℕ → ℕ → Type 0) (ns : List ℕ) where
     success_fits node (test_of request) no_word within = (tt, tested_fits _ (lent_by_test (request_at_place s request)) (tested-are (request_at_place s request)))
     success_fits node (wait_for requests says_place) no_word within = (tt, tested_fits _ (lent_by_test (request_at_place s (first_complete s requests))) (tested-are (request_at_place s (first_complete s requests))))
     success_fits node (cancel_of request) no_word within = (tt, tt)
+    success_fits node (raw_to to bytes) no_word within = (tt, tt)
     success_fits node turn_alone no_word within = tt
 
     call_fits : (node : ℕ) (call : DomainCall) (r : Option Refusal) → refusal s node call ≡ r → (changed_all s (unless_refused r [] (success_changes s node call))).endpoints_given ≤ made → FitAll made known ns s (unless_refused r [] (success_changes s node call))
@@ -237,8 +239,13 @@ module _ (made : ℕ) (known : ℕ → ℕ → Type 0) (ns : List ℕ) where
         all_honest [] all = tt
         all_honest (x ∷ xs) all = (letter_honest made x.source x.destination x.letter few all.0, all_honest xs all.1)
 
+        -- a raw frame announces and connects nothing
+        success_honest : (c : DomainCall) → NoWord s node c → AllByRecursion (λ (x : ℕ × List ℕ). Honest made (reading x.1)) (success_puts s node c)
+        success_honest (raw_to to bytes) no_word = (subst (Honest made) (sym (raw_faulty bytes no_word.1.0).1) tt, tt)
+        success_honest other no_word = all_honest (success_posts s node other) (posts_honest node other no_word within)
+
         by : (o : Option Refusal) → refusal s node call ≡ o → AllByRecursion (λ (x : ℕ × List ℕ). Honest made (reading x.1)) (unless_refused o [] (success_puts s node call))
-        by None why = all_honest (success_posts s node call) (posts_honest node call (none-passes (holds s node call) (words_of call) why) within)
+        by None why = success_honest call (none-passes (holds s node call) (words_of call) why)
         by (Some w) why = tt
 
         to_one : (xs : List (ℕ × List ℕ)) → AllByRecursion (λ (x : ℕ × List ℕ). Honest made (reading x.1)) xs → AllByRecursion (λ f. Honest made (reading f)) (frames_to q xs)

@@ -17,7 +17,7 @@ use Rattle.mc_base.specs.declared.channel.Side.TheVariants.{Sender, Receiver}
 use Rattle.mc_base.specs.declared.refusal.Refusal.{Refusal}
 use Rattle.board_model.specs.Honesty.{IsMade}
 use Rattle.board_model.specs.Choice.{without_best}
-use Rattle.board_model.specs.DomainCall.{DomainCall, create_at, delete_at, lookup_of, send_from, receive_at, request_at, available_at, connect_from, open_at, packet_from, lend_at, packet_request_at, release_of, scalar_from, scalar_at, close_at, test_of, wait_for, cancel_of, turn_alone}
+use Rattle.board_model.specs.DomainCall.{DomainCall, create_at, delete_at, lookup_of, send_from, receive_at, request_at, available_at, connect_from, open_at, packet_from, lend_at, packet_request_at, release_of, scalar_from, scalar_at, close_at, test_of, wait_for, cancel_of, raw_to, turn_alone}
 use Rattle.board_model.specs.State.{connected, closed, Stage, ChannelEnd, Endpoint, Peer, DomainState, is_at, has_address_of, live_at, endpoint_at, peer_of, is_numbered}
 use Rattle.board_model.specs.Change.{Change, endpoint_made, endpoint_gone, item_queued, best_gone, oldest_gone, channel_set, queue_dropped, item_handed, item_lost, names_known, name_found, endpoint_with, with_queue, with_channel, without_queue, changed, changed_all}
 use Rattle.board_model.specs.ChannelEnds.{is_closed, is_connecting, same_kind, sends_to, hears_from, closed_end, far_closed_end, EndRow, end_row, left_row, end_row_of}
@@ -206,6 +206,7 @@ module _ (known : ℕ → ℕ → Type 0) where
       success_far node (test_of request) no_word = (tt, tested-holds FitsFar (λ i. tt) _)
       success_far node (wait_for requests says_place) no_word = (tt, tested-holds FitsFar (λ i. tt) _)
       success_far node (cancel_of request) no_word = (tt, tt)
+      success_far node (raw_to to bytes) no_word = (tt, tt)
       success_far node turn_alone no_word = tt
 
       call_far : (node : ℕ) (call : DomainCall) (o : Option Refusal) → refusal s node call ≡ o → AllByRecursion FitsFar (unless_refused o [] (success_changes s node call))

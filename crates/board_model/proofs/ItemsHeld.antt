@@ -12,7 +12,7 @@ use Rattle.mc_base.specs.declared.refusal.Refusal.{Refusal}
 use Rattle.mc_base.specs.declared.refusal.Refusal.TheVariants.{EndpInvalid}
 use Rattle.board_model.specs.State.{Item, ChannelEnd, Endpoint, channel_of, message_at, packet_at, Asked, Outcome, has_address, is_accepted, is_rejected, has_item, has_ended, item_in, Request, LentPacket, DomainState, is_at, has_address_of, live_at, endpoint_of, request_at_place, packet_at_place, waits_at}
 use Rattle.board_model.specs.Choice.{least, best, best_place, without_best, oldest}
-use Rattle.board_model.specs.DomainCall.{DomainCall, create_at, delete_at, lookup_of, send_from, receive_at, request_at, available_at, connect_from, open_at, packet_from, lend_at, packet_request_at, release_of, scalar_from, scalar_at, close_at, test_of, wait_for, cancel_of, turn_alone}
+use Rattle.board_model.specs.DomainCall.{DomainCall, create_at, delete_at, lookup_of, send_from, receive_at, request_at, available_at, connect_from, open_at, packet_from, lend_at, packet_request_at, release_of, scalar_from, scalar_at, close_at, test_of, wait_for, cancel_of, raw_to, turn_alone}
 use Rattle.board_model.specs.Answer.{first_complete, local, address_of, refusal, unless_refused}
 use Rattle.board_model.specs.Change.{Change, endpoint_made, endpoint_gone, item_queued, best_gone, oldest_gone, item_lost, channel_set, queue_dropped, request_added, item_handed, waiting_ended, name_found, connect_settled, request_gone, end_announced, reply_owed, owed_put, buffers_back, frames_shown, frame_taken, names_known, buffer_used, packet_lent, packet_gone, channel_given, asks_for, connects_on, done_with, handed_in, ended_in, with_queue, with_channel, without_queue, endpoint_with, changed, changed_all}
 use Rattle.board_model.specs.TakenFrames.{Row, item_of, row_of}
@@ -223,6 +223,7 @@ module _ (P : Item → Type 0) where
     success_brings (test_of request) = (tt, request_holds Brings lent_by_test tt (λ r one. lent_brings r.asked r.outcome one) request)
     success_brings (wait_for requests says_place) = (tt, request_holds Brings lent_by_test tt (λ r one. lent_brings r.asked r.outcome one) (first_complete s requests))
     success_brings (cancel_of request) = (tt, tt)
+    success_brings (raw_to to bytes) = (tt, tt)
     success_brings turn_alone = tt
 
     call_brings : (call : DomainCall) → AllByRecursion Brings (call_changes s node call)

@@ -20,7 +20,7 @@ use Rattle.mc_base.specs.declared.fate.Fate.{Fate}
 use Rattle.mc_base.specs.declared.fate.Fate.TheVariants as fate
 use Rattle.board_model.specs.Lists.{without}
 use Rattle.board_model.specs.Choice.{best, oldest}
-use Rattle.board_model.specs.DomainCall.{DomainCall, create_at, delete_at, lookup_of, send_from, receive_at, request_at, available_at, connect_from, open_at, packet_from, lend_at, packet_request_at, release_of, scalar_from, scalar_at, close_at, test_of, wait_for, cancel_of, turn_alone}
+use Rattle.board_model.specs.DomainCall.{DomainCall, create_at, delete_at, lookup_of, send_from, receive_at, request_at, available_at, connect_from, open_at, packet_from, lend_at, packet_request_at, release_of, scalar_from, scalar_at, close_at, test_of, wait_for, cancel_of, raw_to, turn_alone}
 use Rattle.board_model.specs.Journal.{PlainAnswer, refuses, agrees, tells, connects, gives, completes}
 use Rattle.board_model.specs.State.{Item, ChannelEnd, Endpoint, name_of, channel_of, message_at, packet_at, has_address, has_item, has_ended, Request, DomainState, is_at, has_address_of, live_at, endpoint_at, endpoint_of, request_at_place, queue_at, queue_in, one_waits, oldest_waiting, receives_at, waits_at}
 use Rattle.board_model.specs.Change.{Change, item_handed, item_queued, item_lost, channel_set, frame_taken, endpoint_gone, best_gone, oldest_gone, request_added, request_gone, waiting_ended, name_found, connect_settled, end_announced, reply_owed, names_known, buffer_used, packet_lent, packet_gone, channel_given, endpoint_with, all_done, done_with, asks_for, connects_on, handed_in, ended_in, with_queue, with_channel, at_address, changed, changed_all}
@@ -450,6 +450,7 @@ module _ (r : ℕ) (test : Message → Bool) where
     success_leads node (test_of request) words = idle (success_changes s node (test_of request)) (mild_idles (success_changes s node (test_of request)) (tt, tested-holds Mild (λ i. tt) (request_at_place s request)))
     success_leads node (wait_for requests says_place) words = idle (success_changes s node (wait_for requests says_place)) (mild_idles (success_changes s node (wait_for requests says_place)) (tt, tested-holds Mild (λ i. tt) (request_at_place s (first_complete s requests))))
     success_leads node (cancel_of request) words = nothing s _ s.endpoints (gone_none request) refl
+    success_leads node (raw_to to bytes) words = nothing s _ s.endpoints none_new refl
     success_leads node turn_alone words = nothing s _ s.endpoints none_new refl
 
     refused_leads : (node : ℕ) (call : DomainCall) (w : Refusal) → Balance s [] (answered_by s (calls node call (refuses w)) ++ taken_of s s.requests) (dropped_by r s (calls node call (refuses w))) s.endpoints

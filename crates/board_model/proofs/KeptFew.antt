@@ -10,7 +10,7 @@ use Rattle.board_model.specs.declared.scenario.DomainLine.{DomainLine}
 use Rattle.board_model.specs.declared.scenario.Scenario.{Scenario}
 use Rattle.board_model.specs.Scenario.{script, rising}
 use Rattle.board_model.specs.LinkedBoard.{Differ, IsLinkedBoard}
-use Rattle.board_model.specs.DomainCall.{create_at, delete_at, lookup_of, send_from, receive_at, request_at, available_at, connect_from, open_at, packet_from, lend_at, packet_request_at, release_of, scalar_from, scalar_at, close_at, test_of, wait_for, cancel_of, turn_alone}
+use Rattle.board_model.specs.DomainCall.{create_at, delete_at, lookup_of, send_from, receive_at, request_at, available_at, connect_from, open_at, packet_from, lend_at, packet_request_at, release_of, scalar_from, scalar_at, close_at, test_of, wait_for, cancel_of, raw_to, turn_alone}
 use Rattle.board_model.specs.Journal.{PlainAnswer, refuses, agrees, tells, connects, gives, completes}
 use Rattle.board_model.specs.State.{Endpoint, DomainState, live_at}
 use Rattle.board_model.specs.Answer.{local}
@@ -61,6 +61,7 @@ deed_few d s (calls node (close_at port side) a) = omega arith
 deed_few d s (calls node (test_of request) a) = omega arith
 deed_few d s (calls node (wait_for requests says_place) a) = omega arith
 deed_few d s (calls node (cancel_of request) a) = omega arith
+deed_few d s (calls node (raw_to to bytes) a) = omega arith
 deed_few d s (calls node turn_alone a) = omega arith
 deed_few d s (looks_back q n) = omega arith
 deed_few d s (puts_owed q f) = omega arith

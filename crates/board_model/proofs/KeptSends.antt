@@ -1,11 +1,12 @@
 -- What the frames that a domain puts say is what its sends had accepted, lane by lane: each frame of a send is read back, since the
 -- addresses that a domain has and knows are real.
 use Rattle.std.proofs.Common.{◌≡◌, ℕ, ◌+◌, ◌≤◌, Bool, true, false, not, cond, List, [], ◌∷◌, ◌++◌, length, map, Option, Some, None, refl, sym, ap, ◌∙◌, subst, arith}
-use Rattle.std.specs.Prelude.{count_by, is_some, option_map, unwrap_or, ◌==◌}
+use Rattle.std.specs.Prelude.{count_by, is_none, is_some, option_map, unwrap_or, ◌==◌}
 use Rattle.std.specs.List.{AllByRecursion}
 use Rattle.std.proofs.lemmas.Bool.{ltb-false}
 use Rattle.std.proofs.lemmas.List.{append-nil}
 use Rattle.mc_base.specs.Limits.{creation_limit, item_size}
+use Rattle.mc_base.specs.Fault.{fault}
 use Rattle.mc_base.specs.Frame.{made}
 use Rattle.mc_base.specs.Letter.{PlainLetter, msg, packet, scalar, spelling}
 use Rattle.mc_base.specs.declared.channel.Side.{Side}
@@ -15,7 +16,7 @@ use Rattle.mc_base.specs.declared.name.Local.{Local}
 use Rattle.mc_base.specs.declared.name.EndName.{EndName}
 use Rattle.mc_base.specs.declared.refusal.Refusal.{Refusal}
 use Rattle.board_model.specs.LinkedBoard.{Differ}
-use Rattle.board_model.specs.DomainCall.{DomainCall, create_at, delete_at, lookup_of, send_from, receive_at, request_at, available_at, connect_from, open_at, packet_from, lend_at, packet_request_at, release_of, scalar_from, scalar_at, close_at, test_of, wait_for, cancel_of, turn_alone}
+use Rattle.board_model.specs.DomainCall.{DomainCall, create_at, delete_at, lookup_of, send_from, receive_at, request_at, available_at, connect_from, open_at, packet_from, lend_at, packet_request_at, release_of, scalar_from, scalar_at, close_at, test_of, wait_for, cancel_of, raw_to, turn_alone}
 use Rattle.board_model.specs.Journal.{PlainAnswer, refuses, agrees}
 use Rattle.board_model.specs.State.{ChannelEnd, Endpoint, DomainState, is_at, address_at, live_at}
 use Rattle.board_model.specs.Answer.{local, address_of, holds, words_of, refusal, success, answer_by, channel_at, over_channel, opening_letter, closing_letter, Post, put_of, success_posts, success_puts, unless_refused}
@@ -35,6 +36,7 @@ use Rattle.board_model.proofs.HonestSound.{Sound}
 use Rattle.board_model.proofs.HonestDeeds.{NoWord, HearsDeed, OwedWell, owed_well, sound_deed}
 use Rattle.board_model.proofs.HonestRuns.{given_deeds}
 use Rattle.board_model.proofs.KeptLanes.{peer_once, passing, passing-append, one_frame, said_alone, lane_once}
+use Rattle.board_model.proofs.RawFrames.{raw_faulty}
 
 -- a call as a lawful scenario has it
 abbrev pub FitsDeed : Deed → Type 0
@@ -120,6 +122,14 @@ module _ (test : Message → Bool) (made_in : ℕ) (known : ℕ → ℕ → Type
     closing_silent Sender n = tt
     closing_silent Receiver n = tt
 
+    -- a raw frame says no message
+    raw_sent : (d to : ℕ) (bytes : List ℕ) → is_none (fault bytes) ≡ false → total (λ n. passing test d n (frames_to n ((to, bytes) ∷ []))) ns ≡ 0
+    raw_sent d to bytes unsound = total-zero (λ n. passing test d n (frames_to n ((to, bytes) ∷ []))) (λ n. passing-append test d n (frames_if (to == n) (bytes ∷ [])) [] ∙ omega (arith, one_frame test (to == n) d n bytes ∙ here n (to == n))) ns
+      where
+        here : (n : ℕ) (b : Bool) → cond b (passing test d n (bytes ∷ [])) 0 ≡ 0
+        here n true = said_alone test d n bytes ∙ ap (λ r. count_by test (said_by d n r)) (raw_faulty bytes unsound).1
+        here n false = refl
+
     success_sends : (d node : ℕ) (call : DomainCall) → FitsDeed (calls node call (success s node call)) → refusal s node call ≡ None →
         total (λ n. passing test d n (frames_to n (success_puts s node call))) ns ≡ count_by test (accepted_by d s (calls node call (success s node call)))
     success_sends d node (send_from port to priority bytes) low free = send_said d node port to priority bytes low free
@@ -141,6 +151,7 @@ module _ (test : Message → Bool) (made_in : ℕ) (known : ℕ → ℕ → Type
     success_sends d node (test_of request) fits free = none_put
     success_sends d node (wait_for requests says_place) fits free = none_put
     success_sends d node (cancel_of request) fits free = none_put
+    success_sends d node (raw_to to bytes) fits free = raw_sent d to bytes (none-passes (holds s node (raw_to to bytes)) (words_of (raw_to to bytes)) free).1.0
     success_sends d node turn_alone fits free = none_put
 
     call_sends : (d node : ℕ) (call : DomainCall) (o : Option Refusal) (a : PlainAnswer) → refusal s node call ≡ o → a ≡ answer_by o (success s node call) → FitsDeed (calls node call a) →

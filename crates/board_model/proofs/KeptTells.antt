@@ -4,7 +4,7 @@ use Rattle.std.proofs.Common.{◌≡◌, ℕ, ◌+◌, ◌<◌, ◌^◌, List, [
 use Rattle.std.specs.Prelude.{◌==◌}
 use Rattle.std.specs.List.{AllByRecursion, flat_map}
 use Rattle.board_model.specs.declared.scenario.Call.{Call}
-use Rattle.board_model.specs.declared.scenario.Call.TheVariants.{Create, Delete, Lookup, MsgSend, MsgRecv, MsgRecvI, MsgAvailable, Connect, OpenSend, OpenRecv, PktSend, PktRecv, PktRecvI, Release, SclSend, SclRecv, CloseSend, CloseRecv, Test, Wait, WaitAny, Cancel, Turn}
+use Rattle.board_model.specs.declared.scenario.Call.TheVariants.{Create, Delete, Lookup, MsgSend, MsgRecv, MsgRecvI, MsgAvailable, Connect, OpenSend, OpenRecv, PktSend, PktRecv, PktRecvI, Release, SclSend, SclRecv, CloseSend, CloseRecv, Test, Wait, WaitAny, Cancel, Raw, Turn}
 use Rattle.board_model.specs.declared.scenario.CallLine.{CallLine}
 use Rattle.board_model.specs.declared.scenario.DomainLine.{DomainLine}
 use Rattle.board_model.specs.declared.scenario.Scenario.{Scenario}
@@ -101,6 +101,7 @@ fits_call labels s node (Test label) a fits = tt
 fits_call labels s node (Wait label limit) a fits = tt
 fits_call labels s node (WaitAny names limit) a fits = tt
 fits_call labels s node (Cancel label) a fits = tt
+fits_call labels s node (Raw domain bytes) a fits = tt
 fits_call labels s node Turn a fits = tt
 
 fits_line : (lines : List CallLine) (r : RunState) (a : PlainAnswer) (o : Option CallLine) → AllByRecursion (λ c. HasFitArguments c.call) lines → next_line lines r ≡ o → AllByRecursion FitsDeed (call_deeds o r a)

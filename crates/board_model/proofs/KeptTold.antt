@@ -7,13 +7,13 @@ use Rattle.std.proofs.lemmas.List.Sums.{sum_by-cons}
 use Rattle.mc_base.specs.Reading.{reading}
 use Rattle.mc_base.specs.declared.refusal.Refusal.{Refusal}
 use Rattle.board_model.specs.declared.scenario.Call.{Call}
-use Rattle.board_model.specs.declared.scenario.Call.TheVariants.{Create, Delete, Lookup, MsgSend, MsgRecv, MsgRecvI, MsgAvailable, Connect, OpenSend, OpenRecv, PktSend, PktRecv, PktRecvI, Release, SclSend, SclRecv, CloseSend, CloseRecv, Test, Wait, WaitAny, Cancel, Turn}
+use Rattle.board_model.specs.declared.scenario.Call.TheVariants.{Create, Delete, Lookup, MsgSend, MsgRecv, MsgRecvI, MsgAvailable, Connect, OpenSend, OpenRecv, PktSend, PktRecv, PktRecvI, Release, SclSend, SclRecv, CloseSend, CloseRecv, Test, Wait, WaitAny, Cancel, Raw, Turn}
 use Rattle.board_model.specs.declared.scenario.CallLine.{CallLine}
 use Rattle.board_model.specs.Journal.{PlainEntry, turned, put, again, waits, called, PlainAnswer, refuses, agrees, tells, connects, gives, completes, Visit, Taken, Line, turn_line, back_line, put_line, see_line, call_line, taken_line, looked, visit_lines, joined}
 use Rattle.board_model.specs.State.{Item, DomainState, Endpoint, is_at, live_at, endpoint_at, queue_in, queue_at}
 use Rattle.board_model.specs.Labels.{Labels, call_of}
 use Rattle.mc_base.specs.declared.name.Local.{Local}
-use Rattle.board_model.specs.DomainCall.{DomainCall, create_at, delete_at, lookup_of, send_from, receive_at, request_at, available_at, connect_from, open_at, packet_from, lend_at, packet_request_at, release_of, scalar_from, scalar_at, close_at, test_of, wait_for, cancel_of, turn_alone}
+use Rattle.board_model.specs.DomainCall.{DomainCall, create_at, delete_at, lookup_of, send_from, receive_at, request_at, available_at, connect_from, open_at, packet_from, lend_at, packet_request_at, release_of, scalar_from, scalar_at, close_at, test_of, wait_for, cancel_of, raw_to, turn_alone}
 use Rattle.board_model.specs.Answer.{local, has_channel, holds, words_of, refusal, answer_by}
 use Rattle.board_model.specs.Step.{RunState, Allowed, next_line, call_at, after}
 use Rattle.board_model.specs.CallChanges.{at_live}
@@ -103,6 +103,7 @@ call_lost d s node (close_at port side) a order may = refl
 call_lost d s node (test_of request) a order may = refl
 call_lost d s node (wait_for requests says_place) a order may = refl
 call_lost d s node (cancel_of request) a order may = refl
+call_lost d s node (raw_to to bytes) a order may = refl
 call_lost d s node turn_alone a order may = refl
 
 deed_lost : (d : ℕ) (s : DomainState) (e : Deed) → Queues s → MayDo s e → count_by any (dropped_by d s e) ≡ lost_deed e
@@ -223,6 +224,7 @@ line_lost labels s node (Test label) a = refl
 line_lost labels s node (Wait label limit) a = refl
 line_lost labels s node (WaitAny names limit) a = refl
 line_lost labels s node (Cancel label) a = refl
+line_lost labels s node (Raw domain bytes) a = refl
 line_lost labels s node Turn a = refl
 
 called_lost : (lines : List CallLine) (r : RunState) (k : ℕ) (a : PlainAnswer) (line : CallLine) → next_line lines r ≡ Some line → k ≡ r.lines_called + 1 → total lost_deed (call_deeds (next_line lines r) r a) ≡ deleted_in lines (call_line k a)

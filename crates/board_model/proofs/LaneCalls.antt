@@ -8,7 +8,7 @@ use Rattle.mc_base.specs.declared.name.Local.{Local}
 use Rattle.mc_base.specs.declared.channel.Side.TheVariants.{Sender, Receiver}
 use Rattle.mc_base.specs.declared.refusal.Refusal.{Refusal}
 use Rattle.mc_base.specs.declared.refusal.Refusal.TheVariants as word
-use Rattle.board_model.specs.DomainCall.{DomainCall, create_at, delete_at, lookup_of, send_from, receive_at, request_at, available_at, connect_from, open_at, packet_from, lend_at, packet_request_at, release_of, scalar_from, scalar_at, close_at, test_of, wait_for, cancel_of, turn_alone}
+use Rattle.board_model.specs.DomainCall.{DomainCall, create_at, delete_at, lookup_of, send_from, receive_at, request_at, available_at, connect_from, open_at, packet_from, lend_at, packet_request_at, release_of, scalar_from, scalar_at, close_at, test_of, wait_for, cancel_of, raw_to, turn_alone}
 use Rattle.board_model.specs.Lists.{without_first, without}
 use Rattle.board_model.specs.State.{DomainState, ChannelEnd, Endpoint, Item, Request, LentPacket, Asked, Outcome, name_of, channel_of, message_at, packet_at, has_address, is_accepted, is_rejected, has_item, has_ended, item_in, request_at_place, is_at, has_address_of, live_at, endpoint_of, channel_in}
 use Rattle.board_model.specs.Choice.{without_best, oldest}
@@ -256,6 +256,7 @@ module _ (w : Item → Bool) (s : DomainState) (ends : Ends s) where
   success_counts node (wait_for requests says_place) e = told_counts (first_complete s requests)
   success_counts node (cancel_of request) e =
       omega (arith, ended_counts w request s.requests, lent_counts w s, lent_counts w (changed_all s (success_changes s node (cancel_of request))), ap (count_by w) (cancelled_holds s node request e))
+  success_counts node (raw_to to bytes) e = omega arith
   success_counts node turn_alone e = omega arith
 
   -- what a call takes of what is held is what it gives back

@@ -9,7 +9,7 @@ use Rattle.mc_base.specs.declared.name.EndName.{EndName}
 use Rattle.mc_base.specs.declared.channel.Side.TheVariants.{Sender, Receiver}
 use Rattle.mc_base.specs.declared.refusal.Refusal.{Refusal}
 use Rattle.mc_base.specs.declared.refusal.Refusal.TheVariants as word
-use Rattle.board_model.specs.DomainCall.{DomainCall, create_at, delete_at, lookup_of, send_from, receive_at, request_at, available_at, connect_from, open_at, packet_from, lend_at, packet_request_at, release_of, scalar_from, scalar_at, close_at, test_of, wait_for, cancel_of, turn_alone}
+use Rattle.board_model.specs.DomainCall.{DomainCall, create_at, delete_at, lookup_of, send_from, receive_at, request_at, available_at, connect_from, open_at, packet_from, lend_at, packet_request_at, release_of, scalar_from, scalar_at, close_at, test_of, wait_for, cancel_of, raw_to, turn_alone}
 use Rattle.board_model.specs.State.{DomainState, ChannelEnd, Endpoint, Peer, channel_of, message_at, packet_at, has_item, address_at, live_at, request_at_place, channel_in, peer_at, free_to}
 use Rattle.board_model.specs.Choice.{oldest}
 use Rattle.board_model.specs.ChannelEnds.{opened_end, closed_end}
@@ -118,6 +118,9 @@ success_frees s n node (close_at port Receiver) e =
 success_frees s n node (test_of request) e = kept_frees s n (request_gone request ∷ lent_by_test (request_at_place s request)) ((λ p. refl), tested-holds (Keeps (λ p. p.free) s.number n) (λ i p. refl) (request_at_place s request))
 success_frees s n node (wait_for requests says_place) e = kept_frees s n (tested s (first_complete s requests)) ((λ p. refl), tested-holds (Keeps (λ p. p.free) s.number n) (λ i p. refl) (request_at_place s (first_complete s requests)))
 success_frees s n node (cancel_of request) e = omega arith
+success_frees s n node (raw_to to bytes) e =
+    let words = find-none (holds s node (raw_to to bytes)) (words_of (raw_to to bytes)) e in
+    used_frees s to n bytes (ltb-false (free_to s to) 1 words.1.1.0)
 success_frees s n node turn_alone e = omega arith
 
 -- the frames that a call puts to a peer use as many buffers of the lane to it

@@ -3,7 +3,7 @@ use Rattle.std.proofs.Common.{◌≡◌, ℕ, ◌-◌, ◌*◌, ◌≤◌, ◌<�
 use Rattle.std.specs.List.{AllByRecursion, list_all}
 use Rattle.std.proofs.lemmas.Bool.{and_parts}
 use Rattle.arrayvec.specs.ArrayVec.{ArrayVec}
-use Rattle.mc_base.specs.Limits.{asked_limit, try_limit}
+use Rattle.mc_base.specs.Limits.{asked_limit, longest_frame, try_limit}
 use Rattle.mc_base.specs.Letter.{bytes_of_bits}
 use Rattle.mc_base.specs.declared.channel.Bits.{Bits}
 use Rattle.mc_base.specs.declared.channel.Bits.TheVariants.{B8, B16, B32, B64}
@@ -12,7 +12,7 @@ use Rattle.std.proofs.lemmas.Bool.Decides.{nat_tests}
 use Rattle.std.proofs.lemmas.List.{length-map}
 use Rattle.board_model.specs.declared.scenario.Call.{Call}
 use Rattle.board_model.specs.declared.form.ArgumentKind.{ArgumentKind}
-use Rattle.board_model.specs.declared.form.ArgumentKind.TheVariants.{Port, Name, Priority, Content, Maximum, ChannelKind, ScalarBits, ScalarValue, RequestLabel, RequestLabels, PacketLabel, Limit}
+use Rattle.board_model.specs.declared.form.ArgumentKind.TheVariants.{Port, Name, Priority, Content, Maximum, ChannelKind, ScalarBits, ScalarValue, RequestLabel, RequestLabels, PacketLabel, Limit, PeerDomain, RawFrame}
 use Rattle.board_model.specs.declared.form.Callee.{Callee}
 use Rattle.board_model.specs.declared.form.Callee.TheVariants as callee
 use Rattle.board_model.specs.Grammar.{IsLawfulName, form_words, call_words}
@@ -46,6 +46,8 @@ IsFit RequestLabel bits label = is_label label.items ≡ true
 IsFit RequestLabels bits labels = IsGroup labels.items
 IsFit Limit bits n = n ≤ try_limit
 IsFit PacketLabel bits label = is_label label.items ≡ true
+IsFit PeerDomain bits n = n ≤ 7
+IsFit RawFrame bits bs = (1 ≤ length bs) × (length bs ≤ longest_frame) × AllByRecursion (λ b. b < 256) bs
 
 abbrev pub AreFit : (kinds : List ArgumentKind) → (bits : ℕ) → Values kinds → Type 0
 AreFit [] bits arguments = Unit {0}
@@ -84,6 +86,8 @@ told_few RequestLabel v = omega arith
 told_few RequestLabels v = omega arith
 told_few Limit v = omega arith
 told_few PacketLabel v = omega arith
+told_few PeerDomain v = omega arith
+told_few RawFrame v = omega arith
 
 value_below : (bits n : ℕ) → n ≤ 2 ^ bits - 1 → n < 2 ^ bits
 value_below bits n le = let least : 0 ≤ bits = omega arith in let some : 2 ^ 0 ≤ 2 ^ bits = pow-le-pow_right (omega arith) least in omega (arith, le, some)
@@ -128,6 +132,8 @@ kind_fits RequestLabel bits word few fit numbers bytes = fit
 kind_fits RequestLabels bits word few fit numbers bytes = group_fits (parts_at 44 word) (some_parts 44 word) fit
 kind_fits Limit bits word few fit numbers bytes = one_number 0 try_limit word numbers
 kind_fits PacketLabel bits word few fit numbers bytes = fit
+kind_fits PeerDomain bits word few fit numbers bytes = one_number 0 7 word numbers
+kind_fits RawFrame bits word few fit numbers bytes = let within = bytes_few 1 longest_frame word (and_parts (are_bytes (content 1 longest_frame word)) true bytes).0 in (within.0, within.1, bytes_below word)
 
 pub values-fit : (kinds : List ArgumentKind) (bits : ℕ) (words : List (List ℕ)) → bits ≤ 64 → arguments_fit kinds words ≡ true → list_all is_number (arguments_numerals kinds bits words) ≡ true → list_all are_bytes (arguments_contents kinds words) ≡ true → AreFit kinds bits (values kinds words)
 values-fit [] bits words few fit numbers bytes = tt
@@ -168,6 +174,7 @@ words-made callee.Test arguments = refl
 words-made callee.Wait arguments = refl
 words-made callee.WaitAny arguments = refl
 words-made callee.Cancel arguments = refl
+words-made callee.Raw arguments = refl
 words-made callee.Turn arguments = refl
 
 has_fit : (c : Callee) (arguments : Values (form c).arguments) → AreFit (form c).arguments 0 arguments → HasFitArguments (call_with c arguments)
@@ -193,6 +200,7 @@ has_fit callee.Test arguments h = tt
 has_fit callee.Wait arguments h = h.1.0
 has_fit callee.WaitAny arguments h = (h.0.some, h.0.few, h.1.0)
 has_fit callee.Cancel arguments h = tt
+has_fit callee.Raw arguments h = (h.0, h.1.0)
 has_fit callee.Turn arguments h = tt
 
 pub call-fits : (c : Callee) (words : List (List ℕ)) → arguments_fit (form c).arguments words ≡ true → list_all is_number (arguments_numerals (form c).arguments 0 words) ≡ true → list_all are_bytes (arguments_contents (form c).arguments words) ≡ true → HasFitArguments (call_made c words)

@@ -128,6 +128,7 @@ pub mod HearingRuns
 pub mod HearingCalls
 pub mod HearingFrames
 pub mod HearingLetters
+pub mod RawFrames
 pub mod PostsSent
 pub mod HearingDeeds
 pub mod HearingWords

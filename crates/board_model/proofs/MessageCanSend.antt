@@ -5,7 +5,7 @@ use Rattle.std.specs.List.{AllByRecursion}
 use Rattle.mc_base.specs.Letter.{PlainLetter, msg, connect, packet, scalar}
 use Rattle.mc_base.specs.declared.name.EndName.{EndName}
 use Rattle.mc_base.specs.declared.refusal.Refusal.{Refusal}
-use Rattle.board_model.specs.DomainCall.{DomainCall, send_from, connect_from, open_at, packet_from, scalar_from, close_at}
+use Rattle.board_model.specs.DomainCall.{DomainCall, send_from, connect_from, open_at, packet_from, scalar_from, close_at, raw_to}
 use Rattle.board_model.specs.State.{DomainState, ChannelEnd, Endpoint, Peer, address_at, is_numbered, live_at, channel_in, peer_of}
 use Rattle.board_model.specs.Answer.{local, address_of, post, put_of, over_channel, opening_letter, closing_letter, lacks_buffers, holds, words_of, refusal, success_puts, puts, unless_refused}
 use Rattle.board_model.proofs.MessageLists.{get-position}
@@ -39,6 +39,7 @@ found_of s node (scalar_from port bits value) None is =
     over_found s (live_at s (local node port)) (channel_in (live_at s (local node port))) (λ number. scalar number bits value) (none-passes (holds s node (scalar_from port bits value)) (words_of (scalar_from port bits value)) is).1.1.1.1.1.1.0
 found_of s node (close_at port side) None is =
     over_found s (live_at s (local node port)) (channel_in (live_at s (local node port))) (closing_letter side) (none-passes (holds s node (close_at port side)) (words_of (close_at port side)) is).1.1.1.1.0
+found_of s node (raw_to to bytes) None is = one_found s (to, bytes) (none-passes (holds s node (raw_to to bytes)) (words_of (raw_to to bytes)) is).1.1.0
 found_of s node other None is = tt
 
 pub puts-found : (s : DomainState) (node : ℕ) (call : DomainCall) → AllByRecursion (HasPeer s) (puts s node call)

@@ -21,15 +21,16 @@ use Rattle.board_model.proofs.HearingLaw.{way_of-append, letters-append, content
 use Rattle.board_model.proofs.Sending.{sent_of, sent, Sending, fresh, numbered, SentAt}
 use Rattle.board_model.proofs.SendingCalls.{Reads}
 use Rattle.board_model.proofs.SendingDeeds.{owed_put_mute, ReadsDeed, AllOut, sender_step}
-use Rattle.board_model.specs.Answer.{Post, post, put_of, local, address_of, channel_at, over_channel, over_end, success_posts, success, answer_by, holds, words_of, refusal, unless_refused}
+use Rattle.board_model.specs.Answer.{Post, post, put_of, local, address_of, channel_at, over_channel, over_end, success_posts, success_puts, success, answer_by, holds, words_of, refusal, unless_refused}
 use Rattle.board_model.specs.CallChanges.{at_channel, at_end}
 use Rattle.board_model.specs.ChannelEnds.{opens, sends, closes, is_closed}
 use Rattle.board_model.specs.Channels.{accepted_by}
 use Rattle.board_model.specs.Deeds.{Deed, looks_back, puts_owed, looks_ahead, takes, calls, after_deed, MayDo, AllMayDo, along}
-use Rattle.board_model.specs.DomainCall.{DomainCall, send_from, connect_from, open_at, packet_from, scalar_from, close_at}
+use Rattle.board_model.specs.DomainCall.{DomainCall, send_from, connect_from, open_at, packet_from, scalar_from, close_at, raw_to}
 use Rattle.board_model.specs.Journal.{PlainAnswer, refuses}
 use Rattle.board_model.specs.State.{ChannelEnd, Endpoint, DomainState, address_at, live_at, endpoint_of, channel_in}
 use Rattle.board_model.proofs.OrderCalls.{none_holds}
+use Rattle.board_model.proofs.RawFrames.{raw_letters}
 
 -- ---- what a deed puts of the channel
 
@@ -147,15 +148,21 @@ module _ (n : ℕ) (s : DomainState) where
     call_deals node (close_at port Receiver) no_word read = deals_nothing (off_lane _ (all_off_over (live_at s (local node port)) (channel_at s (local node port)) recv_close (λ m. refl)) read) refl
     call_deals node other no_word read = deals_nothing (λ p. refl) refl
 
+    -- and a raw frame has none
+    puts_deal : (node : ℕ) (call : DomainCall) → AllByRecursion (λ w. holds s node call w ≡ false) (words_of call) → AllByRecursion Reads (success_posts s node call) →
+        Deals (λ p. letters n (frames_to p (success_puts s node call))) (accepted_by n s (calls node call (success s node call)))
+    puts_deal node (raw_to to bytes) no_word read = deals_nothing (λ p. raw_letters n p to bytes no_word.1.0) refl
+    puts_deal node other no_word read = call_deals node other no_word read
+
     none_at_refusal : (node : ℕ) (call : DomainCall) (word : Refusal) → accepted_by n s (calls node call (refuses word)) ≡ []
     none_at_refusal node (packet_from port bytes) word = refl
     none_at_refusal node (scalar_from port bits value) word = refl
     none_at_refusal node other word = refl
 
     refused_deals : (node : ℕ) (call : DomainCall) (r : Option Refusal) → refusal s node call ≡ r → (refusal s node call ≡ None → AllByRecursion Reads (success_posts s node call)) →
-        Deals (λ p. letters n (frames_to p (unless_refused r [] (map put_of (success_posts s node call))))) (accepted_by n s (calls node call (answer_by r (success s node call))))
+        Deals (λ p. letters n (frames_to p (unless_refused r [] (success_puts s node call)))) (accepted_by n s (calls node call (answer_by r (success s node call))))
     refused_deals node call (Some word) is read = deals_nothing (λ p. refl) (none_at_refusal node call word)
-    refused_deals node call None is read = call_deals node call (none_holds (holds s node call) (words_of call) is) (read is)
+    refused_deals node call None is read = puts_deal node call (none_holds (holds s node call) (words_of call) is) (read is)
 
     pub deed_deals : (d : Deed) → MayDo s d → ReadsDeed s d → Deals (λ p. letters n (puts_by p s d)) (accepted_by n s d)
     deed_deals (looks_back q count) may read = deals_nothing (λ p. refl) refl

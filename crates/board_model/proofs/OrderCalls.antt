@@ -17,7 +17,7 @@ use Rattle.mc_base.specs.declared.channel.Side.{Side}
 use Rattle.mc_base.specs.declared.channel.Side.TheVariants.{Sender, Receiver}
 use Rattle.mc_base.specs.declared.refusal.Refusal.{Refusal}
 use Rattle.mc_base.specs.declared.refusal.Refusal.TheVariants.{EndpInvalid, NotConnected, ChanDirection, ChanClosed}
-use Rattle.board_model.specs.DomainCall.{DomainCall, create_at, delete_at, lookup_of, send_from, receive_at, request_at, available_at, connect_from, open_at, packet_from, lend_at, packet_request_at, release_of, scalar_from, scalar_at, close_at, test_of, wait_for, cancel_of, turn_alone}
+use Rattle.board_model.specs.DomainCall.{DomainCall, create_at, delete_at, lookup_of, send_from, receive_at, request_at, available_at, connect_from, open_at, packet_from, lend_at, packet_request_at, release_of, scalar_from, scalar_at, close_at, test_of, wait_for, cancel_of, raw_to, turn_alone}
 use Rattle.board_model.specs.Journal.{PlainAnswer, refuses, agrees}
 use Rattle.board_model.specs.Choice.{least, best, without_best, oldest}
 use Rattle.board_model.specs.State.{Item, ChannelEnd, Endpoint, Asked, name_of, channel_of, message_at, packet_at, has_address, has_item, DomainState, is_at, has_address_of, live_at, place_at, endpoint_at, queue_at, endpoint_of, request_at_place, queue_in, channel_in, one_waits, receives_at}
@@ -215,7 +215,7 @@ module _ (room : ℕ) (before : List Deed) (s : DomainState) (moment : Moment ro
   quiet_does : (call : DomainCall) (a : PlainAnswer) → refusal s node call ≡ None → answered_by s (calls node call a) ≡ [] → ((b : ℕ) → dropped_from b s (calls node call a) ≡ []) → given_by_all (success_changes s node call) ≤ room → Effect before s (success_changes s node call) [] (λ b. []) → Does room before s (calls node call a)
   quiet_does call a is answers drops fits effect = effect_does room before s moment node call a (success_changes s node call) [] (λ b. []) (ap (λ o. unless_refused o [] (success_changes s node call)) is) answers drops fits effect
 
-  -- ---- create, send, available, test, cancel, turn, lookup
+  -- ---- create, send, available, test, cancel, a raw frame, turn, lookup
 
   create_does : (port : ℕ) → refusal s node (create_at port) ≡ None → Does room before s (calls node (create_at port) (success s node (create_at port)))
   create_does port is =
@@ -228,6 +228,9 @@ module _ (room : ℕ) (before : List Deed) (s : DomainState) (moment : Moment ro
 
   available_does : (port : ℕ) → refusal s node (available_at port) ≡ None → Does room before s (calls node (available_at port) (success s node (available_at port)))
   available_does port is = quiet_does (available_at port) (success s node (available_at port)) is refl (λ b. refl) (omega arith) (quiet before s [] tt (all_old s) (λ b. refl) (kept [] (λ k. refl)))
+
+  raw_does : (to : ℕ) (bytes : List ℕ) → refusal s node (raw_to to bytes) ≡ None → Does room before s (calls node (raw_to to bytes) agrees)
+  raw_does to bytes is = quiet_does (raw_to to bytes) agrees is refl (λ b. refl) (omega arith) (quiet before s (success_changes s node (raw_to to bytes)) (tt, tt) (all_old s) (λ b. refl) (kept [] (λ k. refl)))
 
   turn_does : Does room before s (calls node turn_alone agrees)
   turn_does = quiet_does turn_alone agrees refl refl (λ b. refl) (omega arith) (quiet before s [] tt (all_old s) (λ b. refl) (kept [] (λ k. refl)))
@@ -687,6 +690,7 @@ module _ (room : ℕ) (before : List Deed) (s : DomainState) (moment : Moment ro
   success_does (test_of place) is fits = test_does place is
   success_does (wait_for requests says_place) is fits = wait_does requests says_place is
   success_does (cancel_of place) is fits = cancel_does place is
+  success_does (raw_to to bytes) is fits = raw_does to bytes is
   success_does turn_alone is fits = turn_does
 
   pub calls_does : (call : DomainCall) (a : PlainAnswer) → a ≡ answer s node call → succeeds (calls node call a) ≤ room → Does room before s (calls node call a)
@@ -747,6 +751,7 @@ success_given s node (close_at port side) = zero_less (end_given (live_at s (loc
 success_given s node (test_of place) = omega (arith, test_given (lent_by_test (request_at_place s place)) (tested-are (request_at_place s place)))
 success_given s node (wait_for requests says_place) = omega (arith, test_given (lent_by_test (request_at_place s (first_complete s requests))) (tested-are (request_at_place s (first_complete s requests))))
 success_given s node (cancel_of place) = omega arith
+success_given s node (raw_to to bytes) = omega arith
 success_given s node turn_alone = omega arith
 
 pub call_given : (s : DomainState) (node : ℕ) (call : DomainCall) (a : PlainAnswer) → a ≡ answer s node call → given_by_all (call_changes s node call) ≤ succeeds (calls node call a)

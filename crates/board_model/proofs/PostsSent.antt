@@ -1,14 +1,15 @@
 -- Which letters a call puts: no accept and no reject; and a Connect has the next number, which is one that a domain may give.
 use Rattle.std.proofs.Common.{◌≡◌, ℕ, ◌+◌, ◌<◌, Bool, true, false, List, [], ◌∷◌, map, Option, None, Some, unwrap_or, refl}
-use Rattle.std.specs.Prelude.{◌==◌}
+use Rattle.std.specs.Prelude.{is_none, ◌==◌}
 use Rattle.std.specs.List.{AllByRecursion}
 use Rattle.std.proofs.lemmas.Bool.{leb-false}
+use Rattle.mc_base.specs.Fault.{fault}
 use Rattle.mc_base.specs.Letter.{PlainLetter, msg, connect, accept, reject, packet, scalar}
 use Rattle.mc_base.specs.declared.channel.Side.{Side}
 use Rattle.mc_base.specs.declared.channel.Side.TheVariants.{Sender, Receiver}
 use Rattle.mc_base.specs.declared.refusal.Refusal.{Refusal}
 use Rattle.board_model.specs.Answer.{local, address_of, channel_at, channel_limit, Post, post, put_of, over_channel, opening_letter, closing_letter, success_puts, puts, holds, words_of, refusal, unless_refused}
-use Rattle.board_model.specs.DomainCall.{DomainCall, send_from, connect_from, open_at, packet_from, scalar_from, close_at}
+use Rattle.board_model.specs.DomainCall.{DomainCall, send_from, connect_from, open_at, packet_from, scalar_from, close_at, raw_to}
 use Rattle.board_model.specs.State.{ChannelEnd, Endpoint, DomainState, address_at, live_at}
 use Rattle.board_model.proofs.DeedRuns.{frames_if, frames_to}
 use Rattle.board_model.proofs.MessageAlls.{all-append}
@@ -20,7 +21,7 @@ MaySend s (accept m) = ⊥
 MaySend s (reject m why) = ⊥
 MaySend s other = Unit {0}
 
-module _ (P : ℕ × List ℕ → Type 0) (s : DomainState) (node : ℕ) (each : (p : Post) → MaySend s p.letter → P (put_of p)) where
+module _ (P : ℕ × List ℕ → Type 0) (s : DomainState) (node : ℕ) (each : (p : Post) → MaySend s p.letter → P (put_of p)) (raw : (to : ℕ) (bytes : List ℕ) → is_none (fault bytes) ≡ false → P (to, bytes)) where
   over_all : (x : Option Endpoint) (c : Option ChannelEnd) (l : ℕ → PlainLetter) → ((m : ℕ) → MaySend s (l m)) → AllByRecursion P (map put_of (over_channel x c l))
   over_all None c l may = tt
   over_all (Some e) None l may = tt
@@ -42,9 +43,10 @@ module _ (P : ℕ × List ℕ → Type 0) (s : DomainState) (node : ℕ) (each :
   success_all (packet_from port bytes) no_word = over_all (live_at s (local node port)) (channel_at s (local node port)) (λ m. packet m bytes) (λ m. tt)
   success_all (scalar_from port bits value) no_word = over_all (live_at s (local node port)) (channel_at s (local node port)) (λ m. scalar m bits value) (λ m. tt)
   success_all (close_at port side) no_word = over_all (live_at s (local node port)) (channel_at s (local node port)) (closing_letter side) (may_close side)
+  success_all (raw_to to bytes) no_word = (raw to bytes no_word.1.0, tt)
   success_all other no_word = tt
 
-  -- what holds of each letter that may be sent holds of all that a call puts
+  -- what holds of each letter that may be sent, and of each raw frame, holds of all that a call puts
   pub puts_all : (call : DomainCall) → AllByRecursion P (puts s node call)
   puts_all call = go (refusal s node call) refl
     where

@@ -28,11 +28,12 @@ use Rattle.board_model.specs.Change.{Change, channel_set, buffer_used, request_a
 use Rattle.board_model.specs.ChannelEnds.{EndCall, opens, sends, closes, is_closed, is_connecting, same_kind, same_side, opened_end, closed_end}
 use Rattle.board_model.specs.Choice.{oldest}
 use Rattle.board_model.specs.Deeds.{calls}
-use Rattle.board_model.specs.DomainCall.{DomainCall, create_at, delete_at, lookup_of, send_from, receive_at, request_at, available_at, connect_from, open_at, packet_from, lend_at, packet_request_at, release_of, scalar_from, scalar_at, close_at, test_of, wait_for, cancel_of, turn_alone}
+use Rattle.board_model.specs.DomainCall.{DomainCall, create_at, delete_at, lookup_of, send_from, receive_at, request_at, available_at, connect_from, open_at, packet_from, lend_at, packet_request_at, release_of, scalar_from, scalar_at, close_at, test_of, wait_for, cancel_of, raw_to, turn_alone}
 use Rattle.board_model.specs.Journal.{PlainAnswer}
 use Rattle.board_model.specs.State.{Item, ChannelEnd, Endpoint, Asked, channel_of, packet_at, Outcome, has_item, Request, DomainState, closed, is_at, endpoint_at, address_at, live_at, endpoint_of, channel_in, request_at_place}
 use Rattle.board_model.proofs.OrderCalls.{none_holds}
 use Rattle.board_model.proofs.StateEnds.{there_is}
+use Rattle.board_model.proofs.RawFrames.{letters_put}
 
 -- the frame says the letter
 abbrev pub Reads : Post → Type 0
@@ -346,6 +347,7 @@ module _ (n p : ℕ) (w : Way) (t m : List (List ℕ)) (s : DomainState) (own : 
   success_posted node (test_of request) no_word = nobody_posts (success_changes s node (test_of request)) (tt, lends_out _ (request_at_place s request))
   success_posted node (wait_for requests says_place) no_word = nobody_posts (success_changes s node (wait_for requests says_place)) (tt, lends_out _ (request_at_place s (first_complete s requests)))
   success_posted node (cancel_of request) no_word = nobody_posts (success_changes s node (cancel_of request)) (tt, tt)
+  success_posted node (raw_to to bytes) no_word = nobody_posts (success_changes s node (raw_to to bytes)) (tt, tt)
   success_posted node turn_alone no_word = nobody_posts [] tt
 
   pub call_posted : (node : ℕ) (call : DomainCall) (a : PlainAnswer) → (refusal s node call ≡ None → AllByRecursion Reads (success_posts s node call)) → Done (letters n (puts_by p s (calls node call a))) (call_changes s node call)
@@ -353,4 +355,6 @@ module _ (n p : ℕ) (w : Way) (t m : List (List ℕ)) (s : DomainState) (own : 
     where
       go : (r : Option Refusal) → refusal s node call ≡ r → Done (letters n (frames_to p (unless_refused r [] (success_puts s node call)))) (unless_refused r [] (success_changes s node call))
       go (Some v) h = by_none [] tt
-      go None h = success_posted node call (none_holds (holds s node call) (words_of call) h) (read h)
+      go None h =
+          let no_word = none_holds (holds s node call) (words_of call) h in
+          subst (λ ls. Done ls (success_changes s node call)) (sym (letters_put n p s node call no_word)) (success_posted node call no_word (read h))

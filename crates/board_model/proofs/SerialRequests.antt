@@ -12,7 +12,7 @@ use Rattle.mc_base.specs.declared.channel.Side.TheVariants.{Sender, Receiver}
 use Rattle.mc_base.specs.declared.name.EndName.{EndName}
 use Rattle.mc_base.specs.declared.refusal.Refusal.{Refusal}
 use Rattle.mc_base.specs.declared.refusal.Refusal.TheVariants.{EndpInvalid, ChanClosed}
-use Rattle.board_model.specs.DomainCall.{DomainCall, create_at, delete_at, lookup_of, send_from, receive_at, request_at, available_at, connect_from, open_at, packet_from, lend_at, packet_request_at, release_of, scalar_from, scalar_at, close_at, test_of, wait_for, cancel_of, turn_alone}
+use Rattle.board_model.specs.DomainCall.{DomainCall, create_at, delete_at, lookup_of, send_from, receive_at, request_at, available_at, connect_from, open_at, packet_from, lend_at, packet_request_at, release_of, scalar_from, scalar_at, close_at, test_of, wait_for, cancel_of, raw_to, turn_alone}
 use Rattle.board_model.specs.Lists.{without_at, without}
 use Rattle.board_model.specs.Journal.{Visit}
 use Rattle.board_model.specs.State.{DomainState, ChannelEnd, Endpoint, Item, Asked, Request, Outcome, channel_of, message_at, packet_at, has_address, has_item, has_ended, has_serial, endpoint_of, live_at, request_at_place, place_of_request, waits_at}
@@ -187,6 +187,7 @@ success_serials s node (close_at port side) none = end_same serials s (live_at s
 success_serials s node (test_of p) none = tested_serials s p
 success_serials s node (wait_for requests says_place) none = tested_serials s (first_complete s requests)
 success_serials s node (cancel_of p) none = map-without (λ r. r.serial) p s.requests ∙ sym (append-nil (without p (serials s)))
+success_serials s node (raw_to to bytes) none = sym (append-nil (serials s))
 success_serials s node turn_alone none = sym (append-nil (serials s))
 
 -- the request that a call ends is gone, and one that it gives comes last
@@ -219,6 +220,7 @@ success_gives s node (close_at port side) none small = omega (arith, end_same (�
 success_gives s node (test_of p) none small = omega (arith, tested_same (λ t. t.requests_given) (λ t i. refl) (changed s (request_gone p)) (request_at_place s p))
 success_gives s node (wait_for requests says_place) none small = omega (arith, tested_same (λ t. t.requests_given) (λ t i. refl) (changed s (request_gone (first_complete s requests))) (request_at_place s (first_complete s requests)))
 success_gives s node (cancel_of p) none small = omega arith
+success_gives s node (raw_to to bytes) none small = omega arith
 success_gives s node turn_alone none small = omega arith
 
 pub call_gives : (s : DomainState) (node : ℕ) (call : DomainCall) → s.requests_given + 1 < 2 ^ 64 → (effect s node call).requests_given ≡ s.requests_given + length (option_to_list (request_given s node call))
@@ -249,6 +251,7 @@ success_is s (close_at port side) m e = absurd cc
 success_is s (test_of p) m e = absurd cc
 success_is s (wait_for requests says_place) m e = absurd cc
 success_is s (cancel_of p) m e = absurd cc
+success_is s (raw_to to bytes) m e = absurd cc
 success_is s turn_alone m e = absurd cc
 
 pub given_is : (s : DomainState) (node : ℕ) (call : DomainCall) (m : ℕ) → request_given s node call ≡ Some m → m ≡ s.requests_given

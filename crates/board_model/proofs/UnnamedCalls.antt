@@ -10,13 +10,13 @@ use Rattle.mc_base.specs.declared.channel.Bits.{Bits}
 use Rattle.mc_base.specs.declared.channel.Side.{Side}
 use Rattle.mc_base.specs.declared.channel.Side.TheVariants.{Sender, Receiver}
 use Rattle.mc_base.specs.declared.refusal.Refusal.{Refusal}
-use Rattle.mc_base.specs.declared.refusal.Refusal.TheVariants.{ExistsAlready, EndpLimit, EndpInvalid, PeerInvalid, OnChannel, ChanConnected, EndpBusy, NotConnected, ChanDirection, ChanType, ChanClosed, AlreadyOpen, NotOpen, SclSize, BufInvalid, NoBuffer, Empty, RequestLimit, RequestInvalid, Pending, TooLate, Timeout}
+use Rattle.mc_base.specs.declared.refusal.Refusal.TheVariants.{ExistsAlready, EndpLimit, EndpInvalid, PeerInvalid, OnChannel, ChanConnected, EndpBusy, NotConnected, ChanDirection, ChanType, ChanClosed, AlreadyOpen, NotOpen, SclSize, BufInvalid, NoBuffer, Empty, RequestLimit, RequestInvalid, Pending, TooLate, Timeout, LinkInvalid}
 use Rattle.std.specs.List.{list_all, list_any}
 use Rattle.board_model.specs.State.{Item, ChannelEnd, Endpoint, Outcome, has_address, is_accepted, is_rejected, has_item, has_ended, Asked, name_of, channel_of, message_at, packet_at, Request, DomainState, is_at, live_at, endpoint_at, address_at, channel_in, queue_in, queue_at, request_at_place, packet_at_place, peer_of}
 use Rattle.board_model.specs.Choice.{best, oldest}
-use Rattle.board_model.specs.DomainCall.{DomainCall, create_at, delete_at, lookup_of, send_from, receive_at, request_at, available_at, connect_from, open_at, packet_from, lend_at, packet_request_at, release_of, scalar_from, scalar_at, close_at, test_of, wait_for, cancel_of, turn_alone}
+use Rattle.board_model.specs.DomainCall.{DomainCall, create_at, delete_at, lookup_of, send_from, receive_at, request_at, available_at, connect_from, open_at, packet_from, lend_at, packet_request_at, release_of, scalar_from, scalar_at, close_at, test_of, wait_for, cancel_of, raw_to, turn_alone}
 use Rattle.board_model.specs.Journal.{refuses, tells, completes}
-use Rattle.board_model.specs.Answer.{first_complete, local, here, known_address, address_of, has_channel, named, end_call, holds_at_end, channel_at, post, put_of, over_channel, over_end, opening_letter, closing_letter, request_named, is_complete, packet_named, is_of_other_size, success_posts, success_puts, lacks_buffers, holds, words_of, refusal, lent_whole, value_of, given, result_by, result_of, success, answer_by, answer, unless_refused, puts, is_complete_at, stands_at, lacks_request, lacks_complete, place_said}
+use Rattle.board_model.specs.Answer.{first_complete, local, here, known_address, address_of, has_channel, named, end_call, holds_at_end, channel_at, post, put_of, over_channel, over_end, opening_letter, closing_letter, request_named, is_complete, packet_named, is_of_other_size, success_posts, success_puts, lacks_buffers, holds, words_of, refusal, lent_whole, value_of, given, result_by, result_of, success, answer_by, answer, unless_refused, puts, is_complete_at, stands_at, lacks_request, lacks_complete, lacks_lane, place_said}
 use Rattle.board_model.specs.Change.{Change, endpoint_gone, best_gone, oldest_gone, channel_set, request_added, waiting_ended, request_gone, end_announced, buffer_used, channel_given}
 use Rattle.board_model.specs.ChannelEnds.{connecting_end, opened_end}
 use Rattle.board_model.specs.CallChanges.{at_live, at_channel, at_end, new_sender, closing, lending, lent_by, lent_by_test, best_item, success_changes, call_changes, tested}
@@ -118,6 +118,10 @@ lacks_complete_unnamed : (s : DomainState) (call : DomainCall) → lacks_complet
 lacks_complete_unnamed s (wait_for requests says_place) = ap not (one_complete_unnamed s requests)
 lacks_complete_unnamed s other = refl
 
+lacks_lane_unnamed : (s : DomainState) (call : DomainCall) → lacks_lane (unnamed s) call ≡ lacks_lane s call
+lacks_lane_unnamed s (raw_to to bytes) = refl
+lacks_lane_unnamed s other = refl
+
 addressed_unnamed : (s : DomainState) (call : DomainCall) → named (unnamed s) call ≡ named s call
 addressed_unnamed s (send_from port to priority bytes) = address_of_unnamed s to
 addressed_unnamed s (connect_from port to kind) = address_of_unnamed s to
@@ -152,7 +156,8 @@ posts-unnamed s node (close_at port side) = over_end_unnamed s (local node port)
 posts-unnamed s node other = refl
 
 success_puts_unnamed : (s : DomainState) (node : ℕ) (call : DomainCall) → success_puts (unnamed s) node call ≡ success_puts s node call
-success_puts_unnamed s node call = ap (map put_of) (posts-unnamed s node call)
+success_puts_unnamed s node (raw_to to bytes) = refl
+success_puts_unnamed s node other = ap (map put_of) (posts-unnamed s node other)
 
 lacks_unnamed : (s : DomainState) (ps : List (ℕ × List ℕ)) → lacks_buffers (unnamed s) ps ≡ lacks_buffers s ps
 lacks_unnamed s [] = refl
@@ -183,6 +188,7 @@ module _ (s : DomainState) (node : ℕ) (call : DomainCall) where
   holds_unnamed RequestLimit = ap (λ n. nat_le request_limit n) (length-map s.requests unnamed_request)
   holds_unnamed RequestInvalid = lacks_request_unnamed s call
   holds_unnamed Timeout = lacks_complete_unnamed s call
+  holds_unnamed LinkInvalid = lacks_lane_unnamed s call
   holds_unnamed Pending = ap (λ o. not (is_complete o)) (named_unnamed s call) ∙ ap not (complete_unnamed (request_named s call))
   holds_unnamed TooLate = ap is_complete (named_unnamed s call) ∙ complete_unnamed (request_named s call)
   holds_unnamed other = refl
@@ -253,6 +259,7 @@ module _ (s : DomainState) (node : ℕ) where
       ∙ (ap (λ o. completes (place_said s requests says_place) (result_of o)) (request-unnamed s (first_complete s requests))
       ∙ ap (completes (place_said s requests says_place)) (result_of_unnamed (request_at_place s (first_complete s requests))))
   success_unnamed (cancel_of request) = refl
+  success_unnamed (raw_to to bytes) = refl
   success_unnamed turn_alone = refl
 
   pub answer-unnamed : (call : DomainCall) → answer (unnamed s) node call ≡ answer s node call
@@ -338,6 +345,7 @@ module _ (s : DomainState) (node : ℕ) where
   changes_unnamed (test_of request) = told_unnamed request
   changes_unnamed (wait_for requests says_place) = told_unnamed (first_complete s requests) ∙ ap (tested (unnamed s)) (sym (first-unnamed s requests))
   changes_unnamed (cancel_of request) = refl
+  changes_unnamed (raw_to to bytes) = refl
   changes_unnamed turn_alone = refl
 
   pub call-unnamed : (call : DomainCall) → map unnamed_change (call_changes s node call) ≡ call_changes (unnamed s) node call
@@ -393,6 +401,7 @@ refused-is u node word call is = go (refusal u node call) refl is
     never (test_of request) none told = absurd cc
     never (wait_for requests says_place) none told = absurd cc
     never (cancel_of request) none told = absurd cc
+    never (raw_to to bytes) none told = absurd cc
     never turn_alone none told = absurd cc
 
     go : (o : Option Refusal) → refusal u node call ≡ o → refuses word ≡ answer_by o (success u node call) → refusal u node call ≡ Some word

@@ -9,7 +9,7 @@ use Rattle.mc_base.specs.declared.refusal.Refusal.{Refusal}
 use Rattle.mc_base.specs.declared.refusal.Refusal.TheVariants.{EndpInvalid}
 use Rattle.board_model.specs.Journal.{Visit, Taken}
 use Rattle.board_model.specs.State.{DomainState, ChannelEnd, Endpoint, Peer, channel_of, message_at, packet_at, has_item, live_at, request_at_place, peer_at, peer_of, free_to}
-use Rattle.board_model.specs.DomainCall.{DomainCall, create_at, delete_at, lookup_of, send_from, receive_at, request_at, available_at, connect_from, open_at, packet_from, lend_at, packet_request_at, release_of, scalar_from, scalar_at, close_at, test_of, wait_for, cancel_of, turn_alone}
+use Rattle.board_model.specs.DomainCall.{DomainCall, create_at, delete_at, lookup_of, send_from, receive_at, request_at, available_at, connect_from, open_at, packet_from, lend_at, packet_request_at, release_of, scalar_from, scalar_at, close_at, test_of, wait_for, cancel_of, raw_to, turn_alone}
 use Rattle.board_model.specs.Answer.{first_complete, local, refusal, unless_refused}
 use Rattle.board_model.specs.Choice.{oldest}
 use Rattle.board_model.specs.ChannelEnds.{opened_end}
@@ -103,6 +103,7 @@ module _ (s : DomainState) (node n : ℕ) where
   success_shown (test_of request) = ((λ p. refl), tested-holds (Keeps (λ p. p.shown) s.number n) (λ i p. refl) (request_at_place s request))
   success_shown (wait_for requests says_place) = ((λ p. refl), tested-holds (Keeps (λ p. p.shown) s.number n) (λ i p. refl) (request_at_place s (first_complete s requests)))
   success_shown (cancel_of request) = ((λ p. refl), tt)
+  success_shown (raw_to to bytes) = (used_shown to, tt)
   success_shown turn_alone = tt
 
   keep_shown : (call : DomainCall) → KeepShown (call_changes s node call)
