@@ -17,7 +17,7 @@ use Rattle.board_model.specs.CallChanges.{at_live}
 use Rattle.board_model.specs.ChannelEnds.{closes, same_side, hears_from}
 use Rattle.board_model.specs.Channels.{contents_of, lost_by, is_numbered}
 use Rattle.board_model.specs.Deeds.{Deed, looks_back, puts_owed, looks_ahead, takes, calls, MayDo, AllMayDo, after_deed, along}
-use Rattle.board_model.specs.DomainCall.{DomainCall, create_at, delete_at, lookup_of, send_from, receive_at, request_at, available_at, connect_from, open_at, packet_from, lend_at, packet_request_at, release_of, scalar_from, scalar_at, close_at, test_of, wait_for, cancel_of, turn_alone}
+use Rattle.board_model.specs.DomainCall.{DomainCall, create_at, delete_at, lookup_of, send_from, receive_at, request_at, available_at, connect_from, open_at, packet_from, lend_at, packet_request_at, release_of, scalar_from, scalar_at, close_at, test_of, wait_for, cancel_of, raw_to, turn_alone}
 use Rattle.board_model.specs.Journal.{PlainAnswer, refuses, agrees, tells, connects, gives, completes}
 use Rattle.board_model.specs.State.{Item, ChannelEnd, Endpoint, DomainState, Announcement, Reply, Peer, announcing, replying, owed_to, letter_by, is_at, live_at, queue_at, queue_in, channel_in}
 use Rattle.board_model.specs.Tallies.{number_told}
@@ -164,6 +164,7 @@ module _ (o n : ℕ) where
   refused_told s node (test_of request) word = refl
   refused_told s node (wait_for requests says_place) word = refl
   refused_told s node (cancel_of request) word = refl
+  refused_told s node (raw_to to bytes) word = refl
   refused_told s node turn_alone word = refl
 
   -- what a success puts and answers
@@ -189,6 +190,7 @@ module _ (o n : ℕ) where
   success_told s sound owned node (test_of request) none read = refl
   success_told s sound owned node (wait_for requests says_place) none read = refl
   success_told s sound owned node (cancel_of request) none read = refl
+  success_told s sound owned node (raw_to to bytes) none read = zero_if _
   success_told s sound owned node turn_alone none read = refl
 
   pub closes-told : (s : DomainState) → Sound s → OwnedEnds s → (node : ℕ) (call : DomainCall) (a : PlainAnswer) → MayDo s (calls node call a) → ReadsDeed s (calls node call a) → ClosesTold s node call a

@@ -14,8 +14,8 @@ use Rattle.std.proofs.lemmas.Iterator.Adapters.{position_from-zero}
 use Rattle.mc_base.specs.Limits.{no_key}
 use Rattle.mc_base.specs.declared.request.RequestId.{RequestId}
 use Rattle.board_model.specs.declared.scenario.Call.{Call}
-use Rattle.board_model.specs.declared.scenario.Call.TheVariants.{Create, Delete, Lookup, MsgSend, MsgRecv, MsgRecvI, MsgAvailable, Connect, OpenSend, OpenRecv, PktSend, PktRecv, PktRecvI, Release, SclSend, SclRecv, CloseSend, CloseRecv, Test, Wait, WaitAny, Cancel, Turn}
-use Rattle.board_model.specs.DomainCall.{DomainCall, create_at, delete_at, lookup_of, send_from, receive_at, request_at, available_at, connect_from, open_at, packet_from, lend_at, packet_request_at, release_of, scalar_from, scalar_at, close_at, test_of, wait_for, cancel_of, turn_alone}
+use Rattle.board_model.specs.declared.scenario.Call.TheVariants.{Create, Delete, Lookup, MsgSend, MsgRecv, MsgRecvI, MsgAvailable, Connect, OpenSend, OpenRecv, PktSend, PktRecv, PktRecvI, Release, SclSend, SclRecv, CloseSend, CloseRecv, Test, Wait, WaitAny, Cancel, Raw, Turn}
+use Rattle.board_model.specs.DomainCall.{DomainCall, create_at, delete_at, lookup_of, send_from, receive_at, request_at, available_at, connect_from, open_at, packet_from, lend_at, packet_request_at, release_of, scalar_from, scalar_at, close_at, test_of, wait_for, cancel_of, raw_to, turn_alone}
 use Rattle.board_model.specs.Lists.{without_at, without}
 use Rattle.board_model.specs.State.{DomainState, place_of_request}
 use Rattle.board_model.specs.Answer.{refusal, unless_refused}
@@ -81,6 +81,7 @@ call_is d ids packets labels k (Test label) h = ap test_of (place_held d ids lab
 call_is d ids packets labels k (Wait label limit) h = ap (λ p. wait_for (p ∷ []) false) (place_held d ids labels.requests k label.items h.requests)
 call_is d ids packets labels k (WaitAny names limit) h = ap (λ ps. wait_for ps true) (places_held d ids labels.requests k names.items h.requests)
 call_is d ids packets labels k (Cancel label) h = ap cancel_of (place_held d ids labels.requests k label.items h.requests)
+call_is d ids packets labels k (Raw domain bytes) h = refl
 call_is d ids packets labels k Turn h = refl
 
 -- ---- the ids that stand
@@ -118,6 +119,7 @@ same_ends s (close_at port side) = refl
 same_ends s (test_of p) = refl
 same_ends s (wait_for requests says_place) = refl
 same_ends s (cancel_of p) = refl
+same_ends s (raw_to to bytes) = refl
 same_ends s turn_alone = refl
 
 same_ended : (s : DomainState) (node : ℕ) (call : DomainCall) → place_ended s node call ≡ request_ended s node call

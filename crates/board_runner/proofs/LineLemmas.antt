@@ -14,7 +14,7 @@ use Rattle.mc_base.specs.declared.request.RequestId.{RequestId}
 use Rattle.lane_end.specs.AnySender.{AnySends}
 use Rattle.lane_end.specs.AnyReceiver.{AnyReceives}
 use Rattle.board_model.specs.declared.scenario.CallLine.{CallLine}
-use Rattle.board_model.specs.DomainCall.{DomainCall, lookup_of, release_of, test_of, cancel_of, turn_alone}
+use Rattle.board_model.specs.DomainCall.{DomainCall, lookup_of, release_of, test_of, cancel_of, raw_to, turn_alone}
 use Rattle.board_model.specs.Lists.{without}
 use Rattle.board_model.specs.Journal.{Line, PlainAnswer, refuses, tells, gives as gives_bytes, completes, brought, ended_by, connects, turned, noted_all}
 use Rattle.board_model.specs.State.{DomainState, LentPacket}
@@ -216,6 +216,24 @@ test_anywhere node place old new lines lines' m made =
 
 pub cancel_anywhere : (node : ℕ) (place : Option ℕ) (old new : RunDomain) (lines lines' : List Line) (m : Made) → CallsDomain 0 (cancel_of place) old new lines lines' m → CallsDomain node (cancel_of place) old new lines lines' m
 cancel_anywhere node place old new lines lines' m made =
+    let c = made.calls in
+    let d = c.does in
+    record {
+      calls = record {
+        visits = c.visits;
+        numbers = c.numbers;
+        turned_to = c.turned_to;
+        turns = c.turns;
+        does = record { answer = d.answer; state = d.state; slots = d.slots; returned = d.returned; moved = d.moved; stays = d.stays; ids = d.ids; fresh = d.fresh; lent = d.lent; packets = d.packets; lends = d.lends };
+        told = c.told;
+      };
+      gives = made.gives;
+      lends = made.lends;
+      bytes_fit = made.bytes_fit;
+    }
+
+pub raw_anywhere : (node to : ℕ) (bytes : List ℕ) (old new : RunDomain) (lines lines' : List Line) (m : Made) → CallsDomain 0 (raw_to to bytes) old new lines lines' m → CallsDomain node (raw_to to bytes) old new lines lines' m
+raw_anywhere node to bytes old new lines lines' m made =
     let c = made.calls in
     let d = c.does in
     record {

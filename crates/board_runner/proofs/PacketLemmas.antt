@@ -6,7 +6,7 @@ use Rattle.std.specs.List.{AllByRecursion}
 use Rattle.std.proofs.lemmas.List.{map-append}
 use Rattle.mc_base.specs.declared.refusal.Refusal.{Refusal}
 use Rattle.mc_base.specs.declared.request.PacketId.{PacketId}
-use Rattle.board_model.specs.DomainCall.{DomainCall, create_at, delete_at, lookup_of, send_from, receive_at, request_at, available_at, connect_from, open_at, packet_from, lend_at, packet_request_at, release_of, scalar_from, scalar_at, close_at, test_of, wait_for, cancel_of, turn_alone}
+use Rattle.board_model.specs.DomainCall.{DomainCall, create_at, delete_at, lookup_of, send_from, receive_at, request_at, available_at, connect_from, open_at, packet_from, lend_at, packet_request_at, release_of, scalar_from, scalar_at, close_at, test_of, wait_for, cancel_of, raw_to, turn_alone}
 use Rattle.board_model.specs.Answer.{refusal, unless_refused}
 use Rattle.board_model.specs.CallChanges.{effect}
 use Rattle.board_model.specs.Labels.{Labelled, serial_of, packet_given, with_label}
@@ -40,6 +40,7 @@ same_releases (close_at port side) = refl
 same_releases (test_of p) = refl
 same_releases (wait_for requests says_place) = refl
 same_releases (cancel_of p) = refl
+same_releases (raw_to to bytes) = refl
 same_releases turn_alone = refl
 
 -- the packet that a call lends has the next serial

@@ -24,7 +24,7 @@ use Rattle.lane_end.specs.declared.any.AnyRecv.{AnyRecv}
 use Rattle.lane_end.specs.declared.any.AnySend.TheVariants as send
 use Rattle.lane_end.specs.declared.any.AnyRecv.TheVariants as recv
 use Rattle.board_model.specs.declared.scenario.Call.{Call}
-use Rattle.board_model.specs.declared.scenario.Call.TheVariants.{Create, Delete, Lookup, MsgSend, MsgRecv, MsgRecvI, MsgAvailable, Connect, OpenSend, OpenRecv, PktSend, PktRecv, PktRecvI, Release, SclSend, SclRecv, CloseSend, CloseRecv, Test, Wait, WaitAny, Cancel, Turn}
+use Rattle.board_model.specs.declared.scenario.Call.TheVariants.{Create, Delete, Lookup, MsgSend, MsgRecv, MsgRecvI, MsgAvailable, Connect, OpenSend, OpenRecv, PktSend, PktRecv, PktRecvI, Release, SclSend, SclRecv, CloseSend, CloseRecv, Test, Wait, WaitAny, Cancel, Raw, Turn}
 use Rattle.board_model.specs.declared.scenario.CallLine.{CallLine}
 use Rattle.board_model.specs.Answer.{puts, refusal, unless_refused}
 use Rattle.board_model.specs.DomainCall.{turn_alone}
@@ -288,6 +288,7 @@ turn_returns : (line : CallLine) (st : Station) (s : DomainState) → is_turn li
 turn_returns line st s e = go line.call e
   where
     go : (c : Call) → is_turn c ≡ true → returned s line.node (call_by st.ids st.packets st.domain.ids st.domain.packets c) ≡ []
+    go (Raw domain bytes) e = absurd cc
     go Turn e = nothing_refused (refusal s line.node turn_alone)
     go (Create port) e = absurd cc
     go (Delete port) e = absurd cc

@@ -7,7 +7,7 @@ use Rattle.mc_base.specs.declared.channel.Side.{Side}
 use Rattle.mc_base.specs.declared.channel.Side.TheVariants.{Sender, Receiver}
 use Rattle.mc_base.specs.declared.refusal.Refusal.{Refusal}
 use Rattle.board_model.specs.Choice.{without_best}
-use Rattle.board_model.specs.DomainCall.{DomainCall, create_at, delete_at, lookup_of, send_from, receive_at, request_at, available_at, connect_from, open_at, packet_from, lend_at, packet_request_at, release_of, scalar_from, scalar_at, close_at, test_of, wait_for, cancel_of, turn_alone}
+use Rattle.board_model.specs.DomainCall.{DomainCall, create_at, delete_at, lookup_of, send_from, receive_at, request_at, available_at, connect_from, open_at, packet_from, lend_at, packet_request_at, release_of, scalar_from, scalar_at, close_at, test_of, wait_for, cancel_of, raw_to, turn_alone}
 use Rattle.board_model.specs.State.{ChannelEnd, Endpoint, DomainState, is_at, has_address_of, live_at}
 use Rattle.board_model.specs.Change.{Change, endpoint_made, endpoint_gone, item_queued, best_gone, oldest_gone, channel_set, queue_dropped, item_handed, item_lost, names_known, name_found, endpoint_with, with_queue, with_channel, without_queue, changed, changed_all}
 use Rattle.board_model.specs.ChannelEnds.{same_side}
@@ -98,6 +98,7 @@ module _ (s : DomainState) (owned : OwnedEnds s) where
   success_owned node (test_of request) = (tt, tested-holds FitsOwned (λ i. tt) _)
   success_owned node (wait_for requests says_place) = (tt, tested-holds FitsOwned (λ i. tt) _)
   success_owned node (cancel_of request) = (tt, tt)
+  success_owned node (raw_to to bytes) = (tt, tt)
   success_owned node turn_alone = tt
 
   call_owned : (node : ℕ) (call : DomainCall) (r : Option Refusal) → AllByRecursion FitsOwned (unless_refused r [] (success_changes s node call))

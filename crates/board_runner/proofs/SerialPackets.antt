@@ -8,7 +8,7 @@ use Rattle.mc_base.specs.declared.channel.Side.{Side}
 use Rattle.mc_base.specs.declared.channel.Side.TheVariants.{Sender, Receiver}
 use Rattle.mc_base.specs.declared.refusal.Refusal.{Refusal}
 use Rattle.mc_base.specs.declared.refusal.Refusal.TheVariants.{EndpInvalid, Empty}
-use Rattle.board_model.specs.DomainCall.{DomainCall, create_at, delete_at, lookup_of, send_from, receive_at, request_at, available_at, connect_from, open_at, packet_from, lend_at, packet_request_at, release_of, scalar_from, scalar_at, close_at, test_of, wait_for, cancel_of, turn_alone}
+use Rattle.board_model.specs.DomainCall.{DomainCall, create_at, delete_at, lookup_of, send_from, receive_at, request_at, available_at, connect_from, open_at, packet_from, lend_at, packet_request_at, release_of, scalar_from, scalar_at, close_at, test_of, wait_for, cancel_of, raw_to, turn_alone}
 use Rattle.board_model.specs.Lists.{without_at, without}
 use Rattle.board_model.specs.Journal.{Visit}
 use Rattle.board_model.specs.State.{DomainState, ChannelEnd, Endpoint, Item, Asked, Request, LentPacket, Outcome, channel_of, message_at, packet_at, has_item, is_lent_as, is_at, endpoint_at, queue_in, queue_at, live_at, request_at_place, place_of_packet}
@@ -137,6 +137,7 @@ success_packets s node (wait_for requests says_place) none =
     let t = changed s (request_gone p) in
     tested_is packets (λ o. packets s ++ option_to_list o) t (sym (append-nil (packets s))) (λ i. map-append (λ p. p.serial) s.lent _) (request_at_place s p)
 success_packets s node (cancel_of p) none = sym (append-nil (packets s))
+success_packets s node (raw_to to bytes) none = sym (append-nil (packets s))
 success_packets s node turn_alone none = sym (append-nil (packets s))
 
 -- the packet that a call releases is lent no more, and one that it lends comes last
@@ -174,6 +175,7 @@ success_lends s node (wait_for requests says_place) none small =
     let t = changed s (request_gone p) in
     tested_is (λ t. t.packets_lent) (λ o. s.packets_lent + length (option_to_list o)) t (omega arith) (λ i. mod-eq_of_lt small) (request_at_place s p)
 success_lends s node (cancel_of p) none small = omega arith
+success_lends s node (raw_to to bytes) none small = omega arith
 success_lends s node turn_alone none small = omega arith
 
 pub call_lends : (s : DomainState) (node : ℕ) (call : DomainCall) → s.packets_lent + 1 < 2 ^ 64 → (effect s node call).packets_lent ≡ s.packets_lent + length (option_to_list (packet_given s node call))
@@ -212,6 +214,7 @@ success_is s (close_at port side) m e = absurd cc
 success_is s (test_of p) m e = tested_serial s (request_at_place s p) m e
 success_is s (wait_for requests says_place) m e = tested_serial s (request_at_place s (first_complete s requests)) m e
 success_is s (cancel_of p) m e = absurd cc
+success_is s (raw_to to bytes) m e = absurd cc
 success_is s turn_alone m e = absurd cc
 
 pub lent_is_next : (s : DomainState) (node : ℕ) (call : DomainCall) (m : ℕ) → packet_given s node call ≡ Some m → m ≡ s.packets_lent

@@ -3,7 +3,7 @@
 use Rattle.std.specs.Prelude.{◌≡◌, ℕ, ◌+◌, ◌-◌, ◌≤◌, ◌<◌, ◌^◌, ◌*◌, Bool, true, false, ◌&&◌, ◌||◌, Option, Some, slice_get, length, option_map, if◌then◌else◌}
 use Rattle.std.specs.List.{list_all}
 use Rattle.mc_base.specs.Letter.{bytes_of_bits}
-use Rattle.mc_base.specs.Limits.{asked_limit}
+use Rattle.mc_base.specs.Limits.{asked_limit, longest_frame}
 use Rattle.mc_base.specs.declared.channel.Side.TheVariants.{Sender, Receiver}
 use Rattle.mc_base.specs.declared.request.Done.{Done}
 use Rattle.mc_base.specs.declared.request.Done.TheVariants as done
@@ -12,9 +12,9 @@ use Rattle.mc_base.specs.declared.request.RequestId.{RequestId}
 use Rattle.lane_end.specs.AnySender.{AnySends}
 use Rattle.lane_end.specs.AnyReceiver.{AnyReceives}
 use Rattle.board_model.specs.declared.scenario.Call.{Call}
-use Rattle.board_model.specs.declared.scenario.Call.TheVariants.{Create, Delete, Lookup, MsgSend, MsgRecv, MsgRecvI, MsgAvailable, Connect, OpenSend, OpenRecv, PktSend, PktRecv, PktRecvI, Release, SclSend, SclRecv, CloseSend, CloseRecv, Test, Wait, WaitAny, Cancel, Turn}
+use Rattle.board_model.specs.declared.scenario.Call.TheVariants.{Create, Delete, Lookup, MsgSend, MsgRecv, MsgRecvI, MsgAvailable, Connect, OpenSend, OpenRecv, PktSend, PktRecv, PktRecvI, Release, SclSend, SclRecv, CloseSend, CloseRecv, Test, Wait, WaitAny, Cancel, Raw, Turn}
 use Rattle.board_model.specs.declared.scenario.CallLine.{CallLine}
-use Rattle.board_model.specs.DomainCall.{DomainCall, create_at, delete_at, lookup_of, send_from, receive_at, request_at, available_at, connect_from, open_at, packet_from, lend_at, packet_request_at, release_of, scalar_from, scalar_at, close_at, test_of, wait_for, cancel_of, turn_alone}
+use Rattle.board_model.specs.DomainCall.{DomainCall, create_at, delete_at, lookup_of, send_from, receive_at, request_at, available_at, connect_from, open_at, packet_from, lend_at, packet_request_at, release_of, scalar_from, scalar_at, close_at, test_of, wait_for, cancel_of, raw_to, turn_alone}
 use Rattle.board_model.specs.Journal.{Line, Visit, idle_line, is_idle, PlainAnswer, again, called, noted}
 use Rattle.board_model.specs.Labels.{request_given}
 use Rattle.board_model.specs.Scenario.{label_in}
@@ -56,16 +56,19 @@ call_by ids packets standing lent (Test label) = test_of (place_of_id standing (
 call_by ids packets standing lent (Wait label limit) = wait_for (place_of_id standing (id_or_none ids label.items) ∷ []) false
 call_by ids packets standing lent (WaitAny names limit) = wait_for (map (λ l. place_of_id standing (id_or_none ids l.items)) names.items) true
 call_by ids packets standing lent (Cancel label) = cancel_of (place_of_id standing (id_or_none ids label.items))
+call_by ids packets standing lent (Raw domain bytes) = raw_to domain bytes
 call_by ids packets standing lent Turn = turn_alone
 
 abbrev pub call_at_station : CallLine → Station → DomainCall
 call_at_station line st = call_by st.ids st.packets st.domain.ids st.domain.packets line.call
 
--- a receive asks for so many bytes at most, a scalar's value fits its bits, and a wait for several requests names one at least
+-- a receive asks for so many bytes at most, a scalar's value fits its bits, a wait for several requests names one at least, and a raw
+-- frame has 1 to 512 bytes
 abbrev pub HasFitNumbers : ℕ → Call → Type 0
 HasFitNumbers n (MsgRecv port max) = max ≤ n
 HasFitNumbers n (SclSend port bits value) = value < 2 ^ (8 * bytes_of_bits bits)
 HasFitNumbers n (WaitAny names limit) = 1 ≤ length names.items
+HasFitNumbers n (Raw domain bytes) = (1 ≤ length bytes) × (length bytes ≤ longest_frame)
 HasFitNumbers n other = Unit {0}
 
 -- how many messages a call dropped, where it is a delete

@@ -26,7 +26,7 @@ use domain_core::{Answer, Domain, Entry, Journal, Told};
 use items::{receive_packet, receive_scalar, release, request_packet, send_packet, send_scalar};
 use lane_end::{AnyRecv, AnySend};
 use mc_base::{Local, NoMemory, PacketId, Refusal, RequestId};
-use messages::{available, create, delete, receive, send, turn};
+use messages::{available, create, delete, put_raw, receive, send, turn};
 use requests::{cancel, lookup, request, test};
 use std::collections::BTreeMap;
 use waits::{run_wait, wait_limit};
@@ -244,6 +244,10 @@ fn call_domain<'r>(
         Call::Test { label } => test(domain, journal, id_of(ids, label), room),
         Call::Wait { .. } | Call::WaitAny { .. } => unreachable!(), // A wait is called in `waits`.
         Call::Cancel { label } => cancel(domain, journal, id_of(ids, label)),
+        Call::Raw {
+            domain: peer,
+            bytes,
+        } => put_raw(domain, journal, *peer, bytes.as_slice()),
         Call::Turn => turn(domain, journal),
     }
 }

@@ -8,7 +8,7 @@ use Rattle.board_model.specs.Lists.{changed_first, with_rising, without}
 use Rattle.board_model.specs.State as state
 use Rattle.board_model.specs.State.{Item, Endpoint, message_at, has_item, DomainState, is_at, is_numbered, place_at, live_at, address_at, queue_in, queue_at}
 use Rattle.board_model.specs.Choice.{best, oldest}
-use Rattle.board_model.specs.DomainCall.{DomainCall, create_at, delete_at, send_from, receive_at, request_at, test_of, wait_for, close_at, release_of, scalar_at}
+use Rattle.board_model.specs.DomainCall.{DomainCall, create_at, delete_at, send_from, receive_at, request_at, test_of, wait_for, close_at, release_of, raw_to, scalar_at}
 use Rattle.mc_base.specs.declared.channel.Side.TheVariants.{Receiver, Sender}
 use Rattle.board_model.specs.Answer.{local}
 use Rattle.board_model.specs.Change.{endpoint_gone, best_gone, request_added, waiting_ended, end_announced, ended_in, changed, changed_all}
@@ -60,6 +60,9 @@ module _ (u : DomainState) where
 
   pub send-agrees : (node port : ℕ) (to : EndName) (priority : ℕ) (bytes : List ℕ) → with_used u to.domain ≡ changed_all u (success_changes u node (send_from port to priority bytes))
   send-agrees node port to priority bytes = ap (λ ps. record u { peers = ps }) (changed-position (is_numbered to.domain) used_one u.peers)
+
+  pub raw-agrees : (node to : ℕ) (bytes : List ℕ) → with_used u to ≡ changed_all u (success_changes u node (raw_to to bytes))
+  raw-agrees node to bytes = ap (λ ps. record u { peers = ps }) (changed-position (is_numbered to) used_one u.peers)
 
   pub create-agrees : (at : Local) → with_endpoint u at ≡ changed_all u (success_changes u at.node (create_at at.port))
   create-agrees at = refl

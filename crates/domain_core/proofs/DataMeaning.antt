@@ -55,8 +55,8 @@ module _ (p : Parts) (sound : Sound p) (at : Local) (i : ℕ) (there : place_at 
   abbrev frame : List ℕ
   frame = made a c.peer_address (spelling (letter c.number))
 
-  pub data-puts : success_posts (state_of p) at.node call ≡ over_end (state_of p) at letter → success_puts (state_of p) at.node call ≡ (c.peer, frame) ∷ []
-  data-puts posts = ap (map put_of) (posts ∙ posts-are (state_of p) at a c address has letter)
+  pub data-puts : success_puts (state_of p) at.node call ≡ map put_of (success_posts (state_of p) at.node call) → success_posts (state_of p) at.node call ≡ over_end (state_of p) at letter → success_puts (state_of p) at.node call ≡ (c.peer, frame) ∷ []
+  data-puts puts posts = puts ∙ ap (map put_of) (posts ∙ posts-are (state_of p) at a c address has letter)
 
   pub data-means : success_puts (state_of p) at.node call ≡ (c.peer, frame) ∷ [] → call_steps p at.node call None ≡ putting_all (success_puts (state_of p) at.node call)
       → success_changes (state_of p) at.node call ≡ at_end (live_at (state_of p) at) (λ e d. buffer_used d.peer ∷ []) → success_returned (state_of p) at.node call ≡ [] → success_ends (state_of p) call ≡ None → success_releases call ≡ None → success_packet (state_of p) call ≡ None → Means p at.node call None

@@ -46,6 +46,7 @@ pub mod Stepping
 pub mod Steps
 pub mod Meaning
 pub mod Channels
+pub mod RawWords
 pub mod Dropping
 pub mod CallsAgree
 pub mod StateFits

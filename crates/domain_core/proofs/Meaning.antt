@@ -9,7 +9,7 @@ use Rattle.mc_base.specs.declared.request.RequestId.{RequestId}
 use Rattle.mc_base.specs.declared.request.Slot.{Slot}
 use Rattle.board_model.specs.Answer.{address_of}
 use Rattle.board_model.specs.Choice.{best}
-use Rattle.board_model.specs.DomainCall.{available_at, cancel_of, create_at, lookup_of, receive_at, request_at, send_from, test_of}
+use Rattle.board_model.specs.DomainCall.{available_at, cancel_of, create_at, lookup_of, raw_to, receive_at, request_at, send_from, test_of}
 use Rattle.domain_core.specs.PlacedCalls.{best_queued, with_request}
 use Rattle.board_model.specs.CallChanges.{held_by, lent_by, lent_by_test}
 use Rattle.board_model.specs.Labels.{packet_brought, packet_tested}
@@ -44,7 +44,7 @@ use Rattle.domain_core.specs.Steps.{Step, all_moves, done, done_all, message_end
 use Rattle.domain_core.specs.Stores.{KeepsBut}
 use Rattle.domain_core.specs.VisitMoves.{putting}
 use Rattle.domain_core.proofs.Asking.{asked-state}
-use Rattle.domain_core.proofs.CallsAgree.{create-agrees, receive-agrees, request-agrees, returned-agrees, send-agrees}
+use Rattle.domain_core.proofs.CallsAgree.{create-agrees, raw-agrees, receive-agrees, request-agrees, returned-agrees, send-agrees}
 use Rattle.domain_core.proofs.StateFits.{ends-of}
 use Rattle.board_model.proofs.MessageLists.{get-position}
 use Rattle.domain_core.proofs.Beginning.{last-ids}
@@ -78,6 +78,22 @@ send-means p sound node port to priority bytes i there = record {
   slots = [];
   returned = refl;
   moves = λ n. one-put to.domain _ (to.domain == n);
+  stays = λ slot held other. record { held = held; item = refl };
+  ids = sym (append-nil (ids_in p.requests));
+  fresh = tt;
+  lent = None;
+  packets = sym (append-nil p.records.lent);
+  lends = refl;
+}
+
+-- ---- a frame is put as it is
+
+pub raw-means : (p : Parts) → Sound p → (node to : ℕ) (bytes : List ℕ) (i : ℕ) → Some i ≡ position (λ (x : Peer LaneSeen). x.number == to) p.peers → Means p node (raw_to to bytes) None
+raw-means p sound node to bytes i there = record {
+  state = frame_put-is p to bytes sound i there ∙ raw-agrees (state_of p) node to bytes;
+  slots = [];
+  returned = refl;
+  moves = λ n. one-put to bytes (to == n);
   stays = λ slot held other. record { held = held; item = refl };
   ids = sym (append-nil (ids_in p.requests));
   fresh = tt;

@@ -13,7 +13,7 @@ use Rattle.mc_base.specs.declared.request.Slot.{Slot}
 use Rattle.board_model.specs.Answer.{address_of, answer, channel_at, first_complete, local, refusal, success_puts}
 use Rattle.board_model.specs.ChannelEnds.{closed_end, opened_end}
 use Rattle.board_model.specs.Choice.{best, oldest}
-use Rattle.board_model.specs.DomainCall.{DomainCall, create_at, delete_at, lookup_of, send_from, receive_at, request_at, connect_from, open_at, packet_from, lend_at, packet_request_at, release_of, scalar_from, scalar_at, close_at, test_of, wait_for, cancel_of}
+use Rattle.board_model.specs.DomainCall.{DomainCall, create_at, delete_at, lookup_of, send_from, receive_at, request_at, connect_from, open_at, packet_from, lend_at, packet_request_at, release_of, scalar_from, scalar_at, close_at, test_of, wait_for, cancel_of, raw_to}
 use Rattle.board_model.specs.Change.{changed_all}
 use Rattle.board_model.specs.CallChanges.{new_sender, success_changes, success_returned}
 use Rattle.board_model.specs.Journal.{PlainAnswer}
@@ -134,6 +134,7 @@ call_steps p node (close_at port side) given = at_its_end (state_of p) (local no
 call_steps p node (test_of place) given = ending p.book place (how_held p.requests place) ∷ []
 call_steps p node (wait_for places says_place) given = ending p.book (first_complete (state_of p) places) (how_held p.requests (first_complete (state_of p) places)) ∷ []
 call_steps p node (cancel_of place) given = request_ended place ∷ []
+call_steps p node (raw_to to bytes) given = putting_all (success_puts (state_of p) node (raw_to to bytes))
 call_steps p node other given = []
 
 -- What the steps of a call's success mean: the state after them is the one to which its changes lead, the buffers that they give back held the items

@@ -14,6 +14,7 @@ ghost use Rattle.domain_core.specs.Calls.{Calls, GivesTo, LendsBy, created, dele
 mod channels;
 mod data;
 mod opening;
+mod raw;
 mod waits;
 
 use crate::ends::Ends;

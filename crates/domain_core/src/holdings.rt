@@ -17,6 +17,7 @@ mod endpoint_calls;
 mod message_calls;
 mod opening;
 mod owed;
+mod raw_calls;
 mod request_calls;
 mod taking;
 mod turns;
@@ -60,7 +61,8 @@ impl<P: PeerLane> Model for Holdings<P> {
 impl<P: PeerLane> Holdings<P> {
     /// Whether there is a lane to a domain.
     pub fn has_peer(&self, number: u8) -> bool
-        ensures { result ≡ is_some (place_of_peer (state_of self.now.parts) number) }
+        ensures peer { result ≡ is_some (place_of_peer (state_of self.now.parts) number) }
+        ensures sound { Sound self.now.parts }
     {
         place_of(&self.peers, number).is_some()
     }

@@ -14,6 +14,7 @@ ghost use Rattle.linked_pair.specs.Links.{IsOpen, new_link};
 ghost use Rattle.linked_pair.specs.Pair.{CallsAt, IsMember, IsOpened, domain_of};
 
 mod channels;
+mod raw;
 mod waits;
 
 use crate::links::{PlainLink, plain_link};

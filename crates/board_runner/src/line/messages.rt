@@ -1,8 +1,8 @@
-//! Calls that make and end endpoints, send and receive messages, and make turns alone.
+//! Calls that make and end endpoints, send and receive messages, put frames as they are, and make turns alone.
 
 ghost use Rattle.std.specs.Prelude.{◌<◌, ◌≤◌, ◌^◌, ℕ, IfOk, length};
 ghost use Rattle.mc_base.specs.Limits.{asked_limit};
-ghost use Rattle.board_model.specs.DomainCall.{create_at, delete_at, send_from, receive_at, available_at, turn_alone};
+ghost use Rattle.board_model.specs.DomainCall.{create_at, delete_at, send_from, receive_at, available_at, raw_to, turn_alone};
 ghost use Rattle.board_model.specs.Tallies.{number_told};
 ghost use Rattle.mc_journal.specs.Entry.{plain_answer};
 ghost use Rattle.board_runner.specs.Lines.{CallsDomain};
@@ -97,6 +97,26 @@ pub fn available(
 {
     journal.reserve(CALL_ENTRIES, CALL_BYTES)?;
     let answer = of_number(domain.msg_available(journal, at));
+    Ok(Made {
+        answer,
+        given: None,
+        lent: None,
+    })
+}
+
+/// Puts a frame to a domain as it is.
+pub fn put_raw(
+    domain: &mut Domain<AnySend<'_>, AnyRecv<'_>>,
+    journal: &mut Journal,
+    peer: u8,
+    frame: &[u8],
+) -> Result<Made<'static>, NoMemory>
+    requires some { 1 ≤ length frame.now }
+    requires fits { length frame.now ≤ 512 }
+    ensures { IfOk result (λ made. (node : ℕ) → CallsDomain node (raw_to peer frame.now) domain.old domain.new journal.old.lines journal.new.lines made) }
+{
+    journal.reserve(CALL_ENTRIES, CALL_BYTES)?;
+    let answer = of_unit(domain.raw_put(journal, peer, frame));
     Ok(Made {
         answer,
         given: None,

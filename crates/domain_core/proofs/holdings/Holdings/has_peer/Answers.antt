@@ -7,8 +7,8 @@ use Rattle.domain_core.proofs.Stepping.{state-seen}
 use Rattle.domain_core.proofs.Tables.{position-map}
 use Rattle.domain_core.proofs.holdings.Holdings.has_peer.Goals as goal
 
-pub returns : goal.returns
-returns g c =
+pub returns-clause-peer : goal.returns-clause-peer
+returns-clause-peer g c =
     let d = c.self.inside in
     let v = g.P.PeerLane.seen in
     let at = subst (λ ps. c.place_of.result ≡ position (λ p. p.number == c.args.number) ps) c.deref.ensures.value c.place_of.ensures.place in

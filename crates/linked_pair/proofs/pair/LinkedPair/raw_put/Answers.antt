@@ -1,0 +1,8 @@
+use Rattle.linked_pair.proofs.PairLemmas.{first-calls, second-calls}
+use Rattle.linked_pair.proofs.pair.LinkedPair.raw_put.Goals as goal
+
+pub invariant_of-self : goal.invariant_of-self
+invariant_of-self c = first-calls _ _ _ _ c.self.inside.two _ _ _ _ c.calls_move_ends.ensures.plain c.domains_stay_linked.ensures.plain c.raw_put.ensures.call c.self.invariant
+
+pub invariant_of-self-in-Two : goal.invariant_of-self-in-Two
+invariant_of-self-in-Two c = second-calls _ _ _ _ c.self.inside.one _ _ _ _ c.calls_move_ends.ensures.plain c.domains_stay_linked.ensures.plain c.raw_put-in-Two.ensures.call c.self.invariant
