@@ -90,6 +90,7 @@ fn each_reason_of_a_line_has_a_text(rt: HostRuntime) -> Result<(), Fail> {
         LineReason::Domain,
         LineReason::Link,
         LineReason::Label,
+        LineReason::Sound,
     ];
     for reason in reasons {
         assert!(rt;

@@ -2,7 +2,7 @@
 -- Source: README.md, "Forms and statuses"; docs/FORMATS.md, "Scenario files".
 use Rattle.std.specs.Prelude.{ℕ, List, [], ◌∷◌, codes, decimal}
 use Rattle.board_model.specs.declared.reason.LineReason.{LineReason}
-use Rattle.board_model.specs.declared.reason.LineReason.TheVariants.{Byte, Long, Form, Number, Bytes, Order, Domain, Link, Label}
+use Rattle.board_model.specs.declared.reason.LineReason.TheVariants.{Byte, Long, Form, Number, Bytes, Order, Domain, Link, Label, Sound}
 use Rattle.board_model.specs.Grammar.{line_of}
 use Rattle.board_model.specs.Language.{RefusedLine}
 
@@ -16,6 +16,7 @@ line_reason_text Order = codes "order"
 line_reason_text Domain = codes "domain"
 line_reason_text Link = codes "link"
 line_reason_text Label = codes "label"
+line_reason_text Sound = codes "sound"
 
 abbrev pub refused_text : ℕ → LineReason → List ℕ
 refused_text line reason = line_of (codes "refused" ∷ decimal line ∷ line_reason_text reason ∷ [])

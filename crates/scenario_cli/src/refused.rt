@@ -48,5 +48,6 @@ fn reason_word(reason: LineReason) -> &'static [u8]
         LineReason::Domain => b"domain",
         LineReason::Link => b"link",
         LineReason::Label => b"label",
+        LineReason::Sound => b"sound",
     }
 }

@@ -43,9 +43,12 @@ pub hex-short : (bs : List ℕ) → length (hex_text bs) ≤ 2 * length bs + 1
 hex-short [] = omega arith
 hex-short (b ∷ bs) = omega (arith, hex_length (b ∷ bs))
 
+pub are_bytes-within : (least most : ℕ) (bs : List ℕ) → AllByRecursion (λ b. b < 256) bs → least ≤ length bs → length bs ≤ most → are_bytes (content least most (hex_text bs)) ≡ true
+are_bytes-within least most bs small some few =
+    ap (are_within least most) (bytes_of-hex bs small) ∙ and_from (nat_le least (length bs)) (nat_le (length bs) most) (le-leb least (length bs) some) (le-leb (length bs) most few)
+
 pub are_bytes-hex : (bs : List ℕ) → AllByRecursion (λ b. b < 256) bs → length bs ≤ asked_limit → are_bytes (content 0 asked_limit (hex_text bs)) ≡ true
-are_bytes-hex bs small few =
-    ap (are_within 0 asked_limit) (bytes_of-hex bs small) ∙ and_from (nat_le 0 (length bs)) (nat_le (length bs) asked_limit) (le-leb 0 (length bs) (omega arith)) (le-leb (length bs) asked_limit few)
+are_bytes-hex bs small few = are_bytes-within 0 asked_limit bs small (omega arith) few
 
 pub bytes-hex : (bs : List ℕ) → AllByRecursion (λ b. b < 256) bs → bytes (hex_text bs) ≡ bs
 bytes-hex bs small = ap (λ (o : Option (List ℕ)). unwrap_or o []) (bytes_of-hex bs small)

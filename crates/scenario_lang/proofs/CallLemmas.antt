@@ -3,9 +3,9 @@ use Rattle.std.proofs.Common.{◌≡◌, ℕ, true, ◌&&◌, List, [], ◌∷�
 use Rattle.std.specs.Prelude.{not, Result, Ok, Err, unwrap_or, if◌then◌else◌}
 use Rattle.std.specs.List.{list_all}
 use Rattle.std.proofs.lemmas.List.Folds.{list_all-append}
-use Rattle.mc_base.specs.Limits.{asked_limit}
+use Rattle.mc_base.specs.Limits.{asked_limit, longest_frame}
 use Rattle.board_model.specs.declared.form.ArgumentKind.{ArgumentKind}
-use Rattle.board_model.specs.declared.form.ArgumentKind.TheVariants.{Port, Name, Priority, Content, Maximum, ChannelKind, ScalarBits, ScalarValue, RequestLabel, RequestLabels, PacketLabel, Limit}
+use Rattle.board_model.specs.declared.form.ArgumentKind.TheVariants.{Port, Name, Priority, Content, Maximum, ChannelKind, ScalarBits, ScalarValue, RequestLabel, RequestLabels, PacketLabel, Limit, PeerDomain, RawFrame}
 use Rattle.board_model.specs.declared.form.Callee.{Callee}
 use Rattle.board_model.specs.declared.form.Callee.TheVariants as callee
 use Rattle.board_model.specs.declared.reason.LineReason.{LineReason}
@@ -47,6 +47,9 @@ few_checked least most (Some bs) = elim (cases_bool (is_within least most (lengt
 pub bytes_value : (word : List ℕ) → bytes_in 0 asked_limit word ≡ value_in Content 0 word
 bytes_value word = few_checked 0 asked_limit (bytes_of word)
 
+pub frame_value : (word : List ℕ) → bytes_in 1 longest_frame word ≡ value_in RawFrame 0 word
+frame_value word = few_checked 1 longest_frame (bytes_of word)
+
 -- ---- arguments
 
 -- a value whose words are all numbers and bytes, or the first reason
@@ -73,6 +76,9 @@ call_from-checked (k ∷ ks) bits [] makes fit ends = absurd cc
 call_from-checked (Content ∷ []) bits (w ∷ []) makes fit ends = elim (cases_bool (are_bytes (content 0 asked_limit w))) [ inl h ↦ rw h refl | inr h ↦ rw h refl ]
 call_from-checked (Content ∷ []) bits (w ∷ v ∷ vs) makes fit ends = absurd cc
 call_from-checked (Content ∷ k ∷ ks) bits (w ∷ ws) makes fit ends = absurd cc
+call_from-checked (RawFrame ∷ []) bits (w ∷ []) makes fit ends = elim (cases_bool (are_bytes (content 1 longest_frame w))) [ inl h ↦ rw h refl | inr h ↦ rw h refl ]
+call_from-checked (RawFrame ∷ []) bits (w ∷ v ∷ vs) makes fit ends = absurd cc
+call_from-checked (RawFrame ∷ k ∷ ks) bits (w ∷ ws) makes fit ends = absurd cc
 call_from-checked (Port ∷ ks) bits (w ∷ ws) makes fit ends = plain_step Port ks bits w ws makes refl refl (call_from-checked ks 0 ws (makes (value Port w)) fit ends)
 call_from-checked (Name ∷ ks) bits (w ∷ ws) makes fit ends =
     let h = both_hold (argument_fits Name w) (arguments_fit ks ws) fit in
@@ -94,6 +100,7 @@ call_from-checked (PacketLabel ∷ ks) bits (w ∷ ws) makes fit ends =
     let h = both_hold (argument_fits PacketLabel w) (arguments_fit ks ws) fit in
     plain_step PacketLabel ks bits w ws makes refl h.0 (call_from-checked ks 0 ws (makes (value PacketLabel w)) h.1 ends)
 call_from-checked (Limit ∷ ks) bits (w ∷ ws) makes fit ends = plain_step Limit ks bits w ws makes refl refl (call_from-checked ks 0 ws (makes (value Limit w)) fit ends)
+call_from-checked (PeerDomain ∷ ks) bits (w ∷ ws) makes fit ends = plain_step PeerDomain ks bits w ws makes refl refl (call_from-checked ks 0 ws (makes (value PeerDomain w)) fit ends)
 
 pub call_by-row : (c : Callee) (words : List (List ℕ)) → call_in c words ≡ call_by c words
 call_by-row callee.Create words = refl
@@ -118,6 +125,7 @@ call_by-row callee.Test words = refl
 call_by-row callee.Wait words = refl
 call_by-row callee.WaitAny words = refl
 call_by-row callee.Cancel words = refl
+call_by-row callee.Raw words = refl
 call_by-row callee.Turn words = refl
 
 pub call-checked : (c : Callee) (words : List (List ℕ)) → arguments_fit (form c).arguments words ≡ true → call_in c words ≡ checked (arguments_numerals (form c).arguments 0 words) (arguments_contents (form c).arguments words) (call_made c words)

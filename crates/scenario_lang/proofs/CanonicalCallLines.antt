@@ -15,7 +15,7 @@ use Rattle.board_model.specs.Grammar.{spaced, argument_texts, form_words, call_w
 use Rattle.board_model.specs.FileLines.{parts_at}
 use Rattle.board_model.specs.FileWords.{is_digit, numeral, is_number, number}
 use Rattle.board_model.specs.Forms.{Values, form, call_made, CallParts, call_parts, label_of, told_at, tries_at, told_fits, tries_fit, arguments_fit, if_fits, call_of, tries_form, told_form, call_form, parts_of, numerals, tries_numerals, arguments_numerals, arguments_labels, says_call, call_line}
-use Rattle.board_model.specs.LineReasons.{is_domain, has_wrong_domain, tells_wrong_label, names_wrong_label, has_wrong_label, word_reasons, with_statement}
+use Rattle.board_model.specs.LineReasons.{is_domain, has_wrong_domain, tells_wrong_label, names_wrong_label, has_wrong_label, puts_sound, has_sound_frame, word_reasons, with_statement}
 use Rattle.board_model.proofs.LawfulForms.{AreFit, call_with}
 use Rattle.board_model.proofs.LawfulTelling.{HoldNot}
 use Rattle.board_model.proofs.LawfulRanges.{TriesFit}
@@ -38,6 +38,7 @@ pub record FitsHere (above : Scenario) (k : CallLine) (c : Callee) (arguments : 
   pub arguments_fit : AreFit (form c).arguments 0 arguments
   pub label_fits : told_fits (form c).labelled (label_in k) ≡ true
   pub label_right : (tells_wrong_label above (form c).labelled k.domain (label_in k) || names_wrong_label above k.domain (arguments_labels (form c).arguments (argument_texts (form c).arguments arguments))) ≡ false
+  pub frame_faulty : puts_sound k.call ≡ false
 
 abbrev pub front_words : CallLine → List (List ℕ) → List (List ℕ)
 front_words k call = label_words (label_in k) ++ (tries_words k.tries ++ call)
@@ -184,10 +185,13 @@ module _ (above : Scenario) (k : CallLine) (c : Callee) (arguments : Values (for
       ap (λ (m : ℕ). tells_wrong_label above (form c).labelled m (label_in k) || names_wrong_label above m (arguments_labels (form c).arguments texts)) (number-decimal k.domain (omega (arith, domain_small)))
       ∙ h.label_right
 
+  faulty_frame : has_sound_frame (says_call (call_line parts)) ≡ false
+  faulty_frame = ap (λ (l : CallLine). puts_sound l.call) line_back ∙ h.frame_faulty
+
   words_read_here : IsRead above (spaced (caller_words k words)) (with_statement above (says_call k))
   words_read_here =
       let told : has_wrong_domain above (says_call (call_line parts)) ≡ false = ap (λ (l : CallLine). has_wrong_domain above (says_call l)) line_back ∙ not_from_true _ h.told_domain in
-      let none : HoldNot (word_reasons above (Some (call_parts parts))) = (refl, (not_from_true _ call_numbers, (not_from_true _ spelled.contents, (refl, (told, (refl, (right_label, tt))))))) in
+      let none : HoldNot (word_reasons above (Some (call_parts parts))) = (refl, (not_from_true _ call_numbers, (not_from_true _ spelled.contents, (refl, (told, (refl, (right_label, (faulty_frame, tt)))))))) in
       let r = words_read above (caller_words k words) (call_parts parts) line_seen.seen line_seen.few parts_read none in
       record { text = r.text; passes = r.passes; tells = r.tells ∙ ap (λ (l : CallLine). with_statement above (says_call l)) line_back }
 

@@ -5,7 +5,7 @@ use Rattle.std.specs.List.{flat_map}
 use Rattle.std.proofs.lemmas.List.{append-nil, take_rest}
 use Rattle.arrayvec.specs.ArrayVec.{ArrayVec}
 use Rattle.board_model.specs.declared.scenario.Call.{Call}
-use Rattle.board_model.specs.declared.scenario.Call.TheVariants.{Create, Delete, Lookup, MsgSend, MsgRecv, MsgRecvI, MsgAvailable, Connect, OpenSend, OpenRecv, PktSend, PktRecv, PktRecvI, Release, SclSend, SclRecv, CloseSend, CloseRecv, Test, Wait, WaitAny, Cancel, Turn}
+use Rattle.board_model.specs.declared.scenario.Call.TheVariants.{Create, Delete, Lookup, MsgSend, MsgRecv, MsgRecvI, MsgAvailable, Connect, OpenSend, OpenRecv, PktSend, PktRecv, PktRecvI, Release, SclSend, SclRecv, CloseSend, CloseRecv, Test, Wait, WaitAny, Cancel, Raw, Turn}
 use Rattle.board_model.specs.Grammar.{with_commas, spaced, line_of, call_words, label_words, tries_words}
 use Rattle.scenario_lang.specs.declared.canonical.Argument.{Argument}
 use Rattle.scenario_lang.specs.CallFronts.{label_front, tries_front, argument_word, blank_then, comma_then}
@@ -43,6 +43,7 @@ some_call (Test label) = record { first = _; others = _; whole = refl }
 some_call (Wait label limit) = record { first = _; others = _; whole = refl }
 some_call (WaitAny labels limit) = record { first = _; others = _; whole = refl }
 some_call (Cancel label) = record { first = _; others = _; whole = refl }
+some_call (Raw domain bytes) = record { first = _; others = _; whole = refl }
 some_call Turn = record { first = _; others = _; whole = refl }
 
 some_tried : (tries : Option ℕ) (words : List (List ℕ)) → AreSome words → AreSome (tries_words tries ++ words)

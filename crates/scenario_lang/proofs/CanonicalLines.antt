@@ -63,7 +63,7 @@ domain-read above d h early new =
     ∙ ap (λ (k : ℕ). made_domain d.domain d.nodes k) (number-decimal d.pool (omega arith)) in
     let seen = all-pass is_word (domain_words d) (refl, (domain.is, (refl, (nodes.is, (refl, (pool.is, tt)))))) in
     let numbers = all-pass is_number (numerals p) (is_number-decimal 0 7 d.domain (omega arith) h.domain_fits (omega arith), (is_number-decimal 1 16 d.nodes h.some_nodes h.nodes_fit (omega arith), (is_number-decimal 1 256 d.pool h.some_pool h.pool_fits (omega arith), tt))) in
-    let none : HoldNot (word_reasons above (Some p)) = (refl, (not_from_true _ numbers, (refl, (early, (ap (λ (k : DomainLine). has_wrong_domain above (says_domain k)) same ∙ new, (refl, (refl, tt))))))) in
+    let none : HoldNot (word_reasons above (Some p)) = (refl, (not_from_true _ numbers, (refl, (early, (ap (λ (k : DomainLine). has_wrong_domain above (says_domain k)) same ∙ new, (refl, (refl, (refl, tt)))))))) in
     let r = words_read above (domain_words d) p seen (omega (arith, domain.few, nodes.few, pool.few)) refl none in
     record { text = r.text; passes = r.passes; tells = r.tells ∙ ap (λ (k : DomainLine). with_statement above (says_domain k)) same }
 
@@ -87,6 +87,6 @@ link-read above l a_fits b_fits q_fits early known right =
     ∙ ap (λ (k : ℕ). made_link l.driver l.device k) (number-decimal l.size (omega arith)) in
     let seen = all-pass is_word (link_words l) (refl, (a.is, (b.is, (refl, (q.is, tt))))) in
     let numbers = all-pass is_number (numerals p) (is_number-decimal 0 7 l.driver (omega arith) a_fits (omega arith), (is_number-decimal 0 7 l.device (omega arith) b_fits (omega arith), (is_number-decimal 0 18446744073709551615 l.size (omega arith) (omega arith) (omega arith), tt))) in
-    let none : HoldNot (word_reasons above (Some p)) = (refl, (not_from_true _ numbers, (refl, (early, (ap (λ (k : LinkLine). has_wrong_domain above (says_link k)) same ∙ known, (ap (λ (k : LinkLine). has_wrong_link above (says_link k)) same ∙ right, (refl, tt))))))) in
+    let none : HoldNot (word_reasons above (Some p)) = (refl, (not_from_true _ numbers, (refl, (early, (ap (λ (k : LinkLine). has_wrong_domain above (says_link k)) same ∙ known, (ap (λ (k : LinkLine). has_wrong_link above (says_link k)) same ∙ right, (refl, (refl, tt)))))))) in
     let r = words_read above (link_words l) p seen (omega (arith, a.few, b.few, q.few)) refl none in
     record { text = r.text; passes = r.passes; tells = r.tells ∙ ap (λ (k : LinkLine). with_statement above (says_link k)) same }

@@ -99,6 +99,7 @@ gives_made callee.Test arguments = refl
 gives_made callee.Wait arguments = refl
 gives_made callee.WaitAny arguments = refl
 gives_made callee.Cancel arguments = refl
+gives_made callee.Raw arguments = refl
 gives_made callee.Turn arguments = refl
 
 -- a call that is read is made of some arguments

@@ -97,6 +97,7 @@ call_fits s c fits none =
           ap (λ (o : Option (List ℕ)). tells_wrong_label s labelled k.domain o || names_wrong_label s k.domain (arguments_labels kinds (argument_texts kinds (values kinds c.arguments)))) same
           ∙ ap (λ (ls : List NamedLabel). tells_wrong_label s labelled k.domain c.told || names_wrong_label s k.domain ls) (same_labels kinds c.arguments fits.arguments_fit)
           ∙ none.1.1.1.1.1.1.0;
+      frame_faulty = none.1.1.1.1.1.1.1.0;
     }
 
 -- a call line more that may be told here

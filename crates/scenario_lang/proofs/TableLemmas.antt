@@ -6,7 +6,7 @@ use Rattle.std.proofs.Math.Nat.{pow-le-pow_right}
 use Rattle.std.proofs.lemmas.Bool.{and_from}
 use Rattle.std.proofs.lemmas.List.Folds.{list_all-append}
 use Rattle.arrayvec.specs.ArrayVec.{ArrayVec}
-use Rattle.mc_base.specs.Limits.{asked_limit, try_limit}
+use Rattle.mc_base.specs.Limits.{asked_limit, longest_frame, try_limit}
 use Rattle.mc_base.specs.Text.{hex_text}
 use Rattle.mc_base.specs.Letter.{bytes_of_bits}
 use Rattle.mc_base.specs.declared.channel.Kind.{Kind}
@@ -14,7 +14,7 @@ use Rattle.mc_base.specs.declared.channel.Kind.TheVariants as kind
 use Rattle.mc_base.specs.declared.channel.Bits.{Bits}
 use Rattle.mc_base.specs.declared.channel.Bits.TheVariants.{B8, B16, B32, B64}
 use Rattle.board_model.specs.declared.form.ArgumentKind.{ArgumentKind}
-use Rattle.board_model.specs.declared.form.ArgumentKind.TheVariants.{Port, Name, Priority, Content, Maximum, ChannelKind, ScalarBits, ScalarValue, RequestLabel, RequestLabels, PacketLabel, Limit}
+use Rattle.board_model.specs.declared.form.ArgumentKind.TheVariants.{Port, Name, Priority, Content, Maximum, ChannelKind, ScalarBits, ScalarValue, RequestLabel, RequestLabels, PacketLabel, Limit, PeerDomain, RawFrame}
 use Rattle.board_model.specs.declared.form.Callee.{Callee}
 use Rattle.board_model.specs.declared.form.Callee.TheVariants as callee
 use Rattle.board_model.specs.Grammar.{argument_text, argument_texts}
@@ -29,7 +29,7 @@ use Rattle.scenario_lang.proofs.SpacedLemmas.{is_word, room}
 use Rattle.scenario_lang.proofs.PlainLemmas.{IsPlain, decimal-plain, decimal_plain_64, label-plain}
 use Rattle.scenario_lang.proofs.GroupLemmas.{group-plain, group-fits, group-back, group-same}
 use Rattle.scenario_lang.proofs.NameWordLemmas.{name-plain, name-parts, name-read, name-numbers}
-use Rattle.scenario_lang.proofs.ByteWordLemmas.{hex-plain, are_bytes-hex, bytes-hex}
+use Rattle.scenario_lang.proofs.ByteWordLemmas.{hex-plain, are_bytes-hex, are_bytes-within, bytes-hex}
 
 -- ---- rows
 
@@ -37,6 +37,7 @@ use Rattle.scenario_lang.proofs.ByteWordLemmas.{hex-plain, are_bytes-hex, bytes-
 abbrev pub content_ends : List ArgumentKind → Bool
 content_ends [] = true
 content_ends (Content ∷ ks) = is_empty ks
+content_ends (RawFrame ∷ ks) = is_empty ks
 content_ends (k ∷ ks) = content_ends ks
 
 -- the most bytes that an argument is written with
@@ -53,6 +54,8 @@ widest RequestLabel = 16
 widest RequestLabels = 135
 widest PacketLabel = 16
 widest Limit = 10
+widest PeerDomain = 10
+widest RawFrame = 18000
 
 -- and the arguments of a form, each with a blank
 abbrev pub all_widest : List ArgumentKind → ℕ
@@ -89,6 +92,7 @@ row_plain callee.Test = record { seen = refl; no_try = refl; named = refl; few =
 row_plain callee.Wait = record { seen = refl; no_try = refl; named = refl; few = omega arith; ends = refl }
 row_plain callee.WaitAny = record { seen = refl; no_try = refl; named = refl; few = omega arith; ends = refl }
 row_plain callee.Cancel = record { seen = refl; no_try = refl; named = refl; few = omega arith; ends = refl }
+row_plain callee.Raw = record { seen = refl; no_try = refl; named = refl; few = omega arith; ends = refl }
 row_plain callee.Turn = record { seen = refl; no_try = refl; named = refl; few = omega arith; ends = refl }
 
 -- ---- an argument as a word
@@ -172,6 +176,16 @@ text_of RequestLabels bits ls h = record {
 }
 text_of PacketLabel bits l h = record { plain = label-plain l.items h; fits = h; numbers = refl; bytes = refl; back = refl }
 text_of Limit bits n h = record { plain = decimal-plain n (omega (arith, h)); fits = refl; numbers = one_number try_limit n h (omega (arith, h)); bytes = refl; back = number-decimal n (omega (arith, h)) }
+text_of PeerDomain bits n h = record { plain = decimal-plain n (omega (arith, h)); fits = refl; numbers = one_number 7 n h (omega (arith, h)); bytes = refl; back = number-decimal n (omega (arith, h)) }
+text_of RawFrame bits bs h =
+    let few : length bs ≤ longest_frame = h.1 in
+    record {
+      plain = hex-plain bs h.2 (omega (arith, few));
+      fits = refl;
+      numbers = refl;
+      bytes = and_from (are_bytes (content 1 longest_frame (hex_text bs))) true (are_bytes-within 1 longest_frame bs h.2 h.0 few) refl;
+      back = bytes-hex bs h.2;
+    }
 
 -- ---- arguments as words
 
@@ -229,6 +243,8 @@ same_label RequestLabel w = refl
 same_label RequestLabels w = ap (argument_labels RequestLabels) (group-same w)
 same_label PacketLabel w = refl
 same_label Limit w = refl
+same_label PeerDomain w = refl
+same_label RawFrame w = refl
 
 pub same_labels : (ks : List ArgumentKind) (ws : List (List ℕ)) → arguments_fit ks ws ≡ true → arguments_labels ks (argument_texts ks (values ks ws)) ≡ arguments_labels ks ws
 same_labels [] ws fit = refl

@@ -7,8 +7,8 @@ use Rattle.board_model.specs.declared.scenario.CallLine.{CallLine}
 use Rattle.board_model.specs.declared.reason.LineReason.{LineReason}
 use Rattle.board_model.specs.FileLines.{begins_with, words_of, parts_at}
 use Rattle.board_model.specs.FileWords.{numeral, number, is_number, are_bytes, is_label}
-use Rattle.board_model.specs.Forms.{form, callee_of, CallParts, call_parts, numerals, contents, arguments_numerals, arguments_contents, arguments_labels, call_line, told_fits, tries_fit, arguments_fit, callee_form, call_form, told_at, tries_at, parts_of}
-use Rattle.board_model.specs.LineReasons.{is_domain, is_text_byte, tells_wrong_label, names_wrong_label, line_reason, with_parts}
+use Rattle.board_model.specs.Forms.{form, callee_of, CallParts, call_parts, numerals, contents, arguments_numerals, arguments_contents, arguments_labels, call_line, call_made, told_fits, tries_fit, arguments_fit, callee_form, call_form, told_at, tries_at, parts_of}
+use Rattle.board_model.specs.LineReasons.{is_domain, is_text_byte, tells_wrong_label, names_wrong_label, puts_sound, line_reason, with_parts}
 use Rattle.board_model.specs.Language.{RefusedLine, refused, unless_refused, told_from}
 use Rattle.board_model.specs.declared.form.Callee.{Callee}
 use Rattle.scenario_lang.specs.declared.fault.LineFault.{LineFault}
@@ -94,7 +94,10 @@ checked_told above d n told tries c args fit = elim (cases_bool (list_all is_num
         | inl bad ↦ rw (numbers, some_bytes, known, bad) refl
         | inr right ↦ elim (cases_bool (names_wrong_label above (number d) (arguments_labels (form c).arguments args))) [
           | inl bad ↦ rw (numbers, some_bytes, known, right, bad) refl
-          | inr good ↦ rw (numbers, some_bytes, known, right, good) refl
+          | inr good ↦ elim (cases_bool (puts_sound (call_made c args))) [
+            | inl bad ↦ rw (numbers, some_bytes, known, right, good, bad) refl
+            | inr faulty ↦ rw (numbers, some_bytes, known, right, good, faulty) refl
+          ]
         ]
       ]
     ]

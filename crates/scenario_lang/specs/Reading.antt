@@ -173,6 +173,7 @@ call_in callee.Test words = call_by callee.Test words
 call_in callee.Wait words = call_by callee.Wait words
 call_in callee.WaitAny words = call_by callee.WaitAny words
 call_in callee.Cancel words = call_by callee.Cancel words
+call_in callee.Raw words = call_by callee.Raw words
 call_in callee.Turn words = call_by callee.Turn words
 
 abbrev pub if_right : CallParts → Result CallParts LineReason

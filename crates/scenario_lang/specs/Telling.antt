@@ -7,10 +7,10 @@ use Rattle.board_model.specs.declared.scenario.DomainLine.{DomainLine}
 use Rattle.board_model.specs.declared.scenario.CallLine.{CallLine}
 use Rattle.board_model.specs.declared.scenario.Scenario.{Scenario}
 use Rattle.board_model.specs.declared.reason.LineReason.{LineReason}
-use Rattle.board_model.specs.declared.reason.LineReason.TheVariants.{Byte, Long, Order, Domain, Link, Label}
+use Rattle.board_model.specs.declared.reason.LineReason.TheVariants.{Byte, Long, Order, Domain, Link, Label, Sound}
 use Rattle.board_model.specs.FileLines.{begins_with, words_of}
 use Rattle.board_model.specs.Forms.{form, gives_request, gives_packet, arguments_labels, CallParts, LineParts, says_domain, says_link, says_call}
-use Rattle.board_model.specs.LineReasons.{is_text_byte, is_late, is_domain, has_wrong_domain, has_wrong_link, tells_wrong_label, names_wrong_label, is_told, is_told_of, first_reason, word_reasons, with_statement, with_parts}
+use Rattle.board_model.specs.LineReasons.{is_text_byte, is_late, is_domain, has_wrong_domain, has_wrong_link, tells_wrong_label, names_wrong_label, puts_sound, is_told, is_told_of, first_reason, word_reasons, with_statement, with_parts}
 use Rattle.scenario_lang.specs.declared.fault.LineFault.{LineFault}
 use Rattle.scenario_lang.specs.declared.fault.LineFault.TheVariants as line_fault
 use Rattle.scenario_lang.specs.declared.fault.ScenarioFault.{ScenarioFault}
@@ -43,6 +43,7 @@ tell_call above p line =
     if not (is_domain above line.domain) then Err Domain
     else if tells_wrong_label above (form p.callee).labelled line.domain p.told then Err Label
     else if names_wrong_label above line.domain (arguments_labels (form p.callee).arguments p.arguments) then Err Label
+    else if puts_sound line.call then Err Sound
     else Ok (with_statement above (says_call line))
 
 unfoldable pub call_told : Scenario → List ℕ → List (List ℕ) → Result Scenario LineReason

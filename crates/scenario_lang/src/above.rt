@@ -3,6 +3,7 @@
 ghost use Rattle.std.specs.Prelude.{◌≡◌, ◌||◌, true, OnOk, IfErr, IfSome, option_map};
 ghost use Rattle.std.specs.List.{list_any, list_all};
 ghost use Rattle.board_model.specs.LineReasons.{tells_wrong_label, names_wrong_label, is_same_pair, with_statement};
+ghost use Rattle.board_model.specs.LineReasons.{puts_sound as puts_a_sound_frame};
 ghost use Rattle.board_model.specs.LineReasons.{is_domain as tells_domain, is_text_byte as is_of_text, is_link_size as is_size};
 ghost use Rattle.board_model.specs.Forms.{argument_labels, arguments_labels, gives_request, gives_packet, says_call};
 ghost use Rattle.board_model.specs.declared.form.ArgumentKind.TheVariants as kind;
@@ -19,7 +20,8 @@ use crate::forms::{domain_line, link_line};
 use crate::labels::Labels;
 use crate::lines::{cut, find_words};
 use crate::table::row_of;
-use board_model::{ArgumentKind, CallLine, LineReason, LinkLine, Scenario, Seq};
+use board_model::{ArgumentKind, Call, CallLine, LineReason, LinkLine, Scenario, Seq};
+use name_service::fault_of;
 use std::alloc::Global;
 
 /// The most bytes of a line.
@@ -71,6 +73,16 @@ fn is_link_size(size: u64) -> bool
     ensures { result ≡ is_size size }
 {
     matches!(size, 2 | 4 | 8 | 16 | 32 | 64 | 128 | 256)
+}
+
+/// Whether a call puts a raw frame that has no fault.
+fn puts_sound(call: &Call) -> bool
+    ensures { result ≡ puts_a_sound_frame call.now }
+{
+    match call {
+        Call::Raw { bytes, .. } => fault_of(bytes.as_slice()).is_none(),
+        _ => false,
+    }
 }
 
 fn is_comment(word: &[u8]) -> bool
@@ -220,6 +232,9 @@ impl<'a> Above<'a> {
             || self.are_named_wrong(line.domain, row.arguments, parts.arguments)
         {
             return Err(LineFault::Refused(LineReason::Label));
+        }
+        if puts_sound(&line.call) {
+            return Err(LineFault::Refused(LineReason::Sound));
         }
         self.add(parts.told, line)
     }

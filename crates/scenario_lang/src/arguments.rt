@@ -11,7 +11,7 @@ use crate::kinds::{bits_from, greatest, kind_of};
 use crate::lines::name_parts;
 use crate::numerals::{bytes, label, number};
 use board_model::{Call, Callee, Label, LineReason, Seq, number_to};
-use mc_base::{Bits, EndName, Kind, MAX_ASKED, Priority};
+use mc_base::{Bits, EndName, Kind, LONGEST_FRAME, MAX_ASKED, Priority};
 use std::alloc::Global;
 
 /// Words of arguments that are not read yet. Each method reads the next one.
@@ -150,6 +150,25 @@ impl<'w, 'a> Arguments<'w, 'a> {
         let word = self.word()?;
         let limit = number(0, 4_294_967_295, word)?;
         Ok(limit as u32)
+    }
+
+    /// Reads the D of a raw frame.
+    #[tactic(auto, unfolding(crate::specs::Reading::argument_in))]
+    pub fn peer_domain(&mut self) -> Result<u8, LineReason>
+        ensures { Reads (λ x. (x, seen self.new.rest.now)) result (argument_in kind.PeerDomain 0 (seen self.old.rest.now)) }
+    {
+        let word = self.word()?;
+        let domain = number(0, 7, word)?;
+        Ok(domain as u8)
+    }
+
+    /// Reads the BYTES of a raw frame.
+    #[tactic(auto, unfolding(crate::specs::Reading::argument_in), using(crate::proofs::CallLemmas::frame_value))]
+    pub fn raw_frame(&mut self, alloc: Global) -> Result<Vec<u8>, LineFault>
+        ensures { Answers (λ x. (x.items, seen self.new.rest.now)) result (argument_in kind.RawFrame 0 (seen self.old.rest.now)) }
+    {
+        let word = self.word()?;
+        bytes(alloc, 1, LONGEST_FRAME, word)
     }
 }
 
@@ -291,6 +310,10 @@ pub fn call(alloc: Global, callee: Callee, words: &[&[u8]]) -> Result<Call, Line
         }),
         Callee::Cancel => Ok(Call::Cancel {
             label: arguments.request_label()?,
+        }),
+        Callee::Raw => Ok(Call::Raw {
+            domain: arguments.peer_domain()?,
+            bytes: Seq::new(arguments.raw_frame(alloc)?),
         }),
         Callee::Turn => Ok(Call::Turn),
     }

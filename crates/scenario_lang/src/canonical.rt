@@ -209,6 +209,11 @@ fn put_call<K: Sink>(out: &mut Writer<'_, K>, call: &Call)
             &[Labels(labels.as_slice()), Number(*limit as u64)],
         ),
         Call::Cancel { label } => put_form(out, Callee::Cancel, &[Label(label.as_slice())]),
+        Call::Raw { domain, bytes } => put_form(
+            out,
+            Callee::Raw,
+            &[Number(*domain as u64), Content(bytes.as_slice())],
+        ),
         Call::Turn => put_form(out, Callee::Turn, &[]),
     }
 }

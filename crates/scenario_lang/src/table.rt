@@ -5,8 +5,8 @@ ghost use Rattle.board_model.specs.Forms.{form, callee_of as call_with};
 ghost use Rattle.scenario_lang.specs.Table.{IsRow};
 
 use board_model::ArgumentKind::{
-    self, ChannelKind, Content, Limit, Maximum, Name, PacketLabel, Port, Priority, RequestLabel,
-    RequestLabels, ScalarBits, ScalarValue,
+    self, ChannelKind, Content, Limit, Maximum, Name, PacketLabel, PeerDomain, Port, Priority,
+    RawFrame, RequestLabel, RequestLabels, ScalarBits, ScalarValue,
 };
 use board_model::Callee;
 
@@ -67,6 +67,7 @@ pub fn row_of(callee: Callee) -> CallRow
         Callee::Wait => row(b"wait", &[RequestLabel, Limit], NO_LABEL, ONE_TRY),
         Callee::WaitAny => row(b"wait_any", &[RequestLabels, Limit], NO_LABEL, ONE_TRY),
         Callee::Cancel => row(b"cancel", &[RequestLabel], NO_LABEL, MAY_TRY),
+        Callee::Raw => row(b"raw", &[PeerDomain, RawFrame], NO_LABEL, MAY_TRY),
         Callee::Turn => row(b"turn", &[], NO_LABEL, MAY_TRY),
     }
 }
@@ -88,7 +89,7 @@ fn row(
 }
 
 /// Every call, in the order of the table.
-const CALLEES: [Callee; 23] = [
+const CALLEES: [Callee; 24] = [
     Callee::Create,
     Callee::Delete,
     Callee::Lookup,
@@ -111,6 +112,7 @@ const CALLEES: [Callee; 23] = [
     Callee::Wait,
     Callee::WaitAny,
     Callee::Cancel,
+    Callee::Raw,
     Callee::Turn,
 ];
 
