@@ -4,6 +4,8 @@
 #[cfg(test)]
 mod limits;
 #[cfg(test)]
+mod raw;
+#[cfg(test)]
 mod tests;
 #[cfg(test)]
 mod waits;

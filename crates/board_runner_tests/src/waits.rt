@@ -7,7 +7,7 @@ use std::alloc::Global;
 use std::test::Fail;
 
 /// A scenario, and what its report has behind the scenario, or parts of it.
-type Row = (&'static [u8], &'static [&'static [u8]]);
+pub type Row = (&'static [u8], &'static [&'static [u8]]);
 
 /// The first wait has the limit 0, the second 3.
 const TIMEOUTS: Row = (
@@ -466,7 +466,7 @@ fn has_part(text: &[u8], part: &[u8]) -> bool {
 }
 
 /// Whether the report of a scenario has these parts.
-fn tells(alloc: Global, row: Row) -> Option<bool> {
+pub fn tells(alloc: Global, row: Row) -> Option<bool> {
     let (text, parts) = row;
     let scenario = read(alloc, text)?;
     let outcome = run_serial(alloc, &scenario).ok()?;

@@ -153,7 +153,7 @@ static REFUSED_LINES: [Refusal; 48] = [
 /// A line after one domain, and the reason of its refusal.
 type RefusedCall = (&'static [u8], LineReason);
 
-static REFUSED_CALLS: [RefusedCall; 73] = [
+static REFUSED_CALLS: [RefusedCall; 71] = [
     (b"0 create 1", LineReason::Form),
     (b"0.0.0 create 1", LineReason::Form),
     (b"0:0 create 1", LineReason::Form),
@@ -177,8 +177,6 @@ static REFUSED_CALLS: [RefusedCall; 73] = [
     (b"0.0 delete", LineReason::Form),
     (b"0.0 delete 65536", LineReason::Number),
     (b"0.0 turn 1", LineReason::Form),
-    (b"0.0 raw 1 f1", LineReason::Form),
-    (b"0.0 raw 0 00", LineReason::Form),
     (b"0.0 wait a 1", LineReason::Label),
     (b"0.0 lookup 0:0:1", LineReason::Form),
     (b"0.0 x lookup 0:0:1", LineReason::Form),
@@ -407,6 +405,59 @@ static REFUSED_DATA: [RefusedCall; 109] = [
     (b"0.0 releases 1", LineReason::Form),
     (b"0.0 pkt 1", LineReason::Form),
     (b"0.0 pkt_available 1", LineReason::Form),
+];
+
+/// Lines of raw frames. The sound ones are a message, an announcement, and a letter with bytes behind it.
+static REFUSED_RAW: [RefusedCall; 28] = [
+    (b"0.0 raw", LineReason::Form),
+    (b"0.0 raw 0", LineReason::Form),
+    (b"0.0 raw 0 00 00", LineReason::Form),
+    (b"0.0 Raw 0 00", LineReason::Form),
+    (b"0.0 raw 8 00", LineReason::Number),
+    (b"0.0 raw 00 00", LineReason::Number),
+    (b"0.0 raw x 00", LineReason::Number),
+    (b"0.0 raw - 00", LineReason::Number),
+    (b"0.0 raw 256 00", LineReason::Number),
+    (b"0.0 raw 0:0:1 00", LineReason::Number),
+    (b"0.0 raw 8 -", LineReason::Number),
+    (b"0.0 try 0 raw 0 -", LineReason::Number),
+    (b"0.0 raw 0 -", LineReason::Bytes),
+    (b"0.0 raw 0 0", LineReason::Bytes),
+    (b"0.0 raw 0 0g", LineReason::Bytes),
+    (b"0.0 raw 0 000", LineReason::Bytes),
+    (b"1.0 raw 0 -", LineReason::Bytes),
+    (b"1.0 raw 0 00", LineReason::Domain),
+    (b"0.0 x = raw 0 00", LineReason::Label),
+    (b"0.0 X = raw 0 00", LineReason::Form),
+    (
+        b"0.0 raw 0 000400000004000000000000080000004d01010000000000",
+        LineReason::Sound,
+    ),
+    (
+        b"0.0 raw 0 000400000004000000000000080000004D01010000000000",
+        LineReason::Sound,
+    ),
+    (
+        b"0.0 raw 7 000400000004000000000000080000004d01010000000000",
+        LineReason::Sound,
+    ),
+    (
+        b"0.0 try 2 raw 0 000400000004000000000000080000004d01010000000000",
+        LineReason::Sound,
+    ),
+    (
+        b"1.0 raw 0 000400000004000000000000080000004d01010000000000",
+        LineReason::Domain,
+    ),
+    (
+        b"0.0 raw 0 000400000004000009090909080009094d01010000000000ff",
+        LineReason::Sound,
+    ),
+    (
+        b"0.0 raw 0 000400003500000000000000280000006d636170693a303a303a310000000000000000000000000000000000000000000004000000000000",
+        LineReason::Sound,
+    ),
+    (b"0.0 raws 0 00", LineReason::Form),
 ];
 
 /// Lines of waits.
@@ -639,7 +690,11 @@ static REFUSED_LABELS: [Refusal; 36] = [
 /// A text that is read, and its canonical text.
 type Read = (&'static [u8], &'static [u8]);
 
-static READ: [Read; 24] = [
+static READ: [Read; 25] = [
+    (
+        b"domain 0 nodes 1 pool 1\n0.0 raw 0 00\n 0.0\ttry  3 raw 7 4D09aB \r\n0.0 try 4294967295 raw 5 000400003500000000000000280000006d63",
+        b"domain 0 nodes 1 pool 1\n0.0 raw 0 00\n0.0 try 3 raw 7 4d09ab\n0.0 try 4294967295 raw 5 000400003500000000000000280000006d63\n",
+    ),
     (
         b"domain 0 nodes 1 pool 1\n0.0 a = lookup 0:0:1\n0.0 b = msg_recv_i 1 9\n0.0 c = connect 1 0:0:2 packet\n0.0 d = pkt_recv_i 1\n0.0 wait a 0\n0.0 wait b 4294967295\n0.0 wait_any c 1\n0.0 wait_any a,b,c,d 2\n0.0 wait_any a,b,c,d,d,c,b,a 3\n0.0 wait_any a,a 0\n",
         b"domain 0 nodes 1 pool 1\n0.0 a = lookup 0:0:1\n0.0 b = msg_recv_i 1 9\n0.0 c = connect 1 0:0:2 packet\n0.0 d = pkt_recv_i 1\n0.0 wait a 0\n0.0 wait b 4294967295\n0.0 wait_any c 1\n0.0 wait_any a,b,c,d 2\n0.0 wait_any a,b,c,d,d,c,b,a 3\n0.0 wait_any a,a 0\n",
@@ -800,7 +855,8 @@ fn calls_are_refused_with_their_first_reason(rt: HostRuntime) -> Result<(), Fail
     assert_refused_calls(&rt, rt.alloc(), &REFUSED_CALLS)?;
     assert_refused_calls(&rt, rt.alloc(), &REFUSED_CHANNELS)?;
     assert_refused_calls(&rt, rt.alloc(), &REFUSED_DATA)?;
-    assert_refused_calls(&rt, rt.alloc(), &REFUSED_WAITS)
+    assert_refused_calls(&rt, rt.alloc(), &REFUSED_WAITS)?;
+    assert_refused_calls(&rt, rt.alloc(), &REFUSED_RAW)
 }
 
 fn assert_read(rt: &impl Abort, alloc: Global, rows: &[Read]) {
@@ -832,10 +888,12 @@ const MESSAGE: &[u8] = b"0.0 msg_send 1 0:0:2 1 ";
 
 const PACKET: &[u8] = b"0.0 pkt_send 1 ";
 
+const RAW: &[u8] = b"0.0 raw 0 ";
+
 /// How the line begins, how many bytes and blanks it has, and the reason for which it is refused, if it is.
 type Limit = (&'static [u8], u32, u32, Option<LineReason>);
 
-static LIMITS: [Limit; 9] = [
+static LIMITS: [Limit; 13] = [
     (MESSAGE, 9000, 0, None),
     (MESSAGE, 9001, 0, Some(LineReason::Bytes)),
     (MESSAGE, 9000, 1977, None),
@@ -845,6 +903,10 @@ static LIMITS: [Limit; 9] = [
     (PACKET, 9000, 1985, None),
     (PACKET, 9001, 0, Some(LineReason::Bytes)),
     (PACKET, 9000, 1986, Some(LineReason::Long)),
+    (RAW, 1, 0, None),
+    (RAW, 512, 0, None),
+    (RAW, 513, 0, Some(LineReason::Bytes)),
+    (RAW, 9001, 0, Some(LineReason::Bytes)),
 ];
 
 fn is_limit(alloc: Global, (front, bytes, blanks, reason): Limit) -> Result<bool, AllocError> {

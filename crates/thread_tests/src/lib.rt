@@ -4,6 +4,8 @@
 #[cfg(test)]
 mod gates;
 #[cfg(test)]
+mod raw;
+#[cfg(test)]
 mod tests;
 #[cfg(test)]
 mod waits;

@@ -17,12 +17,7 @@ impl<S: SendEnd, R: RecvEnd> Domain<S, R> {
     ///
     /// Refused with `LinkInvalid` where the domain is neither linked nor this one, with `RawSound` where the frame has no fault,
     /// and with `NoBuffer` where no buffer of the lane to the domain is free after the turn.
-    pub fn raw_put(
-        &mut self,
-        journal: &mut Journal,
-        peer: u8,
-        frame: &[u8],
-    ) -> Result<(), Refusal>
+    pub fn raw_put(&mut self, journal: &mut Journal, peer: u8, frame: &[u8]) -> Result<(), Refusal>
         requires some { 1 ≤ length frame.now }
         requires fits { length frame.now ≤ 512 }
         requires entry_room { call_entries ≤ journal.old.entry_room }

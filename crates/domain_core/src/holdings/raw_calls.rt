@@ -17,12 +17,7 @@ use name_service::fault_of;
 
 impl<P: PeerLane> Holdings<P> {
     /// `raw_put` after its turn.
-    pub fn put_raw(
-        &mut self,
-        journal: &mut Journal,
-        peer: u8,
-        frame: &[u8],
-    ) -> Result<(), Refusal>
+    pub fn put_raw(&mut self, journal: &mut Journal, peer: u8, frame: &[u8]) -> Result<(), Refusal>
         requires some { 1 ≤ length frame.now }
         requires fits { length frame.now ≤ 512 }
         requires entry_room { 1 ≤ journal.old.entry_room }

@@ -450,6 +450,35 @@ static OF_CHANNELS: [Row; 29] = [
     (Sent(1024, 6, 0, 1, b""), Fate::State),
 ];
 
+/// Each letter of a channel but a Connect, to an endpoint that has none. The endpoint is there when the ninth is taken.
+static WITHOUT_A_CHANNEL: [Row; 16] = [
+    (Frame(b"a"), Fate::FrameShort),
+    (Frame(b"a"), Fate::FrameShort),
+    (Frame(b"a"), Fate::FrameShort),
+    (Frame(b"a"), Fate::FrameShort),
+    (Frame(b"a"), Fate::FrameShort),
+    (Frame(b"a"), Fate::FrameShort),
+    (Frame(b"a"), Fate::FrameShort),
+    (Frame(b"a"), Fate::FrameShort),
+    (Sent(1024, 3, 0, 1, b""), Fate::State),
+    (Sent(1024, 4, 1, 1, b""), Fate::State),
+    (Sent(1024, 5, 0, 1, b""), Fate::State),
+    (Sent(1024, 6, 0, 1, b""), Fate::State),
+    (Sent(1024, 7, 0, 1, b"ab"), Fate::State),
+    (Sent(1024, 8, 2, 1, b"ab"), Fate::State),
+    (Sent(1024, 9, 0, 1, b""), Fate::State),
+    (Sent(1024, 10, 0, 1, b""), Fate::State),
+];
+
+#[test]
+fn letters_to_an_endpoint_without_a_channel(rt: HostRuntime) -> Result<(), Fail> {
+    assert_of(Noted::open(rt.alloc(), &WITHOUT_A_CHANNEL), |noted| {
+        assert_dealt(&rt, noted, &WITHOUT_A_CHANNEL)?;
+        assert!(rt; noted.domain.places(1) == Some(Places { queue: 0, lent: 0 }));
+        Ok(())
+    })
+}
+
 /// The kind, argument and channel of a reply, and the lowest byte of the address that it comes from.
 type Replied = (u8, u8, u8, u8);
 

@@ -12,6 +12,7 @@ use mc_base::{Bits, Done, Kind, PacketId, Reason};
 mod channels;
 mod data;
 mod endpoints;
+mod raw;
 mod requests;
 mod waits;
 
@@ -22,6 +23,15 @@ pub enum Value {
     Short(u16),
     Word(u32),
     Long(u64),
+}
+
+/// A frame that is put as it is.
+#[derive(Clone, Copy)]
+pub enum RawFrame {
+    /// One byte.
+    Short,
+    /// A message to the first endpoint of a domain.
+    Sound,
 }
 
 /// A call. A request is named by its serial.
@@ -56,6 +66,8 @@ pub enum Step {
     /// Closes the sender's end at a port, and the receiver's.
     CloseSend(u16),
     CloseRecv(u16),
+    /// Puts a frame to a domain as it is.
+    PutRaw(u8, RawFrame),
     /// Tests a request. The message or packet that comes has this byte throughout.
     Test(u64, u8),
     /// Cancels a request.
@@ -72,8 +84,8 @@ pub enum Step {
 
 use Step::{
     Available, Begin, BeginPacket, Cancel, CloseRecv, CloseSend, Connect, Delete, Lookup, OpenRecv,
-    OpenSend, Plain, ReadPacket, ReceivePacket, ReceiveScalar, Release, SendPacket, SendScalar,
-    Settled, Test, Turn, Wait, WaitAny,
+    OpenSend, Plain, PutRaw, ReadPacket, ReceivePacket, ReceiveScalar, Release, SendPacket,
+    SendScalar, Settled, Test, Turn, Wait, WaitAny,
 };
 
 /// What a call tells that is not refused.
@@ -210,6 +222,10 @@ pub fn stepped<S: SendEnd, R: RecvEnd>(
             let answer = domain.close_recv(journal, Local { node: 0, port });
             Ok(Some(number(answer)))
         }
+        PutRaw(peer, which) => {
+            let answer = domain.raw_put(journal, peer, frame_of(which));
+            Ok(Some(answer.map(|()| Number(0))))
+        }
         Test(serial, byte) => Ok(tested(domain, journal, id_of(ids, serial), byte)),
         Cancel(serial) => {
             let answer = domain.cancel(journal, id_of(ids, serial));
@@ -224,6 +240,19 @@ pub fn stepped<S: SendEnd, R: RecvEnd>(
             Ok(Some(Ok(Number(u64::from(place)))))
         }
         Turn => Ok(Some(Ok(Idle(domain.turn(journal))))),
+    }
+}
+
+/// The bytes of a frame.
+fn frame_of(which: RawFrame) -> &'static [u8]
+    ensures some { 1 ≤ length result.now }
+    ensures fits { length result.now ≤ 512 }
+{
+    match which {
+        RawFrame::Short => b"\x00",
+        RawFrame::Sound => {
+            b"\x00\x04\x00\x00\x00\x04\x00\x00\x00\x00\x00\x00\x0a\x00\x00\x00\x4d\x01\x01\x01\x00\x00\x00\x00hi"
+        }
     }
 }
 

@@ -4,7 +4,7 @@ use super::{Outcome, SERIAL, assert_outcomes};
 use std::test::Fail;
 
 /// Texts of no scenario, each with the first line that is refused and its first reason.
-static REFUSALS: [Outcome<'static>; 12] = [
+static REFUSALS: [Outcome<'static>; 14] = [
     (SERIAL, b"", 3, b"refused 1 domain\n"),
     (
         SERIAL,
@@ -65,6 +65,18 @@ static REFUSALS: [Outcome<'static>; 12] = [
         b"domain 0 nodes 1 pool 1\n0.0 msg_send 1 0:0:1 4 6\n",
         3,
         b"refused 2 number\n",
+    ),
+    (
+        SERIAL,
+        b"domain 0 nodes 1 pool 1\n0.0 raw 1 0004000001040000000000000a0000004d010101000000006869\n",
+        3,
+        b"refused 2 sound\n",
+    ),
+    (
+        SERIAL,
+        b"domain 0 nodes 1 pool 1\n0.0 raw 1 -\n",
+        3,
+        b"refused 2 bytes\n",
     ),
     (
         SERIAL,

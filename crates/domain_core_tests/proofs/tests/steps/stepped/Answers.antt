@@ -20,6 +20,9 @@ returns-in-Cancel g c = ends-go g.S.SendEnd.Moved g.R.RecvEnd.Moved g.met.S.Send
 pub returns-in-Turn : goal.returns-in-Turn
 returns-in-Turn g c = ends-go g.S.SendEnd.Moved g.R.RecvEnd.Moved g.met.S.SendEnd.both g.met.R.RecvEnd.both _ _ _ _ _ _ _ _ c.turn.ensures.call
 
+pub returns-in-PutRaw : goal.returns-in-PutRaw
+returns-in-PutRaw g c = ends-go g.S.SendEnd.Moved g.R.RecvEnd.Moved g.met.S.SendEnd.both g.met.R.RecvEnd.both _ _ _ _ _ _ _ _ c.raw_put-answer.ensures.call
+
 pub returns-in-Connect : goal.returns-in-Connect
 returns-in-Connect g c = ends-go g.S.SendEnd.Moved g.R.RecvEnd.Moved g.met.S.SendEnd.both g.met.R.RecvEnd.both _ _ _ _ _ _ _ _ c.connect-answer.ensures.call
 
