@@ -4,6 +4,8 @@
 #[cfg(test)]
 mod deeds;
 #[cfg(test)]
+mod feeding;
+#[cfg(test)]
 mod journals;
 #[cfg(test)]
 mod ring_pair;

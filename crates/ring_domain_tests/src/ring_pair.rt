@@ -137,7 +137,7 @@ fn link_to<'a>(links: Vec<RingLink<'a>>, peer: u8) -> Option<RingLink<'a>>
 }
 
 /// A domain of one node and a pool of two buffers, with this link.
-fn linked<'a>(alloc: Global, number: u8, link: RingLink<'a>) -> Result<RingDomain<'a>, Fail>
+pub fn linked<'a>(alloc: Global, number: u8, link: RingLink<'a>) -> Result<RingDomain<'a>, Fail>
     requires number { number ≤ 7 }
     requires peers { AreLinksOf number (link ∷ []) }
     requires open { IsOpenLink sending.size_of_any sending.free_of_any receiving.size_of_any receiving.shown_of_any receiving.out_of_any link }
