@@ -52,8 +52,11 @@ fn run<R: Threads + Sync>(rt: &R, alloc: Global, text: &[u8]) -> Result<Outcome,
 fn answers(outcome: &Outcome, at: usize) -> Option<u32> {
     let journal = journal_at(outcome, at)?;
     let mut lines = 0;
-    while lines < 100 && matches!(answer_of(journal, lines + 1), Some(Answer::Ok)) {
-        lines += 1;
+    for line in 1..100 {
+        if !matches!(answer_of(journal, line), Some(Answer::Ok)) {
+            break;
+        }
+        lines = line;
     }
     Some(lines)
 }

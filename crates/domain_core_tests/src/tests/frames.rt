@@ -470,12 +470,16 @@ static WITHOUT_A_CHANNEL: [Row; 16] = [
     (Sent(1024, 10, 0, 1, b""), Fate::State),
 ];
 
+fn assert_none_held(rt: &impl Abort, noted: &mut Noted) -> Result<(), Fail> {
+    assert!(rt; noted.domain.places(1) == Some(Places { queue: 0, lent: 0 }));
+    Ok(())
+}
+
 #[test]
 fn letters_to_an_endpoint_without_a_channel(rt: HostRuntime) -> Result<(), Fail> {
     assert_of(Noted::open(rt.alloc(), &WITHOUT_A_CHANNEL), |noted| {
         assert_dealt(&rt, noted, &WITHOUT_A_CHANNEL)?;
-        assert!(rt; noted.domain.places(1) == Some(Places { queue: 0, lent: 0 }));
-        Ok(())
+        assert_none_held(&rt, noted)
     })
 }
 
