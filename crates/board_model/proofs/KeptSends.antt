@@ -124,7 +124,7 @@ module _ (test : Message → Bool) (made_in : ℕ) (known : ℕ → ℕ → Type
 
     -- a raw frame says no message
     raw_sent : (d to : ℕ) (bytes : List ℕ) → is_none (fault bytes) ≡ false → total (λ n. passing test d n (frames_to n ((to, bytes) ∷ []))) ns ≡ 0
-    raw_sent d to bytes unsound = total-zero (λ n. passing test d n (frames_to n ((to, bytes) ∷ []))) (λ n. passing-append test d n (frames_if (to == n) (bytes ∷ [])) [] ∙ omega (arith, one_frame test (to == n) d n bytes ∙ here n (to == n))) ns
+    raw_sent d to bytes unsound = total-zero (λ n. passing test d n (frames_to n ((to, bytes) ∷ []))) (λ n. ap (passing test d n) (append-nil (frames_if (to == n) (bytes ∷ []))) ∙ (one_frame test (to == n) d n bytes ∙ here n (to == n))) ns
       where
         here : (n : ℕ) (b : Bool) → cond b (passing test d n (bytes ∷ [])) 0 ≡ 0
         here n true = said_alone test d n bytes ∙ ap (λ r. count_by test (said_by d n r)) (raw_faulty bytes unsound).1

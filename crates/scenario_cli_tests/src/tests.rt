@@ -7,6 +7,7 @@ use std::thread::Threads;
 
 mod channels;
 mod eight_linked;
+mod failing;
 mod frame;
 mod images;
 mod linked;
