@@ -250,7 +250,6 @@ holds s node call TooLate = is_complete (request_named s call)
 holds s node call Timeout = lacks_complete s call
 holds s node call LinkInvalid = lacks_lane s call
 holds s node call RawSound = is_sound_raw call
-holds s node call other = false
 
 -- the words of a call, in their order
 abbrev pub words_of : DomainCall → List Refusal
