@@ -200,7 +200,7 @@ has_fit callee.Test arguments h = tt
 has_fit callee.Wait arguments h = h.1.0
 has_fit callee.WaitAny arguments h = (h.0.some, h.0.few, h.1.0)
 has_fit callee.Cancel arguments h = tt
-has_fit callee.Raw arguments h = (h.0, h.1.0)
+has_fit callee.Raw arguments h = (h.0, h.1.0.0, h.1.0.1, h.1.0.2)
 has_fit callee.Turn arguments h = tt
 
 pub call-fits : (c : Callee) (words : List (List ℕ)) → arguments_fit (form c).arguments words ≡ true → list_all is_number (arguments_numerals (form c).arguments 0 words) ≡ true → list_all are_bytes (arguments_contents (form c).arguments words) ≡ true → HasFitArguments (call_made c words)
