@@ -10,6 +10,7 @@
 
 mod form;
 pub mod journal_laws;
+mod label_group;
 pub mod laws;
 mod numeral;
 mod reason;
@@ -18,6 +19,7 @@ mod seq;
 mod totals;
 
 pub use form::{ArgumentKind, Callee};
+pub use label_group::LabelGroup;
 pub use numeral::{decode_pairs, hex_digit, is_dash, length_before, number_to};
 pub use reason::LineReason;
 pub use scenario::{Call, CallLine, DomainLine, Label, LinkLine, Scenario};

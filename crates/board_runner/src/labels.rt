@@ -8,7 +8,7 @@ ghost use Rattle.board_runner.specs.LendingLabels.{label_told, lending_label_by}
 ghost use Rattle.board_runner.specs.Waits.{ids_named};
 
 use arrayvec::ArrayVec;
-use board_model::{Call, CallLine, Label};
+use board_model::{Call, CallLine, Label, LabelGroup};
 use domain_core::Answer;
 use mc_base::{NoMemory, PacketId, RequestId};
 use std::collections::BTreeMap;
@@ -87,7 +87,7 @@ pub fn lending_label_of<'a>(line: &'a CallLine, answer: Answer<'_>) -> Option<&'
 }
 
 /// The label at a place of a list, counted from 1.
-fn label_at(labels: &ArrayVec<Label, 8>, place: Option<u8>) -> Option<&Label>
+fn label_at(labels: &LabelGroup, place: Option<u8>) -> Option<&Label>
     ensures { option_map (λ l. l.now.items) result ≡ label_told (map (λ l. l.items) labels.now.items) place }
 {
     let place = usize::from(place?).checked_sub(1)?;

@@ -6,12 +6,12 @@ ghost use Rattle.board_model.specs.declared.form.ArgumentKind.TheVariants as kin
 ghost use Rattle.scenario_lang.specs.Reading.{Answers, Reads, seen, next_word, name_at, value_in, argument_in, call_in};
 
 use crate::fault::LineFault;
-use crate::groups::{LabelGroup, label_group};
+use crate::groups::label_group;
 use crate::kinds::{bits_from, greatest, kind_of};
 use crate::lines::name_parts;
 use crate::numerals::{bytes, label, number};
-use board_model::{Call, Callee, Label, LineReason, Seq, number_to};
-use mc_base::{Bits, EndName, Kind, LONGEST_FRAME, MAX_ASKED, Priority};
+use board_model::{Call, Callee, Label, LabelGroup, LineReason, Seq, number_to};
+use mc_base::{Bits, EndName, Kind, LONGEST_FRAME, MAX_ASKED, NoMemory, Priority};
 use std::alloc::Global;
 
 /// Words of arguments that are not read yet. Each method reads the next one.
@@ -126,11 +126,11 @@ impl<'w, 'a> Arguments<'w, 'a> {
 
     /// Reads LABEL,LABEL: those of requests.
     #[tactic(auto, unfolding(crate::specs::Reading::argument_in))]
-    pub fn request_labels(&mut self) -> Result<LabelGroup, LineReason>
-        ensures { Reads (λ x. (x, seen self.new.rest.now)) result (argument_in kind.RequestLabels 0 (seen self.old.rest.now)) }
+    pub fn request_labels(&mut self, alloc: Global) -> Result<LabelGroup, LineFault>
+        ensures { Answers (λ x. (x, seen self.new.rest.now)) result (argument_in kind.RequestLabels 0 (seen self.old.rest.now)) }
     {
         let word = self.word()?;
-        labels(word)
+        labels(alloc, word)
     }
 
     /// Reads the LABEL of a packet.
@@ -214,12 +214,15 @@ fn bits(word: &[u8]) -> Result<Bits, LineReason>
 }
 
 /// Reads LABEL,LABEL.
-fn labels(word: &[u8]) -> Result<LabelGroup, LineReason>
-    ensures { Reads (λ labels. labels) result (value_in kind.RequestLabels 0 word.now) }
+fn labels(alloc: Global, word: &[u8]) -> Result<LabelGroup, LineFault>
+    ensures { Answers (λ labels. labels) result (value_in kind.RequestLabels 0 word.now) }
 {
-    match label_group(word) {
-        Some(labels) => Ok(labels),
-        None => Err(LineReason::Form),
+    let Some(labels) = label_group(word) else {
+        return Err(LineFault::Refused(LineReason::Form));
+    };
+    match LabelGroup::new(alloc, labels) {
+        Ok(group) => Ok(group),
+        Err(NoMemory) => Err(LineFault::NoMemory),
     }
 }
 
@@ -305,7 +308,7 @@ pub fn call(alloc: Global, callee: Callee, words: &[&[u8]]) -> Result<Call, Line
             limit: arguments.limit()?,
         }),
         Callee::WaitAny => Ok(Call::WaitAny {
-            labels: arguments.request_labels()?,
+            labels: arguments.request_labels(alloc)?,
             limit: arguments.limit()?,
         }),
         Callee::Cancel => Ok(Call::Cancel {

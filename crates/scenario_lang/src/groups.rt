@@ -11,14 +11,11 @@ use board_model::Label;
 /// The most labels of one wait.
 const GROUP_LIMIT: usize = 8;
 
-/// The labels of one wait.
-pub(crate) type LabelGroup = ArrayVec<Label, GROUP_LIMIT>;
-
 /// Reads one to eight labels with commas between them.
-pub fn label_group(word: &[u8]) -> Option<LabelGroup>
+pub fn label_group(word: &[u8]) -> Option<ArrayVec<Label, GROUP_LIMIT>>
     ensures { result ≡ labels_of word.now }
 {
-    let mut labels = LabelGroup::new();
+    let mut labels = ArrayVec::new();
     let mut rest = word;
     for _ in 0..GROUP_LIMIT {
         let Some((first, after)) = cut(b',', rest) else {
