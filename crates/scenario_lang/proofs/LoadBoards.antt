@@ -19,9 +19,10 @@ use Rattle.board_model.specs.Language.{nothing_told, IsLawfulBoard}
 use Rattle.board_model.specs.LoadBoard.{ring_numbers, ring_domain, ring_link, tried, once, labelled_tried, packet_label, packet_bytes, for_each, opening, exchange, exchanges, closing, load_calls, ring_board, load_board, load_limit}
 use Rattle.board_model.proofs.WordDecimals.{number-decimal}
 use Rattle.scenario_lang.proofs.Options.{cases_bool}
+use Rattle.scenario_lang.proofs.PlainLemmas.{decimal-few}
 use Rattle.scenario_lang.proofs.CanonicalLines.{domain-read, link-read}
 use Rattle.scenario_lang.proofs.ReadBack.{IsReadBack, call-more, told-back}
-use Rattle.scenario_lang.proofs.LoadLines.{CanTell, create-can, open_recv-can, open_send-can, send-can, close_send-can, close_recv-can, lookup-can, connect-can, receive-can, wait-can, release-can, packet_label-is, packet_label-few, packet_bytes-fit}
+use Rattle.scenario_lang.proofs.LoadLines.{CanTell, line-few, create-can, open_recv-can, open_send-can, send-can, close_send-can, close_recv-can, lookup-can, connect-can, receive-can, wait-can, release-can, packet_label-is, packet_label-few, packet_bytes-fit}
 
 -- ---- lines one after the other
 
@@ -365,6 +366,26 @@ calls_few n few =
 three_few : (ds ls cs : List ℕ) (most : ℕ) → length ds ≤ 1000 → length ls ≤ 1000 → length cs ≤ most → length (ds ++ (ls ++ cs)) ≤ most + 2000
 three_few ds ls cs most first second third = omega (arith, length-append ds (ls ++ cs), length-append ls cs, first, second, third)
 
+four_few : {A : Type 0} (text : A → List ℕ) (a b c d : A) → length (text a) ≤ 200 → length (text b) ≤ 200 → length (text c) ≤ 200 → length (text d) ≤ 200 → length (flat_map text (a ∷ b ∷ c ∷ d ∷ [])) ≤ 1000
+four_few text a b c d first second third fourth =
+    omega (arith, length-append (text a) (text b ++ (text c ++ (text d ++ []))), length-append (text b) (text c ++ (text d ++ [])), length-append (text c) (text d ++ []), length-append (text d) [], first, second, third, fourth)
+
+domain_few : (d : ℕ) → d ≤ 3 → length (domain_text (ring_domain d)) ≤ 200
+domain_few d small =
+    line-few (codes "domain" ∷ decimal d ∷ codes "nodes" ∷ decimal 1 ∷ codes "pool" ∷ decimal 2 ∷ [])
+    (omega (arith, decimal-few d (omega (arith, small)), decimal-few 1 (omega arith), decimal-few 2 (omega arith)))
+
+link_few : (a b : ℕ) → a ≤ 3 → b ≤ 3 → length (link_text (record { driver = a; device = b; size = 16 })) ≤ 200
+link_few a b first second =
+    line-few (codes "link" ∷ decimal a ∷ decimal b ∷ codes "size" ∷ decimal 16 ∷ [])
+    (omega (arith, decimal-few a (omega (arith, first)), decimal-few b (omega (arith, second)), decimal-few 16 (omega arith)))
+
+domains_few : length (flat_map domain_text (map ring_domain ring_numbers)) ≤ 1000
+domains_few = four_few domain_text (ring_domain 0) (ring_domain 1) (ring_domain 2) (ring_domain 3) (domain_few 0 (omega arith)) (domain_few 1 (omega arith)) (domain_few 2 (omega arith)) (domain_few 3 (omega arith))
+
+links_few : length (flat_map link_text (map ring_link ring_numbers)) ≤ 1000
+links_few = four_few link_text (ring_link 0) (ring_link 1) (ring_link 2) (ring_link 3) (link_few 0 1 (omega arith) (omega arith)) (link_few 1 2 (omega arith) (omega arith)) (link_few 2 3 (omega arith) (omega arith)) (link_few 3 0 (omega arith) (omega arith))
+
 below : (l most : ℕ) → l ≤ most → most < 2 ^ 32 - 2 → l < 2 ^ 32 - 2
 below l most le lt = omega (arith, le, lt)
 
@@ -374,7 +395,7 @@ text_few n few =
     let ls : List ℕ = flat_map link_text (map ring_link ring_numbers) in
     let cs : List ℕ = flat_map call_text (load_calls n) in
     let most : ℕ = 6400 + (2400 * n + 1600) in
-    below (length (canonical (ring_board (load_calls n)))) (most + 2000) (three_few ds ls cs most (omega arith) (omega arith) (calls_few n few)) (omega (arith, few))
+    below (length (canonical (ring_board (load_calls n)))) (most + 2000) (three_few ds ls cs most domains_few links_few (calls_few n few)) (omega (arith, few))
 
 pub load-lawful : (n : ℕ) → n ≤ load_limit → IsLawfulBoard (load_board n)
 unfolding load_board

@@ -1,6 +1,6 @@
 -- The lines of a load board, each as a line that may be told after those above it: it fits the form of its call, the label that it tells
 -- is new, and the label that it names is told above it.
-use Rattle.std.proofs.Common.{◌≡◌, ℕ, zero, suc, ◌+◌, ◌*◌, ◌≤◌, ◌<◌, ◌^◌, Bool, true, false, not, ◌&&◌, ◌||◌, List, [], ◌∷◌, length, Some, refl, ap, arith, length-append, inl, inr}
+use Rattle.std.proofs.Common.{◌≡◌, ℕ, zero, suc, ◌≤◌, ◌<◌, ◌^◌, Bool, true, false, not, ◌&&◌, ◌||◌, List, [], ◌∷◌, length, Some, refl, ap, arith, length-append, inl, inr}
 use Rattle.std.specs.Prelude.{codes, decimal, nat_le, option_map}
 use Rattle.std.specs.List.{list_all, AllByRecursion}
 use Rattle.std.proofs.lemmas.Bool.{and_parts, and_from, le-leb}
@@ -11,10 +11,10 @@ use Rattle.board_model.specs.declared.scenario.CallLine.{CallLine}
 use Rattle.board_model.specs.declared.form.Callee.{Callee}
 use Rattle.board_model.specs.declared.form.Callee.TheVariants as callee
 use Rattle.board_model.specs.Scenario.{label_in}
-use Rattle.board_model.specs.Grammar.{spaced, argument_texts, form_words, call_words, caller_text, call_text, IsLawfulName}
+use Rattle.board_model.specs.Grammar.{spaced, line_of, argument_texts, form_words, call_words, caller_text, call_text, IsLawfulName}
 use Rattle.board_model.specs.FileWords.{is_digit, is_letter_byte, is_label_byte, is_label}
 use Rattle.board_model.specs.Forms.{Values, form, label_of, told_fits, tries_fit, arguments_labels, gives_request, gives_packet}
-use Rattle.board_model.specs.LineReasons.{is_domain, is_told, is_told_of, tells_wrong_label, names_wrong_label}
+use Rattle.board_model.specs.LineReasons.{is_domain, is_told, is_told_of, tells_wrong_label, names_wrong_label, puts_sound}
 use Rattle.board_model.specs.LoadBoard.{far_end, once, tried, labelled, labelled_tried, waited, packet_label, packet_bytes, ring_board}
 use Rattle.board_model.proofs.LawfulForms.{AreFit, call_with}
 use Rattle.board_model.proofs.LawfulRanges.{TriesFit}
@@ -42,8 +42,8 @@ ring_told above (suc (suc zero)) small = refl
 ring_told above (suc (suc (suc zero))) small = refl
 ring_told above (suc (suc (suc (suc d)))) small = absurd (omega (arith, small))
 
-text_few : (k : CallLine) → room (line_words k) ≤ 199 → length (call_text k) ≤ 200
-text_few k few = omega (arith, length-append (spaced (line_words k)) (10 ∷ []), length-spaced (line_words k), few)
+pub line-few : (words : List (List ℕ)) → room words ≤ 199 → length (line_of words) ≤ 200
+line-few words few = omega (arith, length-append (spaced words) (10 ∷ []), length-spaced words, few)
 
 caller_few : (k : CallLine) → k.domain ≤ 3 → k.node ≤ 15 → length (caller_text k) ≤ 21
 caller_few k small node = (caller_plain k (omega (arith, small)) node).few
@@ -55,14 +55,14 @@ limit_few : length (decimal try_limit) ≤ 10
 limit_few = decimal-few try_limit (omega arith)
 
 -- a line of one of the domains, with arguments that fit its form and no label out of place
-line-can : (above : List CallLine) (k : CallLine) (c : Callee) (arguments : Values (form c).arguments) → k.domain ≤ 3 → k.node ≤ 15 → call_words k.call ≡ form_words c arguments → call_with c arguments ≡ k.call → TriesFit k.tries
+line-can : (above : List CallLine) (k : CallLine) (c : Callee) (arguments : Values (form c).arguments) → k.domain ≤ 3 → k.node ≤ 15 → call_words k.call ≡ form_words c arguments → call_with c arguments ≡ k.call → puts_sound k.call ≡ false → TriesFit k.tries
     → tries_fit (form c).tried (option_map decimal k.tries) ≡ true
     → AreFit (form c).arguments 0 arguments
     → told_fits (form c).labelled (label_in k) ≡ true
     → (tells_wrong_label (ring_board above) (form c).labelled k.domain (label_in k) || names_wrong_label (ring_board above) k.domain (arguments_labels (form c).arguments (argument_texts (form c).arguments arguments))) ≡ false
     → room (line_words k) ≤ 199
     → CanTell above k
-line-can above k c arguments small node says makes tries tried_right fit label_fits label_right few = record {
+line-can above k c arguments small node says makes faulty tries tried_right fit label_fits label_right few = record {
   callee = c;
   arguments = arguments;
   fits = record {
@@ -76,8 +76,9 @@ line-can above k c arguments small node says makes tries tried_right fit label_f
     arguments_fit = fit;
     label_fits = label_fits;
     label_right = label_right;
+    frame_faulty = faulty;
   };
-  few = text_few k few;
+  few = line-few (line_words k) few;
 }
 
 tries_most : TriesFit (Some try_limit)
@@ -88,33 +89,33 @@ tries_most = (omega arith, omega arith)
 pub create-can : (above : List CallLine) (d port : ℕ) → d ≤ 3 → port < 2 ^ 16 → CanTell above (once d (Create port))
 create-can above d port small fits =
     let k : CallLine = once d (Create port) in
-    line-can above k callee.Create (port, tt) small (omega arith) refl refl tt refl (fits, tt) refl refl (omega (arith, caller_few k small (omega arith), decimal-few port (omega (arith, fits))))
+    line-can above k callee.Create (port, tt) small (omega arith) refl refl refl tt refl (fits, tt) refl refl (omega (arith, caller_few k small (omega arith), decimal-few port (omega (arith, fits))))
 
 pub open_recv-can : (above : List CallLine) (d : ℕ) → d ≤ 3 → CanTell above (tried d (OpenRecv 2 Packet))
 open_recv-can above d small =
     let k : CallLine = tried d (OpenRecv 2 Packet) in
-    line-can above k callee.OpenRecv (2, (Packet, tt)) small (omega arith) refl refl tries_most refl (omega arith, (tt, tt)) refl refl (omega (arith, caller_few k small (omega arith), limit_few, decimal-few 2 (omega arith)))
+    line-can above k callee.OpenRecv (2, (Packet, tt)) small (omega arith) refl refl refl tries_most refl (omega arith, (tt, tt)) refl refl (omega (arith, caller_few k small (omega arith), limit_few, decimal-few 2 (omega arith)))
 
 pub open_send-can : (above : List CallLine) (d : ℕ) → d ≤ 3 → CanTell above (tried d (OpenSend 1 Packet))
 open_send-can above d small =
     let k : CallLine = tried d (OpenSend 1 Packet) in
-    line-can above k callee.OpenSend (1, (Packet, tt)) small (omega arith) refl refl tries_most refl (omega arith, (tt, tt)) refl refl (omega (arith, caller_few k small (omega arith), limit_few, decimal-few 1 (omega arith)))
+    line-can above k callee.OpenSend (1, (Packet, tt)) small (omega arith) refl refl refl tries_most refl (omega arith, (tt, tt)) refl refl (omega (arith, caller_few k small (omega arith), limit_few, decimal-few 1 (omega arith)))
 
 pub send-can : (above : List CallLine) (d : ℕ) (bytes : List ℕ) → d ≤ 3 → length bytes ≤ 4 → AllByRecursion (λ b. b < 256) bytes → CanTell above (tried d (PktSend 1 bytes))
 send-can above d bytes small short fit =
     let k : CallLine = tried d (PktSend 1 bytes) in
-    line-can above k callee.PktSend (1, (bytes, tt)) small (omega arith) refl refl tries_most refl (omega arith, ((omega (arith, short), fit), tt)) refl refl
+    line-can above k callee.PktSend (1, (bytes, tt)) small (omega arith) refl refl refl tries_most refl (omega arith, ((omega (arith, short), fit), tt)) refl refl
     (omega (arith, caller_few k small (omega arith), limit_few, decimal-few 1 (omega arith), hex-short bytes, short))
 
 pub close_send-can : (above : List CallLine) (d : ℕ) → d ≤ 3 → CanTell above (tried d (CloseSend 1))
 close_send-can above d small =
     let k : CallLine = tried d (CloseSend 1) in
-    line-can above k callee.CloseSend (1, tt) small (omega arith) refl refl tries_most refl (omega arith, tt) refl refl (omega (arith, caller_few k small (omega arith), limit_few, decimal-few 1 (omega arith)))
+    line-can above k callee.CloseSend (1, tt) small (omega arith) refl refl refl tries_most refl (omega arith, tt) refl refl (omega (arith, caller_few k small (omega arith), limit_few, decimal-few 1 (omega arith)))
 
 pub close_recv-can : (above : List CallLine) (d : ℕ) → d ≤ 3 → CanTell above (tried d (CloseRecv 2))
 close_recv-can above d small =
     let k : CallLine = tried d (CloseRecv 2) in
-    line-can above k callee.CloseRecv (2, tt) small (omega arith) refl refl tries_most refl (omega arith, tt) refl refl (omega (arith, caller_few k small (omega arith), limit_few, decimal-few 2 (omega arith)))
+    line-can above k callee.CloseRecv (2, tt) small (omega arith) refl refl refl tries_most refl (omega arith, tt) refl refl (omega (arith, caller_few k small (omega arith), limit_few, decimal-few 2 (omega arith)))
 
 -- ---- lines that tell a label, which is new
 
@@ -122,19 +123,19 @@ pub lookup-can : (above : List CallLine) (d : ℕ) → d ≤ 3 → is_told (ring
 lookup-can above d small fresh =
     let k : CallLine = labelled d (codes "a") (Lookup (far_end d)) in
     let far = far_lawful d small in
-    line-can above k callee.Lookup (far_end d, tt) small (omega arith) refl refl tt refl (far, tt) refl (ap (λ (b : Bool). b || false) fresh) (omega (arith, caller_few k small (omega arith), (name-plain (far_end d) far).few))
+    line-can above k callee.Lookup (far_end d, tt) small (omega arith) refl refl refl tt refl (far, tt) refl (ap (λ (b : Bool). b || false) fresh) (omega (arith, caller_few k small (omega arith), (name-plain (far_end d) far).few))
 
 pub connect-can : (above : List CallLine) (d : ℕ) → d ≤ 3 → is_told (ring_board above) d (codes "c") ≡ false → CanTell above (labelled_tried d (codes "c") (Connect 1 (far_end d) Packet))
 connect-can above d small fresh =
     let k : CallLine = labelled_tried d (codes "c") (Connect 1 (far_end d) Packet) in
     let far = far_lawful d small in
-    line-can above k callee.Connect (1, (far_end d, (Packet, tt))) small (omega arith) refl refl tries_most refl (omega arith, (far, (tt, tt))) refl (ap (λ (b : Bool). b || false) fresh)
+    line-can above k callee.Connect (1, (far_end d, (Packet, tt))) small (omega arith) refl refl refl tries_most refl (omega arith, (far, (tt, tt))) refl (ap (λ (b : Bool). b || false) fresh)
     (omega (arith, caller_few k small (omega arith), limit_few, decimal-few 1 (omega arith), (name-plain (far_end d) far).few))
 
 pub receive-can : (above : List CallLine) (d : ℕ) (label : List ℕ) → d ≤ 3 → is_label label ≡ true → length label ≤ 16 → is_told (ring_board above) d label ≡ false → CanTell above (labelled_tried d label (PktRecv 2))
 receive-can above d label small is short fresh =
     let k : CallLine = labelled_tried d label (PktRecv 2) in
-    line-can above k callee.PktRecv (2, tt) small (omega arith) refl refl tries_most refl (omega arith, tt) is (ap (λ (b : Bool). b || false) fresh)
+    line-can above k callee.PktRecv (2, tt) small (omega arith) refl refl refl tries_most refl (omega arith, tt) is (ap (λ (b : Bool). b || false) fresh)
     (omega (arith, caller_few k small (omega arith), limit_few, decimal-few 2 (omega arith), short))
 
 -- ---- lines that name a label, which is told above
@@ -142,13 +143,13 @@ receive-can above d label small is short fresh =
 pub wait-can : (above : List CallLine) (d : ℕ) (label : List ℕ) → d ≤ 3 → is_label label ≡ true → length label ≤ 16 → is_told_of gives_request (ring_board above) d label ≡ true → CanTell above (waited d label)
 wait-can above d label small is short told =
     let k : CallLine = waited d label in
-    line-can above k callee.Wait (label_of label, (try_limit, tt)) small (omega arith) refl refl tt refl (is, (omega arith, tt)) refl (ap (λ (b : Bool). not b || false) told)
+    line-can above k callee.Wait (label_of label, (try_limit, tt)) small (omega arith) refl refl refl tt refl (is, (omega arith, tt)) refl (ap (λ (b : Bool). not b || false) told)
     (omega (arith, caller_few k small (omega arith), limit_few, short))
 
 pub release-can : (above : List CallLine) (d : ℕ) (label : List ℕ) → d ≤ 3 → is_label label ≡ true → length label ≤ 16 → is_told_of gives_packet (ring_board above) d label ≡ true → CanTell above (once d (Release (label_of label)))
 release-can above d label small is short told =
     let k : CallLine = once d (Release (label_of label)) in
-    line-can above k callee.Release (label_of label, tt) small (omega arith) refl refl tt refl (is, tt) refl (ap (λ (b : Bool). not b || false) told) (omega (arith, caller_few k small (omega arith), short))
+    line-can above k callee.Release (label_of label, tt) small (omega arith) refl refl refl tt refl (is, tt) refl (ap (λ (b : Bool). not b || false) told) (omega (arith, caller_few k small (omega arith), short))
 
 -- ---- labels and bytes of packets
 
