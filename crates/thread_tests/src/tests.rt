@@ -11,7 +11,7 @@ use std::alloc::{AllocError, Global};
 use std::test::Fail;
 use std::thread::Threads;
 
-fn read(alloc: Global, text: &[u8]) -> Option<Scenario>
+pub fn read(alloc: Global, text: &[u8]) -> Option<Scenario>
     ensures told { IfSome result (λ s. told_by text.now ≡ Ok s) }
     ensures short { IfSome result (λ _. length text.now < 1_000_000) }
 {
