@@ -7,4 +7,4 @@ use Rattle.board_runner.proofs.labels.label_at.Goals as goal
 pub returns : goal.returns
 returns c =
     let i = c.in_ok-place-2.place in
-    label-found c.args.labels.now.items c.args.place c.in_ok-place.field-0 i c.get.result (search rules) (grind arith) (subst (λ (xs : List (ArrayVec ℕ)). IsItemAt xs i c.get.result) c.as_slice.ensures.value c.get.ensures.lookup)
+    label-found c.args.labels.now.items c.args.place c.in_ok-place.field-0 i c.get.result (search rules) (grind arith) (subst (λ (xs : List (ArrayVec ℕ)). IsItemAt xs i c.get.result) c.as_slice.ensures.labels c.get.ensures.lookup)
