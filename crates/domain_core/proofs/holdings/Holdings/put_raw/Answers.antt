@@ -1,4 +1,4 @@
-use Rattle.std.proofs.Common.{◌≡◌, ◌<◌, ◌∙◌, ℕ, Bool, true, false, List, ◌∷◌, [], ap, sym, refl, subst, map, None, Some, Option, rules}
+use Rattle.std.proofs.Common.{◌≡◌, ◌<◌, ◌∙◌, ℕ, true, false, List, [], ap, sym, refl, subst, map, None, Some, Option, rules}
 use Rattle.std.specs.Prelude.{is_none, is_some}
 use Rattle.mc_base.specs.Fault.{fault}
 use Rattle.mc_base.specs.declared.refusal.Refusal.{Refusal}
