@@ -1,5 +1,5 @@
 -- What was read, where the source tells its bytes.
-use Rattle.std.proofs.Common.{◌≡◌, ℕ, ◌≤◌, List, ◌++◌, [], length, Option, Some, None, sym, ap, ◌∙◌, append-nil, subst, arith}
+use Rattle.std.proofs.Common.{◌≡◌, ℕ, ◌≤◌, List, ◌++◌, [], length, Option, Some, None, sym, ap, ◌∙◌, append-nil, subst}
 use Rattle.std.specs.Prelude.{IfSome, IsSome}
 use Rattle.std.specs.Io.KnownBytes.{Consumes, IsAtEnd}
 use Rattle.board_model.specs.declared.scenario.Scenario.{Scenario}

@@ -91,7 +91,7 @@ fn put_load<K: Sink>(out: &mut Writer<'_, K>, packets: u32, outcome: &Outcome)
     ensures { Puts K.Sink out.old out.new (load_report packets) }
 {
     out.put(b"load ");
-    out.put_number(u64::from(packets));
+    out.put_number(packets as u64);
     out.put(b"\n");
     put_summary(out, outcome);
     out.put(b"end\n");

@@ -1,4 +1,4 @@
-use Rattle.std.proofs.Common.{List, ℕ, ◌+◌, drop, get_or, subst, sym, refl}
+use Rattle.std.proofs.Common.{List, ℕ, ◌+◌, drop, get_or, subst, sym}
 use Rattle.std.proofs.lemmas.List.{drop_more}
 use Rattle.scenario_cli.proofs.HexLemmas.{Reading, begins, after_digit, after_blank}
 use Rattle.scenario_cli.proofs.hex.read_hex.Goals.{in-Some+in_ok-high-in-Some, in-None}

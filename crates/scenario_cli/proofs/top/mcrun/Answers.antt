@@ -268,9 +268,3 @@ returns-in-Err-TooLong-clause-load g c = λ packets is. absurd (form_no_load c.i
 
 pub returns-in-Err-TooLong-clause-load_reads_nothing : goal.returns-in-Err-TooLong-clause-load_reads_nothing
 returns-in-Err-TooLong-clause-load_reads_nothing g c = λ packets is. absurd (form_no_load c.in-Some.form packets _ c.in-Some.ensures.form is)
-
-pub returns-in-Err-NoMemory-clause-load : goal.returns-in-Err-NoMemory-clause-load
-returns-in-Err-NoMemory-clause-load g c = λ packets is. absurd (form_no_load c.in-Some.form packets _ c.in-Some.ensures.form is)
-
-pub returns-in-Err-NoMemory-clause-load_reads_nothing : goal.returns-in-Err-NoMemory-clause-load_reads_nothing
-returns-in-Err-NoMemory-clause-load_reads_nothing g c = λ packets is. absurd (form_no_load c.in-Some.form packets _ c.in-Some.ensures.form is)
