@@ -1,5 +1,7 @@
 //! The form `load N`: what it writes, and that a run of the same board tells the same.
 
+ghost use Rattle.std.specs.Prelude.{◌≤◌};
+
 use super::{EMPTY, Given, NEVER, SERIAL, USAGE, comes_out, outcome_of};
 use scenario_lang::{load_scenario, write_scenario};
 use std::alloc::Global;
@@ -49,6 +51,15 @@ lane 3 3 free 2 ring 0 queue 0 lent 0
 end
 ";
 
+/// What becomes of the packets of a load board that is run on threads. It has 100, since domains that wait for each other poll, and a
+/// test has a minute on a machine with other work.
+const ON_THREADS: &[u8] = b"channel 0 1 accepted 100 taken 100 dropped 0 queued 0 ring 0
+channel 1 1 accepted 100 taken 100 dropped 0 queued 0 ring 0
+channel 2 1 accepted 100 taken 100 dropped 0 queued 0 ring 0
+channel 3 1 accepted 100 taken 100 dropped 0 queued 0 ring 0
+messages accepted 0 taken 0 dropped 0 queued 0 ring 0
+";
+
 /// What `load 2000` writes before and after.
 const HEADING: &[u8] = b"load 2000\n";
 
@@ -83,9 +94,12 @@ fn two_thousand_packets_on_each_channel(rt: HostRuntime) -> Result<(), Fail> {
     Ok(())
 }
 
-/// The text of the load board of 2,000 packets, or nothing where an allocation fails.
-fn load_text(alloc: Global) -> Option<Vec<u8>> {
-    let Ok(scenario) = load_scenario(alloc, 2000) else {
+/// The text of a load board, or nothing where an allocation fails.
+fn load_text(alloc: Global, packets: u32) -> Option<Vec<u8>>
+    requires some { 1 ≤ packets }
+    requires few { packets ≤ 100000 }
+{
+    let Ok(scenario) = load_scenario(alloc, packets) else {
         return None;
     };
     write_scenario(alloc, &scenario).ok()
@@ -93,7 +107,7 @@ fn load_text(alloc: Global) -> Option<Vec<u8>> {
 
 #[test]
 fn the_report_of_its_serial_run_has_the_same_totals(rt: HostRuntime) -> Result<(), Fail> {
-    let text = load_text(rt.alloc()).ok_or("memory")?;
+    let text = load_text(rt.alloc(), 2000).ok_or("memory")?;
     let given = Given {
         words: SERIAL,
         text: &text,
@@ -109,11 +123,11 @@ fn the_report_of_its_serial_run_has_the_same_totals(rt: HostRuntime) -> Result<(
 /// On threads each journal may be another, but the totals are the same.
 #[test]
 fn a_run_on_threads_has_the_same_totals(rt: HostRuntime) -> Result<(), Fail> {
-    let text = load_text(rt.alloc()).ok_or("memory")?;
+    let text = load_text(rt.alloc(), 100).ok_or("memory")?;
     let given = Given {
         words: THREADS,
         text: &text,
-        room: 40_000_000,
+        room: 4_000_000,
         ..EMPTY
     };
     let (status, output) = outcome_of(&rt, rt.alloc(), given)?;
@@ -121,8 +135,8 @@ fn a_run_on_threads_has_the_same_totals(rt: HostRuntime) -> Result<(), Fail> {
     assert!(rt;
         output
             .written()
-            .windows(SUMMARY.len())
-            .any(|part| part == SUMMARY)
+            .windows(ON_THREADS.len())
+            .any(|part| part == ON_THREADS)
     );
     Ok(())
 }
