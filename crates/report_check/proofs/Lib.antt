@@ -1,0 +1,9 @@
+pub mod EntryLines
+pub mod JournalSteps
+pub mod OutlinesRead
+pub mod RanksFound
+pub mod Reached
+pub mod RefusedLines
+pub mod TextCuts
+pub mod TextFronts
+pub mod TextTold

@@ -1,0 +1,17 @@
+pub mod TextLines
+pub mod Outlines
+pub mod TurnOrder
+pub mod JournalOrder
+pub mod JournalExamples
+pub mod ScenarioPart
+pub mod ReportLines
+pub mod TextPass
+pub mod Ranks
+pub mod Texts
+pub mod TextRead
+pub mod JournalRead
+pub mod StepPass
+pub mod LinkPass
+pub mod TotalPass
+pub mod Verdicts
+pub mod VerdictExamples
