@@ -1,0 +1,9 @@
+//! Tests of `report_check` by its public calls, in a crate of their own so that it is proved once.
+#![tactic(auto)]
+
+#[cfg(test)]
+mod changes;
+#[cfg(test)]
+mod reports;
+#[cfg(test)]
+mod tests;
