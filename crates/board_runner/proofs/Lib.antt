@@ -40,6 +40,7 @@ pub mod CountLemmas
 pub mod FinishLemmas
 pub mod LaneLemmas
 pub mod ReportLemmas
+pub mod RingLemmas
 pub mod SumLemmas
 pub mod TallyLemmas
 pub mod ToldDomains

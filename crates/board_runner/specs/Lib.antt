@@ -21,6 +21,7 @@ pub mod OwnBoard
 pub mod Stations
 pub mod Tallied
 pub mod ThreadRun
+pub mod RingLines
 pub mod Told
 pub mod Items
 pub mod ItemCounts

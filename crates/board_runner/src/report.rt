@@ -7,21 +7,26 @@ ghost use Rattle.outer_io.specs.Writes.{Writes};
 ghost use Rattle.outer_io.specs.Puts.{Puts};
 ghost use Rattle.board_model.specs.Scenario.{rising};
 ghost use Rattle.board_model.specs.Grammar.{line_of};
-ghost use Rattle.board_model.specs.Report.{report_of, heading, journals_text, lines_text, totals_words, channel_text, messages_text, summary_text, places_text};
+ghost use Rattle.board_model.specs.Report.{heading, journals_text, lines_text, totals_words, channel_text, messages_text, summary_text, places_text};
 ghost use Rattle.board_runner.specs.Mode.{mode_of};
 ghost use Rattle.board_runner.specs.Outcome.{lines_in};
+ghost use Rattle.board_runner.specs.RingLines.{AreOfLinks, HasRingsFor, image_of_ring, outcome_report, ring_lines, ring_lines_in, ring_text};
 ghost use Rattle.board_runner.specs.Told.{IsToldByText};
 
 use crate::Outcome;
 use crate::board::rising_numbers;
-use board_model::{ChannelTotals, LanePlaces, Scenario, Totals};
+use board_model::{ChannelTotals, LanePlaces, LinkLine, Scenario, Totals};
 use mc_journal::{Journal, put_entries};
 use outer_io::{Failed, Sink, Writer};
+use ring_trace::put_image;
 use scenario_lang::put_scenario;
+use split_ring::Closed;
 
-/// Writes the report: a heading that says whether the domains ran on threads, the scenario, the journal of each domain, and what
-/// became of the items of channels, of messages and of buffers. It goes to the sink piece by piece and takes no memory. Some text
-/// tells the scenario, of whatever length, and the outcome has one journal for each of its domains, in rising number.
+/// Writes the report: a heading that says whether the domains ran on threads, the scenario, the journal of each domain, what
+/// became of the items of channels, of messages and of buffers, and, of a run on threads, the images of the rings. It goes to the
+/// sink piece by piece and takes no memory. Some text tells the scenario, of whatever length, and the outcome has one journal for
+/// each of its domains, in rising number. That of a run on threads has two rings for each link in order, queue 0 and then queue 1.
+/// The report of a serial run has no images, whichever rings are there.
 ///
 /// # Errors
 ///
@@ -34,9 +39,10 @@ pub fn write_report<K: Sink>(
 ) -> Result<(), Failed>
     requires told { IsToldByText scenario.now }
     requires one_each { length outcome.now.journals ≡ length scenario.now.domains }
-    ensures bytes { Writes (K.written sink.old) (K.written sink.new) result (report_of (mode_of threads) scenario.now (lines_in outcome.now.journals) outcome.now.channels outcome.now.messages outcome.now.places []) }
+    requires rings { HasRingsFor (mode_of threads) scenario.now.links outcome.now.rings }
+    ensures bytes { Writes (K.written sink.old) (K.written sink.new) result (outcome_report (mode_of threads) scenario.now outcome.now) }
     ensures cause { HasCause (K.faults sink.old) (K.faults sink.new) result }
-    ensures room { (n : ℕ) → K.takes sink.old n → length (report_of (mode_of threads) scenario.now (lines_in outcome.now.journals) outcome.now.channels outcome.now.messages outcome.now.places []) ≤ n → IsOk result }
+    ensures room { (n : ℕ) → K.takes sink.old n → length (outcome_report (mode_of threads) scenario.now outcome.now) ≤ n → IsOk result }
 {
     let mut out = Writer::new(sink);
     put_report(&mut out, scenario, outcome, threads);
@@ -51,13 +57,15 @@ fn put_report<K: Sink>(
 )
     requires told { IsToldByText scenario.now }
     requires one_each { length outcome.now.journals ≡ length scenario.now.domains }
-    ensures { Puts K.Sink out.old out.new (report_of (mode_of threads) scenario.now (lines_in outcome.now.journals) outcome.now.channels outcome.now.messages outcome.now.places []) }
+    requires rings { HasRingsFor (mode_of threads) scenario.now.links outcome.now.rings }
+    ensures { Puts K.Sink out.old out.new (outcome_report (mode_of threads) scenario.now outcome.now) }
 {
     out.put(heading_of(threads));
     put_scenario(out, scenario);
     put_journals(out, scenario, outcome.journals.as_slice());
     put_summary(out, outcome);
     put_lanes(out, outcome.places.as_slice());
+    put_images(out, scenario, outcome, threads);
     out.put(b"end\n");
 }
 
@@ -168,5 +176,46 @@ fn put_lane<K: Sink>(out: &mut Writer<'_, K>, lane: &LanePlaces)
     out.put_number(lane.queue as u64);
     out.put(b" lent ");
     out.put_number(lane.lent as u64);
+    out.put(b"\n");
+}
+
+/// The images of the rings, where the domains ran on threads.
+fn put_images<K: Sink>(
+    out: &mut Writer<'_, K>,
+    scenario: &Scenario,
+    outcome: &Outcome,
+    threads: bool,
+)
+    requires { HasRingsFor (mode_of threads) scenario.now.links outcome.now.rings }
+    ensures { Puts K.Sink out.old out.new (flat_map (λ line. line) (ring_lines_in (mode_of threads) scenario.now.links outcome.now.rings)) }
+{
+    if threads {
+        put_rings(out, scenario.links.as_slice(), outcome.rings.as_slice())
+    }
+}
+
+/// The images of the rings of each link, queue 0 and then queue 1.
+fn put_rings<K: Sink>(out: &mut Writer<'_, K>, links: &[LinkLine], rings: &[Closed])
+    requires { AreOfLinks links.now rings.now }
+    ensures { Puts K.Sink out.old out.new (flat_map (λ line. line) (ring_lines links.now rings.now)) }
+{
+    for at in 0..rings.len() / 2 {
+        put_ring(out, &links[at], 0, &rings[2 * at]);
+        put_ring(out, &links[at], 1, &rings[2 * at + 1]);
+    }
+}
+
+/// The image of a ring, behind its link and its queue.
+fn put_ring<K: Sink>(out: &mut Writer<'_, K>, link: &LinkLine, queue: u8, ring: &Closed)
+    ensures { Puts K.Sink out.old out.new (ring_text link.now queue (image_of_ring ring.now)) }
+{
+    out.put(b"ring ");
+    out.put_number(link.driver as u64);
+    out.put(b" ");
+    out.put_number(link.device as u64);
+    out.put(b" ");
+    out.put_number(queue as u64);
+    out.put(b" ");
+    put_image(out, ring);
     out.put(b"\n");
 }
