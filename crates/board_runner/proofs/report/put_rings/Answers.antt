@@ -1,9 +1,8 @@
-use Rattle.std.proofs.Common.{◌≡◌, ◌+◌, ◌*◌, ◌<◌, length, take, get_or, ap, arith, refl, ℕ, subst, ◌∙◌}
-use Rattle.std.proofs.Math.Seq.{take-length}
+use Rattle.std.proofs.Common.{◌≡◌, ◌+◌, ◌*◌, ◌<◌, length, get_or, arith, refl, subst}
 use Rattle.outer_io.proofs.Writing.{puts_nothing, puts_then}
 use Rattle.outer_io.specs.Puts.{Puts}
 use Rattle.board_model.specs.declared.scenario.LinkLine.{LinkLine}
-use Rattle.board_runner.proofs.RingLemmas.{rings_before, rings-all, rings-each, rings-more}
+use Rattle.board_runner.proofs.RingLemmas.{rings-all, rings-each, rings-more}
 use Rattle.board_runner.proofs.report.put_rings.Goals as goal
 
 pub loop-at-init : goal.loop-at-init
