@@ -1,11 +1,11 @@
 -- What the run of a board leaves is written as a report, in either mode.
-use Rattle.std.proofs.Common.{◌≡◌, ℕ, List, [], Result, Ok, Err, length, ap, arith, refl}
+use Rattle.std.proofs.Common.{◌≡◌, ℕ, List, Result, Ok, Err, length, ap, arith, refl}
 use Rattle.std.specs.Prelude.{IfOk}
 use Rattle.mc_base.specs.declared.refusal.NoMemory.{NoMemory}
 use Rattle.std.proofs.lemmas.List.{length-map}
 use Rattle.board_model.specs.declared.scenario.Scenario.{Scenario}
 use Rattle.board_model.specs.SerialRun.{serial_run}
-use Rattle.board_model.specs.Report.{Mode, serial, threads, report, report_of, lines_of}
+use Rattle.board_model.specs.Report.{Mode, serial, threads, lines_of}
 use Rattle.board_model.specs.Board.{DomainJournal, IsBoardRun, AreWhole}
 use Rattle.board_model.specs.Language.{IsLawfulBoard}
 use Rattle.board_model.proofs.BoardsNeighbours.{rising-length}
@@ -14,8 +14,10 @@ use Rattle.board_model.proofs.LawfulBoards.{lawful_is_linked}
 use Rattle.board_model.proofs.LawfulRuns.{lawful_run}
 use Rattle.mc_journal.specs.Written.{Written}
 use Rattle.board_runner.specs.declared.outcome.Outcome.{Outcome}
-use Rattle.board_runner.specs.Outcome.{IsOutcome, lines_in}
+use Rattle.board_runner.specs.Outcome.{IsOutcome}
+use Rattle.board_runner.specs.RingLines.{HasRingsFor, outcome_report}
 use Rattle.board_runner.specs.ThreadRun.{IsThreadRun}
+use Rattle.board_runner.proofs.RingLemmas.{told-of-links}
 use Rattle.scenario_cli.specs.Due.{IsSound, IsScenario, IsReport}
 use Rattle.scenario_cli.specs.Left.{IsLeft, IsReportOf}
 
@@ -26,10 +28,10 @@ sound_of s js lawful run whole = record { board_run = run; whole = whole; headli
 left_serial : (s : Scenario) (o : Outcome) → IsLawfulBoard s → IsOutcome s o (serial_run s) → IsLeft serial s o
 left_serial s o lawful is =
     let run = lawful_run s lawful in
-    record { journals = serial_run s; left = refl; sound = sound_of s (serial_run s) lawful run.0 run.1; told = record { journals = is.journals; rings = refl; places = is.places; channels = is.channels; messages = is.messages } }
+    record { journals = serial_run s; left = refl; sound = sound_of s (serial_run s) lawful run.0 run.1; told = record { journals = is.journals; rings = refl; places = is.places; channels = is.channels; messages = is.messages }; rings_left = is.rings }
 
 left_threads : (s : Scenario) (o : Outcome) → IsLawfulBoard s → IsThreadRun s o → IsLeft threads s o
-left_threads s o lawful is = record { journals = is.journals; left = tt; sound = sound_of s is.journals lawful is.run is.whole; told = is.tells }
+left_threads s o lawful is = record { journals = is.journals; left = tt; sound = sound_of s is.journals lawful is.run is.whole; told = is.tells; rings_left = is.rings }
 
 -- so it is with what a run answers
 pub if_left_serial : (s : Scenario) (r : Result Outcome NoMemory) → IsLawfulBoard s → IfOk r (λ o. IsOutcome s o (serial_run s)) → IfOk r (IsLeft serial s)
@@ -41,9 +43,13 @@ if_left_threads s (Ok o) lawful is = left_threads s o lawful is
 if_left_threads s (Err e) lawful is = tt
 
 -- its report is what is written of the outcome
-pub report_left : (mode : Mode) (s : Scenario) (o : Outcome) → IsLeft mode s o → IsReportOf mode s (report_of mode s (lines_in o.journals) o.channels o.messages o.places [])
-unfolding report
-report_left mode s o is = record { journals = is.journals; left = is.left; sound = is.sound; written = rw (is.told.journals, is.told.channels, is.told.messages, is.told.places) (cc) }
+pub left-reported : (mode : Mode) (s : Scenario) (o : Outcome) → IsLeft mode s o → IsReportOf mode s (outcome_report mode s o)
+left-reported mode s o is = record { journals = is.journals; left = is.left; sound = is.sound; rings = o.rings; rings_left = is.rings_left; written = rw (is.told.journals, is.told.channels, is.told.messages, is.told.places) (cc) }
+
+-- the rings that it shows are there
+pub left-rings : (mode : Mode) (s : Scenario) (o : Outcome) → IsLeft mode s o → HasRingsFor mode s.links o.rings
+left-rings serial s o is = tt
+left-rings threads s o is = told-of-links s is.journals s.links o.rings is.rings_left
 
 -- it has a journal for each domain
 pub journals-each : (mode : Mode) (s : Scenario) (o : Outcome) → IsLeft mode s o → length o.journals ≡ length s.domains
@@ -57,4 +63,4 @@ journals-each mode s o is =
 
 -- of the scenario that a text tells
 pub reported_of : (mode : Mode) (text output : List ℕ) (s : Scenario) → IsScenario text s → IsReportOf mode s output → IsReport mode text output
-reported_of mode text output s read is = record { scenario = s; read = read; journals = is.journals; left = is.left; sound = is.sound; written = is.written }
+reported_of mode text output s read is = record { scenario = s; read = read; journals = is.journals; left = is.left; sound = is.sound; rings = is.rings; rings_left = is.rings_left; written = is.written }

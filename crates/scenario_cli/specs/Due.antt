@@ -1,15 +1,18 @@
 -- What a status says of the input and the output.
 -- Source: README.md, "Forms and statuses". `rest` is what a source has to come, and `old` and `new` are what a sink holds
 -- before and after, each where it is told.
-use Rattle.std.specs.Prelude.{◌≡◌, ℕ, ◌<◌, ◌≤◌, List, length, Option, None, Some, IfSome, IsSome, Ok, Err}
+use Rattle.std.specs.Prelude.{◌≡◌, ℕ, ◌<◌, ◌≤◌, List, [], length, Option, None, Some, IfSome, IsSome, Ok, Err}
 use Rattle.std.specs.Io.KnownBytes.{Appends}
 use Rattle.board_model.specs.declared.scenario.Scenario.{Scenario}
 use Rattle.board_model.specs.Language.{RefusedLine, told_by}
 use Rattle.board_model.specs.Board.{DomainJournal, IsBoardRun, AreWhole}
 use Rattle.board_model.specs.SerialRun.{serial_run}
-use Rattle.board_model.specs.Report.{Mode, serial, threads, report}
+use Rattle.board_model.specs.Report.{Mode, serial, threads}
 use Rattle.board_model.specs.Headline.{Headline}
+use Rattle.board_runner.specs.RingLines.{report_left}
+use Rattle.board_runner.specs.ThreadRun.{TellLanes}
 use Rattle.outer_io.specs.Writes.{AppendsPart}
+use Rattle.split_ring.specs.Finished.{FinishedRing}
 use Rattle.ring_trace.specs.declared.checking.ImageInfo.{ImageInfo}
 use Rattle.ring_trace.specs.declared.checking.ImageFault.{ImageFault}
 use Rattle.scenario_cli.specs.declared.form.Form.{Form}
@@ -38,14 +41,22 @@ abbrev pub MayLeave : Mode → Scenario → List DomainJournal → Type 0
 MayLeave serial s js = js ≡ serial_run s
 MayLeave threads s js = Unit {0}
 
--- the output is the report of a run in this mode of the scenario that the text tells, and its journals are sound
+-- and these rings with them: on one thread none is finished, and those of threads tell the lanes of the journals
+abbrev pub MayLeaveRings : Mode → Scenario → List DomainJournal → List FinishedRing → Type 0
+MayLeaveRings serial s js rings = rings ≡ []
+MayLeaveRings threads s js rings = TellLanes s js s.links rings
+
+-- the output is the report of a run in this mode of the scenario that the text tells, its journals are sound, and its ring lines are the
+-- images of the rings
 pub record IsReport (mode : Mode) (text output : List ℕ) : Type 0 where
   pub scenario : Scenario
   pub read : IsScenario text scenario
   pub journals : List DomainJournal
   pub left : MayLeave mode scenario journals
   pub sound : IsSound scenario journals
-  pub written : output ≡ report mode scenario journals
+  pub rings : List FinishedRing
+  pub rings_left : MayLeaveRings mode scenario journals rings
+  pub written : output ≡ report_left mode scenario journals rings
 
 -- the output that is due for a text of a run: the report of its scenario, or the refusal
 pub data IsRunDue (mode : Mode) (text output : List ℕ) : Type 0 where

@@ -3,21 +3,26 @@
 use Rattle.std.specs.Prelude.{◌≡◌, ℕ, List, []}
 use Rattle.board_model.specs.declared.scenario.Scenario.{Scenario}
 use Rattle.board_model.specs.Board.{DomainJournal}
-use Rattle.board_model.specs.Report.{Mode, report}
+use Rattle.board_model.specs.Report.{Mode}
 use Rattle.board_runner.specs.declared.outcome.Outcome.{Outcome}
 use Rattle.board_runner.specs.Outcome.{IsOutcome}
-use Rattle.scenario_cli.specs.Due.{IsSound, MayLeave}
+use Rattle.board_runner.specs.RingLines.{report_left}
+use Rattle.split_ring.specs.Finished.{FinishedRing}
+use Rattle.scenario_cli.specs.Due.{IsSound, MayLeave, MayLeaveRings}
 
--- sound journals, and their numbers. Nothing is said of rings
+-- sound journals, their numbers, and their rings
 pub record IsLeft (mode : Mode) (s : Scenario) (o : Outcome) : Type 0 where
   pub journals : List DomainJournal
   pub left : MayLeave mode s journals
   pub sound : IsSound s journals
   pub told : IsOutcome s (record o { rings = [] }) journals
+  pub rings_left : MayLeaveRings mode s journals o.rings
 
--- the output is the report of sound journals that a run in this mode may leave
+-- the output is the report of sound journals, and of rings, that a run in this mode may leave
 pub record IsReportOf (mode : Mode) (s : Scenario) (output : List ℕ) : Type 0 where
   pub journals : List DomainJournal
   pub left : MayLeave mode s journals
   pub sound : IsSound s journals
-  pub written : output ≡ report mode s journals
+  pub rings : List FinishedRing
+  pub rings_left : MayLeaveRings mode s journals rings
+  pub written : output ≡ report_left mode s journals rings
