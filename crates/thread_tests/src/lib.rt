@@ -6,6 +6,8 @@ mod gates;
 #[cfg(test)]
 mod raw;
 #[cfg(test)]
+mod rings;
+#[cfg(test)]
 mod tests;
 #[cfg(test)]
 mod waits;

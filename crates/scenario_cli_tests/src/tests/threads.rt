@@ -163,8 +163,14 @@ link 0 1 size 4
 
 const LINKED_MESSAGES: &[u8] = b"messages accepted 2 taken 2 dropped 0 queued 0 ring 0\n";
 
-/// How long four lines of lanes with numbers of one digit are, with the last line of the report.
-const LINKED_END: usize = 4 * b"lane 0 0 free 2 ring 0 queue 0 lent 0\n".len() + b"end\n".len();
+/// How long a line of a lane with numbers of one digit is.
+const LANE: usize = b"lane 0 0 free 2 ring 0 queue 0 lent 0\n".len();
+
+/// How long the line of a ring of size 4 is, whose image has 118 bytes.
+const RING: usize = b"ring 0 1 0 \n".len() + 2 * 118;
+
+/// How long four lines of lanes and two lines of rings are, with the last line of the report.
+const LINKED_END: usize = 4 * LANE + 2 * RING + b"end\n".len();
 
 #[test]
 fn two_linked_domains_on_threads(rt: HostRuntime) -> Result<(), Fail> {
@@ -180,6 +186,81 @@ fn two_linked_domains_on_threads(rt: HostRuntime) -> Result<(), Fail> {
         let above = written.len().saturating_sub(LINKED_END);
         let messages = written.get(..above).ok_or("length")?;
         assert!(rt; messages.ends_with(LINKED_MESSAGES));
+    }
+    Ok(())
+}
+
+/// Two linked domains, each of which makes one turn that finds nothing to do.
+const TURNS: &[u8] = b"domain 0 nodes 1 pool 2
+domain 1 nodes 1 pool 2
+link 0 1 size 4
+0.0 turn
+1.0 turn
+";
+
+/// In queue 0 the driver has offered its four buffers, and in queue 1 nothing was done.
+const TURNS_REPORT: &[u8] = b"mcapi-report 1 threads
+domain 0 nodes 1 pool 2
+domain 1 nodes 1 pool 2
+link 0 1 size 4
+0.0 turn
+1.0 turn
+journal 0
+idle 1
+call 1 ok
+journal 1
+idle 1
+call 1 ok
+messages accepted 0 taken 0 dropped 0 queued 0 ring 0
+lane 0 0 free 2 ring 0 queue 0 lent 0
+lane 0 1 free 4 ring 0 queue 0 lent 0
+lane 1 0 free 4 ring 0 queue 0 lent 0
+lane 1 1 free 2 ring 0 queue 0 lent 0
+ring 0 1 0 00000000000000000002000002000000000200000000000000020000020000000004000000000000000200000200000000060000000000000002000002000000000004000000010002000300000000000000000000000000000000000000000000000000000000000000000000000000000000000000
+ring 0 1 1 00080000000000000000000000000000000a0000000000000000000000000000000c0000000000000000000000000000000e0000000000000000000000000000000000000000000000000000000000000000000000000000000000000000000000000000000000000000000000000000000000000000
+end
+";
+
+/// Two links without a line, the first from the greater number. Their rings stand in the order of the links.
+const TWO_LINKS: &[u8] = b"domain 0 nodes 1 pool 2
+domain 1 nodes 1 pool 1
+domain 2 nodes 1 pool 1
+link 2 1 size 2
+link 0 1 size 4
+";
+
+const TWO_LINKS_REPORT: &[u8] = b"mcapi-report 1 threads
+domain 0 nodes 1 pool 2
+domain 1 nodes 1 pool 1
+domain 2 nodes 1 pool 1
+link 2 1 size 2
+link 0 1 size 4
+journal 0
+journal 1
+journal 2
+messages accepted 0 taken 0 dropped 0 queued 0 ring 0
+lane 0 0 free 2 ring 0 queue 0 lent 0
+lane 0 1 free 4 ring 0 queue 0 lent 0
+lane 1 0 free 4 ring 0 queue 0 lent 0
+lane 1 1 free 1 ring 0 queue 0 lent 0
+lane 1 2 free 2 ring 0 queue 0 lent 0
+lane 2 1 free 2 ring 0 queue 0 lent 0
+lane 2 2 free 1 ring 0 queue 0 lent 0
+ring 2 1 0 000000000000000000020000020000000002000000000000000200000200000000000200000001000000000000000000000000000000000000000000000000000000
+ring 2 1 1 000400000000000000000000000000000006000000000000000000000000000000000000000000000000000000000000000000000000000000000000000000000000
+ring 0 1 0 00000000000000000002000002000000000200000000000000020000020000000004000000000000000200000200000000060000000000000002000002000000000004000000010002000300000000000000000000000000000000000000000000000000000000000000000000000000000000000000
+ring 0 1 1 00080000000000000000000000000000000a0000000000000000000000000000000c0000000000000000000000000000000e0000000000000000000000000000000000000000000000000000000000000000000000000000000000000000000000000000000000000000000000000000000000000000
+end
+";
+
+#[test]
+fn the_rings_of_each_link_on_threads(rt: HostRuntime) -> Result<(), Fail> {
+    for (text, report) in &[(TURNS, TURNS_REPORT), (TWO_LINKS, TWO_LINKS_REPORT)] {
+        let given = Given {
+            text: *text,
+            ..ON_THREADS
+        };
+        assert!(rt; comes_out(&rt, rt.alloc(), given, 0, *report)?);
     }
     Ok(())
 }
