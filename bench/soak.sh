@@ -1,5 +1,6 @@
 #!/bin/sh
-# Runs boards on threads for a long time, and stops at the first report whose totals are wrong:
+# Runs boards on threads for a long time, and stops at the first report whose totals are wrong, or in whose last one a ring line is missing
+# or its image has a fault:
 #   as many messages over one link as an input of `run` holds, again and again until MESSAGES have gone over;
 #   a host that sends 300 messages to each of two remotes and receives as many from each, RUNS times;
 #   two domains whose journals outgrow their memory: out of memory on a thread is status 6, and nothing is written.
@@ -43,20 +44,33 @@ def run_whole(given, messages):
     totals = f"\nmessages accepted {messages} taken {messages} dropped 0 queued 0 ring 0\n"
     if status or totals.encode() not in report:
         sys.exit(f"status {status}, and not {messages} messages taken")
+    return report
 
-def soak(name, given, messages, runs):
+# of each link both queues, whose images are read by the form `ring`
+def check_rings(report, links):
+    rings = [line.split() for line in report.decode().splitlines() if line.startswith("ring ")]
+    if [words[1:4] for words in rings] != [[str(a), str(b), q] for a, b in links for q in "01"]:
+        sys.exit("ring lines of other links")
+    for words in rings:
+        done = subprocess.run([PROGRAM, "ring"], input=bytes.fromhex(words[4]), stdout=subprocess.PIPE)
+        if done.returncode or not done.stdout.startswith(f"right 256 {words[3]} ".encode()):
+            sys.exit(f"the image of {' '.join(words[:4])} is {done.stdout.decode()}")
+
+def soak(name, links, given, messages, runs):
     start = time.perf_counter()
     for _ in range(runs):
-        run_whole(given, messages)
+        report = run_whole(given, messages)
+    check_rings(report, links)
     print(f"{name}: {messages * runs} messages in {runs} runs, {time.perf_counter() - start:.0f} s", flush=True)
 
-head = board(2, [(0, 1)])
+one_link, two_links = [(0, 1)], [(0, 1), (0, 2)]
+head = board(2, one_link)
 pair = [send(0, 1), receive(1)]
 count = (LIMIT - len(text(head))) // len(text(pair))
-soak("one link", text(head + pair * count), count, -(-MESSAGES // count))
+soak("one link", one_link, text(head + pair * count), count, -(-MESSAGES // count))
 
 rounds = [send(0, 1), send(0, 2), receive(0), receive(0), send(1, 0), receive(1), send(2, 0), receive(2)]
-soak("a host and two remotes", text(board(3, [(0, 1), (0, 2)]) + rounds * 300), 1200, RUNS)
+soak("a host and two remotes", two_links, text(board(3, two_links) + rounds * 300), 1200, RUNS)
 
 alone = [line for d in range(2) for line in [f"domain {d} nodes 1 pool 2"]] + [f"{d}.0 create 1" for d in range(2)]
 alone += [line for d in range(2) for line in [f"{d}.0 msg_send 1 {d}:0:1 0 " + "ab" * 488, f"{d}.0 msg_recv 1 0"]] * 1000
