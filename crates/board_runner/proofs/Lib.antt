@@ -67,6 +67,7 @@ pub mod ItemQueues
 pub mod ItemBoard
 pub mod PacketPlaces
 pub mod PacketLemmas
+pub mod EachLemmas
 pub mod ItemCountLemmas
 pub mod FittingLemmas
 pub mod EndedLemmas

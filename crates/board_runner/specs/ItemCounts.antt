@@ -1,18 +1,19 @@
--- What a runner counts of the items of the channels of one domain, by the journals of all stations; and the stations that a board's run leaves.
+-- What a runner counts of the items of the channels of each domain, by the journals of all stations; and the stations that a board's run leaves.
 -- Source: docs/FORMATS.md, "Report".
-use Rattle.std.specs.Prelude.{◌≡◌, ℕ, ◌+◌, ◌<◌, ◌^◌, ◌++◌, Bool, false, ◌==◌, List, [], ◌∷◌, length, map, count_by, sum_by, slice_index, slice_get, Option, Some, if◌then◌else◌}
+use Rattle.std.specs.Prelude.{◌≡◌, ℕ, ◌+◌, ◌<◌, ◌^◌, ◌++◌, Bool, false, ◌==◌, List, [], ◌∷◌, length, map, count_by, sum_by, slice_index, slice_get, Option, None, Some, ◌&&◌, get_or, if◌then◌else◌}
 use Rattle.board_model.specs.declared.totals.ChannelTotals.{ChannelTotals}
 use Rattle.board_model.specs.declared.totals.Totals.{Totals}
 use Rattle.board_model.specs.declared.scenario.Scenario.{Scenario}
-use Rattle.board_model.specs.Channels.{is_numbered}
 use Rattle.board_model.specs.Journal.{Line, joined}
 use Rattle.board_model.specs.SerialRun.{Station, journal_left}
 use Rattle.board_model.specs.Totals.{channel_totals, item_totals, totals_of_owner}
 use Rattle.domain_core.specs.Hearing.{queued_on}
 use Rattle.board_runner.specs.declared.station.Station as code
 use Rattle.board_runner.specs.declared.items.ItemCounts.{ItemCounts}
+use Rattle.board_runner.specs.declared.items.ItemsTold.{ItemsTold}
+use Rattle.board_runner.specs.declared.items.ChannelKey.{ChannelKey}
 use Rattle.board_runner.specs.Counts.{one_if}
-use Rattle.board_runner.specs.Items.{is_item_put, is_item_taken, is_item_lost, told_in, closed_after}
+use Rattle.board_runner.specs.Items.{is_item_put, is_item_taken, is_item_lost, is_close_put, told_in, closed_after}
 use Rattle.board_runner.specs.Tallied.{RanBoard}
 
 -- ---- what one station tells of a channel
@@ -66,16 +67,50 @@ pub record ItemsFit (owner : ℕ) (sts : List code.Station) : Type 0 where
   pub dropped : (n : ℕ) → sum_by (dropped_at owner n) sts < 2 ^ 64
   pub queued : (n : ℕ) → sum_by (queued_at owner n) sts < 2 ^ 64
 
--- one more line is counted, which follows one that closes a channel or none
-pub record CountsLine (owner : ℕ) (own : Bool) (closing : Option ℕ) (l : Line) (old new : ItemCounts) : Type 0 where
+-- ---- what a line tells of a channel
+
+abbrev pub is_channel : ℕ → ℕ → ChannelKey → Bool
+is_channel owner number c = c.owner == owner && c.number == number
+
+-- whether this channel is the one that the line before closes
+abbrev pub is_closing : ℕ → ℕ → Option ChannelKey → Bool
+is_closing owner number None = false
+is_closing owner number (Some c) = is_channel owner number c
+
+-- so many are told of this channel
+abbrev pub told_of : (ItemsTold → ℕ) → ℕ → ℕ → Option ItemsTold → ℕ
+told_of many owner number None = 0
+told_of many owner number (Some t) = if is_channel owner number t.channel then many t else 0
+
+-- what a line of the journal of this domain tells, which follows one that closes a channel or none
+pub record TellsItems (own : ℕ) (closing : Option ChannelKey) (l : Line) (t : Option ItemsTold) : Type 0 where
+  pub sent : (owner n : ℕ) → told_of (λ x. x.sent) owner n t ≡ (if own == owner then one_if (is_item_put n l) else 0)
+  pub brought : (owner n : ℕ) → told_of (λ x. x.brought) owner n t ≡ one_if (is_item_taken owner n l)
+  pub dropped : (owner n : ℕ) → told_of (λ x. x.dropped) owner n t ≡ one_if (is_item_lost owner n l) + (if is_closing owner n closing then told_in l else 0)
+
+abbrev pub ClosesBy : Line → Option ChannelKey → Type 0
+ClosesBy l c = (owner n : ℕ) → is_closing owner n c ≡ is_close_put owner n l
+
+-- that much is added
+pub record AddsTold (t : Option ItemsTold) (old new : ItemCounts) : Type 0 where
+  pub owner : new.owner ≡ old.owner
+  pub places : HaveSamePlaces old new
+  pub sent : (n : ℕ) → n < length old.sent.items → slice_index old.sent.items n + told_of (λ x. x.sent) old.owner n t < 2 ^ 64 → slice_index new.sent.items n ≡ slice_index old.sent.items n + told_of (λ x. x.sent) old.owner n t
+  pub brought : (n : ℕ) → n < length old.brought.items → slice_index old.brought.items n + told_of (λ x. x.brought) old.owner n t < 2 ^ 64 → slice_index new.brought.items n ≡ slice_index old.brought.items n + told_of (λ x. x.brought) old.owner n t
+  pub dropped : (n : ℕ) → n < length old.dropped.items → slice_index old.dropped.items n + told_of (λ x. x.dropped) old.owner n t < 2 ^ 64 → slice_index new.dropped.items n ≡ slice_index old.dropped.items n + told_of (λ x. x.dropped) old.owner n t
+
+-- ---- the counts of one domain, line by line and station by station
+
+-- one more line is counted
+pub record CountsLine (owner : ℕ) (own : Bool) (closing : Option ChannelKey) (l : Line) (old new : ItemCounts) : Type 0 where
   pub sent : (n : ℕ) → n < length old.sent.items → slice_index new.sent.items n ≡ slice_index old.sent.items n + (if own then one_if (is_item_put n l) else 0)
   pub brought : (n : ℕ) → n < length old.brought.items → slice_index new.brought.items n ≡ slice_index old.brought.items n + one_if (is_item_taken owner n l)
-  pub dropped : (n : ℕ) → n < length old.dropped.items → slice_index new.dropped.items n ≡ slice_index old.dropped.items n + one_if (is_item_lost owner n l) + (if is_numbered n closing then told_in l else 0)
+  pub dropped : (n : ℕ) → n < length old.dropped.items → slice_index new.dropped.items n ≡ slice_index old.dropped.items n + one_if (is_item_lost owner n l) + (if is_closing owner n closing then told_in l else 0)
 
-pub record HasRoomFor (owner : ℕ) (own : Bool) (closing : Option ℕ) (l : Line) (c : ItemCounts) : Type 0 where
+pub record HasRoomFor (owner : ℕ) (own : Bool) (closing : Option ChannelKey) (l : Line) (c : ItemCounts) : Type 0 where
   pub sent : (n : ℕ) → n < length c.sent.items → slice_index c.sent.items n + (if own then one_if (is_item_put n l) else 0) < 2 ^ 64
   pub brought : (n : ℕ) → n < length c.brought.items → slice_index c.brought.items n + one_if (is_item_taken owner n l) < 2 ^ 64
-  pub dropped : (n : ℕ) → n < length c.dropped.items → slice_index c.dropped.items n + one_if (is_item_lost owner n l) + (if is_numbered n closing then told_in l else 0) < 2 ^ 64
+  pub dropped : (n : ℕ) → n < length c.dropped.items → slice_index c.dropped.items n + one_if (is_item_lost owner n l) + (if is_closing owner n closing then told_in l else 0) < 2 ^ 64
 
 -- a station's lines are counted
 pub record CountsStation (owner : ℕ) (st : code.Station) (old new : ItemCounts) : Type 0 where
@@ -87,6 +122,31 @@ pub record HasRoomForStation (owner : ℕ) (st : code.Station) (c : ItemCounts) 
   pub sent : (n : ℕ) → n < length c.sent.items → slice_index c.sent.items n + sent_at owner n st < 2 ^ 64
   pub brought : (n : ℕ) → n < length c.brought.items → slice_index c.brought.items n + brought_at owner n st < 2 ^ 64
   pub dropped : (n : ℕ) → n < length c.dropped.items → slice_index c.dropped.items n + dropped_at owner n st < 2 ^ 64
+
+-- ---- the counts of all domains
+
+-- each of one list goes so with the one at its place in another
+pub record EachWith {A B : Type 0} (R : A → B → Type 0) (xs : List A) (ys : List B) : Type 0 where
+  pub many : length ys ≡ length xs
+  pub each : (k : ℕ) (x : A) (y : B) → k < length xs → R (get_or xs k x) (get_or ys k y)
+
+-- nothing is counted yet, with a place for each channel that the domain numbered and one before them
+pub record HasNoItems (st : code.Station) (c : ItemCounts) : Type 0 where
+  pub owner : c.owner ≡ st.domain_number
+  pub places : HavePlaces (st.domain.state.channels_given + 1) c
+  pub none : TellItems (λ n. 0) (λ n. 0) (λ n. 0) c
+
+-- the journal of a station is counted
+pub record CountsJournal (st : code.Station) (old new : ItemCounts) : Type 0 where
+  pub owner : new.owner ≡ old.owner
+  pub places : HaveSamePlaces old new
+  pub counted : HasRoomForStation old.owner st old → CountsStation old.owner st old new
+
+-- what the journals of some stations tell of the channels of one, where those of all tell small numbers
+pub record IsCountedBy (all some : List code.Station) (st : code.Station) (c : ItemCounts) : Type 0 where
+  pub owner : c.owner ≡ st.domain_number
+  pub places : HavePlaces (st.domain.state.channels_given + 1) c
+  pub counted : ItemsFit st.domain_number all → AreItemCounts st.domain_number some c
 
 -- ---- the stations of a board that ran
 

@@ -51,6 +51,17 @@ abbrev pub is_close_put : ℕ → ℕ → Line → Bool
 is_close_put owner number (put_line peer frame) = peer == owner && closes_channel number frame
 is_close_put owner number other = false
 
+-- the same of the frame of a line, which has one where a frame is put or taken
+abbrev pub item_carried : Line → Option ℕ
+item_carried (put_line peer frame) = item_said (reading frame)
+item_carried (take_line peer frame fate) = item_said (reading frame)
+item_carried other = None
+
+abbrev pub close_carried : Line → Option ℕ
+close_carried (put_line peer frame) = close_said (reading frame)
+close_carried (take_line peer frame fate) = close_said (reading frame)
+close_carried other = None
+
 -- the number that the answer of a call tells
 abbrev pub told_in : Line → ℕ
 told_in (call_line k a) = number_told a

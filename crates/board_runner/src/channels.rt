@@ -1,8 +1,8 @@
 //! What became of the items of channels.
 
-ghost use Rattle.std.specs.Prelude.{◌≡◌, ◌<◌, ◌^◌, IfOk, OnOk, length, sum_by};
+ghost use Rattle.std.specs.Prelude.{◌≡◌, ◌<◌, ◌^◌, IfOk, OnOk, get_or, length, sum_by};
 ghost use Rattle.board_model.specs.Language.{IsLawfulBoard};
-ghost use Rattle.board_runner.specs.ItemCounts.{AddChannels, AreItemCounts, HaveMoreThan, IsOneOf, ItemsFit, TellChannels, TellTotalsOf, queued_at};
+ghost use Rattle.board_runner.specs.ItemCounts.{AddChannels, AreItemCounts, HaveMoreThan, IsCountedBy, IsOneOf, ItemsFit, TellChannels, TellTotalsOf, queued_at};
 
 use crate::adding::add;
 use crate::items::{ItemCounts, item_counts};
@@ -21,32 +21,33 @@ pub fn channels_of(
     requires lawful { IsLawfulBoard _scenario.now }
     ensures { IfOk result (TellChannels _scenario.now stations.now) }
 {
+    let counts = item_counts(alloc, stations)?;
     let mut channels = Seq::new(Vec::new(alloc));
     for at in 0..stations.len() {
-        add_channels(alloc, _scenario, stations, at, &mut channels)?;
+        add_channels(_scenario, stations, at, &counts[at], &mut channels)?;
     }
     Ok(channels)
 }
 
-/// Adds the channels that the domain at a place numbered, from 1 on.
+/// Adds the channels that the domain at a place numbered, from 1 on, by the counts of their items.
 fn add_channels(
-    alloc: Global,
     _scenario: &Scenario,
     stations: &[Station<'_>],
     at: usize,
+    counts: &ItemCounts,
     channels: &mut Seq<ChannelTotals>,
 ) -> Result<(), NoMemory>
     requires lawful { IsLawfulBoard _scenario.now }
     requires at { at < length stations.now }
+    requires counts { (st : _) → IsCountedBy stations.now stations.now (get_or stations.now at st) counts.now }
     ensures { OnOk result (AddChannels _scenario.now stations.now at channels.old channels.new) }
 {
     let station = &stations[at];
     let owner = station.domain_number;
     let given = station.domain.channels_given();
-    let counts = item_counts(alloc, stations, owner, given)?;
     for before in 0..given {
         let number = before + 1;
-        let totals = totals_of(_scenario, stations, owner, number, &counts);
+        let totals = totals_of(_scenario, stations, owner, number, counts);
         let channel = ChannelTotals {
             owner,
             number,

@@ -1,12 +1,13 @@
 //! What the journals tell of the items of channels.
 
-ghost use Rattle.std.specs.Prelude.{◌≡◌, ◌+◌, ◌<◌, ◌≤◌, ◌^◌, ◌==◌, ℕ, IfOk, Option, None, length, slice_index, if◌then◌else◌};
+ghost use Rattle.std.specs.Prelude.{◌≡◌, ◌+◌, ◌<◌, ◌^◌, ◌==◌, ℕ, IfOk, [], length, slice_index, if◌then◌else◌};
 ghost use Rattle.mc_base.specs.Reading.{reading};
 ghost use Rattle.mc_journal.specs.Entry.{line_of_entry};
-ghost use Rattle.board_model.specs.Channels.{is_numbered, is_lost as is_lost_fate};
-ghost use Rattle.board_runner.specs.Items.{item_said, close_said, is_close_put};
-ghost use Rattle.board_runner.specs.ItemCounts.{AreItemCounts, CountsLine, CountsStation, HasRoomFor, HasRoomForStation, HavePlaces, HaveSamePlaces, ItemsFit};
+ghost use Rattle.board_model.specs.Channels.{is_lost as is_lost_fate};
+ghost use Rattle.board_runner.specs.Items.{item_said, close_said, item_carried, close_carried};
+ghost use Rattle.board_runner.specs.ItemCounts.{AddsTold, ClosesBy, CountsJournal, EachWith, HasNoItems, IsCountedBy, TellsItems};
 
+use crate::adding::append;
 use crate::station::Station;
 use domain_core::{Answer, Entry};
 use mc_base::{Fate, Letter, NoMemory};
@@ -17,32 +18,70 @@ use std::alloc::Global;
 /// numbers.
 #[derive(Drop)]
 pub struct ItemCounts {
+    pub owner: u8,
     pub sent: Vec<u64>,
     pub brought: Vec<u64>,
     pub dropped: Vec<u64>,
 }
 
-/// Counts the items of the channels that a domain numbered, in the journals of all stations. The counts stop at the largest number,
-/// which no board's run comes to.
-pub fn item_counts(
-    alloc: Global,
-    stations: &[Station<'_>],
-    owner: u8,
-    given: u32,
-) -> Result<ItemCounts, NoMemory>
-    ensures counts { ItemsFit owner stations.now → IfOk result (AreItemCounts owner stations.now) }
-    ensures places { IfOk result (HavePlaces (given + 1)) }
+/// A channel: the domain that numbered it, and its number.
+#[derive(Clone, Copy)]
+pub struct ChannelKey {
+    pub owner: u8,
+    pub number: u32,
+}
+
+/// How many more items of a channel were sent, were brought and were dropped, as one entry tells.
+#[derive(Clone, Copy)]
+pub struct ItemsTold {
+    pub channel: ChannelKey,
+    pub sent: u64,
+    pub brought: u64,
+    pub dropped: u64,
+}
+
+/// The channel whose item a frame carries, and the one whose receiver's end it closes.
+#[derive(Clone, Copy)]
+pub struct Carried {
+    pub item: Option<u32>,
+    pub close: Option<u32>,
+}
+
+/// Counts the items of the channels that the domains of stations numbered, for each station its own. Each journal is read once. The
+/// counts stop at the largest number, which no board's run comes to.
+pub fn item_counts(alloc: Global, stations: &[Station<'_>]) -> Result<Vec<ItemCounts>, NoMemory>
+    ensures { IfOk result (λ all. EachWith (IsCountedBy stations.now stations.now) stations.now all.items) }
 {
-    let many = given as usize + 1;
-    let mut counts = ItemCounts {
+    let mut all = no_items(alloc, stations)?;
+    for station in stations {
+        count_items(&mut all, station);
+    }
+    Ok(all)
+}
+
+/// The counts before the first journal is read.
+fn no_items(alloc: Global, stations: &[Station<'_>]) -> Result<Vec<ItemCounts>, NoMemory>
+    ensures { IfOk result (λ all. EachWith HasNoItems stations.now all.items) }
+{
+    let mut all = Vec::new(alloc);
+    for at in 0..stations.len() {
+        let counts = no_items_of(alloc, &stations[at])?;
+        append(&mut all, counts)?;
+    }
+    Ok(all)
+}
+
+/// The counts of one domain's channels before the first journal is read.
+fn no_items_of(alloc: Global, station: &Station<'_>) -> Result<ItemCounts, NoMemory>
+    ensures { IfOk result (HasNoItems station.now) }
+{
+    let many = station.domain.channels_given() as usize + 1;
+    Ok(ItemCounts {
+        owner: station.domain_number,
         sent: zeros(alloc, many)?,
         brought: zeros(alloc, many)?,
         dropped: zeros(alloc, many)?,
-    };
-    for station in stations {
-        count_items(&mut counts, owner, station);
-    }
-    Ok(counts)
+    })
 }
 
 /// So many zeros.
@@ -56,94 +95,150 @@ fn zeros(alloc: Global, many: usize) -> Result<Vec<u64>, NoMemory>
     }
 }
 
-/// Counts the entries of a station's journal, each once.
-fn count_items(counts: &mut ItemCounts, owner: u8, station: &Station<'_>)
-    ensures counts { HasRoomForStation owner station.now counts.old → CountsStation owner station.now counts.old counts.new }
-    ensures places { HaveSamePlaces counts.old counts.new }
+/// Counts the entries of a station's journal, each once, for all domains.
+fn count_items(all: &mut [ItemCounts], station: &Station<'_>)
+    ensures { EachWith (CountsJournal station.now) all.old all.new }
 {
-    let own = station.domain_number == owner;
     let mut closing = None;
     for at in 0..station.journal.len() {
         let entry = station.journal.entry(at).unwrap();
-        count_entry(counts, owner, own, closing, entry);
-        closing = closing_by(owner, entry);
+        let carried = carried_in(entry);
+        let told = told_by(station.domain_number, closing, carried, entry);
+        count_told(all, told);
+        closing = closing_by(carried, entry);
     }
 }
 
-/// Counts one entry more, which follows one that closes a channel or none.
-fn count_entry(
-    counts: &mut ItemCounts,
-    owner: u8,
-    own: bool,
-    closing: Option<u32>,
-    entry: Entry<'_>,
-)
-    ensures counts { HasRoomFor owner own closing (line_of_entry entry.entry) counts.old → CountsLine owner own closing (line_of_entry entry.entry) counts.old counts.new }
-    ensures places { HaveSamePlaces counts.old counts.new }
+/// Counts what an entry tells, for the domain that numbered the channel.
+fn count_told(all: &mut [ItemCounts], told: Option<ItemsTold>)
+    ensures { EachWith (AddsTold told) all.old all.new }
 {
-    match entry {
-        Entry::Put { frame, .. } if own => add_at(&mut counts.sent, item_in(frame), 1),
-        Entry::Take { peer, frame, fate } if peer == owner => {
-            let number = item_in(frame);
-            add_at(&mut counts.brought, number, 1);
-            if is_lost(fate) {
-                add_at(&mut counts.dropped, number, 1);
-            }
-        }
-        Entry::Called {
-            answer: Answer::Number(count),
-            ..
-        } => add_at(&mut counts.dropped, closing, count),
-        _ => {}
+    let Some(told) = told else {
+        return;
+    };
+    for counts in all.iter_mut() {
+        add_told(counts, told);
+    }
+}
+
+/// Adds what is told of a channel, where this domain numbered it.
+fn add_told(counts: &mut ItemCounts, told: ItemsTold)
+    ensures { AddsTold (Some told) counts.old counts.new }
+{
+    let number = told.channel.number;
+    if told.channel.owner == counts.owner {
+        add_at(&mut counts.sent, number, told.sent);
+        add_at(&mut counts.brought, number, told.brought);
+        add_at(&mut counts.dropped, number, told.dropped);
     }
 }
 
 /// Adds to the number of a channel.
-fn add_at(numbers: &mut Vec<u64>, channel: Option<u32>, count: u64)
-    ensures added { (n : ℕ) → n < length numbers.old.items → slice_index numbers.old.items n + (if is_numbered n channel then count else 0) < 2 ^ 64 → slice_index numbers.new.items n ≡ slice_index numbers.old.items n + (if is_numbered n channel then count else 0) }
+fn add_at(numbers: &mut Vec<u64>, channel: u32, count: u64)
+    ensures added { (n : ℕ) → n < length numbers.old.items → slice_index numbers.old.items n + (if channel == n then count else 0) < 2 ^ 64 → slice_index numbers.new.items n ≡ slice_index numbers.old.items n + (if channel == n then count else 0) }
     ensures places { length numbers.new.items ≡ length numbers.old.items }
 {
-    if let Some(channel) = channel {
-        let place = channel as usize;
-        if place < numbers.len() {
-            numbers[place] = numbers[place].saturating_add(count);
-        }
+    let place = channel as usize;
+    if place < numbers.len() {
+        numbers[place] = numbers[place].saturating_add(count);
     }
 }
 
-/// The channel whose receiver's end an entry closes, where it is one of the owner's.
-fn closing_by(owner: u8, entry: Entry<'_>) -> Option<u32>
-    ensures { (n : ℕ) → is_numbered n result ≡ is_close_put owner n (line_of_entry entry.entry) }
+/// What an entry of a domain's journal tells of the items of a channel. It follows one that closes a channel, or none.
+fn told_by(
+    own: u8,
+    closing: Option<ChannelKey>,
+    carried: Carried,
+    entry: Entry<'_>,
+) -> Option<ItemsTold>
+    requires { carried.item ≡ item_carried (line_of_entry entry) }
+    ensures { TellsItems own closing (line_of_entry entry.entry) result }
 {
-    match entry {
-        Entry::Put { peer, frame } if peer == owner => closed_in(frame),
+    match (entry, carried.item, closing) {
+        (Entry::Put { .. }, Some(number), _) => Some(ItemsTold {
+            channel: ChannelKey { owner: own, number },
+            sent: 1,
+            brought: 0,
+            dropped: 0,
+        }),
+        (Entry::Take { peer, fate, .. }, Some(number), _) => Some(ItemsTold {
+            channel: ChannelKey {
+                owner: peer,
+                number,
+            },
+            sent: 0,
+            brought: 1,
+            dropped: u64::from(is_lost(fate)),
+        }),
+        (
+            Entry::Called {
+                answer: Answer::Number(count),
+                ..
+            },
+            _,
+            Some(channel),
+        ) => Some(ItemsTold {
+            channel,
+            sent: 0,
+            brought: 0,
+            dropped: count,
+        }),
         _ => None,
     }
 }
 
-/// The channel whose item a frame carries.
-fn item_in(frame: &[u8]) -> Option<u32>
-    ensures { result ≡ item_said (reading frame.now) }
+/// The channel whose receiver's end an entry closes.
+fn closing_by(carried: Carried, entry: Entry<'_>) -> Option<ChannelKey>
+    requires { carried.close ≡ close_carried (line_of_entry entry) }
+    ensures { ClosesBy (line_of_entry entry.entry) result }
+{
+    match (entry, carried.close) {
+        (Entry::Put { peer, .. }, Some(number)) => Some(ChannelKey {
+            owner: peer,
+            number,
+        }),
+        _ => None,
+    }
+}
+
+/// What the frame of an entry carries, where it has one.
+fn carried_in(entry: Entry<'_>) -> Carried
+    ensures item { result.item ≡ item_carried (line_of_entry entry.entry) }
+    ensures close { result.close ≡ close_carried (line_of_entry entry.entry) }
+{
+    match entry {
+        Entry::Put { frame, .. } | Entry::Take { frame, .. } => carried_by(frame),
+        _ => Carried {
+            item: None,
+            close: None,
+        },
+    }
+}
+
+/// What a frame carries.
+fn carried_by(frame: &[u8]) -> Carried
+    ensures item { result.item ≡ item_said (reading frame.now) }
+    ensures close { result.close ≡ close_said (reading frame.now) }
 {
     match read_frame(frame) {
         Said::Sends {
             letter: Letter::Packet { channel, .. } | Letter::Scalar { channel, .. },
             ..
-        } => Some(channel),
-        _ => None,
-    }
-}
-
-/// The channel whose receiver's end a frame closes.
-fn closed_in(frame: &[u8]) -> Option<u32>
-    ensures { result ≡ close_said (reading frame.now) }
-{
-    match read_frame(frame) {
+        } => Carried {
+            item: Some(channel),
+            close: None,
+        },
         Said::Sends {
             letter: Letter::RecvClose { channel },
             ..
-        } => Some(channel),
-        _ => None,
+        } => Carried {
+            item: None,
+            close: Some(channel),
+        },
+        _ => Carried {
+            item: None,
+            close: None,
+        },
     }
 }
 

@@ -1,15 +1,27 @@
-use Rattle.std.proofs.Common.{◌≡◌, ◌+◌, ◌++◌, ◌∷◌, ℕ, List, [], map, ap, sym, ◌∙◌, add-one, append_assoc, arith}
+use Rattle.std.proofs.Common.{◌≡◌, ◌+◌, ◌++◌, ◌∷◌, ℕ, List, [], map, ap, sym, subst, ◌∙◌, add-one, append_assoc, arith}
 use Rattle.std.proofs.lemmas.List.{map-append}
 use Rattle.board_model.specs.declared.totals.ChannelTotals.{ChannelTotals}
 use Rattle.board_model.specs.declared.totals.Totals.{Totals}
 use Rattle.board_model.specs.SerialRun.{journal_left}
 use Rattle.board_model.specs.Totals.{numbers_to, totals_of_channel}
 use Rattle.board_model.proofs.LawfulBoards.{lawful_is_linked}
+use Rattle.board_runner.specs.ItemCounts.{IsCountedBy}
 use Rattle.board_runner.proofs.ChannelLemmas.{is-one, owner-channels}
 use Rattle.board_runner.proofs.channels.add_channels.Goals as goal
 
 pub totals_of-totals-requires-clause-owner : goal.totals_of-totals-requires-clause-owner
 totals_of-totals-requires-clause-owner c = is-one c.args.stations.now c.args.at _ c.requires.at c.index-stations-at.is
+
+pub totals_of-totals-requires-clause-counts : goal.totals_of-totals-requires-clause-counts
+totals_of-totals-requires-clause-counts c =
+    let counted = subst (λ st. IsCountedBy c.args.stations.now c.args.stations.now st c.args.counts.now) (sym c.index-stations-at.is) (c.requires.counts c.index-stations-at.result) in
+    counted.counted
+
+pub totals_of-totals-requires-clause-places : goal.totals_of-totals-requires-clause-places
+totals_of-totals-requires-clause-places c =
+    let st = c.index-stations-at.result in
+    let counted = subst (λ st. IsCountedBy c.args.stations.now c.args.stations.now st c.args.counts.now) (sym c.index-stations-at.is) (c.requires.counts st) in
+    (st.domain.state.channels_given + 1, omega (arith, c.loop-before-test.true, c.loop-before.auto.before-end, c.channels_given-given.ensures), counted.places)
 
 pub loop-before-preserved : goal.loop-before-preserved
 loop-before-preserved c ts ran ends =

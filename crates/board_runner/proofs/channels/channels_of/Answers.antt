@@ -3,8 +3,13 @@ use Rattle.std.proofs.lemmas.List.{length-map}
 use Rattle.std.proofs.Math.Seq.{take-length}
 use Rattle.board_model.specs.SerialRun.{journal_left}
 use Rattle.board_model.specs.Totals.{totals_of_owner}
+use Rattle.board_runner.specs.ItemCounts.{IsCountedBy}
 use Rattle.board_runner.proofs.ChannelLemmas.{channels-more, ended-length}
+use Rattle.board_runner.proofs.EachLemmas.{each-at}
 use Rattle.board_runner.proofs.channels.channels_of.Goals as goal
+
+pub add_channels-requires-clause-counts : goal.add_channels-requires-clause-counts
+add_channels-requires-clause-counts c st = each-at (IsCountedBy c.args.stations.now c.args.stations.now) c.args.stations.now c.in_ok-counts.counts.items c.in_ok-counts.ensures c.loop-at.at st c.index.result.now c.loop-at-test.true c.index.ensures
 
 pub loop-at-preserved : goal.loop-at-preserved
 loop-at-preserved c ts ran ends =
