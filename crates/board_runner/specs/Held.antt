@@ -4,17 +4,16 @@
 use Rattle.std.specs.Prelude.{◌≡◌, ℕ, ◌-◌, ◌^◌, List, Option, None, Some, unwrap_or, if◌then◌else◌}
 use Rattle.std.specs.Option.{option_or}
 use Rattle.std.specs.Borrow.{Bor}
-use Rattle.std.specs.BTreeMap.{BTreeMap, get_by}
-use Rattle.std.specs.Cmp.Lexicographic.{slice_cmp}
-use Rattle.std.specs.Ordering.{nat_cmp}
+use Rattle.std.specs.HashMap.{HashMap, get_by}
 use Rattle.std.specs.Str.{bytes_eq}
+use Rattle.std.proofs.Common.{BuildHasherDefault, FoldHasher}
 use Rattle.mc_base.specs.Limits.{no_key}
 use Rattle.mc_base.specs.declared.request.PacketId.{PacketId}
 use Rattle.mc_base.specs.declared.request.RequestId.{RequestId}
 
 -- what was given for labels
 abbrev pub Held : Type 0 → Type 0
-Held A = BTreeMap (Bor (List ℕ)) A
+Held A = HashMap (Bor (List ℕ)) A (BuildHasherDefault FoldHasher)
 
 -- the ids of the requests that were given for labels, and of the packets that were lent under them
 abbrev pub Ids : Type 0
@@ -25,7 +24,7 @@ PacketIds = Held PacketId
 
 -- the id that is held for a label
 abbrev pub id_for : {A : Type 0} → Held A → List ℕ → Option A
-id_for ids label = get_by (λ k. slice_cmp nat_cmp label k.now) ids
+id_for ids label = get_by (λ k. bytes_eq label k.now) ids
 
 -- the ids for a label for which none is held: they name no request and no packet
 abbrev pub no_id : RequestId

@@ -11,7 +11,7 @@ use arrayvec::ArrayVec;
 use board_model::{Call, CallLine, Label, LabelGroup};
 use domain_core::Answer;
 use mc_base::{NoMemory, PacketId, RequestId};
-use std::collections::BTreeMap;
+use std::collections::HashMap;
 
 /// The id of no request: no key is so great.
 const NO_ID: RequestId = RequestId {
@@ -27,7 +27,7 @@ const NO_PACKET: PacketId = PacketId {
 };
 
 /// The id that is held for a label. Where its call was refused there is none, and then it is an id that names no request.
-pub fn id_of(ids: &BTreeMap<&[u8], RequestId>, label: &Label) -> RequestId
+pub fn id_of(ids: &HashMap<&[u8], RequestId>, label: &Label) -> RequestId
     ensures { result ≡ id_or_none ids.now label.now.items }
 {
     match ids.get(label.as_slice()) {
@@ -37,7 +37,7 @@ pub fn id_of(ids: &BTreeMap<&[u8], RequestId>, label: &Label) -> RequestId
 }
 
 /// The ids of the requests that a wait names: of one, or of several.
-pub fn ids_of(ids: &BTreeMap<&[u8], RequestId>, call: &Call) -> ArrayVec<RequestId, 8>
+pub fn ids_of(ids: &HashMap<&[u8], RequestId>, call: &Call) -> ArrayVec<RequestId, 8>
     ensures { result.items ≡ ids_named ids.now call.now }
 {
     match call {
@@ -52,7 +52,7 @@ pub fn ids_of(ids: &BTreeMap<&[u8], RequestId>, call: &Call) -> ArrayVec<Request
 }
 
 /// The ids that are held for labels, in their order.
-fn ids_for(ids: &BTreeMap<&[u8], RequestId>, labels: &[Label]) -> ArrayVec<RequestId, 8>
+fn ids_for(ids: &HashMap<&[u8], RequestId>, labels: &[Label]) -> ArrayVec<RequestId, 8>
     requires { length labels.now ≤ 8 }
     ensures { result.items ≡ map (λ l. id_or_none ids.now l.items) labels.now }
 {
@@ -64,7 +64,7 @@ fn ids_for(ids: &BTreeMap<&[u8], RequestId>, labels: &[Label]) -> ArrayVec<Reque
 }
 
 /// The id of the packet that was lent under a label. Where none was, it is an id that names no packet.
-pub fn packet_of(packets: &BTreeMap<&[u8], PacketId>, label: &Label) -> PacketId
+pub fn packet_of(packets: &HashMap<&[u8], PacketId>, label: &Label) -> PacketId
     ensures { result ≡ packet_or_none packets.now label.now.items }
 {
     match packets.get(label.as_slice()) {
@@ -96,7 +96,7 @@ fn label_at(labels: &LabelGroup, place: Option<u8>) -> Option<&Label>
 
 /// Holds the id that was given for a label. One that is held for the label already stays.
 pub fn hold<'a, I: Drop>(
-    ids: &mut BTreeMap<&'a [u8], I>,
+    ids: &mut HashMap<&'a [u8], I>,
     label: Option<&'a Label>,
     given: Option<I>,
 ) -> Result<(), NoMemory>
@@ -109,7 +109,7 @@ pub fn hold<'a, I: Drop>(
 }
 
 fn hold_for<'a, I: Drop>(
-    ids: &mut BTreeMap<&'a [u8], I>,
+    ids: &mut HashMap<&'a [u8], I>,
     label: &'a [u8],
     id: I,
 ) -> Result<(), NoMemory>

@@ -28,7 +28,7 @@ use lane_end::{AnyRecv, AnySend};
 use mc_base::{Local, NoMemory, PacketId, Refusal, RequestId};
 use messages::{available, create, delete, put_raw, receive, send, turn};
 use requests::{cancel, lookup, request, test};
-use std::collections::BTreeMap;
+use std::collections::HashMap;
 use waits::{run_wait, wait_limit};
 
 /// What a call answered, the request that it gave, and the packet that it lent.
@@ -194,8 +194,8 @@ fn call_line<'r>(
 fn call_domain<'r>(
     domain: &mut Domain<AnySend<'_>, AnyRecv<'_>>,
     journal: &mut Journal,
-    ids: &BTreeMap<&[u8], RequestId>,
-    packets: &BTreeMap<&[u8], PacketId>,
+    ids: &HashMap<&[u8], RequestId>,
+    packets: &HashMap<&[u8], PacketId>,
     line: &CallLine,
     room: &'r mut [u8],
 ) -> Result<Made<'r>, NoMemory>

@@ -19,7 +19,7 @@ use domain_core::{Domain, Journal, Link};
 use lane_end::{AnyRecv, AnySend};
 use mc_base::{MAX_DOMAINS, NoMemory};
 use std::alloc::Global;
-use std::collections::BTreeMap;
+use std::collections::HashMap;
 
 /// The domains of a lawful board in rising number, before the first line, with the links of the board.
 ///
@@ -67,8 +67,8 @@ fn open_station<'a>(
     Ok(Station {
         domain,
         journal,
-        ids: BTreeMap::new(alloc),
-        packets: BTreeMap::new(alloc),
+        ids: HashMap::new(alloc),
+        packets: HashMap::new(alloc),
         domain_number: line.domain,
         number: 0,
         dropped: 0,

@@ -3,7 +3,7 @@
 use domain_core::{Domain, Journal};
 use lane_end::{AnyRecv, AnySend};
 use mc_base::{PacketId, RequestId};
-use std::collections::BTreeMap;
+use std::collections::HashMap;
 
 /// A domain with its number, its journal, the ids of the requests that were given for labels and of the packets that were lent under
 /// them, how many of its lines were called, and how many messages its deletes dropped.
@@ -12,8 +12,8 @@ pub struct Station<'a> {
     pub domain: Domain<AnySend<'a>, AnyRecv<'a>>,
     pub domain_number: u8,
     pub journal: Journal,
-    pub ids: BTreeMap<&'a [u8], RequestId>,
-    pub packets: BTreeMap<&'a [u8], PacketId>,
+    pub ids: HashMap<&'a [u8], RequestId>,
+    pub packets: HashMap<&'a [u8], PacketId>,
     pub number: u32,
     pub dropped: u64,
 }

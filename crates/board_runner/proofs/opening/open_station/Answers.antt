@@ -1,8 +1,6 @@
 use Rattle.std.proofs.Common.{◌∙◌, List, refl, ap}
 use Rattle.std.specs.Map.{lookup}
-use Rattle.std.specs.BTreeMap.{is_at}
-use Rattle.std.specs.Cmp.Lexicographic.{slice_cmp}
-use Rattle.std.specs.Ordering.{nat_cmp}
+use Rattle.std.specs.Str.{bytes_eq}
 use Rattle.board_model.specs.Scenario.{Neighbour}
 use Rattle.board_model.specs.State.{opening}
 use Rattle.board_runner.proofs.LinkLemmas.{line-lawful, links-are, links-open, neighbours-opened}
@@ -34,8 +32,8 @@ returns c =
       packets = c.in_ok-domain.ensures.packets;
       told = c.in_ok-journal.ensures.lines;
       number = refl;
-      labels = λ label. ap (lookup (is_at (λ k. slice_cmp nat_cmp label k.now))) c.new-2.ensures.empty;
-      packet_labels = λ label. ap (lookup (is_at (λ k. slice_cmp nat_cmp label k.now))) c.new-3.ensures.empty;
+      labels = λ label. ap (lookup (λ k. bytes_eq label k.now)) c.new-2.ensures.empty;
+      packet_labels = λ label. ap (lookup (λ k. bytes_eq label k.now)) c.new-3.ensures.empty;
       dropped = refl;
       domain_number = refl;
     }
