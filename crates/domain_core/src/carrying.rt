@@ -1,4 +1,4 @@
-//! What moves between two domains: the ends of the link between them meet.
+//! How the link between two domains carries.
 
 ghost use Rattle.std.specs.Prelude.{◌≡◌, ◌<◌, ℕ, Bool, IfSome, length, position};
 ghost use Rattle.lane_end.specs.PlainSender.{Sends};
@@ -18,43 +18,46 @@ use crate::peer::Peer;
 use crate::peer_lane::PeerLane;
 use lane_end::{AnyRecv, AnySend, PlainRecv, PlainSend, meet_ends, shuttle};
 
-/// Shows that each call of a domain keeps its number and moves its ends, over plain lanes and over rings.
+/// Shows that each call of a domain keeps the domain's number and changes its ends by moves alone, over plain lanes and over rings.
 pub fn calls_move_ends()
     ensures plain { CallsGoBy Sends Receives }
     ensures rings { CallsGoBy AnySends AnyReceives }
 {}
 
-/// Shows that each wait of a domain keeps its number and moves its ends, over plain lanes and over rings.
+/// Shows the same of each wait.
 pub fn waits_move_ends()
     ensures plain { WaitsGoBy Sends Receives }
     ensures rings { WaitsGoBy AnySends AnyReceives }
 {}
 
-/// Shows that two domains that are linked stay so, whatever calls each of them makes: so they can be carried again.
+/// Shows that two linked domains stay linked where one of them changes as its calls and waits change it, so that
+/// [`carry`](crate::carry) or [`carry_rings`](crate::carry_rings) can be called again.
 pub fn domains_stay_linked()
     ensures plain { StayLinkedBy Sends Receives AreOneLane }
     ensures rings { StayLinkedBy AnySends AnyReceives AreEndsOfOneRing }
 {}
 
-/// Ends towards a peer that meet the ends of the peer.
+/// Ends towards a peer that can carry to the peer's ends, over plain lanes or over rings.
 pub trait MeetingEnds: PeerLane {
-    /// Whether they are those of a link to the peer of this number.
+    /// Whether they are the ends of a link to the domain of this number.
     ghost leads: { ℕ → Self → Bool };
 
-    /// Two that may meet: the ends of both lanes of one link.
+    /// Whether two are the ends of both lanes of one link.
     ghost May: { Self → Self → Type 0 };
 
+    /// Whether a meeting of the first two makes them the last two.
     ghost Met: { Self → Self → Self → Self → Type 0 };
 
+    /// Returns whether they are the ends of a link to the domain of this number.
     fn leads_to(&self, number: u8) -> bool
         ensures { result ≡ leads number self.now };
 
-    /// Has both lanes meet. What is seen of the ends stays.
+    /// Has the ends of both lanes meet: each then knows all that the other did. What is free, shown and out stays.
     fn meet(&mut self, other: &mut Self)
         requires { May self.old other.old }
         ensures { Met self.old other.old self.new other.new };
 
-    /// A meeting leaves what is seen of both.
+    /// A meeting leaves what is free, shown and out at both.
     ghost same_seen: { (a b c d : Self) → Met a b c d → (Self.seen c ≡ Self.seen a) × (Self.seen d ≡ Self.seen b) };
 }
 
@@ -126,7 +129,7 @@ fn meet_link<'a>(a: &mut Link<AnySend<'a>, AnyRecv<'a>>, b: &mut Link<AnySend<'a
     meet_ends(&mut b.send, &mut a.recv);
 }
 
-/// Whether these are the ends of a link to a peer.
+/// Returns whether these are the ends of a link to the domain of this number.
 fn leads_to<S, R>(ends: &Ends<S, R>, number: u8) -> bool
     ensures { result ≡ leads_to number ends.now }
 {
@@ -136,7 +139,7 @@ fn leads_to<S, R>(ends: &Ends<S, R>, number: u8) -> bool
     }
 }
 
-/// Has the ends of two domains towards each other meet, which are found by the domains' numbers.
+/// Has the ends of two domains towards each other meet. They are found by the domains' numbers.
 pub fn carry_between<P: MeetingEnds>(ones: &mut [Peer<P>], one: u8, twos: &mut [Peer<P>], two: u8)
     requires { MayMeet P.leads P.May one two (ends_of ones.old) (ends_of twos.old) }
     ensures { PeersMeet P.leads P.Met one two ones.old twos.old ones.new twos.new }

@@ -27,18 +27,24 @@ use mc_journal::Journal;
 pub use opening::{carry, carry_rings};
 use std::marker::Model;
 
-/// The room that a call needs in the journal: for so many entries.
+/// The number of journal entries for which a call needs room.
 pub const CALL_ENTRIES: u32 = 160;
 
-/// The room that a call needs in the journal: for so many bytes in its entries.
+/// The number of bytes in these entries for which a call needs room.
 pub const CALL_BYTES: u32 = 67_584;
 
-/// A domain over its own lane and its links.
+/// A domain: what one core of a board runs.
 ///
-/// Each call that takes a journal makes one turn first, notes it, and notes what it puts itself. It has the condition that
-/// there is room in the journal for `CALL_ENTRIES` entries of `CALL_BYTES` bytes together. Refusals are tested in the order
-/// told. A refused call changes nothing after its turn. No call uses more than that room. Waits alone make as many turns as they
-/// need, and room for each.
+/// Each call with a journal first makes one turn, as [`turn`](Domain::turn) does, and records it together with the frame that the
+/// call itself sends. The journal needs room for `CALL_ENTRIES` entries of `CALL_BYTES` bytes together (`Journal::reserve`), and
+/// no call uses more. [`wait`](Domain::wait) and [`wait_any`](Domain::wait_any) make as many turns as they need, and the room for
+/// each.
+///
+/// Each list of errors is in the order in which they are tested: the first that applies is returned. A refused call changes nothing
+/// after its turn, so it can be made again. What another domain did counts here from the turn that takes its frame.
+///
+/// A frame begins with `struct rpmsg_hdr` of Linux, and an announcement is a `struct rpmsg_ns_msg` to address 53; docs/FORMATS.md
+/// has both and the header of the payloads. A domain has at most 64 endpoints and 64 requests at a time.
 #[derive(Debug, Drop)]
 pub struct Domain<S: SendEnd, R: RecvEnd> {
     inside: Holdings<Ends<S, R>>,
@@ -56,12 +62,16 @@ impl<S: SendEnd, R: RecvEnd> Model for Domain<S, R> {
 }
 
 impl<S: SendEnd, R: RecvEnd> Domain<S, R> {
-    /// Makes an endpoint, and answers its address. Lookups of it that wait are complete, and later turns tell each linked domain
-    /// of it.
+    /// Creates an endpoint and returns its address: 1024 plus the number of endpoints that were created before, 1024 to 61,023.
+    /// Pending lookups of it become complete here, and later turns announce it to each linked domain.
     ///
-    /// Refused with `NodeInvalid` where the domain has no such node, with `ExistsAlready` where the endpoint is live, with
-    /// `EndpLimit` where 64 records are in use, and with `AddressSpent` where 60,000 were made. A record is in use while its
-    /// endpoint is live, and until each linked domain was told of its end.
+    /// # Errors
+    ///
+    /// - `NodeInvalid`: the domain has no such node.
+    /// - `ExistsAlready`: the endpoint exists.
+    /// - `EndpLimit`: 64 endpoint records are in use. A record is in use from the creation until the endpoint is deleted and each
+    ///   linked domain has been sent the announcement of its end.
+    /// - `AddressSpent`: 60,000 endpoints were created.
     pub fn create(&mut self, journal: &mut Journal, at: Local) -> Result<u32, Refusal>
         requires entry_room { call_entries ≤ journal.old.entry_room }
         requires byte_room { call_bytes ≤ journal.old.byte_room }
@@ -73,11 +83,14 @@ impl<S: SendEnd, R: RecvEnd> Domain<S, R> {
         self.inside.add_endpoint(at)
     }
 
-    /// Ends an endpoint, and answers how many messages were dropped that waited there. Their buffers are given back, the oldest
-    /// first, and receives that wait there end with `EndpInvalid`. A complete request keeps its message. Later turns tell each
-    /// linked domain of the end.
+    /// Deletes an endpoint, drops the messages that are queued there, and returns how many these were. Their buffers are given
+    /// back, the oldest first. Receives that wait there become complete with `EndpInvalid`; a complete receive keeps its message.
+    /// Later turns announce the end to each linked domain.
     ///
-    /// Refused with `EndpInvalid` where the endpoint is not live.
+    /// # Errors
+    ///
+    /// - `EndpInvalid`: the endpoint does not exist.
+    /// - `ChanConnected`: it has a channel.
     pub fn delete(&mut self, journal: &mut Journal, at: Local) -> Result<u32, Refusal>
         requires entry_room { call_entries ≤ journal.old.entry_room }
         requires byte_room { call_bytes ≤ journal.old.byte_room }
@@ -89,10 +102,13 @@ impl<S: SendEnd, R: RecvEnd> Domain<S, R> {
         self.inside.remove_endpoint(at)
     }
 
-    /// Begins a lookup of an endpoint's address. It is complete at once where the endpoint is live in this domain, or known from
-    /// a linked one, and else as soon as it is made or announced.
+    /// Requests the address of an endpoint. The request is complete at once where the endpoint exists in this domain or is known
+    /// from a linked one, and otherwise when it is created or its announcement is taken. [`test`](Domain::test) and the waits end
+    /// the request.
     ///
-    /// Refused with `RequestLimit` where 64 requests stand.
+    /// # Errors
+    ///
+    /// - `RequestLimit`: 64 requests exist.
     pub fn lookup(&mut self, journal: &mut Journal, name: EndName) -> Result<RequestId, Refusal>
         requires entry_room { call_entries ≤ journal.old.entry_room }
         requires byte_room { call_bytes ≤ journal.old.byte_room }
@@ -104,7 +120,11 @@ impl<S: SendEnd, R: RecvEnd> Domain<S, R> {
         self.inside.begin_lookup(name)
     }
 
-    /// Makes a turn alone, and answers whether it was idle: nothing was shown, put or taken.
+    /// Makes one turn and no call, and returns whether it was idle: no look showed anything and nothing was sent.
+    ///
+    /// A turn visits each peer in rising number, the domain itself among them. It looks for buffers that came back, sends up to 8
+    /// announcements and replies that are owed while a buffer is free, looks for frames that came, and takes up to 8 of them
+    /// (docs/PROFILE.md, "A turn").
     pub fn turn(&mut self, journal: &mut Journal) -> bool
         requires entry_room { call_entries ≤ journal.old.entry_room }
         requires byte_room { call_bytes ≤ journal.old.byte_room }
@@ -116,11 +136,16 @@ impl<S: SendEnd, R: RecvEnd> Domain<S, R> {
         self.inside.take_turn(journal)
     }
 
-    /// Sends a message of at most 488 bytes, on the lane to the named endpoint's domain.
+    /// Sends a message of 0 to 488 bytes to the named endpoint, in one buffer of the lane to its domain. Its receiver takes
+    /// messages of a better priority first; 0 is the best.
     ///
-    /// Refused with `EndpInvalid` where the sender is not live, with `PeerInvalid` where the named endpoint is neither live in
-    /// this domain nor known from a linked one, with `MsgSize` where the message is longer, and with `NoBuffer` where no buffer
-    /// of that lane is free after the turn.
+    /// # Errors
+    ///
+    /// - `EndpInvalid`: the endpoint `from` does not exist.
+    /// - `OnChannel`: it has a channel.
+    /// - `PeerInvalid`: the endpoint `to` neither exists in this domain nor is known from a linked one.
+    /// - `MsgSize`: the message has more than 488 bytes.
+    /// - `NoBuffer`: no buffer of the lane is free after the turn.
     pub fn msg_send(
         &mut self,
         journal: &mut Journal,
@@ -139,10 +164,16 @@ impl<S: SendEnd, R: RecvEnd> Domain<S, R> {
         self.inside.put_message(journal, from, to, priority, bytes)
     }
 
-    /// Receives the oldest message of the best priority. Its first bytes, as many as fit, go to `out`; what lies behind
-    /// them stays.
+    /// Receives the oldest message of the best priority that is queued. Its first bytes, as many as fit, are copied to `out`, and
+    /// the rest of `out` stays as it is. The message is taken whole, and its buffer is given back.
     ///
-    /// Refused with `EndpInvalid` where the endpoint is not live, and with `Empty` where no message waits. `out` stays then.
+    /// # Errors
+    ///
+    /// `out` stays as it is.
+    ///
+    /// - `EndpInvalid`: the endpoint does not exist.
+    /// - `OnChannel`: it has a channel.
+    /// - `Empty`: no message is queued.
     pub fn msg_recv(
         &mut self,
         journal: &mut Journal,
@@ -162,10 +193,15 @@ impl<S: SendEnd, R: RecvEnd> Domain<S, R> {
         self.inside.take_message(at, out)
     }
 
-    /// Begins a receive of a message, of which so many bytes are given at most. Where a message waits, the oldest of the best
-    /// priority is the request's at once; else the request waits for the next that comes.
+    /// Requests a message, of which at most the first `max` bytes will be returned. Where one is queued, the request is complete at
+    /// once with the oldest of the best priority; otherwise it waits for the next that comes. A complete request keeps the
+    /// message's buffer until [`test`](Domain::test) or a wait ends it.
     ///
-    /// Refused with `EndpInvalid` where the endpoint is not live, and with `RequestLimit` where 64 requests stand.
+    /// # Errors
+    ///
+    /// - `EndpInvalid`: the endpoint does not exist.
+    /// - `OnChannel`: it has a channel.
+    /// - `RequestLimit`: 64 requests exist.
     pub fn msg_recv_i(
         &mut self,
         journal: &mut Journal,
@@ -182,9 +218,12 @@ impl<S: SendEnd, R: RecvEnd> Domain<S, R> {
         self.inside.begin_receive(at, max)
     }
 
-    /// How many messages wait at an endpoint.
+    /// Returns the number of messages that are queued at an endpoint.
     ///
-    /// Refused with `EndpInvalid` where the endpoint is not live.
+    /// # Errors
+    ///
+    /// - `EndpInvalid`: the endpoint does not exist.
+    /// - `OnChannel`: it has a channel.
     pub fn msg_available(&mut self, journal: &mut Journal, at: Local) -> Result<u32, Refusal>
         requires entry_room { call_entries ≤ journal.old.entry_room }
         requires byte_room { call_bytes ≤ journal.old.byte_room }
@@ -196,12 +235,18 @@ impl<S: SendEnd, R: RecvEnd> Domain<S, R> {
         self.inside.count_messages(at)
     }
 
-    /// Ends a request that is complete, and answers how: with a message, a packet, the address that was looked up, or the word with
-    /// which a receive ended. The first bytes of a message, as many as the request asked for, go to `out`, which has room for any
-    /// message; all else stays there. The message's buffer is given back. A packet is lent from now on, until it is released.
+    /// Ends a complete request and returns its result: the address of a lookup, whether a connect was accepted, a message, a
+    /// packet, or the refusal with which a receive ended.
     ///
-    /// Refused with `RequestInvalid` where no request that stands has the id, and with `Pending` where it is not complete.
-    /// `out` stays then.
+    /// The first bytes of a message, as many as the request asked for, are copied to `out`, which has at least 488 bytes; the rest
+    /// of `out` stays as it is. The message's buffer is given back. A packet is lent until [`release`](Domain::release).
+    ///
+    /// # Errors
+    ///
+    /// `out` stays as it is.
+    ///
+    /// - `RequestInvalid`: no request has the id.
+    /// - `Pending`: the request is not complete.
     pub fn test(
         &mut self,
         journal: &mut Journal,
@@ -222,9 +267,12 @@ impl<S: SendEnd, R: RecvEnd> Domain<S, R> {
         self.inside.end_request(id, out)
     }
 
-    /// Ends a request that is pending.
+    /// Ends a pending request, which takes nothing. The channel of a cancelled connect goes on.
     ///
-    /// Refused with `RequestInvalid` where no request that stands has the id, and with `TooLate` where it is complete.
+    /// # Errors
+    ///
+    /// - `RequestInvalid`: no request has the id.
+    /// - `TooLate`: the request is complete.
     pub fn cancel(&mut self, journal: &mut Journal, id: RequestId) -> Result<(), Refusal>
         requires entry_room { call_entries ≤ journal.old.entry_room }
         requires byte_room { call_bytes ≤ journal.old.byte_room }
@@ -236,15 +284,15 @@ impl<S: SendEnd, R: RecvEnd> Domain<S, R> {
         self.inside.end_pending(id)
     }
 
-    /// Whether there is a lane to a domain: it is this one, or linked to it.
+    /// Returns whether there is a lane to a domain: it is this one, or linked to it.
     pub fn has_peer(&self, number: u8) -> bool
         ensures { result ≡ is_some (place_of_peer self.now.state number) }
     {
         self.inside.has_peer(number)
     }
 
-    /// How many buffers of the lane from a peer stand in queues, and how many are lent, or `None` where there is no such lane.
-    /// A message or packet that a complete request holds counts as lent.
+    /// Counts the buffers of the lane from a peer that are in queues and those that are lent, or returns `None` where there is no
+    /// such lane. A message or packet that a complete request holds counts as lent.
     pub fn places(&self, peer: u8) -> Option<Places>
         ensures none { IsNone result ↔ (Contains (map (λ p. p.number) self.now.state.peers) peer → ⊥) }
         ensures queue { IfSome result (λ p. p.queue ≡ queued_from peer self.now.state) }
@@ -253,7 +301,7 @@ impl<S: SendEnd, R: RecvEnd> Domain<S, R> {
         self.inside.places(peer)
     }
 
-    /// How many messages are queued on all endpoints. An endpoint with a channel has only items of it.
+    /// Returns the number of messages that are queued on all endpoints. The items of channels are not counted.
     pub fn messages_queued(&self) -> u32
         ensures { result ≡ sum_by messages_at self.now.state.endpoints }
     {

@@ -50,8 +50,8 @@ impl Endpoint {
     }
 }
 
-/// The endpoints in the order in which they were created, queues for those to come, and the packets that were received and are lent,
-/// in the order in which they were lent.
+/// The endpoints in the order in which they were created, queues for those to come, and the packets that were received and are
+/// lent, in the order in which they were lent.
 #[derive(Debug, Drop)]
 pub struct Endpoints {
     number: u8,
@@ -134,7 +134,7 @@ impl Endpoints {
         place_with_address(&self.records, address)
     }
 
-    /// Makes an endpoint, and answers its address.
+    /// Creates an endpoint and returns its address.
     pub fn add(&mut self, at: Local) -> u32
         requires few { length self.old.endpoints < 64 }
         requires given { self.old.given < 60000 }

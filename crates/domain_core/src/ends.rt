@@ -5,7 +5,7 @@ use crate::peer_lane::PeerLane;
 use lane_end::{LoopLane, RecvEnd, SendEnd};
 use mc_base::Buffer;
 
-/// The ends towards a peer: those of the domain's own lane, where the peer is the domain itself, or those of a link.
+/// A domain's ends towards one of its peers: both ends of its lane to itself, or its ends of a link.
 #[derive(Debug, Drop)]
 pub enum Ends<S, R> {
     Own(LoopLane),

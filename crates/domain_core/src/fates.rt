@@ -5,7 +5,7 @@ ghost use Rattle.board_model.specs.Dealing.{fault_word, frame_word, letter_word,
 
 use mc_base::{Fate, Fault, FrameFault, LetterFault, NsFault};
 
-/// What becomes of a frame with this fault: a domain that takes it does nothing, and tells the fault.
+/// Returns the word under which a domain records a taken frame with this fault.
 pub fn fault_fate(fault: Fault) -> Fate
     ensures { result ≡ fault_word fault }
 {

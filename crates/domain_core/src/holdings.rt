@@ -67,8 +67,8 @@ impl<P: PeerLane> Holdings<P> {
         place_of(&self.peers, number).is_some()
     }
 
-    /// How many buffers of the lane from a peer stand in queues, and how many complete requests hold, or `None` where there is
-    /// no such lane.
+    /// Counts the buffers of the lane from a peer that are in queues and those that are lent, or returns `None` where there is no
+    /// such lane.
     pub fn places(&self, peer: u8) -> Option<Places>
         ensures none { IsNone result ↔ (Contains (map (λ p. p.number) (state_of self.now.parts).peers) peer → ⊥) }
         ensures queue { IfSome result (λ p. p.queue ≡ queued_from peer (state_of self.now.parts)) }

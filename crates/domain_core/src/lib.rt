@@ -1,6 +1,8 @@
-//! One domain over its own lane and its links. What it does is noted in a journal.
+//! One domain of a board: its endpoints, messages, channels and requests, over a lane to itself and links to other domains. A
+//! journal records what it does.
 //!
-//! A domain takes memory where it is opened. No other call takes any, but that a wait makes room in the journal for its turns.
+//! [`Domain`] has the calls; docs/PROFILE.md says in full what each does. Only [`Domain::open`] allocates, and the waits, which
+//! make room in the journal for their turns.
 #![tactic(auto)]
 
 mod announcements;

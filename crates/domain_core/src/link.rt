@@ -1,11 +1,11 @@
-//! Links: the ends of the two lanes between a domain and another.
+//! Links: a domain's ends of the two lanes between it and another.
 
 use crate::peer_lane::PeerLane;
 use lane_end::{RecvEnd, SendEnd};
 use mc_base::Buffer;
 
-/// A domain's ends of a link: the peer's number, how many buffers each of its two lanes has, the end of the lane to the
-/// peer, and the end of the lane from it.
+/// A domain's ends of its link to another domain, the peer: `peer` is its number, 0 to 7, `size` the number of buffers of each of
+/// the two lanes, `send` the end of the lane to the peer, and `recv` the end of the lane from it.
 #[derive(Debug, Drop)]
 pub struct Link<S, R> {
     pub peer: u8,

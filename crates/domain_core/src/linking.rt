@@ -80,7 +80,7 @@ pub fn peers_of<S: Drop, R: Drop>(
     Ok(peers)
 }
 
-/// Where the own lane stands among the links: before the first whose peer has a greater number.
+/// The place of the own lane among the links: before the first whose peer has a greater number.
 fn place_among<S, R>(links: &[Link<S, R>], number: u8) -> usize
     ensures place { result ≡ own_place number links.now }
     ensures within { result ≤ length links.now }

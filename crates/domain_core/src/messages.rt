@@ -11,7 +11,7 @@ use rpmsg_frame::write_header;
 /// Where the content lies in the buffer of a message.
 pub const CONTENT: u32 = (FRAME_HEADER_SIZE + LETTER_HEADER_SIZE) as u32;
 
-/// Writes the frame of a letter, and answers its length. The rest of `out` stays.
+/// Writes the frame of a letter and returns its length in bytes. The rest of `out` stays.
 pub fn write(out: &mut [u8], source: u32, destination: u32, letter: &Letter<'_>) -> u32
     requires lawful { HasSpelling (plain_letter letter.now) }
     requires short { length (spelling (plain_letter letter.now)) ≤ 496 }
@@ -25,7 +25,7 @@ pub fn write(out: &mut [u8], source: u32, destination: u32, letter: &Letter<'_>)
     (FRAME_HEADER_SIZE + len) as u32
 }
 
-/// Writes a letter where the payload of a frame lies, and answers its length.
+/// Writes a letter behind the header of its frame and returns the letter's length in bytes.
 fn write_payload(out: &mut [u8], letter: &Letter<'_>) -> usize
     requires lawful { HasSpelling (plain_letter letter.now) }
     requires room { length out.old ≡ 512 }

@@ -8,7 +8,7 @@ use lane_end::{LoopLane, RecvEnd, SendEnd};
 use mc_base::{Buffer, NoMemory};
 use std::alloc::Global;
 
-/// The lane of a domain with a pool of 1 to 256 buffers. Want of memory is the only refusal.
+/// Makes the lane of a domain to itself, of 1 to 256 buffers. `NoMemory` is the only error.
 pub fn own_lane(alloc: Global, pool: u32) -> Result<LoopLane, NoMemory>
     requires some { 1 ≤ pool }
     requires most { pool ≤ 256 }

@@ -1,4 +1,4 @@
-//! Both ends that a domain holds towards one peer, as one lane.
+//! The two ends that a domain holds towards one peer, as one value.
 
 ghost use Rattle.std.specs.Prelude.{◌≡◌, ◌≤◌, ◌<◌, ◌+◌, ◌++◌, ◌∷◌, [], List, length, take, Contains};
 ghost use Rattle.mc_base.specs.Limits.{buffer_size};
@@ -11,26 +11,27 @@ ghost use Rattle.domain_core.specs.LaneSeen.{LaneSeen, after_move};
 
 use mc_base::Buffer;
 
-/// The lane to a peer and the lane from it. The peer may be the domain itself, and the two may be one.
+/// A domain's ends of the lane to a peer and of the lane from it, with the calls of [`SendEnd`](lane_end::SendEnd) and
+/// [`RecvEnd`](lane_end::RecvEnd). Where the peer is the domain itself the two lanes are one.
 pub trait PeerLane {
-    /// What is seen of it: the sizes of both lanes, what is free to be put, what is shown, and what is out.
+    /// The sizes of both lanes, how many buffers are free and how many frames are shown, and which buffers are out.
     ghost seen: { Self → LaneSeen };
 
-    /// These moves of both ends, oldest first, lead from the one state to the other.
+    /// Whether these moves of both ends, oldest first, lead from the first state to the second.
     ghost Moved: { Self → List LaneMove → Self → Type 0 };
 
-    /// How many buffers are free. It makes no move.
+    /// Returns the number of free buffers. It is not a look.
     fn free_len(&self) -> u32
         ensures free { result ≡ (seen self.now).free }
         ensures room { result ≤ (seen self.now).size_to };
 
-    /// Looks once at the buffers that came back, and answers how many it showed. They are free now.
+    /// Looks once for buffers that came back, and returns how many it showed. These are free from now on.
     fn look_back(&mut self) -> u32
         ensures moved { Moved self.old (sender (Looked result) ∷ []) self.new }
         ensures seen { seen self.new ≡ after_move (sender (Looked result)) (seen self.old) }
         ensures room { (seen self.new).free ≤ (seen self.new).size_to };
 
-    /// Puts a frame of 1 to 512 bytes. It is copied once, into the first free buffer.
+    /// Sends a frame of 1 to 512 bytes: copies it into the first free buffer. At least one buffer has to be free.
     fn put(&mut self, frame: &[u8])
         requires free { 0 < (seen self.old).free }
         requires some { 0 < length frame.now }
@@ -38,14 +39,14 @@ pub trait PeerLane {
         ensures moved { Moved self.old (sender (Sent frame.now) ∷ []) self.new }
         ensures seen { seen self.new ≡ after_move (sender (Sent frame.now)) (seen self.old) };
 
-    /// Looks once at the frames that came, and answers how many are shown and not taken.
+    /// Looks once for frames that came, and returns how many are shown and not taken.
     fn look_ahead(&mut self) -> u32
         ensures moved { Moved self.old (receiver (receiving.Looked result) ∷ []) self.new }
         ensures seen { seen self.new ≡ after_move (receiver (receiving.Looked result)) (seen self.old) }
         ensures more { (seen self.old).shown ≤ result }
         ensures room { length (seen self.new).out + (seen self.new).shown ≤ (seen self.new).size_from };
 
-    /// Takes the oldest frame, where one is shown: its buffer, and how many of the buffer's first bytes it has.
+    /// Takes the oldest frame that is shown, and returns its buffer and its length in bytes, at most 512.
     fn take(&mut self) -> (Buffer, u32)
         requires { 0 < (seen self.old).shown }
         ensures moved { Moved self.old (receiver (Took result.0.number (take result.1 result.0.bytes)) ∷ []) self.new }
@@ -54,19 +55,19 @@ pub trait PeerLane {
         ensures apart { AreApart (seen self.new).size_from (seen self.new).out }
         ensures room { length (seen self.new).out + (seen self.new).shown ≤ (seen self.new).size_from };
 
-    /// Gives a buffer back that is out.
+    /// Gives back a buffer that is out.
     fn give_back(&mut self, buffer: Buffer)
         requires { Contains (seen self.old).out buffer.number }
         ensures moved { Moved self.old (receiver (Gave buffer.number) ∷ []) self.new }
         ensures seen { seen self.new ≡ after_move (receiver (Gave buffer.number)) (seen self.old) };
 
-    /// No move leads nowhere else.
+    /// An empty list of moves changes nothing.
     ghost none: { (l : Self) → Moved l [] l };
 
-    /// Moves after moves are one list of moves.
+    /// Two lists of moves, one after the other, are one list.
     ghost both: { (a b c : Self) (xs ys : List LaneMove) → Moved a xs b → Moved b ys c → Moved a (xs ++ ys) c };
 
-    /// Moves keep the sizes.
+    /// No move changes the size of either lane.
     ghost same_size_to: { (a b : Self) (xs : List LaneMove) → Moved a xs b → (seen b).size_to ≡ (seen a).size_to };
 
     ghost same_size_from: { (a b : Self) (xs : List LaneMove) → Moved a xs b → (seen b).size_from ≡ (seen a).size_from };

@@ -8,8 +8,8 @@ use std::alloc::Global;
 use std::collections::VecDeque;
 use std::marker::Model;
 
-/// The answer to a Connect, from the address that it named to the one that it came from: an Accept of the channel, or a Reject
-/// with its reason.
+/// The reply to a Connect: an Accept, or a Reject where `reason` is not `None`. It goes from the address to which the Connect was
+/// sent, `source`, to the one from which it came, `destination`, and names the Connect's channel.
 #[derive(Clone, Copy, Debug, PartialEq, Eq)]
 pub struct Reply {
     pub source: u32,
@@ -18,7 +18,7 @@ pub struct Reply {
     pub reason: Option<Reason>,
 }
 
-/// The replies that are owed to a peer, the oldest first: at most 64. They take memory where they are made, and none later.
+/// The replies that are owed to a peer, the oldest first: at most 64. Only making the list allocates.
 #[derive(Debug, Drop)]
 pub struct Replies {
     owed: VecDeque<Reply>,
@@ -37,11 +37,11 @@ impl Model for Replies {
 }
 
 impl Replies {
-    /// No replies, and room for 64.
+    /// Makes an empty list with room for 64 replies.
     ///
     /// # Errors
     ///
-    /// `NoMemory` where the room cannot be reserved.
+    /// `NoMemory` where an allocation fails.
     pub fn new(alloc: Global) -> Result<Replies, NoMemory>
         ensures { IfOk result (λ r. r ≡ []) }
     {
@@ -51,21 +51,21 @@ impl Replies {
         Ok(Replies { owed })
     }
 
-    /// Whether none is owed.
+    /// Returns whether no reply is owed.
     pub fn is_empty(&self) -> bool
         ensures { result ≡ (length self.now == 0) }
     {
         self.owed.is_empty()
     }
 
-    /// Whether 64 are owed.
+    /// Returns whether 64 replies are owed.
     pub fn is_full(&self) -> bool
         ensures { result ≡ nat_le reply_limit (length self.now) }
     {
         self.owed.len() >= MAX_OWED_REPLIES
     }
 
-    /// The oldest one.
+    /// Returns the oldest reply, or `None` where none is owed.
     pub fn first(&self) -> Option<Reply>
         ensures first { result ≡ slice_get self.now 0 }
         ensures lawful { IfSome result (λ r. 0 < r.channel) }
@@ -73,7 +73,7 @@ impl Replies {
         Some(*self.owed.front()?)
     }
 
-    /// Owes one more, the last.
+    /// Appends a reply. Fewer than 64 are owed, and its channel is not 0.
     pub fn push(&mut self, reply: Reply)
         requires few { length self.old < reply_limit }
         requires lawful { 0 < reply.channel }
@@ -82,7 +82,7 @@ impl Replies {
         self.owed.push_back_reserved(reply);
     }
 
-    /// Removes the oldest one.
+    /// Removes the oldest reply, where one is owed.
     pub fn remove_first(&mut self)
         ensures { self.new ≡ drop 1 self.old }
     {

@@ -1,12 +1,13 @@
-//! Why a wait ends without a success.
+//! Why a wait ended no request.
 
 use mc_base::Refusal;
 
-/// Why a wait ends without a success.
+/// Why a wait ended no request.
 #[derive(Clone, Copy, Debug)]
 pub enum WaitFault {
-    /// It was refused, or `Timeout`: its limit of turns was made, and none of its requests is complete.
+    /// `RequestInvalid` where one of its requests does not exist, or `Timeout` where it made all its turns and none of them is
+    /// complete.
     Refused(Refusal),
-    /// There was no memory for the journal of its next turn.
+    /// The journal could not grow for the next turn.
     NoMemory,
 }

@@ -11,7 +11,7 @@ use mc_base::{Fate, Kind, Reason};
 use packet_channel::Channel;
 use request_set::RequestSet;
 
-/// Owes the answer to a Connect, and returns the word for it. Nothing is owed where 64 replies to its peer are.
+/// Appends the reply to a Connect to those that are owed to its peer, unless 64 are, and returns the word for it.
 #[inline(never)] // Frames of messages, which come more often, stay short.
 pub fn answer_connect(
     endpoints: &mut Endpoints,

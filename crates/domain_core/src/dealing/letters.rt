@@ -12,8 +12,8 @@ use crate::requests::{Waiters, complete_all};
 use mc_base::{Bits, Fate, Letter, Local, Priority, Refusal};
 use request_set::{Complete, RequestSet};
 
-/// Does what a letter from a peer asks for at the channel of the endpoint at a place, and returns the verdict on it. Connects
-/// that wait for an answer are complete with it, and receives that wait end where the sender closes.
+/// Does what a letter from a peer asks for at the channel of the endpoint at a place, and returns the verdict on it. A reply
+/// completes the request of its connect, and receives that wait end where the sender closes.
 #[inline(never)] // Frames of messages, which come more often, stay short.
 pub fn act(
     endpoints: &mut Endpoints,

@@ -14,13 +14,19 @@ use mc_base::{EndName, Kind, Local, Refusal, RequestId, Side};
 use mc_journal::Journal;
 
 impl<S: SendEnd, R: RecvEnd> Domain<S, R> {
-    /// Makes a channel from an endpoint, which is its sender, to the named one, and returns its number, which no other channel
-    /// of this domain has. The request is complete when the answer of the named endpoint's domain is taken.
+    /// Connects a channel from an endpoint, its sender, to the named one, its receiver. Returns a request and the number of the
+    /// channel, which this domain counts from 1 and never uses again. The request becomes complete when the reply of the
+    /// receiver's domain is taken, an Accept or a Reject.
     ///
-    /// Refused with `EndpInvalid` where the sender is not live, with `ChanConnected` where it has a channel, with `EndpBusy`
-    /// where an item is queued there or a receive waits, with `PeerInvalid` where the named endpoint is neither live in this
-    /// domain nor known from a linked one, with `ChanLimit` where 65,535 channels were made, with `RequestLimit` where 64
-    /// requests stand, and with `NoBuffer` where no buffer of the lane to the named endpoint's domain is free after the turn.
+    /// # Errors
+    ///
+    /// - `EndpInvalid`: the endpoint `from` does not exist.
+    /// - `ChanConnected`: it has a channel.
+    /// - `EndpBusy`: a message is queued there, or a receive waits there.
+    /// - `PeerInvalid`: the endpoint `to` neither exists in this domain nor is known from a linked one.
+    /// - `ChanLimit`: this domain has numbered 65,535 channels.
+    /// - `RequestLimit`: 64 requests exist.
+    /// - `NoBuffer`: no buffer of the lane to the receiver's domain is free after the turn.
     pub fn connect(
         &mut self,
         journal: &mut Journal,
@@ -38,12 +44,17 @@ impl<S: SendEnd, R: RecvEnd> Domain<S, R> {
         self.inside.begin_connect(journal, from, to, kind)
     }
 
-    /// Opens the sender's end of the channel of an endpoint, for packets or for scalars.
+    /// Opens the sender's end of an endpoint's channel, for packets or for scalars. A SendOpen is sent to the receiver's end.
     ///
-    /// Refused with `EndpInvalid` where the endpoint is not live, with `NotConnected` where it has no channel or the channel is
-    /// not accepted yet, with `ChanDirection` where it is the receiver, with `ChanType` where the channel is of the other kind,
-    /// with `ChanClosed` where one of the ends is closed, with `AlreadyOpen` where the end is open, and with `NoBuffer` where no
-    /// buffer of the lane to the receiver's domain is free after the turn.
+    /// # Errors
+    ///
+    /// - `EndpInvalid`: the endpoint does not exist.
+    /// - `NotConnected`: it has no channel, or its connect has no reply yet.
+    /// - `ChanDirection`: it is the receiver.
+    /// - `ChanType`: the channel is of the other kind.
+    /// - `ChanClosed`: one of the ends is closed.
+    /// - `AlreadyOpen`: the end is open.
+    /// - `NoBuffer`: no buffer of the lane to the receiver's domain is free after the turn.
     pub fn open_send(&mut self, journal: &mut Journal, at: Local, kind: Kind) -> Result<(), Refusal>
         requires entry_room { call_entries ≤ journal.old.entry_room }
         requires byte_room { call_bytes ≤ journal.old.byte_room }
@@ -55,12 +66,17 @@ impl<S: SendEnd, R: RecvEnd> Domain<S, R> {
         self.inside.open_end(journal, at, Side::Sender, kind)
     }
 
-    /// Opens the receiver's end of the channel of an endpoint, for packets or for scalars.
+    /// Opens the receiver's end of an endpoint's channel, for packets or for scalars. A RecvOpen is sent to the sender's end.
     ///
-    /// Refused with `EndpInvalid` where the endpoint is not live, with `NotConnected` where it has no channel or its own channel
-    /// is not accepted yet, with `ChanDirection` where it is the sender, with `ChanType` where the channel is of the other kind,
-    /// with `ChanClosed` where the end is closed, with `AlreadyOpen` where it is open, and with `NoBuffer` where no buffer of
-    /// the lane to the sender's domain is free after the turn.
+    /// # Errors
+    ///
+    /// - `EndpInvalid`: the endpoint does not exist.
+    /// - `NotConnected`: it has no channel, or it is a sender whose connect has no reply yet.
+    /// - `ChanDirection`: it is the sender.
+    /// - `ChanType`: the channel is of the other kind.
+    /// - `ChanClosed`: the end is closed.
+    /// - `AlreadyOpen`: the end is open.
+    /// - `NoBuffer`: no buffer of the lane to the sender's domain is free after the turn.
     pub fn open_recv(&mut self, journal: &mut Journal, at: Local, kind: Kind) -> Result<(), Refusal>
         requires entry_room { call_entries ≤ journal.old.entry_room }
         requires byte_room { call_bytes ≤ journal.old.byte_room }
@@ -72,11 +88,16 @@ impl<S: SendEnd, R: RecvEnd> Domain<S, R> {
         self.inside.open_end(journal, at, Side::Receiver, kind)
     }
 
-    /// Closes the sender's end of the channel of an endpoint. The channel ends where the receiver's end is closed too.
+    /// Closes the sender's end of an endpoint's channel. A SendClose is sent to the receiver's end, which can still receive what is
+    /// queued there. Where the receiver's end is closed too, the channel ends, and the endpoint has none any more.
     ///
-    /// Refused with `EndpInvalid` where the endpoint is not live, with `NotConnected` where it has no channel or the channel is
-    /// not accepted yet, with `ChanDirection` where it is the receiver, with `ChanClosed` where the end is closed, and with
-    /// `NoBuffer` where no buffer of the lane to the receiver's domain is free after the turn.
+    /// # Errors
+    ///
+    /// - `EndpInvalid`: the endpoint does not exist.
+    /// - `NotConnected`: it has no channel, or its connect has no reply yet.
+    /// - `ChanDirection`: it is the receiver.
+    /// - `ChanClosed`: the end is closed.
+    /// - `NoBuffer`: no buffer of the lane to the receiver's domain is free after the turn.
     pub fn close_send(&mut self, journal: &mut Journal, at: Local) -> Result<(), Refusal>
         requires entry_room { call_entries ≤ journal.old.entry_room }
         requires byte_room { call_bytes ≤ journal.old.byte_room }
@@ -91,12 +112,18 @@ impl<S: SendEnd, R: RecvEnd> Domain<S, R> {
         }
     }
 
-    /// Closes the receiver's end of the channel of an endpoint, drops all that is queued there, and returns how many items that
-    /// were. Receives that wait there end. The channel ends where the sender's end is closed too.
+    /// Closes the receiver's end of an endpoint's channel, drops the items that are queued there, and returns how many these were.
+    /// Their buffers are given back, the oldest first, and items that come later are dropped. Receives that wait there become
+    /// complete with `ChanClosed`. A RecvClose is sent to the sender's end. Where the sender's end is closed too, the channel ends,
+    /// and the endpoint has none any more.
     ///
-    /// Refused with `EndpInvalid` where the endpoint is not live, with `NotConnected` where it has no channel or its own channel
-    /// is not accepted yet, with `ChanDirection` where it is the sender, with `ChanClosed` where the end is closed, and with
-    /// `NoBuffer` where no buffer of the lane to the sender's domain is free after the turn.
+    /// # Errors
+    ///
+    /// - `EndpInvalid`: the endpoint does not exist.
+    /// - `NotConnected`: it has no channel, or it is a sender whose connect has no reply yet.
+    /// - `ChanDirection`: it is the sender.
+    /// - `ChanClosed`: the end is closed.
+    /// - `NoBuffer`: no buffer of the lane to the sender's domain is free after the turn.
     pub fn close_recv(&mut self, journal: &mut Journal, at: Local) -> Result<u32, Refusal>
         requires entry_room { call_entries ≤ journal.old.entry_room }
         requires byte_room { call_bytes ≤ journal.old.byte_room }
@@ -108,15 +135,15 @@ impl<S: SendEnd, R: RecvEnd> Domain<S, R> {
         self.inside.close_end(journal, at, Side::Receiver)
     }
 
-    /// How many channels were made.
+    /// Returns how many channels this domain has numbered, 0 to 65,535.
     pub fn channels_given(&self) -> u32
         ensures { result ≡ self.now.state.channels_given }
     {
         self.inside.channels_given()
     }
 
-    /// How many items are queued at the receiver's end of the channel that a domain made with this number, 0 where there is
-    /// none.
+    /// Returns how many items are queued at the receiver's end of the channel that domain `owner`, its sender's, numbered
+    /// `number`. It is 0 where there is no such end here.
     pub fn queued(&self, owner: u8, number: u32) -> u32
         ensures { result ≡ queued_on owner number self.now.state }
     {

@@ -1,4 +1,4 @@
-//! The calls that send and receive items on channels.
+//! The calls that send and receive packets and scalars, the items of channels.
 
 ghost use Rattle.std.specs.Prelude.{◌≡◌, ◌≤◌, ◌<◌, ◌+◌, ◌*◌, ◌^◌, ◌↔◌, IfErr, IfOk, IsErr, IsNone, None, Some, length, option_map};
 ghost use Rattle.mc_base.specs.declared.refusal.Refusal.TheVariants.{BufInvalid};
@@ -15,12 +15,18 @@ use mc_base::{Bits, Local, PacketId, Refusal, RequestId};
 use mc_journal::Journal;
 
 impl<S: SendEnd, R: RecvEnd> Domain<S, R> {
-    /// Sends a packet of at most 488 bytes over the channel of an endpoint, which is its sender.
+    /// Sends a packet of 0 to 488 bytes over the channel of an endpoint, in one buffer of the lane to the receiver's domain.
     ///
-    /// Refused with `EndpInvalid` where the endpoint is not live, with `NotConnected` where it has no channel or the channel is
-    /// not accepted yet, with `ChanDirection` where it is the receiver, with `ChanType` where the channel is one of scalars, with
-    /// `ChanClosed` where one of the ends is closed, with `NotOpen` where one of them is not open, with `PktSize` where the packet
-    /// is longer, and with `NoBuffer` where no buffer of the lane to the receiver's domain is free after the turn.
+    /// # Errors
+    ///
+    /// - `EndpInvalid`: the endpoint does not exist.
+    /// - `NotConnected`: it has no channel, or its connect has no reply yet.
+    /// - `ChanDirection`: it is the receiver.
+    /// - `ChanType`: the channel carries scalars.
+    /// - `ChanClosed`: one of the ends is closed.
+    /// - `NotOpen`: one of the ends is not open.
+    /// - `PktSize`: the packet has more than 488 bytes.
+    /// - `NoBuffer`: no buffer of the lane is free after the turn.
     pub fn pkt_send(
         &mut self,
         journal: &mut Journal,
@@ -37,13 +43,18 @@ impl<S: SendEnd, R: RecvEnd> Domain<S, R> {
         self.inside.put_packet(journal, at, bytes)
     }
 
-    /// Receives the oldest packet that is queued at an endpoint, which is the receiver of a channel of packets. The packet is lent from
-    /// now on, until it is released: `pkt_bytes` gives its bytes, and its buffer is kept.
+    /// Receives the oldest packet that is queued at an endpoint, without a copy: the packet is lent, and keeps its buffer, until
+    /// [`release`](Domain::release). [`pkt_bytes`](Domain::pkt_bytes) returns its bytes.
     ///
-    /// Refused with `EndpInvalid` where the endpoint is not live, with `NotConnected` where it has no channel or its own channel
-    /// is not accepted yet, with `ChanDirection` where it is the sender, with `ChanType` where the channel is one of scalars, with
-    /// `ChanClosed` where the end is closed, or the sender closed and nothing is queued, with `NotOpen` where the end is not open,
-    /// and with `Empty` where nothing is queued.
+    /// # Errors
+    ///
+    /// - `EndpInvalid`: the endpoint does not exist.
+    /// - `NotConnected`: it has no channel, or it is a sender whose connect has no reply yet.
+    /// - `ChanDirection`: it is the sender.
+    /// - `ChanType`: the channel carries scalars.
+    /// - `ChanClosed`: the end is closed; or it is open, nothing is queued and the sender's end is closed.
+    /// - `NotOpen`: the end is not open.
+    /// - `Empty`: nothing is queued.
     pub fn pkt_recv(&mut self, journal: &mut Journal, at: Local) -> Result<PacketId, Refusal>
         requires entry_room { call_entries ≤ journal.old.entry_room }
         requires byte_room { call_bytes ≤ journal.old.byte_room }
@@ -56,11 +67,15 @@ impl<S: SendEnd, R: RecvEnd> Domain<S, R> {
         self.inside.take_packet(at)
     }
 
-    /// Begins a receive of a packet at an endpoint, which is the receiver of a channel of packets. Where a packet is queued, the
-    /// oldest is the request's at once; else the request waits for the next that comes. The packet is lent when the request is
-    /// tested off.
+    /// Requests a packet at an endpoint. Where one is queued, the request is complete at once with the oldest; otherwise it waits
+    /// for the next that comes, and becomes complete with `ChanClosed` where an end is closed before. The packet is lent when
+    /// [`test`](Domain::test) or a wait ends the request.
     ///
-    /// Refused as `pkt_recv` is, never with `Empty`, and with `RequestLimit` where 64 requests stand.
+    /// # Errors
+    ///
+    /// Those of [`pkt_recv`](Domain::pkt_recv) except `Empty`, and then:
+    ///
+    /// - `RequestLimit`: 64 requests exist.
     pub fn pkt_recv_i(&mut self, journal: &mut Journal, at: Local) -> Result<RequestId, Refusal>
         requires entry_room { call_entries ≤ journal.old.entry_room }
         requires byte_room { call_bytes ≤ journal.old.byte_room }
@@ -72,9 +87,11 @@ impl<S: SendEnd, R: RecvEnd> Domain<S, R> {
         self.inside.begin_packet(at)
     }
 
-    /// The bytes of a lent packet. It makes no turn.
+    /// Returns the bytes of a lent packet, 0 to 488, without a copy. It makes no turn.
     ///
-    /// Refused with `BufInvalid` where no lent packet has the id.
+    /// # Errors
+    ///
+    /// `BufInvalid` exactly where no lent packet has the id.
     pub fn pkt_bytes(&self, id: PacketId) -> Result<&[u8], Refusal>
         ensures bytes { IfOk result (λ bytes. Some bytes.now ≡ option_map (λ p. p.item.content) (packet_lent_as self.now id)) }
         ensures refused { IsErr result ↔ IsNone (packet_lent_as self.now id) }
@@ -84,9 +101,11 @@ impl<S: SendEnd, R: RecvEnd> Domain<S, R> {
         self.inside.packet_bytes(id)
     }
 
-    /// Releases a lent packet. Its buffer is given back.
+    /// Releases a lent packet, whose buffer is given back.
     ///
-    /// Refused with `BufInvalid` where no lent packet has the id.
+    /// # Errors
+    ///
+    /// - `BufInvalid`: no lent packet has the id.
     pub fn release(&mut self, journal: &mut Journal, id: PacketId) -> Result<(), Refusal>
         requires entry_room { call_entries ≤ journal.old.entry_room }
         requires byte_room { call_bytes ≤ journal.old.byte_room }
@@ -98,9 +117,18 @@ impl<S: SendEnd, R: RecvEnd> Domain<S, R> {
         self.inside.end_packet(id)
     }
 
-    /// Sends a scalar of 8, 16, 32 or 64 bits over the channel of an endpoint, which is its sender. The value has to fit the bits.
+    /// Sends a scalar of 8, 16, 32 or 64 bits over the channel of an endpoint. The value has to fit the bits. It travels as 1, 2,
+    /// 4 or 8 bytes, the least significant first.
     ///
-    /// Refused as `pkt_send` is, with `ChanType` where the channel is one of packets, and never with `PktSize`.
+    /// # Errors
+    ///
+    /// - `EndpInvalid`: the endpoint does not exist.
+    /// - `NotConnected`: it has no channel, or its connect has no reply yet.
+    /// - `ChanDirection`: it is the receiver.
+    /// - `ChanType`: the channel carries packets.
+    /// - `ChanClosed`: one of the ends is closed.
+    /// - `NotOpen`: one of the ends is not open.
+    /// - `NoBuffer`: no buffer of the lane to the receiver's domain is free after the turn.
     pub fn scl_send(
         &mut self,
         journal: &mut Journal,
@@ -119,13 +147,18 @@ impl<S: SendEnd, R: RecvEnd> Domain<S, R> {
         self.inside.put_scalar(journal, at, bits, value)
     }
 
-    /// Receives the oldest scalar that is queued at an endpoint, which is the receiver of a channel of scalars. The item's buffer
-    /// is given back.
+    /// Receives the oldest scalar that is queued at an endpoint, and returns its value. Its buffer is given back.
     ///
-    /// Refused with `EndpInvalid` where the endpoint is not live, with `NotConnected` where it has no channel or its own channel
-    /// is not accepted yet, with `ChanDirection` where it is the sender, with `ChanType` where the channel is one of packets, with
-    /// `ChanClosed` where the end is closed, or the sender closed and nothing is queued, with `NotOpen` where the end is not open,
-    /// with `Empty` where nothing is queued, and with `SclSize` where the oldest scalar has other bits. It stays queued then.
+    /// # Errors
+    ///
+    /// - `EndpInvalid`: the endpoint does not exist.
+    /// - `NotConnected`: it has no channel, or it is a sender whose connect has no reply yet.
+    /// - `ChanDirection`: it is the sender.
+    /// - `ChanType`: the channel carries packets.
+    /// - `ChanClosed`: the end is closed; or it is open, nothing is queued and the sender's end is closed.
+    /// - `NotOpen`: the end is not open.
+    /// - `Empty`: nothing is queued.
+    /// - `SclSize`: the oldest scalar has another number of bits. It stays queued.
     pub fn scl_recv(&mut self, journal: &mut Journal, at: Local, bits: Bits) -> Result<u64, Refusal>
         requires entry_room { call_entries ≤ journal.old.entry_room }
         requires byte_room { call_bytes ≤ journal.old.byte_room }

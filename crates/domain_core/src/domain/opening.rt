@@ -1,4 +1,4 @@
-//! How a domain begins and ends.
+//! How a domain is opened, gives its links back, and how its links carry.
 
 ghost use Rattle.std.specs.Prelude.{◌≡◌, ◌≤◌, [], IfOk, None};
 ghost use Rattle.std.specs.List.{AllByRecursion};
@@ -20,10 +20,15 @@ use mc_base::NoMemory;
 use std::alloc::Global;
 
 impl<S: SendEnd + Drop, R: RecvEnd + Drop> Domain<S, R> {
-    /// A domain with its number, 0 to 7, 1 to 16 nodes, 1 to 256 buffers for the messages inside it, and its links in the rising
-    /// order of their peers, none of which is the domain itself. Each link's size is that of both its ends, all buffers of its
-    /// sender are free, and nothing is shown or out at its receiver. It makes room for all that its calls need. Want of memory is
-    /// the only refusal; the links are given up then.
+    /// Opens a domain: its number, 0 to 7, its number of nodes, 1 to 16, the number of buffers of 512 bytes for frames between
+    /// its own endpoints, 1 to 256, and its links, in rising order of their peers, which are other domains.
+    ///
+    /// Each link's size is that of both its ends, at most 256; all buffers of its sender are free, and nothing is shown or out at
+    /// its receiver. All memory that later calls need is allocated here.
+    ///
+    /// # Errors
+    ///
+    /// `NoMemory` where an allocation fails. The links are dropped.
     pub fn open(
         alloc: Global,
         number: u8,
@@ -50,7 +55,7 @@ impl<S: SendEnd + Drop, R: RecvEnd + Drop> Domain<S, R> {
         })
     }
 
-    /// Its links, in the rising order of their peers, as they are.
+    /// Ends the domain and returns its links as they are, in rising order of their peers.
     pub fn into_links(self) -> Vec<Link<S, R>>
         ensures { result.items ≡ links_in self.ends }
     {
@@ -58,8 +63,8 @@ impl<S: SendEnd + Drop, R: RecvEnd + Drop> Domain<S, R> {
     }
 }
 
-/// Carries the link between two domains over plain lanes: what each put comes to the other, and what each gave back comes back. The
-/// next looks show it.
+/// Carries the link between two linked domains over plain lanes: the frames that each sent come to the other, and the buffers that
+/// each gave back come back. The next turns see them.
 pub fn carry(one: &mut Domain<PlainSend, PlainRecv>, two: &mut Domain<PlainSend, PlainRecv>)
     requires linked { AreLinked AreOneLane one.old.state.number two.old.state.number one.old.ends two.old.ends }
     ensures carries { Carries HasShuttled one.old.state.number two.old.state.number one.old.ends two.old.ends one.new.ends two.new.ends }
@@ -70,7 +75,8 @@ pub fn carry(one: &mut Domain<PlainSend, PlainRecv>, two: &mut Domain<PlainSend,
     holdings::carry(&mut one.inside, &mut two.inside);
 }
 
-/// Carries the link between two domains over rings: the two ends of each lane meet, and each knows of all that the other did.
+/// Has the ends of the link between two linked domains meet, whose lanes are over rings: each end then knows all that the other
+/// did.
 pub fn carry_rings<'a>(
     one: &mut Domain<AnySend<'a>, AnyRecv<'a>>,
     two: &mut Domain<AnySend<'a>, AnyRecv<'a>>,

@@ -1,4 +1,4 @@
-//! The call that puts a frame as it is.
+//! The call that sends a frame as it is.
 
 ghost use Rattle.std.specs.Prelude.{◌≤◌, ◌+◌, None, length};
 ghost use Rattle.board_model.specs.DomainCall.{raw_to};
@@ -12,11 +12,14 @@ use mc_base::Refusal;
 use mc_journal::Journal;
 
 impl<S: SendEnd, R: RecvEnd> Domain<S, R> {
-    /// Puts a frame of 1 to 512 bytes to a domain as it is, by the lane to it. The frame must have a fault: the domain that takes it
-    /// notes its first fault and gives the buffer back at once.
+    /// Sends a frame of 1 to 512 bytes to a domain as it is, for tests of faulty peers. The frame has to have a fault
+    /// (docs/FORMATS.md, "Faults of a frame"); the domain that takes it records the first one and gives the buffer back at once.
     ///
-    /// Refused with `LinkInvalid` where the domain is neither linked nor this one, with `RawSound` where the frame has no fault,
-    /// and with `NoBuffer` where no buffer of the lane to the domain is free after the turn.
+    /// # Errors
+    ///
+    /// - `LinkInvalid`: the domain is neither linked nor this one.
+    /// - `RawSound`: the frame has no fault.
+    /// - `NoBuffer`: no buffer of the lane to the domain is free after the turn.
     pub fn raw_put(&mut self, journal: &mut Journal, peer: u8, frame: &[u8]) -> Result<(), Refusal>
         requires some { 1 ≤ length frame.now }
         requires fits { length frame.now ≤ 512 }

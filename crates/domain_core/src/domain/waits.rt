@@ -16,14 +16,17 @@ use mc_base::{Done, RequestId};
 use mc_journal::Journal;
 
 impl<S: SendEnd, R: RecvEnd> Domain<S, R> {
-    /// Waits for a request until it is complete, for at most `limit` turns, and ends it then, as `test` does. `number` is that of the
-    /// wait's line. Where the request is complete at once it makes no turn; else it notes that it begins, and then its turns.
+    /// Makes turns until a request is complete, at most `limit`, and ends it as [`test`](Domain::test) does. Where the request is
+    /// complete already it makes no turn. Otherwise the journal records the start of the wait, under `number`, which is that of its
+    /// line in a script, and each turn. `out` has at least 488 bytes.
     ///
     /// # Errors
     ///
-    /// `Refused` with `RequestInvalid`, without a turn, where no request has the id, and with `Timeout` exactly after `limit` turns,
-    /// none of which completed the request. `NoMemory` where there is no memory for the journal of the next turn: the state is
-    /// as after the last whole turn.
+    /// `out` stays as it is.
+    ///
+    /// - `Refused(RequestInvalid)`: no request has the id. It makes no turn.
+    /// - `Refused(Timeout)`: `limit` turns were made, and none completed the request, which still exists.
+    /// - `NoMemory`: the journal cannot grow for the next turn. The domain is as after the last whole turn.
     pub fn wait(
         &mut self,
         journal: &mut Journal,
@@ -44,12 +47,12 @@ impl<S: SendEnd, R: RecvEnd> Domain<S, R> {
         Ok(done)
     }
 
-    /// Waits for one of several requests as `wait` does for one. It returns the first place in the list, counted from 1, whose
-    /// request is complete, and ends that request alone.
+    /// Waits for one of 1 to 8 requests, as [`wait`](Domain::wait) does for one. It ends the first complete request in the list and
+    /// no other, and returns its place, counted from 1.
     ///
     /// # Errors
     ///
-    /// As `wait`; `RequestInvalid` exactly where one of the requests does not exist.
+    /// As `wait`; `RequestInvalid` where one of the requests does not exist.
     pub fn wait_any(
         &mut self,
         journal: &mut Journal,
@@ -73,7 +76,8 @@ impl<S: SendEnd, R: RecvEnd> Domain<S, R> {
         Ok((at as u8 + 1, done))
     }
 
-    /// Returns the first place in the list, counted from 1, whose request is complete, or `None` where none is. It makes no turn.
+    /// Returns the place of the first complete request in a list of 1 to 8, counted from 1, or `None` where none is complete. It
+    /// makes no turn.
     pub fn settled(&self, ids: &ArrayVec<RequestId, 8>) -> Option<u8>
         requires { 1 ≤ length ids.now.items }
         ensures { result ≡ first_settled ids.now.items self.now }

@@ -237,7 +237,7 @@ impl<P: PeerLane> Holdings<P> {
         self.endpoints.is_out_of_numbers()
     }
 
-    /// Whether 64 requests stand.
+    /// Whether 64 requests exist.
     fn is_full(&self) -> bool
         ensures { result ≡ nat_le request_limit (length (state_of self.now.parts).requests) }
     {

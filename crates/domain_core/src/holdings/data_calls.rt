@@ -166,7 +166,7 @@ impl<P: PeerLane> Holdings<P> {
         Ok(id)
     }
 
-    /// Begins a receive of a packet at an endpoint, with the oldest where one is queued, or answers `None` where 64 requests stand.
+    /// Begins a receive of a packet at an endpoint, with the oldest where one is queued, or returns `None` where 64 requests exist.
     fn begin_packet_at(&mut self, at: Local, place: usize) -> Option<RequestId>
         requires there { place_at (state_of self.old.parts) at ≡ Some place }
         requires within { place < length self.old.parts.records.endpoints }

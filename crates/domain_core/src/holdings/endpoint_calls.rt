@@ -52,7 +52,7 @@ impl<P: PeerLane> Holdings<P> {
         Ok(dropped)
     }
 
-    /// Drops all messages that wait at a place, the oldest first, and answers how many.
+    /// Drops all messages that are queued at a place, the oldest first, and returns how many these were.
     pub(super) fn drop_all(&mut self, place: usize) -> u32
         requires within { place < length self.old.parts.records.endpoints }
         ensures count { result ≡ length (slots_at self.old.parts.records place) }

@@ -25,8 +25,8 @@ use request_set::RequestSet;
 use std::alloc::Global;
 
 impl<S: SendEnd + Drop, R: RecvEnd + Drop> Holdings<Ends<S, R>> {
-    /// The inside of a domain with its number, its nodes, the buffers of its own lane, and its links. Want of memory is the only
-    /// refusal; the links are given up then.
+    /// Makes the inside of a domain with its number, its nodes, the buffers of its own lane, and its links. `NoMemory` is the only
+    /// error; the links are dropped then.
     pub fn open(
         alloc: Global,
         number: u8,

@@ -1,4 +1,4 @@
-//! What a linked domain is to be told: announcements of endpoints that are there or gone.
+//! How announcements and replies that are owed to a peer are sent.
 
 ghost use Rattle.std.specs.Prelude.{◌≡◌, ◌≤◌, ◌<◌, ◌+◌, ◌∷◌, [], ℕ, List, IsTrue, None, Some, true, false, min, length, option_map, slice_get, take};
 ghost use Rattle.mc_base.specs.Limits.{name_service_address};
@@ -23,8 +23,8 @@ use name_service::write_ns;
 use rpmsg_frame::encode_into;
 
 impl<P: PeerLane> Holdings<P> {
-    /// Puts what is owed to the peer at a place: announcements first, and then replies, the oldest first. At most 8 are put, as long
-    /// as a buffer is free. Returns whether the turn has begun.
+    /// Puts what is owed to the peer at a place: announcements first, and then replies, the oldest first. At most 8 are put, as
+    /// long as a buffer is free. Returns whether the turn has begun.
     pub fn put_owed(&mut self, journal: &mut Journal, place: usize, begun: bool) -> bool
         requires rests { Rests P.Moved self.old }
         requires within { place < length self.old.parts.peers }

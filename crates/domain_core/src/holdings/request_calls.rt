@@ -34,7 +34,7 @@ impl<P: PeerLane> Holdings<P> {
         Ok(id)
     }
 
-    /// Begins a request that holds no message, or answers `None` where 64 stand.
+    /// Begins a request that holds no message, or returns `None` where 64 requests exist.
     pub(super) fn begin_request(&mut self, ask: Ask, how: Option<Complete>) -> Option<RequestId>
         requires may { Receives ask how }
         requires quiet { slots_in how ≡ [] }
@@ -69,7 +69,7 @@ impl<P: PeerLane> Holdings<P> {
         Ok(id)
     }
 
-    /// Begins a receive at an endpoint, with the best message where one waits, or answers `None` where 64 requests stand.
+    /// Begins a receive at an endpoint, with the best message where one is queued, or returns `None` where 64 requests exist.
     fn begin_receive_at(&mut self, at: Local, place: usize, max: u32) -> Option<RequestId>
         requires there { place_at (state_of self.old.parts) at ≡ Some place }
         requires within { place < length self.old.parts.records.endpoints }
