@@ -10,7 +10,7 @@ ghost use Rattle.board_runner.specs.Lines.{GivesWithin};
 use domain_core::{Answer, Told};
 use mc_base::{Done, Got, Refusal, RequestId};
 
-/// Of a call that tells nothing but that it was done.
+/// Of a call that returns nothing.
 pub fn of_unit(made: Result<(), Refusal>) -> Answer<'static>
     ensures sent { plain_answer result ≡ sent made }
     ensures cancelled { plain_answer result ≡ cancelled made }
@@ -22,7 +22,7 @@ pub fn of_unit(made: Result<(), Refusal>) -> Answer<'static>
     }
 }
 
-/// Of a call that tells a number: an address, or how many messages or items wait or were dropped.
+/// Of a call that returns a number: an address, or how many messages or items are queued or were dropped.
 pub fn of_number(made: Result<u32, Refusal>) -> Answer<'static>
     ensures created { plain_answer result ≡ created made }
     ensures deleted { plain_answer result ≡ deleted made }
@@ -36,7 +36,7 @@ pub fn of_number(made: Result<u32, Refusal>) -> Answer<'static>
     }
 }
 
-/// Of a call that gives a request: it tells the request's serial.
+/// Of a call that returns a request: the request's serial.
 pub fn of_request(made: Result<RequestId, Refusal>) -> Answer<'static>
     ensures requested { plain_answer result ≡ requested made }
     ensures no_bytes { bytes_in_answer result ≡ 0 }
@@ -47,7 +47,7 @@ pub fn of_request(made: Result<RequestId, Refusal>) -> Answer<'static>
     }
 }
 
-/// Of a connect: it tells the serial of its request and the number of its channel.
+/// Of a connect: the serial of its request and the number of its channel.
 pub fn of_connect(made: Result<(RequestId, u32), Refusal>) -> Answer<'static>
     ensures connected { plain_answer result ≡ connected made }
     ensures no_bytes { bytes_in_answer result ≡ 0 }
@@ -61,7 +61,7 @@ pub fn of_connect(made: Result<(RequestId, u32), Refusal>) -> Answer<'static>
     }
 }
 
-/// Of a receive, which gave the first bytes of `out`.
+/// Of a receive, which wrote the first bytes of `out`.
 pub fn of_receive<'a>(made: Result<Got, Refusal>, out: &'a [u8]) -> Answer<'a>
     requires { IfOk made (λ got. got.given ≤ length out.now) }
     ensures received { plain_answer result ≡ received made out.now }

@@ -26,7 +26,7 @@ pub fn carry_all(stations: &mut [Station<'_>], at: usize)
     }
 }
 
-/// Has the stations at two places meet, in whichever order they stand. Where there is no link nothing happens.
+/// Has the stations at two places meet, in whichever order they are. Where there is no link nothing happens.
 fn meet_between(stations: &mut [Station<'_>], one: usize, two: usize)
     requires apart { one ≢ two }
     requires one_within { one < length stations.old }

@@ -1,4 +1,4 @@
-//! What a journal tells in numbers.
+//! What the entries of a journal come to in numbers.
 
 ghost use Rattle.std.specs.Prelude.{◌≡◌, ◌+◌, ◌<◌, ◌^◌, ◌==◌, ◌&&◌, ℕ, is_none, slice_index};
 ghost use Rattle.mc_base.specs.FaultRow.{first_fault};
@@ -72,7 +72,7 @@ fn add_one(numbers: &mut [u64; 8], domain: u8)
     }
 }
 
-/// Whether a frame is sound and carries a message. An announcement is told by its destination.
+/// Whether a frame is sound and carries a message. An announcement is known by its destination, address 53.
 fn carries_message(frame: &[u8]) -> bool
     ensures { result ≡ is_of_message frame.now }
 {

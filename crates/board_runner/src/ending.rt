@@ -20,7 +20,7 @@ use lane_end::{AnyRecv, AnySend};
 use mc_base::{MAX_DOMAINS, NoMemory};
 use std::alloc::Global;
 
-/// The outcome of a serial run that left these stations, in rising number. Want of memory is the only refusal.
+/// Makes the outcome of a serial run that left these stations, which are in rising number. `NoMemory` is the only error.
 pub fn outcome_of(
     alloc: Global,
     scenario: &Scenario,

@@ -13,11 +13,12 @@ use mc_base::NoMemory;
 use split_ring::Closed;
 use std::alloc::Global;
 
-/// Finishes the rings of all links from what is left of their ends, in the order of the links: of each link queue 0 and then queue 1.
+/// Finishes the rings of all links from what is left of their ends, in the order of the links: of each link queue 0 and then
+/// queue 1.
 ///
 /// # Errors
 ///
-/// `NoMemory` where there is none for the list.
+/// `NoMemory` where the list cannot grow.
 pub(crate) fn finish_rings(
     alloc: Global,
     links: &[LinkLine],

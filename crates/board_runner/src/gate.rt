@@ -1,9 +1,9 @@
-//! What the lines of domains pass on their threads.
+//! What is called before each line of a run on threads.
 
-/// What is called before each line of a domain's script, with the domain's number and the line's, from 1.
-///
-/// A test has a gate to put the lines of several domains in an order.
+/// Is called before each line of a run on threads, on the thread of the line's domain. In a test it can hold a line back until
+/// another domain has come to a line of its own.
 pub trait Gate {
+    /// Is called before line `number` of domain `domain`. The lines of a domain are numbered from 1.
     fn pass(&self, domain: u8, number: u32);
 }
 

@@ -1,4 +1,4 @@
-//! What the journals tell of the items of channels.
+//! What the journals' entries of the items of channels come to in numbers.
 
 ghost use Rattle.std.specs.Prelude.{◌≡◌, ◌+◌, ◌<◌, ◌^◌, ◌==◌, ℕ, IfOk, [], length, slice_index, if◌then◌else◌};
 ghost use Rattle.mc_base.specs.Reading.{reading};
@@ -14,8 +14,8 @@ use mc_base::{Fate, Letter, NoMemory};
 use name_service::{Said, read_frame};
 use std::alloc::Global;
 
-/// How many items of the channels of one domain were sent, were brought to their receivers, and were dropped there, by the channels'
-/// numbers.
+/// How many items of the channels of one domain were sent, were brought to their receivers, and were dropped there, by the
+/// channels' numbers.
 #[derive(Drop)]
 pub struct ItemCounts {
     pub owner: u8,

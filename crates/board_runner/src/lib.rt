@@ -1,7 +1,8 @@
-//! Runs a board by its scenario, and writes the report of the run.
+//! Runs the domains of a scenario, and writes the report of the run.
 //!
-//! The serial run makes the calls in the file's order, and each look shows all that stands. The report goes to a sink
-//! piece by piece and takes no memory.
+//! [`run_serial`] runs all lines on one thread in the file's order; [`run_threads`] runs each domain's lines on a thread of its
+//! own. Both return an [`Outcome`], of which [`write_report`] writes the report (docs/FORMATS.md, "Report") without taking
+//! memory.
 #![tactic(auto)]
 
 mod adding;

@@ -169,7 +169,7 @@ fn ends_idle(journal: &Journal) -> bool
     many > 0 && matches!(journal.entry(many - 1), Some(Entry::Idle { .. }))
 }
 
-/// Makes the call of a line. Of a message or packet, the bytes that are given stand in `room`.
+/// Makes the call of a line. The bytes of a message or packet go to `room`.
 fn call_line<'r>(
     station: &mut Station<'_>,
     line: &CallLine,

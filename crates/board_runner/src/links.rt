@@ -13,7 +13,7 @@ use std::alloc::Global;
 ///
 /// # Errors
 ///
-/// `NoMemory` where there is none for the list.
+/// `NoMemory` where the list cannot grow.
 pub(crate) fn links_of<'a>(
     alloc: Global,
     wires: &mut Vec<Wire<'a>>,

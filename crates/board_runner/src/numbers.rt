@@ -1,4 +1,4 @@
-//! What the outcome tells in numbers, by the tallies of the domains.
+//! The numbers of the outcome, by the tallies of the domains.
 
 ghost use Rattle.std.specs.Prelude.{◌≡◌, ◌+◌, ◌-◌, ◌<◌, ◌≤◌, ◌^◌, ◌++◌, [], IfOk, OnOk, length, sum_by, get_or, option_to_list};
 ghost use Rattle.board_model.specs.Scenario.{lanes};

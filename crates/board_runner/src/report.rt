@@ -1,4 +1,4 @@
-//! The text of a report, put piece by piece.
+//! Writes the text of a report, piece by piece.
 
 ghost use Rattle.std.specs.Prelude.{◌≡◌, ◌≤◌, ◌++◌, ◌∷◌, [], ℕ, length, codes, decimal, IsOk};
 ghost use Rattle.std.specs.List.{flat_map};
@@ -22,15 +22,15 @@ use ring_trace::put_image;
 use scenario_lang::put_scenario;
 use split_ring::Closed;
 
-/// Writes the report: a heading that says whether the domains ran on threads, the scenario, the journal of each domain, what
-/// became of the items of channels, of messages and of buffers, and, of a run on threads, the images of the rings. It goes to the
-/// sink piece by piece and takes no memory. Some text tells the scenario, of whatever length, and the outcome has one journal for
-/// each of its domains, in rising number. That of a run on threads has two rings for each link in order, queue 0 and then queue 1.
-/// The report of a serial run has no images, whichever rings are there.
+/// Writes the report of a run (docs/FORMATS.md, "Report"): a heading that says whether the domains ran on threads, the scenario,
+/// the journal of each domain, what became of the items of channels, of messages and of buffers, and, of a run on threads, the
+/// images of the rings. It goes to the sink piece by piece and takes no memory. The outcome has one journal for each domain of the
+/// scenario, in rising number, and the scenario is one that some text spells. That of a run on threads has two rings for each
+/// link in order, queue 0 and then queue 1. The report of a serial run has no images, whichever rings are there.
 ///
 /// # Errors
 ///
-/// `Failed` where a write failed. A proper prefix of the report was written then.
+/// `Failed` where a write fails. A proper prefix of the report is written then.
 pub fn write_report<K: Sink>(
     scenario: &Scenario,
     outcome: &Outcome,
@@ -102,7 +102,7 @@ fn put_journal<K: Sink>(out: &mut Writer<'_, K>, domain: u8, journal: &Journal)
     put_entries(out, journal);
 }
 
-/// Puts the lines of a report that tell what became of the items of each channel, and of the messages.
+/// Writes the lines of a report that say what became of the items of each channel and of the messages.
 pub fn put_summary<K: Sink>(out: &mut Writer<'_, K>, outcome: &Outcome)
     ensures { Puts K.Sink out.old out.new (summary_text outcome.now.channels outcome.now.messages) }
 {

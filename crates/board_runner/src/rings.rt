@@ -37,7 +37,7 @@ pub struct LinkHalves {
 ///
 /// # Errors
 ///
-/// `NoMemory` where there is none for a ring.
+/// `NoMemory` where an allocation for a ring fails.
 pub fn rings_of(
     alloc: Global,
     links: &[LinkLine],

@@ -20,12 +20,15 @@ use board_model::{DomainLine, Scenario};
 use mc_base::{MAX_ASKED, MAX_DOMAINS, NoMemory};
 use std::alloc::Global;
 
-/// Runs a lawful board over rings, two for each link, and returns what the run left. Its lines are run in the file's order, each look shows all that stands on
-/// the lanes, and between two calls of a line with tries every other domain makes one turn.
+/// Runs a scenario on one thread, in the order of its lines, and returns what the run left (docs/PROFILE.md, "Serial run").
+///
+/// Each look shows all frames and buffers that are there. Between two calls of a line with `try` every other domain makes one turn,
+/// and in each round of a wait every domain does. The same scenario always has the same outcome. It has to be lawful: one that a
+/// text of fewer than 4,294,967,294 bytes spells.
 ///
 /// # Errors
 ///
-/// `NoMemory`, at any time.
+/// `NoMemory` where an allocation fails: memory is taken for the board and for the journals, which grow with the run.
 pub fn run_serial(alloc: Global, scenario: &Scenario) -> Result<Outcome, NoMemory>
     requires { IsLawfulBoard scenario.now }
     ensures { IfOk result (λ o. IsOutcome scenario.now o (serial_run scenario.now)) }

@@ -33,14 +33,15 @@ struct Job<'a> {
     station: Station<'a>,
 }
 
-/// Runs a lawful board over rings, each domain on a thread of its own, and returns what the run left. Each script runs whole, in
-/// its order, and each line passes the gate first. Once all domains have ended, their rings are finished.
+/// Runs a scenario with a thread for each domain, joins them, and returns what the run left (docs/PROFILE.md, "Runs on threads").
 ///
-/// Nothing is promised of time: neither the order between domains nor that two threads run at once.
+/// Each domain runs its own lines, in their order and to the end, and calls the gate before each. The two domains of a link share
+/// its two rings and nothing else. Nothing is promised of the order between lines of two domains, nor that two threads run at once.
+/// The scenario has to be lawful, as for [`run_serial`](crate::run_serial).
 ///
 /// # Errors
 ///
-/// `NoMemory`, at any time.
+/// `NoMemory` where an allocation fails, in any of the domains. All threads are joined then.
 pub fn run_threads<T: Threads + Sync, G: Gate + Sync>(
     rt: &T,
     alloc: Global,

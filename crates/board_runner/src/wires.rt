@@ -22,7 +22,7 @@ pub struct Wire<'a> {
 ///
 /// # Errors
 ///
-/// `NoMemory` where there is none for the list.
+/// `NoMemory` where the list cannot grow.
 pub fn wires_of<'a>(
     alloc: Global,
     links: &[LinkLine],

@@ -94,7 +94,7 @@ pub fn close_send(
     })
 }
 
-/// Closes the receiver's end of a channel, and tells how many items were dropped there.
+/// Closes the receiver's end of a channel, and returns how many items were dropped there.
 pub fn close_recv(
     domain: &mut Domain<AnySend<'_>, AnyRecv<'_>>,
     journal: &mut Journal,

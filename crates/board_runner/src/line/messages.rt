@@ -87,7 +87,7 @@ pub fn receive<'r>(
     })
 }
 
-/// Tells how many messages wait.
+/// Counts the messages that are queued.
 pub fn available(
     domain: &mut Domain<AnySend<'_>, AnyRecv<'_>>,
     journal: &mut Journal,

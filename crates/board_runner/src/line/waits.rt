@@ -35,8 +35,8 @@ pub fn wait_limit(call: &Call) -> Option<u32>
     }
 }
 
-/// Runs a line that waits. Its domain tests first. Then every domain makes a turn, in rising number, and it tests again, until a request
-/// is complete or the limit is reached.
+/// Runs a line that waits. Its domain tests first. Then every domain makes a turn, in rising number, and it tests again, until a
+/// request is complete or the limit is reached.
 pub fn run_wait<'a>(
     stations: &mut [Station<'a>],
     at: usize,
@@ -202,7 +202,8 @@ pub fn wait_alone<'a>(
     Ok(())
 }
 
-/// Waits at a domain alone for the requests of a line, for at most so many turns. What a request brings goes to `room`; a packet is lent.
+/// Waits at a domain alone for the requests of a line, for at most so many turns. What a request brings goes to `room`; a packet
+/// is lent.
 fn wait_for<'r>(
     station: &mut Station<'_>,
     line: &CallLine,
@@ -272,7 +273,7 @@ fn wait_any<'r>(
     }
 }
 
-/// What a wait made that ended with a request: it tells the place of the request among several, and of a message or packet the bytes.
+/// What a wait made that ended with a request: the place of the request among several, and the bytes of a message or packet.
 fn ended_with<'r>(
     domain: &Domain<AnySend<'_>, AnyRecv<'_>>,
     place: Option<u8>,
