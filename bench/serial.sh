@@ -1,5 +1,5 @@
 #!/bin/sh
-# Times `mcrun run --serial` on five kinds of scenario, and counts its instructions, as the table of README.md.
+# Times `mcrun run --serial` on five kinds of scenario, and counts its instructions, as the table of docs/SPEED.md.
 # Run it at the top of the repository, where crates/mcrun is built: sh bench/serial.sh
 # With a second program that writes the same bytes, the times are also compared with its times: sh bench/serial.sh OTHER
 # Instructions are counted by callgrind, where valgrind is installed.
