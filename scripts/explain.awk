@@ -27,6 +27,7 @@ file == 1 && /^[|]/ {
     }
 }
 file == 1 && /^PORT and the P of a name are/ { ranges = $0; sub(/[.] .*/, ".", ranges) }
+file == 1 && /^KIND is the word/ { kinds = unquoted($0); sub(/[.] .*/, ".", kinds) }
 
 file == 2 && FNR == refusal[2] { refused_line = $0; there_is_line = 1; exit }
 
@@ -70,7 +71,11 @@ function line(word,    near, kind) {
 # The form of the call that stands in these words, else of the one whose name is nearest to the word in its place.
 function call(words, count,    at, near) {
     for (at = 2; at <= count; at++)
-        if (words[at] in form) { form_of_call("the form of this call: ", words[at]); return }
+        if (words[at] in form) {
+            form_of_call("the form of this call: ", words[at])
+            if (refusal[3] == "form" && words[at - 2] == "try" && words[at] ~ /^wait/) say("a wait takes no try")
+            return
+        }
     at = words[3] == "=" ? 4 : 2
     if (words[at] == "try") at += 2
     near = nearest(words[at], form)
@@ -81,6 +86,7 @@ function call(words, count,    at, near) {
 
 function form_of_call(text, name) {
     say(text form[name])
+    if (refusal[3] == "form" && form[name] ~ /KIND/) say(kinds)
     if (refusal[3] == "number") { say(ranges); say("the form of a call line: " line_form["D.N"]) }
 }
 
