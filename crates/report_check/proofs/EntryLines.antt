@@ -9,7 +9,7 @@ use Rattle.board_model.specs.Journal.{Taken, taken, PlainResult, found_at, was_a
 use Rattle.board_model.proofs.WordDecimals.{within_is}
 use Rattle.mc_journal.specs.declared.forms.Form.{Form}
 use Rattle.mc_journal.specs.declared.forms.Form.TheVariants as form
-use Rattle.mc_journal.specs.EntryText.{AreBytes, FitsResult, FitsPlace, FitsAnswer, IsEntryLine}
+use Rattle.mc_journal.specs.EntryText.{AreBytes, FitsResult, FitsAnswer, IsEntryLine}
 use Rattle.mc_journal.specs.Readers.{cut_at, both, pair_in, peer_in, count_in, long_in, bytes_in, is_small, sized, is_cut, is_whole, give, bring, cut_in, whole_in, result_word, result_after, place_in, placed_by, done_after, done_by, done_in, ok_by, ok_in, answer_word, answer_after, answer_by, answer_in, taken_in, takes, rest_in}
 use Rattle.mc_journal.specs.LineForms.{form_in, by_form, line_by, line_in}
 use Rattle.mc_journal.proofs.PartsRead.{if_gives, map_gives, both_give, or_gives, only_gives, pair_gives}

@@ -1,5 +1,7 @@
 pub mod EntryLines
 pub mod JournalSteps
+pub mod LaneLemmas
+pub mod LeftLemmas
 pub mod OutlinesRead
 pub mod RanksFound
 pub mod Reached

@@ -1,4 +1,4 @@
--- A line's outline is read from its text, whichever of the lines with this text is read.
+-- A line's outline, and what it says of a lane, are read from its text, whichever of the lines with this text is read.
 use Rattle.std.proofs.Common.{◌≡◌, ℕ, ◌^◌, ◌<◌, Bool, true, false, cond, List, [], ◌∷◌, ◌++◌, length, Option, Some, None, refl, sym, ap, ◌∙◌, arith}
 use Rattle.std.specs.Prelude.{decimal, codes, nat_lt, option_map, ◌||◌, ◌==◌, ◌&&◌}
 use Rattle.std.specs.List.{list_all}
@@ -21,6 +21,8 @@ use Rattle.mc_journal.proofs.AnswersRead.{answer-is, answer-read}
 use Rattle.mc_journal.proofs.ResultsRead.{count-read, long-read}
 use Rattle.report_check.specs.declared.outline.Outline.TheVariants as outline
 use Rattle.report_check.specs.Outlines.{is_refusal, outline_of, outline_in}
+use Rattle.report_check.specs.LaneLines.{lane_of}
+use Rattle.mc_journal.specs.LineForms.{line_in}
 
 -- ---- a refusal and another answer have no text in common
 
@@ -114,24 +116,37 @@ call-spaced k (gives size bytes) = refl
 call-spaced k (completes None result) = refl
 call-spaced k (completes (Some place) result) = refl
 
-outline-read : (l : Line) → IsEntryLine l → outline_in (spaced (line_words l)) ≡ Some (outline_of l)
-outline-read (idle_line n) fits = ap (λ (o : Option ℕ). option_map outline_of (option_map idle_line o)) (long-read n fits)
-outline-read (again_line word) fits = ap (λ (o : Option Refusal). option_map outline_of (option_map again_line o)) (refusal-read word)
-outline-read (spin_line n word) fits = ap (option_map outline_of) (pair_read long_in refusal_in spin_line (decimal n) (refusal_text word) n word (decimal-alone n fits) (long-read n fits) (refusal-read word))
-outline-read turn_line fits = refl
-outline-read (back_line peer n) fits = ap (option_map outline_of) (pair_read peer_in count_in back_line (decimal peer) (decimal n) peer n (peer-alone peer fits.0) (peer-read peer fits.0) (count-read n fits.1))
-outline-read (put_line peer frame) fits = ap (option_map outline_of) (pair_read peer_in bytes_in put_line (decimal peer) (hex_text frame) peer frame (peer-alone peer fits.0) (peer-read peer fits.0) (bytes-read frame fits.1))
-outline-read (see_line peer n) fits = ap (option_map outline_of) (pair_read peer_in count_in see_line (decimal peer) (decimal n) peer n (peer-alone peer fits.0) (peer-read peer fits.0) (count-read n fits.1))
-outline-read (take_line peer frame fate) fits =
-    ap (option_map outline_of) (pair_read peer_in taken_in takes (decimal peer) (hex_text frame ++ 32 ∷ fate_text fate) peer (taken frame fate) (peer-alone peer fits.0) (peer-read peer fits.0)
-    (pair_read bytes_in fate_in taken (hex_text frame) (fate_text fate) frame fate (bytes-alone frame fits.1) (bytes-read frame fits.1) (fate-read fate)))
-outline-read (wait_line number) fits = ap (λ (o : Option ℕ). option_map outline_of (option_map wait_line o)) (count-read number fits)
-outline-read (call_line number a) fits =
-    let read = answer-read a fits.1 in
-    ap outline_in (call-spaced number a)
-    ∙ ap (option_map outline_of) (pair_read count_in answer_in call_line (decimal number) (spaced (answer_words a)) number read.0 (decimal-alone number (omega (arith, fits.0))) (count-read number fits.0) read.1)
-    ∙ ap (λ (b : Bool). Some (outline.Call number b)) (same-text read.0 a (answer-is (spaced (answer_words a)) read.0 read.1))
+-- what hangs on a line, and of a call's answer on whether it is a refusal alone
+module _ {A : Type 0} (f : Line → A) (by-refusal : (k : ℕ) (a b : PlainAnswer) → is_refusal a ≡ is_refusal b → f (call_line k a) ≡ f (call_line k b)) where
+  said : List ℕ → Option A
+  said text = option_map f (line_in text)
 
--- a line's text, however it was found
+  said-read : (l : Line) → IsEntryLine l → said (spaced (line_words l)) ≡ Some (f l)
+  unfolding said
+  said-read (idle_line n) fits = ap (λ (o : Option ℕ). option_map f (option_map idle_line o)) (long-read n fits)
+  said-read (again_line word) fits = ap (λ (o : Option Refusal). option_map f (option_map again_line o)) (refusal-read word)
+  said-read (spin_line n word) fits = ap (option_map f) (pair_read long_in refusal_in spin_line (decimal n) (refusal_text word) n word (decimal-alone n fits) (long-read n fits) (refusal-read word))
+  said-read turn_line fits = refl
+  said-read (back_line peer n) fits = ap (option_map f) (pair_read peer_in count_in back_line (decimal peer) (decimal n) peer n (peer-alone peer fits.0) (peer-read peer fits.0) (count-read n fits.1))
+  said-read (put_line peer frame) fits = ap (option_map f) (pair_read peer_in bytes_in put_line (decimal peer) (hex_text frame) peer frame (peer-alone peer fits.0) (peer-read peer fits.0) (bytes-read frame fits.1))
+  said-read (see_line peer n) fits = ap (option_map f) (pair_read peer_in count_in see_line (decimal peer) (decimal n) peer n (peer-alone peer fits.0) (peer-read peer fits.0) (count-read n fits.1))
+  said-read (take_line peer frame fate) fits =
+      ap (option_map f) (pair_read peer_in taken_in takes (decimal peer) (hex_text frame ++ 32 ∷ fate_text fate) peer (taken frame fate) (peer-alone peer fits.0) (peer-read peer fits.0)
+      (pair_read bytes_in fate_in taken (hex_text frame) (fate_text fate) frame fate (bytes-alone frame fits.1) (bytes-read frame fits.1) (fate-read fate)))
+  said-read (wait_line number) fits = ap (λ (o : Option ℕ). option_map f (option_map wait_line o)) (count-read number fits)
+  said-read (call_line number a) fits =
+      let read = answer-read a fits.1 in
+      ap said (call-spaced number a)
+      ∙ ap (option_map f) (pair_read count_in answer_in call_line (decimal number) (spaced (answer_words a)) number read.0 (decimal-alone number (omega (arith, fits.0))) (count-read number fits.0) read.1)
+      ∙ ap Some (by-refusal number read.0 a (same-text read.0 a (answer-is (spaced (answer_words a)) read.0 read.1)))
+
+  -- a line's text, however it was found
+  pub said-is : (l : Line) (text : List ℕ) → IsEntryLine l → spaced (line_words l) ≡ text → Some (f l) ≡ option_map f (line_in text)
+  unfolding said
+  said-is l text fits e = sym (ap said (sym e) ∙ said-read l fits)
+
 pub outline-is : (l : Line) (text : List ℕ) → IsEntryLine l → spaced (line_words l) ≡ text → Some (outline_of l) ≡ outline_in text
-outline-is l text fits e = sym (ap outline_in (sym e) ∙ outline-read l fits)
+outline-is = said-is outline_of (λ k a b e. ap (outline.Call k) e)
+
+pub lane-is : (l : Line) (text : List ℕ) → IsEntryLine l → spaced (line_words l) ≡ text → Some (lane_of l) ≡ option_map lane_of (line_in text)
+lane-is = said-is lane_of (λ k a b e. refl)

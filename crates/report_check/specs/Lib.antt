@@ -11,7 +11,9 @@ pub mod Texts
 pub mod TextRead
 pub mod JournalRead
 pub mod StepPass
+pub mod LaneLines
 pub mod LinkPass
+pub mod LaneLeft
 pub mod TotalPass
 pub mod Verdicts
 pub mod VerdictExamples

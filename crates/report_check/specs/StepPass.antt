@@ -1,7 +1,7 @@
 -- The second pass over a report: the first line of a journal that is not the one that is due in its domain's state.
 -- Source: docs/PROFILE.md, "A turn", "Steps", "Tries" and "Waits". Where a turn has other lines than those due, the first that differs is wrong, and
 -- the line behind where some are missing at the end; so too at the puts of a call and its answer, which is told as text.
-use Rattle.std.specs.Prelude.{ℕ, ◌+◌, ◌-◌, min, nat_lt, nat_le, Bool, not, ◌&&◌, ◌||◌, List, [], ◌∷◌, ◌++◌, length, map, take, drop, ◌==◌, Option, None, Some, if◌then◌else◌}
+use Rattle.std.specs.Prelude.{ℕ, ◌+◌, ◌-◌, min, nat_lt, nat_le, Bool, not, ◌&&◌, ◌||◌, List, [], ◌∷◌, ◌++◌, length, map, take, drop, replicate, ◌==◌, Option, None, Some, if◌then◌else◌}
 use Rattle.std.specs.List.{flat_map}
 use Rattle.mc_base.specs.Reading.{reading}
 use Rattle.board_model.specs.declared.scenario.CallLine.{CallLine}
@@ -11,7 +11,7 @@ use Rattle.board_model.specs.Journal.{PlainAnswer, refuses, Taken, taken, Visit,
 use Rattle.board_model.specs.State.{DomainState, Peer, peer_of, held_from}
 use Rattle.board_model.specs.TakenFrames.{row_of}
 use Rattle.board_model.specs.Deeds.{looks_back, puts_owed, looks_ahead, takes, after_deed, after_deeds}
-use Rattle.board_model.specs.Turn.{due_frames, after_visit}
+use Rattle.board_model.specs.Turn.{turn_limit, due_frames, after_visit}
 use Rattle.board_model.specs.Answer.{answer, puts}
 use Rattle.board_model.specs.Step.{RunState, Waited, next_line, call_at, tries_again, limit_of, is_timeout, is_done, after}
 use Rattle.board_model.specs.Run.{start, after_all}
@@ -21,7 +21,7 @@ use Rattle.board_model.specs.JournalParts.{Part, idles, spins, tries, turn_of, w
 use Rattle.report_check.specs.TextLines.{first_other, moved, or_else}
 use Rattle.report_check.specs.JournalRead.{JournalText, lines_of_texts, parts_in}
 
--- ---- the visits that are due
+-- ---- the visits that are due: what the domain does where its lanes show what is told, as far as they allow
 
 -- a count as told, where the lane allows it, and else the nearest that it allows
 abbrev pub due_back : Peer → ℕ → ℕ
@@ -30,26 +30,39 @@ due_back p n = min n (p.size - p.free)
 abbrev pub due_see : Peer → ℕ → ℕ → ℕ
 due_see p held n = if nat_lt n p.shown then p.shown else min n (p.size - held)
 
--- the frames as told, each with the word that the state has for it
-abbrev pub due_takes : DomainState → ℕ → List Taken → List Taken
-due_takes s peer [] = []
-due_takes s peer (t ∷ ts) = taken t.frame (row_of s peer None (reading t.frame)).word ∷ due_takes (after_deed s (takes peer None t.frame t.fate)) peer ts
+-- so many frames, the first as told. Where fewer are told, a look was told that the lane does not allow, and frames of one byte come
+abbrev pub frames_coming : ℕ → List (List ℕ) → List (List ℕ)
+frames_coming n told = take n (told ++ replicate n (0 ∷ []))
 
--- the state before the frames are taken
-abbrev pub after_looks : DomainState → Visit → DomainState
-after_looks s v = after_deeds s (looks_back v.peer v.back ∷ (map (puts_owed v.peer) v.owed ++ looks_ahead v.peer v.see ∷ []))
+-- each frame with the word that the state has for it
+abbrev pub due_takes : DomainState → ℕ → List (List ℕ) → List Taken
+due_takes s peer [] = []
+due_takes s peer (f ∷ fs) =
+    let word = (row_of s peer None (reading f)).word in
+    taken f word ∷ due_takes (after_deed s (takes peer None f word)) peer fs
+
+-- with so many buffers that came back, these frames put and so many shown
+abbrev pub due_with : DomainState → Visit → ℕ → List (List ℕ) → ℕ → Visit
+due_with s v back owed see =
+    record {
+      peer = v.peer;
+      back = back;
+      owed = owed;
+      see = see;
+      takes = due_takes (after_deeds s (looks_back v.peer back ∷ (map (puts_owed v.peer) owed ++ looks_ahead v.peer see ∷ []))) v.peer (frames_coming (min turn_limit see) (map (λ t. t.frame) v.takes));
+    }
 
 abbrev pub due_at : DomainState → Visit → Option Peer → Visit
 due_at s v None = v
-due_at s v (Some p) = record v { back = due_back p v.back; owed = due_frames s.number p v.back; see = due_see p (held_from v.peer s) v.see; takes = due_takes (after_looks s v) v.peer v.takes }
+due_at s v (Some p) = due_with s v (due_back p v.back) (due_frames s.number p (due_back p v.back)) (due_see p (held_from v.peer s) v.see)
 
 abbrev pub due_visit : DomainState → Visit → Visit
 due_visit s v = due_at s v (peer_of s v.peer)
 
--- each in the state that the visits told before it leave
+-- each in the state that those before it leave
 abbrev pub due_visits : DomainState → List Visit → List Visit
 due_visits s [] = []
-due_visits s (v ∷ vs) = due_visit s v ∷ due_visits (after_visit s v) vs
+due_visits s (v ∷ vs) = due_visit s v ∷ due_visits (after_visit s (due_visit s v)) vs
 
 abbrev pub due_lines : RunState → List Visit → List Line
 due_lines r vs = flat_map visit_lines (due_visits r.state vs)

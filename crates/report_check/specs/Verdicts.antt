@@ -4,7 +4,6 @@
 use Rattle.std.specs.Prelude.{ℕ, List, [], ◌∷◌, map, Option, None, Some, Result, Ok, Err}
 use Rattle.board_model.specs.declared.scenario.Scenario.{Scenario}
 use Rattle.board_model.specs.Scenario.{rising}
-use Rattle.board_model.specs.Board.{DomainJournal}
 use Rattle.report_check.specs.declared.verdict.CheckReason.{CheckReason}
 use Rattle.report_check.specs.declared.verdict.CheckReason.TheVariants as of
 use Rattle.report_check.specs.declared.verdict.Verdict.{Verdict}
@@ -13,7 +12,7 @@ use Rattle.report_check.specs.ScenarioPart.{Rest, Told}
 use Rattle.report_check.specs.TextPass.{told_by_text}
 use Rattle.report_check.specs.JournalRead.{JournalText, journals_at, behind_journals}
 use Rattle.report_check.specs.StepPass.{wrong_step, unfinished}
-use Rattle.report_check.specs.LinkPass.{journal_told, wrong_link}
+use Rattle.report_check.specs.LinkPass.{journal_told, wrong_among}
 use Rattle.report_check.specs.TotalPass.{wrong_number}
 
 -- wrong for this reason, or the next verdict
@@ -26,12 +25,8 @@ abbrev pub by_steps : Scenario → List JournalText → Verdict → Verdict
 by_steps s [] next = next
 by_steps s (j ∷ js) next = wrong_or of.Step (wrong_step s j) (wrong_or of.Script (unfinished s j) (by_steps s js next))
 
-abbrev pub by_links : Scenario → List DomainJournal → List JournalText → Verdict → Verdict
-by_links s all [] next = next
-by_links s all (j ∷ js) next = wrong_or of.Link (wrong_link s all j) (by_links s all js next)
-
 abbrev pub by_journals : Scenario → List JournalText → Rest → Verdict
-by_journals s js numbers = by_steps s js (by_links s (map (journal_told s) js) js (wrong_or of.Total (wrong_number s (map (journal_told s) js) numbers) Right))
+by_journals s js numbers = by_steps s js (wrong_or of.Link (wrong_among s js js) (wrong_or of.Total (wrong_number s (map (journal_told s) js) numbers) Right))
 
 abbrev pub by_told : Result Told ℕ → Verdict
 by_told (Err line) = Wrong line of.Text

@@ -27,7 +27,7 @@ pub struct ReportText<'a> {
 }
 
 /// Counts the bytes of the longest line of a text.
-fn longest_line(text: &[u8]) -> usize
+pub fn longest_line(text: &[u8]) -> usize
     ensures { length_of_longest text.now ≤ result }
 {
     let mut longest = 0usize;

@@ -4,6 +4,8 @@
 #[cfg(test)]
 mod changes;
 #[cfg(test)]
+mod lanes;
+#[cfg(test)]
 mod reports;
 #[cfg(test)]
 mod tests;

@@ -1,7 +1,7 @@
-use Rattle.std.proofs.Common.{◌≡◌, ℕ, ◌+◌, true, false, cond, ap, sym, ◌∙◌, List, [], ◌∷◌, ◌++◌, length, append-nil, Option, Some, None, arith}
-use Rattle.std.specs.Prelude.{option_map, ◌==◌}
+use Rattle.std.proofs.Common.{◌≡◌, ℕ, ap, sym, ◌∙◌, List, [], ◌∷◌, length, append-nil, Some, None, arith}
+use Rattle.std.specs.Prelude.{option_map}
 use Rattle.mc_journal.specs.Readers.{cut_at}
-use Rattle.report_check.specs.ScenarioPart.{begins_journal, front_lines, text_of}
+use Rattle.report_check.specs.ScenarioPart.{front_lines, text_of}
 use Rattle.report_check.specs.TextLines.{lines_in}
 use Rattle.report_check.proofs.TextFronts.{front-none, front-more, front-last, front-rest}
 use Rattle.report_check.proofs.scenario.front_size.Goals as goal

@@ -1,4 +1,4 @@
-use Rattle.std.proofs.Common.{◌≡◌, ℕ, ◌+◌, true, false, cond, ap, sym, ◌∙◌, List, Option, Some, None, bytes_eq, arith}
+use Rattle.std.proofs.Common.{◌≡◌, ℕ, ◌+◌, true, false, cond, ap, sym, ◌∙◌, List, Some, None, bytes_eq, arith}
 use Rattle.std.specs.Prelude.{option_map}
 use Rattle.mc_journal.specs.Readers.{cut_at}
 use Rattle.report_check.specs.TextLines.{first_other, lines_in, moved}

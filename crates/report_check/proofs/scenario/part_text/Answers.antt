@@ -1,4 +1,4 @@
-use Rattle.std.proofs.Common.{◌≡◌, ap, sym, ◌∙◌, arith}
+use Rattle.std.proofs.Common.{ap, ◌∙◌}
 use Rattle.report_check.specs.TextLines.{lines_in}
 use Rattle.report_check.proofs.TextFronts.{longest-behind, parted}
 use Rattle.report_check.proofs.scenario.part_text.Goals as goal

@@ -1,8 +1,8 @@
-use Rattle.std.proofs.Common.{◌≡◌, ◌+◌, ℕ, ap, sym, ◌∙◌, List, Ok, length, arith}
+use Rattle.std.proofs.Common.{◌+◌, ℕ, ap, sym, ◌∙◌, List, Ok, length}
 use Rattle.std.specs.Prelude.{Result}
 use Rattle.board_model.specs.declared.scenario.Scenario.{Scenario}
 use Rattle.report_check.specs.TextLines.{lines_in}
-use Rattle.report_check.specs.ScenarioPart.{Told, rest, behind_front, front_lines, scenario_in, told_behind}
+use Rattle.report_check.specs.ScenarioPart.{Told, rest, front_lines, scenario_in, told_behind}
 use Rattle.report_check.specs.Texts.{rest_of}
 use Rattle.report_check.proofs.scenario.read_told.Goals as goal
 

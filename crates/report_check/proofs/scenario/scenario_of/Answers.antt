@@ -1,8 +1,8 @@
-use Rattle.std.proofs.Common.{◌≡◌, ◌≤◌, ◌-◌, ℕ, ap, sym, ◌∙◌, List, Option, Some, None, Ok, Err, take, length, arith}
+use Rattle.std.proofs.Common.{◌≡◌, ap, sym, ◌∙◌, Some, None, Err, take, arith}
 use Rattle.board_model.specs.Grammar.{canonical}
-use Rattle.board_model.specs.Language.{RefusedLine, told_by, refused}
+use Rattle.board_model.specs.Language.{told_by, refused}
 use Rattle.report_check.specs.TextLines.{first_other, lines_in}
-use Rattle.report_check.specs.ScenarioPart.{refused_place, scenario_by, scenario_in, scenario_unless, text_of}
+use Rattle.report_check.specs.ScenarioPart.{refused_place, scenario_by, scenario_unless, text_of}
 use Rattle.report_check.proofs.RefusedLines.{refused-line, refused-told}
 use Rattle.report_check.proofs.TextFronts.{text-back, first-lines}
 use Rattle.report_check.proofs.scenario.scenario_of.Goals as goal
