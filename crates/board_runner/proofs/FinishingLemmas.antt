@@ -1,11 +1,22 @@
 -- The rings of links, finished one link after the other.
 use Rattle.std.proofs.Common.{◌≡◌, ℕ, zero, suc, ◌+◌, List, [], ◌∷◌, ◌++◌, drop, slice_get, Option, Some, None, refl, sym, ap, ◌∙◌, subst, inl, inr, arith, append_assoc, append-nil}
-use Rattle.std.specs.List.{AllByRecursion}
+use Rattle.std.specs.List.{All, AllByRecursion}
+use Rattle.shared_words.specs.Entry.{Entry}
 use Rattle.shared_words.specs.Shown.{TableShown, size_of}
+use Rattle.split_ring.specs.Ends.{End}
 use Rattle.split_ring.specs.Finished.{FinishedRing}
 use Rattle.shared_words.specs.declared.view.Role.TheVariants.{Driver, Device}
-use Rattle.lane_end.specs.Halves.{AreFinished}
-use Rattle.lane_end.specs.LaneRun.{HaveRun, AreLaneRuns}
+use Rattle.lane_end.specs.AnyReceiver.{AnyReceives}
+use Rattle.lane_end.specs.AnySender.{AnySends}
+use Rattle.lane_end.specs.Halves.{AreFinished, SendLeaves, RecvLeaves}
+use Rattle.lane_end.specs.LaneRun.{HaveRun, AreLaneRuns, opened_send, opened_recv}
+use Rattle.lane_end.specs.ReceiveMoves.{ReceiveMove}
+use Rattle.lane_end.specs.ReturnedLengths.{Queue1ReturnsAreEmpty}
+use Rattle.lane_end.specs.SendMoves.{SendMove}
+use Rattle.lane_end.specs.declared.any.AnyRecv.{AnyRecv}
+use Rattle.lane_end.specs.declared.any.AnyRecv.TheVariants as recv
+use Rattle.lane_end.specs.declared.any.AnySend.{AnySend}
+use Rattle.lane_end.specs.declared.any.AnySend.TheVariants as send
 use Rattle.lane_end.specs.declared.finishing.SendHalf.{SendHalf}
 use Rattle.lane_end.specs.declared.finishing.RecvHalf.{RecvHalf}
 use Rattle.lane_end.specs.declared.finishing.SendHalf.TheVariants as sent
@@ -17,6 +28,7 @@ use Rattle.board_runner.specs.declared.ended.EndedLink.{EndedLink}
 use Rattle.board_runner.specs.declared.rings.LinkRings.{LinkRings}
 use Rattle.board_runner.specs.Ended.{ended_at}
 use Rattle.board_runner.specs.Finishing.{BoardMoves, LinkHasRun, LinkIsRun, IsOfLink, LinksHaveRun, LinksAreRun}
+use Rattle.board_runner.specs.ThreadRun.{WasFinished}
 
 -- ---- a finished ring is of its queue and size
 
@@ -25,6 +37,34 @@ finished-is ring (sent.Driver h) (received.Device g) closed finished = (finished
 finished-is ring (sent.Device h) (received.Driver g) closed finished = (finished.queue, finished.size)
 finished-is ring (sent.Driver h) (received.Driver g) closed finished = absurd finished
 finished-is ring (sent.Device h) (received.Device g) closed finished = absurd finished
+
+-- ---- its halves finished it
+
+-- in queue 0, whatever was returned
+zero-finished : (ring : TableShown) (send : SendHalf) (recv : RecvHalf) (closed : FinishedRing) → AreFinished ring send recv closed → closed.queue ≡ 0 → WasFinished closed
+zero-finished ring (sent.Driver h) (received.Device g) closed finished is = record { ring = ring; driver = h; device = g; finished = finished; empty = λ one. absurd (omega (arith, is, one)) }
+zero-finished ring (sent.Device h) (received.Driver g) closed finished is = record { ring = ring; driver = g; device = h; finished = finished; empty = λ one. absurd (omega (arith, is, one)) }
+zero-finished ring (sent.Driver h) (received.Driver g) closed finished is = absurd finished
+zero-finished ring (sent.Device h) (received.Device g) closed finished is = absurd finished
+
+-- a receiver over queue 1 returned each buffer with a length of 0
+returned-empty : Queue1ReturnsAreEmpty → (ring : TableShown) (moves : List ReceiveMove) (end : AnyRecv) (half : End) → AnyReceives (opened_recv Driver ring.ring) moves end → RecvLeaves end (received.Device half) → All (λ (e : Entry). e.1 ≡ 0) half.written
+returned-empty law ring moves (recv.Device r) half moved leaves = subst (λ (x : End). All (λ (e : Entry). e.1 ≡ 0) x.written) (sym leaves.half_is) (law ring.ring moves r moved)
+returned-empty law ring moves (recv.Driver r) half moved leaves = absurd moved
+returned-empty law ring moves (recv.Plain r) half moved leaves = absurd moved
+
+-- a driver that sends leaves no device's half
+no-device : (ring : TableShown) (moves : List SendMove) (end : AnySend) (half : End) → AnySends (opened_send Driver ring.ring) moves end → SendLeaves end (sent.Device half) → ⊥
+no-device ring moves (send.Driver s) half moved leaves = leaves
+no-device ring moves (send.Device s) half moved leaves = moved
+no-device ring moves (send.Plain s) half moved leaves = moved
+
+one-finished : Queue1ReturnsAreEmpty → (ring : TableShown) (sends : List SendMove) (receives : List ReceiveMove) (send : SendHalf) (recv : RecvHalf) (closed : FinishedRing) → HaveRun Driver ring sends receives send recv → AreFinished ring send recv closed → WasFinished closed
+one-finished law ring sends receives (sent.Driver h) (received.Device g) closed run finished =
+    record { ring = ring; driver = h; device = g; finished = finished; empty = λ one. returned-empty law ring receives run.received.end g run.received.moved run.received.leaves }
+one-finished law ring sends receives (sent.Device h) (received.Driver g) closed run finished = absurd (no-device ring sends run.sent.end h run.sent.moved run.sent.leaves)
+one-finished law ring sends receives (sent.Driver h) (received.Driver g) closed run finished = absurd finished
+one-finished law ring sends receives (sent.Device h) (received.Device g) closed run finished = absurd finished
 
 -- ---- the ends of other links stay
 
@@ -171,15 +211,17 @@ module _ (moves : BoardMoves) (l : LinkLine) (on : LinkRings) (old mid new : Lis
   run-one = subst (λ (x : EndedLink). HaveRun Driver on.queue1 (sends (moves l.driver l.device)) (receives (moves l.device l.driver)) x.send back.recv) there_same (subst (λ (x : EndedLink). HaveRun Driver on.queue1 (sends (moves l.driver l.device)) (receives (moves l.device l.driver)) ran.there.send x.recv) back_same ran.one)
 
   -- their rings, finished
-  pub link-is-run : (first last : FinishedRing) → AreFinished on.queue0 back.send there.recv first → AreLaneRuns on.queue0 back.send there.recv first → AreFinished on.queue1 there.send back.recv last → AreLaneRuns on.queue1 there.send back.recv last → LinkIsRun moves l on first last
-  link-is-run first last closed0 runs0 closed1 runs1 =
+  pub link-is-run : Queue1ReturnsAreEmpty → (first last : FinishedRing) → AreFinished on.queue0 back.send there.recv first → AreLaneRuns on.queue0 back.send there.recv first → AreFinished on.queue1 there.send back.recv last → AreLaneRuns on.queue1 there.send back.recv last → LinkIsRun moves l on first last
+  link-is-run law first last closed0 runs0 closed1 runs1 =
       let is0 = finished-is on.queue0 back.send there.recv first closed0 in
       let is1 = finished-is on.queue1 there.send back.recv last closed1 in
       record {
         queue0 = is0.0;
         size0 = is0.1;
+        finished0 = zero-finished on.queue0 back.send there.recv first closed0;
         run0 = runs0 Device (sends (moves l.device l.driver)) (receives (moves l.driver l.device)) run-zero;
         queue1 = is1.0;
         size1 = is1.1;
+        finished1 = one-finished law on.queue1 (sends (moves l.driver l.device)) (receives (moves l.device l.driver)) there.send back.recv last run-one closed1;
         run1 = runs1 Driver (sends (moves l.driver l.device)) (receives (moves l.device l.driver)) run-one;
       }

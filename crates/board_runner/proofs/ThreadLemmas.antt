@@ -51,7 +51,7 @@ use Rattle.board_runner.specs.Looks.{see_looks}
 use Rattle.board_runner.specs.OwnBoard.{AllRanAs, RanAs}
 use Rattle.board_runner.specs.Stations.{AreStations}
 use Rattle.board_runner.specs.Tallied.{RanBoard, AreTallies, TallySomeRun, AddPlaces, TellTotals}
-use Rattle.board_runner.specs.ThreadRun.{TellsLane, TellLanes, IsThreadRun, queue_of, to_driver, to_device}
+use Rattle.board_runner.specs.ThreadRun.{WasFinished, TellsLane, TellLanes, IsThreadRun, queue_of, to_driver, to_device}
 use Rattle.board_runner.specs.Wired.{AreRings, driver_link, device_link, wires_for, leads_from, wire_at}
 use Rattle.board_runner.proofs.ChannelLemmas.{stations-ended}
 use Rattle.board_runner.proofs.EndedLemmas.{EndsAt, ended-there}
@@ -262,8 +262,8 @@ module _ (s : Scenario) (board : IsLinkedBoard s) (rings : List LinkRings) (hs :
     held-at : (t : run.Station) (n : ℕ) → IsDomainRun s t.line t.entries → queued_from n (left_by s t.line t.entries).state + lent_from n (left_by s t.line t.entries).state + given (script s t.line.domain) (start s t.line) n t.entries ≡ length (takes_from n t.entries)
     held-at t n runs = let sums = sums_run (script s t.line.domain) n (free_to (start s t.line).state n) 0 0 0 0 (start s t.line) (left_by s t.line t.entries) t.entries (record { apart = tt; below = tt }) runs.steps (record { frees = omega arith; holds = refl }) in omega (arith, sums.holds)
 
-    lane-told : (role : Role) (a b size : ℕ) → Joined s a b size → (closed : FinishedRing) → closed.queue ≡ queue_of role → closed.size ≡ size → IsLaneRun role size (sends (moves a b)) (receives (moves b a)) closed → TellsLane s js role (record { sender = a; receiver = b; size = size }) closed
-    lane-told role a b size joined ring queue sized ran =
+    lane-told : (role : Role) (a b size : ℕ) → Joined s a b size → (closed : FinishedRing) → WasFinished closed → closed.queue ≡ queue_of role → closed.size ≡ size → IsLaneRun role size (sends (moves a b)) (receives (moves b a)) closed → TellsLane s js role (record { sender = a; receiver = b; size = size }) closed
+    lane-told role a b size joined ring ended queue sized ran =
         let l : Lane = record { sender = a; receiver = b; size = size } in
         let t = station-found a b size joined in
         let u = station-found b a size (joined_back s a b size joined) in
@@ -290,6 +290,7 @@ module _ (s : Scenario) (board : IsLinkedBoard s) (rings : List LinkRings) (hs :
         let in_it : (places_of s js l).ring ≡ length (in_ring role ring) = omega (arith, puts, takes, gone) in
         let held_is : (places_of s js l).queue + (places_of s js l).lent ≡ length (with_receiver role ring) = omega (arith, queued, lent, held, taken, takes, got, given_is) in
         record {
+          finished = ended;
           queue = queue;
           size = sized;
           free = omega (arith, every, in_it, held_is, gone, back, kept, got);
@@ -315,8 +316,8 @@ module _ (s : Scenario) (board : IsLinkedBoard s) (rings : List LinkRings) (hs :
         go (l ∷ ls) (r ∷ rs) (g ∷ gs) (z ∷ (o ∷ cs)) joined new run =
             let zero = new.0.zero_new in
             let one = new.0.one_new in (
-              lane-told Device l.device l.driver l.size (joined_back s l.driver l.device l.size joined.0) z (run.0.queue0 ∙ zero.is_queue) (run.0.size0 ∙ zero.sized) (subst (λ (n : ℕ). IsLaneRun Device n (sends (moves l.device l.driver)) (receives (moves l.driver l.device)) z) zero.sized run.0.run0),
-              lane-told Driver l.driver l.device l.size joined.0 o (run.0.queue1 ∙ one.is_queue) (run.0.size1 ∙ one.sized) (subst (λ (n : ℕ). IsLaneRun Driver n (sends (moves l.driver l.device)) (receives (moves l.device l.driver)) o) one.sized run.0.run1),
+              lane-told Device l.device l.driver l.size (joined_back s l.driver l.device l.size joined.0) z (run.0.finished0 (run.0.queue0 ∙ zero.is_queue)) (run.0.queue0 ∙ zero.is_queue) (run.0.size0 ∙ zero.sized) (subst (λ (n : ℕ). IsLaneRun Device n (sends (moves l.device l.driver)) (receives (moves l.driver l.device)) z) zero.sized run.0.run0),
+              lane-told Driver l.driver l.device l.size joined.0 o run.0.finished1 (run.0.queue1 ∙ one.is_queue) (run.0.size1 ∙ one.sized) (subst (λ (n : ℕ). IsLaneRun Driver n (sends (moves l.driver l.device)) (receives (moves l.device l.driver)) o) one.sized run.0.run1),
               go ls rs gs cs joined.1 new.1 run.1,
             )
 

@@ -11,6 +11,7 @@ use Rattle.domain_core.specs.LaneMoves.{LaneMove, sends, receives}
 use Rattle.board_runner.specs.declared.ended.EndedLink.{EndedLink}
 use Rattle.board_runner.specs.declared.rings.LinkRings.{LinkRings}
 use Rattle.board_runner.specs.Ended.{ended_at}
+use Rattle.board_runner.specs.ThreadRun.{WasFinished}
 use Rattle.std.specs.List.{AllByRecursion}
 
 -- the moves of each domain at its ends towards each peer
@@ -32,9 +33,11 @@ pub record LinkHasRun (moves : BoardMoves) (l : LinkLine) (on : LinkRings) (es :
 pub record LinkIsRun (moves : BoardMoves) (l : LinkLine) (on : LinkRings) (zero one : FinishedRing) : Type 0 where
   pub queue0 : zero.queue ≡ on.queue0.queue
   pub size0 : zero.size ≡ size_of on.queue0.ring
+  pub finished0 : zero.queue ≡ 0 → WasFinished zero
   pub run0 : IsLaneRun Device (size_of on.queue0.ring) (sends (moves l.device l.driver)) (receives (moves l.driver l.device)) zero
   pub queue1 : one.queue ≡ on.queue1.queue
   pub size1 : one.size ≡ size_of on.queue1.ring
+  pub finished1 : WasFinished one
   pub run1 : IsLaneRun Driver (size_of on.queue1.ring) (sends (moves l.driver l.device)) (receives (moves l.device l.driver)) one
 
 -- some moves led there

@@ -1,9 +1,12 @@
 -- What a run on threads leaves: whole journals that are a run of the board, their numbers, and the rings.
 -- Source: docs/PROFILE.md, "Runs" and "Lanes", and docs/FORMATS.md, "Report".
 use Rattle.std.specs.Prelude.{◌≡◌, ℕ, ◌+◌, ◌%◌, ◌^◌, List, [], ◌∷◌, length, sum}
+use Rattle.shared_words.specs.Shown.{TableShown}
 use Rattle.shared_words.specs.declared.view.Role.{Role}
 use Rattle.shared_words.specs.declared.view.Role.TheVariants.{Driver, Device}
-use Rattle.split_ring.specs.Finished.{FinishedRing}
+use Rattle.split_ring.specs.Ends.{End}
+use Rattle.split_ring.specs.Finished.{FinishedRing, IsFinished}
+use Rattle.ring_trace.specs.SoundImages.{ReturnsAreEmpty}
 use Rattle.lane_end.specs.LaneRun.{in_ring, coming_back, with_sender, with_receiver, sender_looks, sender_saw, receiver_looks, receiver_saw}
 use Rattle.board_model.specs.declared.scenario.LinkLine.{LinkLine}
 use Rattle.board_model.specs.declared.scenario.Scenario.{Scenario}
@@ -20,9 +23,19 @@ abbrev pub queue_of : Role → ℕ
 queue_of Driver = 1
 queue_of Device = 0
 
+-- two halves of a ring finished it so: its words and its lists are those of what they wrote and took. In queue 1, whose buffers the
+-- device reads, each was returned with a length of 0
+pub record WasFinished (closed : FinishedRing) : Type 0 where
+  pub ring : TableShown
+  pub driver : End
+  pub device : End
+  pub finished : IsFinished ring driver device closed
+  pub empty : ReturnsAreEmpty closed.queue device.written
+
 -- the finished ring of a lane and the journals of its two domains tell the same: where its buffers are, and the looks of both ends,
 -- those that showed nothing among them
 pub record TellsLane (s : Scenario) (js : List DomainJournal) (sender : Role) (l : Lane) (closed : FinishedRing) : Type 0 where
+  pub finished : WasFinished closed
   pub queue : closed.queue ≡ queue_of sender
   pub size : closed.size ≡ l.size
   pub free : (places_of s js l).free ≡ length (with_sender sender closed) + length (coming_back sender closed)

@@ -8,7 +8,7 @@ use crate::adding::add;
 use crate::ended::{EndedLink, take_ended};
 use crate::rings::LinkRings;
 use board_model::{LinkLine, Seq};
-use lane_end::{finish_lane, halves_stay_of_one_ring};
+use lane_end::{finish_lane, halves_stay_of_one_ring, queue_1_returns_are_empty};
 use mc_base::NoMemory;
 use split_ring::Closed;
 use std::alloc::Global;
@@ -55,6 +55,7 @@ fn finish_link(line: LinkLine, rings: LinkRings, ended: &mut Vec<EndedLink>) -> 
         unreachable!()
     };
     halves_stay_of_one_ring();
+    queue_1_returns_are_empty();
     let zero = finish_lane(rings.queue0, back.send, there.recv);
     let one = finish_lane(rings.queue1, there.send, back.recv);
     (zero, one)
