@@ -84,8 +84,10 @@ pub does-anywhere : (node : ℕ) (places : List (Option ℕ)) (says : Bool) (old
 does-anywhere node places says old new a d = record {
   answer = d.answer;
   state = d.state;
+  numbered = d.numbered;
   slots = d.slots;
   returned = d.returned;
+  named = d.named;
   moved = d.moved;
   stays = d.stays;
   ids = d.ids;

@@ -10,6 +10,7 @@ use Rattle.board_model.specs.declared.scenario.Scenario.{Scenario}
 use Rattle.board_model.specs.Answer.{answer, puts}
 use Rattle.board_model.specs.CallChanges.{effect, returned}
 use Rattle.board_model.specs.DomainCall.{DomainCall}
+use Rattle.board_model.specs.Given.{frames_from}
 use Rattle.board_model.specs.Journal.{Line, PlainAnswer, refuses, Visit, joined, noted, noted_all, wait_line, waits}
 use Rattle.board_model.specs.Labels.{call_of, packet_given, request_given, success_request}
 use Rattle.board_model.specs.Lists.{without}
@@ -20,6 +21,7 @@ use Rattle.board_model.specs.SerialRun.{entered}
 use Rattle.board_model.specs.State.{DomainState}
 use Rattle.board_model.specs.Step.{call_at, is_timeout, limit_of}
 use Rattle.board_model.specs.Tallies.{deleted_in}
+use Rattle.board_model.proofs.UnnamedCalls.{answer-unnamed}
 use Rattle.board_model.proofs.WaitCalls.{wait-puts}
 use Rattle.board_model.proofs.WholePeers.{call_numbers}
 use Rattle.domain_core.specs.AllMoved.{AllMoved, call_moves}
@@ -171,8 +173,10 @@ module _ (s : Scenario) (t : run.Station) (st : Station) (h : IsStation s t st) 
     does-line = record {
       answer = does.answer ∙ ap (λ (c : DomainCall). answer state line.node c) named;
       state = does.state ∙ ap (λ (c : DomainCall). effect state line.node c) named;
+      numbered = does.numbered ∙ ap (λ (c : DomainCall). effect st.domain.numbered line.node c) named;
       slots = does.slots;
       returned = does.returned ∙ ap (λ (c : DomainCall). returned state line.node c) named;
+      named = λ peer. does.named peer ∙ ap (λ (c : DomainCall). frames_from peer (returned st.domain.numbered line.node c)) named;
       moved = subst (λ (c : DomainCall). AllMoved Moved st.domain.ends (call_moves (puts state line.node c) does.slots (peers_of st.domain)) called_to.domain.ends) named does.moved;
       stays = does.stays;
       ids = does.ids ∙ ap₂ (λ (p : Option ℕ) (id : Option RequestId). without p st.domain.ids ++ option_to_list id) (ap (λ (c : DomainCall). place_ended state line.node c) named) (sym given);
@@ -211,13 +215,23 @@ module _ (s : Scenario) (t : run.Station) (st : Station) (h : IsStation s t st) 
     nothing : DoesNothing st.domain.state 0 (wait_on ids says st.domain)
     nothing = refused_nothing st.domain.state 0 Timeout (wait_on ids says st.domain) (timeout-word (answer st.domain.state 0 (wait_on ids says st.domain)) (waiting-is says ∙ waiting))
 
+    -- and so it does where its items are named
+    nothing_named : DoesNothing st.domain.numbered 0 (wait_on ids says st.domain)
+    nothing_named =
+        refused_nothing st.domain.numbered 0 Timeout (wait_on ids says st.domain)
+        (timeout-word (answer st.domain.numbered 0 (wait_on ids says st.domain))
+        (ap is_timeout (sym (answer-unnamed st.domain.numbered 0 (wait_on ids says st.domain)) ∙ ap (λ (x : DomainState). answer x 0 (wait_on ids says st.domain)) (sym st.domain.nameless))
+        ∙ (waiting-is says ∙ waiting)))
+
     pub times-out : (a : PlainAnswer) → a ≡ refuses Timeout → TimedOut ids says st.domain a
     times-out a is = record {
       does = record {
         answer = is ∙ timeout-word (answer st.domain.state 0 (wait_on ids says st.domain)) (waiting-is says ∙ waiting);
         state = sym nothing.effect_is;
+        numbered = sym nothing_named.effect_is;
         slots = [];
         returned = sym nothing.returns_none;
+        named = λ peer. sym (ap (frames_from peer) nothing_named.returns_none);
         moved =
             subst (λ (ps : List (ℕ × List ℕ)). AllMoved Moved st.domain.ends (call_moves ps [] (peers_of st.domain)) st.domain.ends) (sym nothing.puts_none)
             (all_rest t.line.domain (peers_of st.domain) st.domain.ends h.matched);

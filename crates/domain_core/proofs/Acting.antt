@@ -50,10 +50,10 @@ of-channel (letter.SendClose channel) no_message no_connect = tt
 of-channel (letter.RecvClose channel) no_message no_connect = tt
 
 -- one to no endpoint
-pub nobody-row : (l : Letter) → ((channel : ℕ) (kind : Kind) → l ≡ letter.Connect channel kind → ⊥) → (s : DomainState) (peer source dst : ℕ) → endpoint_of s dst ≡ None → letter_row s peer source dst (plain_letter l) ≡ row true fate.NoEndpoint []
-nobody-row l no_connect s peer source dst none = ap (λ o. first_row (letter_rows s peer None source dst o (plain_letter l))) none ∙ ap first_row (go l no_connect)
+pub nobody-row : (l : Letter) → ((channel : ℕ) (kind : Kind) → l ≡ letter.Connect channel kind → ⊥) → (s : DomainState) (name : Option ℕ) (peer source dst : ℕ) → endpoint_of s dst ≡ None → letter_row s name peer source dst (plain_letter l) ≡ row true fate.NoEndpoint []
+nobody-row l no_connect s name peer source dst none = ap (λ o. first_row (letter_rows s peer name source dst o (plain_letter l))) none ∙ ap first_row (go l no_connect)
   where
-    go : (l : Letter) → ((channel : ℕ) (kind : Kind) → l ≡ letter.Connect channel kind → ⊥) → letter_rows s peer None source dst None (plain_letter l) ≡ last_row fate.NoEndpoint []
+    go : (l : Letter) → ((channel : ℕ) (kind : Kind) → l ≡ letter.Connect channel kind → ⊥) → letter_rows s peer name source dst None (plain_letter l) ≡ last_row fate.NoEndpoint []
     go (letter.Connect channel kind) other = absurd (other channel kind refl)
     go (letter.Msg priority bytes) other = refl
     go (letter.Accept channel) other = refl
@@ -65,25 +65,25 @@ nobody-row l no_connect s peer source dst none = ap (λ o. first_row (letter_row
     go (letter.SendClose channel) other = refl
     go (letter.RecvClose channel) other = refl
 
-rows-of-channel : (l : PlainLetter) → IsOfChannel l → (s : DomainState) (peer source dst : ℕ) (x : state.Endpoint) → letter_rows s peer None source dst (Some x) l ≡ channel_rows s peer dst x x.channel (taken.item_of peer None source l) l
-rows-of-channel (msg priority content) is s peer source dst x = absurd is
-rows-of-channel (connect number kind) is s peer source dst x = absurd is
-rows-of-channel other is s peer source dst x = refl
+rows-of-channel : (l : PlainLetter) → IsOfChannel l → (s : DomainState) (name : Option ℕ) (peer source dst : ℕ) (x : state.Endpoint) → letter_rows s peer name source dst (Some x) l ≡ channel_rows s peer dst x x.channel (taken.item_of peer name source l) l
+rows-of-channel (msg priority content) is s name peer source dst x = absurd is
+rows-of-channel (connect number kind) is s name peer source dst x = absurd is
+rows-of-channel other is s name peer source dst x = refl
 
-size-is : (l : PlainLetter) → IsItem l → (peer source : ℕ) → size_of l ≡ length (taken.item_of peer None source l).content
-size-is (msg priority content) is peer source = refl
-size-is (packet number content) is peer source = refl
-size-is (scalar number B8 value) is peer source = refl
-size-is (scalar number B16 value) is peer source = refl
-size-is (scalar number B32 value) is peer source = refl
-size-is (scalar number B64 value) is peer source = refl
-size-is other is peer source = absurd is
+size-is : (l : PlainLetter) → IsItem l → (name : Option ℕ) (peer source : ℕ) → size_of l ≡ length (taken.item_of peer name source l).content
+size-is (msg priority content) is name peer source = refl
+size-is (packet number content) is name peer source = refl
+size-is (scalar number B8 value) is name peer source = refl
+size-is (scalar number B16 value) is name peer source = refl
+size-is (scalar number B32 value) is name peer source = refl
+size-is (scalar number B64 value) is name peer source = refl
+size-is other is name peer source = absurd is
 
-no-priority : (l : PlainLetter) → IsOfChannel l → IsItem l → (peer source : ℕ) → 0 ≡ (taken.item_of peer None source l).priority
-no-priority (packet number content) of is peer source = refl
-no-priority (scalar number bits value) of is peer source = refl
-no-priority (msg priority content) of is peer source = absurd of
-no-priority other of is peer source = absurd is
+no-priority : (l : PlainLetter) → IsOfChannel l → IsItem l → (name : Option ℕ) (peer source : ℕ) → 0 ≡ (taken.item_of peer name source l).priority
+no-priority (packet number content) of is name peer source = refl
+no-priority (scalar number bits value) of is name peer source = refl
+no-priority (msg priority content) of is name peer source = absurd of
+no-priority other of is name peer source = absurd is
 
 -- ---- the words of an end's rows
 
@@ -156,19 +156,19 @@ module _ (s : DomainState) (dst : ℕ) (x : state.Endpoint) (i : Item) (l : Plai
 
 -- ---- the verdict
 
-module _ (b : Book) (d : Desk) (s : DomainState) (peer : ℕ) (shows : Shows s peer b d) (source dst at : ℕ) (e : Endpoint) (there : Some at ≡ place_of_address (holding (endpoints_in b d.records.endpoints)) dst) (get : slice_get d.records.endpoints at ≡ Some e)
+module _ (b : Book) (d : Desk) (s : DomainState) (name : Option ℕ) (peer : ℕ) (shows : Shows s peer b d) (source dst at : ℕ) (e : Endpoint) (there : Some at ≡ place_of_address (holding (endpoints_in b d.records.endpoints)) dst) (get : slice_get d.records.endpoints at ≡ Some e)
     (l : PlainLetter) (of : IsOfChannel l) (receives : AreReceives d.requests) where
   abbrev x : state.Endpoint
   x = endpoint_in b e
 
   abbrev item : Item
-  item = taken.item_of peer None source l
+  item = taken.item_of peer name source l
 
   abbrev its : Row
-  its = letter_row s peer source dst l
+  its = letter_row s name peer source dst l
 
   at_end : its ≡ first_row (channel_rows s peer dst x (option_map end_of e.channel) item l)
-  at_end = ap (λ o. first_row (letter_rows s peer None source dst o l)) (end-there b d s peer shows dst at e there get) ∙ ap first_row (rows-of-channel l of s peer source dst x)
+  at_end = ap (λ o. first_row (letter_rows s peer name source dst o l)) (end-there b d s peer shows dst at e there get) ∙ ap first_row (rows-of-channel l of s name peer source dst x)
 
   -- what it does, where it acts
   acted : (r' : Records) (q' : Requests) (left : Option ChannelEnd) → its ≡ row true fate.Acted (acting dst left l) → Leaves d.records r' d.requests q' at l left → IsReturned s peer its fate.Acted d (desk r' q' d.names d.replies)
@@ -196,25 +196,25 @@ module _ (b : Book) (d : Desk) (s : DomainState) (peer : ℕ) (shows : Shows s p
       go (send_close number) is requests = by (ends at dst leaves.channel leaves.at) is (place, record { endpoint = x; there = end-there b d s peer shows dst at e there get; named = local }) refl requests
       go other is requests = by (sets at dst leaves.channel) is place refl requests
 
-  by_word : (word : Fate) (left : Option ChannelEnd) → its ≡ row_at s dst x item l word left → Fine l word → (r' : Records) (q' : Requests) (v : Verdict) → DoesBy word left d.records r' d.requests q' at l v → IsJudged s peer source dst l v d (desk r' q' d.names d.replies)
+  by_word : (word : Fate) (left : Option ChannelEnd) → its ≡ row_at s dst x item l word left → Fine l word → (r' : Records) (q' : Requests) (v : Verdict) → DoesBy word left d.records r' d.requests q' at l v → IsJudged s name peer source dst l v d (desk r' q' d.names d.replies)
   by_word fate.Handed left is fine r' q' v does = absurd (fine.0 refl)
   by_word fate.Queued left is fine r' q' v does =
       let lawful = fine.1 refl in
-      subst (λ r. IsJudged s peer source dst l v d (desk r q' d.names d.replies)) (sym does.1)
-      (subst (λ q. IsJudged s peer source dst l v d (desk d.records q d.names d.replies)) (sym does.2)
-      (brought-judged b d s peer shows dst at e there get its item is source l refl refl lawful receives 0 (size_of l) (no-priority l of lawful peer source) (size-is l lawful peer source) v does.0))
-  by_word fate.Acted left is fine r' q' v does = subst (λ w. IsJudged s peer source dst l w d (desk r' q' d.names d.replies)) (sym does.0) (acted r' q' left is does.1)
+      subst (λ r. IsJudged s name peer source dst l v d (desk r q' d.names d.replies)) (sym does.1)
+      (subst (λ q. IsJudged s name peer source dst l v d (desk d.records q d.names d.replies)) (sym does.2)
+      (brought-judged b d s peer shows dst at e there get its item is name source l refl refl lawful receives 0 (size_of l) (no-priority l of lawful name peer source) (size-is l lawful name peer source) v does.0))
+  by_word fate.Acted left is fine r' q' v does = subst (λ w. IsJudged s name peer source dst l w d (desk r' q' d.names d.replies)) (sym does.0) (acted r' q' left is does.1)
   by_word fate.Closed left is fine r' q' v does =
-      subst (λ w. IsJudged s peer source dst l w d (desk r' q' d.names d.replies)) (sym does.0)
+      subst (λ w. IsJudged s name peer source dst l w d (desk r' q' d.names d.replies)) (sym does.0)
       (record { effect = loses dst item; applies = true; row_is = is; returned = refl; placed = tt; left = ap (λ r. desk r q' d.names d.replies) does.1 ∙ ap (λ q. desk d.records q d.names d.replies) does.2 })
   by_word word left is fine r' q' v does =
-      subst (λ w. IsJudged s peer source dst l w d (desk r' q' d.names d.replies)) (sym does.0)
+      subst (λ w. IsJudged s name peer source dst l w d (desk r' q' d.names d.replies)) (sym does.0)
       (record { effect = nothing; applies = true; row_is = is; returned = refl; placed = tt; left = ap (λ r. desk r q' d.names d.replies) does.1 ∙ ap (λ q. desk d.records q d.names d.replies) does.2 })
 
-  pub acted-judged : (r' : Records) (q' : Requests) (v : Verdict) → Hears d.records r' d.requests q' peer at l v → IsJudged s peer source dst l v d (desk r' q' d.names d.replies)
+  pub acted-judged : (r' : Records) (q' : Requests) (v : Verdict) → Hears d.records r' d.requests q' peer at l v → IsJudged s name peer source dst l v d (desk r' q' d.names d.replies)
   acted-judged r' q' v hears = go hears.channel (let both = hears.there ∙ ap (option_map (λ (y : Endpoint). y.channel)) get in (let same : hears.channel ≡ e.channel = cc in same)) hears.does
     where
-      go : (o : Option Channel) → o ≡ e.channel → DoesRow (end_row_of peer (option_map end_of o) l) d.records r' d.requests q' at l v → IsJudged s peer source dst l v d (desk r' q' d.names d.replies)
+      go : (o : Option Channel) → o ≡ e.channel → DoesRow (end_row_of peer (option_map end_of o) l) d.records r' d.requests q' at l v → IsJudged s name peer source dst l v d (desk r' q' d.names d.replies)
       go None none does = by_word fate.State None (at_end ∙ ap (λ o. first_row (channel_rows s peer dst x (option_map end_of o) item l)) (sym none)) (λ e. absurd cc, λ e. absurd cc) r' q' v does
       go (Some c) some does =
           let row = end_row_of peer (Some (end_of c)) l in

@@ -1,9 +1,10 @@
 -- A call is its turn, and then what it does itself.
 use Rattle.std.proofs.Common.{◌≡◌, ℕ, Bool, List, [], ◌∷◌, ◌++◌, map, Option, Some, None, refl, sym, ap, ◌∙◌, subst}
-use Rattle.std.specs.Prelude.{option_to_list}
+use Rattle.std.specs.Prelude.{IfSome, option_to_list}
 use Rattle.std.proofs.lemmas.List.{append-nil}
 use Rattle.mc_base.specs.declared.refusal.Refusal.{Refusal}
 use Rattle.mc_base.specs.declared.request.RequestId.{RequestId}
+use Rattle.mc_base.specs.declared.request.Slot.{Slot}
 use Rattle.board_model.specs.DomainCall.{DomainCall, turn_alone}
 use Rattle.board_model.specs.Journal.{Line, PlainAnswer, agrees, noted_all}
 use Rattle.board_model.specs.Labels.{success_packet}
@@ -11,10 +12,14 @@ use Rattle.board_model.specs.Lists.{without}
 use Rattle.board_model.specs.State as state
 use Rattle.board_model.specs.Answer.{answer, puts, refusal, success_puts, unless_refused}
 use Rattle.board_model.specs.Change.{changed_all}
-use Rattle.board_model.specs.CallChanges.{success_changes, success_returned}
+use Rattle.board_model.specs.CallChanges.{effect, returned, success_changes, success_returned}
+use Rattle.board_model.specs.Given.{frames_from}
 use Rattle.board_model.specs.Serial.{put_entry}
-use Rattle.domain_core.specs.AllMoved.{AllMoved, call_moves, moves_at, numbers_of}
-use Rattle.domain_core.specs.Calls.{Calls, Does, success_releases}
+use Rattle.board_model.proofs.DeedHeld.{returned-same}
+use Rattle.board_model.proofs.UnnamedCalls.{answer-unnamed, puts-unnamed}
+use Rattle.domain_core.specs.AllMoved.{AllMoved, buffers_of, call_moves, moves_at, numbers_of}
+use Rattle.domain_core.specs.Calls.{Calls, Does, IsFresh, success_releases}
+use Rattle.domain_core.specs.InBook.{item_at, numbered_at}
 use Rattle.domain_core.specs.CallSteps.{Acted, Acts, Rests, Succeeds, call_steps}
 use Rattle.domain_core.specs.DomainView.{DomainView}
 use Rattle.domain_core.specs.LaneMoves.{LaneMove}
@@ -22,9 +27,11 @@ use Rattle.domain_core.specs.Parts.{Holding, Parts, plain, shown, state_of}
 use Rattle.domain_core.specs.Steps.{all_moves}
 use Rattle.domain_core.specs.Stores.{KeepsBut}
 use Rattle.domain_core.specs.Turned.{MakesTurn}
+use Rattle.domain_core.specs.Unnamed.{unnamed, unnamed_item}
 use Rattle.domain_core.proofs.Calling.{puts-done, puts-nothing}
 use Rattle.domain_core.proofs.Ending.{ended-done, ended-refused, ids_in}
 use Rattle.domain_core.proofs.GivingLemmas.{numbers-in}
+use Rattle.domain_core.proofs.Unnaming.{effect-unnamed, ended-unnamed, given-unnamed, items-unnamed, names-are, released-unnamed}
 
 map-same : {A B : Type 0} (f g : A → B) → ((x : A) → f x ≡ g x) → (xs : List A) → map f xs ≡ map g xs
 map-same f g is [] = refl
@@ -37,47 +44,71 @@ module _ {L : Type 0} (M : L → List LaneMove → L → Type 0) (node : ℕ) (c
   abbrev s : state.DomainState
   s = state_of p
 
+  -- the same without names
+  abbrev u : state.DomainState
+  u = unnamed s
+
   -- moves at all peers, in the words of the state
   moved-in : (frames : List (ℕ × List ℕ)) → frames ≡ puts s node call → (slots : List _) (f : ℕ → List LaneMove) → ((n : ℕ) → f n ≡ moves_at frames slots n) → (ends : List L) → AllMoved M old.ends (map f (numbers_of p.peers)) ends
-      → AllMoved M old.ends (call_moves (puts s node call) slots (map (λ (x : state.Peer). x.number) s.peers)) ends
+      → AllMoved M old.ends (call_moves (puts u node call) slots (map (λ (x : state.Peer). x.number) u.peers)) ends
   moved-in frames is slots f same ends moved =
-      subst (λ (fs : List (ℕ × List ℕ)). AllMoved M old.ends (call_moves fs slots (map (λ (x : state.Peer). x.number) s.peers)) ends) is
+      subst (λ (fs : List (ℕ × List ℕ)). AllMoved M old.ends (call_moves fs slots (map (λ (x : state.Peer). x.number) s.peers)) ends) (is ∙ sym (puts-unnamed s node call))
       (subst (λ (ns : List ℕ). AllMoved M old.ends (call_moves frames slots ns) ends) (sym (numbers-in plain p.table p.peers))
       (subst (λ ms. AllMoved M old.ends ms ends) (map-same f (moves_at frames slots) same (numbers_of p.peers)) moved))
 
+  -- what is given back, by its items and by their names
+  items-back : (slots : List Slot) → map (numbered_at p.book) slots ≡ returned s node call → map (item_at p.book) slots ≡ returned u node call
+  items-back slots is = items-unnamed p.book slots ∙ ap (map unnamed_item) is ∙ sym (returned-same s node call)
+
+  names-back : (slots : List Slot) → map (numbered_at p.book) slots ≡ returned s node call → (peer : ℕ) → buffers_of peer slots ≡ frames_from peer (returned s node call)
+  names-back slots is peer = names-are p.book peer slots ∙ ap (frames_from peer) is
+
+  fresh-in : (o : Option RequestId) → IfSome o (IsFresh (ids_in p.requests) s) → IfSome o (IsFresh (ids_in p.requests) u)
+  fresh-in None fresh = tt
+  fresh-in (Some id) fresh = record { differs = fresh.differs; is_key = fresh.is_key; serial = fresh.serial }
+
   refused : (word : Refusal) → refusal s node call ≡ Some word → answered ≡ answer s node call → Rests M old → new ≡ old → given ≡ None → Does M node call (shown old) (shown new) answered given
   refused word e answer-is rests same none =
+      let stays : s ≡ effect s node call = sym (ap (λ (o : Option Refusal). changed_all s (unless_refused o [] (success_changes s node call))) e) in
+      let nothing : [] ≡ returned s node call = sym (ap (λ (o : Option Refusal). unless_refused o [] (success_returned s node call)) e) in
       subst (λ (h : Holding L). Does M node call (shown old) (shown h) answered given) (sym same)
       (subst (λ (o : Option RequestId). Does M node call (shown old) (shown old) answered o) (sym none)
       (record {
-        answer = answer-is;
-        state = sym (ap (λ (o : Option Refusal). changed_all s (unless_refused o [] (success_changes s node call))) e);
+        answer = answer-is ∙ sym (answer-unnamed s node call);
+        state = ap unnamed stays ∙ effect-unnamed s node call;
+        numbered = stays;
         slots = [];
-        returned = sym (ap (λ (o : Option Refusal). unless_refused o [] (success_returned s node call)) e);
+        returned = items-back [] nothing;
+        named = names-back [] nothing;
         moved = moved-in [] (sym (ap (λ (o : Option Refusal). unless_refused o [] (success_puts s node call)) e)) [] (λ n. []) (λ n. refl) old.ends rests;
         stays = λ slot held other. record { held = held; item = refl };
-        ids = sym (append-nil (without _ (ids_in p.requests)) ∙ ap (λ (o : Option ℕ). without o (ids_in p.requests)) (ended-refused s node call word e));
+        ids = sym (append-nil (without _ (ids_in p.requests)) ∙ ap (λ (o : Option ℕ). without o (ids_in p.requests)) (ended-unnamed s node call ∙ ended-refused s node call word e));
         fresh = tt;
         lent = None;
-        packets = sym (append-nil (without _ p.records.lent) ∙ ap (λ (o : Option Refusal). without (unless_refused o None (success_releases call)) p.records.lent) e);
-        lends = sym (ap (λ (o : Option Refusal). unless_refused o None (success_packet s call)) e);
+        packets = sym (append-nil (without _ p.records.lent) ∙ ap (λ (o : Option ℕ). without o p.records.lent) (released-unnamed s node call) ∙ ap (λ (o : Option Refusal). without (unless_refused o None (success_releases call)) p.records.lent) e);
+        lends = sym (given-unnamed s node call ∙ ap (λ (o : Option Refusal). unless_refused o None (success_packet s call)) e);
       }))
 
   succeeded : refusal s node call ≡ None → answered ≡ answer s node call → Succeeds M node call old new given → Does M node call (shown old) (shown new) answered given
   succeeded e answer-is done =
       let m = done.means in
+      let after : state_of new.parts ≡ effect s node call = ap state_of done.did.parts ∙ m.state ∙ sym (ap (λ (o : Option Refusal). changed_all s (unless_refused o [] (success_changes s node call))) e) in
+      let back : map (numbered_at p.book) m.slots ≡ returned s node call = m.returned ∙ sym (ap (λ (o : Option Refusal). unless_refused o [] (success_returned s node call)) e) in
       record {
-        answer = answer-is;
-        state = ap state_of done.did.parts ∙ m.state ∙ sym (ap (λ (o : Option Refusal). changed_all s (unless_refused o [] (success_changes s node call))) e);
+        answer = answer-is ∙ sym (answer-unnamed s node call);
+        state = ap unnamed after ∙ effect-unnamed s node call;
+        numbered = after;
         slots = m.slots;
-        returned = m.returned ∙ sym (ap (λ (o : Option Refusal). unless_refused o [] (success_returned s node call)) e);
+        returned = items-back m.slots back;
+        named = names-back m.slots back;
         moved = moved-in (success_puts s node call) (sym (puts-done s node call e)) m.slots (all_moves (call_steps p node call given)) m.moves new.ends done.did.moved;
         stays = subst (λ (x : Parts). KeepsBut m.slots p.book x.book) (sym done.did.parts) m.stays;
-        ids = ap (λ (x : Parts). ids_in x.requests) done.did.parts ∙ m.ids ∙ ap (λ (o : Option ℕ). without o (ids_in p.requests) ++ option_to_list given) (sym (ended-done s node call e));
-        fresh = m.fresh;
+        ids = ap (λ (x : Parts). ids_in x.requests) done.did.parts ∙ m.ids ∙ ap (λ (o : Option ℕ). without o (ids_in p.requests) ++ option_to_list given) (sym (ended-unnamed s node call ∙ ended-done s node call e));
+        fresh = fresh-in given m.fresh;
         lent = m.lent;
-        packets = ap (λ (x : Parts). x.records.lent) done.did.parts ∙ m.packets ∙ ap (λ (o : Option Refusal). without (unless_refused o None (success_releases call)) p.records.lent ++ option_to_list m.lent) (sym e);
-        lends = m.lends ∙ sym (ap (λ (o : Option Refusal). unless_refused o None (success_packet s call)) e);
+        packets = ap (λ (x : Parts). x.records.lent) done.did.parts ∙ m.packets ∙ ap (λ (o : Option Refusal). without (unless_refused o None (success_releases call)) p.records.lent ++ option_to_list m.lent) (sym e)
+            ∙ ap (λ (o : Option ℕ). without o p.records.lent ++ option_to_list m.lent) (sym (released-unnamed s node call));
+        lends = m.lends ∙ sym (given-unnamed s node call ∙ ap (λ (o : Option Refusal). unless_refused o None (success_packet s call)) e);
       }
 
   -- what a call does inside is what it does
@@ -101,7 +132,7 @@ module _ {L : Type 0} (M : L → List LaneMove → L → Type 0) (node : ℕ) (c
           turned_to = shown old;
           turns = turn.turns;
           does = does-of rests acts;
-          told = told ∙ ap (λ (ls : List Line). noted_all ls (map put_entry (puts s node call))) turn.told;
+          told = told ∙ ap (λ (fs : List (ℕ × List ℕ)). noted_all lines' (map put_entry fs)) (sym (puts-unnamed s node call)) ∙ ap (λ (ls : List Line). noted_all ls (map put_entry (puts u node call))) turn.told;
         }
 
     -- where it never puts any

@@ -22,7 +22,7 @@ use Rattle.request_set.specs.Requests.{Requests, Standing}
 use Rattle.domain_core.specs.LaneSeen.{LaneSeen}
 use Rattle.domain_core.specs.declared.peer.Peer.{Peer}
 use Rattle.domain_core.specs.AllMoved.{numbers_of}
-use Rattle.domain_core.specs.InBook.{item_at, item_in, packets_in, requests_in}
+use Rattle.domain_core.specs.InBook.{numbered_at, item_in, packets_in, requests_in}
 use Rattle.domain_core.specs.InPlaces.{AreInPlaces, EachInPlace, is_of, is_same, one_if, slot_at, slots_of, times_in}
 use Rattle.domain_core.specs.InRequests.{handed_slots, slots_in}
 use Rattle.domain_core.specs.Out.{Out}
@@ -43,17 +43,17 @@ waiting-from b peer (w ∷ ws) =
     ∙ ap (λ (k : ℕ). one_if (w.slot.peer == peer) + k) (waiting-from b peer ws)
     ∙ sym (count-cons (is_of peer) w.slot (slots ws))
 
-handed-from : (b : Book) (peer : ℕ) (ss : List Slot) → count_by (is_from peer) (map (item_at b) ss) ≡ count_by (is_of peer) ss
+handed-from : (b : Book) (peer : ℕ) (ss : List Slot) → count_by (is_from peer) (map (numbered_at b) ss) ≡ count_by (is_of peer) ss
 handed-from b peer [] = refl
 handed-from b peer (s ∷ ss) =
-    count-cons (is_from peer) (item_at b s) (map (item_at b) ss)
+    count-cons (is_from peer) (numbered_at b s) (map (numbered_at b) ss)
     ∙ ap (λ (k : ℕ). one_if (s.peer == peer) + k) (handed-from b peer ss)
     ∙ sym (count-cons (is_of peer) s ss)
 
 packets-from : (b : Book) (peer : ℕ) (ids : List PacketId) → count_by (is_from peer) (map (λ (p : LentPacket). p.item) (packets_in b ids)) ≡ count_by (λ (i : PacketId). i.peer == peer) ids
 packets-from b peer [] = refl
 packets-from b peer (i ∷ ids) =
-    count-cons (is_from peer) (item_at b (slot_of i)) (map (λ (p : LentPacket). p.item) (packets_in b ids))
+    count-cons (is_from peer) (numbered_at b (slot_of i)) (map (λ (p : LentPacket). p.item) (packets_in b ids))
     ∙ ap (λ (k : ℕ). one_if (i.peer == peer) + k) (packets-from b peer ids)
     ∙ sym (count-cons (λ (x : PacketId). x.peer == peer) i ids)
 

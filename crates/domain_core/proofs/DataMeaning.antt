@@ -31,7 +31,7 @@ use Rattle.domain_core.specs.declared.peer.Peer.{Peer}
 use Rattle.domain_core.specs.AllMoved.{moves_at}
 use Rattle.domain_core.specs.Calls.{success_ends, success_releases}
 use Rattle.domain_core.specs.CallSteps.{Means, call_steps, if_some, oldest_slot, putting_all}
-use Rattle.domain_core.specs.InBook.{endpoints_in, item_at, item_in}
+use Rattle.domain_core.specs.InBook.{endpoints_in, numbered_at, item_in}
 use Rattle.domain_core.specs.Parts.{Parts, Sound, plain, state_of}
 use Rattle.domain_core.specs.Records.{waiting_in}
 use Rattle.domain_core.specs.Steps.{Step, all_moves, done, done_all, oldest_dropped}
@@ -78,10 +78,10 @@ module _ (p : Parts) (sound : Sound p) (at : Local) (i : ℕ) (there : place_at 
 -- ---- the oldest item at an endpoint
 
 module _ (p : Parts) (sound : Sound p) (at : Local) (i : ℕ) (there : place_at (state_of p) at ≡ Some i) (s : Slot) (first : Some s ≡ option_map (λ (w : Waiting). w.slot) (oldest (waiting_in (slice_get p.records.endpoints i)))) where
-  pub oldest-there : oldest (queue_at (state_of p) at) ≡ Some (item_at p.book s)
+  pub oldest-there : oldest (queue_at (state_of p) at) ≡ Some (numbered_at p.book s)
   oldest-there =
       ap (λ (q : List Item). oldest q) (sym (gone-items plain p.book p.records p.requests p.table p.peers at i sound there))
-      ∙ ap (λ (ss : List Slot). oldest (map (item_at p.book) ss)) (oldest_dropped-left p sound i s first)
+      ∙ ap (λ (ss : List Slot). oldest (map (numbered_at p.book) ss)) (oldest_dropped-left p sound i s first)
 
   abbrev the : (e : state.Endpoint) × (live_at (state_of p) at ≡ Some e)
   the = there_at (state_of p) at i there

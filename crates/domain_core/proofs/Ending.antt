@@ -25,7 +25,7 @@ use Rattle.domain_core.specs.Calls.{place_ended, success_ends}
 use Rattle.domain_core.specs.DomainView.{place_of_id}
 use Rattle.domain_core.specs.Table.{with_requests}
 use Rattle.domain_core.specs.Records.{Records}
-use Rattle.domain_core.specs.InBook.{asked_in, item_at, content_in, outcome_in, request_in, requests_in, table_in}
+use Rattle.domain_core.specs.InBook.{asked_in, numbered_at, content_in, outcome_in, request_in, requests_in, table_in}
 use Rattle.domain_core.specs.InRequests.{AreReceives, Receives, handed_slots, slots_in}
 use Rattle.domain_core.proofs.Calling.{cancel_by, cancel-is, test_by, test-is}
 use Rattle.domain_core.proofs.Handed.{item-in}
@@ -160,7 +160,7 @@ module _ (b : Book) (q : Requests) (s : DomainState) (stand : s.requests ≡ req
       ∙ result-is b r.ask slot max is
 
   -- and what it gives back
-  pub tested-items : held_by (request_at_place s (place_of_id (ids_in q) id)) ≡ item_at b slot ∷ []
+  pub tested-items : held_by (request_at_place s (place_of_id (ids_in q) id)) ≡ numbered_at b slot ∷ []
   tested-items =
       ap (λ (o : Option state.Request). held_by o) (request-at b q s stand id ∙ ap (option_map (request_in b)) found.1)
       ∙ held-item b found.0.ask found.0.complete (found-receives (is_id id) found.0 q.standing receives.each found.1) no-packet
@@ -240,7 +240,7 @@ module _ (b : Book) (q : Requests) (s : DomainState) (stand : s.requests ≡ req
       ∙ held-item b there.0.ask there.0.complete (found-receives (is_id id) there.0 q.standing receives.each there.1) not-packet
       ∙ ap (λ (o : Option Complete). state.item_in (option_map (outcome_in b) o)) there.2
       ∙ item-in b (Some how)
-      ∙ ap (map (item_at b)) quiet-slots
+      ∙ ap (map (numbered_at b)) quiet-slots
 
   pub quiet-lends : lent_by_test (request_at_place s (place_of_id (ids_in q) id)) ≡ []
   quiet-lends =
@@ -277,7 +277,7 @@ module _ (b : Book) (q : Requests) (s : DomainState) (stand : s.requests ≡ req
 
   -- the request as the state has it
   abbrev pub request_for : Local → Request
-  request_for at = record { serial = asked.0.id.serial; asked = state.packet_at at; outcome = Some (state.has_item (item_at b slot)) }
+  request_for at = record { serial = asked.0.id.serial; asked = state.packet_at at; outcome = Some (state.has_item (numbered_at b slot)) }
 
   pub packet-request : request_at_place s (place_of_id (ids_in q) id) ≡ Some (request_for by.0)
   packet-request =

@@ -15,7 +15,7 @@ use Rattle.request_set.specs.declared.ask.Ask.{Ask}
 use Rattle.request_set.specs.declared.ask.Complete.{Complete}
 use Rattle.request_set.specs.declared.ask.Complete.TheVariants as complete
 use Rattle.request_set.specs.Requests.{Standing}
-use Rattle.domain_core.specs.InBook.{channel_in, content_in, item_at, outcome_in, packet_in, packets_in, priority_in, request_in, requests_in, source_in}
+use Rattle.domain_core.specs.InBook.{channel_in, content_in, numbered_at, outcome_in, packet_in, packets_in, priority_in, request_in, requests_in, source_in}
 use Rattle.domain_core.specs.InRequests.{handed_slots, slots_in}
 use Rattle.domain_core.specs.InPlaces.{is_of, is_same, times_in}
 use Rattle.domain_core.proofs.Books.{differ-back, kept-there}
@@ -26,8 +26,8 @@ use Rattle.domain_core.proofs.Placed.{no-one}
 one-slot : (s t : Slot) → times_in s (t ∷ []) ≡ 0 → is_same t s ≡ false
 one-slot s t none = no-one (is_same t s) (let sum = count-cons (λ (x : Slot). is_same x s) t [] in omega (arith, sum, none))
 
-item-stays : (b : Book) (s t : Slot) (k : Option Kept) → times_in s (t ∷ []) ≡ 0 → item_at (with_place b s k) t ≡ item_at b t
-item-stays b s t k none = ap (λ (o : Option Kept). record { peer = t.peer; source = source_in o; priority = priority_in o; channel = channel_in o; content = content_in o; frames = [] }) (kept-there b s k t (differ-back t s (one-slot s t none)))
+item-stays : (b : Book) (s t : Slot) (k : Option Kept) → times_in s (t ∷ []) ≡ 0 → numbered_at (with_place b s k) t ≡ numbered_at b t
+item-stays b s t k none = ap (λ (o : Option Kept). record { peer = t.peer; source = source_in o; priority = priority_in o; channel = channel_in o; content = content_in o; frames = t.buffer ∷ [] }) (kept-there b s k t (differ-back t s (one-slot s t none)))
 
 outcome-stays : (b : Book) (s : Slot) (k : Option Kept) (o : Option Complete) → times_in s (slots_in o) ≡ 0 → option_map (outcome_in (with_place b s k)) o ≡ option_map (outcome_in b) o
 outcome-stays b s k None none = refl
@@ -60,7 +60,7 @@ packets-stay b s k (i ∷ ids) none =
 
 -- ---- the items that they hold
 
-pub item-in : (b : Book) (o : Option Complete) → state.item_in (option_map (outcome_in b) o) ≡ map (item_at b) (slots_in o)
+pub item-in : (b : Book) (o : Option Complete) → state.item_in (option_map (outcome_in b) o) ≡ map (numbered_at b) (slots_in o)
 item-in b None = refl
 item-in b (Some (complete.Address address)) = refl
 item-in b (Some complete.Accepted) = refl
@@ -69,16 +69,16 @@ item-in b (Some (complete.Message slot max)) = refl
 item-in b (Some (complete.Packet slot)) = refl
 item-in b (Some (complete.Ended word)) = refl
 
-pub items-handed : (b : Book) (rs : List Standing) → flat_map (λ (r : Request). state.item_in r.outcome) (requests_in b rs) ≡ map (item_at b) (handed_slots rs)
+pub items-handed : (b : Book) (rs : List Standing) → flat_map (λ (r : Request). state.item_in r.outcome) (requests_in b rs) ≡ map (numbered_at b) (handed_slots rs)
 items-handed b [] = refl
 items-handed b (r ∷ rs) =
     ap (λ (xs : List Item). xs ++ flat_map (λ (x : Request). state.item_in x.outcome) (requests_in b rs)) (item-in b r.complete)
-    ∙ ap (λ (xs : List Item). map (item_at b) (slots_in r.complete) ++ xs) (items-handed b rs)
-    ∙ sym (map-append (item_at b) (slots_in r.complete) (handed_slots rs))
+    ∙ ap (λ (xs : List Item). map (numbered_at b) (slots_in r.complete) ++ xs) (items-handed b rs)
+    ∙ sym (map-append (numbered_at b) (slots_in r.complete) (handed_slots rs))
 
 -- those from a peer are as many as its slots that were handed
 pub handed-from : (b : Book) (number : ℕ) (rs : List Standing) → count_by (is_from number) (flat_map (λ (r : Request). state.item_in r.outcome) (requests_in b rs)) ≡ count_by (is_of number) (handed_slots rs)
-handed-from b number rs = ap (count_by (is_from number)) (items-handed b rs) ∙ count-map (is_from number) (item_at b) (handed_slots rs)
+handed-from b number rs = ap (count_by (is_from number)) (items-handed b rs) ∙ count-map (is_from number) (numbered_at b) (handed_slots rs)
 
 -- ---- the requests one after the other
 

@@ -152,37 +152,37 @@ module _ (b : Book) (d : Desk) (s : DomainState) (peer : ℕ) (shows : Shows s p
       named_so : (l : Local) → local_of d.records at ≡ Some l → e.local ≡ l
       named_so l is = let both = sym (ap (option_map (λ (x : Endpoint). x.local)) get) ∙ is in cc
 
-      pub brought-judged : (source : ℕ) (l : PlainLetter) → its ≡ letter_row s peer source dst l → item ≡ taken.item_of peer None source l → IsItem l → AreReceives d.requests → (priority size : ℕ) → priority ≡ item.priority → size ≡ length item.content → (v : Verdict) → Brings d.records d.requests at priority size v → IsJudged s peer source dst l v d d
-      brought-judged source l row_is item_is lawful receives priority size prior long (verdict.Queued i p n) brings =
+      pub brought-judged : (name : Option ℕ) (source : ℕ) (l : PlainLetter) → its ≡ letter_row s name peer source dst l → item ≡ taken.item_of peer name source l → IsItem l → AreReceives d.requests → (priority size : ℕ) → priority ≡ item.priority → size ≡ length item.content → (v : Verdict) → Brings d.records d.requests at priority size v → IsJudged s name peer source dst l v d d
+      brought-judged name source l row_is item_is lawful receives priority size prior long (verdict.Queued i p n) brings =
           let waits = brings.3 in (
             lawful,
             brings.2 ∙ long ∙ ap (λ (x : Item). length x.content) item_is,
             brings.1 ∙ prior ∙ ap (λ (x : Item). x.priority) item_is,
-            subst (λ (j : ℕ). IsQueued s (letter_row s peer source dst l) (taken.item_of peer None source l) j) (sym brings.0)
-                (subst (λ (x : Item). IsQueued s (letter_row s peer source dst l) x at) item_is (subst (λ (x : Row). IsQueued s x item at) row_is (brought-queued (subst (λ (x : Local). None ≡ oldest_waiting d.requests x) (sym (named_so waits.at waits.there)) waits.none)))),
+            subst (λ (j : ℕ). IsQueued s (letter_row s name peer source dst l) (taken.item_of peer name source l) j) (sym brings.0)
+                (subst (λ (x : Item). IsQueued s (letter_row s name peer source dst l) x at) item_is (subst (λ (x : Row). IsQueued s x item at) row_is (brought-queued (subst (λ (x : Local). None ≡ oldest_waiting d.requests x) (sym (named_so waits.at waits.there)) waits.none)))),
             refl,
           )
-      brought-judged source l row_is item_is lawful receives priority size prior long (verdict.Handed id a n) brings =
+      brought-judged name source l row_is item_is lawful receives priority size prior long (verdict.Handed id a n) brings =
           let waits = brings.1 in (
             lawful,
             brings.0 ∙ long ∙ ap (λ (x : Item). length x.content) item_is,
-            subst (λ (x : Item). IsHanded s d.requests (letter_row s peer source dst l) x id a) item_is (subst (λ (x : Row). IsHanded s d.requests x item id a) row_is (brought-handed id a receives waits.pending (subst (λ (x : Local). Some id ≡ oldest_waiting d.requests x) (sym (named_so waits.at waits.there)) waits.oldest) waits.asks (subst (λ (x : Local). receives_at x a ≡ true) (sym (named_so waits.at waits.there)) waits.receives))),
+            subst (λ (x : Item). IsHanded s d.requests (letter_row s name peer source dst l) x id a) item_is (subst (λ (x : Row). IsHanded s d.requests x item id a) row_is (brought-handed id a receives waits.pending (subst (λ (x : Local). Some id ≡ oldest_waiting d.requests x) (sym (named_so waits.at waits.there)) waits.oldest) waits.asks (subst (λ (x : Local). receives_at x a ≡ true) (sym (named_so waits.at waits.there)) waits.receives))),
             refl,
           )
-      brought-judged source l row_is item_is lawful receives priority size prior long (verdict.Returned f) brings = absurd brings
+      brought-judged name source l row_is item_is lawful receives priority size prior long (verdict.Returned f) brings = absurd brings
 
     -- ---- a message
 
-    module _ (source priority : ℕ) (content : List ℕ) where
-      pub message-row : None ≡ e.channel → letter_row s peer source dst (msg priority content) ≡ item_row (taken.message_item peer None source priority content)
+    module _ (name : Option ℕ) (source priority : ℕ) (content : List ℕ) where
+      pub message-row : None ≡ e.channel → letter_row s name peer source dst (msg priority content) ≡ item_row (taken.message_item peer name source priority content)
       message-row none =
-          ap (λ o. first_row (letter_rows s peer None source dst o (msg priority content))) end-there
-          ∙ ap (λ o. first_row (taken.message_rows s dst (endpoint_in b e) (option_map end_of o) (taken.message_item peer None source priority content))) (sym none)
+          ap (λ o. first_row (letter_rows s peer name source dst o (msg priority content))) end-there
+          ∙ ap (λ o. first_row (taken.message_rows s dst (endpoint_in b e) (option_map end_of o) (taken.message_item peer name source priority content))) (sym none)
 
-      pub on-channel : (c : Channel) → Some c ≡ e.channel → letter_row s peer source dst (msg priority content) ≡ row true fate.OnChannel []
+      pub on-channel : (c : Channel) → Some c ≡ e.channel → letter_row s name peer source dst (msg priority content) ≡ row true fate.OnChannel []
       on-channel c some =
-          ap (λ o. first_row (letter_rows s peer None source dst o (msg priority content))) end-there
-          ∙ ap (λ o. first_row (taken.message_rows s dst (endpoint_in b e) (option_map end_of o) (taken.message_item peer None source priority content))) (sym some)
+          ap (λ o. first_row (letter_rows s peer name source dst o (msg priority content))) end-there
+          ∙ ap (λ o. first_row (taken.message_rows s dst (endpoint_in b e) (option_map end_of o) (taken.message_item peer name source priority content))) (sym some)
 
 -- ---- Connects
 
@@ -257,19 +257,19 @@ module _ (b : Book) (d : Desk) (s : DomainState) (peer : ℕ) (shows : Shows s p
 
 -- ---- the frame that says the letter
 
-module _ (s : DomainState) (peer src dst : ℕ) (frame : List ℕ) (bytes : AreBytes frame) (l : PlainLetter) (is : says src dst l ≡ reading frame) where
-  row_so : letter_row s peer src dst l ≡ row_of s peer None (reading frame)
-  row_so = ap (row_of s peer None) is
+module _ (s : DomainState) (name : Option ℕ) (peer src dst : ℕ) (frame : List ℕ) (bytes : AreBytes frame) (l : PlainLetter) (is : says src dst l ≡ reading frame) where
+  row_so : letter_row s name peer src dst l ≡ row_of s peer name (reading frame)
+  row_so = ap (row_of s peer name) is
 
-  pub judged-verdict : (v : Verdict) (d d' : Desk) → IsJudged s peer src dst l v d d' → IsVerdict s peer frame v d d'
+  pub judged-verdict : (v : Verdict) (d d' : Desk) → IsJudged s name peer src dst l v d d' → IsVerdict s name peer frame v d d'
   judged-verdict (verdict.Queued place priority size) d d' j =
-      let c = item-read peer frame bytes src dst l is j.0 in
-      let item = taken.item_of peer None src l in
-      let same : item ≡ framed_item peer frame size = c.is ∙ ap (framed_item peer frame) (sym j.1) in
-      (subst (λ (x : Row). IsQueued s x (framed_item peer frame size) place) row_so (subst (λ (i : Item). IsQueued s (letter_row s peer src dst l) i place) same j.3), subst (Fits frame) (sym j.1) c.fits, c.says ∙ sym j.2, j.4)
+      let c = item-read name peer frame bytes src dst l is j.0 in
+      let item = taken.item_of peer name src l in
+      let same : item ≡ framed_item name peer frame size = c.is ∙ ap (framed_item name peer frame) (sym j.1) in
+      (subst (λ (x : Row). IsQueued s x (framed_item name peer frame size) place) row_so (subst (λ (i : Item). IsQueued s (letter_row s name peer src dst l) i place) same j.3), subst (Fits frame) (sym j.1) c.fits, c.says ∙ sym j.2, j.4)
   judged-verdict (verdict.Handed id max size) d d' j =
-      let c = item-read peer frame bytes src dst l is j.0 in
-      let item = taken.item_of peer None src l in
-      let same : item ≡ framed_item peer frame size = c.is ∙ ap (framed_item peer frame) (sym j.1) in
-      (subst (λ (x : Row). IsHanded s d.requests x (framed_item peer frame size) id max) row_so (subst (λ (i : Item). IsHanded s d.requests (letter_row s peer src dst l) i id max) same j.2), subst (Fits frame) (sym j.1) c.fits, j.3)
+      let c = item-read name peer frame bytes src dst l is j.0 in
+      let item = taken.item_of peer name src l in
+      let same : item ≡ framed_item name peer frame size = c.is ∙ ap (framed_item name peer frame) (sym j.1) in
+      (subst (λ (x : Row). IsHanded s d.requests x (framed_item name peer frame size) id max) row_so (subst (λ (i : Item). IsHanded s d.requests (letter_row s name peer src dst l) i id max) same j.2), subst (Fits frame) (sym j.1) c.fits, j.3)
   judged-verdict (verdict.Returned f) d d' j = subst (λ (x : Row). IsReturned s peer x f d d') row_so j

@@ -20,7 +20,7 @@ use Rattle.domain_core.specs.LaneSeen.{LaneSeen}
 use Rattle.domain_core.specs.declared.endpoints.Endpoint.{Endpoint}
 use Rattle.domain_core.specs.declared.peer.Peer.{Peer}
 use Rattle.domain_core.specs.DomainView.{has_packet_id, place_of_packet_id}
-use Rattle.domain_core.specs.InBook.{channel_in, content_in, endpoint_in, endpoints_in, item_at, item_in, outcome_in, packet_in, packets_in, priority_in, request_in, requests_in, source_in}
+use Rattle.domain_core.specs.InBook.{channel_in, content_in, endpoint_in, endpoints_in, numbered_at, item_in, outcome_in, packet_in, packets_in, priority_in, request_in, requests_in, source_in}
 use Rattle.domain_core.specs.InPlaces.{AreInPlaces, IsLentAs, is_misplaced, is_same, one_if, slots_of, times_in}
 use Rattle.domain_core.specs.InRequests.{AreReceives}
 use Rattle.domain_core.specs.Out.{Out}
@@ -29,6 +29,7 @@ use Rattle.domain_core.specs.AllMoved.{numbers_of}
 use Rattle.domain_core.specs.Records.{Records, all_waiting, lent_slots, with_last_lent}
 use Rattle.domain_core.specs.Sound.{ArePeers, AreSound, out_at}
 use Rattle.domain_core.specs.Steps.{next_lent, with_lent_at}
+use Rattle.domain_core.specs.Unnamed.{unnamed_item}
 use Rattle.domain_core.specs.Stores.{KeepsBut}
 use Rattle.domain_core.proofs.Books.{each-slot, kept-there}
 use Rattle.domain_core.proofs.GivingLemmas.{All-each, InPlacesAt, SameEndpoints, same-tied}
@@ -65,7 +66,7 @@ module _ (b b' : Book) (same : (s : Slot) (n : ℕ) → item_in b' (waiting s n)
       ap (λ (q : List Item). record (endpoint_in b e) { queue = q } ∷ endpoints_in b' es) (items-same e.queue.waiting)
       ∙ ap (λ (xs : List state.Endpoint). endpoint_in b e ∷ xs) (endpoints-same es)
 
-module _ (b b' : Book) (same : (s : Slot) → item_at b' s ≡ item_at b s) where
+module _ (b b' : Book) (same : (s : Slot) → numbered_at b' s ≡ numbered_at b s) where
   outcome-same : (o : Option Complete) → option_map (outcome_in b') o ≡ option_map (outcome_in b) o
   outcome-same None = refl
   outcome-same (Some (complete.Address address)) = refl
@@ -98,7 +99,7 @@ module _ (b : Book) (s : Slot) (k : Kept) (is : queued_at b s ≡ Some k) where
 
   -- its item stays
   abbrev read_as : Option Kept → Slot → ℕ → Item
-  read_as o t n = record { peer = t.peer; source = source_in o; priority = n; channel = channel_in o; content = content_in o; frames = [] }
+  read_as o t n = record { peer = t.peer; source = source_in o; priority = n; channel = channel_in o; content = content_in o; frames = t.buffer ∷ [] }
 
   read-here : (n : ℕ) → read_as (kept_at b' s) s n ≡ read_as (kept_at b s) s n
   read-here n = ap (λ (o : Option Kept). read_as o s n) (lent-here s b k is) ∙ sym (ap (λ (o : Option Kept). read_as o s n) (kept-was s b k is))
@@ -115,8 +116,8 @@ module _ (b : Book) (s : Slot) (k : Kept) (is : queued_at b s ≡ Some k) where
       (ap priority_in (lent-here s b k is) ∙ sym (ap priority_in (kept-was s b k is)))
       (λ t differ. ap priority_in (kept-there b s (Some lent_now) t differ))
 
-  pub item_at-lent : (t : Slot) → item_at b' t ≡ item_at b t
-  item_at-lent t = item-lent t (priority_in (kept_at b' t)) ∙ ap (λ (n : ℕ). item_in b (waiting t n)) (priority-lent t)
+  pub numbered_at-lent : (t : Slot) → numbered_at b' t ≡ numbered_at b t
+  numbered_at-lent t = item-lent t (priority_in (kept_at b' t)) ∙ ap (λ (n : ℕ). item_in b (waiting t n)) (priority-lent t)
 
   misplaced-lent : (ws : List Waiting) → count_by (is_misplaced b') ws ≡ count_by (is_misplaced b) ws
   misplaced-lent [] = refl
@@ -128,7 +129,7 @@ module _ (b : Book) (s : Slot) (k : Kept) (is : queued_at b s ≡ Some k) where
 
   -- all that is held stays so
   pub keeps-lent : KeepsBut [] b b'
-  keeps-lent t held other = record { held = kept-still s b k is t ∙ held; item = item_at-lent t }
+  keeps-lent t held other = record { held = kept-still s b k is t ∙ held; item = ap unnamed_item (numbered_at-lent t) }
 
   -- it is lent under its id
   abbrev id : PacketId
@@ -186,13 +187,13 @@ module _ (b : Book) (s : Slot) (k : Kept) (is : queued_at b s ≡ Some k) where
           }
 
     -- what it is in the state
-    pub lent-state : {L : Type 0} (v : L → LaneSeen) (t : endpoint_table.Table) (ps : List (Peer L)) → state_in v b' r'' q' t ps ≡ changed (state_in v b r' q' t ps) (packet_lent (item_at b s))
+    pub lent-state : {L : Type 0} (v : L → LaneSeen) (t : endpoint_table.Table) (ps : List (Peer L)) → state_in v b' r'' q' t ps ≡ changed (state_in v b r' q' t ps) (packet_lent (numbered_at b s))
     lent-state v t ps =
         let u = state_in v b r' q' t ps in
         let next = (b.lends + 1) % 2 ^ 64 in
         ap (λ (es : List state.Endpoint). record u { endpoints = es; requests = requests_in b' q'.standing; lent = packets_in b' r''.lent; packets_lent = next }) (endpoints-same b b' item-lent r'.endpoints)
-        ∙ ap (λ (rs : List state.Request). record u { requests = rs; lent = packets_in b' r''.lent; packets_lent = next }) (requests-same b b' item_at-lent q'.standing)
-        ∙ ap (λ (ls : List LentPacket). record u { lent = ls; packets_lent = next }) (packets-same b b' item_at-lent r''.lent ∙ map_push (packet_in b) r'.lent id)
+        ∙ ap (λ (rs : List state.Request). record u { requests = rs; lent = packets_in b' r''.lent; packets_lent = next }) (requests-same b b' numbered_at-lent q'.standing)
+        ∙ ap (λ (ls : List LentPacket). record u { lent = ls; packets_lent = next }) (packets-same b b' numbered_at-lent r''.lent ∙ map_push (packet_in b) r'.lent id)
 
   -- ---- what is told of it
 
@@ -221,10 +222,10 @@ module _ (b : Book) (s : Slot) (k : Kept) (is : queued_at b s ≡ Some k) where
     pub place-new : place_of_packet_id (ids ++ id ∷ []) id ≡ Some (length ids)
     place-new = position_from-zero (has_packet_id id) (ids ++ id ∷ []) ∙ place-last 0 ids (other-ids ids none) ∙ ap (λ (m : ℕ). Some m) (omega arith)
 
-    pub packet-new : packet_at_place_in (packets_in b' (ids ++ id ∷ [])) (place_of_packet_id (ids ++ id ∷ []) id) ≡ Some (record { serial = b.lends; item = item_at b s })
+    pub packet-new : packet_at_place_in (packets_in b' (ids ++ id ∷ [])) (place_of_packet_id (ids ++ id ∷ []) id) ≡ Some (record { serial = b.lends; item = numbered_at b s })
     packet-new =
         ap (λ (o : Option ℕ). option_and_then (λ i. slice_get (packets_in b' (ids ++ id ∷ [])) i) o) place-new
         ∙ ap (λ (ls : List LentPacket). slice_get ls (length ids)) (map_push (packet_in b') ids id)
         ∙ ap (λ (n : ℕ). slice_get (packets_in b' ids ++ packet_in b' id ∷ []) n) (sym (length-map ids (packet_in b')))
         ∙ get-last (packets_in b' ids) (packet_in b' id)
-        ∙ ap (λ (x : Item). Some (record { serial = b.lends; item = x })) (item_at-lent s)
+        ∙ ap (λ (x : Item). Some (record { serial = b.lends; item = x })) (numbered_at-lent s)

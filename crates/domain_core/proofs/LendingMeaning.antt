@@ -37,7 +37,7 @@ use Rattle.domain_core.specs.declared.peer.Peer.{Peer}
 use Rattle.domain_core.specs.Calls.{IsFresh, gives_whole, brings_whole}
 use Rattle.domain_core.specs.CallSteps.{Means, call_steps, if_some, oldest_slot, requesting, ending, how_held}
 use Rattle.domain_core.specs.DomainView.{place_of_packet_id}
-use Rattle.domain_core.specs.InBook.{endpoints_in, item_at, packets_in, request_in}
+use Rattle.domain_core.specs.InBook.{endpoints_in, numbered_at, packets_in, request_in}
 use Rattle.domain_core.specs.Parts.{Parts, Sound, plain, state_of}
 use Rattle.domain_core.specs.Peers.{state_in}
 use Rattle.domain_core.specs.Records.{Records, lent_slots, waiting_in, with_last_lent, with_oldest_taken_at, all_waiting, with_oldest_taken}
@@ -136,7 +136,7 @@ module _ (p : Parts) (sound : Sound p) (i : ℕ) (s : Slot) (first : Some s ≡ 
         let by = by_address at (state_of p).endpoints the.0 (ends-of plain p.book p.records p.requests p.table p.peers sound).apart the.1 in
         ap (λ (es : List state.Endpoint). record (state_of p) { endpoints = es }) (endpoints-oldest p.book p.records.endpoints i ∙ changed-there p at i the.0 there by.changes (with_queue (drop 1)))
 
-    pub front-is : oldest the.0.queue ≡ Some (item_at p.book s)
+    pub front-is : oldest the.0.queue ≡ Some (numbered_at p.book s)
     front-is = ap (λ (q : List Item). oldest q) (sym (ap queue_in (at-live (state_of p) at ∙ the.1))) ∙ oldest-there p sound at i there s first
 
     -- ---- it is lent
@@ -150,7 +150,7 @@ module _ (p : Parts) (sound : Sound p) (i : ℕ) (s : Slot) (first : Some s ≡ 
     lend-state =
         ap state_of now-is
         ∙ lent-state p.book s k its-kept.1 p.records r' p.requests p.requests refl more plain p.table p.peers
-        ∙ ap (λ (u : DomainState). changed u (packet_lent (item_at p.book s))) less-state
+        ∙ ap (λ (u : DomainState). changed u (packet_lent (numbered_at p.book s))) less-state
         ∙ sym (ap (λ (o : Option Item). changed_all (state_of p) (oldest_gone the.0.address ∷ lending o)) front-is)
         ∙ sym (ap (λ (o : Option state.Endpoint). changed_all (state_of p) (at_live o (λ e. oldest_gone e.address ∷ lending (oldest e.queue)))) the.1)
 
@@ -196,8 +196,8 @@ module _ (p : Parts) (sound : Sound p) (i : ℕ) (s : Slot) (first : Some s ≡ 
           let own = named_so at the.0 (found-passes (is_at at) (state_of p).endpoints the.0 the.1) in
           ap (λ (ps : List (Peer LaneSeen)). state_in plain p.book r' q' p.table ps) (quiet-peers p.peers)
           ∙ asked-state plain p.book r' p.requests p.table p.peers rid (ask.Packet at) (Some (complete.Packet s)) fresh.serial
-          ∙ ap (λ (u : DomainState). changed u (request_added (state.packet_at at) (Some (state.has_item (item_at p.book s))))) less-state
-          ∙ ap (λ (l : Local). changed_all (state_of p) (oldest_gone the.0.address ∷ request_added (state.packet_at l) (Some (state.has_item (item_at p.book s))) ∷ [])) (sym own)
+          ∙ ap (λ (u : DomainState). changed u (request_added (state.packet_at at) (Some (state.has_item (numbered_at p.book s))))) less-state
+          ∙ ap (λ (l : Local). changed_all (state_of p) (oldest_gone the.0.address ∷ request_added (state.packet_at l) (Some (state.has_item (numbered_at p.book s))) ∷ [])) (sym own)
           ∙ sym (ap (λ (o : Option Item). changed_all (state_of p) (oldest_gone the.0.address ∷ request_added (state.packet_at the.0.local) (option_map state.has_item o) ∷ [])) front-is)
           ∙ sym (ap (λ (o : Option state.Endpoint). changed_all (state_of p) (at_live o (λ e. oldest_gone e.address ∷ request_added (state.packet_at e.local) (option_map state.has_item (oldest e.queue)) ∷ []))) the.1)
 
@@ -299,12 +299,12 @@ module _ (p : Parts) (sound : Sound p) (place : Option ℕ) (s : Slot) (k : Kept
       subst Sound (sym tested-is)
       (lent-sound p.book s k is p.records p.records p.requests left refl fewer (omega arith) plain p.table p.peers (same-endpoints p.records) receives sound)
 
-  module _ (at : Local) (serial : ℕ) (there : request_at_place (state_of p) place ≡ Some (record { serial = serial; asked = state.packet_at at; outcome = Some (state.has_item (item_at p.book s)) })) (held : ending p.book place (how_held p.requests place) ≡ packet_ended place tested_id) where
+  module _ (at : Local) (serial : ℕ) (there : request_at_place (state_of p) place ≡ Some (record { serial = serial; asked = state.packet_at at; outcome = Some (state.has_item (numbered_at p.book s)) })) (held : ending p.book place (how_held p.requests place) ≡ packet_ended place tested_id) where
     tested-state : state_of tested ≡ changed_all (state_of p) (success_changes (state_of p) 0 (test_of place))
     tested-state =
         ap state_of tested-is
         ∙ lent-state p.book s k is p.records p.records p.requests left refl fewer plain p.table p.peers
-        ∙ ap (λ (rs : List state.Request). changed (record (state_of p) { requests = rs }) (packet_lent (item_at p.book s))) (map-without (request_in p.book) place p.requests.standing)
+        ∙ ap (λ (rs : List state.Request). changed (record (state_of p) { requests = rs }) (packet_lent (numbered_at p.book s))) (map-without (request_in p.book) place p.requests.standing)
         ∙ sym (ap (λ (o : Option state.Request). changed_all (changed (state_of p) (request_gone place)) (lent_by_test o)) there)
 
     pub packet-means : Means p 0 (test_of place) None

@@ -61,6 +61,7 @@ pub mod Effects
 pub mod Taking
 pub mod Owing
 pub mod Visiting
+pub mod Unnaming
 pub mod VisitedAll
 pub mod WaitPlaces
 pub mod WaitSteps

@@ -34,7 +34,7 @@ use Rattle.domain_core.specs.Calls.{IsFresh}
 use Rattle.domain_core.specs.CallSteps.{Means, best_slot, call_steps, ending, if_some, receiving, how_held}
 use Rattle.domain_core.specs.DomainView.{place_of_id}
 use Rattle.domain_core.specs.GivingBack.{IsOutAt}
-use Rattle.domain_core.specs.InBook.{endpoints_in, item_at, item_in, outcome_in, request_in}
+use Rattle.domain_core.specs.InBook.{endpoints_in, numbered_at, item_in, outcome_in, request_in}
 use Rattle.domain_core.specs.InRequests.{AreReceives, handed_slots, slots_in, with_all_complete}
 use Rattle.domain_core.specs.LaneMoves.{receiver, sender}
 use Rattle.domain_core.specs.Parts.{Parts, Sound, plain, state_of}
@@ -313,7 +313,7 @@ module _ (p : Parts) (place : Option ℕ) where
 
   -- one that held a message
   module _ (sound : Sound p) (s : Slot) (held : ending p.book place (how_held p.requests place) ≡ message_ended place s) (out : IsOutAt plain s p.peers) (more : HasMore s (handed_slots (without_at p.requests place).standing) (handed_slots p.requests.standing)) where
-    pub tested-means : held_by (request_at_place (state_of p) place) ≡ item_at p.book s ∷ [] → lent_by_test (request_at_place (state_of p) place) ≡ [] → Means p 0 (test_of place) None
+    pub tested-means : held_by (request_at_place (state_of p) place) ≡ numbered_at p.book s ∷ [] → lent_by_test (request_at_place (state_of p) place) ≡ [] → Means p 0 (test_of place) None
     tested-means items lends =
         let step : message_ended place s ≡ ending p.book place (how_held p.requests place) = sym held in
         record {

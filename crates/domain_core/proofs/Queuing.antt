@@ -30,9 +30,10 @@ use Rattle.domain_core.specs.declared.endpoints.Endpoint.{Endpoint}
 use Rattle.domain_core.specs.Table.{Held, with_held}
 use Rattle.domain_core.specs.Records.{Records, all_waiting, lent_slots, waiting_in, with_best_taken, with_waiting, with_waiting_at}
 use Rattle.domain_core.specs.Out.{Out}
-use Rattle.domain_core.specs.InBook.{channel_in, channel_of, content_in, endpoints_in, held_by, item_at, item_in, outcome_in, packets_in, priority_in, priority_of, request_in, requests_in, source_in, table_in}
+use Rattle.domain_core.specs.InBook.{channel_in, channel_of, content_in, endpoints_in, held_by, numbered_at, item_in, outcome_in, packets_in, priority_in, priority_of, request_in, requests_in, source_in, table_in}
 use Rattle.domain_core.specs.InRequests.{AreReceives, Receives, handed_by, handed_slots}
 use Rattle.domain_core.specs.InPlaces.{AreInPlaces, AreInPlacesBut, EachInPlace, IsLentAs, KeepOthers, is_misplaced, one_if, slot_at, slots_of, times_in, times_waiting}
+use Rattle.domain_core.specs.Unnamed.{unnamed_item}
 use Rattle.domain_core.specs.Stores.{Stores}
 use Rattle.domain_core.specs.Verdicts.{framed_item, item_with}
 use Rattle.domain_core.proofs.Handed.{packets-stay, requests-stay}
@@ -83,7 +84,7 @@ matched : (n m : ℕ) → n ≡ m → one_if (not (n == m)) ≡ 0
 matched n m same = ap (λ (b : Bool). one_if (not b)) (eq-eqb n m same)
 
 -- how a receive is complete with an item
-handed-item : (b : Book) (a : Ask) (s : Slot) → outcome_in b (handed_by a s) ≡ state.has_item (item_at b s)
+handed-item : (b : Book) (a : Ask) (s : Slot) → outcome_in b (handed_by a s) ≡ state.has_item (numbered_at b s)
 handed-item b (ask.Message at max) s = refl
 handed-item b (ask.Packet at) s = refl
 handed-item b (ask.Lookup name) s = refl
@@ -148,21 +149,21 @@ module _ (r : Records) (q : Requests) (b b' : Book) (p : Out) (peer : ℕ) (s : 
       ∙ ap (λ (ls : List LentPacket). record (held_by b r q) { lent = ls }) (packets-stay b s' (Some k) r.lent none-lent)
 
   -- the message of the frame, as many of whose bytes as it has stand in the buffer
-  item-is : item_with peer (source_of buffer.bytes) (priority_of buffer.bytes) (channel_of buffer.bytes) (take size (drop 24 buffer.bytes)) ≡ framed_item peer frame size
+  item-is : item_with (Some buffer.number) peer (source_of buffer.bytes) (priority_of buffer.bytes) (channel_of buffer.bytes) (take size (drop 24 buffer.bytes)) ≡ framed_item (Some buffer.number) peer frame size
   item-is =
-      ap (λ (n : ℕ). item_with peer n (priority_of buffer.bytes) (channel_of buffer.bytes) (take size (drop 24 buffer.bytes))) (sym (source-in_buffer buffer.bytes len size fits))
-      ∙ ap (λ (n : ℕ). item_with peer (source_of frame) n (channel_of buffer.bytes) (take size (drop 24 buffer.bytes))) (sym (priority-in_buffer buffer.bytes len size fits))
-      ∙ ap (λ (o : Option ℕ). item_with peer (source_of frame) (priority_of frame) o (take size (drop 24 buffer.bytes))) (sym (channel-in_buffer buffer.bytes len size fits))
-      ∙ ap (λ (xs : List ℕ). item_with peer (source_of frame) (priority_of frame) (channel_of frame) xs) (sym (content-in_buffer buffer.bytes len size fits))
+      ap (λ (n : ℕ). item_with (Some buffer.number) peer n (priority_of buffer.bytes) (channel_of buffer.bytes) (take size (drop 24 buffer.bytes))) (sym (source-in_buffer buffer.bytes len size fits))
+      ∙ ap (λ (n : ℕ). item_with (Some buffer.number) peer (source_of frame) n (channel_of buffer.bytes) (take size (drop 24 buffer.bytes))) (sym (priority-in_buffer buffer.bytes len size fits))
+      ∙ ap (λ (o : Option ℕ). item_with (Some buffer.number) peer (source_of frame) (priority_of frame) o (take size (drop 24 buffer.bytes))) (sym (channel-in_buffer buffer.bytes len size fits))
+      ∙ ap (λ (xs : List ℕ). item_with (Some buffer.number) peer (source_of frame) (priority_of frame) (channel_of frame) xs) (sym (content-in_buffer buffer.bytes len size fits))
 
-  item-here : item_at (with_queued b s' k) s' ≡ framed_item peer frame size
-  item-here = ap (λ (o : Option Kept). item_with peer (source_in o) (priority_in o) (channel_in o) (content_in o)) here ∙ item-is
+  item-here : numbered_at (with_queued b s' k) s' ≡ framed_item (Some buffer.number) peer frame size
+  item-here = ap (λ (o : Option Kept). item_with (Some buffer.number) peer (source_in o) (priority_in o) (channel_in o) (content_in o)) here ∙ item-is
 
   -- the buffer holds the message
-  pub enqueued-stored : (fate : Fate) → framed_item peer frame size ≡ item_of peer frame → Stores peer (buffer.number ∷ []) (taken frame fate ∷ []) b b'
+  pub enqueued-stored : (fate : Fate) → framed_item None peer frame size ≡ item_of peer frame → Stores peer (buffer.number ∷ []) (taken frame fate ∷ []) b b'
   enqueued-stored fate item = subst (λ (x : Book). Stores peer (buffer.number ∷ []) (taken frame fate ∷ []) b x) (sym book-is) (record {
     stays = keeps-held b s' (Some k) away;
-    stored = (λ keeps. record { held = ap (λ (o : Option Kept). is_some o) here; item = item-here ∙ item }, tt);
+    stored = (λ keeps. record { held = ap (λ (o : Option Kept). is_some o) here; item = ap unnamed_item item-here ∙ item }, tt);
   })
 
   -- ---- into a queue
@@ -208,11 +209,11 @@ module _ (r : Records) (q : Requests) (b b' : Book) (p : Out) (peer : ℕ) (s : 
     pub queued-total : i < length r.endpoints → length (slots_of r' q) ≡ length (slots_of r q) + 1
     queued-total lt = ap (λ (x : Records). length (slots_of x q)) records-are ∙ length-more s' (slots ws ++ hs) (slots vs ++ hs) (more lt)
 
-    pub queued-table : table_in b' r' q ≡ with_held (table_in b r q) (record (held_by b r q) { endpoints = changed_at (queued_last (framed_item peer frame size)) i (endpoints_in b r.endpoints) })
+    pub queued-table : table_in b' r' q ≡ with_held (table_in b r q) (record (held_by b r q) { endpoints = changed_at (queued_last (framed_item (Some buffer.number) peer frame size)) i (endpoints_in b r.endpoints) })
     queued-table =
         let b'' = with_queued b s' k in
         let es = r.endpoints in
-        let item : item_in b'' w ≡ item_with peer (source_of buffer.bytes) (priority_of buffer.bytes) (channel_of buffer.bytes) (take size (drop 24 buffer.bytes)) = ap (λ (o : Option Kept). item_with peer (source_in o) priority (channel_in o) (content_in o)) here ∙ ap (λ (n : ℕ). item_with peer (source_of buffer.bytes) n (channel_of buffer.bytes) (take size (drop 24 buffer.bytes))) priority-is in
+        let item : item_in b'' w ≡ item_with (Some buffer.number) peer (source_of buffer.bytes) (priority_of buffer.bytes) (channel_of buffer.bytes) (take size (drop 24 buffer.bytes)) = ap (λ (o : Option Kept). item_with (Some buffer.number) peer (source_in o) priority (channel_in o) (content_in o)) here ∙ ap (λ (n : ℕ). item_with (Some buffer.number) peer (source_of buffer.bytes) n (channel_of buffer.bytes) (take size (drop 24 buffer.bytes))) priority-is in
         ap (λ (x : Records). table_in b' x q) records-are
         ∙ ap (λ (x : Book). table_in x (with_waiting_at r i w) q) book-is
         ∙ ap (λ (xs : List state.Endpoint). with_held (table_in b r q) (record { endpoints = xs; requests = requests_in b'' q.standing; lent = packets_in b'' r.lent })) (endpoints-more b'' w es i)
@@ -254,7 +255,7 @@ module _ (r : Records) (q : Requests) (b b' : Book) (p : Out) (peer : ℕ) (s : 
     pub handed-total : length (slots_of r q') ≡ length (slots_of r q) + 1
     handed-total = ap (λ (x : Requests). length (slots_of r x)) requests-are ∙ length-more s' (slots ws ++ hs) (slots ws ++ gs) one-handed
 
-    pub handed-table : table_in b' r q' ≡ with_held (table_in b r q) (record (held_by b r q) { requests = changed (complete_with (framed_item peer frame size)) (position (is_id id) q.standing) (requests_in b q.standing) })
+    pub handed-table : table_in b' r q' ≡ with_held (table_in b r q) (record (held_by b r q) { requests = changed (complete_with (framed_item (Some buffer.number) peer frame size)) (position (is_id id) q.standing) (requests_in b q.standing) })
     handed-table =
         let b'' = with_queued b s' k in
         let how : Complete = handed_by a s' in
@@ -262,8 +263,8 @@ module _ (r : Records) (q : Requests) (b b' : Book) (p : Out) (peer : ℕ) (s : 
         ap (λ (x : Requests). table_in b' r x) requests-are
         ∙ ap (λ (x : Book). table_in x r q'') book-is
         ∙ ap (λ (xs : List Standing). with_held (table_in b r q) (record { endpoints = endpoints_in b'' r.endpoints; requests = requests_in b'' xs; lent = packets_in b'' r.lent })) (complete-at id how q.standing receives.differ)
-        ∙ ap (λ (xs : List state.Request). with_held (table_in b r q) (record { endpoints = endpoints_in b'' r.endpoints; requests = xs; lent = packets_in b'' r.lent })) (map-changed (request_in b'') (complete_now how) (complete_with (item_at b'' s')) (λ x. ap (λ (o : state.Outcome). record (request_in b'' x) { outcome = Some o }) (handed-item b'' a s')) place q.standing)
-        ∙ ap (λ (h : Held). with_held (table_in b r q) (record h { requests = changed (complete_with (item_at b'' s')) place h.requests })) stay
+        ∙ ap (λ (xs : List state.Request). with_held (table_in b r q) (record { endpoints = endpoints_in b'' r.endpoints; requests = xs; lent = packets_in b'' r.lent })) (map-changed (request_in b'') (complete_now how) (complete_with (numbered_at b'' s')) (λ x. ap (λ (o : state.Outcome). record (request_in b'' x) { outcome = Some o }) (handed-item b'' a s')) place q.standing)
+        ∙ ap (λ (h : Held). with_held (table_in b r q) (record h { requests = changed (complete_with (numbered_at b'' s')) place h.requests })) stay
         ∙ ap (λ (x : Item). with_held (table_in b r q) (record (held_by b r q) { requests = changed (complete_with x) place (requests_in b q.standing) })) item-here
 
     pub handed-receives : option_map (λ x. x.ask) (request_of q id) ≡ Some a → (at : Local) → receives_at at a ≡ true → AreReceives q'

@@ -182,14 +182,14 @@ not_le : (a b : ℕ) → nat_le a b ≡ true → a ≤ b
 not_le a b e = grind arith
 
 -- the item lies in the frame as its payload says
-framed-whole : (frame : List ℕ) → Lies frame → (peer size : ℕ) → size ≡ length (fields_in (payload_of frame)).content → framed_item peer frame size ≡ item_of peer frame
+framed-whole : (frame : List ℕ) → Lies frame → (peer size : ℕ) → size ≡ length (fields_in (payload_of frame)).content → framed_item None peer frame size ≡ item_of peer frame
 framed-whole frame lies peer size is =
     let payload = payload_of frame in
-    ap (λ (n : ℕ). framed_item peer frame n) is
-    ∙ ap (λ (c : List ℕ). item_with peer (source_of frame) (priority_of frame) (channel_of frame) c) (sym lies.content)
-    ∙ ap (λ (k : ℕ). item_with peer (source_of frame) (if k == 1 then slice_index frame 19 else 0) (if k == 1 then None else Some (number_at 20 4 frame)) (drop 8 payload)) (sym lies.kind)
-    ∙ ap (λ (a : ℕ). item_with peer (source_of frame) (if slice_index payload 2 == 1 then a else 0) (if slice_index payload 2 == 1 then None else Some (number_at 20 4 frame)) (drop 8 payload)) (sym lies.argument)
-    ∙ ap (λ (n : ℕ). item_with peer (source_of frame) (if slice_index payload 2 == 1 then slice_index payload 3 else 0) (if slice_index payload 2 == 1 then None else Some n) (drop 8 payload)) (sym lies.channel)
+    ap (λ (n : ℕ). framed_item None peer frame n) is
+    ∙ ap (λ (c : List ℕ). item_with None peer (source_of frame) (priority_of frame) (channel_of frame) c) (sym lies.content)
+    ∙ ap (λ (k : ℕ). item_with None peer (source_of frame) (if k == 1 then slice_index frame 19 else 0) (if k == 1 then None else Some (number_at 20 4 frame)) (drop 8 payload)) (sym lies.kind)
+    ∙ ap (λ (a : ℕ). item_with None peer (source_of frame) (if slice_index payload 2 == 1 then a else 0) (if slice_index payload 2 == 1 then None else Some (number_at 20 4 frame)) (drop 8 payload)) (sym lies.argument)
+    ∙ ap (λ (n : ℕ). item_with None peer (source_of frame) (if slice_index payload 2 == 1 then slice_index payload 3 else 0) (if slice_index payload 2 == 1 then None else Some n) (drop 8 payload)) (sym lies.channel)
 
 -- each byte is one
 abbrev pub AreBytes : List ℕ → Type 0
@@ -325,27 +325,27 @@ module _ (frame : List ℕ) (source destination : ℕ) (l : PlainLetter) where
   short-read is = let r = letter-read is in short-letter frame r.lies l r.reads
 
 -- it is the item in the frame
-pub record CarriesItem (frame : List ℕ) (peer : ℕ) (item : Item) : Type 0 where
-  pub is : item ≡ framed_item peer frame (length item.content)
+pub record CarriesItem (name : Option ℕ) (frame : List ℕ) (peer : ℕ) (item : Item) : Type 0 where
+  pub is : item ≡ framed_item name peer frame (length item.content)
   pub fits : Fits frame (length item.content)
   pub says : priority_of frame ≡ item.priority
 
-carried : (peer : ℕ) (frame : List ℕ) (source source' priority : ℕ) (channel : Option ℕ) (content : List ℕ) → source' ≡ source → Carries frame source' priority channel content → CarriesItem frame peer (item_with peer source priority channel content)
-carried peer frame source source' priority channel content from c = record {
+carried : (name : Option ℕ) (peer : ℕ) (frame : List ℕ) (source source' priority : ℕ) (channel : Option ℕ) (content : List ℕ) → source' ≡ source → Carries frame source' priority channel content → CarriesItem name frame peer (item_with name peer source priority channel content)
+carried name peer frame source source' priority channel content from c = record {
   is =
-      ap (λ s. item_with peer s priority channel content) (sym (c.from ∙ from))
-      ∙ ap (λ k. item_with peer (source_of frame) k channel content) (sym c.says)
-      ∙ ap (λ k. item_with peer (source_of frame) (priority_of frame) k content) (sym c.on)
-      ∙ ap (item_with peer (source_of frame) (priority_of frame) (channel_of frame)) (sym c.content_is);
+      ap (λ s. item_with name peer s priority channel content) (sym (c.from ∙ from))
+      ∙ ap (λ k. item_with name peer (source_of frame) k channel content) (sym c.says)
+      ∙ ap (λ k. item_with name peer (source_of frame) (priority_of frame) k content) (sym c.on)
+      ∙ ap (item_with name peer (source_of frame) (priority_of frame) (channel_of frame)) (sym c.content_is);
   fits = c.fits;
   says = c.says;
 }
 
-pub item-read : (peer : ℕ) (frame : List ℕ) → AreBytes frame → (source destination : ℕ) (l : PlainLetter) → says source destination l ≡ reading frame → IsItem l → CarriesItem frame peer (taken.item_of peer None source l)
-item-read peer frame bytes source destination l is item = go l (letter-read frame source destination l is) item
+pub item-read : (name : Option ℕ) (peer : ℕ) (frame : List ℕ) → AreBytes frame → (source destination : ℕ) (l : PlainLetter) → says source destination l ≡ reading frame → IsItem l → CarriesItem name frame peer (taken.item_of peer name source l)
+item-read name peer frame bytes source destination l is item = go l (letter-read frame source destination l is) item
   where
-    go : (l : PlainLetter) → SaysLetter frame source l → IsItem l → CarriesItem frame peer (taken.item_of peer None source l)
-    go (msg priority content) r item = carried peer frame source (source_of frame) priority None content r.from (carries-message frame r.lies priority content r.reads)
-    go (packet n content) r item = carried peer frame source (source_of frame) 0 (Some n) content r.from (carries-packet frame r.lies n content r.reads)
-    go (scalar n bits v) r item = carried peer frame source (source_of frame) 0 (Some n) (little_bytes (bytes_of_bits bits) v) r.from (carries-scalar frame r.lies bytes n bits v r.reads)
+    go : (l : PlainLetter) → SaysLetter frame source l → IsItem l → CarriesItem name frame peer (taken.item_of peer name source l)
+    go (msg priority content) r item = carried name peer frame source (source_of frame) priority None content r.from (carries-message frame r.lies priority content r.reads)
+    go (packet n content) r item = carried name peer frame source (source_of frame) 0 (Some n) content r.from (carries-packet frame r.lies n content r.reads)
+    go (scalar n bits v) r item = carried name peer frame source (source_of frame) 0 (Some n) (little_bytes (bytes_of_bits bits) v) r.from (carries-scalar frame r.lies bytes n bits v r.reads)
     go other r item = absurd item

@@ -23,7 +23,7 @@ use Rattle.request_set.specs.Requests.{Requests, without_request}
 use Rattle.domain_core.specs.LaneSeen.{LaneSeen}
 use Rattle.domain_core.specs.declared.peer.Peer.{Peer}
 use Rattle.domain_core.specs.GivingBack.{GivesBack, IsOutAt}
-use Rattle.domain_core.specs.InBook.{endpoints_in, item_at, item_in, outcome_in, request_in, requests_in, packets_in}
+use Rattle.domain_core.specs.InBook.{endpoints_in, numbered_at, item_in, outcome_in, request_in, requests_in, packets_in}
 use Rattle.domain_core.specs.InPlaces.{IsShort, slots_of, times_in}
 use Rattle.domain_core.specs.InRequests.{AreReceives, handed_slots}
 use Rattle.domain_core.specs.LaneMoves.{LaneMove}
@@ -92,7 +92,7 @@ module _ {L : Type 0} (v : L → LaneSeen) (b : Book) (r : Records) (q : Request
   best-out = stands-out v b r q ps sound.peers.rising sound.places sound.total w.slot stands
 
   -- its frame says its priority
-  pub best-item : item_at b w.slot ≡ item_in b w
+  pub best-item : numbered_at b w.slot ≡ item_in b w
   best-item =
       let out = best-out in
       let here = All-at (InPlacesAt v b r q) ps out.place out.peer sound.places out.there in

@@ -30,7 +30,7 @@ use Rattle.domain_core.specs.declared.peer.Peer.{Peer}
 use Rattle.domain_core.specs.AllMoved.{numbers_of}
 use Rattle.domain_core.specs.CallSteps.{Means, call_steps, if_some}
 use Rattle.domain_core.specs.GivingBack.{GivesBack, IsOutAt}
-use Rattle.domain_core.specs.InBook.{endpoints_in, item_at, packet_in, packets_in, requests_in, content_in}
+use Rattle.domain_core.specs.InBook.{endpoints_in, numbered_at, packet_in, packets_in, requests_in, content_in}
 use Rattle.domain_core.specs.InPlaces.{AreInPlaces, AreInPlacesBut, IsLentAs, KeepOthers, is_misplaced, one_if, slots_of, times_in, times_waiting, is_same, IsShort}
 use Rattle.domain_core.specs.InRequests.{handed_slots}
 use Rattle.domain_core.specs.Out.{Out}

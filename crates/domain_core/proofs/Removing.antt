@@ -19,7 +19,7 @@ use Rattle.domain_core.specs.LaneSeen.{LaneSeen}
 use Rattle.domain_core.specs.declared.endpoints.Endpoint.{Endpoint}
 use Rattle.domain_core.specs.declared.peer.Peer.{Peer}
 use Rattle.domain_core.specs.AllMoved.{numbers_of}
-use Rattle.domain_core.specs.InBook.{channel_in, content_in, endpoint_in, endpoints_in, item_at, item_in, priority_in, source_in}
+use Rattle.domain_core.specs.InBook.{channel_in, content_in, endpoint_in, endpoints_in, numbered_at, item_in, priority_in, source_in}
 use Rattle.domain_core.specs.InPlaces.{is_misplaced, one_if}
 use Rattle.domain_core.specs.Peers.{state_in}
 use Rattle.domain_core.specs.Records.{Records, all_waiting, slots_at, waiting_in, without_record_at}
@@ -38,7 +38,7 @@ is-true true e = refl
 is-true false e = absurd cc
 
 -- a message has the priority of its frame
-items-at : (b : Book) (ws : List Waiting) → count_by (is_misplaced b) ws ≡ 0 → map (item_at b) (slots ws) ≡ map (item_in b) ws
+items-at : (b : Book) (ws : List Waiting) → count_by (is_misplaced b) ws ≡ 0 → map (numbered_at b) (slots ws) ≡ map (item_in b) ws
 items-at b [] none = refl
 items-at b (w ∷ ws) none =
     let sum = count-cons (is_misplaced b) w ws in
@@ -46,7 +46,7 @@ items-at b (w ∷ ws) none =
     let rest : count_by (is_misplaced b) ws ≡ 0 = omega (arith, sum, none) in
     let o = kept_at b w.slot in
     let same : w.priority ≡ priority_in o = eqb-true w.priority (priority_in o) (is-true (w.priority == priority_in o) (no-one (is_misplaced b w) here)) in
-    ap (λ (n : ℕ). record { peer = w.slot.peer; source = source_in o; priority = n; channel = channel_in o; content = content_in o; frames = [] } ∷ map (item_at b) (slots ws)) (sym same)
+    ap (λ (n : ℕ). record { peer = w.slot.peer; source = source_in o; priority = n; channel = channel_in o; content = content_in o; frames = w.slot.buffer ∷ [] } ∷ map (numbered_at b) (slots ws)) (sym same)
     ∙ ap (λ (is : List Item). item_in b w ∷ is) (items-at b ws rest)
 
 count-within : (test : Waiting → Bool) (es : List Endpoint) (i : ℕ) → count_by test (waiting_in (slice_get es i)) ≤ count_by test (all_waiting es)
@@ -100,5 +100,5 @@ module _ {L : Type 0} (v : L → LaneSeen) (b : Book) (r : Records) (q : Request
   queue : queue_at s at ≡ map (item_in b) waits
   queue = ap (λ (o : Option ℕ). queue_in (option_and_then (λ k. slice_get s.endpoints k) o)) place ∙ queue-there b r.endpoints i
 
-  pub gone-items : map (item_at b) (slots_at r i) ≡ queue_at s at
+  pub gone-items : map (numbered_at b) (slots_at r i) ≡ queue_at s at
   gone-items = items-at b waits (let none = none-misplaced v b r q r.number ps sound.peers.own sound.places in omega (arith, none, count-within (is_misplaced b) r.endpoints i)) ∙ sym queue

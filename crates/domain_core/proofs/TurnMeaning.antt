@@ -238,7 +238,7 @@ module _ (p : Parts) (sound : Sound p) (i : ℕ) (x : Peer LaneSeen) (there : sl
   frame = take len buffer.bytes
 
   abbrev said : state.Item
-  said = framed_item x.number frame size
+  said = framed_item (Some buffer.number) x.number frame size
 
   pub shown_less : peers_in plain p.table (map (moved_peer (at_peer x.number (receiver (Took buffer.number frame) ∷ []))) p.peers) ≡ changed_first (is_numbered x.number) (λ y. record y { shown = y.shown - 1 }) (peers_in plain p.table p.peers)
   shown_less = one_changed p sound i x there (receiver (Took buffer.number frame) ∷ []) (λ y. record y { shown = y.shown - 1 }) refl

@@ -4,9 +4,11 @@ use Rattle.std.specs.Prelude.{slice_index_or}
 use Rattle.std.specs.List.{AllByRecursion, flat_map, list_all}
 use Rattle.std.proofs.lemmas.List.{append-nil, length-map, map_push, take_all}
 use Rattle.std.proofs.lemmas.Option.{slice_get-get_or}
+use Rattle.board_model.specs.Deeds.{Deed, after_deeds}
 use Rattle.board_model.specs.Journal.{Line, Visit, turn_line, visit_lines, is_idle, noted, noted_idle, turned}
 use Rattle.board_model.specs.State.{DomainState}
 use Rattle.board_model.specs.Turn.{IsVisit, AreVisits, after_visit, after_turn}
+use Rattle.board_model.proofs.DeedJoins.{after-join}
 use Rattle.buffer_book.specs.Book.{Book}
 use Rattle.domain_core.specs.AllMoved.{AllMoved, numbers_of, turn_moves}
 use Rattle.domain_core.specs.Beginning.{told_of, told_of_all, has_begun, has_begun_after}
@@ -14,17 +16,20 @@ use Rattle.domain_core.specs.CallSteps.{Rests}
 use Rattle.domain_core.specs.Doing.{Visits, ids_in}
 use Rattle.domain_core.specs.DomainView.{DomainView}
 use Rattle.domain_core.specs.LaneMoves.{LaneMove}
+use Rattle.domain_core.specs.NumberedDeeds.{numbered_deeds, turn_deeds}
 use Rattle.domain_core.specs.Parts.{Holding, Sound, plain, shown, state_of}
 use Rattle.domain_core.specs.Sound.{AreRising}
 use Rattle.domain_core.specs.Steps.{Did, Step, all_moves, at_peer}
 use Rattle.domain_core.specs.Stores.{AreStored, KeepsHeld}
 use Rattle.domain_core.specs.Turned.{AllStored, HaveNumbers, VisitsAll, MakesTurn}
+use Rattle.domain_core.specs.Unnamed.{unnamed}
 use Rattle.domain_core.specs.VisitMoves.{visit_moves}
 use Rattle.domain_core.proofs.PeerPlaces.{numbers-in}
 use Rattle.domain_core.proofs.Stepping.{did-then, moves-append}
 use Rattle.domain_core.proofs.Storing.{keeps-both, keeps-none, stay-stored}
 use Rattle.domain_core.proofs.ToldTurns.{told-last, begun-last, turn-told, turn-begun}
 use Rattle.domain_core.proofs.Turning.{did-numbers, did-rests, number-in}
+use Rattle.domain_core.proofs.Unnaming.{visit-unnamed}
 
 -- ---- one visit more
 
@@ -35,6 +40,12 @@ visits-last s (u ∷ vs) w all one = (all.0, visits-last (after_visit s u) vs w 
 turn-last : (s : DomainState) (vs : List Visit) (w : Visit) → after_turn s (vs ++ w ∷ []) ≡ after_visit (after_turn s vs) w
 turn-last s [] w = refl
 turn-last s (u ∷ vs) w = turn-last (after_visit s u) vs w
+
+deeds-last : (vs : List Visit) (nss : List (List ℕ)) (w : Visit) (ns : List ℕ) → HaveNumbers vs nss → turn_deeds (vs ++ w ∷ []) (nss ++ ns ∷ []) ≡ turn_deeds vs nss ++ numbered_deeds w ns
+deeds-last [] [] w ns all = append-nil (numbered_deeds w ns)
+deeds-last (u ∷ vs) (ms ∷ nss) w ns all = ap (λ (ds : List Deed). numbered_deeds u ms ++ ds) (deeds-last vs nss w ns all.1) ∙ sym (append_assoc (numbered_deeds u ms) (turn_deeds vs nss) (numbered_deeds w ns))
+deeds-last [] (ms ∷ nss) w ns all = absurd all
+deeds-last (u ∷ vs) [] w ns all = absurd all
 
 have-last : (vs : List Visit) (nss : List (List ℕ)) (w : Visit) (ns : List ℕ) → HaveNumbers vs nss → length ns ≡ length w.takes → HaveNumbers (vs ++ w ∷ []) (nss ++ ns ∷ [])
 have-last [] [] w ns all one = (one, tt)
@@ -108,8 +119,9 @@ pub record SoFar {L : Type 0} (M : L → List LaneMove → L → Type 0) (old no
   pub visits : List Visit
   pub numbers : List (List ℕ)
   pub each_peer : map (λ (w : Visit). w.peer) visits ≡ take i (numbers_of old.parts.peers)
-  pub allowed : AreVisits (state_of old.parts) visits
-  pub state : after_turn (state_of old.parts) visits ≡ state_of now.parts
+  pub allowed : AreVisits (unnamed (state_of old.parts)) visits
+  pub state : after_turn (unnamed (state_of old.parts)) visits ≡ unnamed (state_of now.parts)
+  pub numbered : state_of now.parts ≡ after_deeds (state_of old.parts) (turn_deeds visits numbers)
   pub each : HaveNumbers visits numbers
   pub steps : List Step
   pub did : Did M steps old now
@@ -129,6 +141,7 @@ so-far-none M h lines rests = record {
   each_peer = refl;
   allowed = tt;
   state = refl;
+  numbered = refl;
   each = tt;
   steps = [];
   did = record { parts = refl; moved = rests };
@@ -147,7 +160,7 @@ module _ {L : Type 0} (M : L → List LaneMove → L → Type 0) (m-none : (l : 
   so-far-more old now new lines lines' lines'' i begun begun' so_far within made =
       let vs = so_far.visits in
       let w = made.visit in
-      let s = state_of old.parts in
+      let s = unnamed (state_of old.parts) in
       let ns = numbers_of old.parts.peers in
       let same : numbers_of now.parts.peers ≡ ns = did-numbers M so_far.steps old now so_far.did in
       let peer : w.peer ≡ slice_index_or ns i 0 = made.peer_is ∙ number-in now.parts.peers i ∙ ap (λ (zs : List ℕ). slice_index_or zs i 0) same in
@@ -158,7 +171,11 @@ module _ {L : Type 0} (M : L → List LaneMove → L → Type 0) (m-none : (l : 
         numbers = so_far.numbers ++ made.numbers ∷ [];
         each_peer = map_push (λ (x : Visit). x.peer) vs w ∙ ap (λ (zs : List ℕ). zs ++ w.peer ∷ []) so_far.each_peer ∙ sym more;
         allowed = visits-last s vs w so_far.allowed (subst (λ (x : DomainState). IsVisit x w) (sym so_far.state) made.allowed);
-        state = turn-last s vs w ∙ ap (λ (x : DomainState). after_visit x w) so_far.state ∙ sym made.doing.state;
+        state = turn-last s vs w ∙ ap (λ (x : DomainState). after_visit x w) so_far.state ∙ sym (ap unnamed made.doing.state ∙ visit-unnamed (state_of now.parts) w made.numbers);
+        numbered = made.doing.state
+            ∙ ap (λ (x : DomainState). after_deeds x (numbered_deeds w made.numbers)) so_far.numbered
+            ∙ sym (after-join (state_of old.parts) (turn_deeds vs so_far.numbers) (numbered_deeds w made.numbers))
+            ∙ ap (after_deeds (state_of old.parts)) (sym (deeds-last vs so_far.numbers w made.numbers so_far.each));
         each = have-last vs so_far.numbers w made.numbers so_far.each made.each;
         steps = so_far.steps ++ made.doing.steps;
         did = did-then M m-both so_far.steps made.doing.steps old now new so_far.did made.doing.did;
@@ -192,6 +209,7 @@ module _ {L : Type 0} (M : L → List LaneMove → L → Type 0) (m-none : (l : 
         turns = record {
           allowed = record { each_peer = each ∙ sym (numbers-in plain old.parts.table old.parts.peers); allowed = so_far.allowed };
           state = sym so_far.state;
+          numbered = so_far.numbered;
           each = so_far.each;
           moved = subst (λ zs. AllMoved M old.ends zs now.ends) (same_maps (all_moves so_far.steps) (moves_in so_far.visits so_far.numbers) so_far.moves_are ns ∙ turn-moves-are so_far.visits so_far.numbers ns so_far.each each sound.peers.rising) so_far.did.moved;
           stays = so_far.stays;

@@ -1,5 +1,5 @@
 -- Frames that are taken one after the other, and a visit by its parts.
-use Rattle.std.proofs.Common.{◌≡◌, ℕ, ◌+◌, ◌-◌, ◌<◌, ◌≤◌, Bool, true, false, List, [], ◌∷◌, ◌++◌, length, map, take, Some, None, refl, sym, ap, ◌∙◌, subst, arith, append_assoc, min}
+use Rattle.std.proofs.Common.{◌≡◌, ℕ, suc, ◌+◌, ◌-◌, ◌<◌, ◌≤◌, Bool, true, false, List, [], ◌∷◌, ◌++◌, length, map, take, Option, Some, refl, sym, ap, ◌∙◌, subst, arith, append_assoc, min}
 use Rattle.std.specs.Prelude.{not, ◌&&◌, ◌||◌, ◌==◌, if◌then◌else◌, slice_get}
 use Rattle.std.proofs.lemmas.Bool.{and_parts, eqb-true, true≢false}
 use Rattle.std.proofs.lemmas.List.{append-nil, length_push, map-append, take_at, take_min}
@@ -12,11 +12,12 @@ use Rattle.board_model.specs.Dealing.{keeps_buffer}
 use Rattle.board_model.specs.Deeds.{Deed, after_deed, after_deeds, looks_ahead, looks_back, puts_owed, takes}
 use Rattle.board_model.specs.Journal.{Line, Visit, Taken, back_line, put_line, see_line, taken_line}
 use Rattle.board_model.specs.State.{DomainState, held_from, is_numbered}
-use Rattle.board_model.specs.Turn.{nameless, takes_named}
+use Rattle.board_model.specs.Turn.{takes_named}
 use Rattle.board_model.proofs.MessageLists.{get-position}
 use Rattle.domain_core.specs.Beginning.{beginning, look_lines}
 use Rattle.domain_core.specs.CallSteps.{Rests}
 use Rattle.domain_core.specs.Doing.{Doing, PutsDue, Takes, Visits, owed_at}
+use Rattle.domain_core.specs.NumberedDeeds.{number_in}
 use Rattle.domain_core.specs.LaneMoves.{LaneMove, sender, receiver}
 use Rattle.domain_core.specs.LaneSeen.{LaneSeen, after_moves}
 use Rattle.domain_core.specs.Owed.{put_lines}
@@ -30,6 +31,7 @@ use Rattle.domain_core.proofs.PeerPlaces.{All-at}
 use Rattle.domain_core.proofs.PeersAt.{find-place}
 use Rattle.domain_core.proofs.Storing.{Stores-more}
 use Rattle.domain_core.proofs.ToldTurns.{none-in}
+use Rattle.domain_core.proofs.Unnaming.{held-unnamed, visit-may}
 use Rattle.domain_core.proofs.Turning.{did-numbers, doing-ends, doing-none, doing-then, same-length, same-number, seen-then}
 
 -- ---- frames, and one more
@@ -42,9 +44,28 @@ taking_push (m ∷ ns) (u ∷ ts) n t same =
     ap (λ (xs : List LaneMove). receiver (Took m u.frame) ∷ (giving_back m u.fate ++ xs)) (taking_push ns ts n t (omega (arith, same)))
     ∙ ap (λ (xs : List LaneMove). receiver (Took m u.frame) ∷ xs) (sym (append_assoc (giving_back m u.fate) (taking ns ts) (taking (n ∷ []) (t ∷ []))))
 
-named_push : (peer : ℕ) (ts us : List Taken) → takes_named nameless peer (ts ++ us) ≡ takes_named nameless peer ts ++ takes_named nameless peer us
-named_push peer [] us = refl
-named_push peer (t ∷ ts) us = ap (λ (ds : List Deed). takes peer None t.frame t.fate ∷ ds) (named_push peer ts us)
+-- names that are the same at each place, and those behind the first number
+named_alike : (f g : ℕ → Option ℕ) → ((k : ℕ) → f k ≡ g k) → (peer : ℕ) (ts : List Taken) → takes_named f peer ts ≡ takes_named g peer ts
+named_alike f g same peer [] = refl
+named_alike f g same peer (t ∷ ts) =
+    ap (λ (o : Option ℕ). takes peer o t.frame t.fate ∷ takes_named (λ k. f (k + 1)) peer ts) (same 0)
+    ∙ ap (λ (ds : List Deed). takes peer (g 0) t.frame t.fate ∷ ds) (named_alike (λ k. f (k + 1)) (λ k. g (k + 1)) (λ k. same (k + 1)) peer ts)
+
+named_behind : (n : ℕ) (ns : List ℕ) (peer : ℕ) (ts : List Taken) → takes_named (λ k. number_in (n ∷ ns) (k + 1)) peer ts ≡ takes_named (number_in ns) peer ts
+named_behind n ns = named_alike (λ k. number_in (n ∷ ns) (k + 1)) (number_in ns) behind
+  where
+    behind : (k : ℕ) → number_in (n ∷ ns) (k + 1) ≡ number_in ns k
+    behind k = let next : k + 1 ≡ suc k = omega arith in ap (slice_get (n ∷ ns)) next
+
+numbered_push : (peer : ℕ) (ns : List ℕ) (ts : List Taken) (n : ℕ) (t : Taken) → length ns ≡ length ts → takes_named (number_in (ns ++ n ∷ [])) peer (ts ++ t ∷ []) ≡ takes_named (number_in ns) peer ts ++ takes_named (number_in (n ∷ [])) peer (t ∷ [])
+numbered_push peer [] [] n t same = refl
+numbered_push peer [] (u ∷ ts) n t same = absurd (omega (arith, same))
+numbered_push peer (m ∷ ns) [] n t same = absurd (omega (arith, same))
+numbered_push peer (m ∷ ns) (u ∷ ts) n t same =
+    ap (λ (ds : List Deed). takes peer (Some m) u.frame u.fate ∷ ds)
+    (named_behind m (ns ++ n ∷ []) peer (ts ++ t ∷ [])
+    ∙ numbered_push peer ns ts n t (omega (arith, same))
+    ∙ ap (λ (ds : List Deed). ds ++ takes_named (number_in (n ∷ [])) peer (t ∷ [])) (sym (named_behind m ns peer ts)))
 
 one_only : {X : Type 0} (xs : List X) → length xs ≡ 1 → (x : X) × (xs ≡ x ∷ [])
 one_only [] e = absurd (omega (arith, e))
@@ -85,10 +106,10 @@ module _ {L : Type 0} (M : L → List LaneMove → L → Type 0) where
       let ts = so_far.takes in
       let ns = so_far.numbers in
       let same : length ns ≡ length ts = so_far.each ∙ sym so_far.many in
-      let last : Doing M peer (takes_named nameless peer (t ∷ [])) (taking (n ∷ []) (t ∷ [])) b c =
-      subst (λ (xs : List ℕ). Doing M peer (takes_named nameless peer (t ∷ [])) (taking xs (t ∷ [])) b c) n1.1
-      (subst (λ (xs : List Taken). Doing M peer (takes_named nameless peer xs) (taking one.numbers xs) b c) t1.1
-      (subst (λ (m : ℕ). Doing M m (takes_named nameless m one.takes) (taking one.numbers one.takes) b c) same_peer one.doing)) in
+      let last : Doing M peer (takes_named (number_in (n ∷ [])) peer (t ∷ [])) (taking (n ∷ []) (t ∷ [])) b c =
+      subst (λ (xs : List ℕ). Doing M peer (takes_named (number_in xs) peer (t ∷ [])) (taking xs (t ∷ [])) b c) n1.1
+      (subst (λ (xs : List Taken). Doing M peer (takes_named (number_in one.numbers) peer xs) (taking one.numbers xs) b c) t1.1
+      (subst (λ (m : ℕ). Doing M m (takes_named (number_in one.numbers) m one.takes) (taking one.numbers one.takes) b c) same_peer one.doing)) in
       let stored : Stores peer (n ∷ []) (t ∷ []) b.parts.book c.parts.book = record {
         stays = last.stays;
         stored = subst (λ (xs : List ℕ). AreStored peer xs (t ∷ []) c.parts.book) n1.1
@@ -101,9 +122,9 @@ module _ {L : Type 0} (M : L → List LaneMove → L → Type 0) where
         numbers = ns ++ n ∷ [];
         many = length_push ts t ∙ ap (λ (j : ℕ). j + 1) so_far.many;
         each = length_push ns n ∙ ap (λ (j : ℕ). j + 1) so_far.each;
-        doing = subst (λ (ds : List Deed). Doing M peer ds (taking (ns ++ n ∷ []) (ts ++ t ∷ [])) a c) (sym (named_push peer ts (t ∷ [])))
-            (subst (λ (ms : List LaneMove). Doing M peer (takes_named nameless peer ts ++ takes_named nameless peer (t ∷ [])) ms a c) (sym (taking_push ns ts n t same))
-            (doing-then M both peer (takes_named nameless peer ts) (takes_named nameless peer (t ∷ [])) (taking ns ts) (taking (n ∷ []) (t ∷ [])) a b c so_far.doing last));
+        doing = subst (λ (ds : List Deed). Doing M peer ds (taking (ns ++ n ∷ []) (ts ++ t ∷ [])) a c) (sym (numbered_push peer ns ts n t same))
+            (subst (λ (ms : List LaneMove). Doing M peer (takes_named (number_in ns) peer ts ++ takes_named (number_in (n ∷ [])) peer (t ∷ [])) ms a c) (sym (taking_push ns ts n t same))
+            (doing-then M both peer (takes_named (number_in ns) peer ts) (takes_named (number_in (n ∷ [])) peer (t ∷ [])) (taking ns ts) (taking (n ∷ []) (t ∷ [])) a b c so_far.doing last));
         stored = (Stores-more peer ns ts n t a.parts.book b.parts.book c.parts.book same (record { stays = so_far.doing.stays; stored = so_far.stored }) stored).stored;
         told = told
             ∙ ap (λ (xs : List Line). xs ++ taken_line peer t ∷ []) so_far.told
@@ -221,11 +242,12 @@ module _ {L : Type 0} (M : L → List LaneMove → L → Type 0) (m-both : (a b 
       let d_peer : (peer_at d.parts i).number ≡ peer = same-number p d.parts i ds in
       let puts : Doing M peer (map (puts_owed peer) fs) (putting fs) b c = subst (λ (n : ℕ). Doing M n (map (puts_owed n) fs) (putting fs) b c) b_peer due.puts.doing in
       let ahead : Doing M peer (looks_ahead peer see ∷ []) (receiver (receiving.Looked see) ∷ []) c d = subst (λ (n : ℕ). Doing M n (looks_ahead n see ∷ []) (receiver (receiving.Looked see) ∷ []) c d) c_peer looked_ahead in
-      let taken : Doing M peer (takes_named nameless peer took.takes) (taking took.numbers took.takes) d e = subst (λ (n : ℕ). Doing M n (takes_named nameless n took.takes) (taking took.numbers took.takes) d e) d_peer took.doing in
+      let named = number_in took.numbers in
+      let taken : Doing M peer (takes_named named peer took.takes) (taking took.numbers took.takes) d e = subst (λ (n : ℕ). Doing M n (takes_named named n took.takes) (taking took.numbers took.takes) d e) d_peer took.doing in
       let v : Visit = record { peer = peer; back = back; owed = fs; see = see; takes = took.takes } in
-      let last_two = doing-then M m-both peer (looks_ahead peer see ∷ []) (takes_named nameless peer took.takes) (receiver (receiving.Looked see) ∷ []) (taking took.numbers took.takes) c d e ahead taken in
-      let last_three = doing-then M m-both peer (map (puts_owed peer) fs) (looks_ahead peer see ∷ takes_named nameless peer took.takes) (putting fs) (receiver (receiving.Looked see) ∷ taking took.numbers took.takes) b c e puts last_two in
-      let all = doing-then M m-both peer (looks_back peer back ∷ []) (map (puts_owed peer) fs ++ (looks_ahead peer see ∷ takes_named nameless peer took.takes)) (sender (Looked back) ∷ []) (putting fs ++ (receiver (receiving.Looked see) ∷ taking took.numbers took.takes)) a b e looked_back last_three in
+      let last_two = doing-then M m-both peer (looks_ahead peer see ∷ []) (takes_named named peer took.takes) (receiver (receiving.Looked see) ∷ []) (taking took.numbers took.takes) c d e ahead taken in
+      let last_three = doing-then M m-both peer (map (puts_owed peer) fs) (looks_ahead peer see ∷ takes_named named peer took.takes) (putting fs) (receiver (receiving.Looked see) ∷ taking took.numbers took.takes) b c e puts last_two in
+      let all = doing-then M m-both peer (looks_back peer back ∷ []) (map (puts_owed peer) fs ++ (looks_ahead peer see ∷ takes_named named peer took.takes)) (sender (Looked back) ∷ []) (putting fs ++ (receiver (receiving.Looked see) ∷ taking took.numbers took.takes)) a b e looked_back last_three in
       let within_b : i < length b.parts.peers = (let long = same-length p b.parts bs in omega (arith, long, within)) in
       let b_ends : (peer_at b.parts i).ends ≡ record (x.ends) { free = x.ends.free + back } = doing-ends M (looks_back peer back ∷ []) (sender (Looked back) ∷ []) a b i within looked_back in
       let c_ends : (peer_at c.parts i).ends ≡ after_moves (putting fs) (peer_at b.parts i).ends = doing-ends M (map (puts_owed (peer_at b.parts i).number) fs) (putting fs) b c i within_b due.puts.doing in
@@ -254,9 +276,9 @@ module _ {L : Type 0} (M : L → List LaneMove → L → Type 0) (m-both : (a b 
           back_fits = omega (arith, fits);
           puts_due = due-first (x.ends.free + back) fs (owed_at c.parts i) (owed_at p i) are many;
           sees_shown = let same = ap (λ (l : LaneSeen). l.shown) c_seen in omega (arith, shown, same);
-          see_fits = let same = ap (λ (l : LaneSeen). l.size_from) c_seen in let number = ap (λ (n : ℕ). held_from n (state_of c.parts)) c_peer in omega (arith, room, same, held, number);
+          see_fits = let same = ap (λ (l : LaneSeen). l.size_from) c_seen in let number = ap (λ (n : ℕ). held_from n (state_of c.parts)) c_peer in let nameless = held-unnamed peer (state_of p) in omega (arith, room, same, held, number, nameless);
           takes_first = takes_many;
-          may = all.may;
+          may = visit-may (state_of p) v took.numbers all.may;
         };
         each = took.each ∙ sym took.many;
         doing = all;

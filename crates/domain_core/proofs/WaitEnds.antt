@@ -1,26 +1,30 @@
 -- How the turns of a wait end, and how the wait ends.
 use Rattle.std.proofs.Common.{◌≡◌, ℕ, ◌+◌, ◌<◌, Bool, true, false, cond, List, [], ◌∷◌, ◌++◌, map, Option, Some, None, slice_get, option_map, refl, sym, ap, ◌∙◌, subst, arith}
-use Rattle.std.specs.Prelude.{Ok, Err}
+use Rattle.std.specs.Prelude.{Ok, Err, position}
 use Rattle.std.proofs.lemmas.Option.{slice_get-map}
 use Rattle.mc_base.specs.declared.refusal.NoMemory.{NoMemory}
 use Rattle.mc_base.specs.declared.refusal.Refusal.TheVariants.{RequestInvalid, Timeout}
 use Rattle.mc_base.specs.declared.request.RequestId.{RequestId}
 use Rattle.board_model.specs.Answer.{answer, first_complete, is_complete_at}
-use Rattle.board_model.specs.DomainCall.{test_of}
+use Rattle.board_model.specs.DomainCall.{test_of, wait_for}
 use Rattle.board_model.specs.Journal.{Line, PlainResult, Visit, completes, noted_all, refuses, turned, wait_line}
 use Rattle.board_model.specs.Step.{is_timeout}
+use Rattle.board_model.proofs.ListsMapped.{position-alike}
+use Rattle.board_model.proofs.UnnamedCalls.{refusal-unnamed}
 use Rattle.domain_core.specs.Awaiting.{all_exist, first_complete_in, places_named}
 use Rattle.domain_core.specs.Calls.{Does, Lending}
 use Rattle.domain_core.specs.CallSteps.{Acts, Rests}
 use Rattle.domain_core.specs.DomainView.{DomainView, place_of_id}
 use Rattle.domain_core.specs.LaneMoves.{LaneMove}
-use Rattle.domain_core.specs.Parts.{Holding, shown}
+use Rattle.domain_core.specs.Parts.{Holding, shown, state_of}
 use Rattle.domain_core.specs.Turned.{MakesTurn}
+use Rattle.domain_core.specs.Unnamed.{unnamed}
 use Rattle.domain_core.specs.declared.wait_fault.WaitFault.{WaitFault}
 use Rattle.domain_core.specs.declared.wait_fault.WaitFault.TheVariants as fault
 use Rattle.domain_core.specs.Waiting.{AreAwaited, Polled, Waits, place_told, wait_entries, wait_on, waited, waited_any, waited_at}
 use Rattle.domain_core.proofs.CallLemmas.{does-of}
 use Rattle.domain_core.proofs.Stepping.{acts-refused}
+use Rattle.domain_core.proofs.Unnaming.{complete-unnamed}
 use Rattle.domain_core.proofs.WaitPlaces.{first-complete, first-is, no-wait, timeout-word, wait-ends, wait-invalid}
 use Rattle.domain_core.proofs.WaitSteps.{Polling, more-many, more-polls, more-stand, more-told, wait-acts}
 
@@ -54,15 +58,16 @@ module _ {L : Type 0} (M : L → List LaneMove → L → Type 0) (ids : List Req
   pub ends-first : (old new : Holding L) (at : ℕ) (id : RequestId) (r : PlainResult) → Rests M old → all_exist ids (shown old) ≡ true → first_complete_in ids (shown old) ≡ Some at → slice_get ids at ≡ Some id
       → Acts M 0 (test_of (place_of_id (shown old).ids id)) old new (completes None r) None → Does M 0 (wait_on ids says_place (shown old)) (shown old) (shown new) (completes (place_told says_place at) r) None
   ends-first old new at id r rests all is here acts =
-      let s = (shown old).state in
+      let s = state_of old.parts in
       let ps = places_named ids (shown old) in
       let place : slice_get ps at ≡ Some (place_of_id (shown old).ids id) = slice_get-map (place_of_id (shown old).ids) ids at ∙ ap (option_map (place_of_id (shown old).ids)) here in
-      let first = first-is s ps at is (place_of_id (shown old).ids id) place in
-      let done = wait-ends s ps says_place at all is in
-      let complete : is_complete_at s (first_complete s ps) ≡ true = ap (is_complete_at s) first ∙ first-complete s ps at is (place_of_id (shown old).ids id) place in
+      let found : position (is_complete_at s) ps ≡ Some at = sym (position-alike (is_complete_at (unnamed s)) (is_complete_at s) (complete-unnamed s) ps) ∙ is in
+      let first = first-is s ps at found (place_of_id (shown old).ids id) place in
+      let done = sym (refusal-unnamed s 0 (wait_for ps says_place)) ∙ wait-ends (unnamed s) ps says_place at all is in
+      let complete : is_complete_at s (first_complete s ps) ≡ true = ap (is_complete_at s) first ∙ first-complete s ps at found (place_of_id (shown old).ids id) place in
       let tested = subst (λ p. Acts M 0 (test_of p) old new (completes None r) None) (sym first) acts in
       let told : Acts M 0 (wait_on ids says_place (shown old)) old new (completes (place_told says_place at) r) None =
-      subst (λ p. Acts M 0 (wait_on ids says_place (shown old)) old new (completes p r) None) (sym (told-said (first_complete_in ids (shown old)) at says_place is)) (wait-acts M old new ps says_place r done complete tested) in
+      subst (λ p. Acts M 0 (wait_on ids says_place (shown old)) old new (completes p r) None) (sym (told-said (position (is_complete_at s) ps) at says_place found)) (wait-acts M old new ps says_place r done complete tested) in
       does-of M 0 (wait_on ids says_place (shown old)) old new (completes (place_told says_place at) r) None rests told
 
   module _ (number limit : ℕ) (lines : List Line) where
@@ -81,7 +86,7 @@ module _ {L : Type 0} (M : L → List LaneMove → L → Type 0) (ids : List Req
           few = omega arith;
           told = begins-not (is_timeout (answer s 0 (wait_on ids false (shown old)))) (no-wait s ps false (Some RequestInvalid) (wait-invalid s ps false none) refl);
           ends = (
-            does-of M 0 (wait_on ids says_place (shown old)) old old (refuses RequestInvalid) None rests (acts-refused M 0 (wait_on ids says_place (shown old)) old old RequestInvalid (wait-invalid s ps says_place none) refl),
+            does-of M 0 (wait_on ids says_place (shown old)) old old (refuses RequestInvalid) None rests (acts-refused M 0 (wait_on ids says_place (shown old)) old old RequestInvalid (sym (refusal-unnamed (state_of old.parts) 0 (wait_for ps says_place)) ∙ wait-invalid s ps says_place none) refl),
             λ e. absurd cc,
           );
         }
@@ -119,7 +124,7 @@ module _ {L : Type 0} (M : L → List LaneMove → L → Type 0) (ids : List Req
         few = h.few;
         told = begins h.turns h.told;
         ends = (
-          does-of M 0 (wait_on ids says_place (shown new)) new new (refuses Timeout) None rests (acts-refused M 0 (wait_on ids says_place (shown new)) new new Timeout (timeout-word (shown new).state (places_named ids (shown new)) says_place h.ends.0) refl),
+          does-of M 0 (wait_on ids says_place (shown new)) new new (refuses Timeout) None rests (acts-refused M 0 (wait_on ids says_place (shown new)) new new Timeout (sym (refusal-unnamed (state_of new.parts) 0 (wait_on ids says_place (shown new))) ∙ timeout-word (shown new).state (places_named ids (shown new)) says_place h.ends.0) refl),
           λ e. h.ends.1,
         );
       }

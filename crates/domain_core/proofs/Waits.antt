@@ -81,7 +81,7 @@ items-stay b s k (w ∷ ws) none =
     let here : one_if (is_same w.slot s) ≡ 0 = omega (arith, sum, none) in
     let rest : times_waiting s ws ≡ 0 = omega (arith, sum, none) in
     let differ = differ-back w.slot s (no-one (is_same w.slot s) here) in
-    let item : item_in (with_place b s k) w ≡ item_in b w = ap (λ (o : Option Kept). record { peer = w.slot.peer; source = source_in o; priority = w.priority; channel = channel_in o; content = content_in o; frames = [] }) (kept-there b s k w.slot differ) in
+    let item : item_in (with_place b s k) w ≡ item_in b w = ap (λ (o : Option Kept). record { peer = w.slot.peer; source = source_in o; priority = w.priority; channel = channel_in o; content = content_in o; frames = w.slot.buffer ∷ [] }) (kept-there b s k w.slot differ) in
     ap (λ (x : Item). x ∷ map (item_in (with_place b s k)) ws) item ∙ ap (λ (xs : List Item). item_in b w ∷ xs) (items-stay b s k ws rest)
 
 pub endpoints-stay : (b : Book) (s : Slot) (k : Option Kept) (es : List Endpoint) → times_waiting s (all_waiting es) ≡ 0 → endpoints_in (with_place b s k) es ≡ endpoints_in b es

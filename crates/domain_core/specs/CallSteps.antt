@@ -31,7 +31,7 @@ use Rattle.request_set.specs.declared.ask.Complete.TheVariants as complete
 use Rattle.request_set.specs.Requests.{Requests}
 use Rattle.domain_core.specs.AllMoved.{AllMoved, moves_at, numbers_of}
 use Rattle.domain_core.specs.Calls.{IsFresh, success_ends, success_releases}
-use Rattle.domain_core.specs.InBook.{item_at}
+use Rattle.domain_core.specs.InBook.{numbered_at}
 use Rattle.domain_core.specs.LaneMoves.{LaneMove}
 use Rattle.domain_core.specs.Parts.{Holding, Parts, state_of}
 use Rattle.domain_core.specs.Records.{slots_at, waiting_in}
@@ -142,7 +142,7 @@ call_steps p node other given = []
 pub record Means (p : Parts) (node : ℕ) (call : DomainCall) (given : Option RequestId) : Type 0 where
   pub state : state_of (done_all (call_steps p node call given) p) ≡ changed_all (state_of p) (success_changes (state_of p) node call)
   pub slots : List Slot
-  pub returned : map (item_at p.book) slots ≡ success_returned (state_of p) node call
+  pub returned : map (numbered_at p.book) slots ≡ success_returned (state_of p) node call
   pub moves : (n : ℕ) → all_moves (call_steps p node call given) n ≡ moves_at (success_puts (state_of p) node call) slots n
   pub stays : KeepsBut slots p.book (done_all (call_steps p node call given) p).book
   pub ids : map (λ r. r.id) (done_all (call_steps p node call given) p).requests.standing ≡ without (success_ends (state_of p) call) (map (λ r. r.id) p.requests.standing) ++ option_to_list given

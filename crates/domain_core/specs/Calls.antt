@@ -20,12 +20,13 @@ use Rattle.board_model.specs.Lists.{without}
 use Rattle.board_model.specs.State.{DomainState, LentPacket}
 use Rattle.board_model.specs.Answer.{answer, first_complete, puts, refusal, unless_refused}
 use Rattle.board_model.specs.CallChanges as changes
+use Rattle.board_model.specs.Given.{frames_from}
 use Rattle.board_model.specs.Serial.{put_entry}
 use Rattle.domain_core.specs.DomainView.{DomainView}
 use Rattle.domain_core.specs.LaneMoves.{LaneMove}
 use Rattle.domain_core.specs.InBook.{item_at}
 use Rattle.domain_core.specs.Stores.{KeepsBut}
-use Rattle.domain_core.specs.AllMoved.{AllMoved, call_moves}
+use Rattle.domain_core.specs.AllMoved.{AllMoved, buffers_of, call_moves}
 use Rattle.domain_core.specs.Turned.{Turns}
 
 -- the place of the request that success ends
@@ -54,12 +55,15 @@ pub record IsFresh (ids : List RequestId) (s : DomainState) (id : RequestId) : T
   pub serial : id.serial ≡ s.requests_given
 
 -- A call after its turn. Its answer and its effect are those of the state; at the ends towards each peer it makes the moves of the
--- frames that it puts there, and then those of the buffers that it gives back there, which held the items that it returns
+-- frames that it puts there, and then those of the buffers that it gives back there, which held the items that it returns, and whose
+-- numbers are the names of these items
 pub record Does {L : Type 0} (Moved : L → List LaneMove → L → Type 0) (node : ℕ) (call : DomainCall) (old new : DomainView L) (answered : PlainAnswer) (given : Option RequestId) : Type 0 where
   pub answer : answered ≡ answer old.state node call
   pub state : new.state ≡ changes.effect old.state node call
+  pub numbered : new.numbered ≡ changes.effect old.numbered node call
   pub slots : List Slot
   pub returned : map (item_at old.book) slots ≡ changes.returned old.state node call
+  pub named : (peer : ℕ) → buffers_of peer slots ≡ frames_from peer (changes.returned old.numbered node call)
   pub moved : AllMoved Moved old.ends (call_moves (puts old.state node call) slots (map (λ p. p.number) old.state.peers)) new.ends
   pub stays : KeepsBut slots old.book new.book
   pub ids : new.ids ≡ without (place_ended old.state node call) old.ids ++ option_to_list given

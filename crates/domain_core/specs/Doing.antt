@@ -5,14 +5,16 @@ use Rattle.mc_base.specs.declared.request.RequestId.{RequestId}
 use Rattle.board_model.specs.Deeds.{AllMayDo, Deed, after_deeds, puts_owed}
 use Rattle.board_model.specs.Journal.{Line, Taken, Visit, taken_line}
 use Rattle.board_model.specs.State.{owed_to}
-use Rattle.board_model.specs.Turn.{IsVisit, nameless, takes_named, turn_limit, visit_deeds}
+use Rattle.board_model.specs.Turn.{IsVisit, takes_named, turn_limit}
 use Rattle.domain_core.specs.Beginning.{has_begun, told_of}
 use Rattle.domain_core.specs.LaneMoves.{LaneMove}
+use Rattle.domain_core.specs.NumberedDeeds.{number_in, numbered_deeds}
 use Rattle.domain_core.specs.Owed.{put_lines}
 use Rattle.domain_core.specs.Peers.{peer_in}
 use Rattle.domain_core.specs.Parts.{Holding, Parts, peer_at, plain, state_of}
 use Rattle.domain_core.specs.Steps.{Did, Step, all_moves, at_peer}
 use Rattle.domain_core.specs.Stores.{AreStored, KeepsHeld}
+use Rattle.domain_core.specs.Unnamed.{unnamed}
 use Rattle.domain_core.specs.VisitMoves.{putting, taking, visit_moves}
 
 abbrev pub ids_in : Parts → List RequestId
@@ -34,7 +36,7 @@ pub record Takes {L : Type 0} (Moved : L → List LaneMove → L → Type 0) (pl
   pub numbers : List ℕ
   pub many : length takes ≡ count
   pub each : length numbers ≡ count
-  pub doing : Doing Moved (peer_at old.parts place).number (takes_named nameless (peer_at old.parts place).number takes) (taking numbers takes) old new
+  pub doing : Doing Moved (peer_at old.parts place).number (takes_named (number_in numbers) (peer_at old.parts place).number takes) (taking numbers takes) old new
   pub stored : AreStored (peer_at old.parts place).number numbers takes new.parts.book
   pub told : lines' ≡ lines ++ map (taken_line (peer_at old.parts place).number) takes
 
@@ -60,9 +62,9 @@ pub record Visits {L : Type 0} (Moved : L → List LaneMove → L → Type 0) (p
   pub visit : Visit
   pub numbers : List ℕ
   pub peer_is : visit.peer ≡ (peer_at old.parts place).number
-  pub allowed : IsVisit (state_of old.parts) visit
+  pub allowed : IsVisit (unnamed (state_of old.parts)) visit
   pub each : length numbers ≡ length visit.takes
-  pub doing : Doing Moved visit.peer (visit_deeds nameless visit) (visit_moves visit numbers) old new
+  pub doing : Doing Moved visit.peer (numbered_deeds visit numbers) (visit_moves visit numbers) old new
   pub stored : AreStored visit.peer numbers visit.takes new.parts.book
   pub told : lines' ≡ lines ++ told_of begun visit
   pub begins : begun' ≡ has_begun begun visit

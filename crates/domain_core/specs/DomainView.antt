@@ -1,30 +1,23 @@
 -- What contracts see of a domain.
 -- Source: docs/PROFILE.md, "A domain", "Lanes" and "Requests".
-use Rattle.std.specs.Prelude.{ℕ, Bool, ◌&&◌, ◌==◌, List, map, position, Option}
+use Rattle.std.specs.Prelude.{◌≡◌, ℕ, Bool, ◌&&◌, ◌==◌, List, position, Option}
 use Rattle.mc_base.specs.declared.request.PacketId.{PacketId}
 use Rattle.mc_base.specs.declared.request.RequestId.{RequestId}
 use Rattle.buffer_book.specs.Book.{Book}
 use Rattle.board_model.specs.State.{DomainState, LentPacket, packet_at_place}
-use Rattle.request_set.specs.Requests.{Requests}
-use Rattle.endpoint_table.specs.Table as endpoint_table
-use Rattle.domain_core.specs.LaneSeen.{LaneSeen}
-use Rattle.domain_core.specs.declared.peer.Peer.{Peer}
-use Rattle.domain_core.specs.Records.{Records}
-use Rattle.domain_core.specs.Peers.{state_in}
-use Rattle.domain_core.specs.AllMoved.{ends_of}
+use Rattle.domain_core.specs.Unnamed.{unnamed}
 
--- the state; the ends towards each peer, in the order of the state's peers; the ids of the requests that stand and of the packets that
--- are lent, in their orders in the state; and the book of the buffers that are held
+-- the state, which names no frames; the same state with each item named by the number of its buffer; the ends towards each peer, in the
+-- order of the state's peers; the ids of the requests that stand and of the packets that are lent, in their orders in the state; and the
+-- book of the buffers that are held
 pub record DomainView (L : Type 0) : Type 0 where
   pub state : DomainState
+  pub numbered : DomainState
+  pub nameless : state ≡ unnamed numbered
   pub ends : List L
   pub ids : List RequestId
   pub packets : List PacketId
   pub book : Book
-
--- what its parts show
-abbrev pub domain_in : {L : Type 0} → (L → LaneSeen) → Book → Records → Requests → endpoint_table.Table → List (Peer L) → DomainView L
-domain_in v b r q t ps = record { state = state_in v b r q t ps; ends = ends_of ps; ids = map (λ r. r.id) q.standing; packets = r.lent; book = b }
 
 abbrev pub has_id : RequestId → RequestId → Bool
 has_id id i = i.key == id.key && i.serial == id.serial

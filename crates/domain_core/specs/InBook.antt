@@ -2,7 +2,7 @@
 -- book of buffers.
 -- Source: docs/PROFILE.md, "Messages" and "Requests". A message lies in the buffer of its frame, whose header names its
 -- source, and whose letter names its priority.
-use Rattle.std.specs.Prelude.{ℕ, Bool, ◌==◌, List, [], map, slice_index, Option, None, Some, option_map, if◌then◌else◌}
+use Rattle.std.specs.Prelude.{ℕ, Bool, ◌==◌, List, [], ◌∷◌, map, slice_index, Option, None, Some, option_map, if◌then◌else◌}
 use Rattle.mc_base.specs.Bytes.{number_at}
 use Rattle.mc_base.specs.Frame.{source_of}
 use Rattle.mc_base.specs.declared.request.PacketId.{PacketId}
@@ -20,6 +20,7 @@ use Rattle.request_set.specs.Requests.{Standing, Requests}
 use Rattle.domain_core.specs.declared.endpoints.Endpoint.{Endpoint}
 use Rattle.domain_core.specs.Table.{Held, Table}
 use Rattle.domain_core.specs.Records.{Records}
+use Rattle.domain_core.specs.Unnamed.{unnamed_item}
 
 -- the address that a buffer's frame came from, its content, its priority, and its channel or none
 abbrev pub source_in : Option Kept → ℕ
@@ -49,13 +50,16 @@ abbrev pub channel_in : Option Kept → Option ℕ
 channel_in None = None
 channel_in (Some k) = channel_of k.buffer.bytes
 
--- what waits in a buffer
+-- what waits in a buffer, named by the buffer's number
 abbrev pub item_in : Book → Waiting → state.Item
-item_in b w = record { peer = w.slot.peer; source = source_in (kept_at b w.slot); priority = w.priority; channel = channel_in (kept_at b w.slot); content = content_in (kept_at b w.slot); frames = [] }
+item_in b w = record { peer = w.slot.peer; source = source_in (kept_at b w.slot); priority = w.priority; channel = channel_in (kept_at b w.slot); content = content_in (kept_at b w.slot); frames = w.slot.buffer ∷ [] }
 
--- what was handed or is lent in a buffer
+-- what was handed or is lent in a buffer, and the same without a name
+abbrev pub numbered_at : Book → Slot → state.Item
+numbered_at b slot = item_in b (waiting slot (priority_in (kept_at b slot)))
+
 abbrev pub item_at : Book → Slot → state.Item
-item_at b slot = item_in b (waiting slot (priority_in (kept_at b slot)))
+item_at b slot = unnamed_item (numbered_at b slot)
 
 abbrev pub endpoint_in : Book → Endpoint → state.Endpoint
 endpoint_in b e = record { local = e.local; address = e.address; queue = map (item_in b) e.queue.waiting; channel = option_map end_of e.channel }
@@ -73,8 +77,8 @@ abbrev pub outcome_in : Book → Complete → state.Outcome
 outcome_in b (complete.Address address) = state.has_address address
 outcome_in b complete.Accepted = state.is_accepted
 outcome_in b (complete.Rejected reason) = state.is_rejected reason
-outcome_in b (complete.Message slot max) = state.has_item (item_at b slot)
-outcome_in b (complete.Packet slot) = state.has_item (item_at b slot)
+outcome_in b (complete.Message slot max) = state.has_item (numbered_at b slot)
+outcome_in b (complete.Packet slot) = state.has_item (numbered_at b slot)
 outcome_in b (complete.Ended word) = state.has_ended word
 
 abbrev pub request_in : Book → Standing → state.Request
@@ -85,7 +89,7 @@ requests_in b rs = map (request_in b) rs
 
 -- the packets that are lent, by their ids
 abbrev pub packet_in : Book → PacketId → LentPacket
-packet_in b id = record { serial = id.serial; item = item_at b (slot_of id) }
+packet_in b id = record { serial = id.serial; item = numbered_at b (slot_of id) }
 
 abbrev pub packets_in : Book → List PacketId → List LentPacket
 packets_in b ids = map (packet_in b) ids

@@ -12,6 +12,7 @@ pub mod InReplies
 pub mod Records
 pub mod InTable
 pub mod Hearing
+pub mod Unnamed
 pub mod InBook
 pub mod InRequests
 pub mod InPlaces
@@ -22,6 +23,7 @@ pub mod AllMoved
 pub mod Tied
 pub mod Sound
 pub mod DomainView
+pub mod NumberedDeeds
 pub mod Turned
 pub mod Calls
 pub mod Parts

@@ -1,7 +1,7 @@
 -- The inside of a domain as one value: its parts as plain data, with the ends towards its peers beside them.
 -- Source: docs/PROFILE.md, "A domain" and "Lanes". Ends move by the moves of their lanes. What is seen of them changes by a function
 -- of each move.
-use Rattle.std.specs.Prelude.{ℕ, List, [], map, slice_index_or}
+use Rattle.std.specs.Prelude.{refl, ℕ, List, [], map, slice_index_or}
 use Rattle.buffer_book.specs.Book.{Book}
 use Rattle.request_set.specs.Requests.{Requests}
 use Rattle.endpoint_table.specs.Table as endpoint_table
@@ -13,6 +13,7 @@ use Rattle.domain_core.specs.LaneSeen.{LaneSeen}
 use Rattle.domain_core.specs.Peers.{state_in}
 use Rattle.domain_core.specs.Records.{Records}
 use Rattle.domain_core.specs.Sound.{AreSound}
+use Rattle.domain_core.specs.Unnamed.{unnamed}
 
 -- what is seen of a peer and the ends towards it
 abbrev pub peer_seen : {L : Type 0} → (L → LaneSeen) → Peer L → Peer LaneSeen
@@ -33,7 +34,7 @@ pub record Parts : Type 0 where
   pub table : endpoint_table.Table
   pub peers : List (Peer LaneSeen)
 
--- the state that they are, and what they keep
+-- the state that they are, in which each item is named by its buffer's number, and what they keep
 abbrev pub state_of : Parts → DomainState
 state_of p = state_in plain p.book p.records p.requests p.table p.peers
 
@@ -60,4 +61,4 @@ holding_in v b r q t ps = record { parts = parts_in v b r q t ps; ends = ends_of
 
 -- what contracts of a domain see of it
 abbrev pub shown : {L : Type 0} → Holding L → DomainView L
-shown h = record { state = state_of h.parts; ends = h.ends; ids = map (λ r. r.id) h.parts.requests.standing; packets = h.parts.records.lent; book = h.parts.book }
+shown h = record { state = unnamed (state_of h.parts); numbered = state_of h.parts; nameless = refl; ends = h.ends; ids = map (λ r. r.id) h.parts.requests.standing; packets = h.parts.records.lent; book = h.parts.book }

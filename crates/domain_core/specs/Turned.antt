@@ -5,12 +5,14 @@ use Rattle.std.specs.Prelude.{◌≡◌, ℕ, Bool, false, List, [], ◌∷◌, 
 use Rattle.std.specs.List.{list_all}
 use Rattle.buffer_book.specs.Book.{Book}
 use Rattle.board_model.specs.Journal.{Line, Visit, is_idle, noted, turned}
+use Rattle.board_model.specs.Deeds.{after_deeds}
 use Rattle.board_model.specs.Turn.{IsTurn, after_turn}
 use Rattle.domain_core.specs.Stores.{KeepsHeld, AreStored}
 use Rattle.domain_core.specs.LaneMoves.{LaneMove}
 use Rattle.domain_core.specs.Beginning.{told_of_all, has_begun_after}
 use Rattle.domain_core.specs.AllMoved.{AllMoved, turn_moves}
 use Rattle.domain_core.specs.DomainView.{DomainView}
+use Rattle.domain_core.specs.NumberedDeeds.{turn_deeds}
 
 -- all frames that stay are stored
 abbrev pub AllStored : List Visit → List (List ℕ) → Book → Type 0
@@ -29,6 +31,7 @@ HaveNumbers visits numbers = ⊥
 pub record Turns {L : Type 0} (Moved : L → List LaneMove → L → Type 0) (visits : List Visit) (numbers : List (List ℕ)) (old new : DomainView L) : Type 0 where
   pub allowed : IsTurn old.state visits
   pub state : new.state ≡ after_turn old.state visits
+  pub numbered : new.numbered ≡ after_deeds old.numbered (turn_deeds visits numbers)
   pub each : HaveNumbers visits numbers
   pub moved : AllMoved Moved old.ends (turn_moves visits numbers) new.ends
   pub stays : KeepsHeld old.book new.book

@@ -1,6 +1,6 @@
 -- What is to be done with a frame that is taken, by the row that it has.
 -- Source: docs/PROFILE.md, "What a domain does with a taken frame".
-use Rattle.std.specs.Prelude.{◌≡◌, ℕ, ◌+◌, ◌≤◌, ◌<◌, Bool, true, false, List, [], ◌∷◌, ◌++◌, length, take, drop, position, slice_get, Option, Some, None, option_map}
+use Rattle.std.specs.Prelude.{◌≡◌, ℕ, ◌+◌, ◌≤◌, ◌<◌, Bool, true, false, List, [], ◌∷◌, ◌++◌, length, take, drop, position, slice_get, Option, Some, None, option_map, option_to_list}
 use Rattle.mc_base.specs.Limits.{item_size}
 use Rattle.mc_base.specs.Frame.{source_of}
 use Rattle.mc_base.specs.Letter.{PlainLetter, msg, packet, scalar, connect}
@@ -189,12 +189,12 @@ pub record IsHeard (peer : ℕ) (its : Row) (fate : Fate) (names names' : Names)
 
 -- ---- letters
 
--- an item, and the one in a frame, whose content of this size lies behind 24 bytes of headers
-abbrev pub item_with : ℕ → ℕ → ℕ → Option ℕ → List ℕ → Item
-item_with peer source priority channel content = record { peer = peer; source = source; priority = priority; channel = channel; content = content; frames = [] }
+-- an item, and the one in a frame of this name or none, whose content of this size lies behind 24 bytes of headers
+abbrev pub item_with : Option ℕ → ℕ → ℕ → ℕ → Option ℕ → List ℕ → Item
+item_with name peer source priority channel content = record { peer = peer; source = source; priority = priority; channel = channel; content = content; frames = option_to_list name }
 
-abbrev pub framed_item : ℕ → List ℕ → ℕ → Item
-framed_item peer frame size = item_with peer (source_of frame) (priority_of frame) (channel_of frame) (take size (drop 24 frame))
+abbrev pub framed_item : Option ℕ → ℕ → List ℕ → ℕ → Item
+framed_item name peer frame size = item_with name peer (source_of frame) (priority_of frame) (channel_of frame) (take size (drop 24 frame))
 
 -- letters that bring an item
 abbrev pub IsItem : PlainLetter → Type 0
@@ -210,18 +210,18 @@ IsInBounds (packet number content) = length content ≤ item_size
 IsInBounds (connect number kind) = 0 < number
 IsInBounds other = Unit {0}
 
--- the row of a letter from a peer, and the verdict on it
-abbrev pub letter_row : DomainState → ℕ → ℕ → ℕ → PlainLetter → Row
-letter_row s peer source destination l = first_row (letter_rows s peer None source destination (endpoint_of s destination) l)
+-- the row of a letter from a peer, in a frame of this name or none, and the verdict on it
+abbrev pub letter_row : DomainState → Option ℕ → ℕ → ℕ → ℕ → PlainLetter → Row
+letter_row s name peer source destination l = first_row (letter_rows s peer name source destination (endpoint_of s destination) l)
 
-abbrev pub IsJudged : DomainState → ℕ → ℕ → ℕ → PlainLetter → Verdict → Desk → Desk → Type 0
-IsJudged s peer source destination l (verdict.Queued place priority size) d d' =
-    IsItem l × (size ≡ length (taken.item_of peer None source l).content) × (priority ≡ (taken.item_of peer None source l).priority)
-    × IsQueued s (letter_row s peer source destination l) (taken.item_of peer None source l) place × (d' ≡ d)
-IsJudged s peer source destination l (verdict.Handed id a size) d d' =
-    IsItem l × (size ≡ length (taken.item_of peer None source l).content)
-    × IsHanded s d.requests (letter_row s peer source destination l) (taken.item_of peer None source l) id a × (d' ≡ d)
-IsJudged s peer source destination l (verdict.Returned fate) d d' = IsReturned s peer (letter_row s peer source destination l) fate d d'
+abbrev pub IsJudged : DomainState → Option ℕ → ℕ → ℕ → ℕ → PlainLetter → Verdict → Desk → Desk → Type 0
+IsJudged s name peer source destination l (verdict.Queued place priority size) d d' =
+    IsItem l × (size ≡ length (taken.item_of peer name source l).content) × (priority ≡ (taken.item_of peer name source l).priority)
+    × IsQueued s (letter_row s name peer source destination l) (taken.item_of peer name source l) place × (d' ≡ d)
+IsJudged s name peer source destination l (verdict.Handed id a size) d d' =
+    IsItem l × (size ≡ length (taken.item_of peer name source l).content)
+    × IsHanded s d.requests (letter_row s name peer source destination l) (taken.item_of peer name source l) id a × (d' ≡ d)
+IsJudged s name peer source destination l (verdict.Returned fate) d d' = IsReturned s peer (letter_row s name peer source destination l) fate d d'
 
 -- an item of this size comes to the endpoint at a place: the oldest receive that waits there gets it, or the queue
 abbrev pub local_of : Records → ℕ → Option Local
@@ -255,21 +255,21 @@ connect_row s way number kind = first_row (connect_rows s way.peer way.source wa
 pub record Fits (frame : List ℕ) (size : ℕ) : Type 0 where
   pub short : size ≤ item_size
   pub inside : 24 + size ≤ length frame
-  pub whole : (peer : ℕ) → framed_item peer frame size ≡ item_of peer frame
+  pub whole : (peer : ℕ) → framed_item None peer frame size ≡ item_of peer frame
 
-abbrev pub IsVerdict : DomainState → ℕ → List ℕ → Verdict → Desk → Desk → Type 0
-IsVerdict s peer frame (verdict.Queued place priority size) d d' = IsQueued s (row_of s peer None (reading frame)) (framed_item peer frame size) place × Fits frame size × (priority_of frame ≡ priority) × (d' ≡ d)
-IsVerdict s peer frame (verdict.Handed id a size) d d' = IsHanded s d.requests (row_of s peer None (reading frame)) (framed_item peer frame size) id a × Fits frame size × (d' ≡ d)
-IsVerdict s peer frame (verdict.Returned fate) d d' = IsReturned s peer (row_of s peer None (reading frame)) fate d d'
+abbrev pub IsVerdict : DomainState → Option ℕ → ℕ → List ℕ → Verdict → Desk → Desk → Type 0
+IsVerdict s name peer frame (verdict.Queued place priority size) d d' = IsQueued s (row_of s peer name (reading frame)) (framed_item name peer frame size) place × Fits frame size × (priority_of frame ≡ priority) × (d' ≡ d)
+IsVerdict s name peer frame (verdict.Handed id a size) d d' = IsHanded s d.requests (row_of s peer name (reading frame)) (framed_item name peer frame size) id a × Fits frame size × (d' ≡ d)
+IsVerdict s name peer frame (verdict.Returned fate) d d' = IsReturned s peer (row_of s peer name (reading frame)) fate d d'
 
--- ---- what is said of functions: in each state with what they have
+-- ---- what is said of functions: in each state with what they have, whatever name the frame has
 
 abbrev pub Deals : ℕ → List ℕ → Verdict → Desk → Desk → Type 0
-Deals peer frame v d d' = (b : Book) (s : DomainState) → Shows s peer b d → IsVerdict s peer frame v d d'
+Deals peer frame v d d' = (b : Book) (s : DomainState) (name : Option ℕ) → Shows s peer b d → IsVerdict s name peer frame v d d'
 
 abbrev pub Judges : Way → PlainLetter → Verdict → (Names → Desk) → (Names → Desk) → Type 0
-Judges way l v d d' = (b : Book) (s : DomainState) (names : Names) → Shows s way.peer b (d names)
-    → IsJudged s way.peer way.source way.destination l v (d names) (d' names)
+Judges way l v d d' = (b : Book) (s : DomainState) (name : Option ℕ) (names : Names) → Shows s way.peer b (d names)
+    → IsJudged s name way.peer way.source way.destination l v (d names) (d' names)
 
 abbrev pub Answers : Way → ℕ → Kind → Fate → (Names → Desk) → (Names → Desk) → Type 0
 Answers way number kind fate d d' = (b : Book) (s : DomainState) (names : Names) → Shows s way.peer b (d names)

@@ -8,7 +8,7 @@ ghost use Rattle.board_model.specs.Answer.{address_of, has_channel};
 ghost use Rattle.board_model.specs.Journal.{noted_all};
 ghost use Rattle.board_model.specs.Serial.{put_entry};
 ghost use Rattle.domain_core.specs.Hearing.{messages_at};
-ghost use Rattle.domain_core.specs.Parts.{Sound, state_of};
+ghost use Rattle.domain_core.specs.Parts.{Sound, shown, state_of};
 ghost use Rattle.domain_core.specs.Steps.{Did, frame_put};
 
 mod channel_calls;
@@ -71,8 +71,8 @@ impl<P: PeerLane> Holdings<P> {
     /// such lane.
     pub fn places(&self, peer: u8) -> Option<Places>
         ensures none { IsNone result ↔ (Contains (map (λ p. p.number) (state_of self.now.parts).peers) peer → ⊥) }
-        ensures queue { IfSome result (λ p. p.queue ≡ queued_from peer (state_of self.now.parts)) }
-        ensures lent { IfSome result (λ p. p.lent ≡ lent_from peer (state_of self.now.parts)) }
+        ensures queue { IfSome result (λ p. p.queue ≡ queued_from peer (shown self.now).state) }
+        ensures lent { IfSome result (λ p. p.lent ≡ lent_from peer (shown self.now).state) }
     {
         place_of(&self.peers, peer)?;
         let handed = handed_from(&self.requests, peer);
@@ -84,7 +84,7 @@ impl<P: PeerLane> Holdings<P> {
 
     /// How many messages are queued on all endpoints.
     pub fn messages_queued(&self) -> u32
-        ensures { result ≡ sum_by messages_at (state_of self.now.parts).endpoints }
+        ensures { result ≡ sum_by messages_at (shown self.now).state.endpoints }
     {
         self.endpoints.queued() as u32
     }

@@ -44,6 +44,7 @@ impl<S: SendEnd + Drop, R: RecvEnd + Drop> Domain<S, R> {
         requires peers { AreLinksOf number links.items }
         requires open { AllByRecursion (IsOpenLink S.size S.free R.size R.shown R.out) links.items }
         ensures state { IfOk result (λ d. d.state ≡ opening number nodes (neighbours_opened number pool links.items)) }
+        ensures numbered { IfOk result (λ d. d.numbered ≡ opening number nodes (neighbours_opened number pool links.items)) }
         ensures ends { IfOk result (λ d. d.ends ≡ ends_opened number (new_loop pool) links.items) }
         ensures ids { IfOk result (λ d. d.ids ≡ []) }
         ensures packets { IfOk result (λ d. d.packets ≡ []) }

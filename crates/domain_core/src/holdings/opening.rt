@@ -41,7 +41,8 @@ impl<S: SendEnd + Drop, R: RecvEnd + Drop> Holdings<Ends<S, R>> {
         requires pool { pool ≤ 256 }
         requires peers { AreLinksOf number links.items }
         requires open { AllByRecursion (IsOpenLink S.size S.free R.size R.shown R.out) links.items }
-        ensures state { IfOk result (λ h. state_of h.parts ≡ opening number nodes (neighbours_opened number pool links.items)) }
+        ensures state { IfOk result (λ h. (shown h).state ≡ opening number nodes (neighbours_opened number pool links.items)) }
+        ensures numbered { IfOk result (λ h. (shown h).numbered ≡ opening number nodes (neighbours_opened number pool links.items)) }
         ensures ends { IfOk result (λ h. h.ends ≡ ends_opened number (new_loop pool) links.items) }
         ensures ids { IfOk result (λ h. (shown h).ids ≡ []) }
         ensures packets { IfOk result (λ h. (shown h).packets ≡ []) }

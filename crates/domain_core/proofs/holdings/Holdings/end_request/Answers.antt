@@ -27,6 +27,8 @@ use Rattle.domain_core.specs.InBook.{content_in}
 use Rattle.domain_core.specs.InRequests.{handed_slots, AreReceives}
 use Rattle.domain_core.specs.Parts.{Holding, Parts, Sound, holding_in, parts_in, peers_seen, plain, shown, state_of}
 use Rattle.domain_core.specs.Steps.{Did, done, message_ended, request_ended, Step, without_at, next_lent, packet_ended}
+use Rattle.domain_core.specs.Unnamed.{unnamed}
+use Rattle.domain_core.proofs.Unnaming.{lent-brings}
 use Rattle.domain_core.proofs.Ending.{held-message, ids_in, quiet-items, quiet-lends, quiet-result, quiet-same, quiet-slots, test-complete, test-done, test-refused, tested-fewer, tested-items, tested-lends, tested-result, packet-fewer, held-packet, by, left-receives, packet-request, request_for}
 use Rattle.domain_core.proofs.GivingLemmas.{given-length}
 use Rattle.domain_core.proofs.Meaning.{gone-there, held-there, quiet-means, tested-means}
@@ -312,8 +314,9 @@ returns-in-Packet-clause-acts g c =
     let did : Did M (packet_ended place next ∷ []) old new = record { parts = after-lent g c; moved = quiet-moved M g.met.P.PeerLane.none (v g) d.peers.items } in
     let told : PlainAnswer = completes None (brings_whole (packet_lent_as (shown new) c.lend-packet.result)) in
     let answer : told ≡ completes None (result_of (request_at_place (state_of (p g d)) place))
-    = ap (λ (x : Parts). completes None (brings_whole (packet_at_place_in (state_of x).lent (place_of_packet_id x.records.lent c.lend-packet.result)))) (after-lent g c)
-    ∙ ap (λ (i : PacketId). completes None (brings_whole (packet_at_place_in (state_of (done (packet_ended place next) (p g d))).lent (place_of_packet_id (done (packet_ended place next) (p g d)).records.lent i)))) c.lend-packet.ensures.id
+    = ap (λ (x : Parts). completes None (brings_whole (packet_at_place_in (unnamed (state_of x)).lent (place_of_packet_id x.records.lent c.lend-packet.result)))) (after-lent g c)
+    ∙ ap (λ (i : PacketId). completes None (brings_whole (packet_at_place_in (unnamed (state_of (done (packet_ended place next) (p g d)))).lent (place_of_packet_id (done (packet_ended place next) (p g d)).records.lent i)))) c.lend-packet.ensures.id
+    ∙ (let lent_to = done (packet_ended place next) (p g d) in ap (λ (r : PlainResult). completes None r) (lent-brings (state_of lent_to) (place_of_packet_id lent_to.records.lent next)))
     ∙ ap (λ (r : PlainResult). completes None r) (lent-answer (p g d) c.self.invariant id slot holds) in
     subst (λ (x : Holding g.row.P.Denot). Acts M 0 (test_of (place_of_id (shown x).ids id)) x new told None) c.self.view_is
     (acts-done M 0 (test_of place) old new told None (test-done d.book d.requests (state_of (p g d)) refl id (complete.Packet slot) holds) answer

@@ -1,6 +1,7 @@
 use Rattle.std.proofs.Common.{◌∙◌, ap, sym, arith, sum_by}
 use Rattle.domain_core.specs.Hearing.{messages_at}
 use Rattle.domain_core.specs.Parts.{peers_seen, plain, state_of}
+use Rattle.domain_core.proofs.Unnaming.{messages-unnamed}
 use Rattle.domain_core.proofs.CountsFrom.{waiting-fits}
 use Rattle.domain_core.proofs.Waits.{messages-in}
 use Rattle.domain_core.proofs.holdings.Holdings.messages_queued.Goals as goal
@@ -23,3 +24,4 @@ pub returns : goal.returns
 returns g c =
     c.queued.ensures.count ∙ sym (messages-in c.self.inside.book c.self.inside.endpoints.endpoints)
     ∙ ap (λ x. sum_by messages_at (state_of x.parts).endpoints) c.self.view_is
+    ∙ sym (messages-unnamed (state_of c.args.self.now.parts).endpoints)

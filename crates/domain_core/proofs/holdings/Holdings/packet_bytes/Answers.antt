@@ -3,8 +3,9 @@ use Rattle.std.specs.Prelude.{IsNone, option_map}
 use Rattle.board_model.specs.State.{LentPacket}
 use Rattle.buffer_book.specs.Book.{Kept, content, lent_as}
 use Rattle.domain_core.specs.declared.holdings.Holdings.TheInside.{Inside}
-use Rattle.domain_core.specs.DomainView.{packet_lent_as}
-use Rattle.domain_core.specs.Parts.{Holding, Parts, parts_in, shown}
+use Rattle.domain_core.specs.DomainView.{packet_lent_as, place_of_packet_id}
+use Rattle.domain_core.specs.Parts.{Holding, Parts, parts_in, shown, state_of}
+use Rattle.domain_core.proofs.Unnaming.{lent-content, none-lent}
 use Rattle.domain_core.proofs.Releasing.{lent-short, lent-told, none-told}
 use Rattle.domain_core.proofs.holdings.Holdings.packet_bytes.Given.{Over}
 use Rattle.domain_core.proofs.holdings.Holdings.packet_bytes.Goals as goal
@@ -29,7 +30,7 @@ told : (g : Over) (c : goal.In-Ok g) → Some c.in-Ok.bytes.now ≡ option_map (
 told g c =
     let d = c.self.inside in
     let k = kept-of (lent_as d.book c.args.id) c.in-Ok.bytes.now c.in-Ok.ensures.content in
-    ap (λ (xs : List ℕ). Some xs) k.2 ∙ sym (lent-told (p g d) c.self.invariant c.args.id k.0 k.1)
+    ap (λ (xs : List ℕ). Some xs) k.2 ∙ sym (lent-content (state_of (p g d)) (place_of_packet_id d.endpoints.lent c.args.id) ∙ lent-told (p g d) c.self.invariant c.args.id k.0 k.1)
     ∙ ap (λ (x : Holding g.row.P.Denot). option_map (λ (y : LentPacket). y.item.content) (packet_lent_as (shown x) c.args.id)) c.self.view_is
 
 pub returns-in-Ok-clause-bytes : goal.returns-in-Ok-clause-bytes
@@ -48,5 +49,5 @@ pub returns-in-Err-clause-refused : goal.returns-in-Err-clause-refused
 returns-in-Err-clause-refused g c =
     let d = c.self.inside in
     let none = no-kept (lent_as d.book c.args.id) (c.in-Err.ensures.refused.0 refl) in
-    let nothing = none-told (p g d) c.self.invariant c.args.id none in
+    let nothing = none-lent (state_of (p g d)) (place_of_packet_id d.endpoints.lent c.args.id) (none-told (p g d) c.self.invariant c.args.id none) in
     (λ e. subst (λ (x : Holding g.row.P.Denot). IsNone (packet_lent_as (shown x) c.args.id)) c.self.view_is (subst IsNone (sym nothing) refl), λ none. refl)

@@ -6,6 +6,7 @@ use Rattle.domain_core.proofs.Stepping.{sound-unseen, state-seen}
 use Rattle.domain_core.specs.InPlaces.{is_of}
 use Rattle.domain_core.specs.InRequests.{handed_slots}
 use Rattle.domain_core.specs.Records.{all_waiting}
+use Rattle.domain_core.proofs.Unnaming.{lent-unnamed, queued-unnamed}
 use Rattle.domain_core.proofs.CountsFrom.{both-are, held-few, kept-from, lent-are, lent-within, lent-is, queued-is}
 use Rattle.domain_core.proofs.PeerPlaces.{contained-found, found-contained, number-place, numbers-in}
 use Rattle.domain_core.proofs.Slots.{slots}
@@ -78,7 +79,7 @@ pub returns-clause-queue : goal.returns-clause-queue
 returns-clause-queue g c =
     let d = c.self.inside in
     let v = g.P.PeerLane.seen in
-    let queued = sym (ap (λ s. queued_from c.args.peer s) (state-seen v d.book d.endpoints d.requests d.table d.peers.items) ∙ ap (λ x. queued_from c.args.peer (state_of x.parts)) c.self.view_is) ∙ queued-is v d.book d.endpoints d.requests d.table d.peers.items c.args.peer in
+    let queued = queued-unnamed c.args.peer (state_of c.args.self.now.parts) ∙ sym (ap (λ s. queued_from c.args.peer s) (state-seen v d.book d.endpoints d.requests d.table d.peers.items) ∙ ap (λ x. queued_from c.args.peer (state_of x.parts)) c.self.view_is) ∙ queued-is v d.book d.endpoints d.requests d.table d.peers.items c.args.peer in
     omega (arith, are-all g c, c.handed_from-handed.ensures, queued)
 
 pub returns-clause-lent : goal.returns-clause-lent
@@ -86,5 +87,5 @@ returns-clause-lent g c =
     let d = c.self.inside in
     let v = g.P.PeerLane.seen in
     let lent = lent-is v d.book d.endpoints d.requests d.table d.peers.items c.args.peer in
-    let told = ap (λ s. lent_from c.args.peer s) (state-seen v d.book d.endpoints d.requests d.table d.peers.items) ∙ ap (λ x. lent_from c.args.peer (state_of x.parts)) c.self.view_is in
+    let told = ap (λ s. lent_from c.args.peer s) (state-seen v d.book d.endpoints d.requests d.table d.peers.items) ∙ ap (λ x. lent_from c.args.peer (state_of x.parts)) c.self.view_is ∙ sym (lent-unnamed c.args.peer (state_of c.args.self.now.parts)) in
     omega (arith, lent, told, c.handed_from-handed.ensures, c.lent_from.ensures)

@@ -1,5 +1,5 @@
 use Rattle.std.proofs.Common.{◌≡◌, ◌∙◌, ◌<◌, ◌++◌, ◌∷◌, [], List, ℕ, ap, arith, length, subst, sym, take}
-use Rattle.std.specs.Prelude.{slice_set}
+use Rattle.std.specs.Prelude.{Some, slice_set}
 use Rattle.std.proofs.lemmas.List.{length-map}
 use Rattle.mc_base.specs.declared.fate.Fate.{Fate}
 use Rattle.mc_base.specs.declared.request.Slot.{Slot}
@@ -40,7 +40,7 @@ enqueue-slot-requires-clause-away g c =
     let bytes = take c.take-buffer.result.1 c.take-buffer.result.0.bytes in
     let frame : c.split_at.result.0.now ≡ bytes = c.split_at.ensures.front ∙ ap (take c.take-buffer.result.1) c.bytes.ensures.value in
     let took = c.take-buffer.ensures in
-    let all = subst (λ (f : List ℕ). IsVerdict (state_of (p g d)) x.number f c.deal-verdict.result (desk d.endpoints d.requests x.known x.replies) (desk c.deal-verdict.new.endpoints c.deal-verdict.new.requests c.deal-verdict.new.known c.deal-verdict.new.replies)) frame (c.deal-verdict.ensures d.book (state_of (p g d)) (shows g.P.PeerLane.Moved g.met.P.PeerLane.none (v g) d.book d.endpoints d.requests d.table d.peers.items c.self.invariant c.args.place x at c.take-buffer.result.0 c.take-buffer.result.1 lines lines')) in
+    let all = subst (λ (f : List ℕ). IsVerdict (state_of (p g d)) (Some c.take-buffer.result.0.number) x.number f c.deal-verdict.result (desk d.endpoints d.requests x.known x.replies) (desk c.deal-verdict.new.endpoints c.deal-verdict.new.requests c.deal-verdict.new.known c.deal-verdict.new.replies)) frame (c.deal-verdict.ensures d.book (state_of (p g d)) (Some c.take-buffer.result.0.number) (shows g.P.PeerLane.Moved g.met.P.PeerLane.none (v g) d.book d.endpoints d.requests d.table d.peers.items c.self.invariant c.args.place x at c.take-buffer.result.0 c.take-buffer.result.1 lines lines')) in
     let is = rw c.in-Queued.is at all in
     away-slot g.P.PeerLane.Moved g.met.P.PeerLane.none (v g) d.book d.endpoints d.requests d.table d.peers.items c.self.invariant c.args.place x at c.take-buffer.result.0 c.take-buffer.result.1 lines lines' c.take-buffer.new.self took.seen took.moved took.apart
 
@@ -54,7 +54,7 @@ enqueue-slot-requires-clause-inside g c =
     let bytes = take c.take-buffer.result.1 c.take-buffer.result.0.bytes in
     let frame : c.split_at.result.0.now ≡ bytes = c.split_at.ensures.front ∙ ap (take c.take-buffer.result.1) c.bytes.ensures.value in
     let took = c.take-buffer.ensures in
-    let all = subst (λ (f : List ℕ). IsVerdict (state_of (p g d)) x.number f c.deal-verdict.result (desk d.endpoints d.requests x.known x.replies) (desk c.deal-verdict.new.endpoints c.deal-verdict.new.requests c.deal-verdict.new.known c.deal-verdict.new.replies)) frame (c.deal-verdict.ensures d.book (state_of (p g d)) (shows g.P.PeerLane.Moved g.met.P.PeerLane.none (v g) d.book d.endpoints d.requests d.table d.peers.items c.self.invariant c.args.place x at c.take-buffer.result.0 c.take-buffer.result.1 lines lines')) in
+    let all = subst (λ (f : List ℕ). IsVerdict (state_of (p g d)) (Some c.take-buffer.result.0.number) x.number f c.deal-verdict.result (desk d.endpoints d.requests x.known x.replies) (desk c.deal-verdict.new.endpoints c.deal-verdict.new.requests c.deal-verdict.new.known c.deal-verdict.new.replies)) frame (c.deal-verdict.ensures d.book (state_of (p g d)) (Some c.take-buffer.result.0.number) (shows g.P.PeerLane.Moved g.met.P.PeerLane.none (v g) d.book d.endpoints d.requests d.table d.peers.items c.self.invariant c.args.place x at c.take-buffer.result.0 c.take-buffer.result.1 lines lines')) in
     let is = rw c.in-Queued.is at all in
     let short = is.1.short in omega (arith, short)
 
@@ -68,7 +68,7 @@ queue_last-requires-clause-within g c =
     let bytes = take c.take-buffer.result.1 c.take-buffer.result.0.bytes in
     let frame : c.split_at.result.0.now ≡ bytes = c.split_at.ensures.front ∙ ap (take c.take-buffer.result.1) c.bytes.ensures.value in
     let took = c.take-buffer.ensures in
-    let all = subst (λ (f : List ℕ). IsVerdict (state_of (p g d)) x.number f c.deal-verdict.result (desk d.endpoints d.requests x.known x.replies) (desk c.deal-verdict.new.endpoints c.deal-verdict.new.requests c.deal-verdict.new.known c.deal-verdict.new.replies)) frame (c.deal-verdict.ensures d.book (state_of (p g d)) (shows g.P.PeerLane.Moved g.met.P.PeerLane.none (v g) d.book d.endpoints d.requests d.table d.peers.items c.self.invariant c.args.place x at c.take-buffer.result.0 c.take-buffer.result.1 lines lines')) in
+    let all = subst (λ (f : List ℕ). IsVerdict (state_of (p g d)) (Some c.take-buffer.result.0.number) x.number f c.deal-verdict.result (desk d.endpoints d.requests x.known x.replies) (desk c.deal-verdict.new.endpoints c.deal-verdict.new.requests c.deal-verdict.new.known c.deal-verdict.new.replies)) frame (c.deal-verdict.ensures d.book (state_of (p g d)) (Some c.take-buffer.result.0.number) (shows g.P.PeerLane.Moved g.met.P.PeerLane.none (v g) d.book d.endpoints d.requests d.table d.peers.items c.self.invariant c.args.place x at c.take-buffer.result.0 c.take-buffer.result.1 lines lines')) in
     let is = rw c.in-Queued.is at all in
     let within = is.0.within in let same = ap (λ (z : Desk). length z.records.endpoints) is.3 in let long = length-map d.endpoints.endpoints (endpoint_in d.book) in omega (arith, within, same, long)
 
@@ -82,7 +82,7 @@ queue_last-requires-clause-room g c =
     let bytes = take c.take-buffer.result.1 c.take-buffer.result.0.bytes in
     let frame : c.split_at.result.0.now ≡ bytes = c.split_at.ensures.front ∙ ap (take c.take-buffer.result.1) c.bytes.ensures.value in
     let took = c.take-buffer.ensures in
-    let all = subst (λ (f : List ℕ). IsVerdict (state_of (p g d)) x.number f c.deal-verdict.result (desk d.endpoints d.requests x.known x.replies) (desk c.deal-verdict.new.endpoints c.deal-verdict.new.requests c.deal-verdict.new.known c.deal-verdict.new.replies)) frame (c.deal-verdict.ensures d.book (state_of (p g d)) (shows g.P.PeerLane.Moved g.met.P.PeerLane.none (v g) d.book d.endpoints d.requests d.table d.peers.items c.self.invariant c.args.place x at c.take-buffer.result.0 c.take-buffer.result.1 lines lines')) in
+    let all = subst (λ (f : List ℕ). IsVerdict (state_of (p g d)) (Some c.take-buffer.result.0.number) x.number f c.deal-verdict.result (desk d.endpoints d.requests x.known x.replies) (desk c.deal-verdict.new.endpoints c.deal-verdict.new.requests c.deal-verdict.new.known c.deal-verdict.new.replies)) frame (c.deal-verdict.ensures d.book (state_of (p g d)) (Some c.take-buffer.result.0.number) (shows g.P.PeerLane.Moved g.met.P.PeerLane.none (v g) d.book d.endpoints d.requests d.table d.peers.items c.self.invariant c.args.place x at c.take-buffer.result.0 c.take-buffer.result.1 lines lines')) in
     let is = rw c.in-Queued.is at all in
     subst (λ (z : Desk). length (all_waiting z.records.endpoints) < z.records.room) (sym is.3)
     (room-left g.P.PeerLane.Moved g.met.P.PeerLane.none (v g) d.book d.endpoints d.requests d.table d.peers.items c.self.invariant c.args.place x at c.take-buffer.result.0 c.take-buffer.result.1 lines lines' c.take-buffer.new.self took.seen took.moved took.apart)
@@ -97,7 +97,7 @@ invariant_of-self g c =
     let bytes = take c.take-buffer.result.1 c.take-buffer.result.0.bytes in
     let frame : c.split_at.result.0.now ≡ bytes = c.split_at.ensures.front ∙ ap (take c.take-buffer.result.1) c.bytes.ensures.value in
     let took = c.take-buffer.ensures in
-    let all = subst (λ (f : List ℕ). IsVerdict (state_of (p g d)) x.number f c.deal-verdict.result (desk d.endpoints d.requests x.known x.replies) (desk c.deal-verdict.new.endpoints c.deal-verdict.new.requests c.deal-verdict.new.known c.deal-verdict.new.replies)) frame (c.deal-verdict.ensures d.book (state_of (p g d)) (shows g.P.PeerLane.Moved g.met.P.PeerLane.none (v g) d.book d.endpoints d.requests d.table d.peers.items c.self.invariant c.args.place x at c.take-buffer.result.0 c.take-buffer.result.1 lines lines')) in
+    let all = subst (λ (f : List ℕ). IsVerdict (state_of (p g d)) (Some c.take-buffer.result.0.number) x.number f c.deal-verdict.result (desk d.endpoints d.requests x.known x.replies) (desk c.deal-verdict.new.endpoints c.deal-verdict.new.requests c.deal-verdict.new.known c.deal-verdict.new.replies)) frame (c.deal-verdict.ensures d.book (state_of (p g d)) (Some c.take-buffer.result.0.number) (shows g.P.PeerLane.Moved g.met.P.PeerLane.none (v g) d.book d.endpoints d.requests d.table d.peers.items c.self.invariant c.args.place x at c.take-buffer.result.0 c.take-buffer.result.1 lines lines')) in
     let is = rw c.in-Queued.is at all in
     let records = c.queue_last.ensures ∙ ap (λ (z : Desk). with_waiting_at z.records c.in-Queued.at (waiting c.enqueue-slot.result c.in-Queued.priority)) is.3 ∙ ap (λ (s : Slot). with_waiting_at d.endpoints c.in-Queued.at (waiting s c.in-Queued.priority)) c.enqueue-slot.ensures.slot in
     let book = c.enqueue-slot.ensures.book ∙ ap (λ (s : Slot). with_queued d.book s (queued_in c.take-buffer.result.0 24 c.in-Queued.size)) c.enqueue-slot.ensures.slot in
@@ -113,7 +113,7 @@ returns-in-Queued-clause-takes g c =
     let bytes = take c.take-buffer.result.1 c.take-buffer.result.0.bytes in
     let frame : c.split_at.result.0.now ≡ bytes = c.split_at.ensures.front ∙ ap (take c.take-buffer.result.1) c.bytes.ensures.value in
     let took = c.take-buffer.ensures in
-    let all = subst (λ (f : List ℕ). IsVerdict (state_of (p g d)) x.number f c.deal-verdict.result (desk d.endpoints d.requests x.known x.replies) (desk c.deal-verdict.new.endpoints c.deal-verdict.new.requests c.deal-verdict.new.known c.deal-verdict.new.replies)) frame (c.deal-verdict.ensures d.book (state_of (p g d)) (shows g.P.PeerLane.Moved g.met.P.PeerLane.none (v g) d.book d.endpoints d.requests d.table d.peers.items c.self.invariant c.args.place x at c.take-buffer.result.0 c.take-buffer.result.1 lines lines')) in
+    let all = subst (λ (f : List ℕ). IsVerdict (state_of (p g d)) (Some c.take-buffer.result.0.number) x.number f c.deal-verdict.result (desk d.endpoints d.requests x.known x.replies) (desk c.deal-verdict.new.endpoints c.deal-verdict.new.requests c.deal-verdict.new.known c.deal-verdict.new.replies)) frame (c.deal-verdict.ensures d.book (state_of (p g d)) (Some c.take-buffer.result.0.number) (shows g.P.PeerLane.Moved g.met.P.PeerLane.none (v g) d.book d.endpoints d.requests d.table d.peers.items c.self.invariant c.args.place x at c.take-buffer.result.0 c.take-buffer.result.1 lines lines')) in
     let is = rw c.in-Queued.is at all in
     let told = c.note.ensures.lines ∙ ap (λ (f : List ℕ). lines ++ take_line x.number f c.fate-fate.result ∷ []) frame ∙ ap (λ (w : Fate). lines ++ take_line x.number bytes w ∷ []) (c.fate-fate.ensures ∙ ap fate_of c.in-Queued.is) in
     let records = c.queue_last.ensures ∙ ap (λ (z : Desk). with_waiting_at z.records c.in-Queued.at (waiting c.enqueue-slot.result c.in-Queued.priority)) is.3 ∙ ap (λ (s : Slot). with_waiting_at d.endpoints c.in-Queued.at (waiting s c.in-Queued.priority)) c.enqueue-slot.ensures.slot in
@@ -133,7 +133,7 @@ enqueue-slot-requires-in-Handed-clause-away g c =
     let bytes = take c.take-buffer.result.1 c.take-buffer.result.0.bytes in
     let frame : c.split_at.result.0.now ≡ bytes = c.split_at.ensures.front ∙ ap (take c.take-buffer.result.1) c.bytes.ensures.value in
     let took = c.take-buffer.ensures in
-    let all = subst (λ (f : List ℕ). IsVerdict (state_of (p g d)) x.number f c.deal-verdict.result (desk d.endpoints d.requests x.known x.replies) (desk c.deal-verdict.new.endpoints c.deal-verdict.new.requests c.deal-verdict.new.known c.deal-verdict.new.replies)) frame (c.deal-verdict.ensures d.book (state_of (p g d)) (shows g.P.PeerLane.Moved g.met.P.PeerLane.none (v g) d.book d.endpoints d.requests d.table d.peers.items c.self.invariant c.args.place x at c.take-buffer.result.0 c.take-buffer.result.1 lines lines')) in
+    let all = subst (λ (f : List ℕ). IsVerdict (state_of (p g d)) (Some c.take-buffer.result.0.number) x.number f c.deal-verdict.result (desk d.endpoints d.requests x.known x.replies) (desk c.deal-verdict.new.endpoints c.deal-verdict.new.requests c.deal-verdict.new.known c.deal-verdict.new.replies)) frame (c.deal-verdict.ensures d.book (state_of (p g d)) (Some c.take-buffer.result.0.number) (shows g.P.PeerLane.Moved g.met.P.PeerLane.none (v g) d.book d.endpoints d.requests d.table d.peers.items c.self.invariant c.args.place x at c.take-buffer.result.0 c.take-buffer.result.1 lines lines')) in
     let is = rw c.in-Handed.is at all in
     away-slot g.P.PeerLane.Moved g.met.P.PeerLane.none (v g) d.book d.endpoints d.requests d.table d.peers.items c.self.invariant c.args.place x at c.take-buffer.result.0 c.take-buffer.result.1 lines lines' c.take-buffer.new.self took.seen took.moved took.apart
 
@@ -147,7 +147,7 @@ enqueue-slot-requires-in-Handed-clause-inside g c =
     let bytes = take c.take-buffer.result.1 c.take-buffer.result.0.bytes in
     let frame : c.split_at.result.0.now ≡ bytes = c.split_at.ensures.front ∙ ap (take c.take-buffer.result.1) c.bytes.ensures.value in
     let took = c.take-buffer.ensures in
-    let all = subst (λ (f : List ℕ). IsVerdict (state_of (p g d)) x.number f c.deal-verdict.result (desk d.endpoints d.requests x.known x.replies) (desk c.deal-verdict.new.endpoints c.deal-verdict.new.requests c.deal-verdict.new.known c.deal-verdict.new.replies)) frame (c.deal-verdict.ensures d.book (state_of (p g d)) (shows g.P.PeerLane.Moved g.met.P.PeerLane.none (v g) d.book d.endpoints d.requests d.table d.peers.items c.self.invariant c.args.place x at c.take-buffer.result.0 c.take-buffer.result.1 lines lines')) in
+    let all = subst (λ (f : List ℕ). IsVerdict (state_of (p g d)) (Some c.take-buffer.result.0.number) x.number f c.deal-verdict.result (desk d.endpoints d.requests x.known x.replies) (desk c.deal-verdict.new.endpoints c.deal-verdict.new.requests c.deal-verdict.new.known c.deal-verdict.new.replies)) frame (c.deal-verdict.ensures d.book (state_of (p g d)) (Some c.take-buffer.result.0.number) (shows g.P.PeerLane.Moved g.met.P.PeerLane.none (v g) d.book d.endpoints d.requests d.table d.peers.items c.self.invariant c.args.place x at c.take-buffer.result.0 c.take-buffer.result.1 lines lines')) in
     let is = rw c.in-Handed.is at all in
     let short = is.1.short in omega (arith, short)
 
@@ -161,7 +161,7 @@ complete-requires g c =
     let bytes = take c.take-buffer.result.1 c.take-buffer.result.0.bytes in
     let frame : c.split_at.result.0.now ≡ bytes = c.split_at.ensures.front ∙ ap (take c.take-buffer.result.1) c.bytes.ensures.value in
     let took = c.take-buffer.ensures in
-    let all = subst (λ (f : List ℕ). IsVerdict (state_of (p g d)) x.number f c.deal-verdict.result (desk d.endpoints d.requests x.known x.replies) (desk c.deal-verdict.new.endpoints c.deal-verdict.new.requests c.deal-verdict.new.known c.deal-verdict.new.replies)) frame (c.deal-verdict.ensures d.book (state_of (p g d)) (shows g.P.PeerLane.Moved g.met.P.PeerLane.none (v g) d.book d.endpoints d.requests d.table d.peers.items c.self.invariant c.args.place x at c.take-buffer.result.0 c.take-buffer.result.1 lines lines')) in
+    let all = subst (λ (f : List ℕ). IsVerdict (state_of (p g d)) (Some c.take-buffer.result.0.number) x.number f c.deal-verdict.result (desk d.endpoints d.requests x.known x.replies) (desk c.deal-verdict.new.endpoints c.deal-verdict.new.requests c.deal-verdict.new.known c.deal-verdict.new.replies)) frame (c.deal-verdict.ensures d.book (state_of (p g d)) (Some c.take-buffer.result.0.number) (shows g.P.PeerLane.Moved g.met.P.PeerLane.none (v g) d.book d.endpoints d.requests d.table d.peers.items c.self.invariant c.args.place x at c.take-buffer.result.0 c.take-buffer.result.1 lines lines')) in
     let is = rw c.in-Handed.is at all in
     subst (λ (z : Desk). IsPending z.requests c.in-Handed.id) (sym is.2) is.0.pending
 
@@ -175,7 +175,7 @@ invariant_of-self-in-Handed g c =
     let bytes = take c.take-buffer.result.1 c.take-buffer.result.0.bytes in
     let frame : c.split_at.result.0.now ≡ bytes = c.split_at.ensures.front ∙ ap (take c.take-buffer.result.1) c.bytes.ensures.value in
     let took = c.take-buffer.ensures in
-    let all = subst (λ (f : List ℕ). IsVerdict (state_of (p g d)) x.number f c.deal-verdict.result (desk d.endpoints d.requests x.known x.replies) (desk c.deal-verdict.new.endpoints c.deal-verdict.new.requests c.deal-verdict.new.known c.deal-verdict.new.replies)) frame (c.deal-verdict.ensures d.book (state_of (p g d)) (shows g.P.PeerLane.Moved g.met.P.PeerLane.none (v g) d.book d.endpoints d.requests d.table d.peers.items c.self.invariant c.args.place x at c.take-buffer.result.0 c.take-buffer.result.1 lines lines')) in
+    let all = subst (λ (f : List ℕ). IsVerdict (state_of (p g d)) (Some c.take-buffer.result.0.number) x.number f c.deal-verdict.result (desk d.endpoints d.requests x.known x.replies) (desk c.deal-verdict.new.endpoints c.deal-verdict.new.requests c.deal-verdict.new.known c.deal-verdict.new.replies)) frame (c.deal-verdict.ensures d.book (state_of (p g d)) (Some c.take-buffer.result.0.number) (shows g.P.PeerLane.Moved g.met.P.PeerLane.none (v g) d.book d.endpoints d.requests d.table d.peers.items c.self.invariant c.args.place x at c.take-buffer.result.0 c.take-buffer.result.1 lines lines')) in
     let is = rw c.in-Handed.is at all in
     let requests = c.complete.ensures ∙ ap (λ (h : Complete). with_complete c.deal-verdict.new.requests c.in-Handed.id h) c.handed.ensures ∙ ap (λ (s : Slot). with_complete c.deal-verdict.new.requests c.in-Handed.id (handed_by c.in-Handed.ask s)) c.enqueue-slot-in-Handed.ensures.slot ∙ ap (λ (z : Desk). with_complete z.requests c.in-Handed.id (handed_by c.in-Handed.ask (slot_at x.number c.take-buffer.result.0.number))) is.2 in
     let book = c.enqueue-slot-in-Handed.ensures.book ∙ ap (λ (s : Slot). with_queued d.book s (queued_in c.take-buffer.result.0 24 c.in-Handed.size)) c.enqueue-slot-in-Handed.ensures.slot in
@@ -191,7 +191,7 @@ returns-in-Handed-clause-takes g c =
     let bytes = take c.take-buffer.result.1 c.take-buffer.result.0.bytes in
     let frame : c.split_at.result.0.now ≡ bytes = c.split_at.ensures.front ∙ ap (take c.take-buffer.result.1) c.bytes.ensures.value in
     let took = c.take-buffer.ensures in
-    let all = subst (λ (f : List ℕ). IsVerdict (state_of (p g d)) x.number f c.deal-verdict.result (desk d.endpoints d.requests x.known x.replies) (desk c.deal-verdict.new.endpoints c.deal-verdict.new.requests c.deal-verdict.new.known c.deal-verdict.new.replies)) frame (c.deal-verdict.ensures d.book (state_of (p g d)) (shows g.P.PeerLane.Moved g.met.P.PeerLane.none (v g) d.book d.endpoints d.requests d.table d.peers.items c.self.invariant c.args.place x at c.take-buffer.result.0 c.take-buffer.result.1 lines lines')) in
+    let all = subst (λ (f : List ℕ). IsVerdict (state_of (p g d)) (Some c.take-buffer.result.0.number) x.number f c.deal-verdict.result (desk d.endpoints d.requests x.known x.replies) (desk c.deal-verdict.new.endpoints c.deal-verdict.new.requests c.deal-verdict.new.known c.deal-verdict.new.replies)) frame (c.deal-verdict.ensures d.book (state_of (p g d)) (Some c.take-buffer.result.0.number) (shows g.P.PeerLane.Moved g.met.P.PeerLane.none (v g) d.book d.endpoints d.requests d.table d.peers.items c.self.invariant c.args.place x at c.take-buffer.result.0 c.take-buffer.result.1 lines lines')) in
     let is = rw c.in-Handed.is at all in
     let told = c.note.ensures.lines ∙ ap (λ (f : List ℕ). lines ++ take_line x.number f c.fate-fate.result ∷ []) frame ∙ ap (λ (w : Fate). lines ++ take_line x.number bytes w ∷ []) (c.fate-fate.ensures ∙ ap fate_of c.in-Handed.is) in
     let requests = c.complete.ensures ∙ ap (λ (h : Complete). with_complete c.deal-verdict.new.requests c.in-Handed.id h) c.handed.ensures ∙ ap (λ (s : Slot). with_complete c.deal-verdict.new.requests c.in-Handed.id (handed_by c.in-Handed.ask s)) c.enqueue-slot-in-Handed.ensures.slot ∙ ap (λ (z : Desk). with_complete z.requests c.in-Handed.id (handed_by c.in-Handed.ask (slot_at x.number c.take-buffer.result.0.number))) is.2 in
@@ -211,7 +211,7 @@ give_back-requires g c =
     let bytes = take c.take-buffer.result.1 c.take-buffer.result.0.bytes in
     let frame : c.split_at.result.0.now ≡ bytes = c.split_at.ensures.front ∙ ap (take c.take-buffer.result.1) c.bytes.ensures.value in
     let took = c.take-buffer.ensures in
-    let all = subst (λ (f : List ℕ). IsVerdict (state_of (p g d)) x.number f c.deal-verdict.result (desk d.endpoints d.requests x.known x.replies) (desk c.deal-verdict.new.endpoints c.deal-verdict.new.requests c.deal-verdict.new.known c.deal-verdict.new.replies)) frame (c.deal-verdict.ensures d.book (state_of (p g d)) (shows g.P.PeerLane.Moved g.met.P.PeerLane.none (v g) d.book d.endpoints d.requests d.table d.peers.items c.self.invariant c.args.place x at c.take-buffer.result.0 c.take-buffer.result.1 lines lines')) in
+    let all = subst (λ (f : List ℕ). IsVerdict (state_of (p g d)) (Some c.take-buffer.result.0.number) x.number f c.deal-verdict.result (desk d.endpoints d.requests x.known x.replies) (desk c.deal-verdict.new.endpoints c.deal-verdict.new.requests c.deal-verdict.new.known c.deal-verdict.new.replies)) frame (c.deal-verdict.ensures d.book (state_of (p g d)) (Some c.take-buffer.result.0.number) (shows g.P.PeerLane.Moved g.met.P.PeerLane.none (v g) d.book d.endpoints d.requests d.table d.peers.items c.self.invariant c.args.place x at c.take-buffer.result.0 c.take-buffer.result.1 lines lines')) in
     let is = rw c.in-Returned.is at all in
     given-out g.P.PeerLane.Moved g.met.P.PeerLane.none (v g) d.book d.endpoints d.requests d.table d.peers.items c.self.invariant c.args.place x at c.take-buffer.result.0 c.take-buffer.result.1 lines lines' c.take-buffer.new.self took.seen took.moved took.apart
 
@@ -225,7 +225,7 @@ invariant_of-self-in-Returned g c =
     let bytes = take c.take-buffer.result.1 c.take-buffer.result.0.bytes in
     let frame : c.split_at.result.0.now ≡ bytes = c.split_at.ensures.front ∙ ap (take c.take-buffer.result.1) c.bytes.ensures.value in
     let took = c.take-buffer.ensures in
-    let all = subst (λ (f : List ℕ). IsVerdict (state_of (p g d)) x.number f c.deal-verdict.result (desk d.endpoints d.requests x.known x.replies) (desk c.deal-verdict.new.endpoints c.deal-verdict.new.requests c.deal-verdict.new.known c.deal-verdict.new.replies)) frame (c.deal-verdict.ensures d.book (state_of (p g d)) (shows g.P.PeerLane.Moved g.met.P.PeerLane.none (v g) d.book d.endpoints d.requests d.table d.peers.items c.self.invariant c.args.place x at c.take-buffer.result.0 c.take-buffer.result.1 lines lines')) in
+    let all = subst (λ (f : List ℕ). IsVerdict (state_of (p g d)) (Some c.take-buffer.result.0.number) x.number f c.deal-verdict.result (desk d.endpoints d.requests x.known x.replies) (desk c.deal-verdict.new.endpoints c.deal-verdict.new.requests c.deal-verdict.new.known c.deal-verdict.new.replies)) frame (c.deal-verdict.ensures d.book (state_of (p g d)) (Some c.take-buffer.result.0.number) (shows g.P.PeerLane.Moved g.met.P.PeerLane.none (v g) d.book d.endpoints d.requests d.table d.peers.items c.self.invariant c.args.place x at c.take-buffer.result.0 c.take-buffer.result.1 lines lines')) in
     let is = rw c.in-Returned.is at all in
     back-keeps g.P.PeerLane.Moved g.met.P.PeerLane.none (v g) d.book d.endpoints d.requests d.table d.peers.items c.self.invariant c.args.place x at c.take-buffer.result.0 c.take-buffer.result.1 lines lines' c.take-buffer.new.self took.seen took.moved took.apart g.met.P.PeerLane.both c.give_back.new.self c.give_back.ensures.seen c.give_back.ensures.moved c.in-Returned.field-0 (desk c.deal-verdict.new.endpoints c.deal-verdict.new.requests c.deal-verdict.new.known c.deal-verdict.new.replies) is
 
@@ -239,7 +239,7 @@ returns-in-Returned-clause-takes g c =
     let bytes = take c.take-buffer.result.1 c.take-buffer.result.0.bytes in
     let frame : c.split_at.result.0.now ≡ bytes = c.split_at.ensures.front ∙ ap (take c.take-buffer.result.1) c.bytes.ensures.value in
     let took = c.take-buffer.ensures in
-    let all = subst (λ (f : List ℕ). IsVerdict (state_of (p g d)) x.number f c.deal-verdict.result (desk d.endpoints d.requests x.known x.replies) (desk c.deal-verdict.new.endpoints c.deal-verdict.new.requests c.deal-verdict.new.known c.deal-verdict.new.replies)) frame (c.deal-verdict.ensures d.book (state_of (p g d)) (shows g.P.PeerLane.Moved g.met.P.PeerLane.none (v g) d.book d.endpoints d.requests d.table d.peers.items c.self.invariant c.args.place x at c.take-buffer.result.0 c.take-buffer.result.1 lines lines')) in
+    let all = subst (λ (f : List ℕ). IsVerdict (state_of (p g d)) (Some c.take-buffer.result.0.number) x.number f c.deal-verdict.result (desk d.endpoints d.requests x.known x.replies) (desk c.deal-verdict.new.endpoints c.deal-verdict.new.requests c.deal-verdict.new.known c.deal-verdict.new.replies)) frame (c.deal-verdict.ensures d.book (state_of (p g d)) (Some c.take-buffer.result.0.number) (shows g.P.PeerLane.Moved g.met.P.PeerLane.none (v g) d.book d.endpoints d.requests d.table d.peers.items c.self.invariant c.args.place x at c.take-buffer.result.0 c.take-buffer.result.1 lines lines')) in
     let is = rw c.in-Returned.is at all in
     let told = c.note.ensures.lines ∙ ap (λ (f : List ℕ). lines ++ take_line x.number f c.fate-fate.result ∷ []) frame ∙ ap (λ (w : Fate). lines ++ take_line x.number bytes w ∷ []) (c.fate-fate.ensures ∙ ap fate_of c.in-Returned.is) in
     subst (λ (h : Holding g.row.P.Denot). Takes g.P.PeerLane.Moved c.args.place 1 h (holding_in (v g) d.book c.deal-verdict.new.endpoints c.deal-verdict.new.requests d.table (slice_set d.peers.items c.args.place (record x { ends = c.give_back.new.self; known = c.deal-verdict.new.known; replies = c.deal-verdict.new.replies }))) lines lines') c.self.view_is

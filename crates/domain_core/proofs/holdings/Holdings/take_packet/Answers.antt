@@ -9,7 +9,7 @@ use Rattle.message_queue.specs.Queue.{Waiting}
 use Rattle.packet_channel.specs.End.{end_of}
 use Rattle.domain_core.specs.Calls.{gives_whole, lent}
 use Rattle.domain_core.specs.CallSteps.{Acts}
-use Rattle.domain_core.specs.DomainView.{packet_lent_as}
+use Rattle.domain_core.specs.DomainView.{packet_lent_as, place_of_packet_id}
 use Rattle.domain_core.specs.Parts.{Parts, shown, state_of}
 use Rattle.domain_core.specs.Records.{slots_at, waiting_in}
 use Rattle.domain_core.specs.Steps.{Did, Step, next_lent, oldest_lent, done}
@@ -17,6 +17,7 @@ use Rattle.domain_core.proofs.LendingMeaning.{lend-answer, lend-means, lend-step
 use Rattle.domain_core.proofs.PacketWords.{lend-done, lend-refused}
 use Rattle.domain_core.proofs.Steps.{first-there, queue-long}
 use Rattle.domain_core.proofs.Stepping.{acts-done, acts-refused}
+use Rattle.domain_core.proofs.Unnaming.{lent-gives}
 use Rattle.domain_core.proofs.holdings.Holdings.take_packet.Given.{Over}
 use Rattle.domain_core.proofs.holdings.Holdings.take_packet.Goals as goal
 
@@ -66,6 +67,7 @@ returns-clause-acts g c =
     let answer =
     told
     ∙ ap (λ (j : PacketId). gives_whole (packet_lent_as (shown (record new { parts = done (oldest_lent i j) old.parts })) j)) did.2
+    ∙ (let last = next_lent old.parts.book slot in let lent_to = done (oldest_lent i last) old.parts in lent-gives (state_of lent_to) (place_of_packet_id lent_to.records.lent last))
     ∙ lend-answer old.parts sound i slot (first g c) at there in
     acts-done M at.node (lend_at at.port) old new (gives_whole (packet_lent_as (shown new) c.lend_oldest.result)) None unrefused answer
     (record {

@@ -6,6 +6,7 @@ use Rattle.domain_core.specs.Ends.{ends_seen}
 use Rattle.domain_core.specs.AllMoved.{ends_of}
 use Rattle.domain_core.specs.Opened.{sizes_opened}
 use Rattle.domain_core.specs.Records.{opening_records, Records}
+use Rattle.domain_core.specs.Unnamed.{unnamed}
 use Rattle.domain_core.proofs.Stepping.{sound-seen, state-seen}
 use Rattle.domain_core.proofs.Opening.{ends-opening, kept-none, parts-sound, parts-state, room-fits, sizes-apart}
 use Rattle.domain_core.proofs.holdings.opening.Holdings+Ends+S+R.open.Goals as goal
@@ -35,8 +36,8 @@ invariant_of-result g c =
     (c.in_ok-new.ensures ∙ ap (opening_table c.args.number c.args.nodes) (c.deref-4.ensures.value ∙ linked))
     c.in_ok-peers_of.ensures)
 
-pub returns-clause-state : goal.returns-clause-state
-returns-clause-state g c =
+pub returns-clause-numbered : goal.returns-clause-numbered
+returns-clause-numbered g c =
     let sizes = c.in_ok-sizes.ensures ∙ ap (sizes_opened c.args.number c.args.pool) c.deref-2.ensures.value in
     let linked = c.in_ok-linked.ensures ∙ ap (map (λ l. l.peer)) c.deref.ensures.value in
     let room = c.buffers_in.ensures ∙ ap (sum_by (λ (x : ℕ × ℕ). x.1)) (c.deref-3.ensures.value ∙ sizes) in
@@ -48,6 +49,10 @@ returns-clause-state g c =
     c.in_ok-new-3.ensures
     (c.in_ok-new.ensures ∙ ap (opening_table c.args.number c.args.nodes) (c.deref-4.ensures.value ∙ linked))
     c.in_ok-peers_of.ensures
+
+-- nothing is there that has a name
+pub returns-clause-state : goal.returns-clause-state
+returns-clause-state g c = ap unnamed (returns-clause-numbered g c)
 
 pub returns-clause-ends : goal.returns-clause-ends
 returns-clause-ends g c =
