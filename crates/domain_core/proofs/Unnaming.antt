@@ -14,7 +14,7 @@ use Rattle.mc_base.specs.declared.channel.Reason.TheVariants as reason
 use Rattle.mc_base.specs.declared.fate.Fate.{Fate}
 use Rattle.mc_base.specs.declared.fate.Fate.TheVariants as fate
 use Rattle.mc_base.specs.declared.request.Slot.{Slot}
-use Rattle.board_model.specs.Answer.{first_complete, is_complete, is_complete_at, refusal, stands_at, unless_refused}
+use Rattle.board_model.specs.Answer.{first_complete, is_complete, is_complete_at, stands_at, unless_refused}
 use Rattle.board_model.specs.CallChanges.{call_changes, effect}
 use Rattle.board_model.specs.Change.{changed_all, item_handed, item_queued}
 use Rattle.board_model.specs.ChannelEnds.{EndRow, end_rows}
