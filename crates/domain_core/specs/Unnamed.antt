@@ -1,5 +1,5 @@
--- A state but for the names of frames: each item it has stays, and tells no frame.
--- Source: docs/PROFILE.md, "Messages". What a domain does hangs on no name, so that its state may be told with them or without.
+-- A state without the names of frames: each item stays, and names no frame.
+-- Source: docs/PROFILE.md, "Messages". What a domain does hangs on no name, so its state can be told with them or without.
 use Rattle.std.specs.Prelude.{[], map, option_map}
 use Rattle.board_model.specs.State.{DomainState, Endpoint, Item, LentPacket, Outcome, Request, has_item}
 
