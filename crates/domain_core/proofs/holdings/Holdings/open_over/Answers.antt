@@ -1,0 +1,63 @@
+use Rattle.std.proofs.Common.{◌<◌, ◌∙◌, ℕ, List, map, ap, sym, subst}
+use Rattle.std.specs.Prelude.{sum_by}
+use Rattle.buffer_book.specs.Book.{AllDiffer, Book, kept_at, opening_book}
+use Rattle.endpoint_table.specs.Table.{opening_table}
+use Rattle.domain_core.specs.AllMoved.{ends_of}
+use Rattle.domain_core.specs.OpenLanes.{lane_number, lane_size}
+use Rattle.domain_core.specs.Records.{opening_records, Records}
+use Rattle.domain_core.specs.Tied.{linked_among}
+use Rattle.domain_core.proofs.Stepping.{sound-seen, state-seen}
+use Rattle.domain_core.proofs.Opening.{kept-none}
+use Rattle.domain_core.proofs.OpeningOver.{ends-opening, parts-sound, parts-state, room-fits, sizes-apart}
+use Rattle.domain_core.proofs.holdings.Holdings.open_over.Goals as goal
+
+pub buffers_in-requires : goal.buffers_in-requires
+buffers_in-requires g c =
+    let v = g.P.PeerLane.seen in
+    let sizes = c.deref-3.ensures.value ∙ c.in_ok-sizes.ensures ∙ ap (map (lane_size v)) c.deref-2.ensures.value in
+    subst (λ (xs : List (ℕ × ℕ)). sum_by (λ (x : ℕ × ℕ). x.1) xs < 4294967296) (sym sizes) (room-fits v c.args.number c.args.nodes c.args.lanes.items c.requires)
+
+pub new-requires-2 : goal.new-requires-2
+new-requires-2 g c =
+    let v = g.P.PeerLane.seen in
+    let sizes = c.deref-5.ensures.value ∙ c.in_ok-sizes.ensures ∙ ap (map (lane_size v)) c.deref-2.ensures.value in
+    subst (λ (xs : List (ℕ × ℕ)). AllDiffer (map (λ (x : ℕ × ℕ). x.0) xs)) (sym sizes) (sizes-apart v c.args.number c.args.nodes c.args.lanes.items c.requires)
+
+pub invariant_of-result : goal.invariant_of-result
+invariant_of-result g c =
+    let v = g.P.PeerLane.seen in
+    let sizes = c.in_ok-sizes.ensures ∙ ap (map (lane_size v)) c.deref-2.ensures.value in
+    let linked = c.in_ok-linked.ensures ∙ ap (λ ls. linked_among c.args.number (map lane_number ls)) c.deref.ensures.value in
+    let room = c.buffers_in.ensures ∙ ap (sum_by (λ (x : ℕ × ℕ). x.1)) (c.deref-3.ensures.value ∙ sizes) in
+    sound-seen v c.in_ok-new-2.field-0 c.in_ok-open.field-0 c.in_ok-new-3.field-0 c.in_ok-new.field-0 c.in_ok-peers_of.field-0.items
+    (parts-sound v c.args.number c.args.nodes c.args.lanes.items c.requires
+    c.in_ok-new-2.field-0 c.in_ok-open.field-0 c.in_ok-new-3.field-0 c.in_ok-new.field-0 c.in_ok-peers_of.field-0.items
+    (c.in_ok-new-2.ensures ∙ ap opening_book (c.deref-5.ensures.value ∙ sizes))
+    (c.in_ok-open.ensures ∙ ap (opening_records c.args.number) room)
+    c.in_ok-new-3.ensures
+    (c.in_ok-new.ensures ∙ ap (opening_table c.args.number c.args.nodes) (c.deref-4.ensures.value ∙ linked))
+    c.in_ok-peers_of.ensures)
+
+pub returns-clause-state : goal.returns-clause-state
+returns-clause-state g c =
+    let v = g.P.PeerLane.seen in
+    let sizes = c.in_ok-sizes.ensures ∙ ap (map (lane_size v)) c.deref-2.ensures.value in
+    let linked = c.in_ok-linked.ensures ∙ ap (λ ls. linked_among c.args.number (map lane_number ls)) c.deref.ensures.value in
+    let room = c.buffers_in.ensures ∙ ap (sum_by (λ (x : ℕ × ℕ). x.1)) (c.deref-3.ensures.value ∙ sizes) in
+    sym (state-seen v c.in_ok-new-2.field-0 c.in_ok-open.field-0 c.in_ok-new-3.field-0 c.in_ok-new.field-0 c.in_ok-peers_of.field-0.items)
+    ∙ parts-state v c.args.number c.args.nodes c.args.lanes.items c.requires
+    c.in_ok-new-2.field-0 c.in_ok-open.field-0 c.in_ok-new-3.field-0 c.in_ok-new.field-0 c.in_ok-peers_of.field-0.items
+    (c.in_ok-new-2.ensures ∙ ap opening_book (c.deref-5.ensures.value ∙ sizes))
+    (c.in_ok-open.ensures ∙ ap (opening_records c.args.number) room)
+    c.in_ok-new-3.ensures
+    (c.in_ok-new.ensures ∙ ap (opening_table c.args.number c.args.nodes) (c.deref-4.ensures.value ∙ linked))
+    c.in_ok-peers_of.ensures
+
+pub returns-clause-ends : goal.returns-clause-ends
+returns-clause-ends g c = ap ends_of c.in_ok-peers_of.ensures ∙ ends-opening g.P.PeerLane.seen c.args.number c.args.nodes c.args.lanes.items c.requires
+
+pub returns-clause-book : goal.returns-clause-book
+returns-clause-book g c = λ s. ap (λ (b : Book). kept_at b s) c.in_ok-new-2.ensures ∙ kept-none _ s
+
+pub returns-clause-packets : goal.returns-clause-packets
+returns-clause-packets g c = ap (λ (r : Records). r.lent) c.in_ok-open.ensures
