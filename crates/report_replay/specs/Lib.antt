@@ -1,0 +1,3 @@
+pub mod Tale
+pub mod TaleLaws
+pub mod KeptTale
