@@ -70,7 +70,7 @@ fn is_found(alloc: Global, second: &[u8], back: u64, wrong: Option<u32>) -> bool
 
 #[test]
 fn lines_that_do_not_fit_the_other_end_are_found(rt: HostRuntime) -> Result<(), Fail> {
-    let alloc = rt.global();
+    let alloc = rt.alloc();
     for (second, back, wrong) in SECONDS {
         assert!(rt; is_found(alloc, second, *back, *wrong));
     }
