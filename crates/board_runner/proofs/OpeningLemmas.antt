@@ -43,6 +43,7 @@ use Rattle.board_runner.specs.Runs.{AllCarried}
 use Rattle.board_runner.specs.Stations.{IsKnown, IsKnownPacket, domain_of, near_in, near, LaneHolds, LaneJoins, IsStation, AreStations, IsRun}
 use Rattle.board_runner.proofs.LinkLemmas.{none-below, links-differ, neighbours-opened}
 use Rattle.board_runner.proofs.WiredLemmas.{find-wired}
+use Rattle.board_runner.proofs.RunFinds.{some_same}
 
 each : {A : Type 0} (P : A → Type 0) → ((x : A) → P x) → (xs : List A) → AllByRecursion P xs
 each P holds [] = tt
@@ -293,7 +294,7 @@ module _ (ws : List Wire) where
       go (d, at) =
           let is_a : d.domain ≡ a = eqb-true d.domain a (found-passes (λ e. e.domain == a) (rising s) d at) in
           let stands = stands_at s a d (rising s) sts all at in
-          let same : one ≡ stands.station.domain = cc (found, stands.is) in
+          let same : one ≡ stands.station.domain = some_same (domain_of (domains_of sts) a) one stands.station.domain found stands.is in
           ap (λ (x : RunDomain). link_to b x.ends) same ∙ ap (link_to b) stands.opens.ends ∙ ap (find (λ (k : AnyLink). k.peer == b)) (opened-links d.domain (new_loop d.pool) (links_wired ws d.domain 8))
           ∙ ap (λ (n : ℕ). find (λ (k : AnyLink). k.peer == b) (links_wired ws n 8)) is_a ∙ find-wired ws a b 8 few l wire
 
