@@ -14,13 +14,11 @@ pub mod Carries
 pub mod CarriedDomains
 pub mod Going
 pub mod Opening
-pub mod OpeningOver
 pub mod Waits
 pub mod Queuing
 pub mod Tables
 pub mod Receives
 pub mod Handed
-pub mod ToldPeers
 pub mod ToldTurns
 pub mod PaidTables
 pub mod PeersAt

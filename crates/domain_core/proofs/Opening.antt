@@ -86,7 +86,7 @@ module _ (sizes : List (ℕ × ℕ)) where
       ap (λ (o : Option (Option Kept)). is_some o) (place-is (record { peer = number; buffer = n }) ∙ ap (λ (o : Option (ℕ × ℕ)). place_on n (option_map empty_shelf o)) found ∙ replicated size n None)
       ∙ some-place (nat_lt n size)
 
-  pub placed-opening : (domain room number size : ℕ) → find (is_of number) sizes ≡ Some (number, size) → AreInPlaces number (opening_records domain room) no_requests (opening_book sizes) (out_of size [])
+  placed-opening : (domain room number size : ℕ) → find (is_of number) sizes ≡ Some (number, size) → AreInPlaces number (opening_records domain room) no_requests (opening_book sizes) (out_of size [])
   placed-opening domain room number size found =
       let each : EachInPlace number (out_of size []) [] [] (opening_book sizes) [] = record {
         stands_once = λ s. sym (ap (λ (o : Option Kept). one_if (is_some (option_and_then if_queued o))) (kept-none s));
@@ -101,13 +101,13 @@ module _ (sizes : List (ℕ × ℕ)) where
 
 -- ---- nothing is owed
 
-pub owed-none : (peers : List ℕ) (n : ℕ) → owed_by (find (λ (o : Owing). o.peer == n) (map nothing_owed peers)) ≡ []
+owed-none : (peers : List ℕ) (n : ℕ) → owed_by (find (λ (o : Owing). o.peer == n) (map nothing_owed peers)) ≡ []
 owed-none [] n = refl
 owed-none (p ∷ ps) n =
     let rest = owed-none ps n in
     elim (p == n) as (λ b. owed_by (cond b (Some (nothing_owed p)) (find (λ (o : Owing). o.peer == n) (map nothing_owed ps))) ≡ []) [ true ↦ refl | false ↦ rest ]
 
-pub owing-none : (peers : List ℕ) → map (λ (o : Owing). o.peer) (map nothing_owed peers) ≡ peers
+owing-none : (peers : List ℕ) → map (λ (o : Owing). o.peer) (map nothing_owed peers) ≡ peers
 owing-none [] = refl
 owing-none (p ∷ ps) = ap (λ (ns : List ℕ). p ∷ ns) (owing-none ps)
 

@@ -38,12 +38,10 @@ pub mod HoldingParts
 pub mod GivingBack
 pub mod Opening
 pub mod Opened
-pub mod OpenLanes
 pub mod Carrying
 pub mod Carried
 pub mod Meets
 pub mod Going
-pub mod Telling
 pub mod PlacedFrames
 pub mod PlacedVisits
 pub mod PlacedCalls

@@ -16,12 +16,10 @@ mod data_calls;
 mod endpoint_calls;
 mod message_calls;
 mod opening;
-mod opening_over;
 mod owed;
 mod raw_calls;
 mod request_calls;
 mod taking;
-mod telling;
 mod turns;
 mod wait_calls;
 
@@ -40,9 +38,6 @@ use request_set::RequestSet;
 use std::marker::Model;
 
 /// What a domain has inside: its endpoints and requests, the buffers that it holds, and its peers with the ends towards each.
-///
-/// A call of a domain makes a turn, and then has the inside do its part. Here a turn and each part are calls of their own, for those
-/// who run the code of a domain over ends of another kind.
 #[derive(Debug, Drop)]
 pub struct Holdings<P: PeerLane> {
     endpoints: Endpoints,

@@ -1,3 +1,0 @@
-pub mod Tale
-pub mod TaleLaws
-pub mod KeptTale
