@@ -2,8 +2,22 @@
 #![tactic(auto)]
 
 #[cfg(test)]
+mod calls;
+#[cfg(test)]
+mod channels;
+#[cfg(test)]
+mod labels;
+#[cfg(test)]
 mod largest;
+#[cfg(test)]
+mod limits;
+#[cfg(test)]
+mod lines;
 #[cfg(test)]
 mod loads;
 #[cfg(test)]
-mod tests;
+mod reading;
+#[cfg(test)]
+mod refused_calls;
+#[cfg(test)]
+mod texts;
