@@ -20,7 +20,11 @@ fn is_refused_call(alloc: Global, line: &[u8], reason: LineReason) -> Result<boo
     Ok(is_refused(alloc, &text, 2, reason))
 }
 
-pub fn assert_refused_calls(rt: &impl Abort, alloc: Global, rows: &[RefusedCall]) -> Result<(), Fail> {
+pub fn assert_refused_calls(
+    rt: &impl Abort,
+    alloc: Global,
+    rows: &[RefusedCall],
+) -> Result<(), Fail> {
     for (i, (line, reason)) in rows.iter().enumerate() {
         assert!(rt; is_refused_call(alloc, line, *reason)?, "row {i}");
     }
