@@ -1,0 +1,3 @@
+pub mod SenderNumbers
+pub mod RingLists
+pub mod BoardRings
