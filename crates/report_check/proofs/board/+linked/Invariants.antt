@@ -1,5 +1,0 @@
-use Rattle.std.proofs.Common.{length}
-use Rattle.report_check.proofs.board.+linked.Given as goal
-
-abbrev pub decreases-linked : goal.decreases-linked
-decreases-linked l = length l.links.now

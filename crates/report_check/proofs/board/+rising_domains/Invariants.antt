@@ -1,5 +1,0 @@
-use Rattle.std.proofs.Common.{length}
-use Rattle.report_check.proofs.board.+rising_domains.Given as goal
-
-abbrev pub decreases-rising_domains : goal.decreases-rising_domains
-decreases-rising_domains l = length l.lines.now

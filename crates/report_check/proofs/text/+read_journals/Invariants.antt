@@ -1,5 +1,0 @@
-use Rattle.std.proofs.Common.{length}
-use Rattle.report_check.proofs.text.+read_journals.Given as goal
-
-abbrev pub decreases-read_journals : goal.decreases-read_journals
-decreases-read_journals l = length l.lines.now

@@ -1,0 +1,15 @@
+use Rattle.std.proofs.Common.{◌≡◌, ◌+◌, ◌≤◌, length}
+use Rattle.report_text.specs.TextLines.{lines_in}
+use Rattle.report_text.specs.ScenarioPart.{front_lines, text_of}
+use Rattle.report_text.proofs.scenario.front_size.Given as goal
+
+abbrev pub decreases-loop-line : goal.decreases-loop-line
+decreases-loop-line l = length l.rest
+
+abbrev pub invariant-loop-line : goal.invariant-loop-line
+invariant-loop-line l = record {
+  bytes : l.bytes + length (text_of (front_lines (lines_in l.rest))) ≡ length (text_of (front_lines (lines_in l.text)));
+  lines : l.lines + length (front_lines (lines_in l.rest)) ≡ length (front_lines (lines_in l.text));
+  within : l.bytes + length l.rest ≤ length l.text;
+  few : l.lines ≤ l.bytes;
+}

@@ -1,0 +1,31 @@
+//! Whether a report is that of a whole run of its board.
+#![tactic(auto)]
+
+mod board;
+mod entries;
+mod fault;
+mod joins;
+mod journal;
+mod laws;
+mod lines;
+mod link_pass;
+mod outline;
+mod pass;
+mod pieces;
+mod reading;
+mod report_lines;
+mod scenario;
+mod text;
+mod turn_order;
+mod verdict;
+
+pub use entries::next_entry;
+pub use fault::TextFault;
+pub use laws::{
+    due_visits_are_allowed, idle_turns_keep, journal_examples_hold, right_numbers_are_due,
+    right_reports_tell_runs, right_steps_tell_runs, verdict_examples_hold,
+};
+pub use lines::cut;
+pub use link_pass::{JournalLines, wrong_lanes};
+pub use pass::{ReportText, read_text};
+pub use verdict::{CheckReason, Verdict};
