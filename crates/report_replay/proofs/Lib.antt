@@ -1,0 +1,10 @@
+pub mod Letters
+pub mod Taken
+pub mod Changed
+pub mod Counted
+pub mod FullNames
+pub mod Removed
+-- Lemmas over plain lists.
+pub mod OwnAddresses
+pub mod SerialsHeld
+pub mod ShortLetters

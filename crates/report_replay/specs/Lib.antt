@@ -1,0 +1,9 @@
+pub mod Ends
+pub mod Verdicts
+pub mod Replayed
+pub mod Effects
+pub mod HeldLabels
+pub mod PlainCalls
+pub mod Puts
+pub mod Views
+pub mod ShortLetters

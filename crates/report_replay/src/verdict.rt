@@ -1,0 +1,84 @@
+ghost use Rattle.std.specs.Prelude.{◌≡◌};
+ghost use Rattle.report_replay.specs.Verdicts.{word_of};
+
+use crate::channel::ChannelEnd;
+use crate::item::Item;
+use crate::peer::Reply;
+use mc_base::{EndName, Fate, Reason};
+
+/// What is to be done by a frame that is taken from a peer.
+#[derive(Debug, Drop)]
+pub(crate) enum Verdict {
+    /// Nothing. The frame has this word.
+    Nothing(Fate),
+    /// The peer's name has this address from now on, and lookups of it are complete.
+    Learn {
+        name: EndName,
+        address: u32,
+    },
+    /// The peer's name is forgotten.
+    Forget {
+        name: EndName,
+    },
+    /// The peer is owed a reply.
+    Owe {
+        reply: Reply,
+    },
+    /// An endpoint has a channel from now on, and the peer is owed a reply.
+    Accept {
+        at: u32,
+        end: ChannelEnd,
+        reply: Reply,
+    },
+    /// An item is last in the queue of an endpoint.
+    Queue {
+        at: u32,
+        item: Item,
+    },
+    /// The oldest receive that waits at an endpoint is complete with an item.
+    Hand {
+        at: u32,
+        item: Item,
+    },
+    /// An item is lost, since the end of the channel is closed.
+    Lose {
+        at: u32,
+        item: Item,
+    },
+    /// An endpoint has this channel from now on, or none.
+    Set {
+        at: u32,
+        left: Option<ChannelEnd>,
+    },
+    /// The same, and the request to connect on the channel is complete: rejected with a reason, or accepted.
+    Settle {
+        at: u32,
+        left: Option<ChannelEnd>,
+        number: u32,
+        rejected: Option<Reason>,
+    },
+    /// The same, and receives that wait there end, since the sender closed the channel.
+    EndReceives {
+        at: u32,
+        left: Option<ChannelEnd>,
+    },
+}
+
+impl Verdict {
+    /// The word of the frame.
+    pub(crate) fn word(&self) -> Fate
+        ensures { result ≡ word_of self.now }
+    {
+        match self {
+            Verdict::Nothing(word) => *word,
+            Verdict::Learn { .. } | Verdict::Forget { .. } => Fate::Acted,
+            Verdict::Owe { .. } | Verdict::Accept { .. } => Fate::Owed,
+            Verdict::Queue { .. } => Fate::Queued,
+            Verdict::Hand { .. } => Fate::Handed,
+            Verdict::Lose { .. } => Fate::Closed,
+            Verdict::Set { .. } | Verdict::Settle { .. } | Verdict::EndReceives { .. } => {
+                Fate::Acted
+            }
+        }
+    }
+}

@@ -1,0 +1,56 @@
+//! Looks at the lanes of a domain that has just been opened, and frames that it takes.
+
+use mc_base::{Fate, NoMemory};
+use report_replay::State;
+use std::alloc::Global;
+use std::process::Abort;
+use std::test::Fail;
+
+/// An announcement by domain 1 of its endpoint 1:0:7, whose address is 1030.
+static ANNOUNCED: [u8; 56] = [
+    6, 4, 0, 0, 53, 0, 0, 0, 0, 0, 0, 0, 40, 0, 0, 0, 109, 99, 97, 112, 105, 58, 49, 58, 48, 58,
+    55, 0, 0, 0, 0, 0, 0, 0, 0, 0, 0, 0, 0, 0, 0, 0, 0, 0, 0, 0, 0, 0, 6, 4, 0, 0, 0, 0, 0, 0,
+];
+
+/// A message of two bytes from address 1030 to address 1024.
+static MESSAGE: [u8; 26] = [
+    6, 4, 0, 0, 0, 4, 0, 0, 0, 0, 0, 0, 10, 0, 0, 0, 0x4d, 1, 1, 2, 0, 0, 0, 0, 0xab, 0xcd,
+];
+
+/// Domain 0 with one node, whose lanes to itself have two buffers, and to domain 1 four.
+fn opened(alloc: Global) -> Result<State, NoMemory> {
+    State::open(alloc, 0, 1, &[(0, 2), (1, 4)])
+}
+
+#[test]
+fn a_look_is_cut_to_what_the_lane_allows(rt: HostRuntime) -> Result<(), Fail> {
+    let mut state = opened(rt.alloc())?;
+    assert!(rt; state.free_to(1) == 4);
+    assert!(rt; state.look_back(1, 9) == 0);
+    assert!(rt; state.look_ahead(1, 3) == 3);
+    assert!(rt; state.look_ahead(1, 2) == 3);
+    assert!(rt; state.look_ahead(1, 9) == 4);
+    assert!(rt; state.look_ahead(7, 9) == 0);
+    assert!(rt; state.held_from(1) == 0);
+    Ok(())
+}
+
+#[test]
+fn frames_have_the_words_that_the_state_has_for_them(rt: HostRuntime) -> Result<(), Fail> {
+    let alloc = rt.alloc();
+    let mut state = opened(alloc)?;
+    assert!(rt; state.look_ahead(1, 4) == 4);
+    assert!(rt; state.take(alloc, 1, None, &[0])? == Fate::FrameShort);
+    assert!(rt; state.take(alloc, 1, None, &MESSAGE)? == Fate::NoEndpoint);
+    assert!(rt; state.take(alloc, 1, None, &ANNOUNCED)? == Fate::Acted);
+    assert!(rt; state.take(alloc, 0, None, &ANNOUNCED)? == Fate::ForeignName);
+    Ok(())
+}
+
+#[test]
+fn nothing_is_owed_at_first(rt: HostRuntime) -> Result<(), Fail> {
+    let state = opened(rt.alloc())?;
+    let mut frame = [0; 512];
+    assert!(rt; state.owed_frame(1, &mut frame).is_none());
+    Ok(())
+}
