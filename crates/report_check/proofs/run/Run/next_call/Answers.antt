@@ -1,0 +1,11 @@
+use Rattle.std.proofs.Common.{ap, sym, subst, ◌∙◌, option_map}
+use Rattle.report_replay.specs.Puts.{FitsFrame}
+use Rattle.report_check.specs.Runs.{FitsLine, script_of}
+use Rattle.report_check.proofs.FitLines.{all-at, fits-call}
+use Rattle.report_check.proofs.run.Run.next_call.Goals as goal
+
+pub returns-clause-fits : goal.returns-clause-fits
+returns-clause-fits g c fits =
+    let line = c.in_ok-line.line.now in
+    let at = sym c.next_line.ensures ∙ ap (option_map _) c.in_ok-line.was in
+    subst FitsFrame (sym (c.call_of-call.ensures g.ls c.requires)) (fits-call g.ls c.args.self.now.state line.call (all-at (λ l. FitsLine l.call) (script_of c.args.self.now) c.args.self.now.called line fits at))

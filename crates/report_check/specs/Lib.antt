@@ -1,0 +1,4 @@
+pub mod Meeting
+pub mod Doing
+pub mod Runs
+pub mod ToldTurns

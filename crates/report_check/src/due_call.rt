@@ -1,0 +1,236 @@
+//! The lines of the next call that are due, where no turn is.
+
+ghost use Rattle.std.specs.Prelude.{◌≡◌, ◌∷◌, [], ◌++◌, ◌+◌, ◌<◌, ◌≤◌, ◌^◌, ℕ, Option, Some, IfOk, IfSome, length, option_map, option_to_list, take};
+ghost use Rattle.board_model.specs.Answer.{puts, refusal as refusal_of};
+ghost use Rattle.board_model.specs.Step.{RunState, Waited, limit_of as limit_in, next_line as line_next};
+ghost use Rattle.mc_journal.specs.Entry.{line_of_entry, plain_answer};
+ghost use Rattle.report_replay.specs.PlainCalls.{plain_call};
+ghost use Rattle.report_replay.specs.Puts.{FitsFrame};
+ghost use Rattle.report_text.specs.StepPass.{due_answer as answer_due, due_at_limit, due_behind, due_by, due_call, due_wait, has_ended as ends_at, other_than};
+ghost use Rattle.report_check.specs.Meeting.{Meets, place_after as place_behind};
+ghost use Rattle.report_check.specs.Runs.{IsNext, Shows, capped_wait, lines_put, script_of, times_behind as times_with, told_by, waited_of};
+
+use crate::due_lines::DueLines;
+use crate::next_call::{NextCall, is_done, is_timeout, limit_of, may_try, tried_word};
+use crate::run::{Run, Waiting};
+use mc_base::NoMemory;
+use mc_journal::{Answer, Entry};
+
+/// Whether a wait that has begun ends with this answer.
+fn has_ended(limit: u32, answer: Answer<'_>, wait: Waiting) -> bool
+    ensures { (w : Waited) → capped_wait w ≡ waited_of wait → result ≡ ends_at limit (plain_answer answer.entry) w }
+{
+    let limit = u64::from(limit);
+    (wait.turns == limit && is_timeout(answer))
+        || (wait.turns <= limit && !wait.done_before && is_done(answer))
+}
+
+/// The line of the frame that a call puts.
+fn put_entry<'o>(put: Option<(u8, usize)>, out: &'o [u8; 512]) -> Option<Entry<'o>>
+    requires { IfSome put (λ x. x.1 ≤ 512) }
+    ensures { option_to_list (option_map line_of_entry result) ≡ lines_put (option_to_list (option_map (λ x. (x.0, take x.1 out.now)) put)) }
+{
+    match put {
+        Some((peer, size)) => Some(Entry::Put {
+            peer,
+            frame: &out[..size],
+        }),
+        None => None,
+    }
+}
+
+#[tactic(auto, using(crate::proofs::CallLines::missed_more))]
+/// Compares the next lines with those of two entries, the first of which may be none.
+fn meets_both(
+    first: Option<Entry<'_>>,
+    second: Entry<'_>,
+    lines: &mut DueLines<'_>,
+) -> Result<bool, NoMemory>
+    ensures { IfOk result (λ is. Meets lines.old lines.new (option_to_list (option_map line_of_entry first.entry) ++ line_of_entry second.entry ∷ []) is) }
+{
+    if let Some(first) = first {
+        if !lines.meets(first)? {
+            return Ok(false);
+        }
+    }
+    lines.meets(second)
+}
+
+/// Compares the next line with that of an entry, if there is one.
+fn meets_one(entry: Option<Entry<'_>>, lines: &mut DueLines<'_>) -> Result<bool, NoMemory>
+    ensures { IfOk result (λ is. Meets lines.old lines.new (option_to_list (option_map line_of_entry entry.entry)) is) }
+{
+    match entry {
+        Some(entry) => lines.meets(entry),
+        None => Ok(true),
+    }
+}
+
+/// How many tries are told in a row behind this put.
+fn times_behind(put: Option<Entry<'_>>, times: Option<u64>) -> Option<u64>
+    ensures { result ≡ times_with (option_map line_of_entry put.entry) times }
+{
+    match put {
+        Some(_) => None,
+        None => times,
+    }
+}
+
+/// The place of the first line that is not the one due, where those that are due were met, or not.
+pub(crate) fn place_after(lines: &DueLines<'_>, met: bool) -> Option<usize>
+    ensures { result ≡ place_behind lines.now met }
+{
+    if met {
+        lines.end()
+    } else {
+        Some(lines.place())
+    }
+}
+
+impl Run<'_> {
+    /// The frame that a call puts.
+    fn put(&self, next: &NextCall<'_>, out: &mut [u8; 512]) -> Option<(u8, usize)>
+        requires refusal { next.now.refusal ≡ refusal_of self.now.state next.now.line.now.node (plain_call next.now.call) }
+        requires fits { FitsFrame (plain_call next.now.call) }
+        ensures put { option_to_list (option_map (λ x. (x.0, take x.1 out.new)) result) ≡ puts self.now.state next.now.line.now.node (plain_call next.now.call) }
+        ensures fits { IfSome result (λ x. x.1 ≤ 512) }
+    {
+        match next.refusal {
+            Some(_) => None,
+            None => self.state.put_of_success(next.line.node, &next.call, out),
+        }
+    }
+
+    /// The number of the next line.
+    fn number(&self) -> u32
+        requires few { length self.now.script.now < 2 ^ 32 }
+        requires next { self.now.called < length self.now.script.now }
+        ensures { result ≡ self.now.called + 1 }
+    {
+        self.called as u32 + 1
+    }
+
+    /// The line of a call that is answered so, which may be made again. So many tries in a row are one line.
+    fn due_answer<'r>(
+        &self,
+        next: &NextCall<'_>,
+        answer: Answer<'r>,
+        times: Option<u64>,
+    ) -> Entry<'r>
+        requires few { length self.now.script.now < 2 ^ 32 }
+        requires next { self.now.called < length self.now.script.now }
+        ensures { (r : RunState) → Shows self.now r → line_of_entry result ∷ [] ≡ told_by times (answer_due next.entry.now.line.now r (plain_answer answer.entry)) }
+    {
+        if let Some(word) = tried_word(answer) {
+            if may_try(next.line.tries, self.made) {
+                return match times {
+                    Some(times) => Entry::Spin { times, word },
+                    None => Entry::Again { word },
+                };
+            }
+        }
+        Entry::Called {
+            number: self.number(),
+            answer,
+        }
+    }
+
+    /// The line that is due where the next line waits.
+    fn due_in_wait<'r>(&self, limit: u32, answer: Answer<'r>) -> Option<Entry<'r>>
+        requires few { length self.now.script.now < 2 ^ 32 }
+        requires next { self.now.called < length self.now.script.now }
+        ensures { (r : RunState) (times : Option ℕ) → Shows self.now r → option_to_list (option_map line_of_entry result) ≡ told_by times (due_wait limit r (plain_answer answer.entry) r.waited) }
+    {
+        let number = self.number();
+        match self.waited {
+            None if is_timeout(answer) => Some(Entry::WaitStart { number }),
+            Some(wait) if !has_ended(limit, answer, wait) => None,
+            _ => Some(Entry::Called { number, answer }),
+        }
+    }
+
+    /// Compares the next lines with those of a call that is due behind a turn: its put and its answer.
+    fn meets_behind(
+        &self,
+        next: &NextCall<'_>,
+        times: Option<u64>,
+        lines: &mut DueLines<'_>,
+    ) -> Result<bool, NoMemory>
+        ghost r: { RunState }
+        requires shows { Shows self.now r }
+        requires few { length self.now.script.now < 2 ^ 32 }
+        requires next { self.now.called < length self.now.script.now }
+        requires call { IsNext next.now r }
+        requires fits { FitsFrame (plain_call next.now.call) }
+        ensures { IfOk result (λ is. Meets lines.old lines.new (told_by times (due_behind next.now.line.now r (Some []))) is) }
+    {
+        let mut out = [0; 512];
+        let answer = self.answer(next);
+        let put = put_entry(self.put(next, &mut out), &out);
+        let entry = self.due_answer(next, answer, times_behind(put, times));
+        meets_both(put, entry, lines)
+    }
+
+    /// Compares the next lines with those of the next line's call that are due.
+    fn meets_call(
+        &self,
+        next: &NextCall<'_>,
+        times: Option<u64>,
+        lines: &mut DueLines<'_>,
+    ) -> Result<bool, NoMemory>
+        ghost r: { RunState }
+        requires shows { Shows self.now r }
+        requires few { length self.now.script.now < 2 ^ 32 }
+        requires next { self.now.called < length self.now.script.now }
+        requires call { IsNext next.now r }
+        requires fits { FitsFrame (plain_call next.now.call) }
+        ensures { IfOk result (λ is. Meets lines.old lines.new (told_by times (due_at_limit (limit_in next.now.line.now.call) next.now.line.now r)) is) }
+    {
+        match limit_of(&next.line.call) {
+            Some(limit) => meets_one(self.due_in_wait(limit, self.answer(next)), lines),
+            None if self.turned => self.meets_behind(next, times, lines),
+            None => Ok(true),
+        }
+    }
+
+    /// Compares the next lines with those that are due where no turn is, while the script has a line.
+    fn meets_next(
+        &self,
+        next: Option<&NextCall<'_>>,
+        times: Option<u64>,
+        lines: &mut DueLines<'_>,
+    ) -> Result<bool, NoMemory>
+        ghost r: { RunState }
+        requires shows { Shows self.now r }
+        requires few { length self.now.script.now < 2 ^ 32 }
+        requires next { IfSome next (λ n. self.now.called < length self.now.script.now) }
+        requires call { IfSome next (λ n. IsNext n.now r) }
+        requires fits { IfSome next (λ n. FitsFrame (plain_call n.now.call)) }
+        ensures { IfOk result (λ is. Meets lines.old lines.new (told_by times (due_by (option_map (λ n. n.now.line.now) next.entry) r)) is) }
+    {
+        match next {
+            Some(next) => self.meets_call(next, times, lines),
+            None => Ok(true),
+        }
+    }
+
+    /// The place of the first line that is not the one due, where no turn is.
+    pub(crate) fn place_of_call(
+        &self,
+        next: Option<&NextCall<'_>>,
+        times: Option<u64>,
+        lines: &mut DueLines<'_>,
+    ) -> Result<Option<usize>, NoMemory>
+        ghost r: { RunState }
+        requires shows { Shows self.now r }
+        requires few { length self.now.script.now < 2 ^ 32 }
+        requires line { option_map (λ n. n.now.line.now) next ≡ line_next (script_of self.now) r }
+        requires call { IfSome next (λ n. IsNext n.now r) }
+        requires first { lines.old.place ≡ 0 }
+        requires fits { IfSome next (λ n. FitsFrame (plain_call n.now.call)) }
+        ensures { IfOk result (λ place. place ≡ other_than (told_by times (due_call (script_of self.now) r)) lines.old.texts) }
+    {
+        let met = self.meets_next(next, times, lines)?;
+        Ok(place_after(lines, met))
+    }
+}
