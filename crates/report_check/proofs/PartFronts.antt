@@ -102,6 +102,7 @@ front-step due l ls ps = go (puts_line l) (all_put ls) refl refl
         let whole : put_last (l ∷ ls) ≡ put_last ls = ap (λ c. puts_last (cond c (0 + 1) 0) (map outline_of ls)) is ∙ last in
         let own : suc (length ls - min due (put_last ls)) ≡ length (l ∷ ls) - min due (put_last (l ∷ ls)) = omega (arith, few, whole) in
         same-split 0 (cond (puts_line l && all_put ls) (due - length (l ∷ ls)) 0) (suc (own_lines due ls)) (own_lines due (l ∷ ls)) (l ∷ ls) ps (sym (ap (λ c. cond (c && all_put ls) (due - length (l ∷ ls)) 0) is ∙ none)) own
+
     claimed : (c : Bool) → nat_lt 0 (due - length ls) ≡ c → puts_line l ≡ true → all_put ls ≡ true → cond c (claims l (split_at (due - length ls) (own_lines due ls) ls ps)) (under_part l (split_at (due - length ls) (own_lines due ls) ls ps)) ≡ split_at (due - length (l ∷ ls)) (own_lines due (l ∷ ls)) (l ∷ ls) ps
     claimed true some is all =
         let last : put_last ls ≡ 0 + length ls = last-all 0 ls all in
@@ -116,6 +117,7 @@ front-step due l ls ps = go (puts_line l) (all_put ls) refl refl
         let own : suc (own_lines due ls) ≡ own_lines due (l ∷ ls) = grind (arith, nat_tests) in
         let gone : 0 ≡ due - length (l ∷ ls) = grind (arith, nat_tests) in
         same-split 0 (due - length (l ∷ ls)) (suc (own_lines due ls)) (own_lines due (l ∷ ls)) (l ∷ ls) ps gone own
+
     go : (b a : Bool) → puts_line l ≡ b → all_put ls ≡ a → cond (puts_line l && nat_lt 0 (front due ls ps).due) (claims l (front due ls ps)) (under_part l (front due ls ps)) ≡ front due (l ∷ ls) ps
     go false a is all = ap (λ c. cond (c && nat_lt 0 (front due ls ps).due) (claims l (front due ls ps)) (under_part l (front due ls ps))) is ∙ other false is refl refl
     go true false is all =
