@@ -1,0 +1,5 @@
+use Rattle.outer_io.proofs.Writing.{puts_then}
+use Rattle.board_numbers.proofs.number_lines.put_summary.Goals as goal
+
+pub returns : goal.returns
+returns g c = puts_then _ _ _ _ _ _ c.put_channels.ensures c.put_messages.ensures

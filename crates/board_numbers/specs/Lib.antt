@@ -1,0 +1,10 @@
+pub mod Lanes
+pub mod Told
+pub mod Counts
+pub mod Queues
+pub mod EndedDomains
+pub mod Tallied
+pub mod Items
+pub mod ItemCounts
+pub mod ToldChannels
+pub mod NumberLines
