@@ -19,6 +19,7 @@ mod names;
 mod opening;
 mod owed;
 mod peer;
+mod queues;
 mod request;
 mod state;
 mod taking;

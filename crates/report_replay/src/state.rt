@@ -63,6 +63,13 @@ impl State {
         self.requests.iter().position(|r| r.waits_at(local))
     }
 
+    /// How many channels the domain has numbered.
+    pub fn channels_given(&self) -> u32
+        ensures { result ≡ self.now.channels_given }
+    {
+        self.channels_given
+    }
+
     /// The place of the peer of this number.
     pub fn place_of_peer(&self, number: u8) -> Option<usize>
         ensures { result ≡ place_of_peer self.now number }
