@@ -1,6 +1,6 @@
 -- Parts with the answers that are due stand as those that are told, and have their texts.
 use Rattle.std.proofs.Common.{◌≡◌, ℕ, zero, suc, List, [], ◌∷◌, ◌++◌, map, Option, Some, None, option_map, refl, sym, ap, ap₂, ◌∙◌, append_assoc}
-use Rattle.std.specs.List.{flat_map}
+use Rattle.std.specs.List.{AllByRecursion, flat_map}
 use Rattle.std.proofs.lemmas.List.{map-append}
 use Rattle.mc_base.specs.declared.refusal.Refusal.{Refusal}
 use Rattle.board_model.specs.declared.scenario.CallLine.{CallLine}
@@ -15,6 +15,10 @@ use Rattle.report_text.specs.RightRuns.{answered, with_answer, with_answers}
 use Rattle.report_text.proofs.LinesTold.{bare}
 use Rattle.report_text.proofs.StepsDue.{Due}
 use Rattle.report_text.proofs.CallsDue.{put_lines}
+
+pub all-split : {A : Type 0} (P : A → Type 0) (xs ys : List A) → AllByRecursion P (xs ++ ys) → AllByRecursion P xs × AllByRecursion P ys
+all-split P [] ys all = (tt, all)
+all-split P (x ∷ xs) ys all = let rest = all-split P xs ys all.1 in ((all.0, rest.0), rest.1)
 
 -- ---- what stands behind a line does not hang on its answer
 
@@ -158,28 +162,32 @@ module _ (peers : List ℕ) (script : List CallLine) where
       same None = refl
       same (Some line) = refl
 
-  one-text : (r : RunState) (p : Part) (es : List PlainEntry) → Due script r (part_entries peers p ++ es) → map line_text (part_lines (part_answered script r p)) ≡ map line_text (part_lines p)
-  one-text r (idles n) es due = refl
-  one-text r (spins n w) es due = refl
-  one-text r (tries w) es due = refl
-  one-text r (turn_of vs) es due = refl
-  one-text r (wait_of k) es due = refl
-  one-text r (call_of ps k a) es due =
-      map-append line_text (put_lines ps) (call_line k (answered (next_line script r) r a) ∷ [])
-      ∙ ap (λ x. map line_text (put_lines ps) ++ x ∷ []) (call-text r ps k a es due)
-      ∙ sym (map-append line_text (put_lines ps) (call_line k a ∷ []))
+  -- ---- and what hangs of an answer on its text alone is the same
 
-  all-texts : (r : RunState) (ps : List Part) → Due script r (flat_map (part_entries peers) ps) → map line_text (flat_map part_lines (parts_answered r ps)) ≡ map line_text (flat_map part_lines ps)
-  all-texts r [] due = refl
-  all-texts r (p ∷ ps) due =
-      let next : RunState = after_all script r (part_entries peers p) in
-      map-append line_text (part_lines (part_answered script r p)) (flat_map part_lines (parts_answered next ps))
-      ∙ ap₂ (λ us vs. us ++ vs) (one-text r p (flat_map (part_entries peers) ps) due) (all-texts next ps (due-behind r (part_entries peers p) (flat_map (part_entries peers) ps) due))
-      ∙ sym (map-append line_text (part_lines p) (flat_map part_lines ps))
+  module _ {A : Type 0} (f : Line → A) (P : Line → Type 0) (by-text : (k : ℕ) (a b : PlainAnswer) → P (call_line k b) → line_text (call_line k a) ≡ line_text (call_line k b) → f (call_line k a) ≡ f (call_line k b)) where
+    one-said : (r : RunState) (p : Part) (es : List PlainEntry) → AllByRecursion P (part_lines p) → Due script r (part_entries peers p ++ es) → map f (part_lines (part_answered script r p)) ≡ map f (part_lines p)
+    one-said r (idles n) es all due = refl
+    one-said r (spins n w) es all due = refl
+    one-said r (tries w) es all due = refl
+    one-said r (turn_of vs) es all due = refl
+    one-said r (wait_of k) es all due = refl
+    one-said r (call_of ps k a) es all due =
+        map-append f (put_lines ps) (call_line k (answered (next_line script r) r a) ∷ [])
+        ∙ ap (λ x. map f (put_lines ps) ++ x ∷ []) (by-text k (answered (next_line script r) r a) a (all-split P (put_lines ps) (call_line k a ∷ []) all).1.0 (call-text r ps k a es due))
+        ∙ sym (map-append f (put_lines ps) (call_line k a ∷ []))
 
-  -- the lines of the entries with the answers that are due have the texts of the lines that are told
-  pub texts-joined : (r : RunState) (ps : List Part) → StandBehind [] ps → Due script r (flat_map (part_entries peers) ps) → map line_text (joined (with_answers script r (flat_map (part_entries peers) ps))) ≡ map line_text (flat_map part_lines ps)
-  texts-joined r ps stand due =
-      ap (λ es. map line_text (joined es)) (all-answered r ps)
-      ∙ ap (map line_text) (parts_are_joined peers (parts_answered r ps) (all-stand r ps [] [] refl stand))
-      ∙ all-texts r ps due
+    all-said : (r : RunState) (ps : List Part) → AllByRecursion P (flat_map part_lines ps) → Due script r (flat_map (part_entries peers) ps) → map f (flat_map part_lines (parts_answered r ps)) ≡ map f (flat_map part_lines ps)
+    all-said r [] all due = refl
+    all-said r (p ∷ ps) all due =
+        let next : RunState = after_all script r (part_entries peers p) in
+        let both = all-split P (part_lines p) (flat_map part_lines ps) all in
+        map-append f (part_lines (part_answered script r p)) (flat_map part_lines (parts_answered next ps))
+        ∙ ap₂ (λ us vs. us ++ vs) (one-said r p (flat_map (part_entries peers) ps) both.0 due) (all-said next ps both.1 (due-behind r (part_entries peers p) (flat_map (part_entries peers) ps) due))
+        ∙ sym (map-append f (part_lines p) (flat_map part_lines ps))
+
+    -- of the lines of the entries with the answers that are due, and of the lines that are told
+    pub said-joined : (r : RunState) (ps : List Part) → StandBehind [] ps → AllByRecursion P (flat_map part_lines ps) → Due script r (flat_map (part_entries peers) ps) → map f (joined (with_answers script r (flat_map (part_entries peers) ps))) ≡ map f (flat_map part_lines ps)
+    said-joined r ps stand all due =
+        ap (λ es. map f (joined es)) (all-answered r ps)
+        ∙ ap (map f) (parts_are_joined peers (parts_answered r ps) (all-stand r ps [] [] refl stand))
+        ∙ all-said r ps all due

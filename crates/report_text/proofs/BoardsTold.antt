@@ -52,7 +52,7 @@ module _ (lines : List CallLine) (p : ℕ) where
   backs-answers r (waits k ∷ es) = backs-answers (after lines r (waits k)) es
   backs-answers r (called k a ∷ es) = backs-answers (after lines r (called k a)) es
 
-  given-answers : (r : RunState) (es : List PlainEntry) → given lines r p (with_answers lines r es) ≡ given lines r p es
+  pub given-answers : (r : RunState) (es : List PlainEntry) → given lines r p (with_answers lines r es) ≡ given lines r p es
   given-answers r [] = refl
   given-answers r (turned vs ∷ es) = ap (λ (n : ℕ). given_in lines r p (turned vs) + n) (given-answers (after lines r (turned vs)) es)
   given-answers r (put q f ∷ es) = ap (λ (n : ℕ). 0 + n) (given-answers (after lines r (put q f)) es)
@@ -116,7 +116,7 @@ module _ (s : Scenario) (board : IsLinkedBoard s) where
     puts-are : flat_map (put_in p) (lane_lines j) ≡ put_to p due
     puts-are = ap (flat_map (put_in p)) lines-are ∙ of_lanes.parts-put (peers_of s j.line) p (parts_of s j) ∙ sym (ap (put_to p) entries-are) ∙ sym (put-answers (script s j.line.domain) p (start s j.line) told)
 
-    takes-are : flat_map (of_lanes.frame_in p) (lane_lines j) ≡ taken_from p due
+    pub takes-are : flat_map (of_lanes.frame_in p) (lane_lines j) ≡ taken_from p due
     takes-are = ap (flat_map (of_lanes.frame_in p)) lines-are ∙ of_lanes.parts-taken (peers_of s j.line) p (parts_of s j) ∙ sym (ap (taken_from p) entries-are) ∙ sym (ap (map (λ t. t.frame)) (takes-answers (script s j.line.domain) p (start s j.line) told))
 
     backs-are : sum_by (back_in p) (lane_lines j) ≡ sum (back_looks p due)

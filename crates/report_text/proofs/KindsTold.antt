@@ -5,7 +5,9 @@ use Rattle.std.specs.Fmt.{digits, digits_onto, digit_glyph}
 use Rattle.std.specs.List.{AllByRecursion, list_all, flat_map}
 use Rattle.std.proofs.lemmas.Bool.{and_from, and_parts}
 use Rattle.std.proofs.lemmas.Bool.Decides.{nat_tests}
-use Rattle.std.proofs.lemmas.Fmt.{length-decimal-le_succ}
+use Rattle.std.proofs.Math.Nat.{one-le-pow, pow-suc}
+use Rattle.std.proofs.lemmas.Fmt.{decimal_is_IsNumeral_wide, length-decimal-le, length-decimal-le_succ}
+use Rattle.std.specs.Str.Parse.{digits_value}
 use Rattle.mc_base.specs.Text.{hex_digit, hex_byte, hex_text}
 use Rattle.mc_base.specs.declared.refusal.Refusal.{Refusal}
 use Rattle.mc_base.specs.declared.refusal.Refusal.TheVariants as refusal
@@ -15,6 +17,7 @@ use Rattle.board_model.specs.Grammar.{spaced}
 use Rattle.board_model.specs.Words.{refusal_text}
 use Rattle.board_model.specs.Journal.{PlainAnswer, refuses, agrees, tells, connects, gives, completes}
 use Rattle.board_model.specs.Report.{answer_words, result_words}
+use Rattle.board_model.specs.Tallies.{number_told}
 use Rattle.board_model.proofs.WordDecimals.{decimal-digits}
 use Rattle.mc_journal.specs.EntryText.{AreBytes, FitsAnswer}
 use Rattle.mc_journal.specs.Readers.{cut_at, or_else, both, only, give, sized, is_whole, count_in, long_in, whole_in, ok_by, ok_in, answer_in}
@@ -23,29 +26,33 @@ use Rattle.mc_journal.proofs.Cuts.{cut-found}
 use Rattle.mc_journal.proofs.ResultsRead.{count-read}
 use Rattle.report_text.proofs.TurnsDue.{cons-parts}
 
--- ---- decimals have no blank
+-- ---- decimals have no blank, nor any other byte below their digits
 
-glyph-other : (d : ℕ) → is_other 32 (digit_glyph false d) ≡ true
-glyph-other d = go (nat_lt d 10)
-  where
-    go : (a : Bool) → is_other 32 (cond a (48 + d) (87 + d)) ≡ true
-    go true = let differs : (48 + d == 32) ≡ false = grind (arith, nat_tests) in ap not differs
-    go false = let differs : (87 + d == 32) ≡ false = grind (arith, nat_tests) in ap not differs
+module _ (stop : ℕ) (low : stop < 48) where
+  glyph-other : (d : ℕ) → is_other stop (digit_glyph false d) ≡ true
+  glyph-other d = go (nat_lt d 10)
+    where
+      go : (a : Bool) → is_other stop (cond a (48 + d) (87 + d)) ≡ true
+      go true = let differs : (48 + d == stop) ≡ false = grind (arith, nat_tests) in ap not differs
+      go false = let differs : (87 + d == stop) ≡ false = grind (arith, nat_tests) in ap not differs
 
-onto-alone : (k n : ℕ) (acc : List ℕ) → list_all (is_other 32) acc ≡ true → list_all (is_other 32) (digits_onto k 10 false n acc) ≡ true
-onto-alone zero n acc all = all
-onto-alone (suc k) n acc all = go (n / 10 == 0) (onto-alone k (n / 10) (digit_glyph false (n % 10) ∷ acc) more)
-  where
-    more : list_all (is_other 32) (digit_glyph false (n % 10) ∷ acc) ≡ true
-    more = and_from (is_other 32 (digit_glyph false (n % 10))) (list_all (is_other 32) acc) (glyph-other (n % 10)) all
+  onto-other : (k n : ℕ) (acc : List ℕ) → list_all (is_other stop) acc ≡ true → list_all (is_other stop) (digits_onto k 10 false n acc) ≡ true
+  onto-other zero n acc all = all
+  onto-other (suc k) n acc all = go (n / 10 == 0) (onto-other k (n / 10) (digit_glyph false (n % 10) ∷ acc) more)
+    where
+      more : list_all (is_other stop) (digit_glyph false (n % 10) ∷ acc) ≡ true
+      more = and_from (is_other stop (digit_glyph false (n % 10))) (list_all (is_other stop) acc) (glyph-other (n % 10)) all
 
-    go : (b : Bool) → list_all (is_other 32) (digits_onto k 10 false (n / 10) (digit_glyph false (n % 10) ∷ acc)) ≡ true → list_all (is_other 32) (cond b (digit_glyph false (n % 10) ∷ acc) (digits_onto k 10 false (n / 10) (digit_glyph false (n % 10) ∷ acc))) ≡ true
-    go true rest = more
-    go false rest = rest
+      go : (b : Bool) → list_all (is_other stop) (digits_onto k 10 false (n / 10) (digit_glyph false (n % 10) ∷ acc)) ≡ true → list_all (is_other stop) (cond b (digit_glyph false (n % 10) ∷ acc) (digits_onto k 10 false (n / 10) (digit_glyph false (n % 10) ∷ acc))) ≡ true
+      go true rest = more
+      go false rest = rest
+
+  pub decimal-other : (n : ℕ) → list_all (is_other stop) (decimal n) ≡ true
+  unfolding digits
+  decimal-other n = onto-other 64 n [] refl
 
 decimal-alone : (n : ℕ) → list_all (is_other 32) (decimal n) ≡ true
-unfolding digits
-decimal-alone n = onto-alone 64 n [] refl
+decimal-alone = decimal-other 32 (omega arith)
 
 blank-within : (xs ys : List ℕ) → list_all (is_other 32) (xs ++ 32 ∷ ys) ≡ false
 blank-within [] ys = refl
@@ -134,6 +141,63 @@ answer-kind (completes place result) = done-kind (map decimal (option_to_list pl
 pub same-kind : (a b : PlainAnswer) → spaced (answer_words a) ≡ spaced (answer_words b) → kind_of a ≡ kind_of b
 same-kind a b e = sym (answer-kind a) ∙ ap kind_in e ∙ answer-kind b
 
+-- ---- the number that an answer tells, by its text
+
+behind-ok : (xs ys : List ℕ) → codes "ok " ++ xs ≡ codes "ok " ++ ys → xs ≡ ys
+behind-ok xs ys e = ap (drop 3) e
+
+onto-length : (k n : ℕ) (acc : List ℕ) → 10 ^ k ≤ n → length (digits_onto k 10 false n acc) ≡ k + length acc
+onto-length zero n acc high = omega arith
+onto-length (suc k) n acc high =
+    let power : 10 ^ suc k ≡ 10 ^ k * 10 = pow-suc 10 k in
+    let some = one-le-pow k 10 (omega arith) in
+    let more : 10 ^ k ≤ n / 10 = omega (arith, high, power) in
+    let left : (n / 10 == 0) ≡ false = grind (arith, nat_tests, some, more) in
+    let rest = onto-length k (n / 10) (digit_glyph false (n % 10) ∷ acc) more in
+    ap (λ b. length (cond b (digit_glyph false (n % 10) ∷ acc) (digits_onto k 10 false (n / 10) (digit_glyph false (n % 10) ∷ acc)))) left
+    ∙ omega (arith, rest)
+
+-- a number of 64 bits has its decimal alone
+decimal-same : (m n : ℕ) → n < 2 ^ 64 → decimal m ≡ decimal n → m ≡ n
+unfolding digits
+decimal-same m n small e = go (nat_lt m (10 ^ 64)) refl
+  where
+    few : length (decimal n) ≤ 20
+    few = length-decimal-le 20 n (omega arith) (omega (arith, small)) small
+
+    go : (b : Bool) → nat_lt m (10 ^ 64) ≡ b → m ≡ n
+    go true is =
+        let low : m < 10 ^ 64 = grind (arith, nat_tests) in
+        sym (decimal_is_IsNumeral_wide m low).1 ∙ ap (digits_value 10) e ∙ (decimal_is_IsNumeral_wide n (omega (arith, small))).1
+    go false is =
+        let high : 10 ^ 64 ≤ m = grind (arith, nat_tests) in
+        let long : length (decimal m) ≡ 64 + 0 = onto-length 64 m [] high in
+        absurd (omega (arith, long, few, ap (λ xs. length xs) e))
+
+other-number : (a : PlainAnswer) → (kind_of a == 2) ≡ false → number_told a ≡ 0
+other-number (refuses word) e = refl
+other-number agrees e = refl
+other-number (tells n) e = absurd (grind (arith, nat_tests))
+other-number (connects request channel) e = refl
+other-number (gives size bytes) e = refl
+other-number (completes place result) e = refl
+
+pub number-same : (a b : PlainAnswer) → FitsAnswer b → spaced (answer_words a) ≡ spaced (answer_words b) → number_told a ≡ number_told b
+number-same a (tells n) fits e = go a (same-kind a (tells n) e) e
+  where
+    go : (a : PlainAnswer) → kind_of a ≡ 2 → spaced (answer_words a) ≡ spaced (answer_words (tells n)) → number_told a ≡ n
+    go (tells m) kind e = decimal-same m n fits (behind-ok (decimal m) (decimal n) e)
+    go (refuses word) kind e = absurd (omega (arith, kind))
+    go agrees kind e = absurd (omega (arith, kind))
+    go (connects request channel) kind e = absurd (omega (arith, kind))
+    go (gives size bytes) kind e = absurd (omega (arith, kind))
+    go (completes place result) kind e = absurd (omega (arith, kind))
+number-same a (refuses word) fits e = other-number a (ap (λ n. n == 2) (same-kind a (refuses word) e))
+number-same a agrees fits e = other-number a (ap (λ n. n == 2) (same-kind a agrees e))
+number-same a (connects request channel) fits e = other-number a (ap (λ n. n == 2) (same-kind a (connects request channel) e))
+number-same a (gives size bytes) fits e = other-number a (ap (λ n. n == 2) (same-kind a (gives size bytes) e))
+number-same a (completes place result) fits e = other-number a (ap (λ n. n == 2) (same-kind a (completes place result) e))
+
 -- ---- what a receive gives is read so
 
 digit-value : (d : ℕ) → is_digit (hex_digit d) ≡ true → d < 10
@@ -173,9 +237,6 @@ two-words u v x y a b e =
     second : Option (List ℕ × List ℕ) → List ℕ
     second None = []
     second (Some z) = z.1
-
-behind-ok : (xs ys : List ℕ) → codes "ok " ++ xs ≡ codes "ok " ++ ys → xs ≡ ys
-behind-ok xs ys e = ap (drop 3) e
 
 -- so what is read as a connect's answer is no text of what a receive gives
 pub gives-read : (size : ℕ) (bytes : List ℕ) (r c : ℕ) → FitsAnswer (connects r c) → answer_in (spaced (answer_words (gives size bytes))) ≡ Some (connects r c) → spaced (answer_words (connects r c)) ≡ spaced (answer_words (gives size bytes)) → ⊥

@@ -15,40 +15,44 @@ use Rattle.report_text.specs.Texts.{longest_line}
 use Rattle.report_text.specs.LaneLeft.{AreTold, AreShort, text_in, text_at}
 use Rattle.report_text.proofs.TextCuts.{lines-cut, lines-uncut, cut-again}
 
-abbrev pub lanes_first : Option LaneLine → List LaneLine → List LaneLine
-lanes_first None ls = []
-lanes_first (Some l) ls = l ∷ ls
+-- ---- what the lines at the front of a text say, by the first of them
 
--- ---- the first line of a text
+module _ {A : Type 0} (f : Line → A) where
+  abbrev pub said_lines : List ℕ → List A
+  said_lines text = map f (lines_of_texts (told_texts (lines_in text)))
 
-pub lanes-cut : (text : List ℕ) (x : List ℕ × List ℕ) → cut_at 10 text ≡ Some x → lanes_told text ≡ lanes_first (option_map lane_of (line_in x.0)) (lanes_told x.1)
-lanes-cut text x e =
-    ap (λ (ls : List (List ℕ)). lanes_of (told_texts ls)) (lines-cut text x e)
-    ∙ ap (λ (c : Option (List ℕ × List ℕ)). lanes_of (text_first (outline_before c) line rest)) again
-    ∙ go (line_in x.0) refl
-  where
-    line : List ℕ
-    line = x.0 ++ 10 ∷ []
+  abbrev pub said_first : Option A → List A → List A
+  said_first None ls = []
+  said_first (Some l) ls = l ∷ ls
 
-    rest : List (List ℕ)
-    rest = told_texts (lines_in x.1)
+  pub said-cut : (text : List ℕ) (x : List ℕ × List ℕ) → cut_at 10 text ≡ Some x → said_lines text ≡ said_first (option_map f (line_in x.0)) (said_lines x.1)
+  said-cut text x e =
+      ap (λ (ls : List (List ℕ)). map f (lines_of_texts (told_texts ls))) (lines-cut text x e)
+      ∙ ap (λ (c : Option (List ℕ × List ℕ)). map f (lines_of_texts (text_first (outline_before c) line rest))) again
+      ∙ go (line_in x.0) refl
+    where
+      line : List ℕ
+      line = x.0 ++ 10 ∷ []
 
-    again : cut_at 10 line ≡ Some (x.0, [])
-    again = cut-again 10 text x [] e
+      rest : List (List ℕ)
+      rest = told_texts (lines_in x.1)
 
-    go : (o : Option Line) → line_in x.0 ≡ o → lanes_of (text_first (option_map outline_of (line_in x.0)) line rest) ≡ lanes_first (option_map lane_of (line_in x.0)) (lanes_told x.1)
-    go None is = ap (λ (o : Option Line). lanes_of (text_first (option_map outline_of o) line rest)) is ∙ sym (ap (λ (o : Option Line). lanes_first (option_map lane_of o) (lanes_told x.1)) is)
-    go (Some l) is =
-        ap (λ (o : Option Line). lanes_of (text_first (option_map outline_of o) line rest)) is
-        ∙ ap (λ (c : Option (List ℕ × List ℕ)). map lane_of (line_first (line_before c) (lines_of_texts rest))) again
-        ∙ ap (λ (o : Option Line). map lane_of (line_first o (lines_of_texts rest))) is
-        ∙ sym (ap (λ (o : Option Line). lanes_first (option_map lane_of o) (lanes_told x.1)) is)
+      again : cut_at 10 line ≡ Some (x.0, [])
+      again = cut-again 10 text x [] e
 
-pub lanes-uncut : (text : List ℕ) → cut_at 10 text ≡ None → lanes_told text ≡ []
-lanes-uncut [] e = refl
-lanes-uncut (b ∷ bs) e =
-    ap (λ (ls : List (List ℕ)). lanes_of (told_texts ls)) (lines-uncut b bs e)
-    ∙ ap (λ (c : Option (List ℕ × List ℕ)). lanes_of (text_first (outline_before c) (b ∷ bs) [])) e
+      go : (o : Option Line) → line_in x.0 ≡ o → map f (lines_of_texts (text_first (option_map outline_of (line_in x.0)) line rest)) ≡ said_first (option_map f (line_in x.0)) (said_lines x.1)
+      go None is = ap (λ (o : Option Line). map f (lines_of_texts (text_first (option_map outline_of o) line rest))) is ∙ sym (ap (λ (o : Option Line). said_first (option_map f o) (said_lines x.1)) is)
+      go (Some l) is =
+          ap (λ (o : Option Line). map f (lines_of_texts (text_first (option_map outline_of o) line rest))) is
+          ∙ ap (λ (c : Option (List ℕ × List ℕ)). map f (line_first (line_before c) (lines_of_texts rest))) again
+          ∙ ap (λ (o : Option Line). map f (line_first o (lines_of_texts rest))) is
+          ∙ sym (ap (λ (o : Option Line). said_first (option_map f o) (said_lines x.1)) is)
+
+  pub said-uncut : (text : List ℕ) → cut_at 10 text ≡ None → said_lines text ≡ []
+  said-uncut [] e = refl
+  said-uncut (b ∷ bs) e =
+      ap (λ (ls : List (List ℕ)). map f (lines_of_texts (told_texts ls))) (lines-uncut b bs e)
+      ∙ ap (λ (c : Option (List ℕ × List ℕ)). map f (lines_of_texts (text_first (outline_before c) (b ∷ bs) []))) e
 
 -- ---- the frames that a domain puts, by its text
 

@@ -1,5 +1,6 @@
 pub mod AnswersTold
 pub mod BoardsTold
+pub mod GivenTold
 pub mod CallsDue
 pub mod EntriesTold
 pub mod EntryLines

@@ -28,7 +28,7 @@ abbrev pub IsRead : PlainEntry → Type 0
 IsRead (called k b) = (answer_in (spaced (answer_words b)) ≡ Some b) × FitsAnswer b
 IsRead other = Unit {0}
 
-words-same : (k : ℕ) (a b : PlainAnswer) → line_text (call_line k a) ≡ line_text (call_line k b) → spaced (answer_words a) ≡ spaced (answer_words b)
+pub words-same : (k : ℕ) (a b : PlainAnswer) → line_text (call_line k a) ≡ line_text (call_line k b) → spaced (answer_words a) ≡ spaced (answer_words b)
 words-same k a b e =
     let lines : spaced (line_words (call_line k a)) ≡ spaced (line_words (call_line k b)) = append_cancel_right (spaced (line_words (call_line k a))) (spaced (line_words (call_line k b))) (10 ∷ []) e in
     let behind : decimal k ++ 32 ∷ spaced (answer_words a) ≡ decimal k ++ 32 ∷ spaced (answer_words b) = ap (drop 5) (sym (call-spaced k a) ∙ lines ∙ call-spaced k b) in

@@ -13,7 +13,7 @@ use Rattle.board_model.specs.Report.{answer_words, line_words}
 use Rattle.board_model.proofs.WordDecimals.{decimal-read}
 use Rattle.board_model.proofs.WordsRead.{refusal-read, fate-read}
 use Rattle.board_model.specs.WordTables.{refusal_in, fate_in}
-use Rattle.mc_journal.specs.EntryText.{IsEntryLine}
+use Rattle.mc_journal.specs.EntryText.{FitsAnswer, IsEntryLine}
 use Rattle.mc_journal.specs.Readers.{peer_in, count_in, long_in, bytes_in, taken_in, takes, answer_in}
 use Rattle.mc_journal.proofs.BytesRead.{bytes-read, bytes-alone}
 use Rattle.mc_journal.proofs.PartsRead.{decimal-alone, pair_read}
@@ -21,8 +21,10 @@ use Rattle.mc_journal.proofs.AnswersRead.{answer-is, answer-read}
 use Rattle.mc_journal.proofs.ResultsRead.{count-read, long-read}
 use Rattle.report_text.specs.declared.outline.Outline.TheVariants as outline
 use Rattle.report_text.specs.Outlines.{is_refusal, outline_of, outline_in}
+use Rattle.report_text.specs.CountedLines.{counted_line}
 use Rattle.report_text.specs.LaneLines.{lane_of}
 use Rattle.mc_journal.specs.LineForms.{line_in}
+use Rattle.report_text.proofs.KindsTold.{number-same}
 
 -- ---- a refusal and another answer have no text in common
 
@@ -116,8 +118,8 @@ call-spaced k (gives size bytes) = refl
 call-spaced k (completes None result) = refl
 call-spaced k (completes (Some place) result) = refl
 
--- what hangs on a line, and of a call's answer on whether it is a refusal alone
-module _ {A : Type 0} (f : Line → A) (by-refusal : (k : ℕ) (a b : PlainAnswer) → is_refusal a ≡ is_refusal b → f (call_line k a) ≡ f (call_line k b)) where
+-- what hangs on a line, and of a call's answer on its text alone
+module _ {A : Type 0} (f : Line → A) (by-text : (k : ℕ) (a b : PlainAnswer) → FitsAnswer b → spaced (answer_words a) ≡ spaced (answer_words b) → f (call_line k a) ≡ f (call_line k b)) where
   said : List ℕ → Option A
   said text = option_map f (line_in text)
 
@@ -138,7 +140,7 @@ module _ {A : Type 0} (f : Line → A) (by-refusal : (k : ℕ) (a b : PlainAnswe
       let read = answer-read a fits.1 in
       ap said (call-spaced number a)
       ∙ ap (option_map f) (pair_read count_in answer_in call_line (decimal number) (spaced (answer_words a)) number read.0 (decimal-alone number (omega (arith, fits.0))) (count-read number fits.0) read.1)
-      ∙ ap Some (by-refusal number read.0 a (same-text read.0 a (answer-is (spaced (answer_words a)) read.0 read.1)))
+      ∙ ap Some (by-text number read.0 a fits.1 (answer-is (spaced (answer_words a)) read.0 read.1))
 
   -- a line's text, however it was found
   pub said-is : (l : Line) (text : List ℕ) → IsEntryLine l → spaced (line_words l) ≡ text → Some (f l) ≡ option_map f (line_in text)
@@ -146,7 +148,10 @@ module _ {A : Type 0} (f : Line → A) (by-refusal : (k : ℕ) (a b : PlainAnswe
   said-is l text fits e = sym (ap said (sym e) ∙ said-read l fits)
 
 pub outline-is : (l : Line) (text : List ℕ) → IsEntryLine l → spaced (line_words l) ≡ text → Some (outline_of l) ≡ outline_in text
-outline-is = said-is outline_of (λ k a b e. ap (outline.Call k) e)
+outline-is = said-is outline_of (λ k a b fits e. ap (outline.Call k) (same-text a b e))
 
 pub lane-is : (l : Line) (text : List ℕ) → IsEntryLine l → spaced (line_words l) ≡ text → Some (lane_of l) ≡ option_map lane_of (line_in text)
-lane-is = said-is lane_of (λ k a b e. refl)
+lane-is = said-is lane_of (λ k a b fits e. refl)
+
+pub counted-is : (l : Line) (text : List ℕ) → IsEntryLine l → spaced (line_words l) ≡ text → Some (counted_line l) ≡ option_map counted_line (line_in text)
+counted-is = said-is counted_line (λ k a b fits e. ap (λ n. call_line k (tells n)) (number-same a b fits e))

@@ -26,13 +26,13 @@ use Rattle.report_text.specs.TextPass.{◌>>=◌, line_by, one_line, else_read, 
 use Rattle.report_text.proofs.LinesTold.{Tell}
 use Rattle.report_text.proofs.RunsTold.{IsRight}
 
-bind-ok : {A B : Type 0} (m : Result A ℕ) (f : A → Result B ℕ) (b : B) → m >>= f ≡ Ok b → (a : A) × (m ≡ Ok a) × (f a ≡ Ok b)
+pub bind-ok : {A B : Type 0} (m : Result A ℕ) (f : A → Result B ℕ) (b : B) → m >>= f ≡ Ok b → (a : A) × (m ≡ Ok a) × (f a ≡ Ok b)
 bind-ok (Err n) f b e = absurd cc
 bind-ok (Ok a) f b e = (a, refl, e)
 
 -- ---- a line has its newline at the end
 
-abbrev Ends : List ℕ → Type 0
+abbrev pub Ends : List ℕ → Type 0
 Ends l = (x : List ℕ × List ℕ) → cut_at 10 l ≡ Some x → x.1 ≡ []
 
 abbrev second : Option (List ℕ × List ℕ) → List ℕ
@@ -46,7 +46,7 @@ longer b l other ends x e = go (cut_at 10 l) refl (sym (ap (λ t. cond t (Some (
     go None is e = absurd cc
     go (Some y) is e = sym (ap second e) ∙ ends y is
 
-lines-end : (text : List ℕ) → AllByRecursion Ends (lines_in text)
+pub lines-end : (text : List ℕ) → AllByRecursion Ends (lines_in text)
 lines-end [] = tt
 lines-end (b ∷ bs) = go (b == 10) refl (lines-end bs)
   where
@@ -63,11 +63,11 @@ lines-end (b ∷ bs) = go (b == 10) refl (lines-end bs)
 abbrev Goal : List ℕ → List (List ℕ) → Option Outline → Type 0
 Goal l ls o = Tell (text_first o l (told_texts ls)) (lines_of_texts (text_first o l (told_texts ls))) × (told_first o (told_lines ls) ≡ map outline_of (lines_of_texts (text_first o l (told_texts ls))))
 
-record AreTold (ls : List (List ℕ)) : Type 0 where
-  tells : Tell (told_texts ls) (lines_of_texts (told_texts ls))
-  outlines : told_lines ls ≡ map outline_of (lines_of_texts (told_texts ls))
+pub record AreTold (ls : List (List ℕ)) : Type 0 where
+  pub tells : Tell (told_texts ls) (lines_of_texts (told_texts ls))
+  pub outlines : told_lines ls ≡ map outline_of (lines_of_texts (told_texts ls))
 
-texts-tell : (ls : List (List ℕ)) → AllByRecursion Ends ls → AreTold ls
+pub texts-tell : (ls : List (List ℕ)) → AllByRecursion Ends ls → AreTold ls
 texts-tell [] all = record { tells = tt; outlines = refl }
 texts-tell (l ∷ ls) all = cut (cut_at 10 l) refl (texts-tell ls all.1)
   where
@@ -94,7 +94,7 @@ texts-tell (l ∷ ls) all = cut (cut_at 10 l) refl (texts-tell ls all.1)
 
 -- ---- what is left behind is lines too
 
-behind-end : (ls : List (List ℕ)) → AllByRecursion Ends ls → AllByRecursion Ends (behind_told ls)
+pub behind-end : (ls : List (List ℕ)) → AllByRecursion Ends ls → AllByRecursion Ends (behind_told ls)
 behind-end [] all = tt
 behind-end (l ∷ ls) all = go (told_line l) (behind-end ls all.1)
   where
@@ -110,7 +110,7 @@ front-end (l ∷ ls) all = go (begins_journal l) (front-end ls all.1)
     go true rest = all
     go false rest = rest
 
-first-end : (ls : List (List ℕ)) → AllByRecursion Ends ls → AllByRecursion Ends (drop 1 ls)
+pub first-end : (ls : List (List ℕ)) → AllByRecursion Ends ls → AllByRecursion Ends (drop 1 ls)
 first-end [] all = tt
 first-end (l ∷ ls) all = all.1
 
@@ -147,7 +147,7 @@ scenario-end r t all e = go (scenario_in (front_lines r.lines)) e
 
 -- ---- the scenario is one that a text tells
 
-lines-length : (text : List ℕ) → length (text_of (lines_in text)) ≡ length text
+pub lines-length : (text : List ℕ) → length (text_of (lines_in text)) ≡ length text
 lines-length [] = refl
 lines-length (b ∷ bs) = go (b == 10) (lines-length bs)
   where
@@ -229,7 +229,7 @@ module _ (s : Scenario) (board : IsLinkedBoard s) where
       go None is e = (is, ok-is (rest (r.number + length (told_lines r.lines)) (behind_told r.lines)) q e)
       go (Some n) is e = absurd cc
 
-  journal-ok : (d : DomainLine) (r q : Rest) → IsLawfulDomain d → AllByRecursion Ends r.lines → journal_from s d r ≡ Ok q → IsRight s board (journal_at d r) × (behind_journal r ≡ q)
+  pub journal-ok : (d : DomainLine) (r q : Rest) → IsLawfulDomain d → AllByRecursion Ends r.lines → journal_from s d r ≡ Ok q → IsRight s board (journal_at d r) × (behind_journal r ≡ q)
   journal-ok d r q lawful all e =
       let head = bind-ok (one_line (journal_form d.domain) r) (entries_from (peers_of s d) (puts_of_script (script s d.domain))) q e in
       let at : rest (r.number + 1) (drop 1 r.lines) ≡ head.0 = one-ok (journal_form d.domain) r.number r.lines head.0 head.1 in
@@ -252,12 +252,12 @@ module _ (s : Scenario) (board : IsLinkedBoard s) where
 
 -- ---- a whole text
 
-record FrontOf (text : List ℕ) (t : Told) : Type 0 where
-  lines : AllByRecursion Ends t.behind.lines
-  behind : Rest
-  journals : journals_from t.scenario (rising t.scenario) t.behind ≡ Ok behind
+pub record FrontOf (text : List ℕ) (t : Told) : Type 0 where
+  pub lines : AllByRecursion Ends t.behind.lines
+  pub behind : Rest
+  pub journals : journals_from t.scenario (rising t.scenario) t.behind ≡ Ok behind
 
-text-front : (text : List ℕ) (t : Told) → told_by_text text ≡ Ok t → FrontOf text t
+pub text-front : (text : List ℕ) (t : Told) → told_by_text text ≡ Ok t → FrontOf text t
 text-front text t e =
     let first : Rest = rest 1 (lines_in text) in
     let heading = bind-ok (heading_from first) (λ behind. scenario_from behind >>= whole_told) t e in

@@ -1,5 +1,5 @@
 -- Reports in which the first three passes find nothing wrong tell runs of boards.
-use Rattle.std.proofs.Common.{◌≡◌, ℕ, List, [], ◌∷◌, map, Option, Some, None, refl, sym, ap, subst, ◌∙◌}
+use Rattle.std.proofs.Common.{◌≡◌, ℕ, ◌-◌, ◌^◌, ◌<◌, List, [], ◌∷◌, length, map, Option, Some, None, refl, sym, ap, subst, ◌∙◌}
 use Rattle.std.specs.Prelude.{Ok}
 use Rattle.board_model.specs.LinkedBoard.{IsLinkedBoard}
 use Rattle.std.specs.List.{AllByRecursion}
@@ -12,15 +12,18 @@ use Rattle.report_text.specs.declared.verdict.CheckReason.{CheckReason}
 use Rattle.report_text.specs.declared.verdict.CheckReason.TheVariants as of
 use Rattle.report_text.specs.declared.verdict.Verdict.{Verdict}
 use Rattle.report_text.specs.declared.verdict.Verdict.TheVariants.{Right, Wrong}
-use Rattle.report_text.specs.ScenarioPart.{Rest}
+use Rattle.board_model.specs.Unjoined.{peers_of}
+use Rattle.report_text.specs.ScenarioPart.{Rest, Told}
+use Rattle.report_text.specs.TextPass.{told_by_text}
 use Rattle.report_text.specs.JournalRead.{JournalText, behind_journal, journals_at, behind_journals}
 use Rattle.report_text.specs.LinkPass.{journal_told, wrong_among}
 use Rattle.report_text.specs.TextLines.{first_other}
 use Rattle.report_text.specs.TotalPass.{number_texts, wrong_number}
-use Rattle.report_text.specs.Verdicts.{wrong_or, by_steps, by_told}
-use Rattle.report_text.specs.StepPass.{wrong_step, unfinished}
+use Rattle.report_text.specs.Verdicts.{wrong_or, by_steps, by_told, verdict_on}
+use Rattle.report_text.proofs.TurnsDue.{Sound}
+use Rattle.report_text.specs.StepPass.{wrong_step, unfinished, left_behind}
 use Rattle.report_text.specs.RightRuns.{TellsRun, RightStepsTellRuns, PassesThree, RightReportsTellRuns, RightNumbersAreDue}
-use Rattle.report_text.proofs.RunsTold.{IsRight, rising-lawful, run-told}
+use Rattle.report_text.proofs.RunsTold.{IsRight, rising-lawful, told-steps, run-told}
 use Rattle.report_text.proofs.ReportsTold.{text-lawful, journals-right}
 use Rattle.report_text.proofs.BoardsTold.{board-run}
 use Rattle.report_text.proofs.LinesTold.{texts-same}
@@ -51,6 +54,10 @@ journals-lines : (ds : List DomainLine) (r : Rest) → map (λ j. j.line) (journ
 journals-lines [] r = refl
 journals-lines (d ∷ ds) r = ap (λ ls. d ∷ ls) (journals-lines ds (behind_journal r))
 
+all-due : (s : Scenario) (board : IsLinkedBoard s) (js : List JournalText) → AllByRecursion (IsRight s board) js → AllByRecursion (λ j. (wrong_step s j ≡ None) × (unfinished s j ≡ None)) js → AllByRecursion (IsDue s board) js
+all-due s board [] right steps = tt
+all-due s board (j ∷ js) right steps = (record { right = right.0; steps = steps.0.0 }, all-due s board js right.1 steps.1)
+
 pub right_reports : RightReportsTellRuns
 right_reports text t short told passes =
     let lawful = text-lawful text t short told in
@@ -61,7 +68,23 @@ right_reports text t short told passes =
     let steps = passes-steps s js _ (subst PassesThree (ap by_told told) passes) in
     let links = passes-or of.Link (wrong_among s js js) _ (λ line no. no) steps.1 in
     let all = board-run s board js right (journals-lines (rising s) t.behind) steps.0 links.0 in
-    record { lawful = lawful; run = all.run; whole = all.whole; written = all.written }
+    record { lawful = lawful; run = all.run; whole = all.whole; written = all.written; numbers = numbers-same s board js (all-due s board js right steps.0) }
+
+-- ---- the states
+
+all-sound : (s : Scenario) (board : IsLinkedBoard s) (js : List JournalText) → AllByRecursion (IsRight s board) js → AllByRecursion (λ j. (wrong_step s j ≡ None) × (unfinished s j ≡ None)) js → AllByRecursion (λ j. Sound (peers_of s j.line) (left_behind s j).state) js
+all-sound s board [] right steps = tt
+all-sound s board (j ∷ js) right steps = ((told-steps s board j right.0 steps.0.0).1.sound, all-sound s board js right.1 steps.1)
+
+-- each domain knows its neighbours at its journal's end, and holds no more of a lane's buffers than there are
+pub reports-sound : (text : List ℕ) (t : Told) → length text < 2 ^ 32 - 1 → told_by_text text ≡ Ok t → PassesThree (verdict_on text) → AllByRecursion (λ j. Sound (peers_of t.scenario j.line) (left_behind t.scenario j).state) (journals_at (rising t.scenario) t.behind)
+reports-sound text t short told passes =
+    let s : Scenario = t.scenario in
+    let js : List JournalText = journals_at (rising s) t.behind in
+    let board = lawful_is_linked s (text-lawful text t short told) in
+    let right = journals-right text t told board (rising-lawful s board) in
+    let steps = passes-steps s js _ (subst PassesThree (ap by_told told) passes) in
+    all-sound s board js right steps.0
 
 -- ---- the numbers
 
@@ -76,21 +99,14 @@ right-behind s (j ∷ js) next e =
     let whole = right-or of.Script (unfinished s j) (by_steps s js next) step.1 in
     right-behind s js next whole.1
 
-all-due : (s : Scenario) (board : IsLinkedBoard s) (js : List JournalText) → AllByRecursion (IsRight s board) js → AllByRecursion (λ j. (wrong_step s j ≡ None) × (unfinished s j ≡ None)) js → AllByRecursion (IsDue s board) js
-all-due s board [] right steps = tt
-all-due s board (j ∷ js) right steps = (record { right = right.0; steps = steps.0.0 }, all-due s board js right.1 steps.1)
-
 pub right_numbers : RightNumbersAreDue
 right_numbers text t short told verdict =
     let s : Scenario = t.scenario in
     let js : List JournalText = journals_at (rising s) t.behind in
     let numbers : Rest = behind_journals (rising s) t.behind in
-    let board = lawful_is_linked s (text-lawful text t short told) in
-    let right = journals-right text t told board (rising-lawful s board) in
     let passes : by_told (Ok t) ≡ Right = sym (ap by_told told) ∙ verdict in
     let next : Verdict = wrong_or of.Link (wrong_among s js js) (wrong_or of.Total (wrong_number s (map (journal_told s) js) numbers) Right) in
-    let steps = passes-steps s js next (subst PassesThree (sym passes) tt) in
     let links = right-or of.Link (wrong_among s js js) (wrong_or of.Total (wrong_number s (map (journal_told s) js) numbers) Right) (right-behind s js next passes) in
     let total = right-or of.Total (wrong_number s (map (journal_told s) js) numbers) Right links.1 in
     texts-same numbers.lines (number_texts s (map (journal_told s) js)) (none-moved numbers.number (first_other numbers.lines (number_texts s (map (journal_told s) js))) total.0)
-    ∙ sym (numbers-same s board js (all-due s board js right steps.0))
+    ∙ sym (right_reports text t short told (subst PassesThree (sym verdict) tt)).numbers

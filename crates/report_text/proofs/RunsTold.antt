@@ -10,42 +10,48 @@ use Rattle.board_model.specs.Scenario.{script, Neighbour, neighbour, linked_by, 
 use Rattle.board_model.specs.Grammar.{IsLawfulDomain}
 use Rattle.board_model.specs.LinkedBoard.{IsTold, Joins, IsLinkedBoard}
 use Rattle.board_model.specs.State.{DomainState, Peer, new_peer, opening, is_numbered, peer_of, held_from}
-use Rattle.board_model.specs.Journal.{PlainEntry, joined}
+use Rattle.board_model.specs.Journal.{PlainAnswer, tells, PlainEntry, Line, call_line, joined}
 use Rattle.board_model.specs.Report.{line_text}
 use Rattle.board_model.proofs.JournalPartsJoined.{parts_are_joined}
 use Rattle.board_model.specs.Unjoined.{peers_of}
-use Rattle.board_model.specs.JournalParts.{part_entries}
+use Rattle.board_model.specs.JournalParts.{part_lines, part_entries}
 use Rattle.board_model.specs.Step.{RunState, HasNoPuts, after}
 use Rattle.board_model.specs.Run.{start, Leads, after_all, left_by}
 use Rattle.board_model.proofs.BoardsRising.{neighbours-rise}
 use Rattle.board_model.proofs.LanePeers.{peer_found}
-use Rattle.board_model.proofs.MessageAlls.{all-append}
+use Rattle.board_model.proofs.ListsOne.{all-any}
+use Rattle.board_model.proofs.MessageAlls.{all-append, all-weaken}
 use Rattle.board_model.proofs.PlaceBoards.{neighbours_differ}
 use Rattle.board_model.proofs.WholeHas.{has-gives, has-contained}
 use Rattle.board_model.proofs.WholePeers.{size_at, shown_at}
+use Rattle.mc_journal.specs.EntryText.{IsEntryLine}
+use Rattle.report_text.specs.CountedLines.{counted_line}
 use Rattle.report_text.specs.Outlines.{outline_of}
 use Rattle.report_text.specs.JournalOrder.{journal_place}
 use Rattle.report_text.specs.JournalRead.{JournalText, lines_of_texts}
 use Rattle.report_text.specs.TextPass.{puts_of_script}
 use Rattle.report_text.specs.StepPass.{step_place, parts_of, wrong_step, lines_left, left_behind}
 use Rattle.report_text.specs.LinkPass.{journal_told}
-use Rattle.report_text.specs.RightRuns.{with_answers, TellsRun}
-use Rattle.report_text.proofs.AnswersTold.{texts-joined}
+use Rattle.report_text.specs.RightRuns.{with_answers, journal_due, TellsRun}
+use Rattle.report_text.proofs.AnswersTold.{said-joined}
+use Rattle.report_text.proofs.EntryLines.{line-fits}
+use Rattle.report_text.proofs.KindsTold.{number-same}
 use Rattle.report_text.proofs.TurnsDue.{Sound}
 use Rattle.report_text.proofs.LinesTold.{Tell, tell-texts}
 use Rattle.report_text.proofs.StepsDue.{Due, after-answer, due-leads, Going, parts-told}
 use Rattle.report_text.proofs.NothingWrong.{none-moved}
+use Rattle.report_text.proofs.NumbersTold.{words-same}
 use Rattle.report_text.proofs.PartsTold.{AreParts, journal-parts}
 use Rattle.report_text.proofs.EntriesTold.{unjoined-is}
 
 -- ---- the neighbours of a domain
 
 abbrev IsFew : Neighbour → Type 0
-IsFew n = (n.number < 2 ^ 8) × (n.size < 2 ^ 32)
+IsFew n = (n.number < 8) × (n.size < 2 ^ 32)
 
 module _ (s : Scenario) (board : IsLinkedBoard s) where
-  told-few : (n : ℕ) → IsTold s n → n < 2 ^ 8
-  told-few n told = has-gives IsLawfulDomain (λ d. d.domain ≡ n) (n < 2 ^ 8) (λ d lawful is. let le = lawful.domain_fits in omega (arith, le, is)) s.domains board.domains_lawful (has-contained (λ (d : DomainLine). d.domain) s.domains n told)
+  told-few : (n : ℕ) → IsTold s n → n < 8
+  told-few n told = has-gives IsLawfulDomain (λ d. d.domain ≡ n) (n < 8) (λ d lawful is. let le = lawful.domain_fits in omega (arith, le, is)) s.domains board.domains_lawful (has-contained (λ (d : DomainLine). d.domain) s.domains n told)
 
   linked-few : (d : ℕ) (ls : List LinkLine) → AllByRecursion (Joins s) ls → AllByRecursion IsFew (flat_map (linked_by d) ls)
   linked-few d [] joins = tt
@@ -93,9 +99,15 @@ module _ (s : Scenario) (board : IsLinkedBoard s) where
 
   -- ---- the opening
 
-  numbers-few : (ns : List Neighbour) → AllByRecursion IsFew ns → AllByRecursion (λ n. n < 2 ^ 8) (map (λ n. n.number) ns)
+  numbers-few : (ns : List Neighbour) → AllByRecursion IsFew ns → AllByRecursion (λ n. n < 8) (map (λ n. n.number) ns)
   numbers-few [] all = tt
   numbers-few (n ∷ ns) all = (all.0.0, numbers-few ns all.1)
+
+  pub peers-below : (d : DomainLine) → IsLawfulDomain d → AllByRecursion (λ n. n < 8) (peers_of s d)
+  peers-below d lawful = numbers-few (neighbours s d) (neighbours-few d lawful)
+
+  pub peers-few : (d : DomainLine) → IsLawfulDomain d → AllByRecursion (λ n. n < 2 ^ 8) (peers_of s d)
+  peers-few d lawful = all-weaken (λ n. n < 8) (λ n. n < 2 ^ 8) (λ n less. omega (arith, less)) (peers_of s d) (peers-below d lawful)
 
   numbers-same : (ns : List Neighbour) → map (λ p. p.number) (map new_peer ns) ≡ map (λ n. n.number) ns
   numbers-same [] = refl
@@ -133,7 +145,10 @@ module _ (s : Scenario) (board : IsLinkedBoard s) where
               let same : p.size ≡ size = cc in
               (ap (λ (o : Option Peer). unwrap_or (option_map (λ p. p.shown) o) 0) is ∙ new.0, subst (λ n. n < 2 ^ 32) same new.1)
 
-  script-short : (d : ℕ) → length (script s d) < 2 ^ 32
+  pub opening-going : (d : DomainLine) → IsLawfulDomain d → Going (peers_of s d) (script s d.domain) (start s d)
+  opening-going d lawful = record { sound = opening-sound d lawful; settled = tt; within = omega arith }
+
+  pub script-short : (d : ℕ) → length (script s d) < 2 ^ 32
   script-short d = let le = fewer s.calls in omega (arith, le, board.lines_few)
     where
       fewer : (cs : List CallLine) → length (filter (λ c. c.domain == d) cs) ≤ length cs
@@ -162,9 +177,22 @@ module _ (s : Scenario) (board : IsLinkedBoard s) where
   pub told-steps : (j : JournalText) → IsRight j → wrong_step s j ≡ None → Due (script s j.line.domain) (start s j.line) (flat_map (part_entries (peers_of s j.line)) (parts_of s j)) × Going (peers_of s j.line) (script s j.line.domain) (left_behind s j)
   told-steps j right none =
       let parts = told-parts j right in
-      parts-told (peers_of s j.line) (numbers-few (neighbours s j.line) (neighbours-few j.line right.lawful)) (neighbours_differ s board j.line) (script s j.line.domain) (script-short j.line.domain) (parts_of s j) (start s j.line) j.texts
-      (record { sound = opening-sound j.line right.lawful; settled = tt; within = omega arith })
+      parts-told (peers_of s j.line) (peers-few j.line right.lawful) (neighbours_differ s board j.line) (script s j.line.domain) (script-short j.line.domain) (parts_of s j) (start s j.line) j.texts
+      (opening-going j.line right.lawful)
       parts.fits (subst (Tell j.texts) parts.lines right.tells) (none-moved j.number (step_place (script s j.line.domain) (peers_of s j.line) (start s j.line) (parts_of s j) j.texts) none)
+
+  -- what is counted of a call's line is the same where its text is
+  counted-same : (k : ℕ) (a b : PlainAnswer) → IsEntryLine (call_line k b) → line_text (call_line k a) ≡ line_text (call_line k b) → counted_line (call_line k a) ≡ counted_line (call_line k b)
+  counted-same k a b fits e = ap (λ n. call_line k (tells n)) (number-same a b fits.1 (words-same k a b e))
+
+  lines-fit : (ts : List (List ℕ)) (ls : List Line) → Tell ts ls → AllByRecursion IsEntryLine ls
+  lines-fit ts [] tell = tt
+  lines-fit [] (l ∷ ls) tell = absurd tell
+  lines-fit (t ∷ ts) (l ∷ ls) tell = (line-fits tell.0.0 l tell.0.2, lines-fit ts ls tell.1)
+
+  -- the journal with the answers that are due leads where the one that is told does
+  pub due-left : (j : JournalText) → left_by s j.line (journal_due s j).entries ≡ left_behind s j
+  due-left j = after-answers (script s j.line.domain) (start s j.line) (journal_told s j).entries ∙ ap (after_all (script s j.line.domain) (start s j.line)) (unjoined-is s j.line (lines_of_texts j.texts))
 
   pub run-told : (j : JournalText) → IsRight j → wrong_step s j ≡ None → TellsRun s j
   run-told j right none =
@@ -176,7 +204,7 @@ module _ (s : Scenario) (board : IsLinkedBoard s) where
       let parts = told-parts j right in
       let steps = told-steps j right none in
       let due : Due lines first es = subst (Due lines first) (sym same) steps.0 in
-      let left : left_by s j.line (with_answers lines first es) ≡ left_behind s j = after-answers lines first es ∙ ap (after_all lines first) same in
+      let left : left_by s j.line (with_answers lines first es) ≡ left_behind s j = due-left j in
       record {
         run = record {
           steps = subst (Leads lines first (with_answers lines first es)) (sym (after-answers lines first es)) (due-leads lines first es due);
@@ -187,9 +215,13 @@ module _ (s : Scenario) (board : IsLinkedBoard s) where
           lines = ap joined same ∙ parts_are_joined peers (parts_of s j) parts.stand ∙ sym parts.lines;
           texts =
               ap (λ xs. map line_text (joined (with_answers lines first xs))) same
-              ∙ texts-joined peers lines first (parts_of s j) parts.stand steps.0
+              ∙ said-joined peers lines line_text (λ l. Unit {0}) (λ k a b any e. e) first (parts_of s j) parts.stand (all-any (λ l. Unit {0}) (λ l. tt) (flat_map part_lines (parts_of s j))) steps.0
               ∙ ap (map line_text) (sym parts.lines)
               ∙ sym (tell-texts j.texts (lines_of_texts j.texts) right.tells);
+          counted =
+              ap (λ xs. map counted_line (joined (with_answers lines first xs))) same
+              ∙ said-joined peers lines counted_line IsEntryLine counted-same first (parts_of s j) parts.stand (subst (AllByRecursion IsEntryLine) parts.lines (lines-fit j.texts (lines_of_texts j.texts) right.tells)) steps.0
+              ∙ ap (map counted_line) (sym parts.lines);
         };
       }
     where

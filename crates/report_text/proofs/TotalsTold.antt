@@ -39,6 +39,7 @@ use Rattle.report_text.specs.StepPass.{parts_of, wrong_step}
 use Rattle.report_text.specs.LinkPass.{journal_told}
 use Rattle.report_text.specs.TotalPass.{number_texts}
 use Rattle.report_text.specs.RightRuns.{journal_due}
+use Rattle.report_text.proofs.AnswersTold.{all-split}
 use Rattle.report_text.proofs.EntryLines.{line-fits}
 use Rattle.report_text.proofs.OutlinesRead.{call-spaced}
 use Rattle.report_text.proofs.LinesTold.{Tell, pair-told}
@@ -79,10 +80,6 @@ lines-read : (ts : List (List ℕ)) (ls : List Line) → Tell ts ls → AllByRec
 lines-read ts [] tell = tt
 lines-read [] (l ∷ ls) tell = absurd tell
 lines-read (t ∷ ts) (l ∷ ls) tell = (line-read tell.0.0 l tell.0.2, lines-read ts ls tell.1)
-
-all-split : {A : Type 0} (P : A → Type 0) (xs ys : List A) → AllByRecursion P (xs ++ ys) → AllByRecursion P xs × AllByRecursion P ys
-all-split P [] ys all = (tt, all)
-all-split P (x ∷ xs) ys all = let rest = all-split P xs ys all.1 in ((all.0, rest.0), rest.1)
 
 idles-read : (qs : List ℕ) (n : ℕ) → AllByRecursion IsRead (times n (idle_turn qs ∷ []))
 idles-read qs zero = tt

@@ -70,13 +70,16 @@ module _ (peers : List ℕ) (few : AllByRecursion (λ n. n < 2 ^ 8) peers) (diff
   due-small : (vs : List Visit) → map (λ v. v.peer) vs ≡ peers → AllByRecursion IsSmall (flat_map visit_lines (due_visits s vs))
   due-small vs each = small-visits peers s (due_visits s vs) h (turn-allowed peers s vs h each).0.allowed (all-peers (λ n. n < 2 ^ 8) (due_visits s vs) peers (due-peers s vs ∙ each) few)
 
-  pub turn-told : (vs : List Visit) (ts : List (List ℕ)) → map (λ v. v.peer) vs ≡ peers → Tell ts (turn_line ∷ flat_map visit_lines vs) → other_than (turn_line ∷ flat_map visit_lines (due_visits s vs)) ts ≡ None → IsTurn s vs × Sound peers (after_turn s vs)
-  turn-told vs ts each tell none =
+  -- it tells of the visits that are due
+  pub visits-told : (vs : List Visit) (ts : List (List ℕ)) → map (λ v. v.peer) vs ≡ peers → Tell ts (turn_line ∷ flat_map visit_lines vs) → other_than (turn_line ∷ flat_map visit_lines (due_visits s vs)) ts ≡ None → vs ≡ due_visits s vs
+  visits-told vs ts each tell none =
       let due : List Visit = due_visits s vs in
       let all = tell-bare ts (turn_line ∷ flat_map visit_lines vs) (turn_line ∷ flat_map visit_lines due) tell none (tt, due-small vs each) in
       let lines = cons-parts turn_line turn_line (map bare (flat_map visit_lines vs)) (map bare (flat_map visit_lines due)) all in
-      let same : vs ≡ due = same-visits vs due peers differ each (due-peers s vs ∙ each) (sym (bare-turn (flat_map visit_lines vs) (visits_all vs)) ∙ lines.1 ∙ bare-turn (flat_map visit_lines due) (visits_all due)) in
-      subst (λ ws. IsTurn s ws × Sound peers (after_turn s ws)) (sym same) (turn-allowed peers s vs h each)
+      same-visits vs due peers differ each (due-peers s vs ∙ each) (sym (bare-turn (flat_map visit_lines vs) (visits_all vs)) ∙ lines.1 ∙ bare-turn (flat_map visit_lines due) (visits_all due))
+
+  pub turn-told : (vs : List Visit) (ts : List (List ℕ)) → map (λ v. v.peer) vs ≡ peers → Tell ts (turn_line ∷ flat_map visit_lines vs) → other_than (turn_line ∷ flat_map visit_lines (due_visits s vs)) ts ≡ None → IsTurn s vs × Sound peers (after_turn s vs)
+  turn-told vs ts each tell none = subst (λ ws. IsTurn s ws × Sound peers (after_turn s ws)) (sym (visits-told vs ts each tell none)) (turn-allowed peers s vs h each)
 
   -- ---- an idle turn
 

@@ -9,6 +9,7 @@ pub mod TextPass
 pub mod Ranks
 pub mod Texts
 pub mod TextRead
+pub mod CountedLines
 pub mod JournalRead
 pub mod StepPass
 pub mod LaneLines

@@ -17,6 +17,7 @@ use Rattle.board_model.specs.Board.{DomainJournal, IsBoardRun, AreWhole}
 use Rattle.report_text.specs.declared.verdict.CheckReason.TheVariants as of
 use Rattle.report_text.specs.declared.verdict.Verdict.{Verdict}
 use Rattle.report_text.specs.declared.verdict.Verdict.TheVariants.{Right, Wrong}
+use Rattle.report_text.specs.CountedLines.{counted_line}
 use Rattle.report_text.specs.ScenarioPart.{Told}
 use Rattle.report_text.specs.TextPass.{told_by_text}
 use Rattle.report_text.specs.JournalRead.{JournalText, lines_of_texts, journals_at, behind_journals}
@@ -53,10 +54,12 @@ with_answers script r (e ∷ es) = with_answer script r e ∷ with_answers scrip
 abbrev pub journal_due : Scenario → JournalText → DomainJournal
 journal_due s j = record { line = j.line; entries = with_answers (script s j.line.domain) (start s j.line) (journal_told s j).entries }
 
--- the lines that a journal tells are those of its entries, and its texts are those of the lines with the answers that are due
+-- the lines that a journal tells are those of its entries, and its texts are those of the lines with the answers that are due. A count comes
+-- to the same with both
 pub record HasLines (s : Scenario) (j : JournalText) : Type 0 where
   pub lines : joined (journal_told s j).entries ≡ lines_of_texts j.texts
   pub texts : map line_text (joined (journal_due s j).entries) ≡ j.texts
+  pub counted : map counted_line (joined (journal_due s j).entries) ≡ map counted_line (lines_of_texts j.texts)
 
 -- it is the journal of a run of its domain, and of a whole run where the script does not go on
 pub record TellsRun (s : Scenario) (j : JournalText) : Type 0 where
@@ -78,12 +81,13 @@ PassesThree other = ⊥
 abbrev pub journals_due : Told → List DomainJournal
 journals_due t = map (journal_due t.scenario) (journals_at (rising t.scenario) t.behind)
 
--- a whole run of the board of a lawful scenario, whose journals have the texts of the report
+-- a whole run of the board of a lawful scenario, whose journals have the texts of the report, and the numbers of the journals that it tells
 pub record TellsBoardRun (t : Told) : Type 0 where
   pub lawful : IsLawfulBoard t.scenario
   pub run : IsBoardRun t.scenario (journals_due t)
   pub whole : AreWhole t.scenario (journals_due t)
   pub written : AllByRecursion (HasLines t.scenario) (journals_at (rising t.scenario) t.behind)
+  pub numbers : number_texts t.scenario (journals_due t) ≡ number_texts t.scenario (map (journal_told t.scenario) (journals_at (rising t.scenario) t.behind))
 
 -- a report in which the first three passes find nothing wrong tells one
 abbrev pub RightReportsTellRuns : Type 0

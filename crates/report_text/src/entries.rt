@@ -2,6 +2,7 @@
 
 ghost use Rattle.std.specs.Prelude.{◌≡◌, ◌+◌, ◌<◌, ◌≤◌, IfSome, option_map, length};
 ghost use Rattle.mc_journal.specs.Entry.{line_of_entry};
+ghost use Rattle.report_text.specs.CountedLines.{counted_front, counted_line, lines_counted};
 ghost use Rattle.report_text.specs.LaneLines.{lane_of, lanes_front, lanes_told};
 ghost use Rattle.report_text.specs.Texts.{longest_line};
 
@@ -12,6 +13,7 @@ use mc_journal::{Entry, entries_have_entry_lines, read_entry};
 /// long as the longest line.
 pub fn next_entry<'a, 'r>(text: &'a [u8], room: &'r mut [u8]) -> Option<(Entry<'r>, &'a [u8])>
     requires { longest_line text.now ≤ length room.old }
+    ensures lines { lines_counted text.now ≡ counted_front (option_map (λ x. (counted_line (line_of_entry x.0), x.1.now)) result) }
     ensures lanes { lanes_told text.now ≡ lanes_front (option_map (λ x. (lane_of (line_of_entry x.0), x.1.now)) result) }
     ensures shorter { IfSome result (λ x. length x.1.now < length text.now) }
     ensures fits { IfSome result (λ x. longest_line x.1.now ≤ longest_line text.now) }

@@ -34,7 +34,7 @@ fn puts_numbered(puts: &[u8], number: u32) -> usize
 }
 
 /// Counts the put lines before a line that are the line's, by how many frames each line of the script puts.
-fn puts_of_line(puts: &[u8], line: Outline) -> usize
+pub fn puts_of_line(puts: &[u8], line: Outline) -> usize
     ensures { result ≡ puts_by puts.now line }
 {
     match line {

@@ -19,13 +19,19 @@ mod text;
 mod turn_order;
 mod verdict;
 
+pub use board::{Numbered, neighbours_of_domain, numbers, rising_domains, script_puts};
 pub use entries::next_entry;
 pub use fault::TextFault;
+pub use journal::puts_of_line;
 pub use laws::{
     due_visits_are_allowed, idle_turns_keep, journal_examples_hold, right_numbers_are_due,
     right_reports_tell_runs, right_steps_tell_runs, verdict_examples_hold,
 };
 pub use lines::cut;
 pub use link_pass::{JournalLines, wrong_lanes};
-pub use pass::{ReportText, read_text};
+pub use outline::Outline;
+pub use pass::{ReportText, longest_line, read_text};
+pub use reading::next_line;
+pub use scenario::other_line;
+pub use turn_order::is_under;
 pub use verdict::{CheckReason, Verdict};

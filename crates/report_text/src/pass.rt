@@ -1,6 +1,6 @@
 //! The first pass over a report: what its text tells, or its first wrong line.
 
-ghost use Rattle.std.specs.Prelude.{◌≡◌, ◌<◌, ◌≤◌, IfOk, Ok, Err, length};
+ghost use Rattle.std.specs.Prelude.{◌≡◌, ◌+◌, ◌<◌, ◌≤◌, IfOk, Ok, Err, length};
 ghost use Rattle.report_text.specs.TextPass.{told_by_text};
 ghost use Rattle.report_text.specs.TextRead.{IfWrong, told_of};
 ghost use Rattle.report_text.specs.Texts.{longest_line as length_of_longest, told_seen};
@@ -44,7 +44,8 @@ pub fn longest_line(text: &[u8]) -> usize
 #[tactic(auto, using(crate::proofs::Reached::behind_past, crate::proofs::Reached::behind_behind))]
 fn text_told(alloc: Global, report: &[u8]) -> Result<Result<(Scenario, Unread<'_>), u32>, NoMemory>
     requires { length report.now < 4_294_967_295 }
-    ensures { IfOk result (λ r. told_seen r ≡ told_by_text report.now) }
+    ensures told { IfOk result (λ r. told_seen r ≡ told_by_text report.now) }
+    ensures counted { IfOk result (λ r. IfOk r (λ t. t.1.number + length t.1.text.now ≤ length report.now + 1)) }
 {
     let start = Unread {
         number: 1,
@@ -77,6 +78,7 @@ fn text_told(alloc: Global, report: &[u8]) -> Result<Result<(Scenario, Unread<'_
 pub fn read_text(alloc: Global, report: &[u8]) -> Result<ReportText<'_>, TextFault>
     requires { length report.now < 4_294_967_295 }
     ensures told { IfOk result (λ t. told_by_text report.now ≡ Ok (told_of t)) }
+    ensures counted { IfOk result (λ t. t.line + length t.behind.now ≤ length report.now + 1) }
     ensures wrong { IfWrong result (λ line. told_by_text report.now ≡ Err line) }
     ensures verdict { IfWrong result (λ line. verdict_on report.now ≡ verdicts.Wrong line of.Text) }
 {

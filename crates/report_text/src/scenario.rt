@@ -87,7 +87,7 @@ fn unless_same(place: u32, one: &[u8], two: &[u8]) -> Option<u32>
 }
 
 /// Returns the place of the first line that is another in the two texts.
-fn other_line(one: &[u8], two: &[u8]) -> Option<u32>
+pub fn other_line(one: &[u8], two: &[u8]) -> Option<u32>
     requires { length one.now < 2 ^ 32 }
     ensures value { result ≡ first_other (lines_in one.now) (lines_in two.now) }
     ensures within { IfSome result (λ place. place ≤ length one.now) }
