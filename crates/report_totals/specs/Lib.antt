@@ -1,0 +1,5 @@
+pub mod EndedJournals
+pub mod Counting
+pub mod SmallRuns
+pub mod JournalTallies
+pub mod PassedReports

@@ -1,0 +1,12 @@
+//! The fourth pass over a report: whether its lines of numbers are those that its journals come to.
+#![tactic(auto)]
+
+mod counting;
+mod deletes;
+mod due_text;
+mod ended_journal;
+mod held;
+mod pass;
+mod tallies;
+
+pub use pass::wrong_number;
