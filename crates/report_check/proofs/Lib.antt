@@ -13,3 +13,11 @@ pub mod RunSteps
 pub mod IdleTurns
 pub mod PartFronts
 pub mod FitLines
+pub mod WalksTold
+pub mod VerdictsFound
+pub mod UnderLines
+pub mod FirstParts
+pub mod NextLemmas
+pub mod WayParts
+pub mod PartHeads
+pub mod WalkFound

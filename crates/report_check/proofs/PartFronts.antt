@@ -1,5 +1,5 @@
 -- The parts of a journal, read from the front: the lines under a line, and the last puts among them, which the line behind them claims.
-use Rattle.std.proofs.Common.{◌≡◌, ℕ, zero, suc, ◌+◌, ◌-◌, ◌<◌, ◌≤◌, Bool, true, false, cond, List, [], ◌∷◌, ◌++◌, length, take, drop, map, Option, None, Some, refl, sym, ap, ap₂, ◌∙◌, arith}
+use Rattle.std.proofs.Common.{◌≡◌, ℕ, zero, suc, ◌+◌, ◌-◌, ◌≤◌, Bool, true, false, cond, List, [], ◌∷◌, ◌++◌, length, take, drop, map, Option, None, Some, refl, sym, ap, ap₂, ◌∙◌, arith}
 use Rattle.std.specs.Prelude.{min, nat_lt, ◌&&◌, ◌==◌, slice_get, unwrap_or}
 use Rattle.std.specs.List.{AllByRecursion}
 use Rattle.std.proofs.lemmas.List.{length-map}
@@ -28,7 +28,7 @@ all_put (l ∷ ls) = puts_line l && all_put ls
 abbrev pub put_last : List Line → ℕ
 put_last ls = puts_last 0 (map outline_of ls)
 
-last-all : (n : ℕ) (ls : List Line) → all_put ls ≡ true → puts_last n (map outline_of ls) ≡ n + length ls
+pub last-all : (n : ℕ) (ls : List Line) → all_put ls ≡ true → puts_last n (map outline_of ls) ≡ n + length ls
 last-all n [] e = omega arith
 last-all n (l ∷ ls) e = go (puts_line l) e (last-all (n + 1) ls)
   where
@@ -36,7 +36,7 @@ last-all n (l ∷ ls) e = go (puts_line l) e (last-all (n + 1) ls)
     go true e rest = let more : n + 1 + length ls ≡ n + length (l ∷ ls) = omega arith in rest e ∙ more
     go false e rest = absurd cc
 
-last-any : (n m : ℕ) (ls : List Line) → all_put ls ≡ false → puts_last n (map outline_of ls) ≡ puts_last m (map outline_of ls)
+pub last-any : (n m : ℕ) (ls : List Line) → all_put ls ≡ false → puts_last n (map outline_of ls) ≡ puts_last m (map outline_of ls)
 last-any n m [] e = absurd cc
 last-any n m (l ∷ ls) e = go (puts_line l) e (last-any (n + 1) (m + 1) ls)
   where
@@ -44,7 +44,7 @@ last-any n m (l ∷ ls) e = go (puts_line l) e (last-any (n + 1) (m + 1) ls)
     go true e rest = rest e
     go false e rest = refl
 
-last-few : (n : ℕ) (ls : List Line) → puts_last n (map outline_of ls) ≤ n + length ls
+pub last-few : (n : ℕ) (ls : List Line) → puts_last n (map outline_of ls) ≤ n + length ls
 last-few n [] = omega arith
 last-few n (l ∷ ls) = go (puts_line l) (last-few (n + 1) ls) (last-few 0 ls)
   where

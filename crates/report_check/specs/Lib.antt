@@ -2,3 +2,9 @@ pub mod Meeting
 pub mod Doing
 pub mod Runs
 pub mod ToldTurns
+pub mod NextParts
+pub mod PartOutlines
+pub mod Walked
+pub mod RightSteps
+pub mod Walks
+pub mod PartsWalked

@@ -1,6 +1,6 @@
 //! What the lines of a turn tell of each peer.
 
-ghost use Rattle.std.specs.Prelude.{◌≡◌, ◌≤◌, ◌<◌, ◌++◌, ◌∷◌, [], ℕ, List, Some, length, option_map, option_to_list, take};
+ghost use Rattle.std.specs.Prelude.{◌≡◌, ◌≤◌, ◌<◌, ◌^◌, ◌++◌, ◌∷◌, [], ℕ, List, Some, length, option_map, option_to_list, take};
 ghost use Rattle.mc_journal.specs.Entry.{line_of_entry};
 ghost use Rattle.mc_journal.specs.LineForms.{line_in};
 ghost use Rattle.report_text.specs.JournalRead.{lines_of_texts};
@@ -154,7 +154,7 @@ fn note_line<'a>(peers: &mut [ToldPeer<'a>; 8], line: &'a [u8], room: &mut [u8])
 /// Reads what the first lines of a text, those of a turn, tell of each peer. `room` is as long as the longest line.
 pub fn read_told<'a>(text: &'a [u8], lines: usize, room: &mut [u8]) -> ToldTurn<'a>
     requires fits { longest_line text.now ≤ length room.old }
-    requires few { length text.now < 4_294_967_295 }
+    requires few { length text.now < 2 ^ 32 }
     ensures told { IsToldTurn result (lines_of_texts (take lines (lines_in text.now))) }
     ensures short { (size : ℕ) → longest_line text.now ≤ size → AreShort size result }
 {

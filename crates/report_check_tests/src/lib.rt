@@ -2,4 +2,12 @@
 #![tactic(auto)]
 
 #[cfg(test)]
+mod changes;
+#[cfg(test)]
+mod cursor;
+#[cfg(test)]
 mod due_lines;
+#[cfg(test)]
+mod reports;
+#[cfg(test)]
+mod tests;

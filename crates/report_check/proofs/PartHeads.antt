@@ -1,0 +1,76 @@
+-- A part by what heads it: where its lines are compared with those that are due, and where it leads to.
+use Rattle.std.proofs.Common.{◌≡◌, ℕ, ◌≤◌, List, [], ◌∷◌, map, Option, None, IfOk, OnOk, Result, Ok, Err, refl, sym, ap, subst, ◌∙◌}
+use Rattle.mc_base.specs.declared.refusal.Refusal.{Refusal}
+use Rattle.board_model.specs.declared.scenario.CallLine.{CallLine}
+use Rattle.board_model.specs.Journal.{Line, PlainAnswer, again, called, turned, turn_line, waits}
+use Rattle.board_model.specs.JournalParts.{Part, idles, spins, tries, turn_of, wait_of, call_of, part_entries}
+use Rattle.board_model.specs.Run.{after_all}
+use Rattle.board_model.specs.Step.{RunState, after}
+use Rattle.board_model.specs.Unjoined.{visit_in}
+use Rattle.report_text.specs.StepPass.{due_lines, due_visits, other_than, part_place}
+use Rattle.report_text.proofs.StepsDue.{Fits}
+use Rattle.report_check.specs.NextParts.{Heads}
+use Rattle.report_check.specs.PartsWalked.{IsSomeHead, due_part}
+use Rattle.report_check.specs.Runs.{IsAt}
+use Rattle.report_check.specs.declared.cursor.Head.{Head}
+use Rattle.report_check.specs.declared.cursor.Head.TheVariants as head
+use Rattle.report_check.specs.declared.run.Run.{Run}
+use Rattle.report_check.proofs.RunSteps.{puts-called}
+
+pub if-ok : {A E : Type 0} (P Q : A → Type 0) (r : Result A E) → ((a : A) → P a → Q a) → IfOk r P → IfOk r Q
+if-ok P Q (Ok a) f h = f a h
+if-ok P Q (Err e) f h = tt
+
+pub on-ok : {A E : Type 0} (P : Type 0) (Q : A → Type 0) (r : Result A E) → ((a : A) → P → Q a) → OnOk r P → IfOk r Q
+on-ok P Q (Ok a) f h = f a h
+on-ok P Q (Err e) f h = tt
+
+-- idle turns and tries in a row have a count
+pub head-some : (peers : List ℕ) (ls : List Line) (h : Head) (p : Part) → Heads peers ls h p → Fits peers p → IsSomeHead h
+head-some peers ls (head.Idle n) p heads fits = let count = subst (Fits peers) heads fits in count.0
+head-some peers ls (head.Spin n) p heads fits = let count = subst (Fits peers) heads.1 fits in count.0
+head-some peers ls head.Again p heads fits = tt
+head-some peers ls head.Turn p heads fits = tt
+head-some peers ls head.Wait p heads fits = tt
+head-some peers ls head.Call p heads fits = tt
+
+module _ (peers : List ℕ) (script : List CallLine) (r : RunState) (ls : List Line) (texts : List (List ℕ)) (new : Run) (p : Part) where
+  -- the place that is found by this part, and where it leads to, are those of the other
+  abbrev IsPlace : Part → Option ℕ → Type 0
+  IsPlace q place = place ≡ part_place script peers r q texts
+
+  abbrev Leads : Part → Type 0
+  Leads q = IsAt new (after_all script r (part_entries peers (due_part r.state q)))
+
+  module _ (h : Head) (heads : Heads peers ls h p) where
+    headed : (k : Head) → h ≡ k → Heads peers ls k p
+    headed k e = subst (λ x. Heads peers ls x p) e heads
+
+    pub try-word : h ≡ head.Again → Refusal
+    try-word e = (headed head.Again e).0
+
+    pub try-leads : (e : h ≡ head.Again) → IsAt new (after script r (again (try-word e))) → Leads p
+    try-leads e at = subst Leads (sym (headed head.Again e).1) at
+
+    pub turn-place-is : h ≡ head.Turn → (place : Option ℕ) → place ≡ other_than (turn_line ∷ due_lines r (map (visit_in ls) peers)) texts → place ≡ part_place script peers r p texts
+    turn-place-is e place is = subst (λ q. IsPlace q place) (sym (headed head.Turn e)) is
+
+    pub turn-leads : h ≡ head.Turn → IsAt new (after script r (turned (due_visits r.state (map (visit_in ls) peers)))) → Leads p
+    turn-leads e at = subst Leads (sym (headed head.Turn e)) at
+
+    pub wait-number : h ≡ head.Wait → ℕ
+    wait-number e = (headed head.Wait e).0
+
+    pub wait-leads : (e : h ≡ head.Wait) → IsAt new (after script r (waits (wait-number e))) → Leads p
+    wait-leads e at = subst Leads (sym (headed head.Wait e).1) at
+
+    pub call-number : h ≡ head.Call → ℕ
+    call-number e = (headed head.Call e).1
+
+    pub call-answer : h ≡ head.Call → PlainAnswer
+    call-answer e = (headed head.Call e).2
+
+    pub call-leads : (e : h ≡ head.Call) → IsAt new (after script r (called (call-number e) (call-answer e))) → Leads p
+    call-leads e at =
+        let is = headed head.Call e in
+        subst Leads (sym is.3) (subst (IsAt new) (sym (puts-called script is.0 r is.1 is.2)) at)

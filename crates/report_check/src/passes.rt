@@ -1,0 +1,98 @@
+//! A report checked: whether it is that of a whole run of its board.
+
+ghost use Rattle.std.specs.Prelude.{◌≡◌, ◌+◌, ◌-◌, ◌^◌, ◌<◌, ◌≤◌, ℕ, IfOk, List, Ok, length};
+ghost use Rattle.report_text.specs.ScenarioPart.{Told};
+ghost use Rattle.report_text.specs.TextPass.{told_by_text};
+ghost use Rattle.report_text.specs.TextRead.{told_of};
+ghost use Rattle.report_text.specs.Verdicts.{by_told, verdict_on};
+ghost use Rattle.report_check.specs.Walks.{AreAllWalked, AreReady, IsTextOf};
+
+use crate::given::note_given;
+use crate::walks::Walks;
+use board_model::Scenario;
+use mc_base::NoMemory;
+use report_text::{
+    CheckReason, ReportText, TextFault, Verdict, longest_line, read_text, rising_domains,
+    wrong_lanes,
+};
+use report_totals::wrong_number;
+use std::alloc::Global;
+
+/// Checks a report that comes from elsewhere: whether it is the report of a whole run of the board that it names, in which every message and
+/// every item arrived once and in order and no buffer was lost. Else the verdict has the first wrong line, by four passes over the report, and
+/// why it is wrong (docs/FORMATS.md, "How a report is checked").
+///
+/// # Errors
+///
+/// `NoMemory` where an allocation fails, which may happen at any time.
+pub fn check(alloc: Global, report: &[u8]) -> Result<Verdict, NoMemory>
+    requires { length report.now < 4_294_967_295 }
+    ensures { IfOk result (λ verdict. verdict ≡ verdict_on report.now) }
+{
+    match read_text(alloc, report) {
+        Ok(told) => check_told(alloc, report, &told),
+        Err(TextFault::Wrong { line }) => Ok(Verdict::Wrong {
+            line,
+            reason: CheckReason::Text,
+        }),
+        Err(TextFault::NoMemory) => Err(NoMemory),
+    }
+}
+
+/// Checks a report whose text was read.
+fn check_told(alloc: Global, _report: &[u8], told: &ReportText<'_>) -> Result<Verdict, NoMemory>
+    requires { IsTextOf _report.now told.now }
+    ensures { IfOk result (λ verdict. verdict ≡ verdict_on _report.now) }
+{
+    let lines = rising_domains(alloc, told.scenario.domains.as_slice())?;
+    let Ok(mut room) = vec![in alloc; 0u8; longest_line(told.behind)] else {
+        return Err(NoMemory);
+    };
+    let mut walks = Walks {
+        journals: Vec::new(alloc),
+        states: Vec::new(alloc),
+        line: told.line,
+        behind: told.behind,
+    };
+    match walks.walk_on(alloc, &told.scenario, &lines, &mut room)? {
+        Some(verdict) => Ok(verdict),
+        None => check_walked(alloc, _report, told, &walks, &mut room),
+    }
+}
+
+/// Checks a report in which the steps of each domain are right, and its script is run whole.
+fn check_walked(
+    alloc: Global,
+    _report: &[u8],
+    told: &ReportText<'_>,
+    walks: &Walks<'_>,
+    room: &mut [u8],
+) -> Result<Verdict, NoMemory>
+    requires text { IsTextOf _report.now told.now }
+    requires walked { AreAllWalked (told_of told.now) walks.now }
+    requires ready { AreReady (length room.old) (2 ^ 32 - 1) walks.now }
+    ensures { IfOk result (λ verdict. verdict ≡ verdict_on _report.now) }
+{
+    let mut given = [[0; 8]; 8];
+    note_given(&walks.journals, &walks.states, &mut given, room);
+    if let Some(line) = wrong_lanes(alloc, &walks.journals, &given)? {
+        return Ok(Verdict::Wrong {
+            line,
+            reason: CheckReason::Link,
+        });
+    }
+    match wrong_number(
+        alloc,
+        told,
+        &walks.journals,
+        &walks.states,
+        walks.line,
+        walks.behind,
+    )? {
+        Some(line) => Ok(Verdict::Wrong {
+            line,
+            reason: CheckReason::Total,
+        }),
+        None => Ok(Verdict::Right),
+    }
+}
