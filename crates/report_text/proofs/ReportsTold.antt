@@ -19,10 +19,10 @@ use Rattle.report_text.specs.TextLines.{lines_in, moved}
 use Rattle.report_text.specs.JournalOrder.{journal_place}
 use Rattle.report_text.specs.JournalRead.{text_first, told_texts, line_before, line_first, lines_of_texts, journal_at, behind_journal, journals_at}
 use Rattle.report_text.specs.ReportLines.{FormWord, has_form, heading_form, journal_form}
-use Rattle.board_model.specs.Report.{serial, threads}
+use Rattle.board_model.specs.Report.{Mode, serial, threads}
 use Rattle.board_model.specs.Language.{RefusedLine, told_by, IsLawfulBoard}
 use Rattle.report_text.specs.ScenarioPart.{text_of, other_place, scenario_unless, scenario_by, Rest, rest, Told, begins_journal, front_lines, behind_front, told_behind, scenario_in, scenario_from}
-use Rattle.report_text.specs.TextPass.{◌>>=◌, line_by, one_line, else_read, heading_from, puts_of_script, entries_by, entries_from, journal_from, journals_from, numbers_from, board_from, whole_told, told_by_text}
+use Rattle.report_text.specs.TextPass.{◌>>=◌, line_by, one_line, else_read, Headed, mode_heading_from, heading_from, puts_of_script, entries_by, entries_from, journal_from, journals_from, numbers_from, board_from, whole_told, told_by_text}
 use Rattle.report_text.proofs.LinesTold.{Tell}
 use Rattle.report_text.proofs.RunsTold.{IsRight}
 
@@ -125,24 +125,35 @@ one-ok form n (l ∷ ls) r e = go (has_form form l) e
         ok-is x y e = cc
     go false e = absurd cc
 
-heading-end : (r q : Rest) → AllByRecursion Ends r.lines → heading_from r ≡ Ok q → AllByRecursion Ends q.lines
-heading-end r q all e = go (one_line (heading_form serial) r) refl e
+-- the heading is a line, of a run in one of the modes
+heading-line : (r : Rest) (h : Headed) → heading_from r ≡ Ok h → (mode : Mode) × (one_line (heading_form mode) r ≡ Ok h.behind)
+heading-line r h e = go (mode_heading_from serial r) refl e
   where
-    by : (form : List FormWord) → one_line form r ≡ Ok q → AllByRecursion Ends q.lines
-    by form e = subst (λ (x : Rest). AllByRecursion Ends x.lines) (one-ok form r.number r.lines q e) (first-end r.lines all)
+    ok-is : (x y : Headed) → ◌≡◌ {A = Result Headed ℕ} (Ok x) (Ok y) → x ≡ y
+    ok-is x y e = cc
 
-    go : (o : Result Rest ℕ) → one_line (heading_form serial) r ≡ o → else_read o (one_line (heading_form threads) r) ≡ Ok q → AllByRecursion Ends q.lines
-    go (Ok x) is e = by (heading_form serial) (is ∙ e)
-    go (Err n) is e = by (heading_form threads) e
+    by : (mode : Mode) → mode_heading_from mode r ≡ Ok h → (m : Mode) × (one_line (heading_form m) r ≡ Ok h.behind)
+    by mode e =
+        let line = bind-ok (one_line (heading_form mode) r) (λ behind. Ok (record { mode = mode; behind = behind })) h e in
+        (mode, line.1 ∙ ap (λ (x : Headed). Ok x.behind) (ok-is (record { mode = mode; behind = line.0 }) h line.2))
 
-scenario-end : (r : Rest) (t : Told) → AllByRecursion Ends r.lines → scenario_from r ≡ Ok t → AllByRecursion Ends t.behind.lines
-scenario-end r t all e = go (scenario_in (front_lines r.lines)) e
+    go : (o : Result Headed ℕ) → mode_heading_from serial r ≡ o → else_read o (mode_heading_from threads r) ≡ Ok h → (m : Mode) × (one_line (heading_form m) r ≡ Ok h.behind)
+    go (Ok x) is e = by serial (is ∙ e)
+    go (Err n) is e = by threads e
+
+heading-end : (r : Rest) (h : Headed) → AllByRecursion Ends r.lines → heading_from r ≡ Ok h → AllByRecursion Ends h.behind.lines
+heading-end r h all e =
+    let line = heading-line r h e in
+    subst (λ (x : Rest). AllByRecursion Ends x.lines) (one-ok (heading_form line.0) r.number r.lines h.behind line.1) (first-end r.lines all)
+
+scenario-end : (mode : Mode) (r : Rest) (t : Told) → AllByRecursion Ends r.lines → scenario_from mode r ≡ Ok t → AllByRecursion Ends t.behind.lines
+scenario-end mode r t all e = go (scenario_in (front_lines r.lines)) e
   where
     ok-is : (x y : Told) → ◌≡◌ {A = Result Told ℕ} (Ok x) (Ok y) → x ≡ y
     ok-is x y e = cc
 
-    go : (o : Result Scenario ℕ) → told_behind r o ≡ Ok t → AllByRecursion Ends t.behind.lines
-    go (Ok s) e = subst (λ (x : Told). AllByRecursion Ends x.behind.lines) (ok-is (record { scenario = s; behind = rest (r.number + length (front_lines r.lines)) (behind_front r.lines) }) t e) (front-end r.lines all)
+    go : (o : Result Scenario ℕ) → told_behind mode r o ≡ Ok t → AllByRecursion Ends t.behind.lines
+    go (Ok s) e = subst (λ (x : Told). AllByRecursion Ends x.behind.lines) (ok-is (record { mode = mode; scenario = s; behind = rest (r.number + length (front_lines r.lines)) (behind_front r.lines) }) t e) (front-end r.lines all)
     go (Err n) e = absurd cc
 
 -- ---- the scenario is one that a text tells
@@ -173,31 +184,26 @@ first-shorter form n [] r e = absurd cc
 first-shorter form n ([] ∷ ls) r e = absurd cc
 first-shorter form n ((b ∷ bs) ∷ ls) r e = omega (arith, length-append bs (text_of ls))
 
-heading-shorter : (r q : Rest) → heading_from r ≡ Ok q → length (text_of q.lines) + 1 ≤ length (text_of r.lines)
-heading-shorter r q e = go (one_line (heading_form serial) r) refl e
-  where
-    by : (form : List FormWord) → one_line form r ≡ Ok q → length (text_of q.lines) + 1 ≤ length (text_of r.lines)
-    by form e = subst (λ (x : Rest). length (text_of x.lines) + 1 ≤ length (text_of r.lines)) (one-ok form r.number r.lines q e) (first-shorter form r.number r.lines q e)
+heading-shorter : (r : Rest) (h : Headed) → heading_from r ≡ Ok h → length (text_of h.behind.lines) + 1 ≤ length (text_of r.lines)
+heading-shorter r h e =
+    let line = heading-line r h e in
+    subst (λ (x : Rest). length (text_of x.lines) + 1 ≤ length (text_of r.lines)) (one-ok (heading_form line.0) r.number r.lines h.behind line.1) (first-shorter (heading_form line.0) r.number r.lines h.behind line.1)
 
-    go : (o : Result Rest ℕ) → one_line (heading_form serial) r ≡ o → else_read o (one_line (heading_form threads) r) ≡ Ok q → length (text_of q.lines) + 1 ≤ length (text_of r.lines)
-    go (Ok x) is e = by (heading_form serial) (is ∙ e)
-    go (Err n) is e = by (heading_form threads) e
-
-scenario-told : (r : Rest) (t : Told) → scenario_from r ≡ Ok t → told_by (text_of (front_lines r.lines)) ≡ Ok t.scenario
-scenario-told r t e = go (told_by (text_of (front_lines r.lines))) refl e
+scenario-told : (mode : Mode) (r : Rest) (t : Told) → scenario_from mode r ≡ Ok t → told_by (text_of (front_lines r.lines)) ≡ Ok t.scenario
+scenario-told mode r t e = go (told_by (text_of (front_lines r.lines))) refl e
   where
-    last : (s : Scenario) → told_behind r (Ok s) ≡ Ok t → s ≡ t.scenario
+    last : (s : Scenario) → told_behind mode r (Ok s) ≡ Ok t → s ≡ t.scenario
     last s e = ap scenario-in e
       where
         scenario-in : Result Told ℕ → Scenario
         scenario-in (Ok x) = x.scenario
         scenario-in (Err n) = s
 
-    by : (s : Scenario) (o : Option ℕ) → told_behind r (scenario_unless o s) ≡ Ok t → s ≡ t.scenario
+    by : (s : Scenario) (o : Option ℕ) → told_behind mode r (scenario_unless o s) ≡ Ok t → s ≡ t.scenario
     by s None e = last s e
     by s (Some place) e = absurd cc
 
-    go : (o : Result Scenario RefusedLine) → told_by (text_of (front_lines r.lines)) ≡ o → told_behind r (scenario_by (front_lines r.lines) o) ≡ Ok t → told_by (text_of (front_lines r.lines)) ≡ Ok t.scenario
+    go : (o : Result Scenario RefusedLine) → told_by (text_of (front_lines r.lines)) ≡ o → told_behind mode r (scenario_by (front_lines r.lines) o) ≡ Ok t → told_by (text_of (front_lines r.lines)) ≡ Ok t.scenario
     go (Ok s) is e = is ∙ ap Ok (by s (other_place s (front_lines r.lines)) e)
     go (Err l) is e = absurd cc
 
@@ -205,13 +211,13 @@ scenario-told r t e = go (told_by (text_of (front_lines r.lines))) refl e
 pub text-lawful : (text : List ℕ) (t : Told) → length text < 2 ^ 32 - 1 → told_by_text text ≡ Ok t → IsLawfulBoard t.scenario
 text-lawful text t short e =
     let first : Rest = rest 1 (lines_in text) in
-    let heading = bind-ok (heading_from first) (λ behind. scenario_from behind >>= whole_told) t e in
-    let scenario = bind-ok (scenario_from heading.0) whole_told t heading.2 in
-    let whole = bind-ok (board_from scenario.0.scenario scenario.0.behind) (λ nothing. Ok scenario.0) t scenario.2 in
+    let heading = bind-ok (heading_from first) (λ h. scenario_from h.mode h.behind >>= whole_told) t e in
+    let scenario = bind-ok (scenario_from heading.0.mode heading.0.behind) whole_told t heading.2 in
+    let whole = bind-ok (board_from scenario.0.mode scenario.0.scenario scenario.0.behind) (λ nothing. Ok scenario.0) t scenario.2 in
     let same : scenario.0 ≡ t = ok-is scenario.0 t whole.2 in
-    let behind : List (List ℕ) = heading.0.lines in
+    let behind : List (List ℕ) = heading.0.behind.lines in
     subst (λ (x : Told). IsLawfulBoard x.scenario) same
-    (text_of (front_lines behind), omega (arith, short, lines-length text, heading-shorter first heading.0 heading.1, front-shorter behind), scenario-told heading.0 scenario.0 scenario.1)
+    (text_of (front_lines behind), omega (arith, short, lines-length text, heading-shorter first heading.0 heading.1, front-shorter behind), scenario-told heading.0.mode heading.0.behind scenario.0 scenario.1)
   where
     ok-is : (x y : Told) → ◌≡◌ {A = Result Told ℕ} (Ok x) (Ok y) → x ≡ y
     ok-is x y e = cc
@@ -260,13 +266,13 @@ pub record FrontOf (text : List ℕ) (t : Told) : Type 0 where
 pub text-front : (text : List ℕ) (t : Told) → told_by_text text ≡ Ok t → FrontOf text t
 text-front text t e =
     let first : Rest = rest 1 (lines_in text) in
-    let heading = bind-ok (heading_from first) (λ behind. scenario_from behind >>= whole_told) t e in
-    let scenario = bind-ok (scenario_from heading.0) whole_told t heading.2 in
-    let whole = bind-ok (board_from scenario.0.scenario scenario.0.behind) (λ nothing. Ok scenario.0) t scenario.2 in
+    let heading = bind-ok (heading_from first) (λ h. scenario_from h.mode h.behind >>= whole_told) t e in
+    let scenario = bind-ok (scenario_from heading.0.mode heading.0.behind) whole_told t heading.2 in
+    let whole = bind-ok (board_from scenario.0.mode scenario.0.scenario scenario.0.behind) (λ nothing. Ok scenario.0) t scenario.2 in
     let same : scenario.0 ≡ t = ok-is scenario.0 t whole.2 in
-    let journals = bind-ok (journals_from scenario.0.scenario (rising scenario.0.scenario) scenario.0.behind) (numbers_from scenario.0.scenario) whole.0 whole.1 in
+    let journals = bind-ok (journals_from scenario.0.scenario (rising scenario.0.scenario) scenario.0.behind) (numbers_from scenario.0.mode scenario.0.scenario) whole.0 whole.1 in
     subst (FrontOf text) same (record {
-      lines = scenario-end heading.0 scenario.0 (heading-end first heading.0 (lines-end text) heading.1) scenario.1;
+      lines = scenario-end heading.0.mode heading.0.behind scenario.0 (heading-end first heading.0 (lines-end text) heading.1) scenario.1;
       behind = journals.0;
       journals = journals.1;
     })

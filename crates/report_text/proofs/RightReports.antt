@@ -18,7 +18,7 @@ use Rattle.report_text.specs.TextPass.{told_by_text}
 use Rattle.report_text.specs.JournalRead.{JournalText, behind_journal, journals_at, behind_journals}
 use Rattle.report_text.specs.LinkPass.{journal_told, wrong_among}
 use Rattle.report_text.specs.TextLines.{first_other}
-use Rattle.report_text.specs.TotalPass.{number_texts, wrong_number}
+use Rattle.report_text.specs.TotalPass.{number_texts, rings_told, wrong_number}
 use Rattle.report_text.specs.Verdicts.{wrong_or, by_steps, by_told, verdict_on}
 use Rattle.report_text.proofs.TurnsDue.{Sound}
 use Rattle.report_text.specs.StepPass.{wrong_step, unfinished, left_behind}
@@ -105,8 +105,10 @@ right_numbers text t short told verdict =
     let js : List JournalText = journals_at (rising s) t.behind in
     let numbers : Rest = behind_journals (rising s) t.behind in
     let passes : by_told (Ok t) ≡ Right = sym (ap by_told told) ∙ verdict in
-    let next : Verdict = wrong_or of.Link (wrong_among s js js) (wrong_or of.Total (wrong_number s (map (journal_told s) js) numbers) Right) in
-    let links = right-or of.Link (wrong_among s js js) (wrong_or of.Total (wrong_number s (map (journal_told s) js) numbers) Right) (right-behind s js next passes) in
-    let total = right-or of.Total (wrong_number s (map (journal_told s) js) numbers) Right links.1 in
-    texts-same numbers.lines (number_texts s (map (journal_told s) js)) (none-moved numbers.number (first_other numbers.lines (number_texts s (map (journal_told s) js))) total.0)
-    ∙ sym (right_reports text t short told (subst PassesThree (sym verdict) tt)).numbers
+    let next : Verdict = wrong_or of.Link (wrong_among s js js) (wrong_or of.Total (wrong_number t.mode s (map (journal_told s) js) numbers) Right) in
+    let links = right-or of.Link (wrong_among s js js) (wrong_or of.Total (wrong_number t.mode s (map (journal_told s) js) numbers) Right) (right-behind s js next passes) in
+    let total = right-or of.Total (wrong_number t.mode s (map (journal_told s) js) numbers) Right links.1 in
+    let rings : List (List ℕ) = rings_told t.mode s numbers.lines in
+    let due : List (List ℕ) = number_texts s (map (journal_told s) js) rings in
+    texts-same numbers.lines due (none-moved numbers.number (first_other numbers.lines due) total.0)
+    ∙ sym ((right_reports text t short told (subst PassesThree (sym verdict) tt)).numbers rings)

@@ -16,7 +16,7 @@ use Rattle.report_text.proofs.TextCuts.{cut-again, lines-cut, lines-some, lines-
 
 -- ---- lines
 
-abbrev Ended : List ℕ → Type 0
+abbrev pub Ended : List ℕ → Type 0
 Ended l = (x : List ℕ) × (cut_at 10 x ≡ None) × (l ≡ x ++ 10 ∷ [])
 
 abbrev Unended : List ℕ → Type 0
@@ -45,7 +45,7 @@ lines-are (b ∷ bs) = go (b == 10) refl (lines-are bs)
     go true is are = inl (([], refl, refl), are)
     go false is are = onto-are b (lines_in bs) is are
 
-cut-ended : (x r : List ℕ) → cut_at 10 x ≡ None → cut_at 10 (x ++ 10 ∷ r) ≡ Some (x, r)
+pub cut-ended : (x r : List ℕ) → cut_at 10 x ≡ None → cut_at 10 (x ++ 10 ∷ r) ≡ Some (x, r)
 cut-ended [] r none = refl
 cut-ended (b ∷ bs) r none = go (b == 10) none (λ h. cut-ended bs r h)
   where
@@ -158,6 +158,13 @@ first-lines text n k is =
     let b = text_of (drop n (lines_in text)) in
     let whole : text ≡ f ++ b = sym (first-text n (lines_in text) ∙ text-back text) in
     ap (λ j. lines_in (take j text)) is ∙ ap (λ (t : List ℕ). lines_in (take (length f) t)) whole ∙ ap lines_in (take-append_seam f b) ∙ lines-back (take n (lines_in text)) (first-are n (lines_in text) (lines-are text))
+
+pub lines-behind : (text : List ℕ) (n k : ℕ) → k ≡ length (text_of (take n (lines_in text))) → drop k text ≡ text_of (drop n (lines_in text))
+lines-behind text n k is =
+    let f = text_of (take n (lines_in text)) in
+    let b = text_of (drop n (lines_in text)) in
+    let whole : text ≡ f ++ b = sym (first-text n (lines_in text) ∙ text-back text) in
+    ap (λ j. drop j text) is ∙ ap (λ (t : List ℕ). drop (length f) t) whole ∙ drop-append_seam f b
 
 -- ---- whether a line begins a journal, before its newline and with it
 

@@ -217,7 +217,7 @@ module _ (s : Scenario) (board : IsLinkedBoard s) where
         let lent = end-same l.receiver (lent_from l.sender) in
         λ i. record { from = l.sender; to = l.receiver; free = free i + (given i - sum (backs i)); ring = length (put i) - length (taken i); queue = queue i; lent = lent i }
 
-    pub numbers-same : number_texts s dues ≡ number_texts s tolds
-    numbers-same =
+    pub numbers-same : (rings : List (List ℕ)) → number_texts s dues rings ≡ number_texts s tolds rings
+    numbers-same rings =
         ap₂ (λ us vs. us ++ vs) (ap (map channel_text) (owners-same js all))
-        (ap₂ (λ m ls. messages_text m ∷ (map places_text ls ++ ending ∷ [])) totals-same (λ i. map (λ l. places-same l i) (lanes s)))
+        (ap₂ (λ m ls. messages_text m ∷ (map places_text ls ++ (rings ++ ending ∷ []))) totals-same (λ i. map (λ l. places-same l i) (lanes s)))

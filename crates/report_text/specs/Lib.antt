@@ -6,6 +6,7 @@ pub mod JournalExamples
 pub mod ScenarioPart
 pub mod ReportLines
 pub mod TextPass
+pub mod Modes
 pub mod Ranks
 pub mod Texts
 pub mod TextRead

@@ -1,19 +1,30 @@
 -- The forms of a report's lines beside those of its scenario and its journals: which words and numbers a line has. Which numbers of items,
 -- messages and buffers are right hangs on the journals.
 -- Source: docs/FORMATS.md, "Report".
-use Rattle.std.specs.Prelude.{ℕ, Bool, false, ◌&&◌, List, [], ◌∷◌, codes, bytes_eq, Option, None, Some}
+use Rattle.std.specs.Prelude.{ℕ, Bool, false, ◌&&◌, List, [], ◌∷◌, codes, bytes_eq, length, nat_le, nat_lt, not, ◌||◌, ◌==◌, ◌%◌, Option, None, Some}
+use Rattle.std.specs.List.{list_all}
 use Rattle.board_model.specs.FileWords.{number_of, is_within, is_admitted}
 use Rattle.board_model.specs.Report.{Mode, serial, threads}
+use Rattle.board_model.specs.declared.scenario.LinkLine.{LinkLine}
 use Rattle.mc_journal.specs.Readers.{cut_at}
 
--- a word, or a number of a range
+-- a word, a number of a range, or bytes in lower-case hexadecimal, with a dash for none
 pub data FormWord : Type 0 where
   word : List ℕ → FormWord
   number : ℕ → ℕ → FormWord
+  bytes : FormWord
+
+-- 0 to 9, and a to f
+abbrev pub is_small_digit : ℕ → Bool
+is_small_digit b = (nat_le 48 b && nat_le b 57) || (nat_le 97 b && nat_le b 102)
+
+abbrev pub spells_bytes : List ℕ → Bool
+spells_bytes text = bytes_eq text (codes "-") || (not (length text == 0) && (length text % 2 == 0 && list_all is_small_digit text))
 
 abbrev pub is_form_word : FormWord → List ℕ → Bool
 is_form_word (word w) text = bytes_eq w text
 is_form_word (number least most) text = is_admitted (is_within least most) (number_of text)
+is_form_word bytes text = spells_bytes text
 
 -- what stands before the first blank, and the rest behind it
 abbrev pub are_cut : (List ℕ → Bool) → (List ℕ → Bool) → Option (List ℕ × List ℕ) → Bool
@@ -71,6 +82,10 @@ messages_form = word (codes "messages") ∷ totals_form
 -- the two domains of the line are those of the lane
 abbrev pub lane_form : ℕ → ℕ → List FormWord
 lane_form sender receiver = word (codes "lane") ∷ exactly sender ∷ exactly receiver ∷ word (codes "free") ∷ count ∷ word (codes "ring") ∷ count ∷ word (codes "queue") ∷ count ∷ word (codes "lent") ∷ count ∷ []
+
+-- the two domains and the queue of the line are those of the ring
+abbrev pub ring_form : LinkLine → ℕ → List FormWord
+ring_form l queue = word (codes "ring") ∷ exactly l.driver ∷ exactly l.device ∷ exactly queue ∷ bytes ∷ []
 
 abbrev pub ending_form : List FormWord
 ending_form = word (codes "end") ∷ []

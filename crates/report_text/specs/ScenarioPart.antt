@@ -6,6 +6,7 @@ use Rattle.std.specs.List.{flat_map}
 use Rattle.board_model.specs.declared.scenario.Scenario.{Scenario}
 use Rattle.board_model.specs.Grammar.{canonical}
 use Rattle.board_model.specs.Language.{RefusedLine, told_by}
+use Rattle.board_model.specs.Report.{Mode}
 use Rattle.mc_journal.specs.Readers.{cut_at}
 use Rattle.report_text.specs.TextLines.{first_other, lines_in}
 
@@ -17,8 +18,9 @@ pub record Rest : Type 0 where
 abbrev pub rest : ℕ → List (List ℕ) → Rest
 rest number lines = record { number = number; lines = lines }
 
--- a scenario, and what is left behind it
+-- the mode of a run and its scenario, and what is left behind that
 pub record Told : Type 0 where
+  pub mode : Mode
   pub scenario : Scenario
   pub behind : Rest
 
@@ -67,9 +69,10 @@ scenario_by lines (Err e) = Err (refused_place (take (e.line - 1) lines) (e.line
 abbrev pub scenario_in : List (List ℕ) → Result Scenario ℕ
 scenario_in lines = scenario_by lines (told_by (text_of lines))
 
-abbrev pub told_behind : Rest → Result Scenario ℕ → Result Told ℕ
-told_behind r (Ok s) = Ok (record { scenario = s; behind = rest (r.number + length (front_lines r.lines)) (behind_front r.lines) })
-told_behind r (Err place) = Err (r.number + place)
+abbrev pub told_behind : Mode → Rest → Result Scenario ℕ → Result Told ℕ
+told_behind mode r (Ok s) = Ok (record { mode = mode; scenario = s; behind = rest (r.number + length (front_lines r.lines)) (behind_front r.lines) })
+told_behind mode r (Err place) = Err (r.number + place)
 
-abbrev pub scenario_from : Rest → Result Told ℕ
-scenario_from r = told_behind r (scenario_in (front_lines r.lines))
+-- behind the heading of this mode
+abbrev pub scenario_from : Mode → Rest → Result Told ℕ
+scenario_from mode r = told_behind mode r (scenario_in (front_lines r.lines))

@@ -2,16 +2,17 @@
 -- Source: docs/FORMATS.md, "Report". A text that ends too early is wrong at the line behind its last.
 use Rattle.std.specs.Prelude.{ℕ, ◌+◌, List, [], ◌∷◌, length, map, ◌==◌, Option, None, Some, Result, Ok, Err, if◌then◌else◌}
 use Rattle.board_model.specs.declared.scenario.DomainLine.{DomainLine}
+use Rattle.board_model.specs.declared.scenario.LinkLine.{LinkLine}
 use Rattle.board_model.specs.declared.scenario.Scenario.{Scenario}
 use Rattle.board_model.specs.Scenario.{script, neighbours, Lane, lane_to, rising}
 use Rattle.board_model.specs.declared.scenario.CallLine.{CallLine}
-use Rattle.board_model.specs.Report.{serial, threads}
+use Rattle.board_model.specs.Report.{Mode, serial, threads}
 use Rattle.board_model.specs.Unjoined.{peers_of, frames_put}
 use Rattle.report_text.specs.TextLines.{lines_in, moved}
 use Rattle.report_text.specs.Outlines.{told_lines, behind_told}
 use Rattle.report_text.specs.JournalOrder.{journal_place}
 use Rattle.report_text.specs.ScenarioPart.{Rest, rest, Told, scenario_from}
-use Rattle.report_text.specs.ReportLines.{FormWord, has_form, heading_form, journal_form, channel_form, messages_form, lane_form, ending_form}
+use Rattle.report_text.specs.ReportLines.{FormWord, has_form, heading_form, journal_form, channel_form, messages_form, lane_form, ring_form, ending_form}
 
 -- a text is read step by step: the first wrong line ends it
 infixl 10 ◌>>=◌
@@ -28,14 +29,24 @@ abbrev pub one_line : List FormWord → Rest → Result Rest ℕ
 one_line form r = line_by form r.number r.lines
 
 -- or else in another way
-abbrev pub else_read : Result Rest ℕ → Result Rest ℕ → Result Rest ℕ
-else_read (Ok r) other = Ok r
+abbrev pub else_read : {A : Type 0} → Result A ℕ → Result A ℕ → Result A ℕ
+else_read (Ok x) other = Ok x
 else_read (Err n) other = other
 
 -- ---- the heading, of a run in either mode
 
-abbrev pub heading_from : Rest → Result Rest ℕ
-heading_from r = else_read (one_line (heading_form serial) r) (one_line (heading_form threads) r)
+-- the mode that a heading names, and what is left behind it
+pub record Headed : Type 0 where
+  pub mode : Mode
+  pub behind : Rest
+
+abbrev pub mode_heading_from : Mode → Rest → Result Headed ℕ
+mode_heading_from mode r = do
+  behind ← one_line (heading_form mode) r
+  Ok (record { mode = mode; behind = behind })
+
+abbrev pub heading_from : Rest → Result Headed ℕ
+heading_from r = else_read (mode_heading_from serial r) (mode_heading_from threads r)
 
 -- ---- the journals
 
@@ -81,6 +92,19 @@ board_lanes_from s (d ∷ ds) r = do
   behind ← lanes_from (map (lane_to d.domain) (neighbours s d)) r
   board_lanes_from s ds behind
 
+-- of each link the ring of queue 0, and then that of queue 1
+abbrev pub rings_from : List LinkLine → Rest → Result Rest ℕ
+rings_from [] r = Ok r
+rings_from (l ∷ ls) r = do
+  behind_first ← one_line (ring_form l 0) r
+  behind_second ← one_line (ring_form l 1) behind_first
+  rings_from ls behind_second
+
+-- a run on one thread has no lines of rings
+abbrev pub rings_in : Mode → Scenario → Rest → Result Rest ℕ
+rings_in serial s r = Ok r
+rings_in threads s r = rings_from s.links r
+
 abbrev pub nothing_behind : Rest → Result Rest ℕ
 nothing_behind r = if length r.lines == 0 then Ok r else Err r.number
 
@@ -91,30 +115,31 @@ ending_from r = do
   nothing_behind behind
 
 -- the lines behind the journals
-abbrev pub numbers_from : Scenario → Rest → Result Rest ℕ
-numbers_from s r = do
+abbrev pub numbers_from : Mode → Scenario → Rest → Result Rest ℕ
+numbers_from mode s r = do
   behind_messages ← one_line messages_form (channels_from r.number r.lines)
   behind_lanes ← board_lanes_from s (rising s) behind_messages
-  ending_from behind_lanes
+  behind_rings ← rings_in mode s behind_lanes
+  ending_from behind_rings
 
 -- the lines behind the scenario
-abbrev pub board_from : Scenario → Rest → Result Rest ℕ
-board_from s r = do
+abbrev pub board_from : Mode → Scenario → Rest → Result Rest ℕ
+board_from mode s r = do
   numbers ← journals_from s (rising s) r
-  numbers_from s numbers
+  numbers_from mode s numbers
 
 -- ---- the whole text
 
--- the scenario and what is left behind it, where that has its form
+-- the mode, the scenario and what is left behind it, where that has its form
 abbrev pub whole_told : Told → Result Told ℕ
 whole_told t = do
-  nothing ← board_from t.scenario t.behind
+  nothing ← board_from t.mode t.scenario t.behind
   Ok t
 
 abbrev pub told_by_lines : List (List ℕ) → Result Told ℕ
 told_by_lines ls = do
-  behind ← heading_from (rest 1 ls)
-  told ← scenario_from behind
+  heading ← heading_from (rest 1 ls)
+  told ← scenario_from heading.mode heading.behind
   whole_told told
 
 -- what a text tells, or its first wrong line

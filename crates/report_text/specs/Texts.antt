@@ -5,12 +5,16 @@ use Rattle.report_text.specs.declared.lines.Unread.{Unread}
 use Rattle.report_text.specs.declared.outline.Outline.{Outline}
 use Rattle.board_model.specs.declared.scenario.Scenario.{Scenario}
 use Rattle.board_model.specs.Scenario.{Neighbour, neighbour}
+use Rattle.board_model.specs.Report.{Mode as RunMode}
+use Rattle.report_text.specs.declared.mode.Mode.{Mode}
 use Rattle.report_text.specs.declared.pieces.Piece.{Piece}
 use Rattle.report_text.specs.declared.pieces.Piece.TheVariants as piece
 use Rattle.report_text.specs.declared.board.Numbered.{Numbered}
-use Rattle.report_text.specs.ReportLines.{FormWord, word, number}
+use Rattle.report_text.specs.Modes.{mode_of}
+use Rattle.report_text.specs.ReportLines.{FormWord, word, number, bytes}
 use Rattle.report_text.specs.ScenarioPart.{Rest, rest, Told}
 use Rattle.report_text.specs.TextLines.{lines_in}
+use Rattle.report_text.specs.TextPass.{Headed}
 use Rattle.report_text.specs.Outlines.{told_lines, behind_told}
 
 abbrev pub lines_told : List ℕ → List Outline
@@ -48,6 +52,7 @@ last_of last (l ∷ ls) = last_of (Some l) ls
 abbrev pub form_word : Piece → FormWord
 form_word (piece.Word w) = word w.now
 form_word (piece.Number least most) = number least most
+form_word piece.Bytes = bytes
 
 abbrev pub form_of : List Piece → List FormWord
 form_of pieces = map form_word pieces
@@ -79,7 +84,12 @@ abbrev pub IsReached : Unread → Result Unread ℕ → Type 0
 IsReached u (Ok v) = IsBehind u v
 IsReached u (Err n) = Unit {0}
 
--- a scenario that was read, with what is left
-abbrev pub told_seen : Result (Scenario × Unread) ℕ → Result Told ℕ
-told_seen (Ok x) = Ok (record { scenario = x.0; behind = rest_of x.1 })
-told_seen (Err n) = Err n
+-- a mode that was read, with what is left
+abbrev pub heading_seen : Result (Mode × Unread) ℕ → Result Headed ℕ
+heading_seen (Ok x) = Ok (record { mode = mode_of x.0; behind = rest_of x.1 })
+heading_seen (Err n) = Err n
+
+-- a scenario that was read behind the heading of this mode, with what is left
+abbrev pub told_seen : RunMode → Result (Scenario × Unread) ℕ → Result Told ℕ
+told_seen mode (Ok x) = Ok (record { mode = mode; scenario = x.0; behind = rest_of x.1 })
+told_seen mode (Err n) = Err n

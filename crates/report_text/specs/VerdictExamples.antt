@@ -1,4 +1,4 @@
--- Examples of verdicts on reports of one domain.
+-- Examples of verdicts on reports of one domain, and of two.
 use Rattle.std.specs.Prelude.{◌≡◌, ℕ, List, ◌++◌, codes}
 use Rattle.report_text.specs.declared.verdict.CheckReason.TheVariants as of
 use Rattle.report_text.specs.declared.verdict.Verdict.TheVariants.{Right, Wrong}
@@ -36,3 +36,21 @@ pub record WaitVerdicts : Type 0 where
   pub not_begun : verdict_on (waiting ++ (codes "idle 2\ncall 3 timeout\n" ++ nothing_sent)) ≡ Wrong 12 of.Step
   pub begun_twice : verdict_on (waiting ++ (codes "wait 3\nwait 3\nidle 2\ncall 3 timeout\n" ++ nothing_sent)) ≡ Wrong 12 of.Step
   pub not_answered : verdict_on (waiting ++ (codes "wait 3\nidle 2\n" ++ nothing_sent)) ≡ Wrong 13 of.Script
+
+-- ---- two domains on threads, with a link and no calls
+
+-- lines 1 to 11
+abbrev pub linked : List ℕ
+linked = codes "mcapi-report 1 threads\ndomain 0 nodes 1 pool 2\ndomain 1 nodes 1 pool 2\nlink 0 1 size 2\njournal 0\njournal 1\nmessages accepted 0 taken 0 dropped 0 queued 0 ring 0\nlane 0 0 free 2 ring 0 queue 0 lent 0\nlane 0 1 free 2 ring 0 queue 0 lent 0\nlane 1 0 free 2 ring 0 queue 0 lent 0\nlane 1 1 free 2 ring 0 queue 0 lent 0\n"
+
+-- the images of its rings
+abbrev pub first_image : List ℕ
+first_image = codes "000000000000000000020000020000000002000000000000000200000200000000000200000001000000000000000000000000000000000000000000000000000000"
+
+abbrev pub second_image : List ℕ
+second_image = codes "000400000000000000000000000000000006000000000000000000000000000000000000000000000000000000000000000000000000000000000000000000000000"
+
+pub record RingVerdicts : Type 0 where
+  pub right : verdict_on (linked ++ (codes "ring 0 1 0 " ++ (first_image ++ (codes "\nring 0 1 1 " ++ (second_image ++ codes "\nend\n"))))) ≡ Right
+  pub odd_digits : verdict_on (linked ++ (codes "ring 0 1 0 0" ++ (first_image ++ (codes "\nring 0 1 1 " ++ (second_image ++ codes "\nend\n"))))) ≡ Wrong 12 of.Text
+  pub no_second_ring : verdict_on (linked ++ (codes "ring 0 1 0 " ++ (first_image ++ codes "\nend\n"))) ≡ Wrong 13 of.Text

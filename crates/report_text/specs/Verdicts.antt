@@ -4,6 +4,7 @@
 use Rattle.std.specs.Prelude.{ℕ, List, [], ◌∷◌, map, Option, None, Some, Result, Ok, Err}
 use Rattle.board_model.specs.declared.scenario.Scenario.{Scenario}
 use Rattle.board_model.specs.Scenario.{rising}
+use Rattle.board_model.specs.Report.{Mode}
 use Rattle.report_text.specs.declared.verdict.CheckReason.{CheckReason}
 use Rattle.report_text.specs.declared.verdict.CheckReason.TheVariants as of
 use Rattle.report_text.specs.declared.verdict.Verdict.{Verdict}
@@ -25,12 +26,12 @@ abbrev pub by_steps : Scenario → List JournalText → Verdict → Verdict
 by_steps s [] next = next
 by_steps s (j ∷ js) next = wrong_or of.Step (wrong_step s j) (wrong_or of.Script (unfinished s j) (by_steps s js next))
 
-abbrev pub by_journals : Scenario → List JournalText → Rest → Verdict
-by_journals s js numbers = by_steps s js (wrong_or of.Link (wrong_among s js js) (wrong_or of.Total (wrong_number s (map (journal_told s) js) numbers) Right))
+abbrev pub by_journals : Mode → Scenario → List JournalText → Rest → Verdict
+by_journals mode s js numbers = by_steps s js (wrong_or of.Link (wrong_among s js js) (wrong_or of.Total (wrong_number mode s (map (journal_told s) js) numbers) Right))
 
 abbrev pub by_told : Result Told ℕ → Verdict
 by_told (Err line) = Wrong line of.Text
-by_told (Ok t) = by_journals t.scenario (journals_at (rising t.scenario) t.behind) (behind_journals (rising t.scenario) t.behind)
+by_told (Ok t) = by_journals t.mode t.scenario (journals_at (rising t.scenario) t.behind) (behind_journals (rising t.scenario) t.behind)
 
 -- the verdict on a text
 abbrev pub verdict_on : List ℕ → Verdict

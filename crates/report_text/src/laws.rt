@@ -2,7 +2,7 @@
 
 ghost use Rattle.report_text.specs.JournalExamples.{Joins, Puts, Turns};
 ghost use Rattle.report_text.specs.RightRuns.{DueIsAllowed, IdleTurnsKeep, RightNumbersAreDue, RightReportsTellRuns, RightStepsTellRuns};
-ghost use Rattle.report_text.specs.VerdictExamples.{Verdicts, WaitVerdicts};
+ghost use Rattle.report_text.specs.VerdictExamples.{RingVerdicts, Verdicts, WaitVerdicts};
 
 /// Shows where journals are out of place, by examples. The function has no code: its contract is what it shows.
 pub fn journal_examples_hold()
@@ -16,6 +16,7 @@ pub fn journal_examples_hold()
 pub fn verdict_examples_hold()
     ensures messages { Verdicts }
     ensures waits { WaitVerdicts }
+    ensures rings { RingVerdicts }
 {}
 
 /// Shows that the visit that is due is allowed. The function has no code: its contract is what it shows.

@@ -2,14 +2,15 @@
 
 ghost use Rattle.std.specs.Prelude.{◌≡◌, ◌+◌, ◌<◌, ◌≤◌, IfOk, Ok, Err, length};
 ghost use Rattle.report_text.specs.TextPass.{told_by_text};
-ghost use Rattle.report_text.specs.TextRead.{IfWrong, told_of};
-ghost use Rattle.report_text.specs.Texts.{longest_line as length_of_longest, told_seen};
+ghost use Rattle.report_text.specs.TextRead.{IfWrong, text_seen, told_of};
+ghost use Rattle.report_text.specs.Texts.{longest_line as length_of_longest};
 ghost use Rattle.report_text.specs.declared.verdict.CheckReason.TheVariants as of;
 ghost use Rattle.report_text.specs.declared.verdict.Verdict.TheVariants as verdicts;
 ghost use Rattle.report_text.specs.Verdicts.{verdict_on};
 
 use crate::fault::TextFault;
 use crate::lines::{Unread, cut};
+use crate::mode::Mode;
 use crate::report_lines::read_heading;
 use crate::scenario::read_told;
 use crate::text::read_board;
@@ -17,10 +18,11 @@ use board_model::Scenario;
 use mc_base::NoMemory;
 use std::alloc::Global;
 
-/// What the text of a report tells: its scenario, and the text behind that, with the number of its first line. There stand the journals
-/// and the lines of numbers, each line in a form that its place allows.
+/// What the text of a report tells: how the board was run, its scenario, and the text behind that, with the number of its first line. There
+/// stand the journals and the lines of numbers, each line in a form that its place allows.
 #[derive(Drop)]
 pub struct ReportText<'a> {
+    pub mode: Mode,
     pub scenario: Scenario,
     pub line: u32,
     pub behind: &'a [u8],
@@ -39,20 +41,19 @@ pub fn longest_line(text: &[u8]) -> usize
     longest.max(rest.len())
 }
 
-/// Reads the scenario of a report, with what is left behind it, where each line has its form. Else returns the number of the first
-/// wrong line.
+/// Reads what the text of a report tells, where each line has its form. Else returns the number of the first wrong line.
 #[tactic(auto, using(crate::proofs::Reached::behind_past, crate::proofs::Reached::behind_behind))]
-fn text_told(alloc: Global, report: &[u8]) -> Result<Result<(Scenario, Unread<'_>), u32>, NoMemory>
+fn text_told(alloc: Global, report: &[u8]) -> Result<Result<ReportText<'_>, u32>, NoMemory>
     requires { length report.now < 4_294_967_295 }
-    ensures told { IfOk result (λ r. told_seen r ≡ told_by_text report.now) }
-    ensures counted { IfOk result (λ r. IfOk r (λ t. t.1.number + length t.1.text.now ≤ length report.now + 1)) }
+    ensures told { IfOk result (λ r. text_seen r ≡ told_by_text report.now) }
+    ensures counted { IfOk result (λ r. IfOk r (λ t. t.line + length t.behind.now ≤ length report.now + 1)) }
 {
     let start = Unread {
         number: 1,
         text: report,
     };
-    let heading = match read_heading(start) {
-        Ok(behind) => behind,
+    let (mode, heading) = match read_heading(start) {
+        Ok(headed) => headed,
         Err(number) => return Ok(Err(number)),
     };
     let (scenario, unread) = match read_told(alloc, heading)? {
@@ -62,8 +63,13 @@ fn text_told(alloc: Global, report: &[u8]) -> Result<Result<(Scenario, Unread<'_
     let Ok(mut room) = vec![in alloc; 0u8; longest_line(report)] else {
         return Err(NoMemory);
     };
-    match read_board(alloc, &scenario, unread, &mut room)? {
-        Ok(_) => Ok(Ok((scenario, unread))),
+    match read_board(alloc, mode, &scenario, unread, &mut room)? {
+        Ok(_) => Ok(Ok(ReportText {
+            mode,
+            scenario,
+            line: unread.number,
+            behind: unread.text,
+        })),
         Err(number) => Ok(Err(number)),
     }
 }
@@ -83,11 +89,7 @@ pub fn read_text(alloc: Global, report: &[u8]) -> Result<ReportText<'_>, TextFau
     ensures verdict { IfWrong result (λ line. verdict_on report.now ≡ verdicts.Wrong line of.Text) }
 {
     match text_told(alloc, report)? {
-        Ok((scenario, unread)) => Ok(ReportText {
-            scenario,
-            line: unread.number,
-            behind: unread.text,
-        }),
+        Ok(told) => Ok(told),
         Err(line) => Err(TextFault::Wrong { line }),
     }
 }

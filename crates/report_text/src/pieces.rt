@@ -1,18 +1,20 @@
-//! The forms of a report's lines: a word or a number at each place.
+//! The forms of a report's lines: a word, a number or bytes at each place.
 
 ghost use Rattle.std.specs.Prelude.{◌≡◌, ◌+◌, ◌<◌, ◌^◌, length};
-ghost use Rattle.report_text.specs.ReportLines.{are_form_words, is_form_word, number};
+ghost use Rattle.std.specs.List.{list_all};
+ghost use Rattle.report_text.specs.ReportLines.{are_form_words, is_form_word, is_small_digit, number, spells_bytes};
 ghost use Rattle.report_text.specs.TextPass.{one_line};
 ghost use Rattle.report_text.specs.Texts.{IsRead, form_of, form_word, rest_of, seen};
 
 use crate::lines::{Unread, cut};
 use board_model::number_to;
 
-/// What stands at one place of a line: a word, or a number of a range.
+/// What stands at one place of a line: a word, a number of a range, or bytes in lower-case hexadecimal.
 #[derive(Clone, Copy)]
 pub enum Piece {
     Word(&'static [u8]),
     Number { least: u64, most: u64 },
+    Bytes,
 }
 
 fn is_within(least: u64, most: u64, text: &[u8]) -> bool
@@ -24,12 +26,28 @@ fn is_within(least: u64, most: u64, text: &[u8]) -> bool
     }
 }
 
+/// Whether a text spells bytes in lower-case hexadecimal, or is a dash for none.
+fn is_bytes(text: &[u8]) -> bool
+    ensures { result ≡ spells_bytes text.now }
+{
+    text == b"-".as_slice() || (!text.is_empty() && text.len() % 2 == 0 && are_digits(text))
+}
+
+/// Whether all bytes are lower-case hexadecimal digits.
+fn are_digits(text: &[u8]) -> bool
+    ensures { result ≡ list_all is_small_digit text.now }
+{
+    text.iter().all(|byte| { (*byte >= b'0' && *byte <= b'9') || (*byte >= b'a' && *byte <= b'f') })
+}
+
+/// Whether a text is this piece.
 fn is_piece(piece: Piece, text: &[u8]) -> bool
     ensures { result ≡ is_form_word (form_word piece) text.now }
 {
     match piece {
         Piece::Word(word) => word == text,
         Piece::Number { least, most } => is_within(least, most, text),
+        Piece::Bytes => is_bytes(text),
     }
 }
 

@@ -1,13 +1,15 @@
 //! The lines of a report beside those of its scenario and its journals.
 
-ghost use Rattle.std.specs.Prelude.{◌≡◌, ◌+◌, ◌<◌, ◌^◌, length};
-ghost use Rattle.report_text.specs.ReportLines.{channel_form, ending_form, exactly as this_number, heading_form, journal_form, lane_form, messages_form};
+ghost use Rattle.std.specs.Prelude.{◌≡◌, ◌+◌, ◌<◌, ◌^◌, IfOk, length};
+ghost use Rattle.report_text.specs.ReportLines.{channel_form, ending_form, exactly as this_number, heading_form, journal_form, lane_form, messages_form, ring_form};
 ghost use Rattle.board_model.specs.Report.{serial, threads};
 ghost use Rattle.report_text.specs.TextPass.{heading_from, one_line};
-ghost use Rattle.report_text.specs.Texts.{IsRead, form_word, rest_of, seen};
+ghost use Rattle.report_text.specs.Texts.{IsPast, IsRead, form_word, heading_seen, rest_of, seen};
 
 use crate::lines::Unread;
+use crate::mode::Mode;
 use crate::pieces::{Piece, read_line};
+use board_model::LinkLine;
 
 const SMALL: Piece = Piece::Number {
     least: 0,
@@ -24,7 +26,7 @@ const LONG: Piece = Piece::Number {
     most: 18_446_744_073_709_551_615,
 };
 
-/// The number of a domain.
+/// The number of a domain or a queue.
 fn exactly(number: u8) -> Piece
     ensures { form_word result ≡ this_number number }
 {
@@ -35,14 +37,14 @@ fn exactly(number: u8) -> Piece
 }
 
 /// Reads the heading of a report, of a run in either mode.
-pub fn read_heading(unread: Unread<'_>) -> Result<Unread<'_>, u32>
+pub fn read_heading(unread: Unread<'_>) -> Result<(Mode, Unread<'_>), u32>
     requires few { unread.number + length unread.text.now < 2 ^ 32 }
-    ensures value { seen result ≡ heading_from (rest_of unread.entry) }
-    ensures past { IsRead unread.entry result }
+    ensures value { heading_seen result ≡ heading_from (rest_of unread.entry) }
+    ensures past { IfOk result (λ x. IsPast unread.entry x.1) }
 {
     match read_serial_heading(unread) {
-        Ok(behind) => Ok(behind),
-        Err(_) => read_threads_heading(unread),
+        Ok(behind) => Ok((Mode::Serial, behind)),
+        Err(_) => Ok((Mode::Threads, read_threads_heading(unread)?)),
     }
 }
 
@@ -145,6 +147,22 @@ pub fn read_lane(sender: u8, receiver: u8, unread: Unread<'_>) -> Result<Unread<
         COUNT,
         Piece::Word(b"lent"),
         COUNT,
+    ];
+    read_line(&form, unread)
+}
+
+/// Reads the line of a link's ring, by the number of its queue.
+pub fn read_ring(link: LinkLine, queue: u8, unread: Unread<'_>) -> Result<Unread<'_>, u32>
+    requires few { unread.number + length unread.text.now < 2 ^ 32 }
+    ensures value { seen result ≡ one_line (ring_form link queue) (rest_of unread.entry) }
+    ensures past { IsRead unread.entry result }
+{
+    let form = [
+        Piece::Word(b"ring"),
+        exactly(link.driver),
+        exactly(link.device),
+        exactly(queue),
+        Piece::Bytes,
     ];
     read_line(&form, unread)
 }

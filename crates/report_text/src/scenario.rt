@@ -2,6 +2,7 @@
 
 ghost use Rattle.std.specs.Prelude.{◌≡◌, ◌+◌, ◌<◌, ◌≤◌, ◌^◌, None, Some, IfErr, IfOk, IfSome, bytes_eq, if◌then◌else◌, length, max, take};
 ghost use Rattle.board_model.specs.Language.{told_by};
+ghost use Rattle.board_model.specs.Report.{Mode};
 ghost use Rattle.report_text.specs.TextLines.{first_other, lines_in};
 ghost use Rattle.report_text.specs.ScenarioPart.{begins_journal as heads_journal, behind_front, front_lines, refused_place as place_if_refused, scenario_from, scenario_in, text_of};
 ghost use Rattle.report_text.specs.Texts.{IsBehind, longest_line, rest_of, told_seen};
@@ -52,7 +53,7 @@ fn front_size(text: &[u8]) -> (usize, u32)
 }
 
 /// Counts the bytes of the first lines of a text.
-fn first_bytes(text: &[u8], lines: u32) -> usize
+pub fn first_bytes(text: &[u8], lines: usize) -> usize
     ensures value { result ≡ length (text_of (take lines (lines_in text.now))) }
     ensures within { result ≤ length text.now }
 {
@@ -144,7 +145,7 @@ fn scenario_of(alloc: Global, text: &[u8]) -> Result<Result<Scenario, u32>, NoMe
         }
         Err(ScenarioFault::Refused { line, .. }) => {
             let passed = line.saturating_sub(1);
-            let (before, _) = text.split_at(first_bytes(text, passed));
+            let (before, _) = text.split_at(first_bytes(text, passed as usize));
             Ok(Err(refused_place(alloc, before, passed)?))
         }
         Err(ScenarioFault::NoMemory) => Err(NoMemory),
@@ -184,7 +185,7 @@ pub fn read_told<'a>(
 ) -> Result<Result<(Scenario, Unread<'a>), u32>, NoMemory>
     requires few { unread.number + length unread.text.now < 2 ^ 32 }
     requires short { length unread.text.now < 4_294_967_295 }
-    ensures value { IfOk result (λ r. told_seen r ≡ scenario_from (rest_of unread.entry)) }
+    ensures value { IfOk result (λ r. (m : Mode) → told_seen m r ≡ scenario_from m (rest_of unread.entry)) }
     ensures behind { IfOk result (λ r. IfOk r (λ x. IsBehind unread.entry x.1)) }
 {
     let part = part_text(unread.text);

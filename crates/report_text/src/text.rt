@@ -1,22 +1,25 @@
-//! The journals and the numbers of a report: whether each line has its form, and which is the first that has not.
+//! The journals and the numbers of a report: whether each line has its form, and which is the first that has not. The `room` of a call is
+//! as long as the longest line.
 
 ghost use Rattle.std.specs.Prelude.{◌≡◌, ◌+◌, ◌<◌, ◌≤◌, ◌^◌, IfOk, length, map};
 ghost use Rattle.board_model.specs.Scenario.{lane_to, rising};
-ghost use Rattle.report_text.specs.TextPass.{board_from, board_lanes_from, channels_from, ending_from, journal_from, journals_from, lanes_from, one_line, nothing_behind as nothing_left, numbers_from};
+ghost use Rattle.report_text.specs.TextPass.{board_from, board_lanes_from, channels_from, ending_from, journal_from, journals_from, lanes_from, one_line, nothing_behind as nothing_left, numbers_from, rings_from, rings_in};
+ghost use Rattle.report_text.specs.Modes.{mode_of};
 ghost use Rattle.report_text.specs.ReportLines.{messages_form};
 ghost use Rattle.report_text.specs.Texts.{IsBehind, IsReached, longest_line, neighbours_of, rest_of, seen};
 
 use crate::board::{Numbered, neighbours_of_domain, numbers, rising_domains, script_puts};
 use crate::journal::read_entries;
 use crate::lines::Unread;
+use crate::mode::Mode;
 use crate::report_lines::{
-    read_channel, read_ending, read_journal_heading, read_lane, read_messages,
+    read_channel, read_ending, read_journal_heading, read_lane, read_messages, read_ring,
 };
-use board_model::{DomainLine, Scenario};
+use board_model::{DomainLine, LinkLine, Scenario};
 use mc_base::NoMemory;
 use std::alloc::Global;
 
-/// Reads the journal of a domain. `room` is as long as the longest line.
+/// Reads the journal of a domain.
 #[tactic(auto, using(crate::proofs::Reached::reached_past))]
 fn read_journal<'a>(
     alloc: Global,
@@ -85,7 +88,8 @@ fn read_lanes_of<'a>(sender: u8, found: &[Numbered], unread: Unread<'a>) -> Resu
 {
     match found {
         [neighbour, others @ ..] => {
-            read_lanes_of(sender, others, read_lane(sender, neighbour.number, unread)?)
+            let behind = read_lane(sender, neighbour.number, unread)?;
+            read_lanes_of(sender, others, behind)
         }
         [] => Ok(unread),
     }
@@ -110,6 +114,35 @@ fn read_lanes<'a>(
     match read_lanes_of(line.domain, &found, unread) {
         Ok(behind) => read_lanes(alloc, scenario, others, behind),
         Err(number) => Ok(Err(number)),
+    }
+}
+
+/// Reads the lines of these links' rings.
+#[tactic(auto, using(crate::proofs::Reached::reached_past))]
+fn read_link_rings<'a>(links: &[LinkLine], unread: Unread<'a>) -> Result<Unread<'a>, u32>
+    requires few { unread.number + length unread.text.now < 2 ^ 32 }
+    ensures value { seen result ≡ rings_from links.now (rest_of unread.entry) }
+    ensures behind { IsReached unread.entry result }
+{
+    match links {
+        [link, others @ ..] => {
+            let first = read_ring(*link, 0, unread)?;
+            let second = read_ring(*link, 1, first)?;
+            read_link_rings(others, second)
+        }
+        [] => Ok(unread),
+    }
+}
+
+/// Reads the lines of rings. A run on one thread has none.
+fn read_rings<'a>(mode: Mode, scenario: &Scenario, unread: Unread<'a>) -> Result<Unread<'a>, u32>
+    requires few { unread.number + length unread.text.now < 2 ^ 32 }
+    ensures value { seen result ≡ rings_in (mode_of mode) scenario.now (rest_of unread.entry) }
+    ensures behind { IsReached unread.entry result }
+{
+    match mode {
+        Mode::Serial => Ok(unread),
+        Mode::Threads => read_link_rings(scenario.links.as_slice(), unread),
     }
 }
 
@@ -143,40 +176,47 @@ fn read_totals(unread: Unread<'_>) -> Result<Unread<'_>, u32>
 }
 
 /// Reads the lines of numbers, behind the journals.
+#[tactic(auto, using(crate::proofs::Reached::reached_behind))]
 fn read_numbers<'a>(
     alloc: Global,
+    mode: Mode,
     scenario: &Scenario,
     lines: &[DomainLine],
     unread: Unread<'a>,
 ) -> Result<Result<Unread<'a>, u32>, NoMemory>
     requires few { unread.number + length unread.text.now < 2 ^ 32 }
     requires all { lines.now ≡ rising scenario.now }
-    ensures { IfOk result (λ r. seen r ≡ numbers_from scenario.now (rest_of unread.entry)) }
+    ensures { IfOk result (λ r. seen r ≡ numbers_from (mode_of mode) scenario.now (rest_of unread.entry)) }
 {
     let messages = match read_totals(unread) {
         Ok(behind) => behind,
         Err(number) => return Ok(Err(number)),
     };
-    match read_lanes(alloc, scenario, lines, messages)? {
+    let lanes = match read_lanes(alloc, scenario, lines, messages)? {
+        Ok(behind) => behind,
+        Err(number) => return Ok(Err(number)),
+    };
+    match read_rings(mode, scenario, lanes) {
         Ok(behind) => Ok(read_end(behind)),
         Err(number) => Ok(Err(number)),
     }
 }
 
-/// Reads the journals and the numbers behind the scenario of a report. `room` is as long as the longest line.
+/// Reads the journals and the numbers behind the scenario of a report.
 pub fn read_board<'a>(
     alloc: Global,
+    mode: Mode,
     scenario: &Scenario,
     unread: Unread<'a>,
     room: &mut [u8],
 ) -> Result<Result<Unread<'a>, u32>, NoMemory>
     requires fits { longest_line unread.text.now ≤ length room.old }
     requires few { unread.number + length unread.text.now < 2 ^ 32 }
-    ensures { IfOk result (λ r. seen r ≡ board_from scenario.now (rest_of unread.entry)) }
+    ensures { IfOk result (λ r. seen r ≡ board_from (mode_of mode) scenario.now (rest_of unread.entry)) }
 {
     let lines = rising_domains(alloc, scenario.domains.as_slice())?;
     match read_journals(alloc, scenario, &lines, unread, room)? {
-        Ok(numbers) => read_numbers(alloc, scenario, &lines, numbers),
+        Ok(numbers) => read_numbers(alloc, mode, scenario, &lines, numbers),
         Err(number) => Ok(Err(number)),
     }
 }

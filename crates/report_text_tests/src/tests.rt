@@ -1,8 +1,8 @@
 use crate::changes::{
     ANSWERS, BOARD_LINES, Change, HEADING, JOURNAL_HEADINGS, LOOKS, NUMBERS, PUTS, RAW_LINES,
-    ROWS_OF_TURNS, SCENARIO,
+    RING_LINES, ROWS_OF_TURNS, SCENARIO,
 };
-use crate::reports::{BOARD, MESSAGE, NO_CALL, RAW};
+use crate::reports::{BOARD, MESSAGE, NO_CALL, RAW, RINGS};
 use report_text::{TextFault, read_text};
 use std::alloc::{AllocError, Global};
 use std::process::Abort;
@@ -70,7 +70,8 @@ fn assert_changes(
 fn first_wrong_line_of_a_text_is_found(rt: HostRuntime) -> Result<(), Fail> {
     assert_changes(&rt, rt.alloc(), MESSAGE, &HEADING)?;
     assert_changes(&rt, rt.alloc(), MESSAGE, &SCENARIO)?;
-    assert_changes(&rt, rt.alloc(), MESSAGE, &NUMBERS)
+    assert_changes(&rt, rt.alloc(), MESSAGE, &NUMBERS)?;
+    assert_changes(&rt, rt.alloc(), RINGS, &RING_LINES)
 }
 
 #[test]
@@ -106,6 +107,7 @@ fn each_front_of_a_report_is_wrong_where_it_ends(rt: HostRuntime) {
     assert!(rt; are_cuts_found(rt.alloc(), MESSAGE));
     assert!(rt; are_cuts_found(rt.alloc(), BOARD));
     assert!(rt; are_cuts_found(rt.alloc(), RAW));
+    assert!(rt; are_cuts_found(rt.alloc(), RINGS));
     assert!(rt; are_cuts_found(rt.alloc(), NO_CALL));
 }
 

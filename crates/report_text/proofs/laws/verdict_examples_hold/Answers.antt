@@ -10,3 +10,7 @@ returns-clause-messages c = record { right = refl; other_bytes = refl; no_end = 
 pub returns-clause-waits : goal.returns-clause-waits
 unfolding digits reading
 returns-clause-waits c = record { right = refl; too_early = refl; too_late = refl; not_begun = refl; begun_twice = refl; not_answered = refl }
+
+pub returns-clause-rings : goal.returns-clause-rings
+unfolding digits reading
+returns-clause-rings c = record { right = refl; odd_digits = refl; no_second_ring = refl }
