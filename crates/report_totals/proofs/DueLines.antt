@@ -16,6 +16,7 @@ use Rattle.mc_journal.proofs.Cuts.{cut-found}
 use Rattle.report_text.specs.TextLines.{lines_in}
 use Rattle.report_text.proofs.KindsTold.{decimal-other}
 use Rattle.report_text.proofs.TextCuts.{lines-cut}
+use Rattle.report_totals.specs.WholeLines.{AreWholeLines}
 
 -- ---- a line has one newline, its last byte
 
@@ -58,8 +59,9 @@ places-first p rest =
     (refl, (decimal-none p.from, (decimal-none p.to, (refl, (decimal-none p.free, (refl, (decimal-none p.ring, (refl, (decimal-none p.queue, (refl, (decimal-none p.lent, tt)))))))))))
     rest
 
-pub due-lines : (cs : List ChannelTotals) (t : Totals) (ps : List LanePlaces) → lines_in (numbers_text cs t ps ++ ending) ≡ map channel_text cs ++ (messages_text t ∷ (map places_text ps ++ ending ∷ []))
-due-lines cs t ps =
-    ap lines_in (append_assoc (flat_map channel_text cs ++ messages_text t) (flat_map places_text ps) ending ∙ append_assoc (flat_map channel_text cs) (messages_text t) (flat_map places_text ps ++ ending))
-    ∙ lines-each channel_text channel-first cs (messages_text t ++ (flat_map places_text ps ++ ending))
-    ∙ ap (λ ls. map channel_text cs ++ ls) (messages-first t (flat_map places_text ps ++ ending) ∙ ap (λ ls. messages_text t ∷ ls) (lines-each places_text places-first ps ending))
+pub due-lines : (cs : List ChannelTotals) (t : Totals) (ps : List LanePlaces) (rings : List ℕ) (ls : List (List ℕ)) → AreWholeLines rings ls → lines_in (numbers_text cs t ps ++ (rings ++ ending)) ≡ map channel_text cs ++ (messages_text t ∷ (map places_text ps ++ (ls ++ ending ∷ [])))
+due-lines cs t ps rings ls whole =
+    let last : List ℕ = rings ++ ending in
+    ap lines_in (append_assoc (flat_map channel_text cs ++ messages_text t) (flat_map places_text ps) last ∙ append_assoc (flat_map channel_text cs) (messages_text t) (flat_map places_text ps ++ last))
+    ∙ lines-each channel_text channel-first cs (messages_text t ++ (flat_map places_text ps ++ last))
+    ∙ ap (λ ks. map channel_text cs ++ ks) (messages-first t (flat_map places_text ps ++ last) ∙ ap (λ ks. messages_text t ∷ ks) (lines-each places_text places-first ps last ∙ ap (λ ks. map places_text ps ++ ks) (whole ending)))

@@ -191,9 +191,9 @@ module _ (t : Told) (passed : IsPassed t) where
     peers = peers t.scenario board texts sounds;
   }
 
-  -- the lines of numbers that are due are those of its journals
-  pub numbers-due : number_texts t.scenario (map journal_left stations) ≡ number_texts t.scenario (map (journal_told t.scenario) texts)
-  numbers-due = ap (number_texts t.scenario) (stations-left t.scenario (journals_due t)) ∙ tells.numbers
+  -- the lines of numbers that are due are those of its journals, whatever the lines of rings
+  pub numbers-due : (rings : List (List ℕ)) → number_texts t.scenario (map journal_left stations) rings ≡ number_texts t.scenario (map (journal_told t.scenario) texts) rings
+  numbers-due rings = ap (λ (js : List DomainJournal). number_texts t.scenario js rings) (stations-left t.scenario (journals_due t)) ∙ tells.numbers rings
 
   module _ (cs : List JournalLines) (xs : List DomainState) (es : List EndedJournal) (told : AreTold texts cs) (left : AreLeftBehind t.scenario texts xs) (is : AreEnded t.scenario cs xs es) where
     pub end-run : EndRun t.scenario stations es

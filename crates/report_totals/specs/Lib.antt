@@ -3,3 +3,4 @@ pub mod Counting
 pub mod SmallRuns
 pub mod JournalTallies
 pub mod PassedReports
+pub mod WholeLines

@@ -34,7 +34,7 @@ impl Sink for TextSink {
 }
 
 /// The text behind the journals that is due: what became of the items of each channel, of the messages, and of the buffers of each lane,
-/// and the last line.
+/// these lines of rings, and the last line.
 ///
 /// # Errors
 ///
@@ -44,14 +44,18 @@ pub fn due_text(
     channels: &[ChannelTotals],
     messages: &Totals,
     places: &[LanePlaces],
+    rings: &[u8],
 ) -> Result<Vec<u8>, NoMemory>
-    ensures { IfOk result (λ text. text.items ≡ numbers_text channels.now messages.now places.now ++ ending) }
+    ensures { IfOk result (λ text. text.items ≡ numbers_text channels.now messages.now places.now ++ (rings.now ++ ending)) }
 {
     let mut sink = TextSink {
         text: Vec::new(alloc),
         faults: 0,
     };
     if write_numbers(channels, messages, places, &mut sink).is_err() {
+        return Err(NoMemory);
+    }
+    if sink.text.extend_from_slice(rings).is_err() {
         return Err(NoMemory);
     }
     if sink.text.extend_from_slice(b"end\n").is_err() {

@@ -7,6 +7,7 @@ mod due_text;
 mod ended_journal;
 mod held;
 mod pass;
+mod rings;
 mod tallies;
 
 pub use pass::wrong_number;

@@ -1,6 +1,6 @@
 //! The fourth pass over a report: the first line of its numbers that is not the one due.
 
-ghost use Rattle.std.specs.Prelude.{◌≡◌, ◌+◌, ◌<◌, ◌^◌, IfOk, List, length, map};
+ghost use Rattle.std.specs.Prelude.{◌≡◌, ℕ, ◌+◌, ◌<◌, ◌^◌, IfOk, List, length, map};
 ghost use Rattle.std.specs.List.{AllByRecursion};
 ghost use Rattle.board_model.specs.Language.{IsLawfulBoard};
 ghost use Rattle.board_model.specs.Scenario.{rising};
@@ -8,6 +8,7 @@ ghost use Rattle.board_model.specs.SerialRun.{Station, journal_left};
 ghost use Rattle.report_text.specs.JournalRead.{behind_journals, journals_at};
 ghost use Rattle.report_text.specs.LaneLeft.{AreTold};
 ghost use Rattle.report_text.specs.LinkPass.{journal_told};
+ghost use Rattle.report_text.specs.Modes.{mode_of};
 ghost use Rattle.report_text.specs.ScenarioPart.{rest};
 ghost use Rattle.report_text.specs.TextLines.{first_other, lines_in, moved};
 ghost use Rattle.report_text.specs.TextRead.{told_of};
@@ -15,9 +16,11 @@ ghost use Rattle.report_text.specs.TotalPass.{number_texts, wrong_number as wron
 ghost use Rattle.report_totals.specs.EndedJournals.{AreLeftBehind, CountsAsTold};
 ghost use Rattle.report_totals.specs.JournalTallies.{EndRun, EndSomeRun};
 ghost use Rattle.report_totals.specs.PassedReports.{IsPassed};
+ghost use Rattle.report_totals.specs.WholeLines.{AreWholeLines};
 
 use crate::due_text::due_text;
 use crate::ended_journal::{EndedJournal, ended_journals};
+use crate::rings::rings_of;
 use crate::tallies::count_journals;
 use board_model::Scenario;
 use board_numbers::{channels_of, places_of, totals_of};
@@ -26,22 +29,29 @@ use report_replay::State;
 use report_text::{JournalLines, ReportText, other_line};
 use std::alloc::Global;
 
-/// The text of the lines that are due behind the journals of these domains.
+/// The text of the lines that are due behind the journals of these domains, with these of rings.
 fn due_numbers(
     alloc: Global,
     scenario: &Scenario,
     domains: &[EndedJournal<'_, '_>],
+    rings: &[u8],
 ) -> Result<Vec<u8>, NoMemory>
     requires lawful { IsLawfulBoard scenario.now }
     requires told { AllByRecursion CountsAsTold domains.now }
     requires run { EndSomeRun scenario.now domains.now }
-    ensures { IfOk result (λ text. (ts : List Station) → EndRun scenario.now ts domains.now → lines_in text.items ≡ number_texts scenario.now (map journal_left ts)) }
+    ensures { IfOk result (λ text. (ts : List Station) (ls : List (List ℕ)) → EndRun scenario.now ts domains.now → AreWholeLines rings.now ls → lines_in text.items ≡ number_texts scenario.now (map journal_left ts) ls) }
 {
     let counted = count_journals(alloc, domains)?;
     let channels = channels_of(alloc, scenario, domains, &counted.items)?;
     let places = places_of(alloc, scenario, &counted.tallies)?;
     let messages = totals_of(scenario, &counted.tallies);
-    due_text(alloc, channels.as_slice(), &messages, places.as_slice())
+    due_text(
+        alloc,
+        channels.as_slice(),
+        &messages,
+        places.as_slice(),
+        rings,
+    )
 }
 
 /// The number of the first line of a text that is another than the one due, where the text's lines are counted from `line`.
@@ -54,7 +64,8 @@ fn number_of_other(line: u32, text: &[u8], due: &[u8]) -> Option<u32>
 }
 
 /// The fourth pass over a report: the number of the first line, among those behind the journals, that is not the one due. Due are a line for
-/// each channel, one for the messages, one for each lane, and `end`, by what the journals come to.
+/// each channel, one for the messages and one for each lane, by what the journals come to, and `end`. The lines of rings are taken as they
+/// are: no image is compared.
 ///
 /// The first three passes have found no wrong line, and `told` is what the first has read. `states` has the state in which each journal leaves its domain, and `text` is what
 /// stands behind the journals, with `line` as the number of its first line.
@@ -75,9 +86,10 @@ pub fn wrong_number<'a>(
     requires states { AreLeftBehind told.now.scenario (journals_at (rising told.now.scenario) (told_of told.now).behind) states.now }
     requires numbers { rest line (lines_in text.now) ≡ behind_journals (rising told.now.scenario) (told_of told.now).behind }
     requires few { line + length text.now < 2 ^ 32 }
-    ensures { IfOk result (λ n. n ≡ wrong_number_among told.now.scenario (map (journal_told told.now.scenario) (journals_at (rising told.now.scenario) (told_of told.now).behind)) (behind_journals (rising told.now.scenario) (told_of told.now).behind)) }
+    ensures { IfOk result (λ n. n ≡ wrong_number_among (mode_of told.now.mode) told.now.scenario (map (journal_told told.now.scenario) (journals_at (rising told.now.scenario) (told_of told.now).behind)) (behind_journals (rising told.now.scenario) (told_of told.now).behind)) }
 {
     let domains = ended_journals(alloc, &told.scenario, journals, states)?;
-    let due = due_numbers(alloc, &told.scenario, &domains)?;
+    let rings = rings_of(told.mode, &told.scenario, text);
+    let due = due_numbers(alloc, &told.scenario, &domains, rings)?;
     Ok(number_of_other(line, text, &due))
 }

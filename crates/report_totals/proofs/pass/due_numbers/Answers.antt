@@ -1,4 +1,4 @@
-use Rattle.std.proofs.Common.{◌≡◌, List, [], ◌∷◌, ◌++◌, map, sym, ap, subst, ◌∙◌}
+use Rattle.std.proofs.Common.{◌≡◌, ℕ, List, [], ◌∷◌, ◌++◌, map, sym, ap, subst, ◌∙◌}
 use Rattle.std.specs.Prelude.{IfOk, Result, Ok, Err}
 use Rattle.board_model.specs.declared.totals.ChannelTotals.{ChannelTotals}
 use Rattle.board_model.specs.declared.totals.LanePlaces.{LanePlaces}
@@ -13,6 +13,7 @@ use Rattle.board_numbers.specs.Tallied.{AreTallies, TallySomeRun}
 use Rattle.report_text.specs.TextLines.{lines_in}
 use Rattle.report_text.specs.TotalPass.{number_texts}
 use Rattle.report_totals.specs.JournalTallies.{EndRun}
+use Rattle.report_totals.specs.WholeLines.{AreWholeLines}
 use Rattle.report_totals.proofs.DueLines.{due-lines}
 use Rattle.report_totals.proofs.TalliesTold.{run-tallies, tally-run}
 use Rattle.report_totals.proofs.pass.due_numbers.Goals as goal
@@ -36,16 +37,17 @@ returns c =
     let cs = c.as_slice.result.now in
     let m = c.totals_of-messages.result in
     let ps = c.as_slice-2.result.now in
-    ok-then (λ text. text.items ≡ numbers_text cs m ps ++ ending) (λ text. (ts : List Station) → EndRun s ts ds → lines_in text.items ≡ number_texts s (map journal_left ts))
-    (λ text is ts run.
+    let rs = c.args.rings.now in
+    ok-then (λ text. text.items ≡ numbers_text cs m ps ++ (rs ++ ending)) (λ text. (ts : List Station) (ls : List (List ℕ)) → EndRun s ts ds → AreWholeLines rs ls → lines_in text.items ≡ number_texts s (map journal_left ts) ls)
+    (λ text is ts ls run whole.
     let js = map journal_left ts in
     let tallies = run-tallies s ts ds c.in_ok-counted.counted.tallies.items run c.in_ok-counted.ensures.tallies in
     let channels : cs ≡ channel_totals s js = c.as_slice.ensures ∙ c.in_ok-channels.ensures ts run.ran run.ended in
     let messages : m ≡ totals s js = c.totals_of-messages.ensures ts run.ran (subst (AreTallies s ts) (sym c.deref-3.ensures.value) tallies) in
     let places : ps ≡ map (places_of_lane s js) (lanes s) = c.as_slice-2.ensures ∙ c.in_ok-places.ensures ts run.ran (subst (AreTallies s ts) (sym c.deref-2.ensures.value) tallies) in
     ap lines_in is
-    ∙ due-lines cs m ps
-    ∙ ap (λ (xs : List ChannelTotals). map channel_text xs ++ (messages_text m ∷ (map places_text ps ++ ending ∷ []))) channels
-    ∙ ap (λ (x : Totals). map channel_text (channel_totals s js) ++ (messages_text x ∷ (map places_text ps ++ ending ∷ []))) messages
-    ∙ ap (λ (xs : List LanePlaces). map channel_text (channel_totals s js) ++ (messages_text (totals s js) ∷ (map places_text xs ++ ending ∷ []))) places)
+    ∙ due-lines cs m ps rs ls whole
+    ∙ ap (λ (xs : List ChannelTotals). map channel_text xs ++ (messages_text m ∷ (map places_text ps ++ (ls ++ ending ∷ [])))) channels
+    ∙ ap (λ (x : Totals). map channel_text (channel_totals s js) ++ (messages_text x ∷ (map places_text ps ++ (ls ++ ending ∷ [])))) messages
+    ∙ ap (λ (xs : List LanePlaces). map channel_text (channel_totals s js) ++ (messages_text (totals s js) ∷ (map places_text xs ++ (ls ++ ending ∷ [])))) places)
     c.due_text.result c.due_text.ensures
