@@ -36,7 +36,7 @@ module _ (report : List ℕ) (t : Told) (told : told_by_text report ≡ Ok t) wh
   numbers = behind_journals (rising t.scenario) t.behind
 
   abbrev by_totals : Verdict
-  by_totals = wrong_or of.Total (wrong_number t.scenario (map (journal_told t.scenario) journals) numbers) Right
+  by_totals = wrong_or of.Total (wrong_number t.mode t.scenario (map (journal_told t.scenario) journals) numbers) Right
 
   -- the first wrong step
   pub by-steps : (v : Verdict) → ((next : Verdict) → by_steps t.scenario journals next ≡ v) → v ≡ verdict_on report
@@ -50,11 +50,11 @@ module _ (report : List ℕ) (t : Told) (told : told_by_text report ≡ Ok t) wh
   by-link right line is = sym (by-links right (Some line) (sym is))
 
   -- the first number, where no lane is wrong
-  pub by-totals : AreRight t.scenario journals → None ≡ wrong_among t.scenario journals journals → (o : Option ℕ) → o ≡ wrong_number t.scenario (map (journal_told t.scenario) journals) numbers → wrong_or of.Total o Right ≡ verdict_on report
+  pub by-totals : AreRight t.scenario journals → None ≡ wrong_among t.scenario journals journals → (o : Option ℕ) → o ≡ wrong_number t.mode t.scenario (map (journal_told t.scenario) journals) numbers → wrong_or of.Total o Right ≡ verdict_on report
   by-totals right none o is = sym (by-links right None (sym none) ∙ ap (λ x. wrong_or of.Total x Right) (sym is))
 
   pub passes : AreRight t.scenario journals → None ≡ wrong_among t.scenario journals journals → PassesThree (verdict_on report)
-  passes right none = subst PassesThree (sym (by-links right None (sym none))) (go (wrong_number t.scenario (map (journal_told t.scenario) journals) numbers))
+  passes right none = subst PassesThree (sym (by-links right None (sym none))) (go (wrong_number t.mode t.scenario (map (journal_told t.scenario) journals) numbers))
     where
       go : (o : Option ℕ) → PassesThree (wrong_or of.Total o Right)
       go None = tt

@@ -1,6 +1,6 @@
 use crate::changes::{Change, link, right, script, step, text, total};
 use crate::reports::{
-    CHANNELS, EACH_AFTER_THE_OTHER, EIGHT_DOMAINS, MESSAGE, NO_CALL, RAW_FRAMES,
+    CHANNELS, EACH_AFTER_THE_OTHER, EIGHT_DOMAINS, MESSAGE, NO_CALL, RAW_FRAMES, RINGS,
     TAKEN_BEFORE_IT_IS_PUT, WAITS,
 };
 use report_check::{CheckReason, Verdict, check};
@@ -85,6 +85,7 @@ fn reports_of_runs_are_right(rt: HostRuntime) {
         NO_CALL,
         TAKEN_BEFORE_IT_IS_PUT,
         EACH_AFTER_THE_OTHER,
+        RINGS,
     ];
     for (i, report) in reports.iter().enumerate() {
         assert!(rt;
@@ -112,7 +113,8 @@ fn lines_that_the_format_does_not_allow(rt: HostRuntime) -> Result<(), Fail> {
     assert_wrong(&rt, alloc, WAITS, &text::IN_WAITS, reason)?;
     assert_wrong(&rt, alloc, RAW_FRAMES, &text::IN_RAW_FRAMES, reason)?;
     assert_wrong(&rt, alloc, CHANNELS, &text::IN_CHANNELS, reason)?;
-    assert_wrong(&rt, alloc, EIGHT_DOMAINS, &text::IN_EIGHT_DOMAINS, reason)
+    assert_wrong(&rt, alloc, EIGHT_DOMAINS, &text::IN_EIGHT_DOMAINS, reason)?;
+    assert_wrong(&rt, alloc, RINGS, &text::IN_RINGS, reason)
 }
 
 #[test]
@@ -191,7 +193,8 @@ fn numbers_that_the_journals_do_not_give(rt: HostRuntime) -> Result<(), Fail> {
     assert_wrong(&rt, alloc, WAITS, &total::IN_WAITS, reason)?;
     assert_wrong(&rt, alloc, RAW_FRAMES, &total::IN_RAW_FRAMES, reason)?;
     assert_wrong(&rt, alloc, CHANNELS, &total::IN_CHANNELS, reason)?;
-    assert_wrong(&rt, alloc, EIGHT_DOMAINS, &total::IN_EIGHT_DOMAINS, reason)
+    assert_wrong(&rt, alloc, EIGHT_DOMAINS, &total::IN_EIGHT_DOMAINS, reason)?;
+    assert_wrong(&rt, alloc, RINGS, &total::IN_RINGS, reason)
 }
 
 /// A put line with a frame of so many bytes.
@@ -250,6 +253,7 @@ fn each_front_of_a_report_is_wrong_where_it_ends(rt: HostRuntime) {
     let alloc = rt.alloc();
     assert!(rt; are_fronts_found(alloc, MESSAGE, true));
     assert!(rt; are_fronts_found(alloc, NO_CALL, true));
+    assert!(rt; are_fronts_found(alloc, RINGS, false));
     assert!(rt; are_fronts_found(alloc, WAITS, false));
     assert!(rt; are_fronts_found(alloc, RAW_FRAMES, false));
     assert!(rt; are_fronts_found(alloc, CHANNELS, false));

@@ -193,3 +193,24 @@ pub static IN_EIGHT_DOMAINS: [Change; 19] = [
         132,
     ),
 ];
+
+pub static IN_RINGS: [Change; 14] = [
+    (1, b"mcapi-report 1 serial\n", 18),
+    (
+        17,
+        b"lane 3 3 free 2 ring 0 queue 0 lent 0\nring 0 0 0 00\n",
+        18,
+    ),
+    (18, b"ring 0 3 0 00\n", 18),
+    (18, b"ring 3 1 0 00\n", 18),
+    (18, b"ring 3 0 1 00\n", 18),
+    (18, b"ring 3 0 0\n", 18),
+    (18, b"ring 3 0 0 000\n", 18),
+    (18, b"ring 3 0 0 0A\n", 18),
+    (18, b"", 18),
+    (19, b"", 19),
+    (20, b"ring 3 0 0 00\n", 20),
+    (21, b"", 21),
+    (21, b"ring 1 3 1 00\nring 1 3 1 00\n", 22),
+    (22, b"", 22),
+];

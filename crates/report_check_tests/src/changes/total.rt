@@ -124,3 +124,18 @@ pub static IN_EIGHT_DOMAINS: [Change; 7] = [
     (125, b"lane 3 4 free 2 ring 0 queue 0 lent 0\n", 125),
     (130, b"lane 7 0 free 1 ring 1 queue 0 lent 0\n", 130),
 ];
+
+pub static IN_RINGS: [Change; 4] = [
+    (
+        10,
+        b"messages accepted 1 taken 1 dropped 0 queued 0 ring 0\n",
+        10,
+    ),
+    (
+        10,
+        b"channel 0 1 accepted 0 taken 0 dropped 0 queued 0 ring 0\nmessages accepted 0 taken 0 dropped 0 queued 0 ring 0\n",
+        10,
+    ),
+    (11, b"lane 0 0 free 1 ring 0 queue 0 lent 1\n", 11),
+    (17, b"lane 3 3 free 1 ring 1 queue 0 lent 0\n", 17),
+];
