@@ -1,7 +1,7 @@
 # Explains a refusal of mcrun by the tables and forms of docs/FORMATS.md:
 #   awk -v answer='refused 5 form' -f scripts/explain.awk docs/FORMATS.md INPUT
-# The answer is the program's line: `refused LINE REASON` of a scenario, or `wrong PLACE REASON` of a frame
-# or an image.
+# The answer is the program's line: `refused LINE REASON` of a scenario, `wrong LINE REASON` of a report, or
+# `wrong PLACE REASON` of a frame or an image.
 
 BEGIN { split(answer, refusal, " ") }
 
@@ -20,6 +20,7 @@ file == 1 && /^[|]/ {
     if (table == "") table = column[2]
     key = unquoted(column[2])
     if (table == "reason" || table == "fault") meaning[key] = unquoted(column[3])
+    if (table == "pass") verdict[unquoted(column[3])] = unquoted(column[4])
     if (table == "call, arguments" && column[2] ~ /^`/) {
         split(key, word, " ")
         form[word[1]] = (column[3] == "yes" ? "LABEL = " : "") key
@@ -32,13 +33,21 @@ file == 1 && /^KIND is the word/ { kinds = unquoted($0); sub(/[.] .*/, ".", kind
 file == 2 && FNR == refusal[2] { refused_line = $0; there_is_line = 1; exit }
 
 END {
-    if (refusal[1] == "wrong") wrong()
+    if (refusal[1] == "wrong" && refusal[3] in verdict) report()
+    else if (refusal[1] == "wrong") wrong()
     else if (refusal[1] == "refused") scenario()
 }
 
 function unquoted(text) { gsub(/`/, "", text); return text }
 
 function say(text) { print "mcrun: " text }
+
+# A report. Without a line of that number, it ends too early.
+function report() {
+    if (there_is_line) say("line " refusal[2] ": " substr(refused_line, 1, 160))
+    else say("line " refusal[2] ": the text ends before it")
+    say(refusal[3] ": " verdict[refusal[3]])
+}
 
 # A frame or an image.
 function wrong() {

@@ -8,3 +8,4 @@ pub mod FaultPlaces
 pub mod FrameLines
 pub mod RefusalPieces
 pub mod LoadWords
+pub mod ReportsTold

@@ -11,7 +11,7 @@ use Rattle.board_model.specs.Grammar.{line_of}
 use Rattle.board_model.specs.Report.{ending}
 use Rattle.board_model.proofs.WordDecimals.{number-decimal, decimal-is, decimal-read}
 use Rattle.scenario_cli.specs.declared.form.Form.{Form}
-use Rattle.scenario_cli.specs.declared.form.Form.TheVariants.{Run, SerialRun, Frame, Ring}
+use Rattle.scenario_cli.specs.declared.form.Form.TheVariants.{Run, SerialRun, Check, Frame, Ring}
 use Rattle.scenario_cli.specs.Words.{words_of, IsForm, IsNoLoad, IsNoForm, IsOneOf}
 use Rattle.scenario_cli.specs.LoadText.{IsLoad}
 use Rattle.scenario_cli.specs.Loading.{Loads}
@@ -47,6 +47,7 @@ one_load n m words this that =
 two_words : (form : Form) (digits : List ℕ) (words : List (List ℕ)) → IsForm form words → words ≡ codes "load" ∷ digits ∷ [] → ⊥
 two_words Run digits words form told = let same = sym form ∙ told in cc
 two_words SerialRun digits words form told = let same = sym form ∙ told in cc
+two_words Check digits words form told = let same = sym form ∙ told in cc
 two_words Frame digits words form told = let same = sym form ∙ told in cc
 two_words Ring digits words form told = let same = sym form ∙ told in cc
 

@@ -16,9 +16,12 @@ use Rattle.split_ring.specs.Finished.{FinishedRing}
 use Rattle.ring_trace.specs.declared.checking.ImageInfo.{ImageInfo}
 use Rattle.ring_trace.specs.declared.checking.ImageFault.{ImageFault}
 use Rattle.scenario_cli.specs.declared.form.Form.{Form}
-use Rattle.scenario_cli.specs.declared.form.Form.TheVariants.{Run, SerialRun, Frame, Ring}
-use Rattle.scenario_cli.specs.Words.{input_limit}
+use Rattle.scenario_cli.specs.declared.form.Form.TheVariants.{Run, SerialRun, Check, Frame, Ring}
+use Rattle.report_text.specs.declared.verdict.Verdict.TheVariants.{Right, Wrong}
+use Rattle.report_text.specs.Verdicts.{verdict_on}
+use Rattle.scenario_cli.specs.Words.{input_limit, report_limit, limit_of}
 use Rattle.scenario_cli.specs.RefusedText.{refusal_text}
+use Rattle.scenario_cli.specs.VerdictText.{verdict_line, WrongLine, HasNoWrongLine, HasWrongLine, IsOfRun}
 use Rattle.scenario_cli.specs.FrameText.{TellsRight, TellsWrong, wrong_in}
 use Rattle.scenario_cli.specs.ImageText.{IsImage, IsNoImage, IsImageDue, image_line, image_fault_line}
 
@@ -72,6 +75,7 @@ pub data IsFrameDue (text output : List ℕ) : Type 0 where
 abbrev pub IsDue : Form → List ℕ → List ℕ → Type 0
 IsDue Run text output = IsRunDue threads text output
 IsDue SerialRun text output = IsRunDue serial text output
+IsDue Check text output = output ≡ verdict_line (verdict_on text)
 IsDue Frame text output = IsFrameDue text output
 IsDue Ring bytes output = IsImageDue bytes output
 
@@ -82,6 +86,18 @@ Reports mode rest old new = IfSome rest (λ text. (length text ≤ input_limit) 
 -- the whole refusal was written, of an input within the limit that tells no scenario
 abbrev pub Refuses : Option (List ℕ) → Option (List ℕ) → Option (List ℕ) → Type 0
 Refuses rest old new = IfSome rest (λ text. (length text ≤ input_limit) × ((r : RefusedLine) × IsRefused text r × Appends old new (refusal_text r)))
+
+-- that the report is right was written, of an input within the limit of reports that has no wrong line
+abbrev pub IsRightReport : Option (List ℕ) → Option (List ℕ) → Option (List ℕ) → Type 0
+IsRightReport rest old new = IfSome rest (λ text. (length text ≤ report_limit) × HasNoWrongLine text × Appends old new (verdict_line Right))
+
+-- such an input is the report of a whole run of its board
+abbrev pub TellsRun : Option (List ℕ) → Type 0
+TellsRun rest = IfSome rest IsOfRun
+
+-- the first wrong line and the reason were written, of an input within the limit of reports
+abbrev pub IsWrongReport : Option (List ℕ) → Option (List ℕ) → Option (List ℕ) → Type 0
+IsWrongReport rest old new = IfSome rest (λ text. (length text ≤ report_limit) × ((w : WrongLine) × HasWrongLine text w × Appends old new (verdict_line (Wrong w.0 w.1))))
 
 -- what the frame says was written, of an input within the limit that is a sound frame
 abbrev pub IsRight : Option (List ℕ) → Option (List ℕ) → Option (List ℕ) → Type 0
@@ -101,11 +117,11 @@ IsWrongImage rest old new = IfSome rest (λ bytes. (length bytes ≤ input_limit
 
 -- a proper prefix of the output that is due for the input was written
 abbrev pub BreaksOff : Form → Option (List ℕ) → Option (List ℕ) → Option (List ℕ) → Type 0
-BreaksOff form rest old new = IfSome rest (λ text. (length text ≤ input_limit) × ((output : List ℕ) × IsDue form text output × AppendsPart old new output))
+BreaksOff form rest old new = IfSome rest (λ text. (length text ≤ limit_of form) × ((output : List ℕ) × IsDue form text output × AppendsPart old new output))
 
--- more bytes came than the limit
-abbrev pub IsTooLong : Option (List ℕ) → Type 0
-IsTooLong rest = IfSome rest (λ text. input_limit < length text)
+-- more bytes came than the form's limit
+abbrev pub IsTooLong : Form → Option (List ℕ) → Type 0
+IsTooLong form rest = IfSome rest (λ text. limit_of form < length text)
 
 -- for an input within the limit: of a scenario, or of none
 abbrev pub IfScenario : Option (List ℕ) → Type 0 → Type 0
@@ -113,6 +129,13 @@ IfScenario rest P = IfSome rest (λ text. length text ≤ input_limit → (s : S
 
 abbrev pub IfNoScenario : Option (List ℕ) → Type 0 → Type 0
 IfNoScenario rest P = IfSome rest (λ text. length text ≤ input_limit → (r : RefusedLine) → IsRefused text r → P)
+
+-- for an input within the limit of reports: that has no wrong line, or that has one
+abbrev pub IfRightReport : Option (List ℕ) → Type 0 → Type 0
+IfRightReport rest P = IfSome rest (λ text. length text ≤ report_limit → HasNoWrongLine text → P)
+
+abbrev pub IfWrongReport : Option (List ℕ) → Type 0 → Type 0
+IfWrongReport rest P = IfSome rest (λ text. length text ≤ report_limit → (w : WrongLine) → HasWrongLine text w → P)
 
 -- for an input within the limit: that is a sound frame, or that is none
 abbrev pub IfSoundFrame : Option (List ℕ) → Type 0 → Type 0
@@ -128,8 +151,8 @@ IfSoundImage rest P = IfSome rest (λ bytes. length bytes ≤ input_limit → (i
 abbrev pub IfNoSoundImage : Option (List ℕ) → Type 0 → Type 0
 IfNoSoundImage rest P = IfSome rest (λ bytes. length bytes ≤ input_limit → (fault : ℕ × ImageFault) → IsNoImage bytes fault → P)
 
-abbrev pub IfTooLong : Option (List ℕ) → Type 0 → Type 0
-IfTooLong rest P = IfSome rest (λ text. input_limit < length text → P)
+abbrev pub IfTooLong : Form → Option (List ℕ) → Type 0 → Type 0
+IfTooLong form rest P = IfSome rest (λ text. limit_of form < length text → P)
 
 -- whatever is due for the input has at most so many bytes
 abbrev pub DueFits : Form → Option (List ℕ) → ℕ → Type 0

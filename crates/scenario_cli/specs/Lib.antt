@@ -3,6 +3,7 @@ pub mod LoadText
 pub mod Loading
 pub mod RefusedText
 pub mod WrongText
+pub mod VerdictText
 pub mod Hex
 pub mod FrameText
 pub mod ImageText

@@ -1,10 +1,10 @@
--- The words of the program, its fixed texts and its limit.
+-- The words of the program, its fixed texts and its limits.
 -- Source: README.md, "Forms and statuses".
 use Rattle.std.specs.Prelude.{◌≡◌, ◌⊎◌, ℕ, List, [], ◌∷◌, map, codes, string_bytes, String}
 use Rattle.std.specs.Global.{Global}
 use Rattle.board_model.specs.Report.{Mode, serial, threads}
 use Rattle.scenario_cli.specs.declared.form.Form.{Form}
-use Rattle.scenario_cli.specs.declared.form.Form.TheVariants.{Run, SerialRun, Frame, Ring}
+use Rattle.scenario_cli.specs.declared.form.Form.TheVariants.{Run, SerialRun, Check, Frame, Ring}
 use Rattle.scenario_cli.specs.LoadText.{IsLoad}
 
 -- the words as bytes
@@ -15,6 +15,7 @@ words_of words = map (λ w. string_bytes w) words
 abbrev pub form_words : Form → List (List ℕ)
 form_words Run = codes "run" ∷ []
 form_words SerialRun = codes "run" ∷ codes "--serial" ∷ []
+form_words Check = codes "check" ∷ []
 form_words Frame = codes "frame" ∷ []
 form_words Ring = codes "ring" ∷ []
 
@@ -47,9 +48,16 @@ pub record IsNoForm (words : List (List ℕ)) : Type 0 where
 abbrev pub usage_text : List ℕ
 usage_text = codes "usage: mcrun run | run --serial | check | frame | ring | load N\n"
 
--- the most bytes of an input
+-- the most bytes of an input: of a scenario, of the text of a frame and of an image, and of a report
 abbrev pub input_limit : ℕ
 input_limit = 8388608
+
+abbrev pub report_limit : ℕ
+report_limit = 268435456
+
+abbrev pub limit_of : Form → ℕ
+limit_of Check = report_limit
+limit_of other = input_limit
 
 -- the status is one of these
 abbrev pub IsOneOf : List ℕ → ℕ → Type 0

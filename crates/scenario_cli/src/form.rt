@@ -1,11 +1,17 @@
 //! The forms of the program.
 
 ghost use Rattle.std.specs.Prelude.{◌≡◌, ◌≤◌, ◌∷◌, [], ℕ, IfSome, IsNone, decimal, string_bytes};
-ghost use Rattle.scenario_cli.specs.Words.{words_of, IsForm, IsNoInputForm, IsNoLoad};
+ghost use Rattle.scenario_cli.specs.Words.{words_of, IsForm, IsNoInputForm, IsNoLoad, limit_of};
 ghost use Rattle.board_model.specs.LoadBoard.{load_limit};
 ghost use Rattle.scenario_cli.specs.LoadText.{IsLoad};
 
 use board_model::number_to;
+
+/// The most bytes of a scenario, of the text of a frame, and of an image.
+const INPUT_LIMIT: usize = 8_388_608;
+
+/// The most bytes of a report.
+const REPORT_LIMIT: usize = 268_435_456;
 
 /// The most packets of a load board.
 const MOST_PACKETS: u64 = 100_000;
@@ -17,10 +23,24 @@ pub enum Form {
     Run,
     /// `run --serial`: a scenario in, the report of its serial run out.
     SerialRun,
+    /// `check`: the report of a run in, whether it is right or its first wrong line out.
+    Check,
     /// `frame`: the hexadecimal text of a frame in, what it says or its first fault out.
     Frame,
     /// `ring`: the bytes of the image of a ring in, what it is of or its first fault out.
     Ring,
+}
+
+impl Form {
+    /// The most bytes of an input of this form.
+    pub fn limit(self) -> usize
+        ensures { result ≡ limit_of self }
+    {
+        match self {
+            Form::Check => REPORT_LIMIT,
+            Form::Run | Form::SerialRun | Form::Frame | Form::Ring => INPUT_LIMIT,
+        }
+    }
 }
 
 /// The number of packets that the words `load N` tell, or `None` where they are not of this form.
@@ -81,6 +101,8 @@ fn word_form(word: &String) -> Option<Form>
 {
     if word.as_str() == "run" {
         Some(Form::Run)
+    } else if word.as_str() == "check" {
+        Some(Form::Check)
     } else if word.as_str() == "frame" {
         Some(Form::Frame)
     } else if word.as_str() == "ring" {

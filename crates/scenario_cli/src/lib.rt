@@ -7,6 +7,7 @@ mod hex;
 mod image;
 mod load;
 mod refused;
+mod report;
 mod run;
 mod status;
 mod top;

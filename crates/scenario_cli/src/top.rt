@@ -4,37 +4,37 @@ ghost use Rattle.board_model.specs.Report.{Mode};
 ghost use Rattle.outer_io.specs.Faults.{Rose};
 ghost use Rattle.outer_io.specs.Calls.{CountsOne};
 ghost use Rattle.outer_io.specs.Writes.{AppendsPart};
-ghost use Rattle.scenario_cli.specs.declared.form.Form.TheVariants.{Run, SerialRun, Frame, Ring};
+ghost use Rattle.scenario_cli.specs.declared.form.Form.TheVariants.{Run, SerialRun, Check, Frame, Ring};
 ghost use Rattle.scenario_cli.specs.Words.{words_of, IsForm, run_in, IsNoForm, IsOneOfForms, usage_text, IsOneOf};
 ghost use Rattle.scenario_cli.specs.LoadText.{IsLoad};
 ghost use Rattle.scenario_cli.specs.Loading.{Loads};
-ghost use Rattle.scenario_cli.specs.Due.{Reports, Refuses, IsRight, IsWrong, IsRightImage, IsWrongImage, BreaksOff, IsTooLong, IfScenario, IfNoScenario, IfSoundFrame, IfNoSoundFrame, IfSoundImage, IfNoSoundImage, IfTooLong, DueFits};
+ghost use Rattle.scenario_cli.specs.Due.{Reports, Refuses, IsRight, IsWrong, IsRightReport, TellsRun, IsWrongReport, IsRightImage, IsWrongImage, BreaksOff, IsTooLong, IfScenario, IfNoScenario, IfRightReport, IfWrongReport, IfSoundFrame, IfNoSoundFrame, IfSoundImage, IfNoSoundImage, IfTooLong, DueFits};
 
 use crate::form::{Form, form_of};
 use crate::frame::tell_frame;
 use crate::image::tell_image;
 use crate::load::without_input;
+use crate::report::tell_report;
 use crate::run::run_text;
 use crate::status;
 use outer_io::{ReadFault, Sink, Source, read_all};
 use std::alloc::Global;
 use std::thread::Threads;
 
-/// The most bytes of an input.
-const INPUT_LIMIT: usize = 8_388_608;
-
 /// Does what the words say, writes the output, and returns the status to end with.
 ///
 /// The form `run` reads a scenario, runs its domains on threads and writes the report of that run. The form `run --serial` does so
-/// with the serial run, on one thread. The form `frame` reads the hexadecimal
+/// with the serial run, on one thread. The form `check` reads a report and writes whether it is that of a whole run of its board, or its
+/// first wrong line and why it is wrong. The form `frame` reads the hexadecimal
 /// text of a frame and writes what the frame says, or its first fault and the place of it. The form `ring` reads the image of a
 /// ring, as its bytes, and writes its size, its queue and its two indices, or its first fault and the place of it. The form `load N`
 /// reads nothing: it runs the load board of N packets, from 1 to 100,000, serially, and writes what became of its packets.
 ///
-/// The statuses are 0 where the report was written or the frame or image is sound, 1 where the input is not a sound frame or
-/// image, 2 where the words are none of the forms and the usage was written, 3 where the input is not a scenario and the refusal
+/// The statuses are 0 where the report was written, the report read is right, or the frame or image is sound, 1 where the input is not
+/// a right report, a sound frame or a sound image, 2 where the words are none of the forms and the usage was written, 3 where the input is not a scenario and the refusal
 /// was written, 4 where a read failed, 5 where a write failed, 6 where an allocation failed, and 7 where the input has more than
-/// 8,388,608 bytes. Words come first, then reading, the grammar, the frame or the image, running, and writing.
+/// 8,388,608 bytes, or for `check` more than 268,435,456. Words come first, then reading, the grammar, the report, the frame or the
+/// image, running, and writing.
 ///
 /// The form `run` joins threads, so nothing is promised of whether it returns.
 pub fn mcrun<T: Threads + Sync, S: Source, K: Sink>(
@@ -50,6 +50,10 @@ pub fn mcrun<T: Threads + Sync, S: Source, K: Sink>(
     // 0 of a run: the report of journals that are a whole run of the board that was read, and of which the headline holds.
     ensures headline { (mode : Mode) → IsForm (run_in mode) (words_of words.now) → result ≡ 0 → Reports mode (S.rest input.old) (K.written output.old) (K.written output.new) }
 
+    // 0 of a report that is read: it is right. So it tells a whole run of its board, of which the headline holds.
+    ensures right_report { IsForm Check (words_of words.now) → result ≡ 0 → IsRightReport (S.rest input.old) (K.written output.old) (K.written output.new) }
+    ensures checked { IsForm Check (words_of words.now) → result ≡ 0 → TellsRun (S.rest input.old) }
+
     // 0 of a frame: what the sound frame says.
     ensures right { IsForm Frame (words_of words.now) → result ≡ 0 → IsRight (S.rest input.old) (K.written output.old) (K.written output.new) }
 
@@ -60,10 +64,12 @@ pub fn mcrun<T: Threads + Sync, S: Source, K: Sink>(
     ensures load { (packets : ℕ) → IsLoad packets (words_of words.now) → Loads packets result (K.written output.old) (K.written output.new) (K.takes output.old) }
     ensures load_reads_nothing { (packets : ℕ) → IsLoad packets (words_of words.now) → input.new ≡ input.old }
 
-    // 1: exactly where the input is no sound frame, or no sound image. The first fault and its place.
+    // 1: exactly where the input is no right report, no sound frame, or no sound image. The first wrong line and the reason, or the first
+    // fault and its place.
+    ensures wrong_report { IsForm Check (words_of words.now) → result ≡ 1 → IsWrongReport (S.rest input.old) (K.written output.old) (K.written output.new) }
     ensures wrong { IsForm Frame (words_of words.now) → result ≡ 1 → IsWrong (S.rest input.old) (K.written output.old) (K.written output.new) }
     ensures wrong_image { IsForm Ring (words_of words.now) → result ≡ 1 → IsWrongImage (S.rest input.old) (K.written output.old) (K.written output.new) }
-    ensures wrong_words { result ≡ 1 → IsOneOfForms (Frame ∷ Ring ∷ []) (words_of words.now) }
+    ensures wrong_words { result ≡ 1 → IsOneOfForms (Check ∷ Frame ∷ Ring ∷ []) (words_of words.now) }
 
     // 2: exactly where the words are none of the forms. Nothing is read.
     ensures usage_words { result ≡ 2 → IsNoForm (words_of words.now) }
@@ -83,8 +89,8 @@ pub fn mcrun<T: Threads + Sync, S: Source, K: Sink>(
     ensures no_write_failed { result ≢ 5 → K.faults output.new ≡ K.faults output.old }
     ensures breaks_off { (form : Form) → IsForm form (words_of words.now) → result ≡ 5 → BreaksOff form (S.rest input.old) (K.written output.old) (K.written output.new) }
 
-    // 7: exactly where more bytes came than the limit.
-    ensures too_long { result ≡ 7 → IsTooLong (S.rest input.old) }
+    // 7: exactly where more bytes came than the form's limit.
+    ensures too_long { (form : Form) → IsForm form (words_of words.now) → result ≡ 7 → IsTooLong form (S.rest input.old) }
 
     // At 4, 6 and 7 nothing was written; at 0, 1 and 3 the input was read to its end, but by a load.
     ensures nothing_written { IsOneOf (4 ∷ 6 ∷ 7 ∷ []) result → Keeps (K.written output.old) (K.written output.new) }
@@ -98,11 +104,13 @@ pub fn mcrun<T: Threads + Sync, S: Source, K: Sink>(
     // Completeness: what the status is where nothing fails and no memory is wanting.
     ensures scenario { (mode : Mode) → IsForm (run_in mode) (words_of words.now) → IfScenario (S.rest input.old) (IsOneOf (0 ∷ 4 ∷ 5 ∷ 6 ∷ []) result) }
     ensures no_scenario { (mode : Mode) → IsForm (run_in mode) (words_of words.now) → IfNoScenario (S.rest input.old) (IsOneOf (3 ∷ 4 ∷ 5 ∷ 6 ∷ []) result) }
+    ensures sound_report { IsForm Check (words_of words.now) → IfRightReport (S.rest input.old) (IsOneOf (0 ∷ 4 ∷ 5 ∷ 6 ∷ []) result) }
+    ensures unsound_report { IsForm Check (words_of words.now) → IfWrongReport (S.rest input.old) (IsOneOf (1 ∷ 4 ∷ 5 ∷ 6 ∷ []) result) }
     ensures sound_frame { IsForm Frame (words_of words.now) → IfSoundFrame (S.rest input.old) (IsOneOf (0 ∷ 4 ∷ 5 ∷ 6 ∷ []) result) }
     ensures unsound_frame { IsForm Frame (words_of words.now) → IfNoSoundFrame (S.rest input.old) (IsOneOf (1 ∷ 4 ∷ 5 ∷ 6 ∷ []) result) }
     ensures sound_image { IsForm Ring (words_of words.now) → IfSoundImage (S.rest input.old) (IsOneOf (0 ∷ 4 ∷ 5 ∷ 6 ∷ []) result) }
     ensures unsound_image { IsForm Ring (words_of words.now) → IfNoSoundImage (S.rest input.old) (IsOneOf (1 ∷ 4 ∷ 5 ∷ 6 ∷ []) result) }
-    ensures over_limit { (form : Form) → IsForm form (words_of words.now) → IfTooLong (S.rest input.old) (IsOneOf (4 ∷ 6 ∷ 7 ∷ []) result) }
+    ensures over_limit { (form : Form) → IsForm form (words_of words.now) → IfTooLong form (S.rest input.old) (IsOneOf (4 ∷ 6 ∷ 7 ∷ []) result) }
     ensures sound_source { S.never_fails input.old → result ≢ 4 }
     ensures sound_sink { (form : Form) (n : ℕ) → IsForm form (words_of words.now) → DueFits form (S.rest input.old) n → K.takes output.old n → result ≢ 5 }
     ensures sound_usage { (n : ℕ) → IsNoForm (words_of words.now) → length usage_text ≤ n → K.takes output.old n → result ≢ 5 }
@@ -110,10 +118,11 @@ pub fn mcrun<T: Threads + Sync, S: Source, K: Sink>(
     let Some(form) = form_of(words) else {
         return without_input(alloc, words, output);
     };
-    match read_all(alloc, input, INPUT_LIMIT) {
+    match read_all(alloc, input, form.limit()) {
         Ok(text) => match form {
             Form::Run => run_text(rt, alloc, true, &text, output),
             Form::SerialRun => run_text(rt, alloc, false, &text, output),
+            Form::Check => tell_report(alloc, &text, output),
             Form::Frame => tell_frame(alloc, &text, output),
             Form::Ring => tell_image(&text, output),
         },

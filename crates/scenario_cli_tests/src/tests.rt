@@ -14,6 +14,7 @@ mod linked;
 mod loads;
 mod payloads;
 mod refusals;
+mod reports;
 mod requests;
 mod threads;
 mod unlinked;
@@ -149,6 +150,8 @@ struct Given<'a> {
 
 const SERIAL: &[&str] = &["run", "--serial"];
 
+const CHECK: &[&str] = &["check"];
+
 /// The form `run --serial` on no text, with streams that fail nowhere.
 const EMPTY: Given<'static> = Given {
     words: SERIAL,
@@ -223,7 +226,16 @@ fn comes_out<T: Threads + Sync>(
     Ok(answer == status && output.written() == written)
 }
 
-/// Whether a scenario is run to its end, and its report ends so.
+/// Whether a report is right.
+fn is_right<T: Threads + Sync>(rt: &T, alloc: Global, report: &[u8]) -> Result<bool, AllocError> {
+    let given = Given {
+        words: CHECK,
+        ..serial(report)
+    };
+    comes_out(rt, alloc, given, 0, b"right\n")
+}
+
+/// Whether a scenario is run to its end, and its report is right and ends so.
 fn ends_with<T: Threads + Sync>(
     rt: &T,
     alloc: Global,
@@ -231,7 +243,8 @@ fn ends_with<T: Threads + Sync>(
     end: &[u8],
 ) -> Result<bool, AllocError> {
     let (status, output) = outcome_of(rt, alloc, serial(text))?;
-    Ok(status == 0 && output.written().ends_with(end))
+    let report = output.written();
+    Ok(status == 0 && report.ends_with(end) && is_right(rt, alloc, report)?)
 }
 
 /// Whether this status and this output come of a text of one byte, so many times.
