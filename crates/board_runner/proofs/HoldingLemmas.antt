@@ -4,7 +4,7 @@ use Rattle.std.specs.Prelude.{Contains, IsSome}
 use Rattle.std.proofs.lemmas.Bool.Decides.{eqb_tells}
 use Rattle.board_model.specs.State.{DomainState, peer_of, queued_from, lent_from}
 use Rattle.buffer_book.specs.declared.places.Places.{Places}
-use Rattle.board_runner.specs.Tallied.{places_held}
+use Rattle.board_numbers.specs.Tallied.{places_held}
 use Rattle.board_runner.proofs.PeersFound.{peer-contained}
 
 -- the places of so many first peers

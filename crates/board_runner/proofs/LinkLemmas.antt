@@ -24,7 +24,7 @@ use Rattle.domain_core.specs.Opening.{AreLinksOf, IsOpenLink, neighbour_of, neig
 use Rattle.domain_core.specs.Sound as sound
 use Rattle.domain_core.specs.declared.link.Link.{Link}
 use Rattle.domain_core.specs.Carrying.{AnyLink}
-use Rattle.board_runner.specs.Lanes.{joins, size_between}
+use Rattle.board_numbers.specs.Lanes.{joins, size_between}
 use Rattle.board_runner.specs.Wired.{IsNewLink, AreLinksOn, is_other, link_neighbour}
 use Rattle.board_runner.specs.Opened.{IsLineIn}
 

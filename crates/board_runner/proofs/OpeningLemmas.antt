@@ -32,9 +32,9 @@ use Rattle.board_model.proofs.WholeJoined.{Joined, joined_back, joined_found, fo
 use Rattle.domain_core.specs.declared.ends.Ends.TheVariants.{Own, Linked}
 use Rattle.domain_core.specs.Opening.{neighbour_of, neighbours_opened, ends_opened, links_in}
 use Rattle.domain_core.specs.Carrying.{AnyLink, AreLinked, link_to}
+use Rattle.board_numbers.specs.Lanes.{line_of_domain, joins, size_between}
 use Rattle.board_runner.specs.declared.station.Station.{Station}
 use Rattle.board_runner.specs.Near.{Near, SentNear, GotNear, nothing_near, RunEnds, RunDomain, near_to, near_among, peers_of, near_of, EndsMatch}
-use Rattle.board_runner.specs.Lanes.{line_of_domain, joins, size_between}
 use Rattle.board_runner.specs.declared.wires.Wire.{Wire}
 use Rattle.board_runner.specs.Carried.{HasCome}
 use Rattle.board_runner.specs.Wired.{IsNewLink, AreLinksOn, IsWired, wire_at, links_wired}

@@ -10,12 +10,12 @@ use Rattle.board_model.specs.Run.{left_by, IsDomainRun, IsWhole}
 use Rattle.board_model.specs.Board.{DomainJournal, LaneFits, AreWhole}
 use Rattle.board_model.specs.SerialRun as run
 use Rattle.board_model.specs.SerialRun.{journal_left, opened_station, opened}
+use Rattle.board_numbers.specs.Tallied.{RanBoard}
 use Rattle.board_runner.specs.declared.station.Station.{Station}
 use Rattle.board_runner.specs.OwnBoard.{RanAs, AllRanAs, RanAlone}
 use Rattle.board_runner.specs.Jobs.{RunScripts}
 use Rattle.board_runner.specs.OwnRun.{station_in}
 use Rattle.board_runner.specs.Stations.{AreStations}
-use Rattle.board_runner.specs.Tallied.{RanBoard}
 
 -- ---- the run of each
 

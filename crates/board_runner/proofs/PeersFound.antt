@@ -1,11 +1,7 @@
 -- A domain's peers, by the places where they are found.
 use Rattle.std.proofs.Common.{◌≡◌, ℕ, true, List, Option, Some, None, map, is_some, refl, sym, ap, ◌∙◌, true≢false}
-use Rattle.std.specs.Prelude.{◌==◌, Contains, IsSome, find, option_and_then, option_map, position, slice_get}
-use Rattle.board_model.specs.Scenario.{Neighbour}
-use Rattle.board_model.specs.State.{DomainState, Peer, is_numbered, peer_of, place_of_peer}
-use Rattle.board_model.proofs.ListsCounts.{position-tells, some_place}
-use Rattle.board_model.proofs.MessageLists.{some-position}
-use Rattle.board_model.proofs.WholeFinds.{find-mapped}
+use Rattle.std.specs.Prelude.{◌==◌, Contains, IsSome, option_and_then, position, slice_get}
+use Rattle.board_model.specs.State.{DomainState, Peer, peer_of, place_of_peer}
 use Rattle.domain_core.proofs.PeerPlaces.{contained-found, found-contained}
 use Rattle.domain_core.proofs.Tables.{position-map}
 
@@ -32,13 +28,3 @@ module _ (s : DomainState) (n : ℕ) where
       go : (o : Option ℕ) → place_of_peer s n ≡ o → IsSome (option_and_then (λ i. slice_get s.peers i) o) → Contains numbers n
       go None at none = absurd (true≢false (sym none))
       go (Some i) at there = in_numbers (Some i) at refl
-
--- a domain knows the neighbours whose numbers its peers have
-pub number_known : (s : DomainState) (n : ℕ) (ns : List Neighbour) (m : Neighbour) → map (λ (p : Peer). p.number) s.peers ≡ map (λ (m : Neighbour). m.number) ns → find (λ m. m.number == n) ns ≡ Some m → IsSome (peer_of s n)
-number_known s n ns m same found =
-    let placed : is_some (place_of_peer s n) ≡ true =
-    ap (λ (o : Option ℕ). is_some o) (by_number s n) ∙ some-position (λ k. k == n) (map (λ (p : Peer). p.number) s.peers) ∙ ap (λ (ks : List ℕ). is_some (find (λ k. k == n) ks)) same
-    ∙ ap (λ (o : Option ℕ). is_some o) (find-mapped (λ k. k == n) (λ (x : Neighbour). x.number) ns ∙ ap (option_map (λ (x : Neighbour). x.number)) found) in
-    let place = some_place (place_of_peer s n) placed in
-    let there = position-tells (is_numbered n) s.peers place.0 place.1 in
-    ap (λ (o : Option Peer). is_some o) (ap (option_and_then (λ i. slice_get s.peers i)) place.1 ∙ there.1)

@@ -1,9 +1,17 @@
--- The text of the journals, one by one.
-use Rattle.std.proofs.Common.{◌≡◌, List, ℕ, zero, suc, ◌+◌, ◌<◌, [], ◌∷◌, ◌++◌, length, map, take, get_or, append_assoc, append-nil, add-one, ap, sym, ◌∙◌, arith}
+-- The text of a report, piece by piece, and that of its journals, one by one.
+use Rattle.std.proofs.Common.{◌≡◌, List, ℕ, zero, suc, ◌+◌, ◌<◌, [], ◌∷◌, ◌++◌, length, map, flat_map, take, get_or, append_assoc, append-nil, add-one, ap, sym, ◌∙◌, arith}
 use Rattle.std.specs.Prelude.{codes, decimal}
 use Rattle.board_model.specs.declared.scenario.DomainLine.{DomainLine}
 use Rattle.board_model.specs.Grammar.{line_of}
-use Rattle.board_model.specs.Report.{lines_text, journals_text}
+use Rattle.board_model.specs.declared.scenario.Scenario.{Scenario}
+use Rattle.board_model.specs.declared.totals.ChannelTotals.{ChannelTotals}
+use Rattle.board_model.specs.declared.totals.LanePlaces.{LanePlaces}
+use Rattle.board_model.specs.declared.totals.Totals.{Totals}
+use Rattle.board_model.specs.Grammar.{canonical}
+use Rattle.board_model.specs.Journal.{Line}
+use Rattle.board_model.specs.Report.{Mode, heading, lines_text, journals_text, summary_text, places_text, ending, report_of}
+use Rattle.board_model.specs.Scenario.{rising}
+use Rattle.board_numbers.specs.NumberLines.{numbers_text}
 use Rattle.mc_journal.specs.Written.{Written}
 use Rattle.board_runner.specs.Outcome.{lines_in}
 
@@ -27,7 +35,9 @@ pub journals-more : (ds : List DomainLine) (js : List Written) (i n m : ℕ) (j 
     → journals_text (take (i + 1) ds) (lines_in (take (i + 1) js)) ≡ journals_text (take i ds) (lines_in (take i js)) ++ (line_of (codes "journal" ∷ decimal n ∷ []) ++ lines_text j.lines)
 journals-more ds js i n m j same within is read = ap (λ k. journals_text (take k ds) (lines_in (take k js))) (add-one i) ∙ next_journal ds js i n m j same within is read
 
--- ---- the line of a channel, piece by piece
+-- ---- the pieces of a report
 
-pub channel-line : (owner number words : List ℕ) → (codes "channel " ++ (owner ++ 32 ∷ (number ++ 32 ∷ words))) ++ 10 ∷ [] ≡ codes "channel " ++ (owner ++ (codes " " ++ (number ++ (codes " " ++ (words ++ 10 ∷ [])))))
-channel-line owner number words = simp append_assoc
+pub report-pieces : (mode : Mode) (s : Scenario) (journals : List (List Line)) (channels : List ChannelTotals) (messages : Totals) (places : List LanePlaces) (rings : List (List ℕ))
+    → heading mode ++ (canonical s ++ (journals_text (rising s) journals ++ (numbers_text channels messages places ++ (flat_map (λ line. line) rings ++ ending)))) ≡ report_of mode s journals channels messages places rings
+unfolding report_of
+report-pieces mode s journals channels messages places rings = ap (λ (t : List ℕ). heading mode ++ (canonical s ++ (journals_text (rising s) journals ++ t))) (append_assoc (summary_text channels messages) (flat_map places_text places) (flat_map (λ line. line) rings ++ ending))

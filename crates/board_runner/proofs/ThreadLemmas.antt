@@ -38,6 +38,8 @@ use Rattle.board_model.proofs.WholeHas.{Has, has-weaken, has-each}
 use Rattle.board_model.proofs.WholeJoined.{Joined, IsOwn, IsLink, joined_back, joined_found, lanes_join}
 use Rattle.domain_core.specs.Carrying.{AnyLink}
 use Rattle.domain_core.specs.LaneMoves.{sends, receives}
+use Rattle.board_numbers.specs.Tallied.{RanBoard, AreTallies, TallySomeRun, AddPlaces, TellTotals}
+use Rattle.board_numbers.proofs.LaneLemmas.{journal_found}
 use Rattle.board_runner.specs.declared.ended.EndedLink.{EndedLink}
 use Rattle.board_runner.specs.declared.ended.Remains.{Remains}
 use Rattle.board_runner.specs.declared.rings.LinkHalves.{LinkHalves}
@@ -50,16 +52,13 @@ use Rattle.board_runner.specs.Finishing.{BoardMoves, LinkHasRun, LinkIsRun, Link
 use Rattle.board_runner.specs.Looks.{see_looks}
 use Rattle.board_runner.specs.OwnBoard.{AllRanAs, RanAs}
 use Rattle.board_runner.specs.Stations.{AreStations}
-use Rattle.board_runner.specs.Tallied.{RanBoard, AreTallies, TallySomeRun, AddPlaces, TellTotals}
 use Rattle.board_runner.specs.ThreadRun.{WasFinished, TellsLane, TellLanes, IsThreadRun, queue_of, to_driver, to_device}
 use Rattle.board_runner.specs.Wired.{AreRings, driver_link, device_link, wires_for, leads_from, wire_at}
-use Rattle.board_runner.proofs.ChannelLemmas.{stations-ended}
 use Rattle.board_runner.proofs.EndedLemmas.{EndsAt, ended-there}
 use Rattle.board_runner.proofs.FittingLemmas.{EntriesFit, ring_fits, own_fits}
-use Rattle.board_runner.proofs.LaneLemmas.{journal_found}
 use Rattle.board_runner.proofs.MovedLemmas.{LinkAfter, OwnAfter, moves_by, ToldAt, told-at, links-after, owns-after}
 use Rattle.board_runner.proofs.OwnBoardLemmas.{are_stations, alone_whole, alone_board}
-use Rattle.board_runner.proofs.TallyLemmas.{stations-tallied, stations-told}
+use Rattle.board_runner.proofs.TallyLemmas.{stations-ended, stations-tallied, stations-told}
 use Rattle.board_runner.proofs.ToldTraffic.{HasTraffic, has_traffic}
 use Rattle.board_runner.proofs.WiredLemmas.{driver_wire, device_wire, leads_no}
 

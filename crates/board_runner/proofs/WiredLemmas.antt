@@ -28,10 +28,10 @@ use Rattle.board_model.proofs.MessageAlls.{found-passes}
 use Rattle.board_model.proofs.MessageLists.{get-position}
 use Rattle.board_model.proofs.WholeFinds.{some_tells}
 use Rattle.domain_core.specs.Carrying.{AnyLink}
+use Rattle.board_numbers.specs.Lanes.{joins, size_between}
 use Rattle.board_runner.specs.declared.rings.LinkHalves.{LinkHalves}
 use Rattle.board_runner.specs.declared.rings.LinkRings.{LinkRings}
 use Rattle.board_runner.specs.declared.wires.Wire.{Wire}
-use Rattle.board_runner.specs.Lanes.{joins, size_between}
 use Rattle.board_runner.specs.Near.{SentNear, GotNear, nothing_sent, nothing_got}
 use Rattle.board_runner.specs.Opened.{IsLineIn}
 use Rattle.board_runner.specs.Wired.{IsWiredBack, IsNewRing, HaveParts, AreRings, driver_link, device_link, wires_for, leads_from, wire_at, links_wired, IsNewLane, IsWired, IsNewLink, AreLinksOn, link_neighbour, is_other}

@@ -1,6 +1,5 @@
 pub mod Carried
 pub mod Apart
-pub mod Counts
 pub mod Ended
 pub mod Finishing
 pub mod Held
@@ -11,7 +10,6 @@ pub mod Runs
 pub mod StationsMet
 pub mod Wired
 pub mod Opened
-pub mod Lanes
 pub mod Looks
 pub mod Mode
 pub mod Outcome
@@ -19,11 +17,8 @@ pub mod OwnRun
 pub mod Jobs
 pub mod OwnBoard
 pub mod Stations
-pub mod Tallied
+pub mod EndedStations
 pub mod ThreadRun
 pub mod RingLines
-pub mod Told
-pub mod Items
-pub mod ItemCounts
 pub mod LendingLabels
 pub mod Waits

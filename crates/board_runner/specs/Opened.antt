@@ -8,10 +8,10 @@ use Rattle.board_model.specs.Scenario.{neighbours}
 use Rattle.board_model.specs.State.{opening}
 use Rattle.domain_core.specs.Carrying.{AnyLink}
 use Rattle.domain_core.specs.Opening.{ends_opened}
+use Rattle.board_numbers.specs.Lanes.{line_of_domain}
 use Rattle.board_runner.specs.declared.station.Station.{Station}
 use Rattle.board_runner.specs.declared.wires.Wire.{Wire}
 use Rattle.board_runner.specs.Held.{id_for}
-use Rattle.board_runner.specs.Lanes.{line_of_domain}
 use Rattle.board_runner.specs.Wired.{AreLinksOn, links_wired}
 
 -- the line is that of its domain

@@ -20,11 +20,11 @@ use Rattle.board_model.specs.declared.scenario.LinkLine.{LinkLine}
 use Rattle.board_model.specs.declared.scenario.Scenario.{Scenario}
 use Rattle.board_model.specs.Scenario.{Neighbour, neighbour, neighbours}
 use Rattle.domain_core.specs.Carrying.{AnyLink}
+use Rattle.board_numbers.specs.Lanes.{size_between}
 use Rattle.board_runner.specs.declared.rings.Halves.{Halves}
 use Rattle.board_runner.specs.declared.rings.LinkHalves.{LinkHalves}
 use Rattle.board_runner.specs.declared.rings.LinkRings.{LinkRings}
 use Rattle.board_runner.specs.declared.wires.Wire.{Wire}
-use Rattle.board_runner.specs.Lanes.{size_between}
 use Rattle.board_runner.specs.Near.{sent_near, got_near, nothing_sent, nothing_got}
 
 -- ---- rings

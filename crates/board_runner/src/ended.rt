@@ -4,16 +4,14 @@ ghost use Rattle.std.specs.Prelude.{◌≡◌, ◌<◌, ℕ, IfOk, IfSome, OnOk,
 ghost use Rattle.std.specs.List.{AllByRecursion};
 ghost use Rattle.board_runner.specs.Ended.{EndMore, HasRings, IsOverRings, WireEnds, WiresEnd, ended_at, is_ended_at, wire_of, wires_left};
 ghost use Rattle.board_model.specs.Language.{IsLawfulBoard};
-ghost use Rattle.board_runner.specs.ItemCounts.{TellChannels};
+ghost use Rattle.board_numbers.specs.ToldChannels.{TellChannels};
+ghost use Rattle.board_runner.specs.EndedStations.{TellStations, ended_station};
 ghost use Rattle.board_runner.specs.Outcome.{lines_in};
-ghost use Rattle.board_runner.specs.Tallied.{TellStations};
 
-use crate::adding::{add, append};
-use crate::channels::channels_of;
-use crate::ending::tallies_of;
+use crate::ending::{channel_totals, tallies_of};
 use crate::station::Station;
-use crate::tally::Tally;
 use board_model::{ChannelTotals, Scenario, Seq};
+use board_numbers::{Tally, add, append};
 use domain_core::{Journal, Link};
 use lane_end::{AnyRecv, AnySend, RecvHalf, SendHalf};
 use mc_base::NoMemory;
@@ -52,11 +50,11 @@ pub(crate) fn take_apart(
     requires rings { AllByRecursion HasRings stations.items }
     ensures tallies { IfOk result (λ left. TellStations stations.entry.items left.tallies) }
     ensures journals { IfOk result (λ left. lines_in left.journals ≡ map (λ st. st.journal.lines) stations.entry.items) }
-    ensures channels { IfOk result (λ left. TellChannels scenario.now stations.entry.items left.channels) }
+    ensures channels { IfOk result (λ left. TellChannels scenario.now (map ended_station stations.entry.items) left.channels) }
     ensures links { IfOk result (λ left. WiresEnd (wires_left stations.entry.items) left.links.items) }
 {
     let tallies = tallies_of(alloc, &stations)?;
-    let channels = channels_of(alloc, scenario, &stations)?;
+    let channels = channel_totals(alloc, scenario, &stations)?;
     let (journals, links) = end_stations(alloc, stations)?;
     Ok(Remains {
         tallies,

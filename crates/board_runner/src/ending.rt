@@ -3,18 +3,18 @@
 ghost use Rattle.std.specs.Prelude.{◌≡◌, IfOk, map};
 ghost use Rattle.board_model.specs.Language.{IsLawfulBoard};
 ghost use Rattle.board_model.specs.SerialRun.{finished, serial_run};
+ghost use Rattle.board_numbers.specs.Tallied.{AreHeld};
+ghost use Rattle.board_numbers.specs.ToldChannels.{TellChannels};
+ghost use Rattle.board_runner.specs.EndedStations.{TellsStation, TellStations, ended_station};
 ghost use Rattle.board_runner.specs.Outcome.{lines_in, IsOutcome};
 ghost use Rattle.board_runner.specs.Stations.{IsRun};
-ghost use Rattle.board_runner.specs.Tallied.{AreHeld, TellsStation, TellStations};
 
 use crate::Outcome;
-use crate::adding::add;
-use crate::channels::channels_of;
-use crate::counts::count;
-use crate::numbers::{places_of, totals_of};
 use crate::station::Station;
-use crate::tally::{HeldBuffers, Tally};
-use board_model::{Scenario, Seq};
+use board_model::{ChannelTotals, Scenario, Seq};
+use board_numbers::{
+    HeldBuffers, Tally, add, channels_of, count, count_journal, no_items, places_of, totals_of,
+};
 use domain_core::{Domain, Journal, Places};
 use lane_end::{AnyRecv, AnySend};
 use mc_base::{MAX_DOMAINS, NoMemory};
@@ -32,7 +32,7 @@ pub fn outcome_of(
 {
     let tallies = tallies_of(alloc, &stations)?;
     let places = places_of(alloc, scenario, tallies.as_slice())?;
-    let channels = channels_of(alloc, scenario, &stations)?;
+    let channels = channel_totals(alloc, scenario, &stations)?;
     let messages = totals_of(scenario, tallies.as_slice());
     Ok(Outcome {
         journals: journals_of(alloc, stations)?,
@@ -80,6 +80,22 @@ fn held_by(domain: &Domain<AnySend<'_>, AnyRecv<'_>>) -> HeldBuffers
         }
     }
     held
+}
+
+/// What became of the items of the channels that the domains of stations numbered.
+pub fn channel_totals(
+    alloc: Global,
+    scenario: &Scenario,
+    stations: &[Station<'_>],
+) -> Result<Seq<ChannelTotals>, NoMemory>
+    requires lawful { IsLawfulBoard scenario.now }
+    ensures { IfOk result (TellChannels scenario.now (map ended_station stations.now)) }
+{
+    let mut counts = no_items(alloc, stations)?;
+    for station in stations {
+        count_journal(&mut counts, station.domain_number, &station.journal);
+    }
+    channels_of(alloc, scenario, stations, &counts)
 }
 
 /// The journals of stations.

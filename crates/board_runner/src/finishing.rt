@@ -4,10 +4,10 @@ ghost use Rattle.std.specs.Prelude.{◌≡◌, ◌≢◌, ℕ, IfOk};
 ghost use Rattle.board_runner.specs.Ended.{ended_at};
 ghost use Rattle.board_runner.specs.Finishing.{FinishesLink, FinishesRings, IsOfLink, MayFinish, MayFinishLink};
 
-use crate::adding::add;
 use crate::ended::{EndedLink, take_ended};
 use crate::rings::LinkRings;
 use board_model::{LinkLine, Seq};
+use board_numbers::add;
 use lane_end::{finish_lane, halves_stay_of_one_ring, queue_1_returns_are_empty};
 use mc_base::NoMemory;
 use split_ring::Closed;

@@ -5,21 +5,15 @@
 //! memory.
 #![tactic(auto)]
 
-mod adding;
 mod answers;
-mod board;
 mod carrying;
-mod channels;
-mod counts;
 mod ended;
 mod ending;
 mod finishing;
 mod gate;
-mod items;
 mod labels;
 mod line;
 mod links;
-mod numbers;
 mod opening;
 mod outcome;
 mod report;
@@ -28,7 +22,6 @@ mod script;
 mod serial;
 mod station;
 mod stations;
-mod tally;
 mod threads;
 mod wires;
 

@@ -10,11 +10,11 @@ ghost use Rattle.board_runner.specs.Wired.{IsWired, AreLinksOn};
 ghost use Rattle.board_runner.specs.Runs.{AllCarried};
 ghost use Rattle.board_runner.specs.Stations.{IsRun};
 
-use crate::board::line_of;
 use crate::links::links_of;
 use crate::station::Station;
 use crate::wires::Wire;
 use board_model::{DomainLine, Scenario};
+use board_numbers::line_of;
 use domain_core::{Domain, Journal, Link};
 use lane_end::{AnyRecv, AnySend};
 use mc_base::{MAX_DOMAINS, NoMemory};

@@ -7,15 +7,15 @@ ghost use Rattle.outer_io.specs.Writes.{Writes};
 ghost use Rattle.outer_io.specs.Puts.{Puts};
 ghost use Rattle.board_model.specs.Scenario.{rising};
 ghost use Rattle.board_model.specs.Grammar.{line_of};
-ghost use Rattle.board_model.specs.Report.{heading, journals_text, lines_text, totals_words, channel_text, messages_text, summary_text, places_text};
+ghost use Rattle.board_model.specs.Report.{heading, journals_text, lines_text, summary_text};
+ghost use Rattle.board_numbers.specs.Told.{IsToldByText};
 ghost use Rattle.board_runner.specs.Mode.{mode_of};
 ghost use Rattle.board_runner.specs.Outcome.{lines_in};
 ghost use Rattle.board_runner.specs.RingLines.{AreOfLinks, HasRingsFor, image_of_ring, outcome_report, ring_lines, ring_lines_in, ring_text};
-ghost use Rattle.board_runner.specs.Told.{IsToldByText};
 
 use crate::Outcome;
-use crate::board::rising_numbers;
-use board_model::{ChannelTotals, LanePlaces, LinkLine, Scenario, Totals};
+use board_model::{LinkLine, Scenario};
+use board_numbers::{put_numbers, rising_numbers};
 use mc_journal::{Journal, put_entries};
 use outer_io::{Failed, Sink, Writer};
 use ring_trace::put_image;
@@ -63,8 +63,12 @@ fn put_report<K: Sink>(
     out.put(heading_of(threads));
     put_scenario(out, scenario);
     put_journals(out, scenario, outcome.journals.as_slice());
-    put_summary(out, outcome);
-    put_lanes(out, outcome.places.as_slice());
+    put_numbers(
+        out,
+        outcome.channels.as_slice(),
+        &outcome.messages,
+        outcome.places.as_slice(),
+    );
     put_images(out, scenario, outcome, threads);
     out.put(b"end\n");
 }
@@ -106,77 +110,7 @@ fn put_journal<K: Sink>(out: &mut Writer<'_, K>, domain: u8, journal: &Journal)
 pub fn put_summary<K: Sink>(out: &mut Writer<'_, K>, outcome: &Outcome)
     ensures { Puts K.Sink out.old out.new (summary_text outcome.now.channels outcome.now.messages) }
 {
-    put_channels(out, outcome.channels.as_slice());
-    put_messages(out, &outcome.messages);
-}
-
-fn put_channels<K: Sink>(out: &mut Writer<'_, K>, channels: &[ChannelTotals])
-    ensures { Puts K.Sink out.old out.new (flat_map channel_text channels.now) }
-{
-    for channel in channels {
-        put_channel(out, channel);
-    }
-}
-
-fn put_channel<K: Sink>(out: &mut Writer<'_, K>, channel: &ChannelTotals)
-    ensures { Puts K.Sink out.old out.new (channel_text channel.now) }
-{
-    out.put(b"channel ");
-    out.put_number(channel.owner as u64);
-    out.put(b" ");
-    out.put_number(channel.number as u64);
-    out.put(b" ");
-    put_totals(out, &channel.totals);
-}
-
-fn put_messages<K: Sink>(out: &mut Writer<'_, K>, totals: &Totals)
-    ensures { Puts K.Sink out.old out.new (messages_text totals.now) }
-{
-    out.put(b"messages ");
-    put_totals(out, totals);
-}
-
-/// Puts what became of items or messages, and a newline.
-fn put_totals<K: Sink>(out: &mut Writer<'_, K>, totals: &Totals)
-    ensures { Puts K.Sink out.old out.new (line_of (totals_words totals.now)) }
-{
-    out.put(b"accepted ");
-    out.put_number(totals.accepted);
-    out.put(b" taken ");
-    out.put_number(totals.taken);
-    out.put(b" dropped ");
-    out.put_number(totals.dropped);
-    out.put(b" queued ");
-    out.put_number(totals.queued);
-    out.put(b" ring ");
-    out.put_number(totals.ring);
-    out.put(b"\n");
-}
-
-fn put_lanes<K: Sink>(out: &mut Writer<'_, K>, lanes: &[LanePlaces])
-    ensures { Puts K.Sink out.old out.new (flat_map places_text lanes.now) }
-{
-    for lane in lanes {
-        put_lane(out, lane);
-    }
-}
-
-fn put_lane<K: Sink>(out: &mut Writer<'_, K>, lane: &LanePlaces)
-    ensures { Puts K.Sink out.old out.new (places_text lane.now) }
-{
-    out.put(b"lane ");
-    out.put_number(lane.from as u64);
-    out.put(b" ");
-    out.put_number(lane.to as u64);
-    out.put(b" free ");
-    out.put_number(lane.free as u64);
-    out.put(b" ring ");
-    out.put_number(lane.ring as u64);
-    out.put(b" queue ");
-    out.put_number(lane.queue as u64);
-    out.put(b" lent ");
-    out.put_number(lane.lent as u64);
-    out.put(b"\n");
+    board_numbers::put_summary(out, outcome.channels.as_slice(), &outcome.messages);
 }
 
 /// The images of the rings, where the domains ran on threads.

@@ -5,8 +5,8 @@ ghost use Rattle.std.specs.List.{AllByRecursion};
 ghost use Rattle.shared_words.specs.Shape.{IsRingSize};
 ghost use Rattle.board_runner.specs.Wired.{AreRings, HaveParts, IsNewRing};
 
-use crate::adding::append;
 use board_model::LinkLine;
+use board_numbers::append;
 use mc_base::{Buffer, NoMemory};
 use split_ring::{Device, Driver, Ring, RingFault};
 use std::alloc::Global;

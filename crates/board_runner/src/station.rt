@@ -1,5 +1,6 @@
 //! A domain on its way through its script.
 
+use board_numbers::EndedDomain;
 use domain_core::{Domain, Journal};
 use lane_end::{AnyRecv, AnySend};
 use mc_base::{PacketId, RequestId};
@@ -16,4 +17,22 @@ pub struct Station<'a> {
     pub packets: HashMap<&'a [u8], PacketId>,
     pub number: u32,
     pub dropped: u64,
+}
+
+impl EndedDomain for Station<'_> {
+    ghost use Rattle.board_runner.specs.EndedStations.{ended_station};
+
+    ghost ended = { ended_station };
+
+    fn number(&self) -> u8 {
+        self.domain_number
+    }
+
+    fn channels_given(&self) -> u32 {
+        self.domain.channels_given()
+    }
+
+    fn queued(&self, owner: u8, number: u32) -> u64 {
+        u64::from(self.domain.queued(owner, number))
+    }
 }

@@ -10,17 +10,16 @@ ghost use Rattle.board_runner.specs.ThreadRun.{IsThreadRun};
 ghost use Rattle.board_runner.specs.Wired.{IsWired};
 
 use crate::Outcome;
-use crate::adding::append;
 use crate::ended::{Remains, take_apart};
 use crate::finishing::finish_rings;
 use crate::gate::Gate;
-use crate::numbers::{places_of, totals_of};
 use crate::opening::open_stations;
 use crate::rings::rings_of;
 use crate::script::run_script;
 use crate::station::Station;
 use crate::wires::{Wire, wires_of};
 use board_model::Scenario;
+use board_numbers::{append, places_of, totals_of};
 use mc_base::NoMemory;
 use std::alloc::{AllocError, Global};
 use std::thread;

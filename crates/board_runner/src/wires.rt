@@ -3,9 +3,9 @@
 ghost use Rattle.std.specs.Prelude.{◌≡◌, ◌<◌, IfOk, IfSome, length, position};
 ghost use Rattle.board_runner.specs.Wired.{AreRings, HaveParts, driver_link, device_link, leads_from, wires_for};
 
-use crate::adding::append;
 use crate::rings::{LinkHalves, LinkRings};
 use board_model::LinkLine;
+use board_numbers::append;
 use domain_core::Link;
 use lane_end::{AnyRecv, AnySend, open_queue0, open_queue1};
 use mc_base::NoMemory;

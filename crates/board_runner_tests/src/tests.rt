@@ -1,6 +1,6 @@
 ghost use Rattle.std.specs.Prelude.{◌≡◌, ◌<◌, IfSome, Ok, length};
 ghost use Rattle.board_model.specs.Language.{told_by};
-ghost use Rattle.board_runner.specs.Told.{IsToldByText};
+ghost use Rattle.board_numbers.specs.Told.{IsToldByText};
 
 use board_model::{Scenario, Seq};
 use board_runner::{ChannelTotals, LanePlaces, Outcome, Totals, run_serial, write_report};

@@ -1,6 +1,6 @@
 use Rattle.std.proofs.Common.{◌+◌, ◌∙◌, ℕ, length, slice_set, ap, sym, subst, refl, arith}
 use Rattle.std.proofs.lemmas.List.{length-set}
-use Rattle.board_runner.specs.declared.tally.HeldBuffers.{HeldBuffers}
+use Rattle.board_numbers.specs.declared.tally.HeldBuffers.{HeldBuffers}
 use Rattle.board_runner.proofs.HoldingLemmas.{HeldBelow, held-more, held-skip}
 use Rattle.board_runner.proofs.ending.held_by.Goals as goal
 use Rattle.board_runner.proofs.ending.held_by.Goals.{in-Some, in_default}

@@ -1,15 +1,15 @@
-use Rattle.std.proofs.Common.{◌≡◌, List, sym, ◌∙◌, subst}
+use Rattle.std.proofs.Common.{◌≡◌, List, map, sym, ◌∙◌, subst}
 use Rattle.board_model.specs.declared.scenario.Scenario.{Scenario}
 use Rattle.board_model.specs.SerialRun.{finished}
 use Rattle.board_model.proofs.LawfulBoards.{lawful_is_linked}
+use Rattle.board_numbers.specs.declared.tally.Tally.{Tally}
+use Rattle.board_numbers.specs.EndedDomains.{EndAs}
+use Rattle.board_numbers.specs.Tallied.{AreTallies}
 use Rattle.board_runner.specs.declared.station.Station as code
-use Rattle.board_runner.specs.declared.tally.Tally.{Tally}
+use Rattle.board_runner.specs.EndedStations.{TellStations, ended_station}
 use Rattle.board_runner.specs.Stations.{AreStations}
-use Rattle.board_runner.specs.Tallied.{AreTallies, TellStations}
 use Rattle.board_runner.proofs.FinishLemmas.{finished_ran}
-use Rattle.board_runner.specs.ItemCounts.{EndAs}
-use Rattle.board_runner.proofs.ChannelLemmas.{stations-ended}
-use Rattle.board_runner.proofs.TallyLemmas.{stations-tallied, stations-told}
+use Rattle.board_runner.proofs.TallyLemmas.{stations-ended, stations-tallied, stations-told}
 use Rattle.board_runner.proofs.ending.outcome_of.Goals as goal
 
 -- the tallies are those of the serial run
@@ -26,8 +26,8 @@ places_of-requires-clause-tallies c =
     }
 
 -- and so are their stations
-ended : (s : Scenario) (sts borrowed : List code.Station) → AreStations s (finished s).stations sts → borrowed ≡ sts → EndAs (finished s).stations borrowed
-ended s sts borrowed are same = subst (EndAs (finished s).stations) (sym same) (stations-ended s (finished s).stations sts are)
+ended : (s : Scenario) (sts borrowed : List code.Station) → AreStations s (finished s).stations sts → borrowed ≡ sts → EndAs (finished s).stations (map ended_station borrowed)
+ended s sts borrowed are same = subst (λ (xs : List code.Station). EndAs (finished s).stations (map ended_station xs)) (sym same) (stations-ended s (finished s).stations sts are)
 
 pub totals_of-messages-requires-clause-tallies : goal.totals_of-messages-requires-clause-tallies
 totals_of-messages-requires-clause-tallies c =

@@ -1,6 +1,6 @@
 use Rattle.std.proofs.Common.{◌+◌, take, sym, subst, List}
-use Rattle.board_runner.specs.declared.tally.Tally.{Tally}
-use Rattle.board_runner.specs.Tallied.{TellStations}
+use Rattle.board_numbers.specs.declared.tally.Tally.{Tally}
+use Rattle.board_runner.specs.EndedStations.{TellStations}
 use Rattle.board_runner.proofs.TallyLemmas.{tell-more}
 use Rattle.board_runner.proofs.ending.tallies_of.Goals as goal
 

@@ -7,7 +7,7 @@ use Rattle.board_model.proofs.BoardsFound.{below}
 use Rattle.board_model.proofs.MessageAlls.{found-passes}
 use Rattle.board_model.proofs.LawfulBoards.{lawful_is_linked}
 use Rattle.domain_core.specs.Carrying.{AnyLink}
-use Rattle.board_runner.specs.Lanes.{line_of_domain}
+use Rattle.board_numbers.specs.Lanes.{line_of_domain}
 use Rattle.board_runner.specs.Opened.{IsLineIn, IsOpened, AreOpened}
 use Rattle.board_runner.specs.Wired.{wire_at}
 use Rattle.board_runner.proofs.OpeningLemmas.{opened-begin, opened-done, opened-next, opened-none, opened-runs, opened-carried}

@@ -4,10 +4,10 @@ use Rattle.outer_io.proofs.Writing.{puts_nothing, puts_then}
 use Rattle.outer_io.specs.Puts.{Puts}
 use Rattle.board_model.specs.Scenario.{rising}
 use Rattle.board_model.specs.Report.{journals_text}
-use Rattle.board_runner.specs.Outcome.{lines_in}
 use Rattle.board_model.proofs.BoardsNeighbours.{rising-length}
-use Rattle.board_runner.proofs.BoardLemmas.{numbers-length}
-use Rattle.board_runner.specs.Lanes.{numbers_of}
+use Rattle.board_numbers.specs.Lanes.{numbers_of}
+use Rattle.board_numbers.proofs.BoardLemmas.{numbers-length}
+use Rattle.board_runner.specs.Outcome.{lines_in}
 use Rattle.board_runner.proofs.ReportLemmas.{journals-more}
 use Rattle.board_runner.proofs.report.put_journals.Goals as goal
 

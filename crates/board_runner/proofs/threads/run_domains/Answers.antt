@@ -4,17 +4,17 @@ use Rattle.std.proofs.Common.{◌≡◌, List, map}
 use Rattle.board_model.specs.declared.scenario.Scenario.{Scenario}
 use Rattle.board_model.specs.Scenario.{rising}
 use Rattle.board_model.specs.SerialRun.{opened}
+use Rattle.board_numbers.specs.ToldChannels.{TellChannels}
 use Rattle.board_runner.specs.declared.ended.Remains.{Remains}
 use Rattle.board_runner.specs.declared.station.Station.{Station}
 use Rattle.board_runner.specs.declared.wires.Wire.{Wire}
 use Rattle.board_runner.specs.Apart.{RanApart}
 use Rattle.board_runner.specs.Ended.{WiresEnd, wires_left}
-use Rattle.board_runner.specs.ItemCounts.{TellChannels}
+use Rattle.board_runner.specs.EndedStations.{TellStations, ended_station}
 use Rattle.board_runner.specs.Jobs.{RunScripts}
 use Rattle.board_runner.specs.Opened.{AreOpened}
 use Rattle.board_runner.specs.Outcome.{lines_in}
 use Rattle.board_runner.specs.Stations.{AreStations}
-use Rattle.board_runner.specs.Tallied.{TellStations}
 use Rattle.board_runner.proofs.EndedLemmas.{opened-begins, stations-ringed}
 use Rattle.board_runner.proofs.OwnBoardLemmas.{ran_alone, are_stations}
 use Rattle.board_runner.proofs.threads.run_domains.Goals as goal
@@ -32,7 +32,7 @@ take_apart-requires-clause-rings g c =
 
 -- the parts of what is left, together
 apart : (s : Scenario) (ws : List Wire) (olds news : List Station) → AreOpened s ws (rising s) olds → AreStations s (opened s).stations olds → RunScripts s olds news → (r : Result Remains NoMemory) →
-    IfOk r (λ left. TellStations news left.tallies) → IfOk r (λ left. TellChannels s news left.channels) → IfOk r (λ left. lines_in left.journals ≡ map (λ st. st.journal.lines) news) → IfOk r (λ left. WiresEnd (wires_left news) left.links.items) → IfOk r (RanApart s ws)
+    IfOk r (λ left. TellStations news left.tallies) → IfOk r (λ left. TellChannels s (map ended_station news) left.channels) → IfOk r (λ left. lines_in left.journals ≡ map (λ st. st.journal.lines) news) → IfOk r (λ left. WiresEnd (wires_left news) left.links.items) → IfOk r (RanApart s ws)
 apart s ws olds news opens begun ran (Ok left) tallies channels told ended = record { olds = olds; news = news; opens = opens; begun = begun; alone = ran_alone s olds news begun ran; tallies = tallies; channels = channels; told = told; ended = ended }
 apart s ws olds news opens begun ran (Err e) tallies channels told ended = tt
 

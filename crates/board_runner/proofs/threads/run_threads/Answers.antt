@@ -11,14 +11,14 @@ use Rattle.board_model.specs.Scenario.{lanes}
 use Rattle.board_model.proofs.LawfulBoards.{lawful_is_linked}
 use Rattle.board_model.proofs.LawfulRanges.{lawful-sizes}
 use Rattle.board_model.proofs.MessageAlls.{all-weaken}
+use Rattle.board_numbers.specs.declared.tally.Tally.{Tally}
+use Rattle.board_numbers.specs.Tallied.{TallySomeRun, AddPlaces, TellTotals}
 use Rattle.board_runner.specs.declared.ended.Remains.{Remains}
 use Rattle.board_runner.specs.declared.rings.LinkHalves.{LinkHalves}
 use Rattle.board_runner.specs.declared.rings.LinkRings.{LinkRings}
-use Rattle.board_runner.specs.declared.tally.Tally.{Tally}
 use Rattle.board_runner.specs.declared.wires.Wire.{Wire}
 use Rattle.board_runner.specs.Apart.{RanApart}
 use Rattle.board_runner.specs.Finishing.{MayFinish, LinksHaveRun, LinksAreRun, FinishesRings}
-use Rattle.board_runner.specs.Tallied.{TallySomeRun, AddPlaces, TellTotals}
 use Rattle.board_runner.specs.ThreadRun.{IsThreadRun}
 use Rattle.board_runner.specs.Wired.{AreRings, IsWired, wires_for}
 use Rattle.board_runner.proofs.ThreadLemmas.{moves, links-ran, some-tallied, thread-run}

@@ -1,6 +1,0 @@
-use Rattle.std.proofs.Common.{take}
-use Rattle.board_runner.specs.Counts.{AreCounts}
-use Rattle.board_runner.proofs.counts.count.Given as goal
-
-abbrev pub invariant-loop-at : goal.invariant-loop-at
-invariant-loop-at l = AreCounts l.counts (take l.at l.journal.lines)

@@ -1,7 +1,0 @@
-use Rattle.std.proofs.Common.{Some}
-use Rattle.board_runner.specs.ItemCounts.{AddsTold}
-use Rattle.board_runner.proofs.EachLemmas.{WrittenTo}
-use Rattle.board_runner.proofs.items.count_told.Given as goal
-
-abbrev pub invariant-loop-counts : goal.invariant-loop-counts
-invariant-loop-counts l = WrittenTo (AddsTold (Some l.told)) l.counts-index l.fn.all l.all
