@@ -1,3 +1,4 @@
 pub mod SenderNumbers
 pub mod RingLists
 pub mod BoardRings
+pub mod RingTexts
