@@ -1,0 +1,10 @@
+pub mod BuffersBelow
+pub mod BuffersFound
+pub mod FramesShort
+pub mod LaneSizes
+pub mod LaneSteps
+pub mod PassedRuns
+pub mod PlacesTold
+pub mod RingLines
+pub mod SendingsTold
+pub mod WalkLemmas

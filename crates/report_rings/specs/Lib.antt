@@ -1,0 +1,5 @@
+pub mod RingPass
+pub mod ToldRings
+pub mod SenderLanes
+pub mod LaneWalks
+pub mod ReadJournals
