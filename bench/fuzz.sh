@@ -1,6 +1,6 @@
 #!/bin/sh
-# Feeds mutated scenarios, frames and images of rings to the program for SECONDS, and stops at the first input with which it
-#   ends with another status than its form has: 0 or 3 (a scenario), 0 or 1 (a frame or an image);
+# Feeds mutated scenarios, reports, frames and images of rings to the program for SECONDS, and stops at the first input with which it
+#   ends with another status than its form has: 0 or 3 (a scenario), 0 or 1 (a report, a frame or an image);
 #   writes what does not fit the status: each report is whole and its sums are right, each other answer is one line;
 #   runs for more than 10 seconds, or allocates more than 256 MiB.
 # It prints how many inputs were run, how many a second, and how many of each status. The input that stopped it stays in a file.
@@ -47,8 +47,15 @@ def of_kind(end):
 BOARD = b"domain 0 nodes 2 pool 2\ndomain 1 nodes 1 pool 3\ndomain 2 nodes 1 pool 1\nlink 0 1 size 2\nlink 2 0 size 4\n"
 RAW = BOARD + "".join(f"{d}.0 raw {p} {f}\n{p}.0 turn\n" for d, p in [(0, 1), (1, 0), (0, 0), (2, 0), (0, 5)] for f in FRAMES).encode()
 LINES = sorted({line for text in [*of_kind(".scenario"), RAW] for line in text.split(b"\n") if line and not line.startswith(b"#")})
+
+def reports(scenarios):
+    for words in (["run", "--serial"], ["run"]):
+        for scenario in scenarios:
+            yield subprocess.run([PROGRAM, *words], input=scenario, stdout=subprocess.PIPE, check=True).stdout
+
 KINDS = [
     (["run", "--serial"], [*of_kind(".scenario"), RAW], {0, 3}),
+    (["check"], [*reports(of_kind(".scenario"))], {0, 1}),
     (["frame"], [*of_kind(".hex"), *(f.encode() for f in FRAMES)], {0, 1}),
     (["ring"], of_kind(".image"), {0, 1}),
 ]
@@ -148,6 +155,8 @@ def fits(words, status, written, said):
     if words[0] == "run" and status == 0:
         lines = written.split(b"\n")
         return lines[0] == b"mcapi-report 1 serial" and lines[-2:] == [b"end", b""] and all(adds_up(line) for line in lines)
+    if words[0] == "check" and status == 0:
+        return written == b"right\n"
     front = b"refused " if status == 3 else b"wrong " if status == 1 else b"right "
     return written.startswith(front) and written.endswith(b"\n") and written.count(b"\n") == 1
 

@@ -32,6 +32,7 @@ FORMS = [
     (["run", "--serial"], "channels.scenario"),
     (["run", "--serial"], "waits.scenario"),
     (["run"], "waits.scenario"),        # its waits are short: a domain whose peer is out of memory waits to its limit
+    (["check"], "channels.scenario"),   # a report of its serial run
     (["frame"], "message.hex"),
     (["ring"], "ring.image"),
     (["load", "3"], None),
@@ -63,8 +64,13 @@ def assert_that(holds, words, name, what, status):
     if not holds:
         sys.exit(f"{said(words, name)}: status {status} where {what} fails")
 
+def input_of(words, name):
+    if words == ["check"]:
+        return subprocess.run([PROGRAM, "run", "--serial"], input=read(name), stdout=subprocess.PIPE, check=True).stdout
+    return read(name)
+
 for words, name in FORMS:
-    given = read(name)
+    given = input_of(words, name)
     status, whole = run(words, given, COUNTS=COUNTS)
     assert_that(status == 0, words, name, "nothing", status)
     allocations, reads, writes = counts()
