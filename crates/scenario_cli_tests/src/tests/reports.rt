@@ -85,7 +85,7 @@ fn changed(
     line: &[u8],
 ) -> Result<Vec<u8>, AllocError> {
     let mut text = Vec::new(alloc);
-    let mut at = 1;
+    let mut at: usize = 1;
     for byte in report {
         if at != number {
             text.push(*byte)?;
@@ -94,7 +94,7 @@ fn changed(
             if at == number {
                 text.extend_from_slice(line)?;
             }
-            at += 1;
+            at = at.saturating_add(1);
         }
     }
     Ok(text)
@@ -116,13 +116,13 @@ fn changed_lines(rt: HostRuntime) -> Result<(), Fail> {
 /// A report that is cut is wrong behind its last whole line, wherever it is cut.
 #[test]
 fn reports_that_are_cut(rt: HostRuntime) -> Result<(), Fail> {
-    let mut lines = 0;
+    let mut lines: u8 = 0;
     for end in 0..MESSAGE_REPORT.len() {
         let report = MESSAGE_REPORT.get(..end).ok_or("length")?;
         if report.ends_with(b"\n") {
-            lines += 1;
+            lines = lines.saturating_add(1);
         }
-        let verdict = wrong_text(rt.alloc(), lines + 1)?;
+        let verdict = wrong_text(rt.alloc(), lines.saturating_add(1))?;
         assert!(rt;
             comes_out(&rt, rt.alloc(), check(report), 1, &verdict)?,
             "length {end}"
@@ -273,9 +273,7 @@ impl Source for Zeros {
 
     fn read(&mut self, buf: &mut [u8]) -> Result<usize, Failed> {
         let count = buf.len().min(self.left);
-        for byte in &mut buf[..count] {
-            *byte = 0;
-        }
+        buf[..count].fill(0);
         self.left -= count;
         Ok(count)
     }
@@ -298,10 +296,10 @@ fn zeros_come_out<T: Threads + Sync + Abort>(
     Ok(answer == status && output.written() == written)
 }
 
+/// More bytes than a scenario may have are read, and one more than a report may have is not.
 #[test]
 fn limit_of_a_report(rt: HostRuntime) -> Result<(), Fail> {
     assert!(rt; zeros_come_out(&rt, rt.alloc(), 8_388_609, 1, b"wrong 1 text\n")?);
-    assert!(rt; zeros_come_out(&rt, rt.alloc(), 268_435_456, 1, b"wrong 1 text\n")?);
     assert!(rt; zeros_come_out(&rt, rt.alloc(), 268_435_457, 7, b"")?);
     Ok(())
 }

@@ -1,6 +1,6 @@
 use super::{
     EMPTY, Given, MESSAGE, MESSAGE_REPORT, NO_CALL, NO_CALL_REPORT, ONE_BUFFER, ONE_BUFFER_REPORT,
-    REFUSED, comes_out, outcome_of, repeated_comes_out,
+    REFUSED, comes_out, is_right, outcome_of, repeated_comes_out,
 };
 use std::test::Fail;
 
@@ -47,6 +47,7 @@ fn one_domain_on_threads(rt: HostRuntime) -> Result<(), Fail> {
         let written = after(THREADS_HEADING, output.written()).ok_or("heading")?;
         assert!(rt; status == 0);
         assert!(rt; after(SERIAL_HEADING, *report) == Some(written));
+        assert!(rt; is_right(&rt, rt.alloc(), output.written())?);
     }
     Ok(())
 }
@@ -186,6 +187,7 @@ fn two_linked_domains_on_threads(rt: HostRuntime) -> Result<(), Fail> {
         let above = written.len().saturating_sub(LINKED_END);
         let messages = written.get(..above).ok_or("length")?;
         assert!(rt; messages.ends_with(LINKED_MESSAGES));
+        assert!(rt; is_right(&rt, rt.alloc(), written)?);
     }
     Ok(())
 }
@@ -261,6 +263,7 @@ fn the_rings_of_each_link_on_threads(rt: HostRuntime) -> Result<(), Fail> {
             ..ON_THREADS
         };
         assert!(rt; comes_out(&rt, rt.alloc(), given, 0, *report)?);
+        assert!(rt; is_right(&rt, rt.alloc(), *report)?);
     }
     Ok(())
 }
