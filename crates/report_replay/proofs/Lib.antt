@@ -8,3 +8,7 @@ pub mod Removed
 pub mod OwnAddresses
 pub mod SerialsHeld
 pub mod ShortLetters
+pub mod Returned
+pub mod NamesAdded
+pub mod UnnamedRows
+pub mod UnnamedCounts

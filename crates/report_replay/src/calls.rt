@@ -6,6 +6,7 @@ mod effects;
 mod ends;
 mod puts;
 mod queries;
+mod returned;
 mod serials;
 mod words;
 

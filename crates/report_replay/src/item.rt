@@ -3,7 +3,7 @@ ghost use Rattle.std.specs.Prelude.{◌≡◌, ◌≤◌, length};
 use board_model::Seq;
 use std::marker::Model;
 
-/// A message, packet or scalar that is held, of at most 488 bytes. The frame that brought it may have a name, which nothing but lists of names depends on.
+/// A message, packet or scalar that is held, of at most 488 bytes. The frame that brought it may have a name, which only `FrameNames` depend on.
 #[derive(Debug, Drop)]
 pub struct Item {
     pub(crate) peer: u8,
@@ -11,7 +11,7 @@ pub struct Item {
     pub(crate) priority: u8,
     pub(crate) channel: Option<u32>,
     pub(crate) content: Seq<u8>,
-    pub(crate) name: Option<u64>,
+    pub(crate) name: Option<u32>,
 }
 
 impl Model for Item {

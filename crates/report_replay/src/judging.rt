@@ -27,7 +27,7 @@ impl State {
         &self,
         alloc: Global,
         peer: u8,
-        name: Option<u64>,
+        name: Option<u32>,
         frame: &[u8],
     ) -> Result<Verdict, NoMemory>
         ensures { IfOk result (Follows peer (known_of self.now peer) (row_of self.now peer name (reading frame.now))) }
@@ -40,7 +40,7 @@ impl State {
         &self,
         alloc: Global,
         peer: u8,
-        name: Option<u64>,
+        name: Option<u32>,
         said: &Said<'_>,
     ) -> Result<Verdict, NoMemory>
         requires { (source destination : ℕ) (letter : PlainLetter) → reading_of said.now ≡ says source destination letter → IsShort letter }

@@ -23,7 +23,7 @@ impl State {
         &mut self,
         alloc: Global,
         peer: u8,
-        name: Option<u64>,
+        name: Option<u32>,
         frame: &[u8],
     ) -> Result<Fate, NoMemory>
         ensures word { IfOk result (λ word. word ≡ (row_of self.old peer name (reading frame.now)).word) }

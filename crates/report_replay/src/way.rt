@@ -18,7 +18,7 @@ use std::alloc::Global;
 #[derive(Clone, Copy, Debug)]
 pub(crate) struct Way {
     pub(crate) peer: u8,
-    pub(crate) name: Option<u64>,
+    pub(crate) name: Option<u32>,
     pub(crate) source: u32,
     pub(crate) destination: u32,
 }

@@ -5,3 +5,5 @@
 mod calls;
 #[cfg(test)]
 mod frames;
+#[cfg(test)]
+mod returned;

@@ -73,7 +73,7 @@ impl State {
 }
 
 /// The oldest item of the best priority.
-fn best_of(queue: &[Item]) -> Option<&Item>
+pub(crate) fn best_of(queue: &[Item]) -> Option<&Item>
     ensures { option_map (λ i. i.now) result ≡ best (λ i. i.priority) queue.now }
 {
     queue.get(place_of_best(queue)?)
