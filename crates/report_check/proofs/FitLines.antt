@@ -41,14 +41,14 @@ all-at P [] i x all at = absurd cc
 all-at P (y ∷ ys) zero x all at = let same : y ≡ x = cc in subst P same all.0
 all-at P (y ∷ ys) (suc i) x all at = all-at P ys i x all.1 at
 
--- ---- two lists of labels that say the same
+-- ---- two lists of labels that say the same, each in a state of its own
 
-module _ (ls ms : Labels) (s : DomainState) (same : (label : List ℕ) → place_of_label ls.requests s label ≡ place_of_label ms.requests s label) (lent : (label : List ℕ) → place_lent ls.packets s label ≡ place_lent ms.packets s label) where
-  places-same : {A : Type 0} (f : A → List ℕ) (names : List A) → map (λ l. place_of_label ls.requests s (f l)) names ≡ map (λ l. place_of_label ms.requests s (f l)) names
+module _ (ls ms : Labels) (s t : DomainState) (same : (label : List ℕ) → place_of_label ls.requests s label ≡ place_of_label ms.requests t label) (lent : (label : List ℕ) → place_lent ls.packets s label ≡ place_lent ms.packets t label) where
+  places-same : {A : Type 0} (f : A → List ℕ) (names : List A) → map (λ l. place_of_label ls.requests s (f l)) names ≡ map (λ l. place_of_label ms.requests t (f l)) names
   places-same f [] = refl
   places-same f (l ∷ more) = λ i. same (f l) i ∷ places-same f more i
 
-  pub calls-same : (c : Call) → call_of ls s c ≡ call_of ms s c
+  pub calls-same : (c : Call) → call_of ls s c ≡ call_of ms t c
   calls-same (Create port) = refl
   calls-same (Delete port) = refl
   calls-same (Lookup name) = refl

@@ -1,5 +1,7 @@
 -- Lemmas of the check.
 pub mod FirstLines
+pub mod NamedLemmas
+pub mod NamedCalls
 pub mod MeetingLemmas
 pub mod DoneLemmas
 pub mod OwedPuts
@@ -11,6 +13,7 @@ pub mod PartTexts
 pub mod CallLines
 pub mod RunSteps
 pub mod IdleTurns
+pub mod IdleDeeds
 pub mod PartFronts
 pub mod FitLines
 pub mod WalksTold
@@ -20,4 +23,5 @@ pub mod FirstParts
 pub mod NextLemmas
 pub mod WayParts
 pub mod PartHeads
+pub mod PlacesGiven
 pub mod WalkFound

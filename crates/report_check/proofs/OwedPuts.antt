@@ -1,10 +1,9 @@
 -- The owed frames that are put to a peer.
-use Rattle.std.proofs.Common.{◌≡◌, ℕ, zero, suc, ◌+◌, ◌-◌, ◌<◌, min, cond, List, [], ◌∷◌, ◌++◌, length, map, take, drop, Option, None, Some, refl, sym, ap, ◌∙◌, arith, eq-eqb}
+use Rattle.std.proofs.Common.{◌≡◌, ℕ, zero, suc, ◌-◌, ◌<◌, min, cond, List, [], ◌∷◌, length, map, take, drop, Option, None, Some, refl, sym, ap, ◌∙◌, arith, eq-eqb}
 use Rattle.std.specs.Prelude.{option_map, slice_get, unwrap_or, ◌==◌}
-use Rattle.std.proofs.lemmas.Bool.{ne_eqb, cond_both}
-use Rattle.board_model.specs.State.{Announcement, Reply, Peer, DomainState, peer_at, peer_of, free_to, held_from, replying, owed_to}
+use Rattle.std.proofs.lemmas.Bool.{ne_eqb}
+use Rattle.board_model.specs.State.{Announcement, Reply, Peer, DomainState, peer_of, free_to, replying, owed_to}
 use Rattle.board_model.specs.Change.{first_put, owed_put, changed}
-use Rattle.board_model.specs.Deeds.{looks_back, puts_owed, after_deed, after_deeds}
 use Rattle.board_model.proofs.LanePeers.{peer_found, peer-changed, first-free}
 use Rattle.report_check.specs.Doing.{owed_first}
 

@@ -1,9 +1,11 @@
 -- Where the parts of a journal lead a run, and that it is still shown.
-use Rattle.std.proofs.Common.{◌≡◌, ℕ, zero, suc, ◌+◌, ◌-◌, ◌<◌, ◌≤◌, Bool, true, false, cond, List, [], ◌∷◌, ◌++◌, length, map, Option, Some, None, option_map, refl, sym, ap, ap₂, subst, ◌∙◌, arith}
+use Rattle.std.proofs.Common.{◌≡◌, ℕ, zero, suc, ◌+◌, ◌-◌, ◌<◌, ◌≤◌, Bool, true, false, cond, List, [], ◌∷◌, ◌++◌, length, map, Option, Some, None, option_map, refl, sym, ap, ap₂, subst, ◌∙◌, arith, append_assoc}
 use Rattle.std.specs.Prelude.{is_some, ◌==◌, ◌||◌}
 use Rattle.mc_base.specs.declared.refusal.Refusal.{Refusal}
 use Rattle.board_model.specs.declared.scenario.CallLine.{CallLine}
-use Rattle.board_model.specs.Journal.{PlainAnswer, Visit, turned, put, again, called, visit_lines}
+use Rattle.board_model.specs.Journal.{PlainAnswer, PlainEntry, Visit, turned, put, again, called, visit_lines}
+use Rattle.board_model.specs.Deeds.{after_deeds}
+use Rattle.board_model.specs.JournalDeeds.{call_deeds}
 use Rattle.board_model.specs.Labels.{labels_after}
 use Rattle.report_replay.specs.HeldLabels.{HoldLabels}
 use Rattle.board_model.specs.Step.{RunState, Waited, after, next_line, effect_of_line, labels_of_line, is_done_now}
@@ -13,7 +15,10 @@ use Rattle.board_model.specs.Unjoined.{times, idle_turn}
 use Rattle.report_text.specs.StepPass.{idle_visits, before_last, due_by, due_call, due_visits, idle_place, spin_due, other_than}
 use Rattle.report_text.specs.TextLines.{or_else}
 use Rattle.std.specs.List.{flat_map}
+use Rattle.report_check.specs.NamedStates.{GoesOn, deeds_by, deeds_on, plain, turn_deeds}
+use Rattle.report_check.specs.declared.named_state.NamedState.{NamedState}
 use Rattle.report_check.specs.declared.run.Run.{Run}
+use Rattle.report_check.proofs.TurnSteps.{turn-made}
 use Rattle.report_check.specs.declared.run.Waiting.{Waiting}
 use Rattle.board_model.specs.State.{DomainState}
 use Rattle.report_check.specs.Doing.{HasPeers}
@@ -178,16 +183,42 @@ spins-shown peers word (suc m) old one last more new r some kept at e1 e2 e3 e4 
     let counted = ap (λ (k : ℕ). tries_made 1 (turns_made done k (calls_more k (turns_made done 1 r)))) less in
     subst (λ (x : Run). IsAt x (after_all (script_of old) r (times (suc m) (idle_turn peers ∷ again word ∷ [])))) (sym e4) (subst (IsAt (tried_more 1 more)) (same-script ∙ (counted ∙ (spun-once done m r ∙ sym (spins-made (script_of old) peers word m r kept)))) at-new)
 
-pub called-shown : (old new : Run) (r : RunState) (line : CallLine) (k : ℕ) (a : PlainAnswer) → IsAt old r → next_line (script_of old) (seen old r.labels) ≡ Some line → HoldLabels new.labels (labels_after r.labels old.state line) → seen new (labels_after r.labels old.state line) ≡ after (script_of old) (seen old r.labels) (called k a) → IsAt new (after (script_of old) r (called k a))
+pub called-shown : (old new : Run) (r : RunState) (line : CallLine) (k : ℕ) (a : PlainAnswer) → IsAt old r → next_line (script_of old) (seen old r.labels) ≡ Some line → HoldLabels new.labels (labels_after r.labels (plain old.state) line) → seen new (labels_after r.labels (plain old.state) line) ≡ after (script_of old) (seen old r.labels) (called k a) → IsAt new (after (script_of old) r (called k a))
 called-shown old new r line k a at next held e =
     let script = script_of old in
     let capped-labels = labels-by (next_line script r) r.put_since_turn (capped_run r).waited (capped r.calls_made) r in
-    let labels : labels_of_line (next_line script r) r ≡ labels_after r.labels old.state line = sym capped-labels ∙ (ap (λ (q : RunState). labels_of_line (next_line script q) q) at.shows ∙ ap (λ o. labels_of_line o (seen old r.labels)) next) in
+    let labels : labels_of_line (next_line script r) r ≡ labels_after r.labels (plain old.state) line = sym capped-labels ∙ (ap (λ (q : RunState). labels_of_line (next_line script q) q) at.shows ∙ ap (λ o. labels_of_line o (seen old r.labels)) next) in
     let same = called-by script r.put_since_turn (capped_run r).waited (capped r.calls_made) r k a in
     record {
       labels = subst (HoldLabels new.labels) (sym labels) held;
       shows = sym same ∙ (ap (λ (q : RunState). after script q (called k a)) at.shows ∙ (sym e ∙ ap (seen new) (sym labels)));
     }
+
+-- the deeds of entries that are joined
+pub deeds-join : (script : List CallLine) (r : RunState) (xs ys : List PlainEntry) → deeds_on script r (xs ++ ys) ≡ deeds_on script r xs ++ deeds_on script (after_all script r xs) ys
+deeds-join script r [] ys = refl
+deeds-join script r (x ∷ xs) ys =
+    ap (λ ds. deeds_by script r x ++ ds) (deeds-join script (after script r x) xs ys)
+    ∙ sym (append_assoc (deeds_by script r x) (deeds_on script (after script r x) xs) (deeds_on script (after_all script (after script r x) xs) ys))
+
+-- the deed of the call is that of the run that is shown
+pub deeds-by : (o : Option CallLine) (ps : Option (List (ℕ × List ℕ))) (w : Option Waited) (m : ℕ) (r : RunState) (a : PlainAnswer) → call_deeds o (other ps w m r) a ≡ call_deeds o r a
+deeds-by None ps w m r a = refl
+deeds-by (Some line) ps w m r a = refl
+
+pub called-deeds : (old : Run) (r : RunState) (line : CallLine) (a : PlainAnswer) → IsAt old r → next_line (script_of old) (seen old r.labels) ≡ Some line → call_deeds (Some line) (seen old r.labels) a ≡ call_deeds (next_line (script_of old) r) r a
+called-deeds old r line a at next =
+    let script = script_of old in
+    ap (λ o. call_deeds o (seen old r.labels) a) (sym next)
+    ∙ (ap (λ (q : RunState). call_deeds (next_line script q) q a) (sym at.shows)
+    ∙ deeds-by (next_line script r) r.put_since_turn (capped_run r).waited (capped r.calls_made) r a)
+
+-- frames that are put before it are no deeds of their own
+pub puts-deeds : (script : List CallLine) (ps : List (ℕ × List ℕ)) (r : RunState) (k : ℕ) (a : PlainAnswer) → deeds_on script r (map (λ (p : ℕ × List ℕ). put p.0 p.1) ps ++ called k a ∷ []) ≡ deeds_on script r (called k a ∷ [])
+puts-deeds script [] r k a = refl
+puts-deeds script (p ∷ ps) r k a =
+    let next = after script r (put p.0 p.1) in
+    puts-deeds script ps next k a ∙ ap (λ ds. ds ++ []) (deeds-by (next_line script r) next.put_since_turn r.waited r.calls_made r a)
 
 -- a script that has ended has no call
 pub none-called : {X : Type 0} (old : Run) (r : RunState) (texts : List (List ℕ)) → IsAt old r → None ≡ next_line (script_of old) (seen old r.labels) → 0 < length texts → other_than (due_call (script_of old) r) texts ≡ None → X
@@ -201,44 +232,58 @@ pub unfound : (o : Option ℕ) → false ≡ is_some o → o ≡ None
 unfound None e = refl
 unfound (Some n) e = absurd cc
 
-pub state-seen : (run : Run) (r : RunState) → IsAt run r → run.state ≡ r.state
+pub state-seen : (run : Run) (r : RunState) → IsAt run r → plain run.state ≡ r.state
 state-seen run r at = ap (λ (q : RunState). q.state) (sym at.shows)
 
--- ---- behind an idle turn, which leaves the run as it is
+-- ---- behind an idle turn, which leaves the run as it is but for the names of frames
 
-pub none-seen : (peers : List ℕ) (run : Run) (r : RunState) → IsAt run r → (length (flat_map visit_lines (due_visits run.state (idle_visits peers))) == 0) ≡ true → (length (flat_map visit_lines (due_visits r.state (idle_visits peers))) == 0) ≡ true
+pub none-seen : (peers : List ℕ) (run : Run) (r : RunState) → IsAt run r → (length (flat_map visit_lines (due_visits (plain run.state) (idle_visits peers))) == 0) ≡ true → (length (flat_map visit_lines (due_visits r.state (idle_visits peers))) == 0) ≡ true
 none-seen peers run r at none = ap (λ s. length (flat_map visit_lines (due_visits s (idle_visits peers))) == 0) (sym (state-seen run r at)) ∙ none
 
-pub idles-after : (peers : List ℕ) (n : ℕ) (old idle new : Run) (r : RunState) → 1 ≤ n → after_turn r.state (idle_visits peers) ≡ r.state → idle ≡ old → IsAt old r → new ≡ turned_more (done_seen idle r) n idle → IsAt new (after_all (script_of old) r (times n (idle_turn peers ∷ [])))
-idles-after peers n old idle new r some kept same at e = idles-shown peers n old new r some kept at (e ∙ ap (λ (x : Run). turned_more (done_seen x r) n x) same)
+-- the state is another, which is the same without names
+pub state-at : (run : Run) (r : RunState) (z : NamedState) (t : DomainState) → plain z ≡ t → IsAt run r → IsAt (record run { state = z }) (record r { state = t })
+state-at run r z t e at = record { labels = at.labels; shows = λ i. record (at.shows i) { state = sym e i } }
 
-pub last-after : (n : ℕ) (old idle one : Run) (made : ℕ) (r : RunState) → idle ≡ old → IsAt old r → one ≡ turned_more (done_seen idle r) 1 idle → made ≡ capped (one.made + n) → IsAt (record one { made = made }) (calls_more n (turns_made (is_done_at (script_of one) r) 1 r))
-last-after n old idle one made r same at e more =
-    let turned = e ∙ ap (λ (x : Run). turned_more (done_seen x r) 1 x) same in
-    let shown = subst (λ (k : ℕ). IsAt (record one { made = k }) (calls_more n (turns_made (is_done_at (script_of old) r) 1 r))) (sym more) (last-shown n old one r at turned) in
-    subst (λ ls. IsAt (record one { made = made }) (calls_more n (turns_made (is_done_at ls r) 1 r))) (sym (ap script_of turned)) shown
+-- a run whose state went on by idle turns
+module _ (peers : List ℕ) (old idle : Run) (r : RunState) (same : idle ≡ record old { state = idle.state }) (at : IsAt old r) (kept : after_turn r.state (idle_visits peers) ≡ r.state) (goes : GoesOn old.state idle.state (turn_deeds (idle_visits peers))) where
+  pub idle-at : IsAt idle r
+  idle-at =
+      let plainly : plain idle.state ≡ r.state = goes.plain ∙ (turn-made (plain old.state) (idle_visits peers) ∙ (ap (λ s. after_turn s (idle_visits peers)) (state-seen old r at) ∙ kept)) in
+      subst (λ (x : Run). IsAt x r) (sym same) (state-at old r idle.state r.state plainly at)
 
-pub spins-after : (peers : List ℕ) (word : Refusal) (n : ℕ) (old idle one more new : Run) (made : ℕ) (r : RunState) → 1 ≤ n → after_turn r.state (idle_visits peers) ≡ r.state → idle ≡ old → IsAt old r → one ≡ turned_more (done_seen idle r) 1 idle → made ≡ capped (one.made + (n - 1)) → more ≡ turned_more (done_seen (record one { made = made }) r) (n - 1) (record one { made = made }) → new ≡ tried_more 1 more → IsAt new (after_all (script_of old) r (times n (idle_turn peers ∷ again word ∷ [])))
-spins-after peers word n old idle one more new made r some kept same at e1 e2 e3 e4 = spins-shown peers word n old one (record one { made = made }) more new r some kept at (e1 ∙ ap (λ (x : Run). turned_more (done_seen x r) 1 x) same) (ap (λ (k : ℕ). record one { made = k }) e2) e3 e4
+  pub idle-script : script_of idle ≡ script_of old
+  idle-script = ap script_of same
 
-pub spun-place : (peers : List ℕ) (n : ℕ) (old idle one : Run) (r : RunState) (texts : List (List ℕ)) → idle ≡ old → one ≡ turned_more (done_seen idle r) 1 idle → after_turn r.state (idle_visits peers) ≡ r.state → (length (flat_map visit_lines (due_visits r.state (idle_visits peers))) == 0) ≡ true → other_than (spin_due n (due_call (script_of one) (calls_more (n - 1) (turns_made (is_done_at (script_of one) r) 1 r)))) texts ≡ or_else (idle_place peers r) (other_than (spin_due n (due_call (script_of old) (before_last (script_of old) peers n r))) texts)
+-- and does so at each further one
+pub idle-stays : (peers : List ℕ) (idle : Run) (r : RunState) → IsAt idle r → after_turn r.state (idle_visits peers) ≡ r.state → after_deeds (plain idle.state) (turn_deeds (idle_visits peers)) ≡ plain idle.state
+idle-stays peers idle r at kept = turn-made (plain idle.state) (idle_visits peers) ∙ (ap (λ s. after_turn s (idle_visits peers)) (state-seen idle r at) ∙ (kept ∙ sym (state-seen idle r at)))
+
+pub idles-after : (peers : List ℕ) (n : ℕ) (idle new : Run) (r : RunState) → 1 ≤ n → after_turn r.state (idle_visits peers) ≡ r.state → IsAt idle r → new ≡ turned_more (done_seen idle r) n idle → IsAt new (after_all (script_of idle) r (times n (idle_turn peers ∷ [])))
+idles-after peers n idle new r some kept at e = idles-shown peers n idle new r some kept at e
+
+pub last-after : (n : ℕ) (idle one : Run) (made : ℕ) (r : RunState) → IsAt idle r → one ≡ turned_more (done_seen idle r) 1 idle → made ≡ capped (one.made + n) → IsAt (record one { made = made }) (calls_more n (turns_made (is_done_at (script_of one) r) 1 r))
+last-after n idle one made r at e more =
+    let shown = subst (λ (k : ℕ). IsAt (record one { made = k }) (calls_more n (turns_made (is_done_at (script_of idle) r) 1 r))) (sym more) (last-shown n idle one r at e) in
+    subst (λ ls. IsAt (record one { made = made }) (calls_more n (turns_made (is_done_at ls r) 1 r))) (sym (ap script_of e)) shown
+
+pub spins-after : (peers : List ℕ) (word : Refusal) (n : ℕ) (idle one more new : Run) (made : ℕ) (r : RunState) → 1 ≤ n → after_turn r.state (idle_visits peers) ≡ r.state → IsAt idle r → one ≡ turned_more (done_seen idle r) 1 idle → made ≡ capped (one.made + (n - 1)) → more ≡ turned_more (done_seen (record one { made = made }) r) (n - 1) (record one { made = made }) → new ≡ tried_more 1 more → IsAt new (after_all (script_of idle) r (times n (idle_turn peers ∷ again word ∷ [])))
+spins-after peers word n idle one more new made r some kept at e1 e2 e3 e4 = spins-shown peers word n idle one (record one { made = made }) more new r some kept at e1 (ap (λ (k : ℕ). record one { made = k }) e2) e3 e4
+
+pub spun-place : (peers : List ℕ) (n : ℕ) (old idle one : Run) (r : RunState) (texts : List (List ℕ)) → script_of idle ≡ script_of old → one ≡ turned_more (done_seen idle r) 1 idle → after_turn r.state (idle_visits peers) ≡ r.state → (length (flat_map visit_lines (due_visits r.state (idle_visits peers))) == 0) ≡ true → other_than (spin_due n (due_call (script_of one) (calls_more (n - 1) (turns_made (is_done_at (script_of one) r) 1 r)))) texts ≡ or_else (idle_place peers r) (other_than (spin_due n (due_call (script_of old) (before_last (script_of old) peers n r))) texts)
 spun-place peers n old idle one r texts same e kept none =
-    let script : script_of one ≡ script_of old = ap script_of e ∙ ap script_of same in
+    let script : script_of one ≡ script_of old = ap script_of e ∙ same in
     ap (λ ls. other_than (spin_due n (due_call ls (calls_more (n - 1) (turns_made (is_done_at ls r) 1 r)))) texts) script
     ∙ (ap (λ q. other_than (spin_due n (due_call (script_of old) q)) texts) (sym (last-made (script_of old) peers n r kept))
     ∙ sym (ap (λ b. or_else (cond b None (Some 0)) (other_than (spin_due n (due_call (script_of old) (before_last (script_of old) peers n r))) texts)) none))
 
 -- ---- a turn
 
-state-at : (run : Run) (r : RunState) (s t : DomainState) → s ≡ t → IsAt run r → IsAt (record run { state = s }) (record r { state = t })
-state-at run r s t e at = record { labels = at.labels; shows = λ i. record (at.shows i) { state = sym e i } }
-
-pub turn-after : (old one : Run) (r : RunState) (s : DomainState) (vs : List Visit) → IsAt old r → one ≡ turned_more (done_seen old r) 1 old → s ≡ after_turn r.state vs → IsAt (record one { state = s }) (after (script_of old) r (turned vs))
-turn-after old one r s vs at e is = state-at one (turns_made (is_done_at (script_of old) r) 1 r) s (after_turn r.state vs) is (turned-shown 1 old one r at e)
+pub turn-after : (old one : Run) (r : RunState) (z : NamedState) (vs : List Visit) → IsAt old r → one ≡ turned_more (done_seen old r) 1 old → plain z ≡ after_turn r.state vs → IsAt (record one { state = z }) (after (script_of old) r (turned vs))
+turn-after old one r z vs at e is = state-at one (turns_made (is_done_at (script_of old) r) 1 r) z (after_turn r.state vs) is (turned-shown 1 old one r at e)
 
 pub met-none : (l : LinesLeft) (met : Bool) → place_after l met ≡ None → met ≡ true
 met-none l true e = refl
 met-none l false e = absurd cc
 
-pub peers-seen : (peers : List ℕ) (run : Run) (r : RunState) → IsAt run r → HasPeers r.state peers → HasPeers run.state peers
+pub peers-seen : (peers : List ℕ) (run : Run) (r : RunState) → IsAt run r → HasPeers r.state peers → HasPeers (plain run.state) peers
 peers-seen peers run r at has = subst (λ s. HasPeers s peers) (sym (state-seen run r at)) has

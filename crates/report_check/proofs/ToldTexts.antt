@@ -15,7 +15,7 @@ use Rattle.report_text.specs.LaneLines.{LaneLine, lane_of, lanes_of, back_in}
 use Rattle.report_text.specs.StepPass.{frames_coming}
 use Rattle.report_text.specs.TextLines.{lines_in}
 use Rattle.report_text.proofs.TextCuts.{lines-cut, lines-uncut, cut-again}
-use Rattle.report_check.specs.ToldTurns.{see_in, frames_in, frame_told, IsToldOn, IsToldPeer}
+use Rattle.report_check.specs.ToldTurns.{see_in, frames_in, IsToldOn, IsToldPeer}
 use Rattle.report_check.specs.declared.told_turn.ToldPeer.{ToldPeer}
 
 -- ---- the first line of a text

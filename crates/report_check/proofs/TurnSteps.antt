@@ -2,35 +2,46 @@
 use Rattle.std.proofs.Common.{◌≡◌, ℕ, Bool, true, false, cond, eq-eqb, append_assoc, List, [], ◌∷◌, ◌++◌, map, find, Option, None, Some, IfOk, Result, Ok, Err, refl, sym, ap, ◌∙◌, subst}
 use Rattle.std.specs.Prelude.{option_map, ◌==◌}
 use Rattle.std.specs.List.{AllByRecursion, flat_map}
-use Rattle.board_model.specs.Journal.{Line, Visit, visit_lines}
+use Rattle.board_model.specs.Journal.{Visit, visit_lines}
 use Rattle.board_model.specs.State.{DomainState, Peer, peer_of, is_numbered}
 use Rattle.board_model.specs.Deeds.{Deed, happens_by, after_deed, after_deeds}
 use Rattle.board_model.specs.Turn.{nameless, visit_deeds, after_visit, after_turn}
 use Rattle.board_model.proofs.StateEnds.{numbers-all}
 use Rattle.board_model.proofs.LanePeers.{peer_found, read_of, size-all}
-use Rattle.report_check.specs.Meeting.{LinesLeft, Meets}
+use Rattle.report_check.specs.Meeting.{LinesLeft}
 use Rattle.report_text.specs.StepPass.{due_visit, due_visits}
+use Rattle.board_model.proofs.DeedJoins.{after-join}
+use Rattle.report_check.specs.NamedStates.{GoesOn, plain, turn_deeds}
+use Rattle.report_check.specs.declared.named_state.NamedState.{NamedState}
 use Rattle.report_check.specs.Doing.{AreVisited, HasPeers, VisitDone}
+use Rattle.report_check.proofs.NamedLemmas.{goes-nothing, goes-then}
 use Rattle.report_check.proofs.MeetingLemmas.{meets-nothing, meets-then, meets-missed}
 
-pub visited-none : (s : DomainState) (l : LinesLeft) → AreVisited s s l l [] true
-visited-none s l = record { lines = meets-nothing l; state = λ e. refl }
+pub visited-none : (s : NamedState) (l : LinesLeft) → AreVisited s s l l [] true
+visited-none s l = record { lines = meets-nothing l; state = λ e. goes-nothing s }
 
-pub visit-missed : (s t : DomainState) (l m : LinesLeft) (v : Visit) (vs : List Visit) → VisitDone s t l m (due_visit s v) false → AreVisited s t l m (due_visits s (v ∷ vs)) false
+pub visit-missed : (s t : NamedState) (l m : LinesLeft) (v : Visit) (vs : List Visit) → VisitDone s t l m (due_visit (plain s) v) false → AreVisited s t l m (due_visits (plain s) (v ∷ vs)) false
 visit-missed s t l m v vs missed = record {
-  lines = meets-missed l m (visit_lines (due_visit s v)) (flat_map visit_lines (due_visits (after_visit s (due_visit s v)) vs)) missed.lines;
+  lines = meets-missed l m (visit_lines (due_visit (plain s) v)) (flat_map visit_lines (due_visits (after_visit (plain s) (due_visit (plain s) v)) vs)) missed.lines;
   state = λ e. absurd cc;
 }
 
-pub visit-then : {E : Type 0} (s u t : DomainState) (l m n : LinesLeft) (v : Visit) (vs : List Visit) (r : Result Bool E) → VisitDone s u l m (due_visit s v) true → IfOk r (λ is. AreVisited u t m n (due_visits u vs) is) → IfOk r (λ is. AreVisited s t l n (due_visits s (v ∷ vs)) is)
+pub visit-then : {E : Type 0} (s u t : NamedState) (l m n : LinesLeft) (v : Visit) (vs : List Visit) (r : Result Bool E) → VisitDone s u l m (due_visit (plain s) v) true → IfOk r (λ is. AreVisited u t m n (due_visits (plain u) vs) is) → IfOk r (λ is. AreVisited s t l n (due_visits (plain s) (v ∷ vs)) is)
 visit-then s u t l m n v vs (Err e) first rest = tt
 visit-then s u t l m n v vs (Ok is) first rest =
-    let after : u ≡ after_visit s (due_visit s v) = first.state refl in
-    let then : AreVisited u t m n (due_visits (after_visit s (due_visit s v)) vs) is = subst (λ x. AreVisited u t m n (due_visits x vs) is) after rest in
+    let d : Visit = due_visit (plain s) v in
+    let others : List Visit = due_visits (after_visit (plain s) d) vs in
+    let goes : GoesOn s u (visit_deeds nameless d) = first.state refl in
+    let then : AreVisited u t m n others is = subst (λ x. AreVisited u t m n (due_visits x vs) is) goes.plain rest in
     record {
-      lines = meets-then l m n (visit_lines (due_visit s v)) (flat_map visit_lines (due_visits (after_visit s (due_visit s v)) vs)) is first.lines then.lines;
-      state = λ e. then.state e ∙ ap (λ x. after_turn x (due_visits (after_visit s (due_visit s v)) vs)) after;
+      lines = meets-then l m n (visit_lines d) (flat_map visit_lines others) is first.lines then.lines;
+      state = λ e. goes-then s u t (visit_deeds nameless d) (turn_deeds others) goes (then.state e);
     }
+
+-- the deeds of a turn lead where the turn does
+pub turn-made : (s : DomainState) (vs : List Visit) → after_deeds s (turn_deeds vs) ≡ after_turn s vs
+turn-made s [] = refl
+turn-made s (v ∷ vs) = after-join s (visit_deeds nameless v) (turn_deeds vs) ∙ turn-made (after_visit s v) vs
 
 -- ---- peers stay
 

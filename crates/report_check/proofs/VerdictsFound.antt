@@ -1,5 +1,5 @@
 -- The verdict on a report, pass by pass.
-use Rattle.std.proofs.Common.{◌≡◌, ℕ, ◌-◌, ◌^◌, ◌<◌, length, List, [], ◌∷◌, map, Option, None, Some, Ok, refl, sym, ap, subst, ◌∙◌}
+use Rattle.std.proofs.Common.{◌≡◌, ℕ, ◌-◌, ◌^◌, ◌<◌, length, List, [], ◌∷◌, Option, None, Some, Ok, refl, sym, ap, subst, ◌∙◌}
 use Rattle.board_model.specs.declared.scenario.Scenario.{Scenario}
 use Rattle.std.specs.List.{AllByRecursion}
 use Rattle.board_model.specs.LinkedBoard.{IsLinkedBoard}
@@ -9,12 +9,12 @@ use Rattle.report_text.specs.declared.verdict.CheckReason.TheVariants as of
 use Rattle.report_text.specs.declared.verdict.Verdict.{Verdict}
 use Rattle.report_text.specs.declared.verdict.Verdict.TheVariants.{Right, Wrong}
 use Rattle.report_text.specs.JournalRead.{JournalText, journals_at, behind_journals}
-use Rattle.report_text.specs.LinkPass.{journal_told, wrong_among}
+use Rattle.report_text.specs.LinkPass.{wrong_among}
 use Rattle.report_text.specs.RightRuns.{PassesThree}
 use Rattle.report_text.specs.ScenarioPart.{Rest, Told}
-use Rattle.report_text.specs.StepPass.{wrong_step, unfinished}
+use Rattle.report_text.specs.StepPass.{unfinished}
 use Rattle.report_text.specs.TextPass.{told_by_text}
-use Rattle.report_text.specs.TotalPass.{wrong_number}
+use Rattle.report_text.specs.TotalPass.{wrong_total}
 use Rattle.report_text.specs.Verdicts.{wrong_or, by_steps, by_told, verdict_on}
 use Rattle.report_text.proofs.ReportsTold.{text-lawful, journals-right}
 use Rattle.report_text.proofs.RunsTold.{IsRight, rising-lawful}
@@ -36,7 +36,7 @@ module _ (report : List ℕ) (t : Told) (told : told_by_text report ≡ Ok t) wh
   numbers = behind_journals (rising t.scenario) t.behind
 
   abbrev by_totals : Verdict
-  by_totals = wrong_or of.Total (wrong_number t.mode t.scenario (map (journal_told t.scenario) journals) numbers) Right
+  by_totals = wrong_or of.Total (wrong_total t.mode t.scenario journals numbers) Right
 
   -- the first wrong step
   pub by-steps : (v : Verdict) → ((next : Verdict) → by_steps t.scenario journals next ≡ v) → v ≡ verdict_on report
@@ -49,12 +49,12 @@ module _ (report : List ℕ) (t : Told) (told : told_by_text report ≡ Ok t) wh
   pub by-link : AreRight t.scenario journals → (line : ℕ) → Some line ≡ wrong_among t.scenario journals journals → Wrong line of.Link ≡ verdict_on report
   by-link right line is = sym (by-links right (Some line) (sym is))
 
-  -- the first number, where no lane is wrong
-  pub by-totals : AreRight t.scenario journals → None ≡ wrong_among t.scenario journals journals → (o : Option ℕ) → o ≡ wrong_number t.mode t.scenario (map (journal_told t.scenario) journals) numbers → wrong_or of.Total o Right ≡ verdict_on report
+  -- the first line of the fourth pass, where no lane is wrong
+  pub by-totals : AreRight t.scenario journals → None ≡ wrong_among t.scenario journals journals → (o : Option ℕ) → o ≡ wrong_total t.mode t.scenario journals numbers → wrong_or of.Total o Right ≡ verdict_on report
   by-totals right none o is = sym (by-links right None (sym none) ∙ ap (λ x. wrong_or of.Total x Right) (sym is))
 
   pub passes : AreRight t.scenario journals → None ≡ wrong_among t.scenario journals journals → PassesThree (verdict_on report)
-  passes right none = subst PassesThree (sym (by-links right None (sym none))) (go (wrong_number t.mode t.scenario (map (journal_told t.scenario) journals) numbers))
+  passes right none = subst PassesThree (sym (by-links right None (sym none))) (go (wrong_total t.mode t.scenario journals numbers))
     where
       go : (o : Option ℕ) → PassesThree (wrong_or of.Total o Right)
       go None = tt

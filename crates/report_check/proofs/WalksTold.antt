@@ -1,5 +1,5 @@
 -- The journals of a report, walked one after the other.
-use Rattle.std.proofs.Common.{◌≡◌, ℕ, suc, ◌+◌, ◌<◌, ◌≤◌, ◌^◌, max, List, [], ◌∷◌, ◌++◌, length, drop, Option, None, Some, Result, Ok, Err, IsOk, refl, sym, ap, ap₂, subst, ◌∙◌, arith, append-nil, append_assoc, length-append}
+use Rattle.std.proofs.Common.{◌≡◌, ℕ, suc, ◌+◌, ◌≤◌, List, [], ◌∷◌, ◌++◌, length, drop, Option, None, Some, Result, Ok, Err, IsOk, refl, sym, ap, ap₂, subst, ◌∙◌, arith, append-nil, append_assoc, length-append}
 use Rattle.std.specs.List.{AllByRecursion}
 use Rattle.board_model.specs.declared.scenario.DomainLine.{DomainLine}
 use Rattle.board_model.specs.declared.scenario.Scenario.{Scenario}
@@ -28,11 +28,12 @@ use Rattle.report_text.specs.ReportLines.{journal_form}
 use Rattle.report_text.specs.TextPass.{◌>>=◌, puts_of_script, entries_from, journal_from, journals_from}
 use Rattle.report_text.proofs.ReportsTold.{Ends, lines-length, bind-ok, journal-ok}
 use Rattle.report_text.proofs.TextCuts.{one_line-uncut}
-use Rattle.report_check.specs.declared.steps.Walked.{Walked}
+use Rattle.report_replay.specs.Unnamed.{unnamed}
 use Rattle.report_check.specs.declared.steps.Walked.TheVariants as walked
 use Rattle.report_check.specs.declared.walks.Walks.{Walks}
 use Rattle.report_totals.specs.EndedJournals.{AreLeftBehind}
 use Rattle.report_check.specs.Walked.{IsInOrder, IsWalked}
+use Rattle.report_rings.specs.SenderLanes.{AreGiven, GivesBack}
 use Rattle.report_check.specs.Walks.{left_of, AreWalked, AreRight, WalksOn}
 
 -- ---- the lines of a journal, and those behind it
@@ -111,11 +112,17 @@ told-more [] (d ∷ cs) j c all is = absurd all
 told-more (k ∷ js) [] j c all is = absurd all
 told-more (k ∷ js) (d ∷ cs) j c all is = (all.0, told-more js cs j c all.1 is)
 
-left-more : (s : Scenario) (js : List JournalText) (xs : List DomainState) (j : JournalText) (x : DomainState) → AreLeftBehind s js xs → x ≡ (left_behind s j).state → AreLeftBehind s (js ++ j ∷ []) (xs ++ x ∷ [])
+left-more : (s : Scenario) (js : List JournalText) (xs : List DomainState) (j : JournalText) (x : DomainState) → AreLeftBehind s js xs → unnamed x ≡ (left_behind s j).state → AreLeftBehind s (js ++ j ∷ []) (xs ++ x ∷ [])
 left-more s [] [] j x all is = (is, tt)
 left-more s [] (y ∷ xs) j x all is = absurd all
 left-more s (k ∷ js) [] j x all is = absurd all
 left-more s (k ∷ js) (y ∷ xs) j x all is = (all.0, left-more s js xs j x all.1 is)
+
+given-more : (s : Scenario) (js : List JournalText) (gs : List (List (List ℕ))) (j : JournalText) (g : List (List ℕ)) → AreGiven s js gs → GivesBack s j g → AreGiven s (js ++ j ∷ []) (gs ++ g ∷ [])
+given-more s [] [] j g all is = (is, tt)
+given-more s [] (f ∷ gs) j g all is = absurd all
+given-more s (k ∷ js) [] j g all is = absurd all
+given-more s (k ∷ js) (f ∷ gs) j g all is = (all.0, given-more s js gs j g all.1 is)
 
 pub all-more : {A : Type 0} (P : A → Type 0) (xs : List A) (x : A) → AllByRecursion P xs → P x → AllByRecursion P (xs ++ x ∷ [])
 all-more P [] x all is = (is, tt)
@@ -130,9 +137,9 @@ pub record IsWalkedOver (s : Scenario) (d : DomainLine) (old mid : Walks) : Type
   pub left : left_of mid ≡ behind_journal (left_of old)
   pub walked : (js : List JournalText) → AreWalked s js old → AreWalked s (js ++ journal_at d (left_of old) ∷ []) mid
 
-pub walked-over : (s : Scenario) (d : DomainLine) (old mid : Walks) (text : List ℕ) (c : JournalLines) (x : DomainState) (b : _) (line : ℕ) → lines_in text ≡ drop 1 (lines_in old.behind.now) → IsTold (journal_at d (left_of old)) c
-    → IsWalked s (journal_at d (left_of old)) text (walked.Right x line b) → mid.line ≡ line → mid.behind ≡ b → mid.journals.items ≡ old.journals.items ++ c ∷ [] → mid.states.items ≡ old.states.items ++ x ∷ [] → IsWalkedOver s d old mid
-walked-over s d old mid text c x b line lines told right line-is behind-is journals states =
+pub walked-over : (s : Scenario) (d : DomainLine) (old mid : Walks) (text : List ℕ) (c : JournalLines) (x : DomainState) (g : List (List ℕ)) (b : _) (line : ℕ) → lines_in text ≡ drop 1 (lines_in old.behind.now) → IsTold (journal_at d (left_of old)) c
+    → IsWalked s (journal_at d (left_of old)) text (walked.Right x g line b) → mid.line ≡ line → mid.behind ≡ b → mid.journals.items ≡ old.journals.items ++ c ∷ [] → mid.states.items ≡ old.states.items ++ x ∷ [] → mid.given.items ≡ old.given.items ++ g ∷ [] → IsWalkedOver s d old mid
+walked-over s d old mid text c x g b line lines told right line-is behind-is journals states places =
     let j : JournalText = journal_at d (left_of old) in
     let r : Rest = left_of old in
     record {
@@ -140,11 +147,12 @@ walked-over s d old mid text c x b line lines told right line-is behind-is journ
       whole = right.1;
       left =
           ap₂ (λ (n : ℕ) ls. rest n ls) line-is (ap (λ y. lines_in y.now) behind-is)
-          ∙ right.3
+          ∙ right.4
           ∙ ap₂ (λ (n : ℕ) ls. rest (r.number + 1 + n) ls) (same-count (drop 1 r.lines)) (ap behind_told lines);
       walked = λ js all. record {
         told = subst (AreTold (js ++ j ∷ [])) (sym journals) (told-more js old.journals.items j c all.told told);
         states = subst (AreLeftBehind s (js ++ j ∷ [])) (sym states) (left-more s js old.states.items j x all.states right.2);
+        given = subst (AreGiven s (js ++ j ∷ [])) (sym places) (given-more s js old.given.items j g all.given right.3);
       };
     }
 

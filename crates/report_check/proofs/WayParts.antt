@@ -1,5 +1,5 @@
 -- A domain on its way through the parts of its journal: what is known before each part, and how one leads to the next.
-use Rattle.std.proofs.Common.{◌≡◌, ℕ, zero, suc, ◌+◌, ◌-◌, ◌^◌, ◌<◌, ◌≤◌, Bor, Bool, true, false, cond, List, [], ◌∷◌, ◌++◌, length, map, take, drop, Option, Some, None, refl, sym, ap, subst, ◌∙◌, arith, append_assoc, append-nil, length-append}
+use Rattle.std.proofs.Common.{◌≡◌, ℕ, suc, ◌+◌, ◌-◌, ◌^◌, ◌<◌, ◌≤◌, Bor, Bool, true, false, cond, List, [], ◌∷◌, ◌++◌, length, map, take, drop, Option, Some, None, refl, sym, ap, subst, ◌∙◌, arith, append_assoc, append-nil, length-append}
 use Rattle.std.specs.Prelude.{bytes_eq, ◌==◌}
 use Rattle.std.specs.List.{AllByRecursion, flat_map}
 use Rattle.std.proofs.lemmas.List.{length-map}
@@ -14,14 +14,12 @@ use Rattle.board_model.specs.LinkedBoard.{Differ, HasFitArguments, IsLinkedBoard
 use Rattle.board_model.specs.Report.{line_text}
 use Rattle.board_model.specs.Run.{start, after_all}
 use Rattle.board_model.specs.Scenario.{script as script_in}
-use Rattle.board_model.specs.State.{DomainState, Endpoint, is_at}
 use Rattle.board_model.specs.Step.{RunState}
 use Rattle.board_model.specs.Unjoined.{peers_of}
 use Rattle.board_model.proofs.LawfulBoards.{lawful_is_linked}
 use Rattle.board_model.proofs.MessageAlls.{all-filter, all-weaken}
 use Rattle.board_model.proofs.PlaceBoards.{neighbours_differ}
-use Rattle.board_model.proofs.StateEnds.{Ends, by_address}
-use Rattle.mc_base.specs.declared.name.Local.{Local}
+use Rattle.report_replay.proofs.OwnAddresses.{own-addresses-apart}
 use Rattle.report_replay.specs.Effects.{HasOwnAddresses}
 use Rattle.board_model.specs.FileLines.{onto_first}
 use Rattle.report_text.specs.JournalRead.{text_first, told_texts, lines_of_texts, parts_in}
@@ -39,10 +37,14 @@ use Rattle.report_text.proofs.StepsDue.{Fits, Going, all-after, part-told}
 use Rattle.report_text.proofs.TurnsTold.{visits-told}
 use Rattle.report_check.specs.Doing.{HasPeers}
 use Rattle.report_check.specs.NextParts.{BeginsPart, IsNextPart, lines_from, parts_from, texts_from}
-use Rattle.report_check.specs.PartsWalked.{IsBegun, Way, due_part, end_of, wrong_on}
-use Rattle.report_check.specs.Runs.{FitsLine, IsAt, script_of}
+use Rattle.report_check.specs.NamedStates.{GoesOn, deeds_on}
+use Rattle.report_check.specs.PartsWalked.{IsBegun, Way, due_part, entries_of, wrong_on}
+use Rattle.report_check.specs.Runs.{FitsLine, IsAt, Makes, script_of}
 use Rattle.report_check.specs.declared.cursor.NextPart.{NextPart}
 use Rattle.report_check.specs.declared.run.Run.{Run}
+use Rattle.board_model.specs.Deeds.{Deed}
+use Rattle.report_check.proofs.NamedLemmas.{goes-nothing, goes-then}
+use Rattle.report_check.proofs.RunSteps.{deeds-join}
 use Rattle.report_check.proofs.PartTexts.{front-told}
 use Rattle.report_check.proofs.TurnSteps.{peers-there}
 
@@ -50,9 +52,6 @@ use Rattle.report_check.proofs.TurnSteps.{peers-there}
 
 pub peers-known : (peers : List ℕ) (script : List CallLine) (r : RunState) → Going peers script r → HasPeers r.state peers
 peers-known peers script r h = peers-there r.state peers h.sound.numbers
-
-pub own-addresses : (s : DomainState) → Ends s → HasOwnAddresses s
-own-addresses s ends at e live = (by_address at s.endpoints e ends.apart live).found
 
 -- ---- what the lines of a lawful board put fits into a frame
 
@@ -133,10 +132,11 @@ abbrev pub reached : List ℕ → List CallLine → Way → List Part → RunSta
 reached peers script way front = after_all script way.first (flat_map (part_entries peers) front)
 
 -- so many lines were those due, and this text is left
-pub record Walking (peers : List ℕ) (script : List CallLine) (way : Way) (text rest : List ℕ) (lines : ℕ) (run : Run) : Type 0 where
+pub record Walking (peers : List ℕ) (script : List CallLine) (way : Way) (text rest : List ℕ) (lines : ℕ) (old run : Run) : Type 0 where
   pub front : List Part
   pub parts : way.parts ≡ front ++ parts_from peers script rest
   pub at : IsAt run (reached peers script way front)
+  pub deeds : GoesOn old.state run.state (deeds_on script way.first (flat_map (part_entries peers) front))
   pub going : Going peers script (reached peers script way front)
   pub fits : AllByRecursion (Fits peers) (parts_from peers script rest)
   pub begins : BeginsPart peers script rest
@@ -154,8 +154,8 @@ front-taken xs ys zs e =
     let count : length zs - length ys ≡ length xs = omega (arith, more) in
     ap (λ (n : ℕ). take n zs) count ∙ (ap (take (length xs)) e ∙ take-append_seam xs ys)
 
-pub before-is : (peers : List ℕ) (script : List CallLine) (way : Way) (text rest : List ℕ) (lines : ℕ) (run : Run) → (w : Walking peers script way text rest lines run) → state_before peers script way rest ≡ reached peers script way w.front
-before-is peers script way text rest lines run w = ap (reached peers script way) (front-taken w.front (parts_from peers script rest) way.parts w.parts)
+pub before-is : (peers : List ℕ) (script : List CallLine) (way : Way) (text rest : List ℕ) (lines : ℕ) (old run : Run) → (w : Walking peers script way text rest lines old run) → state_before peers script way rest ≡ reached peers script way w.front
+before-is peers script way text rest lines old run w = ap (reached peers script way) (front-taken w.front (parts_from peers script rest) way.parts w.parts)
 
 -- ---- places
 
@@ -253,11 +253,12 @@ script-few run script same short = omega (arith, short, length-map run.script.no
 
 -- ---- from the first part on
 
-pub walking-begins : (peers : List ℕ) (script : List CallLine) (text : List ℕ) (way : Way) (run : Run) → IsBegun peers script text way → IsAt run way.first → Walking peers script way text text 0 run
+pub walking-begins : (peers : List ℕ) (script : List CallLine) (text : List ℕ) (way : Way) (run : Run) → IsBegun peers script text way → IsAt run way.first → Walking peers script way text text 0 run run
 walking-begins peers script text way run h at = record {
   front = [];
   parts = h.parts;
   at = at;
+  deeds = goes-nothing run.state;
   going = opening peers script text way h;
   fits = (parted peers script text way h).1;
   begins = (parted peers script text way h).0;
@@ -266,7 +267,7 @@ walking-begins peers script text way run h at = record {
   count = omega arith;
 }
 
-module _ (peers : List ℕ) (script : List CallLine) (text rest : List ℕ) (way : Way) (lines : ℕ) (run : Run) (h : IsBegun peers script text way) (w : Walking peers script way text rest lines run) where
+module _ (peers : List ℕ) (script : List CallLine) (text rest : List ℕ) (way : Way) (lines : ℕ) (old run : Run) (h : IsBegun peers script text way) (w : Walking peers script way text rest lines old run) where
   abbrev pub at_front : RunState
   at_front = reached peers script way w.front
 
@@ -285,8 +286,10 @@ module _ (peers : List ℕ) (script : List CallLine) (text rest : List ℕ) (way
     pub end-behind : lines_in rest ≡ lines_behind text
     end-behind = sym (none-told (lines_in rest) end) ∙ w.behind
 
-    pub end-at : IsAt run (end_of peers script way)
-    end-at = subst (λ ps. IsAt run (reached peers script way ps)) (sym (w.parts ∙ (ap (λ ps. w.front ++ ps) none-left ∙ append-nil w.front))) w.at
+    pub end-at : Makes script way.first (entries_of peers way) old run
+    end-at =
+        let all : way.parts ≡ w.front = w.parts ∙ (ap (λ ps. w.front ++ ps) none-left ∙ append-nil w.front) in
+        subst (λ ps. Makes script way.first (flat_map (part_entries peers) ps) old run) (sym all) (record { at = w.at; deeds = w.deeds })
 
   -- ---- at the next part
 
@@ -348,21 +351,21 @@ module _ (peers : List ℕ) (script : List CallLine) (text rest : List ℕ) (way
       here = state_before peers (script_of run) way rest
 
       pub here-is : here ≡ at_front
-      here-is = ap (λ (sc : List CallLine). state_before peers sc way rest) lines-same ∙ before-is peers script way text rest lines run w
+      here-is = ap (λ (sc : List CallLine). state_before peers sc way rest) lines-same ∙ before-is peers script way text rest lines old run w
 
       pub here-place : (o : Option ℕ) → o ≡ part_place (script_of run) peers here next.part texts → o ≡ part_place script peers at_front next.part texts
       here-place o e = e ∙ (ap (λ (sc : List CallLine). part_place sc peers here next.part texts) lines-same ∙ ap (λ (r : RunState). part_place script peers r next.part texts) here-is)
 
-      pub here-at : (new : Run) → IsAt new (after_all (script_of run) here (part_entries peers (due_part here.state next.part))) → IsAt new (after_all script at_front (part_entries peers (due_part at_front.state next.part)))
+      pub here-at : (new : Run) → Makes (script_of run) here (part_entries peers (due_part here.state next.part)) run new → Makes script at_front (part_entries peers (due_part at_front.state next.part)) run new
       here-at new at =
-          subst (λ (r : RunState). IsAt new (after_all script r (part_entries peers (due_part r.state next.part)))) here-is
-          (subst (λ (sc : List CallLine). IsAt new (after_all sc here (part_entries peers (due_part here.state next.part)))) lines-same at)
+          subst (λ (r : RunState). Makes script r (part_entries peers (due_part r.state next.part)) run new) here-is
+          (subst (λ (sc : List CallLine). Makes sc here (part_entries peers (due_part here.state next.part)) run new) lines-same at)
 
       pub here-known : HasPeers here.state peers
       here-known = subst (λ (r : RunState). HasPeers r.state peers) (sym here-is) (peers-known peers script at_front w.going)
 
       pub here-own : HasOwnAddresses here.state
-      here-own = subst (λ (r : RunState). HasOwnAddresses r.state) (sym here-is) (own-addresses at_front.state w.going.sound.ends)
+      here-own = subst (λ (r : RunState). HasOwnAddresses r.state) (sym here-is) (own-addresses-apart at_front.state w.going.sound.ends)
 
       pub here-shown : IsAt run here
       here-shown = subst (IsAt run) (sym here-is) w.at
@@ -381,16 +384,26 @@ module _ (peers : List ℕ) (script : List CallLine) (text rest : List ℕ) (way
         ap (after_all script way.first) (flat_map-append (part_entries peers) w.front (next.part ∷ []) ∙ ap (λ es. flat_map (part_entries peers) w.front ++ es) (append-nil (part_entries peers next.part)))
         ∙ all-after script way.first (flat_map (part_entries peers) w.front) (part_entries peers next.part)
 
-    pub next-right : (new : Run) → None ≡ part_place script peers at_front next.part texts → IsAt new (after_all script at_front (part_entries peers (due_part at_front.state next.part))) → Walking peers script way text n.behind.now (lines + n.lines) new
+    abbrev front_deeds : List Deed
+    front_deeds = deeds_on script way.first (flat_map (part_entries peers) w.front)
+
+    all-deeds : deeds_on script way.first (flat_map (part_entries peers) (w.front ++ next.part ∷ [])) ≡ front_deeds ++ deeds_on script at_front (part_entries peers next.part)
+    all-deeds =
+        ap (deeds_on script way.first) (flat_map-append (part_entries peers) w.front (next.part ∷ []) ∙ ap (λ es. flat_map (part_entries peers) w.front ++ es) (append-nil (part_entries peers next.part)))
+        ∙ deeds-join script way.first (flat_map (part_entries peers) w.front) (part_entries peers next.part)
+
+    pub next-right : (new : Run) → None ≡ part_place script peers at_front next.part texts → Makes script at_front (part_entries peers (due_part at_front.state next.part)) run new → Walking peers script way text n.behind.now (lines + n.lines) old new
     next-right new none at =
         let told = part-told peers (few peers script text way h) (apart peers script text way h) script (begun-short peers script text way h) next.part at_front texts w.going fit.0 first (sym none) in
         let due = part-due next.part fit.0 first (sym none) in
+        let made : Makes script at_front (part_entries peers next.part) run new = subst (λ p. Makes script at_front (part_entries peers p) run new) due at in
         let count = w.count in
         let left : length (texts_from n.behind.now) ≡ length (flat_map part_lines behind) = tell-length (texts_from n.behind.now) (flat_map part_lines behind) (subst (Tell (texts_from n.behind.now)) next.begins (text-tells n.behind.now)) in
         record {
           front = w.front ++ next.part ∷ [];
           parts = w.parts ∙ (ap (λ ps. w.front ++ ps) next.parts ∙ sym (append_assoc w.front (next.part ∷ []) behind));
-          at = subst (IsAt new) (sym reached-next) (subst (λ p. IsAt new (after_all script at_front (part_entries peers p))) due at);
+          at = subst (IsAt new) (sym reached-next) made.at;
+          deeds = subst (GoesOn old.state new.state) (sym all-deeds) (goes-then old.state run.state new.state front_deeds (deeds_on script at_front (part_entries peers next.part)) w.deeds made.deeds);
           going = subst (Going peers script) (sym reached-next) told.1;
           fits = fit.1;
           begins = next.begins;

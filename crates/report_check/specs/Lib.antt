@@ -1,3 +1,4 @@
+pub mod NamedStates
 pub mod Meeting
 pub mod Doing
 pub mod Runs

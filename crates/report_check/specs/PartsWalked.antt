@@ -4,6 +4,7 @@ use Rattle.std.specs.Prelude.{◌≡◌, ℕ, ◌≤◌, List, length, Option, N
 use Rattle.std.specs.List.{flat_map}
 use Rattle.board_model.specs.declared.scenario.CallLine.{CallLine}
 use Rattle.board_model.specs.declared.scenario.Scenario.{Scenario}
+use Rattle.board_model.specs.Journal.{PlainEntry}
 use Rattle.board_model.specs.JournalParts.{Part, turn_of, part_entries}
 use Rattle.board_model.specs.Language.{IsLawfulBoard}
 use Rattle.board_model.specs.Run.{start, after_all}
@@ -21,7 +22,7 @@ use Rattle.report_check.specs.declared.part_walk.PartsWalked.{PartsWalked}
 use Rattle.report_check.specs.declared.part_walk.PartsWalked.TheVariants as walked
 use Rattle.report_check.specs.declared.run.Run.{Run}
 use Rattle.report_check.specs.NextParts.{parts_from, texts_from}
-use Rattle.report_check.specs.Runs.{IsAt, script_of}
+use Rattle.report_check.specs.Runs.{Makes, script_of}
 use Rattle.report_check.specs.Walked.{IsInOrder}
 
 -- ---- one part
@@ -60,12 +61,15 @@ pub record IsBegun (peers : List ℕ) (script : List CallLine) (text : List ℕ)
 abbrev pub wrong_on : List ℕ → List CallLine → Way → List ℕ → Option ℕ
 wrong_on peers script way text = step_place script peers way.first way.parts (texts_from text)
 
+abbrev pub entries_of : List ℕ → Way → List PlainEntry
+entries_of peers way = flat_map (part_entries peers) way.parts
+
 abbrev pub end_of : List ℕ → List CallLine → Way → RunState
-end_of peers script way = after_all script way.first (flat_map (part_entries peers) way.parts)
+end_of peers script way = after_all script way.first (entries_of peers way)
 
 -- what is found of the parts: that none of their lines is wrong, with what stands behind them, or the first wrong line
 abbrev pub IsPartsWalked : List ℕ → Way → List ℕ → Run → Run → PartsWalked → Type 0
-IsPartsWalked peers way text old new (walked.Right lines behind) = (wrong_on peers (script_of old) way text ≡ None) × (lines ≡ length (texts_from text)) × (lines_in behind.now ≡ lines_behind text) × IsAt new (end_of peers (script_of old) way)
+IsPartsWalked peers way text old new (walked.Right lines behind) = (wrong_on peers (script_of old) way text ≡ None) × (lines ≡ length (texts_from text)) × (lines_in behind.now ≡ lines_behind text) × Makes (script_of old) way.first (entries_of peers way) old new
 IsPartsWalked peers way text old new (walked.Wrong place) = wrong_on peers (script_of old) way text ≡ Some place
 
 -- a text has no fewer bytes than the lines that are counted

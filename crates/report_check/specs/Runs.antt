@@ -9,13 +9,15 @@ use Rattle.board_model.specs.declared.scenario.Call.{Call}
 use Rattle.board_model.specs.declared.scenario.Call.TheVariants.{SclSend, Raw}
 use Rattle.board_model.specs.declared.scenario.CallLine.{CallLine}
 use Rattle.board_model.specs.Answer.{refusal}
-use Rattle.board_model.specs.Journal.{Line, PlainAnswer, refuses, put_line}
+use Rattle.board_model.specs.Journal.{Line, PlainAnswer, PlainEntry, refuses, put_line}
 use Rattle.board_model.specs.Labels.{Labels, no_labels}
+use Rattle.board_model.specs.Run.{after_all}
 use Rattle.board_model.specs.State.{DomainState}
 use Rattle.board_model.specs.Step.{RunState, Waited, next_line, call_at, is_done_now, is_tried_word}
 use Rattle.report_replay.specs.HeldLabels.{HoldLabels}
 use Rattle.report_replay.specs.PlainCalls.{plain_call}
 use Rattle.report_text.specs.StepPass.{spin_due}
+use Rattle.report_check.specs.NamedStates.{plain, GoesOn, deeds_on}
 use Rattle.report_check.specs.declared.run.Run.{Run}
 use Rattle.report_check.specs.declared.run.Waiting.{Waiting}
 use Rattle.report_check.specs.declared.next_call.NextCall.{NextCall}
@@ -35,7 +37,7 @@ waited_of w = record { turns = w.turns; done_before = w.done_before }
 
 abbrev pub seen : Run → Labels → RunState
 seen run ls = record {
-  state = run.state;
+  state = plain run.state;
   lines_called = run.called;
   calls_made = run.made;
   labels = ls;
@@ -49,6 +51,11 @@ Shows run r = capped_run r ≡ seen run r.labels
 pub record IsAt (run : Run) (r : RunState) : Type 0 where
   pub labels : HoldLabels run.labels r.labels
   pub shows : Shows run r
+
+-- a run has made these entries since it was at another
+pub record Makes (script : List CallLine) (r : RunState) (es : List PlainEntry) (old new : Run) : Type 0 where
+  pub at : IsAt new (after_all script r es)
+  pub deeds : GoesOn old.state new.state (deeds_on script r es)
 
 abbrev pub script_of : Run → List CallLine
 script_of run = map (λ l. l.now) run.script.now

@@ -1,6 +1,6 @@
 -- The journals of a report, walked one after the other: those that were, and what is left behind them.
 -- Source: docs/FORMATS.md, "How a report is checked".
-use Rattle.std.specs.Prelude.{◌≡◌, ℕ, ◌+◌, ◌-◌, ◌^◌, ◌<◌, ◌≤◌, List, [], ◌∷◌, ◌++◌, length, Option, None, Some, Ok}
+use Rattle.std.specs.Prelude.{◌≡◌, ℕ, ◌+◌, ◌-◌, ◌^◌, ◌<◌, ◌≤◌, List, ◌++◌, length, Option, None, Some, Ok}
 use Rattle.std.specs.List.{AllByRecursion}
 use Rattle.board_model.specs.declared.scenario.DomainLine.{DomainLine}
 use Rattle.board_model.specs.declared.scenario.Scenario.{Scenario}
@@ -15,7 +15,9 @@ use Rattle.report_text.specs.TextLines.{lines_in}
 use Rattle.report_text.specs.TextPass.{told_by_text}
 use Rattle.report_text.specs.TextRead.{told_of}
 use Rattle.report_text.specs.Texts.{longest_line}
+use Rattle.report_text.specs.TotalPass.{wrong_total}
 use Rattle.report_text.specs.Verdicts.{by_steps}
+use Rattle.report_rings.specs.SenderLanes.{AreGiven}
 use Rattle.report_check.specs.declared.walks.Walks.{Walks}
 use Rattle.report_totals.specs.EndedJournals.{AreLeftBehind}
 
@@ -27,6 +29,7 @@ left_of w = rest w.line (lines_in w.behind.now)
 pub record AreWalked (s : Scenario) (js : List JournalText) (w : Walks) : Type 0 where
   pub told : AreTold js w.journals.items
   pub states : AreLeftBehind s js w.states.items
+  pub given : AreGiven s js w.given.items
 
 -- their domains are those of a board, and none of their lines is longer than this, and these can be counted
 pub record AreReady (room most : ℕ) (w : Walks) : Type 0 where
@@ -49,6 +52,10 @@ pub record AreAllWalked (t : Told) (w : Walks) : Type 0 where
   pub right : AreRight t.scenario (journals_at (rising t.scenario) t.behind)
   pub walked : AreWalked t.scenario (journals_at (rising t.scenario) t.behind) w
   pub left : left_of w ≡ behind_journals (rising t.scenario) t.behind
+
+-- the first line that the fourth pass finds wrong
+abbrev pub wrong_total_of : Told → Option ℕ
+wrong_total_of t = wrong_total t.mode t.scenario (journals_at (rising t.scenario) t.behind) (behind_journals (rising t.scenario) t.behind)
 
 -- the text of a report was read so
 pub record IsTextOf (report : List ℕ) (text : ReportText) : Type 0 where

@@ -90,14 +90,17 @@ pub(crate) fn place_after(lines: &DueLines<'_>, met: bool) -> Option<usize>
 impl Run<'_> {
     /// The frame that a call puts.
     fn put(&self, next: &NextCall<'_>, out: &mut [u8; 512]) -> Option<(u8, usize)>
-        requires refusal { next.now.refusal ≡ refusal_of self.now.state next.now.line.now.node (plain_call next.now.call) }
+        requires refusal { next.now.refusal ≡ refusal_of self.now.state.state next.now.line.now.node (plain_call next.now.call) }
         requires fits { FitsFrame (plain_call next.now.call) }
-        ensures put { option_to_list (option_map (λ x. (x.0, take x.1 out.new)) result) ≡ puts self.now.state next.now.line.now.node (plain_call next.now.call) }
+        ensures put { option_to_list (option_map (λ x. (x.0, take x.1 out.new)) result) ≡ puts self.now.state.state next.now.line.now.node (plain_call next.now.call) }
         ensures fits { IfSome result (λ x. x.1 ≤ 512) }
     {
         match next.refusal {
             Some(_) => None,
-            None => self.state.put_of_success(next.line.node, &next.call, out),
+            None => self
+                .state
+                .state
+                .put_of_success(next.line.node, &next.call, out),
         }
     }
 

@@ -6,6 +6,7 @@ mod cursor;
 mod due_call;
 mod due_lines;
 mod given;
+mod named_state;
 mod next_call;
 mod part_walk;
 mod parts;

@@ -3,7 +3,6 @@
 ghost use Rattle.std.specs.Prelude.{◌≡◌, ◌<◌, ◌≤◌, ◌^◌, IfOk, None, length, take};
 ghost use Rattle.std.specs.List.{AllByRecursion};
 ghost use Rattle.board_model.specs.JournalParts.{Part, part_entries};
-ghost use Rattle.board_model.specs.Run.{after_all};
 ghost use Rattle.board_model.specs.Step.{RunState};
 ghost use Rattle.report_replay.specs.Effects.{HasOwnAddresses};
 ghost use Rattle.report_text.specs.JournalRead.{lines_of_texts};
@@ -14,7 +13,7 @@ ghost use Rattle.report_text.specs.Texts.{longest_line};
 ghost use Rattle.report_check.specs.Doing.{HasPeers};
 ghost use Rattle.report_check.specs.NextParts.{Heads};
 ghost use Rattle.report_check.specs.PartsWalked.{IsBegun, IsPartsWalked, IsSomeHead, IsWithin, Way, due_part};
-ghost use Rattle.report_check.specs.Runs.{HasFitLines, IsAt, script_of};
+ghost use Rattle.report_check.specs.Runs.{HasFitLines, IsAt, Makes, script_of};
 
 use crate::cursor::{Head, NextPart, next_part};
 use crate::due_lines::DueLines;
@@ -53,7 +52,7 @@ impl Run<'_> {
         requires room { longest_line text.now ≤ length room.old }
         requires short { length text.now < 2 ^ 32 }
         ensures place { (p : Part) → Heads peers.now (lines_of_texts (take part.entry.lines (lines_in text.now))) part.entry.head p → IfOk result (λ place. place ≡ part_place (script_of self.old) peers.now r p (take part.entry.lines (lines_in text.now))) }
-        ensures run { (p : Part) → Heads peers.now (lines_of_texts (take part.entry.lines (lines_in text.now))) part.entry.head p → IfOk result (λ place. place ≡ None → IsAt self.new (after_all (script_of self.old) r (part_entries peers.now (due_part r.state p)))) }
+        ensures run { (p : Part) → Heads peers.now (lines_of_texts (take part.entry.lines (lines_in text.now))) part.entry.head p → IfOk result (λ place. place ≡ None → Makes (script_of self.old) r (part_entries peers.now (due_part r.state p)) self.old self.new) }
         ensures script { IfOk result (λ place. self.new.script ≡ self.old.script) }
     {
         let mut lines = DueLines::new(alloc, text, part.lines);

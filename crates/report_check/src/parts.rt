@@ -3,27 +3,26 @@
 ghost use Rattle.std.specs.Prelude.{◌≡◌, ◌∷◌, [], ◌+◌, ◌-◌, ◌<◌, ◌≤◌, ◌^◌, ◌==◌, ℕ, true, List, None, Some, IfOk, OnOk, length, map};
 ghost use Rattle.std.specs.List.{AllByRecursion, flat_map};
 ghost use Rattle.board_model.specs.Journal.{Line, PlainAnswer, visit_lines, again, called, turned, turn_line, waits};
-ghost use Rattle.board_model.specs.Run.{after_all};
-ghost use Rattle.board_model.specs.Step.{RunState, after};
+ghost use Rattle.board_model.specs.Step.{RunState};
 ghost use Rattle.board_model.specs.Unjoined.{idle_turn, times as many, visit_in};
 ghost use Rattle.mc_base.specs.declared.refusal.Refusal.{Refusal as Word};
 ghost use Rattle.report_text.specs.StepPass.{before_last, due_call, due_lines as due_of, due_visits, idle_place, idle_visits, other_than, spin_due};
 ghost use Rattle.report_text.specs.TextLines.{or_else};
-ghost use Rattle.board_model.specs.Turn.{after_turn};
 ghost use Rattle.report_check.specs.Meeting.{Meets};
 ghost use Rattle.report_check.specs.Doing.{HasPeers};
+ghost use Rattle.report_check.specs.NamedStates.{GoesOn, plain, turn_deeds};
 ghost use Rattle.report_check.specs.ToldTurns.{AreShort, IsToldTurn};
 ghost use Rattle.report_replay.specs.Effects.{HasOwnAddresses};
-ghost use Rattle.report_check.specs.Runs.{HasFitLines, IsAt, script_of, told_by};
+ghost use Rattle.report_check.specs.Runs.{HasFitLines, IsAt, Makes, script_of, told_by};
 
 use crate::due_call::place_after;
 use crate::due_lines::DueLines;
+use crate::named_state::NamedState;
 use crate::run::{Run, Waiting, capped};
 use crate::told_turn::{ToldTurn, read_told};
 use crate::turn::turn;
 use mc_base::NoMemory;
 use mc_journal::Entry;
-use report_replay::State;
 use std::alloc::Global;
 
 impl Run<'_> {
@@ -48,7 +47,7 @@ impl Run<'_> {
         requires first { lines.old.place ≡ 0 }
         requires lines { HasFitLines self.old }
         ensures place { IfOk result (λ place. place ≡ other_than (due_call (script_of self.old) r) lines.old.texts) }
-        ensures run { (word : Word) → OnOk result (IsAt self.new (after (script_of self.old) r (again word))) }
+        ensures run { (word : Word) → OnOk result (Makes (script_of self.old) r (again word ∷ []) self.old self.new) }
         ensures script { self.new.script ≡ self.old.script }
     {
         let place = self.place(None, lines)?;
@@ -64,7 +63,7 @@ impl Run<'_> {
         requires first { lines.old.place ≡ 0 }
         requires lines { HasFitLines self.old }
         ensures place { IfOk result (λ place. place ≡ other_than (due_call (script_of self.old) r) lines.old.texts) }
-        ensures run { (k : ℕ) → OnOk result (IsAt self.new (after (script_of self.old) r (waits k))) }
+        ensures run { (k : ℕ) → OnOk result (Makes (script_of self.old) r (waits k ∷ []) self.old self.new) }
         ensures script { self.new.script ≡ self.old.script }
     {
         let place = self.place(None, lines)?;
@@ -89,7 +88,7 @@ impl Run<'_> {
         requires own { HasOwnAddresses r.state }
         requires lines { HasFitLines self.old }
         ensures place { IfOk result (λ place. place ≡ other_than (due_call (script_of self.old) r) lines.old.texts) }
-        ensures run { (k : ℕ) (a : PlainAnswer) → IfOk result (λ place. place ≡ None → IsAt self.new (after (script_of self.old) r (called k a))) }
+        ensures run { (k : ℕ) (a : PlainAnswer) → IfOk result (λ place. place ≡ None → Makes (script_of self.old) r (called k a ∷ []) self.old self.new) }
         ensures script { IfOk result (λ place. self.new.script ≡ self.old.script) }
     {
         let next = self.next_call();
@@ -106,10 +105,11 @@ impl Run<'_> {
     /// Whether no line is due in a turn in which the lanes show nothing.
     fn is_idle(&mut self, alloc: Global, peers: &[u8], room: &mut [u8]) -> Result<bool, NoMemory>
         requires peers { AllByRecursion (λ n. n < 8) peers.now }
-        requires known { HasPeers self.old.state peers.now }
-        ensures idle { IfOk result (λ is. is ≡ (length (flat_map visit_lines (due_visits self.old.state (idle_visits peers.now))) == 0)) }
-        ensures run { IfOk result (λ is. is ≡ true → self.new ≡ self.old) }
+        requires known { HasPeers (plain self.old.state) peers.now }
+        ensures idle { IfOk result (λ is. is ≡ (length (flat_map visit_lines (due_visits (plain self.old.state) (idle_visits peers.now))) == 0)) }
+        ensures run { self.new ≡ record self.old { state = self.new.state } }
         ensures script { IfOk result (λ is. self.new.script ≡ self.old.script) }
+        ensures deeds { IfOk result (λ is. is ≡ true → GoesOn self.old.state self.new.state (turn_deeds (idle_visits peers.now))) }
     {
         let mut lines = DueLines::new(alloc, &[], 0);
         let told = read_told(&[], 0, room);
@@ -131,7 +131,7 @@ impl Run<'_> {
         requires known { HasPeers r.state peers.now }
         requires some { 1 ≤ count }
         ensures place { IfOk result (λ place. place ≡ idle_place peers.now r) }
-        ensures run { IfOk result (λ place. place ≡ None → IsAt self.new (after_all (script_of self.old) r (many count (idle_turn peers.now ∷ [])))) }
+        ensures run { IfOk result (λ place. place ≡ None → Makes (script_of self.old) r (many count (idle_turn peers.now ∷ [])) self.old self.new) }
         ensures script { IfOk result (λ place. self.new.script ≡ self.old.script) }
     {
         if !self.is_idle(alloc, peers, room)? {
@@ -159,7 +159,7 @@ impl Run<'_> {
         requires first { lines.old.place ≡ 0 }
         requires lines { HasFitLines self.old }
         ensures place { IfOk result (λ place. place ≡ or_else (idle_place peers.now r) (other_than (spin_due count (due_call (script_of self.old) (before_last (script_of self.old) peers.now count r))) lines.old.texts)) }
-        ensures run { (word : Word) → IfOk result (λ place. place ≡ None → IsAt self.new (after_all (script_of self.old) r (many count (idle_turn peers.now ∷ again word ∷ [])))) }
+        ensures run { (word : Word) → IfOk result (λ place. place ≡ None → Makes (script_of self.old) r (many count (idle_turn peers.now ∷ again word ∷ [])) self.old self.new) }
         ensures script { IfOk result (λ place. self.new.script ≡ self.old.script) }
     {
         if !self.is_idle(alloc, peers, room)? {
@@ -189,7 +189,7 @@ impl Run<'_> {
         requires known { HasPeers r.state peers.now }
         requires first { lines.old.place ≡ 0 }
         ensures place { (ls : List Line) → IsToldTurn told.now ls → IfOk result (λ place. place ≡ other_than (turn_line ∷ due_of r (map (visit_in ls) peers.now)) lines.old.texts) }
-        ensures run { (ls : List Line) → IsToldTurn told.now ls → IfOk result (λ place. place ≡ None → IsAt self.new (after (script_of self.old) r (turned (due_visits r.state (map (visit_in ls) peers.now))))) }
+        ensures run { (ls : List Line) → IsToldTurn told.now ls → IfOk result (λ place. place ≡ None → Makes (script_of self.old) r (turned (due_visits r.state (map (visit_in ls) peers.now)) ∷ []) self.old self.new) }
         ensures script { IfOk result (λ place. self.new.script ≡ self.old.script) }
     {
         self.note_turns(1);
@@ -200,7 +200,7 @@ impl Run<'_> {
 
 /// Compares the next lines with those of the turn that is due, and makes it.
 fn meets_turn(
-    state: &mut State,
+    state: &mut NamedState,
     alloc: Global,
     peers: &[u8],
     told: &ToldTurn<'_>,
@@ -209,8 +209,8 @@ fn meets_turn(
 ) -> Result<bool, NoMemory>
     requires peers { AllByRecursion (λ n. n < 8) peers.now }
     requires room { AreShort (length room.old) told.now }
-    ensures lines { (ls : List Line) → IsToldTurn told.now ls → HasPeers state.old peers.now → IfOk result (λ is. Meets lines.old lines.new (turn_line ∷ flat_map visit_lines (due_visits state.old (map (visit_in ls) peers.now))) is) }
-    ensures state { (ls : List Line) → IsToldTurn told.now ls → HasPeers state.old peers.now → IfOk result (λ is. is ≡ true → state.new ≡ after_turn state.old (due_visits state.old (map (visit_in ls) peers.now))) }
+    ensures lines { (ls : List Line) → IsToldTurn told.now ls → HasPeers (plain state.old) peers.now → IfOk result (λ is. Meets lines.old lines.new (turn_line ∷ flat_map visit_lines (due_visits (plain state.old) (map (visit_in ls) peers.now))) is) }
+    ensures state { (ls : List Line) → IsToldTurn told.now ls → HasPeers (plain state.old) peers.now → IfOk result (λ is. is ≡ true → GoesOn state.old state.new (turn_deeds (due_visits (plain state.old) (map (visit_in ls) peers.now)))) }
 {
     if !lines.meets(Entry::Turn)? {
         return Ok(false);

@@ -1,8 +1,9 @@
 //! A domain on its way through its script.
 
-ghost use Rattle.std.specs.Prelude.{◌≡◌, ◌+◌, ◌^◌, ℕ, Some, IfSome, OnOk, map, option_map, slice_get};
+ghost use Rattle.std.specs.Prelude.{◌≡◌, [], ◌+◌, ◌^◌, ℕ, Some, IfSome, OnOk, map, option_map, slice_get};
 ghost use Rattle.board_model.specs.Answer.{answer as answer_in, refusal as refusal_of};
 ghost use Rattle.board_model.specs.Journal.{PlainAnswer, called};
+ghost use Rattle.board_model.specs.JournalDeeds.{call_deeds};
 ghost use Rattle.board_model.specs.Labels.{Labels as PlainLabels, labels_after};
 ghost use Rattle.board_model.specs.Step.{RunState, after, is_done_now, next_line as line_next};
 ghost use Rattle.mc_journal.specs.Entry.{plain_answer};
@@ -10,14 +11,17 @@ ghost use Rattle.report_replay.specs.HeldLabels.{HoldLabels};
 ghost use Rattle.report_replay.specs.Effects.{HasOwnAddresses};
 ghost use Rattle.report_replay.specs.PlainCalls.{plain_call};
 ghost use Rattle.report_replay.specs.Puts.{FitsFrame};
+ghost use Rattle.report_replay.specs.Unnamed.{unnamed};
 ghost use Rattle.report_text.specs.StepPass.{lines_left as lines_behind};
+ghost use Rattle.report_check.specs.NamedStates.{GoesOn, HasDone, plain};
 ghost use Rattle.report_check.specs.Runs.{HasFitLines, IsAt, IsNext, begun, capped as cap, script_of, seen, tried_more, turned_more};
 
+use crate::named_state::NamedState;
 use crate::next_call::{NextCall, is_done};
 use board_model::CallLine;
 use mc_base::NoMemory;
 use mc_journal::Answer;
-use report_replay::{Labels, State};
+use report_replay::{FrameNames, Labels, State};
 use std::alloc::Global;
 
 /// A wait that has begun: how many turns were made since, and whether one of its requests was complete before the last of them.
@@ -30,7 +34,7 @@ pub(crate) struct Waiting {
 /// A domain on its way through its script.
 #[derive(Drop)]
 pub struct Run<'s> {
-    pub(crate) state: State,
+    pub(crate) state: NamedState,
     pub(crate) labels: Labels<'s>,
     pub(crate) script: &'s [&'s CallLine],
     pub(crate) called: usize,
@@ -49,11 +53,12 @@ pub(crate) fn capped(count: u64, more: u64) -> u64
 impl<'s> Run<'s> {
     /// Begins a domain's way through these lines of its script.
     pub fn new(alloc: Global, state: State, script: &'s [&'s CallLine]) -> Run<'s>
-        ensures at { IsAt result (begun state) }
+        ensures at { IsAt result (begun (unnamed state)) }
+        ensures done { HasDone state [] result.state }
         ensures script { script_of result ≡ map (λ l. l.now) script.now }
     {
         Run {
-            state,
+            state: NamedState::new(alloc, state),
             labels: Labels::new(alloc),
             script,
             called: 0,
@@ -70,11 +75,12 @@ impl<'s> Run<'s> {
         self.script.len().saturating_sub(self.called)
     }
 
-    /// The state of the domain.
-    pub fn into_state(self) -> State
-        ensures { (r : RunState) → IsAt self.entry r → result ≡ r.state }
+    /// The state of the domain, and the places of the frames whose buffers it gave back.
+    pub fn into_state(self) -> (State, FrameNames)
+        ensures state { result.0 ≡ self.entry.state.state }
+        ensures given { result.1 ≡ self.entry.state.given }
     {
-        self.state
+        (self.state.state, self.state.given)
     }
 
     /// The line that is called next.
@@ -93,8 +99,8 @@ impl<'s> Run<'s> {
         ensures fits { HasFitLines self.now → IfSome result (λ n. FitsFrame (plain_call n.call)) }
     {
         let line = self.next_line()?;
-        let call = self.labels.call_of(&self.state, &line.call);
-        let refusal = self.state.refusal(line.node, &call);
+        let call = self.labels.call_of(&self.state.state, &line.call);
+        let refusal = self.state.state.refusal(line.node, &call);
         Some(NextCall {
             line,
             call,
@@ -104,12 +110,15 @@ impl<'s> Run<'s> {
 
     /// The answer of a call.
     pub(crate) fn answer(&self, next: &NextCall<'_>) -> Answer<'_>
-        requires { next.now.refusal ≡ refusal_of self.now.state next.now.line.now.node (plain_call next.now.call) }
-        ensures { plain_answer result ≡ answer_in self.now.state next.now.line.now.node (plain_call next.now.call) }
+        requires { next.now.refusal ≡ refusal_of self.now.state.state next.now.line.now.node (plain_call next.now.call) }
+        ensures { plain_answer result ≡ answer_in self.now.state.state next.now.line.now.node (plain_call next.now.call) }
     {
         match next.refusal {
             Some(word) => Answer::Refused(word),
-            None => self.state.answer_of_success(next.line.node, &next.call),
+            None => self
+                .state
+                .state
+                .answer_of_success(next.line.node, &next.call),
         }
     }
 
@@ -155,9 +164,10 @@ impl<'s> Run<'s> {
         requires labels { HoldLabels self.old.labels ls }
         requires line { line_next (script_of self.old) (seen self.old ls) ≡ Some next.line.now }
         requires call { IsNext next (seen self.old ls) }
-        requires own { HasOwnAddresses self.old.state }
-        ensures labels { OnOk result (HoldLabels self.new.labels (labels_after ls self.old.state next.entry.line.now)) }
-        ensures run { OnOk result ((k : ℕ) (a : PlainAnswer) → seen self.new (labels_after ls self.old.state next.entry.line.now) ≡ after (script_of self.old) (seen self.old ls) (called k a)) }
+        requires own { HasOwnAddresses (plain self.old.state) }
+        ensures labels { OnOk result (HoldLabels self.new.labels (labels_after ls (plain self.old.state) next.entry.line.now)) }
+        ensures run { OnOk result ((k : ℕ) (a : PlainAnswer) → seen self.new (labels_after ls (plain self.old.state) next.entry.line.now) ≡ after (script_of self.old) (seen self.old ls) (called k a)) }
+        ensures deeds { (a : PlainAnswer) → OnOk result (GoesOn self.old.state self.new.state (call_deeds (Some next.entry.line.now) (seen self.old ls) a)) }
         ensures script { OnOk result (self.new.script ≡ self.old.script) }
     {
         self.called += 1;
@@ -165,7 +175,7 @@ impl<'s> Run<'s> {
         self.turned = false;
         self.waited = None;
         if next.refusal.is_none() {
-            self.labels.note(&self.state, next.line, &next.call)?;
+            self.labels.note(&self.state.state, next.line, &next.call)?;
             self.state.succeed(alloc, next.line.node, &next.call)?;
         }
         Ok(())

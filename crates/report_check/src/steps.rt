@@ -13,7 +13,7 @@ use crate::part_walk::{PartsWalked, walk_parts};
 use crate::run::Run;
 use board_model::{CallLine, DomainLine, Scenario};
 use mc_base::NoMemory;
-use report_replay::State;
+use report_replay::{FrameNames, State};
 use report_text::{
     CheckReason, JournalLines, Numbered, neighbours_of_domain, numbers, script_puts,
 };
@@ -22,10 +22,12 @@ use std::alloc::Global;
 /// What the second pass finds of a domain's journal.
 #[derive(Drop)]
 pub enum Walked<'a> {
-    /// Each line is the one that was due, and the script is at its end. The domain is left in this state, and behind its journal stands
-    /// this text, which begins with the line of this number.
+    /// Each line is the one that was due, and the script is at its end. The domain is left in this state, it gave back the buffers of the
+    /// frames with these places among those taken from each peer, and behind its journal stands this text, which begins with the line of this
+    /// number.
     Right {
         state: State,
+        given: FrameNames,
         line: u32,
         behind: &'a [u8],
     },
@@ -117,8 +119,10 @@ pub fn walk<'a>(
                     reason: CheckReason::Script,
                 });
             }
+            let (state, given) = run.into_state();
             Ok(Walked::Right {
-                state: run.into_state(),
+                state,
+                given,
                 line: number,
                 behind,
             })

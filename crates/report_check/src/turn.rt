@@ -9,13 +9,14 @@ ghost use Rattle.mc_journal.specs.Entry.{line_of_entry};
 ghost use Rattle.report_text.specs.StepPass.{due_takes, due_visit, due_visits};
 ghost use Rattle.report_check.specs.Doing.{AreVisited, HasPeers, PutsDone, TakesDone, VisitDone, owed_first};
 ghost use Rattle.report_check.specs.Meeting.{Meets};
+ghost use Rattle.report_check.specs.NamedStates.{plain};
 ghost use Rattle.report_check.specs.ToldTurns.{AreShort, HasShortLines, IsToldPeer, IsToldTurn, frame_told};
 
 use crate::due_lines::DueLines;
+use crate::named_state::NamedState;
 use crate::told_turn::{ToldPeer, ToldTurn, told_frame};
 use mc_base::NoMemory;
 use mc_journal::Entry;
-use report_replay::State;
 use std::alloc::Global;
 
 /// Compares the line of a look with the next. A look that showed nothing has none.
@@ -30,24 +31,24 @@ fn meets_look(lines: &mut DueLines<'_>, look: Entry<'_>, count: u32) -> Result<b
 
 /// Puts the owed frames to a peer, so many at most, as long as a buffer is free, and compares their lines with the next.
 fn put_owed_frames(
-    state: &mut State,
+    state: &mut NamedState,
     peer: u8,
     most: u8,
     lines: &mut DueLines<'_>,
 ) -> Result<bool, NoMemory>
-    ensures { (p : Peer) → peer_of state.old peer ≡ Some p → IfOk result (λ is. PutsDone state.old state.new lines.old lines.new peer (owed_first most state.old.number p) is) }
+    ensures { (p : Peer) → peer_of (plain state.old) peer ≡ Some p → IfOk result (λ is. PutsDone state.old state.new lines.old lines.new peer (owed_first most state.old.state.number p) is) }
 {
     if most == 0 {
         return Ok(true);
     }
-    if state.free_to(peer) == 0 {
+    if state.state.free_to(peer) == 0 {
         return Ok(true);
     }
     let mut frame = [0; 512];
-    let Some(size) = state.owed_frame(peer, &mut frame) else {
+    let Some(size) = state.state.owed_frame(peer, &mut frame) else {
         return Ok(true);
     };
-    state.put_owed(peer);
+    state.state.put_owed(peer);
     let put = Entry::Put {
         peer,
         frame: &frame[..size],
@@ -60,21 +61,22 @@ fn put_owed_frames(
 
 /// Takes frames from a peer, each that of a line, and compares the lines that are due with the next.
 fn take_frames(
-    state: &mut State,
+    state: &mut NamedState,
     alloc: Global,
     peer: u8,
     takes: &[&[u8]],
     lines: &mut DueLines<'_>,
     room: &mut [u8],
 ) -> Result<bool, NoMemory>
-    requires { AllByRecursion (λ l. length l.now ≤ length room.old) takes.now }
-    ensures { IfOk result (λ is. TakesDone state.old state.new lines.old lines.new peer (due_takes state.old peer (map (λ l. frame_told l.now) takes.now)) is) }
+    requires peer { peer < 8 }
+    requires room { AllByRecursion (λ l. length l.now ≤ length room.old) takes.now }
+    ensures { IfOk result (λ is. TakesDone state.old state.new lines.old lines.new peer (due_takes (plain state.old) peer (map (λ l. frame_told l.now) takes.now)) is) }
 {
     let [first, others @ ..] = takes else {
         return Ok(true);
     };
     let frame = told_frame(first, room);
-    let fate = state.take(alloc, peer, None, frame)?;
+    let fate = state.take(alloc, peer, frame)?;
     if !lines.meets(Entry::Take { peer, frame, fate })? {
         return Ok(false);
     }
@@ -83,24 +85,25 @@ fn take_frames(
 
 /// Makes the visit that is due at a peer where its lanes show what is told, and compares its lines with the next.
 fn visit(
-    state: &mut State,
+    state: &mut NamedState,
     alloc: Global,
     peer: u8,
     told: &ToldPeer<'_>,
     lines: &mut DueLines<'_>,
     room: &mut [u8],
 ) -> Result<bool, NoMemory>
-    requires { HasShortLines (length room.old) told.now }
-    ensures { (ls : List Line) (p : Peer) → IsToldPeer told.now (visit_in ls peer) → peer_of state.old peer ≡ Some p → IfOk result (λ is. VisitDone state.old state.new lines.old lines.new (due_visit state.old (visit_in ls peer)) is) }
+    requires peer { peer < 8 }
+    requires room { HasShortLines (length room.old) told.now }
+    ensures { (ls : List Line) (p : Peer) → IsToldPeer told.now (visit_in ls peer) → peer_of (plain state.old) peer ≡ Some p → IfOk result (λ is. VisitDone state.old state.new lines.old lines.new (due_visit (plain state.old) (visit_in ls peer)) is) }
 {
-    let back = state.look_back(peer, told.back);
+    let back = state.state.look_back(peer, told.back);
     if !meets_look(lines, Entry::Back { peer, count: back }, back)? {
         return Ok(false);
     }
     if !put_owed_frames(state, peer, 8, lines)? {
         return Ok(false);
     }
-    let see = state.look_ahead(peer, told.see);
+    let see = state.state.look_ahead(peer, told.see);
     if !meets_look(lines, Entry::See { peer, count: see }, see)? {
         return Ok(false);
     }
@@ -115,7 +118,7 @@ fn visit(
 ///
 /// `NoMemory` where an allocation fails.
 pub fn turn(
-    state: &mut State,
+    state: &mut NamedState,
     alloc: Global,
     peers: &[u8],
     told: &ToldTurn<'_>,
@@ -124,7 +127,7 @@ pub fn turn(
 ) -> Result<bool, NoMemory>
     requires peers { AllByRecursion (λ n. n < 8) peers.now }
     requires room { AreShort (length room.old) told.now }
-    ensures { (ls : List Line) → IsToldTurn told.now ls → HasPeers state.old peers.now → IfOk result (λ is. AreVisited state.old state.new lines.old lines.new (due_visits state.old (map (visit_in ls) peers.now)) is) }
+    ensures { (ls : List Line) → IsToldTurn told.now ls → HasPeers (plain state.old) peers.now → IfOk result (λ is. AreVisited state.old state.new lines.old lines.new (due_visits (plain state.old) (map (visit_in ls) peers.now)) is) }
 {
     let [first, others @ ..] = peers else {
         return Ok(true);

@@ -10,25 +10,32 @@ ghost use Rattle.report_check.specs.Walks.{AreReady, WalksOn, left_of};
 use crate::steps::{Walked, walk};
 use board_model::{DomainLine, Scenario};
 use mc_base::NoMemory;
-use report_replay::State;
+use report_replay::{FrameNames, State};
 use report_text::{JournalLines, Verdict, cut};
 use std::alloc::Global;
 
-/// The journals that were walked, each with the state in which it leaves its domain, and the text behind them, with the number of its first
-/// line.
+/// The journals that were walked, each with the state in which it leaves its domain and the places of the frames whose buffers the domain gave
+/// back, and the text behind them, with the number of its first line.
 #[derive(Drop)]
 pub struct Walks<'a> {
     pub journals: Vec<JournalLines<'a>>,
     pub states: Vec<State>,
+    pub given: Vec<FrameNames>,
     pub line: u32,
     pub behind: &'a [u8],
 }
 
 impl<'a> Walks<'a> {
     /// Adds a journal that was walked.
-    fn add(&mut self, journal: JournalLines<'a>, state: State) -> Result<(), NoMemory>
+    fn add(
+        &mut self,
+        journal: JournalLines<'a>,
+        state: State,
+        given: FrameNames,
+    ) -> Result<(), NoMemory>
         ensures journals { OnOk result (self.new.journals.items ≡ self.old.journals.items ++ journal.entry ∷ []) }
         ensures states { OnOk result (self.new.states.items ≡ self.old.states.items ++ state ∷ []) }
+        ensures given { OnOk result (self.new.given.items ≡ self.old.given.items ++ given ∷ []) }
         ensures line { self.new.line ≡ self.old.line }
         ensures behind { self.new.behind ≡ self.old.behind }
     {
@@ -36,6 +43,9 @@ impl<'a> Walks<'a> {
             return Err(NoMemory);
         }
         if self.states.push(state).is_err() {
+            return Err(NoMemory);
+        }
+        if self.given.push(given).is_err() {
             return Err(NoMemory);
         }
         Ok(())
@@ -74,10 +84,11 @@ impl<'a> Walks<'a> {
         match walk(alloc, scenario, *line, journal, room)? {
             Walked::Right {
                 state,
+                given,
                 line,
                 behind,
             } => {
-                self.add(journal, state)?;
+                self.add(journal, state, given)?;
                 self.line = line;
                 self.behind = behind;
                 self.walk_on(alloc, scenario, others, room)

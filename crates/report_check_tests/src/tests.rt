@@ -1,12 +1,19 @@
 use crate::changes::{Change, link, right, script, step, text, total};
 use crate::reports::{
-    CHANNELS, EACH_AFTER_THE_OTHER, EIGHT_DOMAINS, MESSAGE, NO_CALL, RAW_FRAMES, RINGS,
-    TAKEN_BEFORE_IT_IS_PUT, WAITS,
+    CHANNELS, EACH_AFTER_THE_OTHER, EIGHT_DOMAINS, MESSAGE, NO_CALL, OUT_OF_ORDER,
+    OWN_OUT_OF_ORDER, RAW_FRAMES, RINGS, TAKEN_BEFORE_IT_IS_PUT, WAITS,
 };
 use report_check::{CheckReason, Verdict, check};
 use std::alloc::{AllocError, Global};
 use std::process::Abort;
 use std::test::Fail;
+
+/// The lines of rings of `OUT_OF_ORDER`, each with the other's image.
+const FIRST_WITH_SECOND: &[u8] =
+    b"ring 0 1 0 00080000000000001c00000000000000000a0000000000001900000000000000000c0000000000001a00000000000000000e0000000000001b00000000000000000005000000010002000300000000000000050000000000000000000300000000000000020000000000000001000000000000000000\n";
+
+const SECOND_WITH_FIRST: &[u8] =
+    b"ring 0 1 1 00000000000000000002000002000000000200000000000000020000020000000004000000000000000200000200000000060000000000000002000002000000000006000000010002000300000000000000020000000000380000000100000038000000000000000000000000000000000000000000\n";
 
 fn has_verdict(alloc: Global, report: &[u8], verdict: Verdict) -> bool {
     if report.len() >= 1_000_000 {
@@ -86,6 +93,8 @@ fn reports_of_runs_are_right(rt: HostRuntime) {
         TAKEN_BEFORE_IT_IS_PUT,
         EACH_AFTER_THE_OTHER,
         RINGS,
+        OUT_OF_ORDER,
+        OWN_OUT_OF_ORDER,
     ];
     for (i, report) in reports.iter().enumerate() {
         assert!(rt;
@@ -194,7 +203,43 @@ fn numbers_that_the_journals_do_not_give(rt: HostRuntime) -> Result<(), Fail> {
     assert_wrong(&rt, alloc, RAW_FRAMES, &total::IN_RAW_FRAMES, reason)?;
     assert_wrong(&rt, alloc, CHANNELS, &total::IN_CHANNELS, reason)?;
     assert_wrong(&rt, alloc, EIGHT_DOMAINS, &total::IN_EIGHT_DOMAINS, reason)?;
-    assert_wrong(&rt, alloc, RINGS, &total::IN_RINGS, reason)
+    assert_wrong(&rt, alloc, RINGS, &total::IN_RINGS, reason)?;
+    assert_wrong(&rt, alloc, OUT_OF_ORDER, &total::IN_OUT_OF_ORDER, reason)?;
+    assert_wrong(
+        &rt,
+        alloc,
+        OWN_OUT_OF_ORDER,
+        &total::IN_OWN_OUT_OF_ORDER,
+        reason,
+    )
+}
+
+#[test]
+fn images_of_rings_that_are_swapped(rt: HostRuntime) -> Result<(), Fail> {
+    let alloc = rt.alloc();
+    let first = changed(alloc, OUT_OF_ORDER, 92, FIRST_WITH_SECOND)?;
+    let text = changed(alloc, &first, 93, SECOND_WITH_FIRST)?;
+    let verdict = Verdict::Wrong {
+        line: 92,
+        reason: CheckReason::Total,
+    };
+    assert!(rt; has_verdict(alloc, &text, verdict));
+    Ok(())
+}
+
+/// A serial run has no rings, so there is no buffer that could come back too early.
+#[test]
+fn buffers_that_come_back_before_their_frames_in_a_serial_run(rt: HostRuntime) -> Result<(), Fail> {
+    let alloc = rt.alloc();
+    let early = changed(alloc, OUT_OF_ORDER, 41, b"turn\nback 1 1\n")?;
+    let serial = changed(alloc, &early, 1, b"mcapi-report 1 serial\n")?;
+    let without_first = changed(alloc, &serial, 93, b"")?;
+    let without_rings = changed(alloc, &without_first, 93, b"")?;
+    assert!(rt; has_verdict(alloc, &without_rings, Verdict::Right));
+    let own_early = changed(alloc, OWN_OUT_OF_ORDER, 17, b"turn\nback 0 1\n")?;
+    let own_serial = changed(alloc, &own_early, 1, b"mcapi-report 1 serial\n")?;
+    assert!(rt; has_verdict(alloc, &own_serial, Verdict::Right));
+    Ok(())
 }
 
 /// A put line with a frame of so many bytes.

@@ -12,7 +12,7 @@ use Rattle.report_text.specs.JournalRead.{JournalText}
 use Rattle.report_text.specs.LaneLines.{LaneLine, came_back, puts, shows, takes, nothing, back_in, put_in}
 use Rattle.report_text.specs.LinkPass.{back_before}
 use Rattle.report_text.proofs.LeftLemmas.{got-set, get-other}
-use Rattle.report_rings.specs.RingPass.{given_to, is_back_of_put}
+use Rattle.report_text.specs.RingPass.{given_to, is_back_of_put}
 use Rattle.report_rings.specs.SenderLanes.{sent_on, size_to, numbers_after, AreAfter, FindBuffers, FindTheirs}
 use Rattle.report_rings.proofs.BuffersFound.{backs_of}
 

@@ -39,7 +39,7 @@ use Rattle.report_text.proofs.ReportsTold.{journals-right}
 use Rattle.report_text.proofs.RightReports.{right_reports}
 use Rattle.report_text.proofs.RunsTold.{IsRight, rising-lawful}
 use Rattle.report_totals.specs.PassedReports.{IsPassed}
-use Rattle.report_rings.specs.RingPass.{given_to}
+use Rattle.report_text.specs.RingPass.{given_to}
 use Rattle.report_rings.specs.ReadJournals.{IsSized, image_told, ring_told}
 use Rattle.report_rings.specs.ToldRings.{texts_of}
 use Rattle.report_rings.specs.SenderLanes.{FindTheirs, AllFindTheirs, numbers_told, sent_on, size_to}

@@ -1,20 +1,16 @@
 -- The lines that show the images of rings, piece by piece; and the lines of a text of such lines.
-use Rattle.std.proofs.Common.{◌≡◌, ℕ, ◌+◌, ◌<◌, ◌/◌, ◌%◌, Bool, true, false, cond, List, [], ◌∷◌, ◌++◌, length, Some, refl, ap, ◌∙◌, arith, append_assoc}
+use Rattle.std.proofs.Common.{◌≡◌, ℕ, ◌+◌, ◌<◌, ◌/◌, ◌%◌, Bool, true, false, cond, List, [], ◌∷◌, ◌++◌, length, refl, ap, ◌∙◌, arith, append_assoc}
 use Rattle.std.specs.Prelude.{codes, decimal, nat_lt, not, ◌==◌}
-use Rattle.std.specs.List.{AllByRecursion, flat_map, list_all}
+use Rattle.std.specs.List.{flat_map, list_all}
 use Rattle.std.proofs.lemmas.Bool.{and_from}
 use Rattle.std.proofs.lemmas.Bool.Decides.{nat_tests}
-use Rattle.std.proofs.lemmas.List.Folds.{list_all-append}
 use Rattle.mc_base.specs.Text.{hex_digit, hex_digits, hex_text}
 use Rattle.board_model.specs.declared.scenario.LinkLine.{LinkLine}
-use Rattle.board_model.specs.Grammar.{spaced, line_of}
 use Rattle.board_model.specs.Numerals.{is_other}
-use Rattle.mc_journal.specs.Readers.{cut_at}
-use Rattle.mc_journal.proofs.Cuts.{cut-found}
 use Rattle.ring_numbers.specs.RingTexts.{ring_text}
 use Rattle.report_text.specs.TextLines.{lines_in}
 use Rattle.report_text.proofs.KindsTold.{decimal-other}
-use Rattle.report_text.proofs.TextCuts.{lines-cut}
+use Rattle.report_totals.proofs.DueLines.{HasNone, line-first}
 
 pub ring-line : (driver device queue digits : List ℕ) → (codes "ring" ++ 32 ∷ (driver ++ 32 ∷ (device ++ 32 ∷ (queue ++ 32 ∷ digits)))) ++ 10 ∷ [] ≡ codes "ring " ++ (driver ++ (codes " " ++ (device ++ (codes " " ++ (queue ++ (codes " " ++ (digits ++ 10 ∷ [])))))))
 ring-line driver device queue digits = simp append_assoc
@@ -24,9 +20,6 @@ digits-some [] some = absurd (omega (arith, some))
 digits-some (b ∷ bs) some = refl
 
 -- ---- a line has one newline, its last byte
-
-abbrev HasNone : List ℕ → Type 0
-HasNone w = list_all (is_other 10) w ≡ true
 
 digit-other : (x : ℕ) → is_other 10 (hex_digit x) ≡ true
 digit-other x = go (nat_lt x 10)
@@ -41,20 +34,11 @@ digits-none (b ∷ bs) =
     and_from (is_other 10 (hex_digit (b / 16))) (list_all (is_other 10) (hex_digit (b % 16) ∷ hex_digits bs)) (digit-other (b / 16))
     (and_from (is_other 10 (hex_digit (b % 16))) (list_all (is_other 10) (hex_digits bs)) (digit-other (b % 16)) (digits-none bs))
 
-spaced-none : (ws : List (List ℕ)) → AllByRecursion HasNone ws → HasNone (spaced ws)
-spaced-none [] all = refl
-spaced-none (w ∷ []) all = all.0
-spaced-none (w ∷ v ∷ ws) all =
-    list_all-append (is_other 10) w (32 ∷ spaced (v ∷ ws))
-    ∙ and_from (list_all (is_other 10) w) (list_all (is_other 10) (spaced (v ∷ ws))) all.0 (spaced-none (v ∷ ws) all.1)
-
 -- the line of a ring is the first of a text that begins with it
 pub ring-first : (l : LinkLine) (queue : ℕ) (image rest : List ℕ) → lines_in (ring_text l queue image ++ rest) ≡ ring_text l queue image ∷ lines_in rest
 ring-first l queue image rest =
     let words : List (List ℕ) = codes "ring" ∷ decimal l.driver ∷ decimal l.device ∷ decimal queue ∷ hex_digits image ∷ [] in
-    let none : HasNone (spaced words) = spaced-none words (refl, (decimal-other 10 (omega arith) l.driver, (decimal-other 10 (omega arith) l.device, (decimal-other 10 (omega arith) queue, (digits-none image, tt))))) in
-    let cut : cut_at 10 (line_of words ++ rest) ≡ Some (spaced words, rest) = ap (cut_at 10) (append_assoc (spaced words) (10 ∷ []) rest) ∙ cut-found 10 (spaced words) rest none in
-    lines-cut (line_of words ++ rest) (spaced words, rest) cut
+    line-first words (refl, (decimal-other 10 (omega arith) l.driver, (decimal-other 10 (omega arith) l.device, (decimal-other 10 (omega arith) queue, (digits-none image, tt))))) rest
 
 -- the lines of a text that begins with the lines of two rings for each link
 pub rings-first : (image : LinkLine → ℕ → List ℕ) (ls : List LinkLine) (rest : List ℕ) → lines_in (flat_map (λ line. line) (flat_map (λ l. ring_text l 0 (image l 0) ∷ ring_text l 1 (image l 1) ∷ []) ls) ++ rest) ≡ flat_map (λ l. ring_text l 0 (image l 0) ∷ ring_text l 1 (image l 1) ∷ []) ls ++ lines_in rest

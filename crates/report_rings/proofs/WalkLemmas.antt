@@ -8,7 +8,7 @@ use Rattle.report_text.specs.LaneLines.{LaneLine, lane_lines, lanes_of, lanes_to
 use Rattle.report_text.specs.TextLines.{moved, or_else}
 use Rattle.report_text.proofs.LeftLemmas.{whole}
 use Rattle.report_rings.specs.declared.lanes.DomainLanes.{DomainLanes}
-use Rattle.report_rings.specs.RingPass.{back_place, given_to, wrong_back, wrong_back_among}
+use Rattle.report_text.specs.RingPass.{back_place, given_to, wrong_back, wrong_back_among}
 use Rattle.report_rings.specs.SenderLanes.{AreAfter, FindTheirs, AllFindTheirs, IsWalked, AreWalked}
 
 -- the first of these journals, and the others

@@ -7,8 +7,7 @@ use Rattle.report_text.specs.declared.link_pass.JournalLines.{JournalLines}
 use Rattle.report_text.specs.JournalRead.{JournalText}
 use Rattle.report_text.specs.LaneLeft.{IsTold, AreTold}
 use Rattle.report_text.specs.LaneLines.{LaneLine, lane_lines}
-use Rattle.report_rings.specs.declared.given.GivenPlaces.{GivenPlaces}
-use Rattle.report_rings.specs.RingPass.{given_to, is_back_of_put, back_place}
+use Rattle.report_text.specs.RingPass.{given_to, is_back_of_put, back_place}
 use Rattle.report_rings.specs.SenderLanes.{AreAfter, AreJournals, FindTheirs, AllFindTheirs}
 
 -- whether a line fits, by the lanes behind the lines before it
@@ -27,8 +26,8 @@ abbrev pub LeadAlong : List LaneLine → List Numbers → List Numbers → Type 
 LeadAlong lines old new = (s : Scenario) (js : List JournalText) (domain : ℕ) → AreAfter s js domain [] old → AreAfter s js domain lines new
 
 -- what holds of the texts of these journals and of one of them, where each frame finds a free buffer, or of some of them
-abbrev pub HoldsOfOne : Scenario → List JournalLines → List GivenPlaces → JournalLines → (List JournalText → JournalText → Type 0) → Type 0
+abbrev pub HoldsOfOne : Scenario → List JournalLines → List (List (List ℕ)) → JournalLines → (List JournalText → JournalText → Type 0) → Type 0
 HoldsOfOne s cs gs c P = (js : List JournalText) (t : JournalText) → AreJournals s js cs gs → IsTold t c → FindTheirs s js t.line.domain (lane_lines t) → P js t
 
-abbrev pub HoldsOfSome : Scenario → List JournalLines → List GivenPlaces → List JournalLines → (List JournalText → List JournalText → Type 0) → Type 0
+abbrev pub HoldsOfSome : Scenario → List JournalLines → List (List (List ℕ)) → List JournalLines → (List JournalText → List JournalText → Type 0) → Type 0
 HoldsOfSome s cs gs some P = (js ts : List JournalText) → AreJournals s js cs gs → AreTold ts some → AllFindTheirs s js ts → P js ts

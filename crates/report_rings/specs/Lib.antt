@@ -1,4 +1,3 @@
-pub mod RingPass
 pub mod ToldRings
 pub mod SenderLanes
 pub mod LaneWalks

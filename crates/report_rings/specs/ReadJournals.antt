@@ -7,7 +7,7 @@ use Rattle.board_model.specs.declared.scenario.Scenario.{Scenario}
 use Rattle.ring_numbers.specs.RingLists.{image_left}
 use Rattle.report_text.specs.JournalRead.{JournalText}
 use Rattle.report_rings.specs.declared.images.ReadJournals.{ReadJournals}
-use Rattle.report_rings.specs.RingPass.{given_to}
+use Rattle.report_text.specs.RingPass.{given_to}
 use Rattle.report_rings.specs.SenderLanes.{AreJournals, AreWalked, numbers_told, size_to}
 
 pub record Reads (s : Scenario) (js : List JournalText) (r : ReadJournals) : Type 0 where

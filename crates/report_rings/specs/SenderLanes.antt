@@ -1,36 +1,34 @@
 -- The lanes from a domain while its journal is read: the buffers of each by the lines that were read.
 -- Source: docs/FORMATS.md, "Report".
-use Rattle.std.specs.Prelude.{◌≡◌, ℕ, ◌<◌, ◌≤◌, ◌^◌, ◌==◌, List, [], ◌∷◌, length, find, slice_get, Some, option_map, unwrap_or, if◌then◌else◌}
+use Rattle.std.specs.Prelude.{◌≡◌, ℕ, ◌<◌, ◌≤◌, ◌^◌, ◌==◌, List, [], ◌∷◌, length, find, slice_get, Some, unwrap_or, if◌then◌else◌}
 use Rattle.std.specs.List.{AllByRecursion, flat_map}
 use Rattle.board_model.specs.declared.scenario.Scenario.{Scenario}
 use Rattle.board_model.specs.Given.{places_given}
 use Rattle.board_numbers.specs.Lanes.{buffers_between}
 use Rattle.ring_numbers.specs.SenderNumbers.{Numbers, Sending, comes_back, puts as puts_bytes, at_start, after_sending, after_all}
+use Rattle.report_replay.specs.Naming.{names_for}
 use Rattle.report_text.specs.declared.link_pass.JournalLines.{JournalLines}
 use Rattle.report_text.specs.JournalRead.{JournalText}
 use Rattle.report_text.specs.LaneLeft.{AreTold}
 use Rattle.report_text.specs.LaneLines.{LaneLine, came_back, puts, lane_lines}
 use Rattle.report_text.specs.LinkPass.{journal_told, lanes_in}
-use Rattle.report_rings.specs.declared.given.GivenPlaces.{GivenPlaces}
 use Rattle.report_rings.specs.declared.lanes.DomainLanes.{DomainLanes}
-use Rattle.report_rings.specs.RingPass.{given_to}
+use Rattle.report_text.specs.RingPass.{given_to}
 
 -- ---- which buffers are given back
 
-abbrev pub places_at : GivenPlaces → ℕ → List ℕ
-places_at g peer = unwrap_or (option_map (λ v. v.items) (slice_get g.peers peer)) []
+-- by a journal, in lists by the peers' numbers
+abbrev pub GivesBack : Scenario → JournalText → List (List ℕ) → Type 0
+GivesBack s j g = (peer : ℕ) → peer < 8 → names_for peer g ≡ places_given s (journal_told s j) peer
 
--- those of the journals at the same places
-abbrev pub GivesBack : Scenario → JournalText → GivenPlaces → Type 0
-GivesBack s j g = (peer : ℕ) → peer < 8 → places_at g peer ≡ places_given s (journal_told s j) peer
-
-abbrev pub AreGiven : Scenario → List JournalText → List GivenPlaces → Type 0
+-- by the journals at the same places
+abbrev pub AreGiven : Scenario → List JournalText → List (List (List ℕ)) → Type 0
 AreGiven s [] [] = Unit {0}
 AreGiven s (j ∷ js) (g ∷ gs) = GivesBack s j g × AreGiven s js gs
 AreGiven s js gs = ⊥
 
 -- the journals of a report, with what their domains give back
-pub record AreJournals (s : Scenario) (js : List JournalText) (cs : List JournalLines) (gs : List GivenPlaces) : Type 0 where
+pub record AreJournals (s : Scenario) (js : List JournalText) (cs : List JournalLines) (gs : List (List (List ℕ))) : Type 0 where
   pub told : AreTold js cs
   pub given : AreGiven s js gs
 

@@ -5,7 +5,7 @@ use Rattle.board_model.specs.Scenario.{rising}
 use Rattle.report_text.specs.JournalRead.{JournalText, journals_at}
 use Rattle.report_text.specs.LinkPass.{journal_told}
 use Rattle.report_text.specs.ScenarioPart.{Told}
-use Rattle.report_rings.specs.RingPass.{ring_texts, wrong_back_among}
+use Rattle.report_text.specs.RingPass.{ring_texts, wrong_back_among}
 
 abbrev pub texts_of : Told → List JournalText
 texts_of t = journals_at (rising t.scenario) t.behind

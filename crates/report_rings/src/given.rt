@@ -5,31 +5,15 @@ ghost use Rattle.board_model.specs.declared.scenario.Scenario.{Scenario};
 ghost use Rattle.ring_numbers.specs.BoardRings.{places_of};
 ghost use Rattle.report_text.specs.JournalRead.{JournalText};
 ghost use Rattle.report_text.specs.LinkPass.{journal_told};
-ghost use Rattle.report_rings.specs.SenderLanes.{AreJournals, places_at as places_of_peer};
+ghost use Rattle.report_rings.specs.SenderLanes.{AreJournals};
 
+use report_replay::FrameNames;
 use report_text::JournalLines;
-
-/// Which buffers a domain gives back in its whole journal, by the numbers of the peers that put their frames: the places of these frames, counted
-/// from 0 among those that the peer puts to the domain, in the order in which their buffers are given back.
-#[derive(Debug, Drop)]
-pub struct GivenPlaces {
-    pub peers: [Vec<u32>; 8],
-}
-
-/// The places of the frames from a peer.
-fn places_at(given: &GivenPlaces, peer: u8) -> &[u32]
-    ensures { result.now ≡ places_of_peer given.now peer }
-{
-    match given.peers.get(usize::from(peer)) {
-        Some(places) => places,
-        None => &[],
-    }
-}
 
 /// The places of the frames of a domain whose buffers another gives back. A domain that is not there gives none back.
 pub fn given_back<'a>(
     journals: &[JournalLines<'_>],
-    given: &'a [GivenPlaces],
+    given: &'a [FrameNames],
     receiver: u8,
     sender: u8,
 ) -> &'a [u32]
@@ -42,7 +26,7 @@ pub fn given_back<'a>(
         return &[];
     };
     if journal.domain == receiver {
-        return places_at(first, sender);
+        return first.from_peer(sender);
     }
     given_back(others, rest, receiver, sender)
 }

@@ -7,10 +7,11 @@ ghost use Rattle.report_text.specs.LaneLines.{LaneLine};
 ghost use Rattle.report_rings.specs.ReadJournals.{Reads, ReadsLane, ReadsLinks, image_told, ring_told};
 ghost use Rattle.report_rings.specs.SenderLanes.{AreAfter, AreWalked, numbers_after, numbers_told};
 
-use crate::given::{GivenPlaces, given_back};
+use crate::given::given_back;
 use crate::lanes::DomainLanes;
 use board_model::LinkLine;
 use mc_base::NoMemory;
+use report_replay::FrameNames;
 use report_text::JournalLines;
 use ring_numbers::{SenderNumbers, image_left};
 use std::alloc::Global;
@@ -20,7 +21,7 @@ use std::alloc::Global;
 #[derive(Clone, Copy)]
 pub struct ReadJournals<'a> {
     pub journals: &'a [JournalLines<'a>],
-    pub given: &'a [GivenPlaces],
+    pub given: &'a [FrameNames],
     pub lanes: &'a [DomainLanes],
 }
 

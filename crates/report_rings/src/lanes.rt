@@ -8,11 +8,12 @@ ghost use Rattle.report_text.specs.LaneLines.{lane_of};
 ghost use Rattle.report_rings.specs.LaneWalks.{LeadsOn, TellsFit};
 ghost use Rattle.report_rings.specs.SenderLanes.{AreAfter, AreJournals, HasShortFrame, size_to};
 
-use crate::given::{GivenPlaces, given_back};
+use crate::given::given_back;
 use board_model::Scenario;
 use board_numbers::{append, buffers_between};
 use mc_base::NoMemory;
 use mc_journal::Entry;
+use report_replay::FrameNames;
 use report_text::JournalLines;
 use ring_numbers::SenderNumbers;
 use std::alloc::Global;
@@ -40,7 +41,7 @@ pub fn open_lanes(
     alloc: Global,
     scenario: &Scenario,
     journals: &[JournalLines<'_>],
-    given: &[GivenPlaces],
+    given: &[FrameNames],
     sender: u8,
 ) -> Result<Vec<SenderNumbers>, NoMemory>
     requires lawful { IsLawfulBoard scenario.now }

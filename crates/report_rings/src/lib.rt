@@ -9,5 +9,4 @@ mod lines;
 mod pass;
 mod walk;
 
-pub use given::GivenPlaces;
 pub use pass::ring_lines;

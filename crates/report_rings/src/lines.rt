@@ -13,30 +13,8 @@ use crate::images::{ReadJournals, image_of_queue};
 use board_model::LinkLine;
 use mc_base::NoMemory;
 use outer_io::{Failed, Sink, Writer};
+use report_totals::TextSink;
 use std::alloc::Global;
-
-/// A text in memory. A write fails only where an allocation fails.
-#[derive(Drop)]
-struct TextSink {
-    text: Vec<u8>,
-    faults: u64,
-}
-
-impl Sink for TextSink {
-    ghost use Rattle.std.specs.Prelude.{Some};
-
-    ghost written = { λ s. Some s.text.items };
-
-    ghost faults = { λ s. s.faults };
-
-    fn write(&mut self, piece: &[u8]) -> Result<usize, Failed> {
-        if self.text.extend_from_slice(piece).is_err() {
-            self.faults = self.faults.saturating_add(1);
-            return Err(Failed);
-        }
-        Ok(piece.len())
-    }
-}
 
 /// The image of a ring, behind its link and its queue.
 fn put_ring<K: Sink>(out: &mut Writer<'_, K>, link: &LinkLine, queue: u8, image: &[u8])

@@ -2,17 +2,17 @@
 
 ghost use Rattle.std.specs.Prelude.{◌≡◌, ◌+◌, ◌<◌, ◌^◌, List, None, Some, IfErr, IfOk, length};
 ghost use Rattle.std.specs.List.{AllByRecursion, flat_map};
-ghost use Rattle.report_text.specs.TextLines.{lines_in};
 ghost use Rattle.report_text.specs.TextRead.{told_of};
 ghost use Rattle.report_totals.specs.PassedReports.{IsPassed};
+ghost use Rattle.report_totals.specs.WholeLines.{AreWholeLines};
 ghost use Rattle.report_rings.specs.SenderLanes.{AreJournals};
 ghost use Rattle.report_rings.specs.ToldRings.{ring_texts_of, texts_of, wrong_back_of};
 
-use crate::given::GivenPlaces;
 use crate::images::ReadJournals;
 use crate::lines::text_of_rings;
 use crate::walk::walk_journals;
 use mc_base::NoMemory;
+use report_replay::FrameNames;
 use report_text::{JournalLines, ReportText};
 use std::alloc::Global;
 
@@ -29,14 +29,14 @@ pub fn ring_lines(
     alloc: Global,
     told: &ReportText<'_>,
     journals: &[JournalLines<'_>],
-    given: &[GivenPlaces],
+    given: &[FrameNames],
 ) -> Result<Result<Vec<u8>, u32>, NoMemory>
     requires passed { IsPassed (told_of told.now) }
     requires journals { AreJournals told.now.scenario (texts_of (told_of told.now)) journals.now given.now }
     requires few { AllByRecursion (λ c. c.number + length c.text.now < 2 ^ 32) journals.now }
     ensures wrong { IfOk result (λ r. IfErr r (λ line. wrong_back_of (told_of told.now) ≡ Some line)) }
     ensures none { IfOk result (λ r. IfOk r (λ _. wrong_back_of (told_of told.now) ≡ None)) }
-    ensures lines { IfOk result (λ r. IfOk r (λ text. lines_in text.items ≡ ring_texts_of (told_of told.now))) }
+    ensures lines { IfOk result (λ r. IfOk r (λ text. AreWholeLines text.items (ring_texts_of (told_of told.now)))) }
     ensures text { IfOk result (λ r. IfOk r (λ text. text.items ≡ flat_map (λ line. line) (ring_texts_of (told_of told.now)))) }
 {
     let lanes = match walk_journals(alloc, &told.scenario, journals, given, journals)? {

@@ -8,13 +8,13 @@ ghost use Rattle.report_text.specs.LaneLeft.{AreTold, IsTold};
 ghost use Rattle.report_text.specs.LaneLines.{lanes_told};
 ghost use Rattle.report_text.specs.Texts.{longest_line as length_of_longest};
 ghost use Rattle.report_rings.specs.LaneWalks.{HoldsOfOne, HoldsOfSome, LeadAlong, TellsPlace};
-ghost use Rattle.report_rings.specs.RingPass.{wrong_back, wrong_back_among};
+ghost use Rattle.report_text.specs.RingPass.{wrong_back, wrong_back_among};
 ghost use Rattle.report_rings.specs.SenderLanes.{AreJournals, AreWalked, IsWalked};
 
-use crate::given::GivenPlaces;
 use crate::lanes::{DomainLanes, note_entry, open_lanes};
 use board_model::Scenario;
 use mc_base::NoMemory;
+use report_replay::FrameNames;
 use report_text::{JournalLines, longest_line, next_entry};
 use ring_numbers::SenderNumbers;
 use std::alloc::Global;
@@ -51,7 +51,7 @@ fn walk_journal(
     alloc: Global,
     scenario: &Scenario,
     journals: &[JournalLines<'_>],
-    given: &[GivenPlaces],
+    given: &[FrameNames],
     journal: JournalLines<'_>,
 ) -> Result<Result<DomainLanes, u32>, NoMemory>
     requires lawful { IsLawfulBoard scenario.now }
@@ -80,7 +80,7 @@ pub fn walk_journals(
     alloc: Global,
     scenario: &Scenario,
     journals: &[JournalLines<'_>],
-    given: &[GivenPlaces],
+    given: &[FrameNames],
     rest: &[JournalLines<'_>],
 ) -> Result<Result<Vec<DomainLanes>, u32>, NoMemory>
     requires lawful { IsLawfulBoard scenario.now }

@@ -14,6 +14,7 @@ use Rattle.board_model.specs.Step.{RunState, after}
 use Rattle.board_model.specs.Run.{start, IsDomainRun, IsWhole}
 use Rattle.board_model.specs.Traffic.{put_to, taken_from, takes_from, back_looks, given, given_in}
 use Rattle.board_model.specs.Board.{DomainJournal, journal_in, journal_of, given_by, given_back, SeesAtMost, LaneFits, IsBoardRun, AreWhole}
+use Rattle.ring_numbers.specs.BoardRings.{sent_by, sent_to}
 use Rattle.report_text.specs.JournalRead.{JournalText, lines_of_texts}
 use Rattle.report_text.specs.LaneLines.{lane_lines, put_in, back_in}
 use Rattle.report_text.specs.StepPass.{parts_of, wrong_step, unfinished}
@@ -35,6 +36,14 @@ module _ (lines : List CallLine) (p : ℕ) where
   put-answers r (again w ∷ es) = put-answers (after lines r (again w)) es
   put-answers r (waits k ∷ es) = put-answers (after lines r (waits k)) es
   put-answers r (called k a ∷ es) = put-answers (after lines r (called k a)) es
+
+  pub sent-answers : (r : RunState) (es : List PlainEntry) → sent_to p (with_answers lines r es) ≡ sent_to p es
+  sent-answers r [] = refl
+  sent-answers r (turned vs ∷ es) = ap (λ xs. sent_by p (turned vs) ++ xs) (sent-answers (after lines r (turned vs)) es)
+  sent-answers r (put q f ∷ es) = ap (λ xs. sent_by p (put q f) ++ xs) (sent-answers (after lines r (put q f)) es)
+  sent-answers r (again w ∷ es) = sent-answers (after lines r (again w)) es
+  sent-answers r (waits k ∷ es) = sent-answers (after lines r (waits k)) es
+  sent-answers r (called k a ∷ es) = sent-answers (after lines r (called k a)) es
 
   pub takes-answers : (r : RunState) (es : List PlainEntry) → takes_from p (with_answers lines r es) ≡ takes_from p es
   takes-answers r [] = refl

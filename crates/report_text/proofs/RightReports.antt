@@ -5,6 +5,8 @@ use Rattle.board_model.specs.LinkedBoard.{IsLinkedBoard}
 use Rattle.std.specs.List.{AllByRecursion}
 use Rattle.board_model.specs.declared.scenario.DomainLine.{DomainLine}
 use Rattle.board_model.specs.declared.scenario.Scenario.{Scenario}
+use Rattle.board_model.specs.Board.{DomainJournal}
+use Rattle.board_model.specs.Report.{Mode, serial, threads}
 use Rattle.board_model.specs.Scenario.{rising}
 use Rattle.board_model.proofs.LawfulBoards.{lawful_is_linked}
 use Rattle.board_model.proofs.MessageAlls.{all-weaken}
@@ -18,17 +20,18 @@ use Rattle.report_text.specs.TextPass.{told_by_text}
 use Rattle.report_text.specs.JournalRead.{JournalText, behind_journal, journals_at, behind_journals}
 use Rattle.report_text.specs.LinkPass.{journal_told, wrong_among}
 use Rattle.report_text.specs.TextLines.{first_other}
-use Rattle.report_text.specs.TotalPass.{number_texts, rings_told, wrong_number}
+use Rattle.report_text.specs.RingPass.{ring_texts}
+use Rattle.report_text.specs.TotalPass.{number_texts, rings_due, wrong_number, wrong_ring_back, wrong_total}
 use Rattle.report_text.specs.Verdicts.{wrong_or, by_steps, by_told, verdict_on}
 use Rattle.report_text.proofs.TurnsDue.{Sound}
 use Rattle.report_text.specs.StepPass.{wrong_step, unfinished, left_behind}
-use Rattle.report_text.specs.RightRuns.{TellsRun, RightStepsTellRuns, PassesThree, RightReportsTellRuns, RightNumbersAreDue}
+use Rattle.report_text.specs.RightRuns.{TellsRun, RightStepsTellRuns, PassesThree, journals_due, RightReportsTellRuns, RightNumbersAreDue}
 use Rattle.report_text.proofs.RunsTold.{IsRight, rising-lawful, told-steps, run-told}
 use Rattle.report_text.proofs.ReportsTold.{text-lawful, journals-right}
 use Rattle.report_text.proofs.BoardsTold.{board-run}
 use Rattle.report_text.proofs.LinesTold.{texts-same}
-use Rattle.report_text.proofs.NothingWrong.{none-moved}
-use Rattle.report_text.proofs.TotalsTold.{IsDue, numbers-same}
+use Rattle.report_text.proofs.NothingWrong.{none-moved, none-either}
+use Rattle.report_text.proofs.TotalsTold.{IsDue, numbers-same, rings-same}
 
 pub right_steps : RightStepsTellRuns
 right_steps text t short told =
@@ -68,7 +71,7 @@ right_reports text t short told passes =
     let steps = passes-steps s js _ (subst PassesThree (ap by_told told) passes) in
     let links = passes-or of.Link (wrong_among s js js) _ (λ line no. no) steps.1 in
     let all = board-run s board js right (journals-lines (rising s) t.behind) steps.0 links.0 in
-    record { lawful = lawful; run = all.run; whole = all.whole; written = all.written; numbers = numbers-same s board js (all-due s board js right steps.0) }
+    record { lawful = lawful; run = all.run; whole = all.whole; written = all.written; numbers = numbers-same s board js (all-due s board js right steps.0); rings = rings-same s board js (all-due s board js right steps.0) }
 
 -- ---- the states
 
@@ -99,16 +102,22 @@ right-behind s (j ∷ js) next e =
     let whole = right-or of.Script (unfinished s j) (by_steps s js next) step.1 in
     right-behind s js next whole.1
 
+rings-due-same : (mode : Mode) (s : Scenario) (dues tolds : List DomainJournal) → ring_texts s dues ≡ ring_texts s tolds → rings_due mode s dues ≡ rings_due mode s tolds
+rings-due-same serial s dues tolds same = refl
+rings-due-same threads s dues tolds same = same
+
 pub right_numbers : RightNumbersAreDue
 right_numbers text t short told verdict =
     let s : Scenario = t.scenario in
     let js : List JournalText = journals_at (rising s) t.behind in
     let numbers : Rest = behind_journals (rising s) t.behind in
     let passes : by_told (Ok t) ≡ Right = sym (ap by_told told) ∙ verdict in
-    let next : Verdict = wrong_or of.Link (wrong_among s js js) (wrong_or of.Total (wrong_number t.mode s (map (journal_told s) js) numbers) Right) in
-    let links = right-or of.Link (wrong_among s js js) (wrong_or of.Total (wrong_number t.mode s (map (journal_told s) js) numbers) Right) (right-behind s js next passes) in
-    let total = right-or of.Total (wrong_number t.mode s (map (journal_told s) js) numbers) Right links.1 in
-    let rings : List (List ℕ) = rings_told t.mode s numbers.lines in
-    let due : List (List ℕ) = number_texts s (map (journal_told s) js) rings in
-    texts-same numbers.lines due (none-moved numbers.number (first_other numbers.lines due) total.0)
-    ∙ sym ((right_reports text t short told (subst PassesThree (sym verdict) tt)).numbers rings)
+    let next : Verdict = wrong_or of.Link (wrong_among s js js) (wrong_or of.Total (wrong_total t.mode s js numbers) Right) in
+    let links = right-or of.Link (wrong_among s js js) (wrong_or of.Total (wrong_total t.mode s js numbers) Right) (right-behind s js next passes) in
+    let total = right-or of.Total (wrong_total t.mode s js numbers) Right links.1 in
+    let tolds : List DomainJournal = map (journal_told s) js in
+    let due : List (List ℕ) = number_texts s tolds (rings_due t.mode s tolds) in
+    let none = (none-either (wrong_ring_back t.mode s js) (wrong_number t.mode s tolds numbers) total.0).1 in
+    let run = right_reports text t short told (subst PassesThree (sym verdict) tt) in
+    texts-same numbers.lines due (none-moved numbers.number (first_other numbers.lines due) none)
+    ∙ sym (run.numbers (rings_due t.mode s (journals_due t)) ∙ ap (number_texts s tolds) (rings-due-same t.mode s (journals_due t) tolds run.rings))

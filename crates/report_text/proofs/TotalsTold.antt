@@ -3,6 +3,7 @@ use Rattle.std.proofs.Common.{◌≡◌, ℕ, zero, suc, ◌+◌, ◌-◌, List,
 use Rattle.std.specs.Prelude.{find, ◌==◌}
 use Rattle.std.specs.List.{AllByRecursion, flat_map}
 use Rattle.board_model.specs.declared.scenario.CallLine.{CallLine}
+use Rattle.board_model.specs.declared.scenario.LinkLine.{LinkLine}
 use Rattle.board_model.specs.declared.scenario.Scenario.{Scenario}
 use Rattle.board_model.specs.Scenario.{script, Lane, lanes}
 use Rattle.board_model.specs.LinkedBoard.{IsLinkedBoard}
@@ -20,13 +21,18 @@ use Rattle.board_model.specs.JournalDeeds.{deeds_of, opened, left_in}
 use Rattle.board_model.specs.Run.{start}
 use Rattle.board_model.specs.Traffic.{put_to, taken_from, back_looks}
 use Rattle.board_model.specs.Board.{DomainJournal, journal_in, journal_of}
+use Rattle.board_model.specs.Given.{names_given}
 use Rattle.board_model.specs.Takings.{is_message_taking, taken_message, completed_by, takings_by, taken_in}
 use Rattle.board_model.specs.Drops.{dropped_by, dropped_in}
 use Rattle.board_model.specs.Channels as channels
 use Rattle.board_model.specs.Messages as messages
 use Rattle.board_model.specs.Totals.{numbers_to, item_totals, totals_of_channel, totals_of_owner, totals}
 use Rattle.board_model.specs.Places.{in_last_state, at_end, places_of}
-use Rattle.board_model.proofs.MessageAlls.{all-append}
+use Rattle.board_model.proofs.MessageAlls.{all-append, all-found}
+use Rattle.ring_numbers.specs.BoardRings.{image_of_queue, places_by, places_of as places_to, ring_left, sent_to}
+use Rattle.ring_numbers.specs.RingLists.{image_left}
+use Rattle.ring_numbers.specs.RingTexts.{ring_text}
+use Rattle.ring_numbers.specs.SenderNumbers.{after_all, at_start}
 use Rattle.std.specs.Prelude.{decimal}
 use Rattle.mc_journal.specs.EntryText.{FitsAnswer}
 use Rattle.mc_journal.specs.Readers.{count_in, answer_in}
@@ -37,6 +43,7 @@ use Rattle.mc_journal.proofs.ResultsRead.{count-read}
 use Rattle.report_text.specs.JournalRead.{JournalText, lines_of_texts}
 use Rattle.report_text.specs.StepPass.{parts_of, wrong_step}
 use Rattle.report_text.specs.LinkPass.{journal_told}
+use Rattle.report_text.specs.RingPass.{ring_texts}
 use Rattle.report_text.specs.TotalPass.{number_texts}
 use Rattle.report_text.specs.RightRuns.{journal_due}
 use Rattle.report_text.proofs.AnswersTold.{all-split}
@@ -47,7 +54,7 @@ use Rattle.report_text.proofs.StepsDue.{Due}
 use Rattle.report_text.proofs.CallsDue.{put_lines}
 use Rattle.report_text.proofs.EntriesTold.{unjoined-is}
 use Rattle.report_text.proofs.RunsTold.{IsRight, told-parts, told-steps, after-answers}
-use Rattle.report_text.proofs.BoardsTold.{found-mapped, put-answers, takes-answers, backs-answers, given-are}
+use Rattle.report_text.proofs.BoardsTold.{found-mapped, put-answers, sent-answers, takes-answers, backs-answers, given-are}
 use Rattle.report_text.proofs.DeedsTold.{Alike, channel-accepted, message-accepted, receive-answered, close-lost, delete-dropped}
 use Rattle.report_text.proofs.NumbersTold.{IsRead, deeds-same}
 
@@ -216,6 +223,34 @@ module _ (s : Scenario) (board : IsLinkedBoard s) where
         let queue = end-same l.receiver (queued_from l.sender) in
         let lent = end-same l.receiver (lent_from l.sender) in
         λ i. record { from = l.sender; to = l.receiver; free = free i + (given i - sum (backs i)); ring = length (put i) - length (taken i); queue = queue i; lent = lent i }
+
+    -- ---- the images of rings
+
+    given-same : (d p : ℕ) → places_to s dues d p ≡ places_to s tolds d p
+    given-same d p =
+        ap (λ o. places_by s o p) (found-mapped (journal_due s) (λ j. refl) d js)
+        ∙ go (find (λ j. j.line.domain == d) js) refl
+        ∙ sym (ap (λ o. places_by s o p) (found-mapped (journal_told s) (λ j. refl) d js))
+      where
+        go : (o : Option JournalText) → find (λ j. j.line.domain == d) js ≡ o → places_by s (option_map (journal_due s) o) p ≡ places_by s (option_map (journal_told s) o) p
+        go None found = refl
+        go (Some j) found = (both-same (names_given p) (λ t node call a b alike. refl) j (all-found IsDue (λ j. j.line.domain == d) js j all found)).0
+
+    sent-same : (d p : ℕ) → sent_to p (journal_of d dues) ≡ sent_to p (journal_of d tolds)
+    sent-same d p = of-domain (sent_to p) (λ j. sent-answers (script s j.line.domain) p (start s j.line) (journal_told s j).entries) d
+
+    left-ring-same : (queue from to size : ℕ) → ring_left s dues queue from to size ≡ ring_left s tolds queue from to size
+    left-ring-same queue from to size = ap₂ (λ places sent. image_left size queue (after_all (at_start size places) sent).used places) (given-same to from) (sent-same from to)
+
+    image-same : (l : LinkLine) (queue : ℕ) → image_of_queue s dues l queue ≡ image_of_queue s tolds l queue
+    image-same l queue = ap₂ (λ (device driver : List ℕ). cond (queue == 0) device driver) (left-ring-same 0 l.device l.driver l.size) (left-ring-same 1 l.driver l.device l.size)
+
+    pub rings-same : ring_texts s dues ≡ ring_texts s tolds
+    rings-same =
+        let image : (l : LinkLine) (queue : ℕ) → image_of_queue s dues l queue ≡ image_of_queue s tolds l queue = image-same in
+        λ i. flat_map (λ l. ring_text l 0 (image l 0 i) ∷ ring_text l 1 (image l 1 i) ∷ []) s.links
+
+    -- ---- the lines of numbers, with these of rings
 
     pub numbers-same : (rings : List (List ℕ)) → number_texts s dues rings ≡ number_texts s tolds rings
     numbers-same rings =

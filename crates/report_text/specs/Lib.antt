@@ -16,6 +16,7 @@ pub mod StepPass
 pub mod LaneLines
 pub mod LinkPass
 pub mod LaneLeft
+pub mod RingPass
 pub mod TotalPass
 pub mod Verdicts
 pub mod VerdictExamples

@@ -1,7 +1,7 @@
 -- The forms of a report's lines beside those of its scenario and its journals: which words and numbers a line has. Which numbers of items,
 -- messages and buffers are right hangs on the journals.
 -- Source: docs/FORMATS.md, "Report".
-use Rattle.std.specs.Prelude.{ℕ, Bool, false, ◌&&◌, List, [], ◌∷◌, codes, bytes_eq, length, nat_le, nat_lt, not, ◌||◌, ◌==◌, ◌%◌, Option, None, Some}
+use Rattle.std.specs.Prelude.{ℕ, Bool, false, ◌&&◌, List, [], ◌∷◌, codes, bytes_eq, length, nat_le, not, ◌||◌, ◌==◌, ◌%◌, Option, None, Some}
 use Rattle.std.specs.List.{list_all}
 use Rattle.board_model.specs.FileWords.{number_of, is_within, is_admitted}
 use Rattle.board_model.specs.Report.{Mode, serial, threads}

@@ -23,7 +23,8 @@ use Rattle.report_text.specs.TextPass.{told_by_text}
 use Rattle.report_text.specs.JournalRead.{JournalText, lines_of_texts, journals_at, behind_journals}
 use Rattle.report_text.specs.StepPass.{due_visit, idle_visits, wrong_step, unfinished}
 use Rattle.report_text.specs.LinkPass.{journal_told}
-use Rattle.report_text.specs.TotalPass.{number_texts, rings_told}
+use Rattle.report_text.specs.RingPass.{ring_texts}
+use Rattle.report_text.specs.TotalPass.{number_texts, rings_due}
 use Rattle.report_text.specs.Verdicts.{verdict_on}
 
 -- the visit that is due is allowed, where the peer is known and no more of its buffers are held and shown than there are
@@ -81,19 +82,20 @@ PassesThree other = ⊥
 abbrev pub journals_due : Told → List DomainJournal
 journals_due t = map (journal_due t.scenario) (journals_at (rising t.scenario) t.behind)
 
--- a whole run of the board of a lawful scenario, whose journals have the texts of the report, and the numbers of the journals that it tells,
--- whatever the lines of rings
+-- a whole run of the board of a lawful scenario, whose journals have the texts of the report, and the numbers and the images of rings of the
+-- journals that it tells
 pub record TellsBoardRun (t : Told) : Type 0 where
   pub lawful : IsLawfulBoard t.scenario
   pub run : IsBoardRun t.scenario (journals_due t)
   pub whole : AreWhole t.scenario (journals_due t)
   pub written : AllByRecursion (HasLines t.scenario) (journals_at (rising t.scenario) t.behind)
   pub numbers : (rings : List (List ℕ)) → number_texts t.scenario (journals_due t) rings ≡ number_texts t.scenario (map (journal_told t.scenario) (journals_at (rising t.scenario) t.behind)) rings
+  pub rings : ring_texts t.scenario (journals_due t) ≡ ring_texts t.scenario (map (journal_told t.scenario) (journals_at (rising t.scenario) t.behind))
 
 -- a report in which the first three passes find nothing wrong tells one
 abbrev pub RightReportsTellRuns : Type 0
 RightReportsTellRuns = (text : List ℕ) (t : Told) → length text < 2 ^ 32 - 1 → told_by_text text ≡ Ok t → PassesThree (verdict_on text) → TellsBoardRun t
 
--- in a right report the lines of numbers are those of that run, with the lines of rings that the report has
+-- in a right report the lines behind the journals are those of that run: its numbers, and the images of its rings if it ran on threads
 abbrev pub RightNumbersAreDue : Type 0
-RightNumbersAreDue = (text : List ℕ) (t : Told) → length text < 2 ^ 32 - 1 → told_by_text text ≡ Ok t → verdict_on text ≡ Right → (behind_journals (rising t.scenario) t.behind).lines ≡ number_texts t.scenario (journals_due t) (rings_told t.mode t.scenario (behind_journals (rising t.scenario) t.behind).lines)
+RightNumbersAreDue = (text : List ℕ) (t : Told) → length text < 2 ^ 32 - 1 → told_by_text text ≡ Ok t → verdict_on text ≡ Right → (behind_journals (rising t.scenario) t.behind).lines ≡ number_texts t.scenario (journals_due t) (rings_due t.mode t.scenario (journals_due t))

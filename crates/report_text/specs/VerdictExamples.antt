@@ -50,7 +50,14 @@ first_image = codes "00000000000000000002000002000000000200000000000000020000020
 abbrev pub second_image : List ℕ
 second_image = codes "000400000000000000000000000000000006000000000000000000000000000000000000000000000000000000000000000000000000000000000000000000000000"
 
+-- the first with another last digit
+abbrev pub other_image : List ℕ
+other_image = codes "000000000000000000020000020000000002000000000000000200000200000000000200000001000000000000000000000000000000000000000000000000000001"
+
 pub record RingVerdicts : Type 0 where
   pub right : verdict_on (linked ++ (codes "ring 0 1 0 " ++ (first_image ++ (codes "\nring 0 1 1 " ++ (second_image ++ codes "\nend\n"))))) ≡ Right
+  pub other_digit : verdict_on (linked ++ (codes "ring 0 1 0 " ++ (other_image ++ (codes "\nring 0 1 1 " ++ (second_image ++ codes "\nend\n"))))) ≡ Wrong 12 of.Total
+  pub twice_the_first : verdict_on (linked ++ (codes "ring 0 1 0 " ++ (first_image ++ (codes "\nring 0 1 1 " ++ (first_image ++ codes "\nend\n"))))) ≡ Wrong 13 of.Total
+  pub no_image : verdict_on (linked ++ (codes "ring 0 1 0 -\nring 0 1 1 " ++ (second_image ++ codes "\nend\n"))) ≡ Wrong 12 of.Total
   pub odd_digits : verdict_on (linked ++ (codes "ring 0 1 0 0" ++ (first_image ++ (codes "\nring 0 1 1 " ++ (second_image ++ codes "\nend\n"))))) ≡ Wrong 12 of.Text
   pub no_second_ring : verdict_on (linked ++ (codes "ring 0 1 0 " ++ (first_image ++ codes "\nend\n"))) ≡ Wrong 13 of.Text

@@ -20,7 +20,7 @@ use Rattle.report_totals.specs.WholeLines.{AreWholeLines}
 
 -- ---- a line has one newline, its last byte
 
-abbrev HasNone : List ℕ → Type 0
+abbrev pub HasNone : List ℕ → Type 0
 HasNone w = list_all (is_other 10) w ≡ true
 
 decimal-none : (n : ℕ) → HasNone (decimal n)
@@ -33,7 +33,7 @@ spaced-none (w ∷ v ∷ ws) all =
     list_all-append (is_other 10) w (32 ∷ spaced (v ∷ ws))
     ∙ and_from (list_all (is_other 10) w) (list_all (is_other 10) (spaced (v ∷ ws))) all.0 (spaced-none (v ∷ ws) all.1)
 
-line-first : (ws : List (List ℕ)) → AllByRecursion HasNone ws → (rest : List ℕ) → lines_in (line_of ws ++ rest) ≡ line_of ws ∷ lines_in rest
+pub line-first : (ws : List (List ℕ)) → AllByRecursion HasNone ws → (rest : List ℕ) → lines_in (line_of ws ++ rest) ≡ line_of ws ∷ lines_in rest
 line-first ws all rest =
     let cut : cut_at 10 (line_of ws ++ rest) ≡ Some (spaced ws, rest) = ap (cut_at 10) (append_assoc (spaced ws) (10 ∷ []) rest) ∙ cut-found 10 (spaced ws) rest (spaced-none ws all) in
     lines-cut (line_of ws ++ rest) (spaced ws, rest) cut

@@ -2,6 +2,6 @@ pub mod CountedLemmas
 pub mod CountingLemmas
 pub mod DueLines
 pub mod FewMessages
-pub mod LastLines
 pub mod ReportRuns
 pub mod TalliesTold
+pub mod HeldUnnamed

@@ -35,6 +35,7 @@ use Rattle.report_text.proofs.RightReports.{right_reports, reports-sound}
 use Rattle.report_text.proofs.RunsTold.{due-left}
 use Rattle.report_text.proofs.TurnsDue.{Sound}
 use Rattle.report_totals.specs.declared.ended_journal.EndedJournal.{EndedJournal}
+use Rattle.report_replay.specs.Unnamed.{unnamed}
 use Rattle.report_totals.specs.EndedJournals.{AreLeftBehind, IsEnded, AreEnded, lines_due_at, ended_by, CountsAsTold}
 use Rattle.report_totals.specs.JournalTallies.{EndRun, EndSomeRun}
 use Rattle.report_totals.specs.PassedReports.{IsPassed}
@@ -85,10 +86,10 @@ module _ (s : Scenario) (board : IsLinkedBoard s) where
       ∙ ap (λ (o : Option DomainLine). lines_due_at s o c.text.now) found
       ∙ texts-lines j c told
 
-  ends-one : (j : JournalText) (c : JournalLines) (x : DomainState) (e : EndedJournal) → IsTold j c → x ≡ (left_behind s j).state → IsEnded s c x e → find (λ d. d.domain == j.line.domain) (rising s) ≡ Some j.line → EndsAs (due_station j) (ended_by e)
+  ends-one : (j : JournalText) (c : JournalLines) (x : DomainState) (e : EndedJournal) → IsTold j c → unnamed x ≡ (left_behind s j).state → IsEnded s c x e → find (λ d. d.domain == j.line.domain) (rising s) ≡ Some j.line → EndsAs (due_station j) (ended_by e)
   ends-one j c x e told left is found = record {
     told = lines-are j c x e told is found;
-    state = is.state ∙ left ∙ ap (λ (r : RunState). r.state) (sym (due-left s board j));
+    state = ap unnamed is.state ∙ left ∙ ap (λ (r : RunState). r.state) (sym (due-left s board j));
     number = ap (λ (k : JournalLines). k.domain) is.journal ∙ sym told.domain;
   }
 

@@ -7,6 +7,7 @@ use Rattle.board_model.specs.Scenario.{rising}
 use Rattle.board_model.specs.Journal.{Line, joined}
 use Rattle.board_model.specs.State.{DomainState}
 use Rattle.board_numbers.specs.EndedDomains.{Ended}
+use Rattle.report_replay.specs.Unnamed.{unnamed}
 use Rattle.report_text.specs.declared.link_pass.JournalLines.{JournalLines}
 use Rattle.report_text.specs.CountedLines.{counted_line, lines_counted}
 use Rattle.report_text.specs.JournalRead.{JournalText, told_texts}
@@ -15,10 +16,10 @@ use Rattle.report_text.specs.StepPass.{left_behind}
 use Rattle.report_text.specs.TextLines.{lines_in}
 use Rattle.report_totals.specs.declared.ended_journal.EndedJournal.{EndedJournal}
 
--- each state is the one in which the journal at its place leaves its domain
+-- each state, but for the names of frames, is the one in which the journal at its place leaves its domain
 abbrev pub AreLeftBehind : Scenario → List JournalText → List DomainState → Type 0
 AreLeftBehind s [] [] = Unit {0}
-AreLeftBehind s (j ∷ js) (x ∷ xs) = (x ≡ (left_behind s j).state) × AreLeftBehind s js xs
+AreLeftBehind s (j ∷ js) (x ∷ xs) = (unnamed x ≡ (left_behind s j).state) × AreLeftBehind s js xs
 AreLeftBehind s js xs = ⊥
 
 -- the journals and the states, each with the other
@@ -44,9 +45,9 @@ lines_due_at s (Some d) text = joined (journal_due s (journal_in d text)).entrie
 abbrev pub lines_due : Scenario → ℕ → List ℕ → List Line
 lines_due s n text = lines_due_at s (find (λ d. d.domain == n) (rising s)) text
 
--- a domain at its journal's end
+-- a domain at its journal's end. What is counted does not hang on the names of frames
 abbrev pub ended_by : EndedJournal → Ended
-ended_by e = record { number = e.journal.domain; lines = lines_due e.scenario.now e.journal.domain e.journal.text.now; state = e.state.now }
+ended_by e = record { number = e.journal.domain; lines = lines_due e.scenario.now e.journal.domain e.journal.text.now; state = unnamed e.state.now }
 
 -- a count comes to the same with its lines as with those that the text tells
 abbrev pub CountsAsTold : EndedJournal → Type 0

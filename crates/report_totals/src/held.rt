@@ -3,6 +3,7 @@
 ghost use Rattle.std.specs.Prelude.{◌≡◌, ◌≤◌, min};
 ghost use Rattle.board_model.specs.State.{lent_from, queued_from};
 ghost use Rattle.board_numbers.specs.Tallied.{AreHeld};
+ghost use Rattle.report_replay.specs.Unnamed.{unnamed};
 ghost use Rattle.report_totals.specs.SmallRuns.{HoldsFew};
 
 use board_numbers::HeldBuffers;
@@ -27,9 +28,9 @@ fn places_from(state: &State, peer: u8) -> Places
     }
 }
 
-/// How many messages are queued in a domain, and where it holds buffers. The counts stop at the greatest `u32`, which no run comes to.
+/// How many messages are queued in a domain, and where it holds buffers, whatever its frames are named by. The counts stop at the greatest `u32`, which no run comes to.
 pub fn held_by(state: &State) -> HeldBuffers
-    ensures { HoldsFew state.now → AreHeld state.now result }
+    ensures { HoldsFew (unnamed state.now) → AreHeld (unnamed state.now) result }
 {
     let mut held = HeldBuffers {
         queued: capped(state.messages_queued()),

@@ -7,7 +7,8 @@ mod due_text;
 mod ended_journal;
 mod held;
 mod pass;
-mod rings;
 mod tallies;
+mod text_sink;
 
-pub use pass::wrong_number;
+pub use pass::{NumbersText, wrong_number};
+pub use text_sink::TextSink;

@@ -12,7 +12,7 @@ ghost use Rattle.report_text.specs.Modes.{mode_of};
 ghost use Rattle.report_text.specs.ScenarioPart.{rest};
 ghost use Rattle.report_text.specs.TextLines.{first_other, lines_in, moved};
 ghost use Rattle.report_text.specs.TextRead.{told_of};
-ghost use Rattle.report_text.specs.TotalPass.{number_texts, wrong_number as wrong_number_among};
+ghost use Rattle.report_text.specs.TotalPass.{number_texts, rings_due, wrong_number as wrong_number_among};
 ghost use Rattle.report_totals.specs.EndedJournals.{AreLeftBehind, CountsAsTold};
 ghost use Rattle.report_totals.specs.JournalTallies.{EndRun, EndSomeRun};
 ghost use Rattle.report_totals.specs.PassedReports.{IsPassed};
@@ -20,7 +20,6 @@ ghost use Rattle.report_totals.specs.WholeLines.{AreWholeLines};
 
 use crate::due_text::due_text;
 use crate::ended_journal::{EndedJournal, ended_journals};
-use crate::rings::rings_of;
 use crate::tallies::count_journals;
 use board_model::Scenario;
 use board_numbers::{channels_of, places_of, totals_of};
@@ -28,6 +27,14 @@ use mc_base::NoMemory;
 use report_replay::State;
 use report_text::{JournalLines, ReportText, other_line};
 use std::alloc::Global;
+
+/// The text behind the journals of a report, with the number of its first line, and the lines of rings that are due in it.
+#[derive(Clone, Copy)]
+pub struct NumbersText<'a> {
+    pub line: u32,
+    pub text: &'a [u8],
+    pub rings: &'a [u8],
+}
 
 /// The text of the lines that are due behind the journals of these domains, with these of rings.
 fn due_numbers(
@@ -64,11 +71,10 @@ fn number_of_other(line: u32, text: &[u8], due: &[u8]) -> Option<u32>
 }
 
 /// The fourth pass over a report: the number of the first line, among those behind the journals, that is not the one due. Due are a line for
-/// each channel, one for the messages and one for each lane, by what the journals come to, and `end`. The lines of rings are taken as they
-/// are: no image is compared.
+/// each channel, one for the messages and one for each lane, by what the journals come to, the lines of rings, and `end`.
 ///
-/// The first three passes have found no wrong line, and `told` is what the first has read. `states` has the state in which each journal leaves its domain, and `text` is what
-/// stands behind the journals, with `line` as the number of its first line.
+/// The first three passes have found no wrong line, and `told` is what the first has read. `states` has the state in which each journal leaves
+/// its domain, and `numbers` has what stands behind the journals.
 ///
 /// # Errors
 ///
@@ -78,18 +84,17 @@ pub fn wrong_number<'a>(
     told: &'a ReportText<'_>,
     journals: &[JournalLines<'_>],
     states: &'a [State],
-    line: u32,
-    text: &[u8],
+    numbers: NumbersText<'_>,
 ) -> Result<Option<u32>, NoMemory>
     requires passed { IsPassed (told_of told.now) }
     requires journals { AreTold (journals_at (rising told.now.scenario) (told_of told.now).behind) journals.now }
     requires states { AreLeftBehind told.now.scenario (journals_at (rising told.now.scenario) (told_of told.now).behind) states.now }
-    requires numbers { rest line (lines_in text.now) ≡ behind_journals (rising told.now.scenario) (told_of told.now).behind }
-    requires few { line + length text.now < 2 ^ 32 }
+    requires numbers { rest numbers.line (lines_in numbers.text.now) ≡ behind_journals (rising told.now.scenario) (told_of told.now).behind }
+    requires rings { AreWholeLines numbers.rings.now (rings_due (mode_of told.now.mode) told.now.scenario (map (journal_told told.now.scenario) (journals_at (rising told.now.scenario) (told_of told.now).behind))) }
+    requires few { numbers.line + length numbers.text.now < 2 ^ 32 }
     ensures { IfOk result (λ n. n ≡ wrong_number_among (mode_of told.now.mode) told.now.scenario (map (journal_told told.now.scenario) (journals_at (rising told.now.scenario) (told_of told.now).behind)) (behind_journals (rising told.now.scenario) (told_of told.now).behind)) }
 {
     let domains = ended_journals(alloc, &told.scenario, journals, states)?;
-    let rings = rings_of(told.mode, &told.scenario, text);
-    let due = due_numbers(alloc, &told.scenario, &domains, rings)?;
-    Ok(number_of_other(line, text, &due))
+    let due = due_numbers(alloc, &told.scenario, &domains, numbers.rings)?;
+    Ok(number_of_other(numbers.line, numbers.text, &due))
 }

@@ -125,7 +125,7 @@ pub static IN_EIGHT_DOMAINS: [Change; 7] = [
     (130, b"lane 7 0 free 1 ring 1 queue 0 lent 0\n", 130),
 ];
 
-pub static IN_RINGS: [Change; 4] = [
+pub static IN_RINGS: [Change; 9] = [
     (
         10,
         b"messages accepted 1 taken 1 dropped 0 queued 0 ring 0\n",
@@ -138,4 +138,36 @@ pub static IN_RINGS: [Change; 4] = [
     ),
     (11, b"lane 0 0 free 1 ring 0 queue 0 lent 1\n", 11),
     (17, b"lane 3 3 free 1 ring 1 queue 0 lent 0\n", 17),
+    (18, b"ring 3 0 0 -\n", 18),
+    (18, b"ring 3 0 0 00\n", 18),
+    (
+        18,
+        b"ring 3 0 0 000400000000000000000000000000000006000000000000000000000000000000000000000000000000000000000000000000000000000000000000000000000000\n",
+        18,
+    ),
+    (
+        19,
+        b"ring 3 0 1 000000000000000000020000020000000002000000000000000200000200000000000200000001000000000000000000000000000000000000000000000000000000\n",
+        19,
+    ),
+    (21, b"ring 1 3 1 -\n", 21),
 ];
+
+/// Other digits of images, no image, and a buffer that comes back before its frame is put.
+pub static IN_OUT_OF_ORDER: [Change; 4] = [
+    (
+        92,
+        b"ring 0 1 0 00000000000000000002000002000000000200000000000000020000020000000004000000000000000200000200000000060000000000000002000002000000000006010000010002000300000000000000020000000000380000000100000038000000000000000000000000000000000000000000\n",
+        92,
+    ),
+    (
+        93,
+        b"ring 0 1 1 00080000000000001000000000000000000a0000000000001900000000000000000c0000000000001a00000000000000000e0000000000001b00000000000000000005000000010002000300000000000000050000000000000000000300000000000000020000000000000001000000000000000000\n",
+        93,
+    ),
+    (92, b"ring 0 1 0 -\n", 92),
+    (41, b"turn\nback 1 1\n", 42),
+];
+
+/// A buffer that comes back to the domain itself before the frame is put that it carries.
+pub static IN_OWN_OUT_OF_ORDER: [Change; 1] = [(17, b"turn\nback 0 1\n", 18)];

@@ -1,16 +1,15 @@
-use Rattle.std.proofs.Common.{◌≡◌, ◌≢◌, ◌+◌, ◌-◌, ◌<◌, ◌≤◌, ℕ, Bool, true, false, cond, List, [], ◌∷◌, length, get_or, map, take, drop, Option, Some, None, option_map, refl, sym, ap, subst, ◌∙◌, arith, sum_by}
+use Rattle.std.proofs.Common.{◌≡◌, ◌≢◌, ◌-◌, ◌<◌, ◌≤◌, ℕ, Bool, true, false, cond, List, [], ◌∷◌, length, get_or, map, take, drop, Some, refl, sym, ap, subst, ◌∙◌, arith, sum_by}
 use Rattle.std.specs.Prelude.{slice_get, slice_index, slice_set, find, ◌==◌}
-use Rattle.std.specs.List.{AllByRecursion}
 use Rattle.std.proofs.lemmas.Bool.{eqb-true, eqb-false}
 use Rattle.board_model.specs.declared.scenario.Scenario.{Scenario}
-use Rattle.board_model.specs.Board.{given_by, given_back}
+use Rattle.board_model.specs.Board.{given_by}
 use Rattle.board_model.specs.Language.{IsLawfulBoard}
 use Rattle.board_model.specs.State.{DomainState, held_from}
 use Rattle.board_model.proofs.LawfulBoards.{lawful_is_linked}
 use Rattle.report_text.specs.declared.link_pass.JournalLines.{JournalLines}
-use Rattle.report_text.specs.JournalRead.{JournalText, told_texts, lines_of_texts}
+use Rattle.report_text.specs.JournalRead.{JournalText, lines_of_texts}
 use Rattle.report_text.specs.LaneLeft.{IsTold, AreTold, GiveBack}
-use Rattle.report_text.specs.LaneLines.{lanes_told, lane_lines, lanes_of, taken_in}
+use Rattle.report_text.specs.LaneLines.{lanes_told, lanes_of, taken_in}
 use Rattle.report_text.specs.LinkPass.{gives_back, journal_told}
 use Rattle.report_text.specs.StepPass.{left_behind}
 use Rattle.report_text.proofs.GivenTold.{given-told}
@@ -19,6 +18,8 @@ use Rattle.report_text.specs.TextLines.{lines_in}
 use Rattle.report_text.proofs.LinesTold.{Tell}
 use Rattle.report_text.proofs.ReportsTold.{lines-end, texts-tell}
 use Rattle.report_text.proofs.RunsTold.{IsRight}
+use Rattle.report_replay.specs.Unnamed.{unnamed}
+use Rattle.report_replay.proofs.UnnamedCounts.{held-unnamed}
 use Rattle.report_totals.specs.EndedJournals.{AreLeftBehind}
 use Rattle.report_check.specs.RightSteps.{HasRightSteps, HaveRightSteps}
 use Rattle.report_check.proofs.given.+note_given.Goals as goal
@@ -50,10 +51,10 @@ right-told s lawful j c right told = record {
   lawful = right.order.lawful;
 }
 
-one-given : (s : Scenario) (lawful : IsLawfulBoard s) (j : JournalText) (c : JournalLines) (x : DomainState) (row : List ℕ) → HasRightSteps s j → IsTold j c → x ≡ (left_behind s j).state → Rows row c x → (p : ℕ) → p < 8 → slice_index row p ≡ given_by s (Some (journal_told s j)) p
+one-given : (s : Scenario) (lawful : IsLawfulBoard s) (j : JournalText) (c : JournalLines) (x : DomainState) (row : List ℕ) → HasRightSteps s j → IsTold j c → unnamed x ≡ (left_behind s j).state → Rows row c x → (p : ℕ) → p < 8 → slice_index row p ≡ given_by s (Some (journal_told s j)) p
 one-given s lawful j c x row right told left rows p small =
     let taken = given-told s (lawful_is_linked s lawful) j (right-told s lawful j c right told) right.steps p in
-    omega (arith, taken, rows p small, ap (held_from p) left, ap (λ ts. sum_by (taken_in p) (lanes_of ts)) told.texts)
+    omega (arith, taken, rows p small, sym (held-unnamed p x) ∙ ap (held_from p) left, ap (λ ts. sum_by (taken_in p) (lanes_of ts)) told.texts)
 
 noted : (s : Scenario) (lawful : IsLawfulBoard s) (cs : List JournalLines) (xs : List DomainState) (d : JournalLines) (e : DomainState) (given : List (List ℕ)) (row : List ℕ) → 1 ≤ length cs → 1 ≤ length xs → Rows row (get_or cs 0 d) (get_or xs 0 e)
     → (js : List JournalText) → HaveRightSteps s js → AreTold js cs → AreLeftBehind s js xs → ((ks : List JournalText) → HaveRightSteps s ks → AreTold ks (take (length cs - 1) (drop 1 cs)) → AreLeftBehind s ks (take (length xs - 1) (drop 1 xs)) → GiveBack s ks given)

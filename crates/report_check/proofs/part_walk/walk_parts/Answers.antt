@@ -24,6 +24,7 @@ part-requires g c =
     let script = script_of c.args.run.now in
     let text = c.args.text.now in
     let rest = c.loop-part.rest.now in
+    let old = c.args.run.now in
     let run = c.loop-part.run in
     let lines = c.loop-part.lines in
     let h = c.requires.0 in
@@ -31,21 +32,21 @@ part-requires g c =
     let same : script_of run ≡ script = ap (λ s. map (λ l. l.now) s.now) c.loop-part.invariant.script in
     let next : IsNextPart peers script rest c.in-Some.part = c.in-Some.ensures peers script c.requires.1.1.0 w.begins in
     let short = begun-short peers script text g.way h in (
-      here-shown peers script text rest g.way lines run h w c.in-Some.part next same,
+      here-shown peers script text rest g.way lines old run h w c.in-Some.part next same,
       (
         script-few run script same short,
         (
           begun-below peers script text g.way h,
           (
-            here-known peers script text rest g.way lines run h w c.in-Some.part next same,
+            here-known peers script text rest g.way lines old run h w c.in-Some.part next same,
             (
-              here-own peers script text rest g.way lines run h w c.in-Some.part next same,
+              here-own peers script text rest g.way lines old run h w c.in-Some.part next same,
               (
                 subst (AllByRecursion (λ (l : CallLine). FitsLine l.call)) (sym same) (begun-fit peers script text g.way h),
                 (
-                  head-some peers (lines_of_texts (take c.in-Some.part.lines (lines_in rest))) c.in-Some.part.head next.part next.head (next-fits peers script text rest g.way lines run h w c.in-Some.part next),
+                  head-some peers (lines_of_texts (take c.in-Some.part.lines (lines_in rest))) c.in-Some.part.head next.part next.head (next-fits peers script text rest g.way lines old run h w c.in-Some.part next),
                   (
-                    next-some peers script text rest g.way lines run h w c.in-Some.part next,
+                    next-some peers script text rest g.way lines old run h w c.in-Some.part next,
                     (
                       omega (arith, c.loop-part.invariant.fits, c.requires.1.1.1.0, c.loop-part.auto.room, c.next_part.auto.room),
                       omega (arith, c.loop-part.invariant.shorter, c.requires.1.1.1.1),
@@ -66,8 +67,8 @@ overflow_add-result g c =
     let w = c.loop-part.invariant.walking in
     let same = ap (λ s. map (λ l. l.now) s.now) c.loop-part.invariant.script in
     let next : IsNextPart peers script c.loop-part.rest.now c.in-Some.part = c.in-Some.ensures peers script c.requires.1.1.0 w.begins in
-    let found = here-place peers script c.args.text.now c.loop-part.rest.now g.way c.loop-part.lines c.loop-part.run c.requires.0 w c.in-Some.part next same c.in_ok-place.field-0 (c.in_ok-place.ensures.place next.part next.head) in
-    let within = wrong-within peers script c.args.text.now c.loop-part.rest.now g.way c.loop-part.lines c.loop-part.run c.requires.0 w c.in-Some.part next c.in-Some-2.place (sym c.in-Some-2.is ∙ found) in
+    let found = here-place peers script c.args.text.now c.loop-part.rest.now g.way c.loop-part.lines c.args.run.now c.loop-part.run c.requires.0 w c.in-Some.part next same c.in_ok-place.field-0 (c.in_ok-place.ensures.place next.part next.head) in
+    let within = wrong-within peers script c.args.text.now c.loop-part.rest.now g.way c.loop-part.lines c.args.run.now c.loop-part.run c.requires.0 w c.in-Some.part next c.in-Some-2.place (sym c.in-Some-2.is ∙ found) in
     omega (arith, within, c.loop-part.invariant.few, c.requires.1.1.1.1)
 
 pub returns-in-Some-2-clause-found : goal.returns-in-Some-2-clause-found
@@ -77,8 +78,8 @@ returns-in-Some-2-clause-found g c =
     let w = c.loop-part.invariant.walking in
     let same = ap (λ s. map (λ l. l.now) s.now) c.loop-part.invariant.script in
     let next : IsNextPart peers script c.loop-part.rest.now c.in-Some.part = c.in-Some.ensures peers script c.requires.1.1.0 w.begins in
-    let found = here-place peers script c.args.text.now c.loop-part.rest.now g.way c.loop-part.lines c.loop-part.run c.requires.0 w c.in-Some.part next same c.in_ok-place.field-0 (c.in_ok-place.ensures.place next.part next.head) in
-    next-wrong peers script c.args.text.now c.loop-part.rest.now g.way c.loop-part.lines c.loop-part.run c.requires.0 w c.in-Some.part next c.in-Some-2.place (sym c.in-Some-2.is ∙ found)
+    let found = here-place peers script c.args.text.now c.loop-part.rest.now g.way c.loop-part.lines c.args.run.now c.loop-part.run c.requires.0 w c.in-Some.part next same c.in_ok-place.field-0 (c.in_ok-place.ensures.place next.part next.head) in
+    next-wrong peers script c.args.text.now c.loop-part.rest.now g.way c.loop-part.lines c.args.run.now c.loop-part.run c.requires.0 w c.in-Some.part next c.in-Some-2.place (sym c.in-Some-2.is ∙ found)
 
 pub returns-in-Some-2-clause-within : goal.returns-in-Some-2-clause-within
 returns-in-Some-2-clause-within g c =
@@ -87,8 +88,8 @@ returns-in-Some-2-clause-within g c =
     let w = c.loop-part.invariant.walking in
     let same = ap (λ s. map (λ l. l.now) s.now) c.loop-part.invariant.script in
     let next : IsNextPart peers script c.loop-part.rest.now c.in-Some.part = c.in-Some.ensures peers script c.requires.1.1.0 w.begins in
-    let found = here-place peers script c.args.text.now c.loop-part.rest.now g.way c.loop-part.lines c.loop-part.run c.requires.0 w c.in-Some.part next same c.in_ok-place.field-0 (c.in_ok-place.ensures.place next.part next.head) in
-    let within = wrong-within peers script c.args.text.now c.loop-part.rest.now g.way c.loop-part.lines c.loop-part.run c.requires.0 w c.in-Some.part next c.in-Some-2.place (sym c.in-Some-2.is ∙ found) in
+    let found = here-place peers script c.args.text.now c.loop-part.rest.now g.way c.loop-part.lines c.args.run.now c.loop-part.run c.requires.0 w c.in-Some.part next same c.in_ok-place.field-0 (c.in_ok-place.ensures.place next.part next.head) in
+    let within = wrong-within peers script c.args.text.now c.loop-part.rest.now g.way c.loop-part.lines c.args.run.now c.loop-part.run c.requires.0 w c.in-Some.part next c.in-Some-2.place (sym c.in-Some-2.is ∙ found) in
     omega (arith, within, c.loop-part.invariant.few)
 
 pub overflow_add-lines : goal.overflow_add-lines
@@ -97,7 +98,7 @@ overflow_add-lines g c =
     let script = script_of c.args.run.now in
     let w = c.loop-part.invariant.walking in
     let next : IsNextPart peers script c.loop-part.rest.now c.in-Some.part = c.in-Some.ensures peers script c.requires.1.1.0 w.begins in
-    let more = lines-more peers script c.args.text.now c.loop-part.rest.now g.way c.loop-part.lines c.loop-part.run c.requires.0 w c.in-Some.part next in
+    let more = lines-more peers script c.args.text.now c.loop-part.rest.now g.way c.loop-part.lines c.args.run.now c.loop-part.run c.requires.0 w c.in-Some.part next in
     omega (arith, more, c.loop-part.invariant.few, c.requires.1.1.1.1)
 
 pub loop-part-preserved : goal.loop-part-preserved
@@ -107,12 +108,12 @@ loop-part-preserved g c =
     let w = c.loop-part.invariant.walking in
     let same = ap (λ s. map (λ l. l.now) s.now) c.loop-part.invariant.script in
     let next : IsNextPart peers script c.loop-part.rest.now c.in-Some.part = c.in-Some.ensures peers script c.requires.1.1.0 w.begins in
-    let found = here-place peers script c.args.text.now c.loop-part.rest.now g.way c.loop-part.lines c.loop-part.run c.requires.0 w c.in-Some.part next same c.in_ok-place.field-0 (c.in_ok-place.ensures.place next.part next.head) in
-    let at = here-at peers script c.args.text.now c.loop-part.rest.now g.way c.loop-part.lines c.loop-part.run c.requires.0 w c.in-Some.part next same c.part.new.self (c.in_ok-place.ensures.run next.part next.head c.in_default-2.is) in
+    let found = here-place peers script c.args.text.now c.loop-part.rest.now g.way c.loop-part.lines c.args.run.now c.loop-part.run c.requires.0 w c.in-Some.part next same c.in_ok-place.field-0 (c.in_ok-place.ensures.place next.part next.head) in
+    let at = here-at peers script c.args.text.now c.loop-part.rest.now g.way c.loop-part.lines c.args.run.now c.loop-part.run c.requires.0 w c.in-Some.part next same c.part.new.self (c.in_ok-place.ensures.run next.part next.head c.in_default-2.is) in
     let shorter = next.shorter in
     let fits = next.fits in
     record {
-      walking = next-right peers script c.args.text.now c.loop-part.rest.now g.way c.loop-part.lines c.loop-part.run c.requires.0 w c.in-Some.part next c.part.new.self (sym c.in_default-2.is ∙ found) at;
+      walking = next-right peers script c.args.text.now c.loop-part.rest.now g.way c.loop-part.lines c.args.run.now c.loop-part.run c.requires.0 w c.in-Some.part next c.part.new.self (sym c.in_default-2.is ∙ found) at;
       script = c.in_ok-place.ensures.script ∙ c.loop-part.invariant.script;
       fits = omega (arith, fits, c.loop-part.invariant.fits);
       shorter = omega (arith, shorter, c.loop-part.invariant.shorter);
@@ -125,8 +126,8 @@ returns-clause-found g c =
     let script = script_of c.args.run.now in
     let w = c.loop-part.invariant.walking in
     let end = c.in_default.ensures peers script c.requires.1.1.0 w.begins in (
-      end-right peers script c.args.text.now c.loop-part.rest.now g.way c.loop-part.lines c.loop-part.run c.requires.0 w end,
-      end-lines peers script c.args.text.now c.loop-part.rest.now g.way c.loop-part.lines c.loop-part.run c.requires.0 w end,
-      end-behind peers script c.args.text.now c.loop-part.rest.now g.way c.loop-part.lines c.loop-part.run c.requires.0 w end,
-      end-at peers script c.args.text.now c.loop-part.rest.now g.way c.loop-part.lines c.loop-part.run c.requires.0 w end,
+      end-right peers script c.args.text.now c.loop-part.rest.now g.way c.loop-part.lines c.args.run.now c.loop-part.run c.requires.0 w end,
+      end-lines peers script c.args.text.now c.loop-part.rest.now g.way c.loop-part.lines c.args.run.now c.loop-part.run c.requires.0 w end,
+      end-behind peers script c.args.text.now c.loop-part.rest.now g.way c.loop-part.lines c.args.run.now c.loop-part.run c.requires.0 w end,
+      end-at peers script c.args.text.now c.loop-part.rest.now g.way c.loop-part.lines c.args.run.now c.loop-part.run c.requires.0 w end,
     )

@@ -13,7 +13,7 @@ decreases-loop-part g l = length l.rest
 
 abbrev pub invariant-loop-part : goal.invariant-loop-part
 invariant-loop-part g l = record {
-  walking : Walking l.peers (script_of l.fn.run) g.way l.text l.rest l.lines l.run;
+  walking : Walking l.peers (script_of l.fn.run) g.way l.text l.rest l.lines l.fn.run l.run;
   script : l.run.script ≡ l.fn.run.script;
   fits : longest_line l.rest ≤ longest_line l.text;
   shorter : length l.rest ≤ length l.text;

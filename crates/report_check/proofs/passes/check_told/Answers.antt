@@ -1,9 +1,7 @@
-use Rattle.std.proofs.Common.{◌≡◌, ◌+◌, ◌-◌, ◌^◌, ◌<◌, ◌≤◌, ℕ, List, [], length, None, refl, sym, ap, subst, ◌∙◌, arith}
+use Rattle.std.proofs.Common.{◌≡◌, ℕ, List, [], None, refl, sym, ap, subst, ◌∙◌}
 use Rattle.std.specs.Prelude.{IsOk}
 use Rattle.std.specs.List.{AllByRecursion}
-use Rattle.board_model.specs.declared.scenario.DomainLine.{DomainLine}
 use Rattle.board_model.specs.Grammar.{IsLawfulDomain}
-use Rattle.board_model.specs.Language.{IsLawfulBoard}
 use Rattle.board_model.specs.Scenario.{rising, rising_from}
 use Rattle.board_model.specs.State.{DomainState}
 use Rattle.board_model.proofs.LawfulBoards.{lawful_is_linked}
@@ -15,7 +13,8 @@ use Rattle.report_text.proofs.ReportsTold.{text-lawful, text-front}
 use Rattle.report_text.proofs.RunsTold.{rising-lawful}
 use Rattle.report_totals.specs.EndedJournals.{AreLeftBehind}
 use Rattle.report_check.specs.declared.walks.Walks.{Walks}
-use Rattle.report_check.specs.Walks.{WalksOn, left_of}
+use Rattle.report_check.specs.Walks.{WalksOn}
+use Rattle.report_rings.specs.SenderLanes.{AreGiven}
 use Rattle.report_check.proofs.passes.check_told.Goals as goal
 
 pub walk_on-requires-clause-lawful : goal.walk_on-requires-clause-lawful
@@ -36,7 +35,7 @@ walk_on-requires-clause-text c =
 pub check_walked-requires-clause-walked : goal.check_walked-requires-clause-walked
 check_walked-requires-clause-walked c =
     let are : c.deref.result.now ≡ rising c.args.told.now.scenario = c.deref.ensures.value ∙ c.in_ok-lines.ensures ∙ ap rising_from c.as_slice.ensures in
-    let first : Walks = record { journals = c.new.result; states = c.new-2.result; line = c.args.told.now.line; behind = c.args.told.now.behind } in
+    let first : Walks = record { journals = c.new.result; states = c.new-2.result; given = c.new-3.result; line = c.args.told.now.line; behind = c.args.told.now.behind } in
     let walks : WalksOn c.args.told.now.scenario c.deref.result.now first c.walk_on.new.self None = subst (WalksOn c.args.told.now.scenario c.deref.result.now first c.walk_on.new.self) c.in-None.is c.in_ok-verdict.ensures.walks in
     let all : WalksOn c.args.told.now.scenario (rising c.args.told.now.scenario) first c.walk_on.new.self None = subst (λ ds. WalksOn c.args.told.now.scenario ds first c.walk_on.new.self None) are walks in
     record {
@@ -45,5 +44,6 @@ check_walked-requires-clause-walked c =
       walked = all.2 [] (record {
         told = subst (λ (cs : List JournalLines). AreTold [] cs) (sym c.new.ensures.items) tt;
         states = subst (λ (xs : List DomainState). AreLeftBehind c.args.told.now.scenario [] xs) (sym c.new-2.ensures.items) tt;
+        given = subst (λ (gs : List (List (List ℕ))). AreGiven c.args.told.now.scenario [] gs) (sym c.new-3.ensures.items) tt;
       });
     }

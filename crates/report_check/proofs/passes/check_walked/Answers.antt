@@ -1,14 +1,15 @@
-use Rattle.std.proofs.Common.{◌≡◌, ◌+◌, ◌-◌, ◌^◌, ◌<◌, ◌≤◌, ℕ, zero, suc, List, [], ◌∷◌, length, map, replicate, Option, Some, None, refl, sym, ap, subst, ◌∙◌, arith}
+use Rattle.std.proofs.Common.{◌≡◌, ◌<◌, ◌+◌, ◌^◌, length, ℕ, zero, suc, List, [], ◌∷◌, Some, None, refl, sym, ap, subst, ◌∙◌}
 use Rattle.std.specs.Prelude.{slice_get, slice_index}
 use Rattle.std.specs.List.{AllByRecursion}
+use Rattle.board_model.proofs.MessageAlls.{all-weaken}
 use Rattle.board_model.specs.Scenario.{rising}
 use Rattle.report_text.specs.JournalRead.{JournalText, journals_at}
-use Rattle.report_text.specs.LaneLeft.{AreTold, GiveBack}
+use Rattle.report_text.specs.declared.link_pass.JournalLines.{JournalLines}
+use Rattle.report_text.specs.LaneLeft.{AreShort, AreTold, IsShort}
 use Rattle.report_text.specs.LinkPass.{wrong_among}
 use Rattle.report_text.specs.TextRead.{told_of}
 use Rattle.report_text.proofs.ReportsTold.{text-lawful}
 use Rattle.report_totals.specs.EndedJournals.{AreLeftBehind}
-use Rattle.report_totals.specs.PassedReports.{IsPassed}
 use Rattle.report_check.proofs.VerdictsFound.{by-link, by-totals, passes, right-steps}
 use Rattle.report_check.proofs.passes.check_walked.Goals as goal
 
@@ -32,8 +33,8 @@ no-row i = zeros-at zeros (refl, (refl, (refl, (refl, (refl, (refl, (refl, (refl
 none-given : (from to : ℕ) (row : List ℕ) → slice_get (zeros ∷ zeros ∷ zeros ∷ zeros ∷ zeros ∷ zeros ∷ zeros ∷ zeros ∷ []) from ≡ Some row → to < 8 → slice_index row to ≡ 0
 none-given from to row at small = rows-at (zeros ∷ zeros ∷ zeros ∷ zeros ∷ zeros ∷ zeros ∷ zeros ∷ zeros ∷ []) (no-row, (no-row, (no-row, (no-row, (no-row, (no-row, (no-row, (no-row, tt)))))))) from row at to
 
-pub wrong_number-requires : goal.wrong_number-requires
-wrong_number-requires c =
+pub wrong_total-requires-clause-passed : goal.wrong_total-requires-clause-passed
+wrong_total-requires-clause-passed c =
     let t = told_of c.args.told.now in
     let js : List JournalText = journals_at (rising t.scenario) t.behind in
     let lawful = text-lawful c.args._report.now t c.requires.text.short c.requires.text.told in
@@ -43,13 +44,13 @@ wrong_number-requires c =
     let given = c.note_given.ensures t.scenario js lawful steps told left none-given in
     let again : AreTold js c.deref-3.result.now = subst (AreTold js) (sym c.deref-3.ensures.value) c.requires.walked.walked.told in
     let none : None ≡ wrong_among t.scenario js js = sym c.in_default.is ∙ c.in_ok-line.ensures t.scenario js again given in
-    record {
-      passed = record { report = c.args._report.now; short = c.requires.text.short; told = c.requires.text.told; passes = passes c.args._report.now t c.requires.text.told c.requires.walked.right none };
-      journals = subst (AreTold js) (sym c.deref-4.ensures.value) c.requires.walked.walked.told;
-      states = subst (AreLeftBehind t.scenario js) (sym c.deref-5.ensures.value) c.requires.walked.walked.states;
-      numbers = c.requires.walked.left;
-      few = omega (arith, c.requires.ready.count);
-    }
+    record { report = c.args._report.now; short = c.requires.text.short; told = c.requires.text.told; passes = passes c.args._report.now t c.requires.text.told c.requires.walked.right none }
+
+shorts : (most : ℕ) (cs : List JournalLines) → AreShort most cs → AllByRecursion (λ (k : JournalLines). k.number + length k.text.now < 2 ^ 32) cs
+shorts most cs short = all-weaken (IsShort most) (λ (k : JournalLines). k.number + length k.text.now < 2 ^ 32) (λ k one. one.count) cs short
+
+pub wrong_total-requires-clause-few : goal.wrong_total-requires-clause-few
+wrong_total-requires-clause-few c = shorts _ c.args.walks.now.journals.items c.requires.ready.short
 
 pub returns-in-Some : goal.returns-in-Some
 returns-in-Some c =

@@ -5,7 +5,7 @@ use Rattle.std.proofs.lemmas.Result.{IfOk-weaker}
 use Rattle.board_model.specs.RingImage.{Offer, start_image, driver_writes, device_writes}
 use Rattle.ring_numbers.specs.RingLists.{image_left, offered, returned}
 use Rattle.report_text.specs.LinkPass.{lanes_in}
-use Rattle.report_rings.specs.RingPass.{given_to}
+use Rattle.report_text.specs.RingPass.{given_to}
 use Rattle.report_rings.specs.SenderLanes.{numbers_told, sent_on, size_to}
 use Rattle.report_rings.proofs.BuffersBelow.{all-places, all-written-some, start-some, used-below}
 use Rattle.report_rings.proofs.images.image_of_lane.Goals as goal

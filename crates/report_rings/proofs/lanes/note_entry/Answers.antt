@@ -6,7 +6,7 @@ use Rattle.mc_journal.specs.Entry.{line_of_entry}
 use Rattle.mc_journal.specs.declared.entry.Entry.{Entry}
 use Rattle.ring_numbers.specs.SenderNumbers.{Numbers}
 use Rattle.report_text.specs.LaneLines.{LaneLine, came_back, puts, lane_of}
-use Rattle.report_rings.specs.RingPass.{given_to, is_back_of_put}
+use Rattle.report_text.specs.RingPass.{given_to, is_back_of_put}
 use Rattle.report_rings.specs.SenderLanes.{AreAfter}
 use Rattle.report_rings.proofs.LaneSteps.{at-back, changed-after, far-after, far-back}
 use Rattle.report_rings.proofs.lanes.note_entry.Goals as goal

@@ -1,7 +1,7 @@
 use Rattle.std.proofs.Common.{◌≡◌, ℕ, zero, suc, List, [], ◌∷◌, ◌++◌, length, Some, sym, ap, ap₂, subst, ◌∙◌, arith, length-append}
 use Rattle.std.specs.Prelude.{slice_get}
 use Rattle.ring_numbers.specs.SenderNumbers.{Numbers, at_start}
-use Rattle.report_rings.specs.RingPass.{given_to}
+use Rattle.report_text.specs.RingPass.{given_to}
 use Rattle.report_rings.specs.SenderLanes.{size_to}
 use Rattle.report_rings.proofs.lanes.open_lanes.Goals as goal
 

@@ -1,4 +1,4 @@
-use Rattle.std.proofs.Common.{List, [], ◌++◌, map, sym, ap, subst, ◌∙◌, append-nil}
+use Rattle.std.proofs.Common.{ℕ, List, ◌++◌, map, sym, ap, subst, ◌∙◌}
 use Rattle.std.specs.List.{AllByRecursion, flat_map}
 use Rattle.std.proofs.lemmas.Result.{IfErr-at_err, IfOk-at_ok}
 use Rattle.board_model.specs.declared.scenario.LinkLine.{LinkLine}
@@ -9,7 +9,6 @@ use Rattle.report_text.specs.TextLines.{lines_in}
 use Rattle.report_text.specs.TextRead.{told_of}
 use Rattle.report_rings.specs.declared.lanes.DomainLanes.{DomainLanes}
 use Rattle.report_rings.specs.ReadJournals.{IsSized, image_told}
-use Rattle.report_rings.specs.RingPass.{ring_texts}
 use Rattle.report_rings.specs.SenderLanes.{AreWalked}
 use Rattle.report_rings.proofs.LaneSizes.{links-sized}
 use Rattle.report_rings.proofs.PassedRuns.{all-find, board, few-told, good, lawful, rings-same, texts}
@@ -71,6 +70,4 @@ returns-clause-lines c =
     let t = told_of c.args.told.now in
     let s = t.scenario in
     let js = map (journal_told s) (texts t c.requires.passed) in
-    ap lines_in (returns-clause-text c ∙ sym (append-nil (flat_map (λ line. line) (ring_texts s js))))
-    ∙ rings-first (λ l queue. image_of_queue s js l queue) s.links []
-    ∙ append-nil (ring_texts s js)
+    λ behind. ap (λ (text : List ℕ). lines_in (text ++ behind)) (returns-clause-text c) ∙ rings-first (λ l queue. image_of_queue s js l queue) s.links behind

@@ -2,7 +2,7 @@ use Rattle.std.proofs.Common.{List, [], sym, ap, subst, ◌∙◌, arith}
 use Rattle.std.proofs.lemmas.Result.{IfErr-at_err, IfOk-at_ok}
 use Rattle.report_text.specs.JournalRead.{JournalText}
 use Rattle.report_rings.specs.declared.lanes.DomainLanes.{DomainLanes}
-use Rattle.report_rings.specs.RingPass.{wrong_back_among}
+use Rattle.report_text.specs.RingPass.{wrong_back_among}
 use Rattle.report_rings.specs.SenderLanes.{AreWalked}
 use Rattle.report_rings.proofs.WalkLemmas.{all-walked, first-finds, first-right, first-wrong, has-first, none-told, others-find}
 use Rattle.report_rings.proofs.walk.+walk_journals.Goals as goal

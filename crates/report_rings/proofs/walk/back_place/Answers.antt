@@ -3,7 +3,7 @@ use Rattle.mc_journal.specs.Entry.{line_of_entry}
 use Rattle.report_text.specs.TextLines.{moved}
 use Rattle.report_text.specs.LaneLines.{LaneLine, lane_of, lanes_told}
 use Rattle.report_text.proofs.JournalSteps.{moved-moved}
-use Rattle.report_rings.specs.RingPass.{back_place, given_to, is_back_of_put}
+use Rattle.report_text.specs.RingPass.{back_place, given_to, is_back_of_put}
 use Rattle.report_rings.specs.SenderLanes.{AreAfter, FindTheirs}
 use Rattle.report_rings.proofs.FramesShort.{first-short}
 use Rattle.report_rings.proofs.LaneSteps.{finds-front}

@@ -4,7 +4,7 @@ use Rattle.report_text.specs.JournalRead.{JournalText}
 use Rattle.report_text.specs.TextLines.{moved}
 use Rattle.report_text.specs.Texts.{longest_line}
 use Rattle.report_text.specs.LaneLines.{LaneLine, lanes_told}
-use Rattle.report_rings.specs.RingPass.{back_place, given_to}
+use Rattle.report_text.specs.RingPass.{back_place, given_to}
 use Rattle.report_rings.specs.SenderLanes.{AreAfter, FindTheirs}
 use Rattle.report_rings.proofs.walk.back_place.Given as goal
 

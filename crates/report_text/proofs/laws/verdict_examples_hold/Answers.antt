@@ -13,4 +13,4 @@ returns-clause-waits c = record { right = refl; too_early = refl; too_late = ref
 
 pub returns-clause-rings : goal.returns-clause-rings
 unfolding digits reading
-returns-clause-rings c = record { right = refl; odd_digits = refl; no_second_ring = refl }
+returns-clause-rings c = record { right = refl; other_digit = refl; twice_the_first = refl; no_image = refl; odd_digits = refl; no_second_ring = refl }

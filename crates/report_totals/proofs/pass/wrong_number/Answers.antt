@@ -1,16 +1,14 @@
 use Rattle.std.proofs.Common.{◌≡◌, ℕ, List, map, sym, ap, subst, ◌∙◌}
 use Rattle.std.specs.List.{AllByRecursion}
-use Rattle.board_model.specs.declared.scenario.Scenario.{Scenario}
-use Rattle.board_model.specs.Language.{IsLawfulBoard}
 use Rattle.board_model.specs.Board.{DomainJournal}
 use Rattle.board_model.specs.Scenario.{rising}
-use Rattle.board_model.specs.SerialRun.{Station, journal_left}
+use Rattle.board_model.specs.SerialRun.{Station}
 use Rattle.report_text.specs.JournalRead.{journals_at}
 use Rattle.report_text.specs.LinkPass.{journal_told}
 use Rattle.report_text.specs.ScenarioPart.{Rest}
 use Rattle.report_text.specs.TextLines.{first_other, lines_in, moved}
 use Rattle.report_text.specs.TextRead.{told_of}
-use Rattle.report_text.specs.TotalPass.{number_texts, rings_told}
+use Rattle.report_text.specs.TotalPass.{number_texts, rings_due}
 use Rattle.report_totals.specs.EndedJournals.{AreEnded, CountsAsTold}
 use Rattle.report_totals.specs.JournalTallies.{EndRun, EndSomeRun}
 use Rattle.report_totals.proofs.ReportRuns.{same-many, stations, lawful, numbers-due, end-run, end-some, counts-told}
@@ -49,8 +47,8 @@ returns c =
     let ended : EndRun s ts es = end-run t c.requires.passed c.args.journals.now c.args.states.now es c.requires.journals c.requires.states is in
     let run : EndRun s ts c.deref.result.now = subst (EndRun s ts) (sym c.deref.ensures.value) ended in
     let js : List DomainJournal = map (journal_told s) (journals_at (rising s) t.behind) in
-    let rings : List (List ℕ) = rings_told t.mode s (lines_in c.args.text.now) in
-    let due : lines_in c.deref-2.result.now ≡ number_texts s js rings = ap lines_in c.deref-2.ensures.value ∙ c.in_ok-due.ensures ts rings run c.rings_of-rings.ensures ∙ numbers-due t c.requires.passed rings in
+    let rings : List (List ℕ) = rings_due t.mode s js in
+    let due : lines_in c.deref-2.result.now ≡ number_texts s js rings = ap lines_in c.deref-2.ensures.value ∙ c.in_ok-due.ensures ts rings run c.requires.rings ∙ numbers-due t c.requires.passed rings in
     c.number_of_other.ensures
-    ∙ ap (λ (ls : List (List ℕ)). moved c.args.line (first_other (lines_in c.args.text.now) ls)) due
-    ∙ ap (λ (r : Rest). moved r.number (first_other r.lines (number_texts s js (rings_told t.mode s r.lines)))) c.requires.numbers
+    ∙ ap (λ (ls : List (List ℕ)). moved c.args.numbers.line (first_other (lines_in c.args.numbers.text.now) ls)) due
+    ∙ ap (λ (r : Rest). moved r.number (first_other r.lines (number_texts s js rings))) c.requires.numbers

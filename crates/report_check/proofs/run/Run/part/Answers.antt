@@ -14,15 +14,15 @@ returns-in-Again-clause-run g c p heads =
     let texts = take c.args.part.lines (lines_in c.args.text.now) in
     let script = script_of c.args.self.now in
     on-ok _ _ c.tries.result
-    (λ place at none. try-leads c.args.peers.now script g.r (lines_of_texts texts) texts c.tries.new.self p c.args.part.head heads c.in-Again.is at)
-    (c.tries.ensures.run (try-word c.args.peers.now script g.r (lines_of_texts texts) texts c.tries.new.self p c.args.part.head heads c.in-Again.is))
+    (λ place at none. try-leads c.args.peers.now script g.r (lines_of_texts texts) texts c.args.self.now c.tries.new.self p c.args.part.head heads c.in-Again.is at)
+    (c.tries.ensures.run (try-word c.args.peers.now script g.r (lines_of_texts texts) texts c.args.self.now c.tries.new.self p c.args.part.head heads c.in-Again.is))
 
 pub returns-in-Turn-clause-place : goal.returns-in-Turn-clause-place
 returns-in-Turn-clause-place g c p heads =
     let texts = take c.args.part.lines (lines_in c.args.text.now) in
     let ls = lines_of_texts texts in
     if-ok _ _ c.turns.result
-    (λ place e. turn-place-is c.args.peers.now (script_of c.args.self.now) g.r ls texts c.turns.new.self p c.args.part.head heads c.in-Turn.is place (e ∙ ap (λ (l : LinesLeft). other_than (turn_line ∷ due_lines g.r (map (visit_in ls) c.args.peers.now)) l.texts) c.new-lines.ensures))
+    (λ place e. turn-place-is c.args.peers.now (script_of c.args.self.now) g.r ls texts c.args.self.now c.turns.new.self p c.args.part.head heads c.in-Turn.is place (e ∙ ap (λ (l : LinesLeft). other_than (turn_line ∷ due_lines g.r (map (visit_in ls) c.args.peers.now)) l.texts) c.new-lines.ensures))
     (c.turns.ensures.place ls c.read_told-told.ensures.told)
 
 pub returns-in-Turn-clause-run : goal.returns-in-Turn-clause-run
@@ -30,7 +30,7 @@ returns-in-Turn-clause-run g c p heads =
     let texts = take c.args.part.lines (lines_in c.args.text.now) in
     let ls = lines_of_texts texts in
     if-ok _ _ c.turns.result
-    (λ place at none. turn-leads c.args.peers.now (script_of c.args.self.now) g.r ls texts c.turns.new.self p c.args.part.head heads c.in-Turn.is (at none))
+    (λ place at none. turn-leads c.args.peers.now (script_of c.args.self.now) g.r ls texts c.args.self.now c.turns.new.self p c.args.part.head heads c.in-Turn.is (at none))
     (c.turns.ensures.run ls c.read_told-told.ensures.told)
 
 pub returns-in-Wait-clause-run : goal.returns-in-Wait-clause-run
@@ -38,15 +38,15 @@ returns-in-Wait-clause-run g c p heads =
     let texts = take c.args.part.lines (lines_in c.args.text.now) in
     let script = script_of c.args.self.now in
     on-ok _ _ c.waits.result
-    (λ place at none. wait-leads c.args.peers.now script g.r (lines_of_texts texts) texts c.waits.new.self p c.args.part.head heads c.in-Wait.is at)
-    (c.waits.ensures.run (wait-number c.args.peers.now script g.r (lines_of_texts texts) texts c.waits.new.self p c.args.part.head heads c.in-Wait.is))
+    (λ place at none. wait-leads c.args.peers.now script g.r (lines_of_texts texts) texts c.args.self.now c.waits.new.self p c.args.part.head heads c.in-Wait.is at)
+    (c.waits.ensures.run (wait-number c.args.peers.now script g.r (lines_of_texts texts) texts c.args.self.now c.waits.new.self p c.args.part.head heads c.in-Wait.is))
 
 pub returns-clause-run : goal.returns-clause-run
 returns-clause-run g c p heads =
     let texts = take c.args.part.lines (lines_in c.args.text.now) in
     let script = script_of c.args.self.now in
-    let number = call-number c.args.peers.now script g.r (lines_of_texts texts) texts c.calls.new.self p c.args.part.head heads c.in-Call.is in
-    let answer = call-answer c.args.peers.now script g.r (lines_of_texts texts) texts c.calls.new.self p c.args.part.head heads c.in-Call.is in
+    let number = call-number c.args.peers.now script g.r (lines_of_texts texts) texts c.args.self.now c.calls.new.self p c.args.part.head heads c.in-Call.is in
+    let answer = call-answer c.args.peers.now script g.r (lines_of_texts texts) texts c.args.self.now c.calls.new.self p c.args.part.head heads c.in-Call.is in
     if-ok _ _ c.calls.result
-    (λ place at none. call-leads c.args.peers.now script g.r (lines_of_texts texts) texts c.calls.new.self p c.args.part.head heads c.in-Call.is (at none))
+    (λ place at none. call-leads c.args.peers.now script g.r (lines_of_texts texts) texts c.args.self.now c.calls.new.self p c.args.part.head heads c.in-Call.is (at none))
     (c.calls.ensures.run number answer)

@@ -1,17 +1,15 @@
-use Rattle.std.proofs.Common.{◌≡◌, ◌+◌, ◌-◌, ◌<◌, ◌≤◌, ◌^◌, ℕ, List, [], ◌∷◌, ◌++◌, length, get_or, take, drop, Option, None, Some, option_map, Result, Ok, Err, IfOk, IsOk, Bor, refl, sym, ap, subst, ◌∙◌, arith, length-append}
+use Rattle.std.proofs.Common.{◌≡◌, ◌+◌, ◌-◌, ◌<◌, ◌≤◌, ℕ, List, [], ◌∷◌, ◌++◌, length, get_or, take, drop, Option, None, Some, option_map, Result, Ok, Err, IfOk, IsOk, Bor, refl, sym, ap, subst, ◌∙◌, arith}
 use Rattle.std.specs.List.{AllByRecursion}
 use Rattle.board_model.specs.declared.scenario.DomainLine.{DomainLine}
 use Rattle.board_model.specs.declared.scenario.Scenario.{Scenario}
 use Rattle.board_model.specs.Grammar.{IsLawfulDomain}
-use Rattle.board_model.specs.Language.{IsLawfulBoard}
 use Rattle.mc_journal.specs.Readers.{cut_at}
 use Rattle.board_model.specs.State.{DomainState}
 use Rattle.report_text.specs.declared.link_pass.JournalLines.{JournalLines}
 use Rattle.report_text.specs.declared.verdict.Verdict.{Verdict}
 use Rattle.report_text.specs.LaneLeft.{IsShort, AreShort}
 use Rattle.report_text.specs.Verdicts.{by_steps}
-use Rattle.report_text.specs.JournalRead.{JournalText, told_texts, journal_at, journals_at, behind_journal}
-use Rattle.report_text.specs.ScenarioPart.{Rest}
+use Rattle.report_text.specs.JournalRead.{JournalText, told_texts, journals_at}
 use Rattle.report_text.specs.TextLines.{lines_in}
 use Rattle.report_text.specs.TextPass.{journals_from}
 use Rattle.report_text.proofs.LeftLemmas.{whole}
@@ -68,13 +66,13 @@ shorter [] some = absurd (omega (arith, some))
 shorter (d ∷ ds) some = subst (λ (es : List DomainLine). length es < length (d ∷ ds)) (sym (whole (length (d ∷ ds) - 1) ds (omega arith))) (omega arith)
 
 -- the journal that was walked is the next one
-over : (s : Scenario) (d : DomainLine) (old mid : Walks) (text : Bor (List ℕ)) (x : DomainState) (line : ℕ) (b : Bor (List ℕ)) → drop 1 (lines_in old.behind.now) ≡ lines_in text.now
-    → IsWalked s (journal_read d (record { domain = d.domain; number = old.line + 1; text = text })) text.now (walked.Right x line b)
-    → mid.line ≡ line → mid.behind ≡ b → mid.journals.items ≡ old.journals.items ++ record { domain = d.domain; number = old.line + 1; text = text } ∷ [] → mid.states.items ≡ old.states.items ++ x ∷ [] → IsWalkedOver s d old mid
-over s d old mid text x line b is right line-is behind-is journals states =
+over : (s : Scenario) (d : DomainLine) (old mid : Walks) (text : Bor (List ℕ)) (x : DomainState) (g : List (List ℕ)) (line : ℕ) (b : Bor (List ℕ)) → drop 1 (lines_in old.behind.now) ≡ lines_in text.now
+    → IsWalked s (journal_read d (record { domain = d.domain; number = old.line + 1; text = text })) text.now (walked.Right x g line b)
+    → mid.line ≡ line → mid.behind ≡ b → mid.journals.items ≡ old.journals.items ++ record { domain = d.domain; number = old.line + 1; text = text } ∷ [] → mid.states.items ≡ old.states.items ++ x ∷ [] → mid.given.items ≡ old.given.items ++ g ∷ [] → IsWalkedOver s d old mid
+over s d old mid text x g line b is right line-is behind-is journals states places =
     let told = ap told_texts is in
-    walked-over s d old mid text.now (record { domain = d.domain; number = old.line + 1; text = text }) x b line (sym is) (record { domain = refl; number = refl; texts = told })
-    (subst (λ ts. IsWalked s (record { line = d; number = old.line + 1; texts = ts }) text.now (walked.Right x line b)) (sym told) right) line-is behind-is journals states
+    walked-over s d old mid text.now (record { domain = d.domain; number = old.line + 1; text = text }) x g b line (sym is) (record { domain = refl; number = refl; texts = told })
+    (subst (λ ts. IsWalked s (record { line = d; number = old.line + 1; texts = ts }) text.now (walked.Right x g line b)) (sym told) right) line-is behind-is journals states places
 
 walks-back : {E : Type 0} (s : Scenario) (ds : List DomainLine) (old mid new : Walks) (r : Result (Option Verdict) E) → 1 ≤ length ds → IsWalkedOver s (first ds) old mid → IfOk r (λ v. WalksOn s (others ds) mid new v) → IfOk r (λ v. WalksOn s ds old new v)
 walks-back s ds old mid new (Err e) some one rest = tt
@@ -88,13 +86,13 @@ walk_on-requires t c =
     let cut : cut_at 10 c.args.self.now.behind.now ≡ Some _ = sym c.cut.ensures.value ∙ ap (option_map _) c.in-Some.is in
     let text : drop 1 (lines_in c.args.self.now.behind.now) ≡ lines_in c.in-Some.text.now = ap (drop 1) (lines-cut c.args.self.now.behind.now _ cut) in
     let lawful = subst (AllByRecursion IsLawfulDomain) are c.requires.domains in
-    let mid : Walks = record { journals = c.add.new.self.journals; states = c.add.new.self.states; line = c.in-Right.line; behind = c.in-Right.behind } in
+    let mid : Walks = record { journals = c.add.new.self.journals; states = c.add.new.self.states; given = c.add.new.self.given; line = c.in-Right.line; behind = c.in-Right.behind } in
     let right = subst (IsWalked c.args.scenario.now (record { line = first ds; number = c.args.self.now.line + 1; texts = told_texts (lines_in c.in-Some.text.now) }) c.in-Some.text.now) c.in-Right.is c.in_ok-state.ensures in
-    let one = over c.args.scenario.now (first ds) c.args.self.now mid c.in-Some.text c.in-Right.state c.in-Right.line c.in-Right.behind text right refl refl (c.in_ok-add-in-Right.ensures.journals) (c.in_ok-add-in-Right.ensures.states) in
+    let one = over c.args.scenario.now (first ds) c.args.self.now mid c.in-Some.text c.in-Right.state c.in-Right.given c.in-Right.line c.in-Right.behind text right refl refl (c.in_ok-add-in-Right.ensures.journals) (c.in_ok-add-in-Right.ensures.states) (c.in_ok-add-in-Right.ensures.given) in
     let in-order = headed c.args.scenario.now c.requires.lawful (first ds) (others ds) (left_of c.args.self.now) (lines-end c.args.self.now.behind.now) lawful.0 (subst (λ es. IsOk (journals_from c.args.scenario.now es (left_of c.args.self.now))) are c.requires.text) in
     let small = lawful.0.domain_fits in
-    let counted = behind-counted c.in-Some.text.now c.in-Right.behind.now c.in-Right.line (c.args.self.now.line + 1) right.3 in
-    let fits = behind-short c.in-Some.text.now c.in-Right.behind.now c.in-Right.line _ right.3 in
+    let counted = behind-counted c.in-Some.text.now c.in-Right.behind.now c.in-Right.line (c.args.self.now.line + 1) right.4 in
+    let fits = behind-short c.in-Some.text.now c.in-Right.behind.now c.in-Right.line _ right.4 in
     let longest = longest-cut c.args.self.now.behind.now _ cut in
     let journal : JournalLines = record { domain = (first ds).domain; number = c.args.self.now.line + 1; text = c.in-Some.text } in
     let text-ok = subst (λ r. IsOk (journals_from c.args.scenario.now (others ds) r)) (sym one.left) in-order.1 in
@@ -119,9 +117,9 @@ returns-in_ok-add-in-Right-clause-walks t c =
     let some : 1 ≤ length ds = omega (arith, c.in-len1-up.len_at_least) in
     let cut : cut_at 10 c.args.self.now.behind.now ≡ Some _ = sym c.cut.ensures.value ∙ ap (option_map _) c.in-Some.is in
     let text : drop 1 (lines_in c.args.self.now.behind.now) ≡ lines_in c.in-Some.text.now = ap (drop 1) (lines-cut c.args.self.now.behind.now _ cut) in
-    let mid : Walks = record { journals = c.add.new.self.journals; states = c.add.new.self.states; line = c.in-Right.line; behind = c.in-Right.behind } in
+    let mid : Walks = record { journals = c.add.new.self.journals; states = c.add.new.self.states; given = c.add.new.self.given; line = c.in-Right.line; behind = c.in-Right.behind } in
     let right = subst (IsWalked c.args.scenario.now (record { line = first ds; number = c.args.self.now.line + 1; texts = told_texts (lines_in c.in-Some.text.now) }) c.in-Some.text.now) c.in-Right.is c.in_ok-state.ensures in
-    let one = over c.args.scenario.now (first ds) c.args.self.now mid c.in-Some.text c.in-Right.state c.in-Right.line c.in-Right.behind text right refl refl (c.in_ok-add-in-Right.ensures.journals) (c.in_ok-add-in-Right.ensures.states) in
+    let one = over c.args.scenario.now (first ds) c.args.self.now mid c.in-Some.text c.in-Right.state c.in-Right.given c.in-Right.line c.in-Right.behind text right refl refl (c.in_ok-add-in-Right.ensures.journals) (c.in_ok-add-in-Right.ensures.states) (c.in_ok-add-in-Right.ensures.given) in
     walks-back c.args.scenario.now ds c.args.self.now mid c.walk_on.new.self c.walk_on.result some one c.walk_on.ensures.walks
 
 pub returns-in-Wrong-clause-walks : goal.returns-in-Wrong-clause-walks
