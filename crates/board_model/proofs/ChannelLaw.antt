@@ -29,7 +29,7 @@ use Rattle.board_model.proofs.MessageAlls.{none-passes, all-found, all-weaken, a
 use Rattle.board_model.proofs.SendingDeeds.{ReadsDeed, AllRead}
 use Rattle.board_model.proofs.WholeHas.{Has}
 use Rattle.board_model.proofs.WholeJoined.{Joined, neighbours_join, rising_told}
-use Rattle.board_model.proofs.OrderCalls.{none_holds}
+use Rattle.board_model.proofs.OrderLookups.{none_holds}
 
 -- no frame is taken from a domain that is none of these
 none_from : (ns : List ℕ) (q : ℕ) → (IsOnce ns q → ⊥) → (ds : List Deed) → AllByRecursion (IsFrom ns) ds → flat_map (takes_by q) ds ≡ []

@@ -20,7 +20,7 @@ use Rattle.board_model.specs.ChannelEnds.{EndCall, opens, receives, closes, end_
 use Rattle.board_model.specs.Choice.{oldest}
 use Rattle.board_model.specs.DomainCall.{DomainCall, create_at, delete_at, lookup_of, send_from, receive_at, request_at, available_at, connect_from, open_at, packet_from, lend_at, packet_request_at, release_of, scalar_from, scalar_at, close_at, test_of, wait_for, cancel_of, raw_to, turn_alone}
 use Rattle.board_model.specs.State.{Item, ChannelEnd, Endpoint, Asked, packet_at, Outcome, has_item, Request, DomainState, opened, closed, endpoint_at, is_at, live_at, endpoint_of, channel_in, request_at_place}
-use Rattle.board_model.proofs.OrderCalls.{none_holds}
+use Rattle.board_model.proofs.OrderLookups.{none_holds}
 
 -- the endpoint that a name finds is the one that its address finds
 abbrev pub Own : DomainState → Type 0

@@ -18,7 +18,7 @@ use Rattle.board_model.proofs.HearingLaw.{deed_keeps, opening_sound}
 use Rattle.board_model.proofs.MessageLists.{get-position}
 use Rattle.board_model.proofs.OrderSerials.{Serials, succeeds, all_succeed}
 use Rattle.board_model.proofs.OrderSound.{Sound, Bound, sound_bound}
-use Rattle.board_model.proofs.OrderCalls.{none_holds}
+use Rattle.board_model.proofs.OrderLookups.{none_holds}
 use Rattle.board_model.proofs.DeedJoins.{after-join}
 
 length_contents : (q : List Item) → length (map (λ i. i.content) q) ≡ length q

@@ -35,7 +35,7 @@ use Rattle.board_model.proofs.MessageLists.{get-position, some-position, best_is
 use Rattle.board_model.proofs.OrderSerials.{Below, given_by_all, succeeds}
 use Rattle.board_model.proofs.OrderSound.{Sound, is_mute, IsMessage, Bound, bound_empty, bound_other, MayAsk, FitAllSound, all_changed, only_at, sound_own, sound_bound, sound_named, not_received, not_waiting}
 use Rattle.board_model.proofs.OrderTakings.{taken_of, IsOld, all_old, none_taken, done_old, ended_old, old_without, added_takes, given_takes, old_last}
-use Rattle.board_model.proofs.OrderCalls.{none_holds}
+use Rattle.board_model.proofs.OrderLookups.{none_holds}
 use Rattle.board_model.proofs.StateEnds.{there_is}
 use Rattle.board_model.proofs.OrderChannels.{no_length, either_none}
 use Rattle.board_model.proofs.OrderEnds.{mute_sender}

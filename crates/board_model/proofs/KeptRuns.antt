@@ -13,7 +13,7 @@ use Rattle.board_model.specs.Drops.{dropped_by}
 use Rattle.board_model.specs.Takings.{Taking, is_message_taking, takings_by, taken_message}
 use Rattle.board_model.proofs.LaneRows.{Deals, stays, learns, forgets, hands, queues, loses, rejects, accepts, acts, row-deals}
 use Rattle.board_model.proofs.ListsCounts.{count-append}
-use Rattle.board_model.proofs.OrderCalls.{call_given}
+use Rattle.board_model.proofs.OrderGiven.{call_given}
 use Rattle.board_model.proofs.OrderLaws.{AllQueues}
 use Rattle.board_model.proofs.OrderSerials.{Serials, given_by_all, serials_changes, succeeds, all_succeed}
 use Rattle.board_model.proofs.HonestSound.{Sound}

@@ -59,7 +59,13 @@ pub mod MessageNames
 pub mod MessageNeighbours
 pub mod MessageOnce
 pub mod MessageVisitLines
+pub mod OrderMoments
+pub mod OrderLookups
+pub mod OrderEffects
+pub mod OrderMessageCalls
+pub mod OrderChannelCalls
 pub mod OrderCalls
+pub mod OrderGiven
 pub mod OrderCancels
 pub mod OrderChannels
 pub mod OrderDeeds

@@ -29,7 +29,7 @@ use Rattle.board_model.specs.Deeds.{Deed, looks_back, puts_owed, looks_ahead, ta
 use Rattle.board_model.specs.DomainCall.{DomainCall, send_from, connect_from, open_at, packet_from, scalar_from, close_at, raw_to}
 use Rattle.board_model.specs.Journal.{PlainAnswer, refuses}
 use Rattle.board_model.specs.State.{ChannelEnd, Endpoint, DomainState, address_at, live_at, endpoint_of, channel_in}
-use Rattle.board_model.proofs.OrderCalls.{none_holds}
+use Rattle.board_model.proofs.OrderLookups.{none_holds}
 use Rattle.board_model.proofs.RawFrames.{raw_letters}
 
 -- ---- what a deed puts of the channel

@@ -15,7 +15,7 @@ use Rattle.board_model.specs.CallChanges.{success_changes, call_changes}
 use Rattle.board_model.specs.Deeds.{Deed, calls, after_deed, MayDo, after_deeds}
 use Rattle.board_model.specs.Takings.{item_held, completed_by, takings_by, cancelled_by}
 use Rattle.board_model.specs.MessageOrder.{taken_for, TellsAsked, TellsOf, WaitTells}
-use Rattle.board_model.proofs.OrderCalls.{none_holds}
+use Rattle.board_model.proofs.OrderLookups.{none_holds}
 use Rattle.board_model.proofs.OrderRequests.{Took, Holds, Held, IsDone, FitsAsked, items_by}
 use Rattle.board_model.proofs.OrderSerials.{IsOther, Differ, Below}
 use Rattle.board_model.proofs.OrderTakings.{all_old, none_taken, old_without}

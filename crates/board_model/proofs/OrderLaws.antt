@@ -18,7 +18,7 @@ use Rattle.board_model.specs.Deeds.{Deed, calls, after_deed, after_deeds, MayDo,
 use Rattle.board_model.specs.Takings.{Taking, taking, is_message_taking, answered_by, completed_by, takings_by, cancelled_by}
 use Rattle.board_model.specs.MessageOrder.{Gives, GivesTaken, is_by, taken_for, standing, TakesWhatComes, TakesBest, TestTells, DeleteTells}
 use Rattle.board_model.proofs.DeedRuns.{IsNamed, AreNamed, IsDeedRun}
-use Rattle.board_model.proofs.OrderCalls.{live_found, free_here, none_holds}
+use Rattle.board_model.proofs.OrderLookups.{live_found, free_here, none_holds}
 use Rattle.board_model.proofs.OrderQueues.{messages_at, messages_of}
 use Rattle.board_model.proofs.OrderDeeds.{Takes}
 use Rattle.board_model.proofs.OrderSound.{Sound, sound_own}

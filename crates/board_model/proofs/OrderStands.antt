@@ -11,7 +11,9 @@ use Rattle.board_model.specs.TakenFrames.{item_of}
 use Rattle.board_model.proofs.DeedRuns.{IsNamed, count_taken}
 use Rattle.board_model.proofs.LaneRows.{item-peer, item-frames}
 use Rattle.board_model.proofs.ItemsHeld.{held-weaker, BringsItems, deed-holds}
-use Rattle.board_model.proofs.OrderCalls.{Moment, takes_given, calls_does, call_given}
+use Rattle.board_model.proofs.OrderMoments.{Moment}
+use Rattle.board_model.proofs.OrderGiven.{takes_given, call_given}
+use Rattle.board_model.proofs.OrderCalls.{calls_does}
 use Rattle.board_model.proofs.OrderDeeds.{Does, Comes, looks_back_does, puts_owed_does, looks_ahead_does}
 use Rattle.board_model.proofs.OrderItems.{IsPast, past_more, next_past_after, all_past_more, Apart, Unlike, left_of, left_append, left_twice, left_all, none_in_past, apart_last}
 use Rattle.board_model.proofs.OrderQueues.{queued_for}

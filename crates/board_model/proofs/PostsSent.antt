@@ -13,7 +13,7 @@ use Rattle.board_model.specs.DomainCall.{DomainCall, send_from, connect_from, op
 use Rattle.board_model.specs.State.{ChannelEnd, Endpoint, DomainState, address_at, live_at}
 use Rattle.board_model.proofs.DeedRuns.{frames_if, frames_to}
 use Rattle.board_model.proofs.MessageAlls.{all-append}
-use Rattle.board_model.proofs.OrderCalls.{none_holds}
+use Rattle.board_model.proofs.OrderLookups.{none_holds}
 
 abbrev pub MaySend : DomainState → PlainLetter → Type 0
 MaySend s (connect m kind) = (m ≡ s.channels_given + 1) × (s.channels_given < channel_limit)

@@ -4,7 +4,7 @@ use Rattle.std.specs.Prelude.{is_none, ◌==◌}
 use Rattle.std.specs.List.{AllByRecursion}
 use Rattle.std.proofs.lemmas.List.{append-nil}
 use Rattle.mc_base.specs.Fault.{fault}
-use Rattle.mc_base.specs.Reading.{Reading, is_faulty, reading, reading_by}
+use Rattle.mc_base.specs.Reading.{is_faulty, reading, reading_by}
 use Rattle.mc_base.specs.declared.fault.Fault.{Fault}
 use Rattle.board_model.specs.DomainCall.{DomainCall, raw_to}
 use Rattle.board_model.specs.State.{DomainState}

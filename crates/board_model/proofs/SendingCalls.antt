@@ -31,7 +31,7 @@ use Rattle.board_model.specs.Deeds.{calls}
 use Rattle.board_model.specs.DomainCall.{DomainCall, create_at, delete_at, lookup_of, send_from, receive_at, request_at, available_at, connect_from, open_at, packet_from, lend_at, packet_request_at, release_of, scalar_from, scalar_at, close_at, test_of, wait_for, cancel_of, raw_to, turn_alone}
 use Rattle.board_model.specs.Journal.{PlainAnswer}
 use Rattle.board_model.specs.State.{Item, ChannelEnd, Endpoint, Asked, channel_of, packet_at, Outcome, has_item, Request, DomainState, closed, is_at, endpoint_at, address_at, live_at, endpoint_of, channel_in, request_at_place}
-use Rattle.board_model.proofs.OrderCalls.{none_holds}
+use Rattle.board_model.proofs.OrderLookups.{none_holds}
 use Rattle.board_model.proofs.StateEnds.{there_is}
 use Rattle.board_model.proofs.RawFrames.{letters_put}
 

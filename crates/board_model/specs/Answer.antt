@@ -58,7 +58,7 @@ abbrev pub known_address : EndName → Option Peer → Option ℕ
 known_address n None = None
 known_address n (Some p) = address_in n p.known
 
--- the address of the named endpoint: in this domain that of the live one, in another the one that is known from there
+-- the address of the named endpoint: in this domain that of the live one, in another the one that the other domain announced
 abbrev pub address_of : DomainState → EndName → Option ℕ
 address_of s n = if n.domain == s.number then address_at s (local n.node n.port) else known_address n (peer_of s n.domain)
 
@@ -74,7 +74,7 @@ named s other = None
 
 -- ---- E's channel
 
--- what a call asks of E's channel, with so many items in E's queue, or none where it asks nothing of it
+-- what a call asks of E's channel, with this many items in E's queue; none where the call is at no channel
 abbrev pub end_call : ℕ → DomainCall → Option EndCall
 end_call queued (open_at port side kind) = Some (opens side kind)
 end_call queued (packet_from port bytes) = Some (sends Packet)
@@ -85,7 +85,7 @@ end_call queued (scalar_at port bits) = Some (receives Scalar queued)
 end_call queued (close_at port side) = Some (closes side)
 end_call queued other = None
 
--- without a channel a call at one is not connected, and no other word holds
+-- where E has no channel, a call at a channel is refused as not connected and by no other word
 abbrev pub lacks_end : Refusal → Bool
 lacks_end NotConnected = true
 lacks_end other = false
@@ -98,7 +98,7 @@ abbrev pub holds_at_end : Option EndCall → Option ChannelEnd → Refusal → B
 holds_at_end None c word = false
 holds_at_end (Some call) c word = end_holds call c word
 
--- E's channel, where it is live
+-- the channel of E, where E is live
 abbrev pub channel_at : DomainState → Local → Option ChannelEnd
 channel_at s at = channel_in (live_at s at)
 
@@ -132,7 +132,7 @@ abbrev pub closing_letter : Side → ℕ → PlainLetter
 closing_letter Sender number = send_close number
 closing_letter Receiver number = recv_close number
 
--- the request that a call names, where it stands, and whether it is complete
+-- the request that a call names, where it exists, and whether it is complete
 abbrev pub request_named : DomainState → DomainCall → Option Request
 request_named s (test_of request) = request_at_place s request
 request_named s (cancel_of request) = request_at_place s request
@@ -150,15 +150,15 @@ stands_at s request = is_some (request_at_place s request)
 abbrev pub is_complete_at : DomainState → Option ℕ → Bool
 is_complete_at s request = is_complete (request_at_place s request)
 
--- the first that is complete, by its place among the requests that stand
+-- the first of them that is complete, by its place among the domain's requests
 abbrev pub first_complete : DomainState → List (Option ℕ) → Option ℕ
 first_complete s requests = option_and_then (λ r. r) (find (is_complete_at s) requests)
 
--- and by its place among those that are named, counted from 1, where the answer says it
+-- the same by its place among those that the wait names, counted from 1, where the answer says it
 abbrev pub place_said : DomainState → List (Option ℕ) → Bool → Option ℕ
 place_said s requests says_place = if says_place then option_map (λ i. i + 1) (position (is_complete_at s) requests) else None
 
--- a request that a call names does not stand
+-- a request that a call names does not exist
 abbrev pub lacks_request : DomainState → DomainCall → Bool
 lacks_request s (wait_for requests says_place) = not (list_all (stands_at s) requests)
 lacks_request s call = not (is_some (request_named s call))
@@ -288,17 +288,17 @@ abbrev pub value_of : Bits → Option Item → PlainAnswer
 value_of bits None = refuses Empty
 value_of bits (Some i) = tells (little_number (bytes_of_bits bits) i.content)
 
--- at most so many first bytes of the item that is taken
+-- the first bytes of the item that is taken, at most as many as asked for
 abbrev pub given : ℕ → Option Item → PlainAnswer
 given max None = refuses Empty
 given max (Some i) = gives (length i.content) (take max i.content)
 
--- the bytes of an item that a receive gives: as many as it asks for, and all of a packet
+-- the bytes of an item that a receive returns: at most as many as it asks for, and all of a packet
 abbrev pub given_to : Asked → List ℕ → List ℕ
 given_to (message_at at max) bytes = take max bytes
 given_to other bytes = bytes
 
--- how a request was complete
+-- how a request was completed
 abbrev pub result_by : Asked → Option Outcome → PlainResult
 result_by asked None = ended_by Pending
 result_by asked (Some (has_address address)) = found_at address

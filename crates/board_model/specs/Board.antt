@@ -1,5 +1,5 @@
--- Runs of a board: a run of each domain, whose lanes fit together. Nothing is said of time between two lanes, nor between
--- the two ends of one: a frame may be taken before the entry that puts it.
+-- Runs of a board: a run of each domain, whose lanes fit together. Nothing is said about the order in time of two lanes, nor of the
+-- two ends of one: a frame may be taken before the entry that puts it.
 -- Source: docs/PROFILE.md, "Boards".
 use Rattle.std.specs.Prelude.{◌≡◌, ℕ, ◌+◌, ◌≤◌, List, [], ◌∷◌, ◌==◌, length, map, sum, find, Option, None, Some}
 use Rattle.std.specs.List.{AllByRecursion}
@@ -32,7 +32,7 @@ given_by s (Some j) peer = given (script s j.line.domain) (start s j.line) peer 
 abbrev pub given_back : Scenario → List DomainJournal → ℕ → ℕ → ℕ
 given_back s js d peer = given_by s (find (λ j. j.line.domain == d) js) peer
 
--- each look shows at most what was ever put, less what was taken before it
+-- each look shows at most the frames ever put, less those taken before it
 abbrev pub SeeAtMost : ℕ → ℕ → List Visit → Type 0
 SeeAtMost total taken [] = Unit {0}
 SeeAtMost total taken (v ∷ vs) = (v.see + taken ≤ total) × SeeAtMost total (taken + length v.takes) vs
@@ -45,7 +45,7 @@ SeesAtMost peer total taken (again word ∷ es) = SeesAtMost peer total taken es
 SeesAtMost peer total taken (waits k ∷ es) = SeesAtMost peer total taken es
 SeesAtMost peer total taken (called k a ∷ es) = SeesAtMost peer total taken es
 
--- the two ends of a lane fit together: what is taken is a front of what is put, and no look shows more than there ever is
+-- the two ends of a lane fit together: the frames taken are a prefix of those put, and no look shows more than there ever is
 pub record LaneFits (s : Scenario) (js : List DomainJournal) (l : Lane) : Type 0 where
   pub taken_first : IsPrefix (taken_from l.sender (journal_of l.receiver js)) (put_to l.receiver (journal_of l.sender js))
   pub sees : SeesAtMost l.sender (length (put_to l.receiver (journal_of l.sender js))) 0 (journal_of l.receiver js)
@@ -56,6 +56,6 @@ pub record IsBoardRun (s : Scenario) (js : List DomainJournal) : Type 0 where
   pub domain_runs : AllByRecursion (λ j. IsDomainRun s j.line j.entries) js
   pub lanes_fit : AllByRecursion (LaneFits s js) (lanes s)
 
--- every script is run whole
+-- every script is run to its end
 abbrev pub AreWhole : Scenario → List DomainJournal → Type 0
 AreWhole s js = AllByRecursion (λ j. IsWhole s j.line j.entries) js

@@ -1,4 +1,4 @@
--- What happens by a call. A refused call changes nothing.
+-- What a call changes. A refused call changes nothing.
 -- Source: docs/PROFILE.md, "Calls". E is the endpoint of the line's domain, node and port.
 use Rattle.std.specs.Prelude.{ℕ, ◌+◌, true, false, List, [], ◌∷◌, Option, None, Some, option_map, option_to_list, unwrap_or}
 use Rattle.mc_base.specs.Limits.{first_address}
@@ -15,7 +15,7 @@ use Rattle.board_model.specs.Change.{Change, endpoint_made, endpoint_gone, best_
 use Rattle.board_model.specs.ChannelEnds.{connecting_end, opened_end, closed_end}
 use Rattle.board_model.specs.Answer.{local, address_of, first_complete, refusal, unless_refused}
 
--- by a call at a live endpoint
+-- the changes of a call at a live endpoint
 abbrev pub at_live : {A : Type 0} → Option Endpoint → (Endpoint → List A) → List A
 at_live None f = []
 at_live (Some e) f = f e
@@ -24,7 +24,7 @@ at_live (Some e) f = f e
 abbrev pub best_item : Endpoint → Option Item
 best_item e = best (λ i. i.priority) e.queue
 
--- by a call at a live endpoint with a channel
+-- the changes of a call at a live endpoint with a channel
 abbrev pub at_channel : {A : Type 0} → Option ChannelEnd → (ChannelEnd → List A) → List A
 at_channel None f = []
 at_channel (Some c) f = f c
@@ -37,7 +37,7 @@ at_end (Some e) f = at_channel e.channel (f e)
 abbrev pub new_sender : DomainState → EndName → Kind → ChannelEnd
 new_sender s to kind = connecting_end kind s.number (s.channels_given + 1) to.domain (unwrap_or (address_of s to) 0)
 
--- an end closes. At a receiver's, receives that wait are complete by a word, and all that is queued is dropped
+-- an end closes. At the receiver's end, pending receives are completed with a word, and all queued items are dropped
 abbrev pub closing : Side → Endpoint → ChannelEnd → List Change
 closing Sender e c = buffer_used c.peer ∷ channel_set e.address (closed_end c) ∷ []
 closing Receiver e c = buffer_used c.peer ∷ waiting_ended e.address ChanClosed ∷ queue_dropped e.address (closed_end c) ∷ []
@@ -55,11 +55,11 @@ abbrev pub lent_by_test : Option Request → List Change
 lent_by_test None = []
 lent_by_test (Some r) = lent_by r.asked r.outcome
 
--- a request that is told of ends
+-- a request that a test reports ends
 abbrev pub tested : DomainState → Option ℕ → List Change
 tested s request = request_gone request ∷ lent_by_test (request_at_place s request)
 
--- what happens by success
+-- what a successful call changes
 abbrev pub success_changes : DomainState → ℕ → DomainCall → List Change
 success_changes s node (create_at port) =
     endpoint_made (local node port)
@@ -122,7 +122,7 @@ abbrev pub held_by : Option Request → List Item
 held_by None = []
 held_by (Some r) = message_held r.asked r.outcome
 
--- the items whose buffers success gives back, in that order
+-- the items whose buffers a successful call gives back, in that order
 abbrev pub success_returned : DomainState → ℕ → DomainCall → List Item
 success_returned s node (delete_at port) = at_live (live_at s (local node port)) (λ e. e.queue)
 success_returned s node (receive_at port max) = at_live (live_at s (local node port)) (λ e. option_to_list (best_item e))

@@ -22,17 +22,17 @@ pub data Change : Type 0 where
   oldest_gone : ℕ → Change
   -- an item that comes to the endpoint with this address, whose end of the channel is closed, is lost
   item_lost : ℕ → Item → Change
-  -- the endpoint with this address has this channel from now on, or none; or that, and nothing is queued there any longer
+  -- the endpoint with this address has this channel from now on, or none; the second also empties its queue
   channel_set : ℕ → Option ChannelEnd → Change
   queue_dropped : ℕ → Option ChannelEnd → Change
-  -- a request is given, complete or not
+  -- a request is added, complete or not
   request_added : Asked → Option Outcome → Change
-  -- the oldest receive that waits at the endpoint with this address is complete with the item; all that wait there end with a word
+  -- the oldest receive that waits at the endpoint with this address is completed with the item; all that wait there, with a word
   item_handed : ℕ → Item → Change
   waiting_ended : ℕ → Refusal → Change
-  -- pending lookups of the name are complete with the address
+  -- pending lookups of the name are completed with the address
   name_found : EndName → ℕ → Change
-  -- pending requests to connect on this channel are complete
+  -- pending requests to connect on this channel are completed
   connect_settled : ℕ → Outcome → Change
   -- the request at this place is gone
   request_gone : Option ℕ → Change
@@ -42,7 +42,7 @@ pub data Change : Type 0 where
   reply_owed : ℕ → Reply → Change
   -- the first frame that is owed to the peer is put
   owed_put : ℕ → Change
-  -- so many buffers came back from the peer; so many of its frames are shown; one of these is taken
+  -- this many buffers came back from the peer; this many of its frames are shown; the oldest of these is taken
   buffers_back : ℕ → ℕ → Change
   frames_shown : ℕ → ℕ → Change
   frame_taken : ℕ → Change
@@ -100,7 +100,7 @@ abbrev pub connects_on : ℕ → Asked → Bool
 connects_on n (channel_of m) = m == n
 connects_on n other = false
 
--- the pending ones that ask so are complete
+-- the pending requests that ask for this are completed
 abbrev pub all_done : (Asked → Bool) → Outcome → Request → Request
 all_done asks o r = if is_none r.outcome && asks r.asked then done_with o r else r
 

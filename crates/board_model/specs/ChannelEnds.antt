@@ -1,6 +1,6 @@
 -- One end of a channel: the words by which a call at it is refused, what a call makes of it, and what a letter does to it.
--- Source: docs/PROFILE.md, "Channels". Both tables are of one end alone: what a domain adds to them (its endpoints, its buffers
--- and its requests) is told elsewhere.
+-- Source: docs/PROFILE.md, "Channels". Both tables are of one end alone. What a domain adds to them, its endpoints, buffers and
+-- requests, is in Answer, CallChanges and TakenFrames.
 use Rattle.std.specs.Prelude.{ℕ, Bool, true, false, not, ◌&&◌, ◌||◌, ◌==◌, List, [], ◌∷◌, find, Option, Some, None, if◌then◌else◌}
 use Rattle.mc_base.specs.Letter.{PlainLetter, accept, reject, recv_open, send_open, packet, scalar, send_close, recv_close}
 use Rattle.mc_base.specs.declared.channel.Kind.{Kind}
@@ -51,7 +51,7 @@ same_kind one other = false
 
 -- ---- calls at an end
 
--- an open of this side and kind; a send and a receive of this kind, the latter with so many items in the queue; a close of this side
+-- an open of this side and kind; a send and a receive of this kind, the receive with the length of the queue; a close of this side
 pub data EndCall : Type 0 where
   opens : Side → Kind → EndCall
   sends : Kind → EndCall
@@ -127,7 +127,7 @@ hears_from owner number c = same_side c.side Receiver && (c.number == number && 
 abbrev pub far_closed_end : ChannelEnd → Option ChannelEnd
 far_closed_end c = if is_closed c.stage then None else Some (record c { far_closed = true })
 
--- a row: whether it applies, the frame's word, and the end that is left, or none where the channel ends
+-- a row: whether it applies, the frame's word, and the end after it, or none where the channel ends
 pub record EndRow : Type 0 where
   pub applies : Bool
   pub word : Fate
@@ -136,7 +136,7 @@ pub record EndRow : Type 0 where
 abbrev pub end_row : Bool → Fate → Option ChannelEnd → EndRow
 end_row applies word leaves = record { applies = applies; word = word; leaves = leaves }
 
--- the row for all that is left
+-- the row where none before it applies
 abbrev pub left_row : Option ChannelEnd → EndRow
 left_row c = end_row true fate.State c
 

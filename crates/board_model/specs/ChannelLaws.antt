@@ -1,4 +1,5 @@
--- The law of channels: what holds of each channel on every run of a board of linked domains. Nothing is said of time between two lanes.
+-- The law of channels: what holds of each channel on every run of a board of linked domains. Nothing is said about the order in time of
+-- two lanes.
 -- Source: docs/PROMISES.md, "Channels".
 use Rattle.std.specs.Prelude.{◌≡◌, ℕ, ◌++◌, List}
 use Rattle.board_model.specs.declared.scenario.Scenario.{Scenario}

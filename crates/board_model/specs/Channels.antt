@@ -129,7 +129,7 @@ ItemsArrive s js owner number = (items_accepted s js owner number ≡ []) ⊎ Al
 abbrev pub DroppedOrQueued : Scenario → List DomainJournal → ℕ → ℕ → Type 0
 DroppedOrQueued s js owner number = (items_dropped s js owner number ≡ []) ⊎ (items_queued s js owner number ≡ [])
 
--- ---- the number that a receiver's close answers is that of the items of its channel which it drops
+-- ---- the number that a receiver's close returns is that of the items of its channel which it drops
 
 abbrev pub dropped_at : Option ChannelEnd → DomainState → Deed → List (List ℕ)
 dropped_at None s d = []

@@ -1,5 +1,5 @@
--- The words for what a domain does with a frame that it takes: those of faults, and those by which the buffer stays with the domain.
--- Source: docs/PROFILE.md, "What a domain does with a taken frame". Except for queued and handed the buffer is given back at once.
+-- The words for what a domain does with a frame that it takes: which word each fault has, and with which words it keeps the buffer.
+-- Source: docs/PROFILE.md, "What a domain does with a taken frame". Except where queued or handed, the buffer is given back at once.
 use Rattle.std.specs.Prelude.{ℕ, Bool, true, false, not, ◌&&◌, ◌==◌, List, slice_index}
 use Rattle.mc_base.specs.Limits.{name_service_address}
 use Rattle.mc_base.specs.Frame.{destination_of, payload_of}

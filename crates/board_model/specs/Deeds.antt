@@ -11,8 +11,8 @@ use Rattle.board_model.specs.TakenFrames.{row_of}
 use Rattle.board_model.specs.CallChanges.{call_changes}
 use Rattle.board_model.specs.Answer.{answer}
 
--- at a peer a look shows so many buffers that came back; the first owed frame is put; a look shows so many frames; the oldest of them
--- is taken, under a name or none, and with its word. A call is made at a node, with its answer
+-- at a peer: a look shows this many buffers that came back; the first owed frame is put; a look shows this many frames; the oldest of
+-- them is taken, under a name or none, with its word. At a node: a call is made, with its answer
 pub data Deed : Type 0 where
   looks_back : ℕ → ℕ → Deed
   puts_owed : ℕ → List ℕ → Deed
@@ -20,7 +20,7 @@ pub data Deed : Type 0 where
   takes : ℕ → Option ℕ → List ℕ → Fate → Deed
   calls : ℕ → DomainCall → PlainAnswer → Deed
 
--- what happens by it
+-- what a deed changes
 abbrev pub happens_by : DomainState → Deed → List Change
 happens_by s (looks_back peer count) = buffers_back peer count ∷ []
 happens_by s (puts_owed peer frame) = owed_put peer ∷ []
@@ -28,7 +28,7 @@ happens_by s (looks_ahead peer count) = frames_shown peer count ∷ []
 happens_by s (takes peer name frame word) = frame_taken peer ∷ (row_of s peer name (reading frame)).happens
 happens_by s (calls node call a) = call_changes s node call
 
--- a deed that the state allows: what is put is owed, a word is that of its row, and an answer that of the call
+-- a deed that the state allows: what is put is owed, the word is that of the frame's row, and the answer is that of the call
 abbrev pub MayDo : DomainState → Deed → Type 0
 MayDo s (looks_back peer count) = Unit {0}
 MayDo s (puts_owed peer frame) = (p : Peer) × (rest : List (List ℕ)) × (peer_at s peer ≡ Some p) × (owed_to s.number p ≡ frame ∷ rest)

@@ -1,4 +1,4 @@
--- Calls as a domain knows them: requests are named by their places among those that stand, lent packets by theirs, and no label is left.
+-- Calls as a domain knows them: requests and lent packets are named by their places in the domain's lists, and no label is left.
 -- Source: docs/PROFILE.md, "Calls".
 use Rattle.std.specs.Prelude.{ℕ, Bool, List, Option}
 use Rattle.mc_base.specs.declared.name.EndName.{EndName}

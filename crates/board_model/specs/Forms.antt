@@ -42,7 +42,7 @@ Value Limit = ℕ
 Value PeerDomain = ℕ
 Value RawFrame = List ℕ
 
--- how many bits the argument after this one has, where this one tells it
+-- how many bits the argument after this one has, where this one sets it
 abbrev pub bits_told : (kind : ArgumentKind) → Value kind → ℕ
 bits_told ScalarBits bits = 8 * bytes_of_bits bits
 bits_told kind value = 0
@@ -51,11 +51,11 @@ abbrev pub are_three : List (List ℕ) → Bool
 are_three (d ∷ n ∷ p ∷ []) = true
 are_three parts = false
 
--- the kind of a channel with this word
+-- the kind of channel that a word names
 abbrev pub kind_in : List ℕ → Option Kind
 kind_in word = if bytes_eq word (codes "packet") then Some kind.Packet else if bytes_eq word (codes "scalar") then Some kind.Scalar else None
 
--- the number of bits of this number
+-- the size of a scalar with this many bits
 abbrev pub bits_of : ℕ → Option Bits
 bits_of n = if n == 8 then Some B8 else if n == 16 then Some B16 else if n == 32 then Some B32 else if n == 64 then Some B64 else None
 
@@ -80,7 +80,7 @@ abbrev pub name_numerals : List (List ℕ) → List Numeral
 name_numerals (d ∷ n ∷ p ∷ []) = numeral 0 7 d ∷ numeral 0 15 n ∷ numeral 0 65535 p ∷ []
 name_numerals parts = []
 
--- what has to be a number in it. `bits` is what the argument before tells
+-- what has to be a number in it. `bits` is what the argument before it sets
 abbrev pub argument_numerals : ArgumentKind → (bits : ℕ) → List ℕ → List Numeral
 argument_numerals Port bits word = numeral 0 65535 word ∷ []
 argument_numerals Name bits word = name_numerals (parts_at 58 word)
@@ -98,7 +98,7 @@ argument_contents Content word = content 0 asked_limit word ∷ []
 argument_contents RawFrame word = content 1 longest_frame word ∷ []
 argument_contents kind word = []
 
--- calls that give a request, which can be tested and cancelled
+-- calls that create a request, which can be tested and cancelled
 abbrev pub gives_request : Call → Bool
 gives_request (Lookup name) = true
 gives_request (MsgRecvI port max) = true
@@ -106,7 +106,7 @@ gives_request (Connect port to kind) = true
 gives_request (PktRecvI port) = true
 gives_request call = false
 
--- calls that give a packet, now or by their request, which can be released
+-- calls that lend a packet, now or by their request, which can be released
 abbrev pub gives_packet : Call → Bool
 gives_packet (PktRecv port) = true
 gives_packet (PktRecvI port) = true
@@ -138,7 +138,7 @@ name_in word = name_from (parts_at 58 word)
 abbrev pub label_of : List ℕ → ArrayVec ℕ
 label_of word = record { items = word }
 
--- what a word says that has the form, the numbers and the bytes of its kind
+-- the value of a word that has the form, the numbers and the bytes of its kind
 abbrev pub value : (kind : ArgumentKind) → List ℕ → Value kind
 value Port word = number word
 value Name word = name_in word
@@ -162,7 +162,7 @@ abbrev pub Values : List ArgumentKind → Type 0
 Values [] = Unit {0}
 Values (k ∷ ks) = Value k × Values ks
 
--- what makes a call of arguments
+-- a function that makes a call of arguments
 abbrev pub Makes : List ArgumentKind → Type 0
 Makes [] = Call
 Makes (k ∷ ks) = Value k → Makes ks
@@ -260,7 +260,7 @@ callee_of word = callee_among callees word
 
 -- ---- lines
 
--- the parts of a call line: D.N, the label and the number of tries where they are told, and the arguments
+-- the parts of a call line: D.N, the label and the number of tries where the line has them, and the arguments
 pub record CallParts : Type 0 where
   pub domain : List ℕ
   pub node : List ℕ
@@ -286,12 +286,12 @@ abbrev pub link_form : List (List ℕ) → Option LineParts
 link_form (a ∷ b ∷ v ∷ q ∷ []) = if bytes_eq v (codes "size") then Some (link_parts a b q) else None
 link_form words = None
 
--- what stands before the call for its label, and the words after it
+-- the word in front of `=`, if there is one, and the words after it
 abbrev pub told_at : List (List ℕ) → Option (List ℕ) × List (List ℕ)
 told_at (w ∷ v ∷ ws) = if bytes_eq v (codes "=") then (Some w, ws) else (None, w ∷ v ∷ ws)
 told_at words = (None, words)
 
--- what stands before the call for its tries, and the words after it
+-- the word after `try`, if there is one, and the words after it
 abbrev pub tries_at : List (List ℕ) → Option (List ℕ) × List (List ℕ)
 tries_at (w ∷ v ∷ ws) = if bytes_eq w (codes "try") then (Some v, ws) else (None, w ∷ v ∷ ws)
 tries_at words = (None, words)

@@ -1,7 +1,7 @@
 -- The buffers that a run gives back to a peer: the places, among the frames taken from the peer, of those whose buffers were given
 -- back, in the order of giving back.
--- Source: docs/PROFILE.md, "Lanes". The buffer of a frame that is neither queued nor handed is given back at once. The others are by the
--- call that drops, receives or tests off the frame's item.
+-- Source: docs/PROFILE.md, "Lanes". The buffer of a frame that is neither queued nor handed is given back at once, and any other by the
+-- call that drops or receives the frame's item or ends its request.
 use Rattle.std.specs.Prelude.{ℕ, ◌==◌, List, [], filter, Option, option_to_list, if◌then◌else◌}
 use Rattle.std.specs.List.{flat_map}
 use Rattle.mc_base.specs.declared.fate.Fate.{Fate}
@@ -13,7 +13,7 @@ use Rattle.board_model.specs.CallChanges.{returned}
 use Rattle.board_model.specs.Deeds.{Deed, takes, calls, along}
 use Rattle.board_model.specs.JournalDeeds.{deeds_of, opened}
 
--- the frame of this name, where its word lets go of its buffer
+-- the name of the frame, where its word gives its buffer back at once
 abbrev pub given_at_once : Fate → Option ℕ → List ℕ
 given_at_once word name = if keeps_buffer word then [] else option_to_list name
 

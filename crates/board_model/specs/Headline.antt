@@ -15,20 +15,20 @@ use Rattle.board_model.specs.Takings.{messages_taken}
 use Rattle.board_model.specs.MessageOrder.{ReceivesBest, TestsTellTaken, DeletesTellDropped, CancelledTookNothing}
 use Rattle.board_model.specs.Places.{EveryBuffer}
 
--- each message that was accepted was taken or dropped, or is queued or in the ring, each as often: as many of the ones as
--- of the others pass any test
+-- each message that was accepted was taken or dropped, or is queued or in the ring, each as often as it was accepted: any test
+-- passes as many of the former as of the latter
 abbrev pub NoMessageLost : Scenario → List DomainJournal → Type 0
 NoMessageLost s js = (test : Message → Bool) → count_by test (accepted s js) ≡ count_by test (messages_taken s js) + count_by test (dropped s js) + count_by test (messages_queued s js) + count_by test (messages_in_ring s js)
 
 pub record Headline (s : Scenario) (js : List DomainJournal) : Type 0 where
   pub channel_prefix : (sender channel : ℕ) → IsPrefix (items_taken s js sender channel) (items_accepted s js sender channel)
   pub best_first : AllByRecursion (ReceivesBest s) js
-  -- a receive by request is told by the test of the request
+  -- the test of a request to receive returns what the request took
   pub tests_tell_taken : AllByRecursion (TestsTellTaken s) js
   -- a delete answers how many messages it dropped
   pub deletes_tell_dropped : AllByRecursion (DeletesTellDropped s) js
   pub cancelled_nothing : AllByRecursion (CancelledTookNothing s) js
-  -- and so does a receiver's close of the items of its channel
+  -- a receiver's close answers how many items of its channel it dropped
   pub closes_tell_dropped : AllByRecursion (ClosesTellDropped s) js
   pub items_kept : (sender channel : ℕ) → items_accepted s js sender channel ≡ items_taken s js sender channel ++ items_left s js sender channel
   -- each item that was accepted is queued, handed or dropped by its receiver, as soon as its frame is taken

@@ -12,20 +12,20 @@ use Rattle.board_model.specs.Board.{DomainJournal, IsBoardRun}
 use Rattle.board_model.specs.Deeds.{Deed, after_deeds}
 use Rattle.board_model.specs.JournalDeeds.{deeds_of, opened, left_in}
 
--- an address that a domain gave which made so many endpoints
+-- an address that a domain has given, once it has made this many endpoints
 pub record IsMade (endpoints a : ℕ) : Type 0 where
   pub above : first_address ≤ a
   pub below : a < first_address + endpoints
 
--- an address that the domain of this number gave, as its journal tells. It makes 60,000 endpoints at most, so the address is 1024 or
--- more and below 61,024
+-- an address that the domain of this number gave, by its journal. It makes 60,000 endpoints at most, so the address is 1024 or more and
+-- below 61,024
 pub record IsReal (s : Scenario) (js : List DomainJournal) (domain a : ℕ) : Type 0 where
   pub journal : DomainJournal
   pub is_found : find (λ j. j.line.domain == domain) js ≡ Some journal
   pub made : IsMade (left_in s journal).endpoints_given a
   pub few : (left_in s journal).endpoints_given ≤ creation_limit
 
--- after the deeds so far of a journal, each address that is known of a name of a peer is a real one of that peer
+-- after any of the first deeds of a journal, each address that is known for a name of a peer is a real one of that peer
 abbrev pub KnowsReal : Scenario → List DomainJournal → DomainJournal → Type 0
 KnowsReal s js j = (before after : List Deed) → deeds_of s j ≡ before ++ after → (peer : ℕ) (p : Peer) → peer_at (after_deeds (opened s j) before) peer ≡ Some p → (n : EndName) (a : ℕ) → address_in n p.known ≡ Some a → IsReal s js peer a
 

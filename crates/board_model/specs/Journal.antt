@@ -1,6 +1,6 @@
 -- Journals: what a domain did, entry by entry, and the lines of a journal as it is written, with idle turns and tries joined.
--- Source: docs/FORMATS.md, "Journal text". A plain turn holds for each peer what it did there; the lines leave out looks
--- that showed nothing, and tell by one line idle turns in a row, and tries in a row that each followed one idle turn.
+-- Source: docs/FORMATS.md, "Journal text". A plain turn has for each peer what it did there. The lines leave out looks that showed
+-- nothing, and have one line for idle turns in a row, and for tries in a row that each followed one idle turn.
 use Rattle.std.specs.Prelude.{ℕ, ◌+◌, ◌-◌, ◌^◌, nat_lt, Bool, false, ◌&&◌, List, [], ◌∷◌, ◌++◌, length, ◌==◌, if◌then◌else◌, map, take, Option, Some, None, slice_get, slice_set}
 use Rattle.std.specs.List.{flat_map, list_all}
 use Rattle.mc_base.specs.declared.channel.Reason.{Reason}
@@ -8,8 +8,8 @@ use Rattle.mc_base.specs.declared.refusal.Refusal.{Refusal}
 use Rattle.mc_base.specs.declared.fate.Fate.{Fate}
 use Rattle.board_model.specs.Words.{same_word}
 
--- how a request was complete: with an address; accepted or rejected; with the size of a message or packet and the bytes that
--- were given; or with a word
+-- how a request was completed: with an address; accepted or rejected; with the size of a message or packet and the bytes that were
+-- returned; or with a word
 pub data PlainResult : Type 0 where
   found_at : ℕ → PlainResult
   was_accepted : PlainResult
@@ -18,8 +18,7 @@ pub data PlainResult : Type 0 where
   ended_by : Refusal → PlainResult
 
 -- the answer of a call: a word of refusal; ok; ok with a number; ok with the numbers of a request and of a channel; ok with a size and
--- the bytes that were given; or done, with the place of the request among those that were named, or none where one alone was, and how
--- it was complete
+-- the bytes returned; or done, with the place of the request among those named, or none where only one was, and how it was completed
 pub data PlainAnswer : Type 0 where
   refuses : Refusal → PlainAnswer
   agrees : PlainAnswer
@@ -111,7 +110,7 @@ abbrev pub is_one_idle : Option Line → Bool
 is_one_idle (Some (idle_line n)) = n == 1
 is_one_idle other = false
 
--- a call that is made again after one idle turn takes that line away and is told with it
+-- a call that is made again after one idle turn replaces that turn's line by one for both
 abbrev pub noted_again : Refusal → List Line → List Line
 noted_again word lines = if is_one_idle (slice_get lines (length lines - 1)) then noted_spin word (take (length lines - 1) lines) else lines ++ again_line word ∷ []
 

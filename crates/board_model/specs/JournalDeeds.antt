@@ -1,4 +1,4 @@
--- The deeds that a journal tells of. A taken frame is named by its place among the frames taken from its peer, counted from 0.
+-- The deeds of a journal. A taken frame is named by its place among the frames taken from its peer, counted from 0.
 -- Source: docs/PROFILE.md, "Runs".
 use Rattle.std.specs.Prelude.{ℕ, ◌+◌, List, [], ◌∷◌, ◌++◌, length, Option, None, Some}
 use Rattle.std.specs.List.{flat_map}
@@ -14,7 +14,7 @@ use Rattle.board_model.specs.Traffic.{taken_from}
 use Rattle.board_model.specs.Board.{DomainJournal}
 use Rattle.board_model.specs.Deeds.{Deed, calls, after_deeds}
 
--- the names of frames of which so many were taken before
+-- the names of frames, after this many were taken
 abbrev pub names_from : ℕ → ℕ → Option ℕ
 names_from first k = Some (first + k)
 

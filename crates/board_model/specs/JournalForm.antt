@@ -1,12 +1,12 @@
--- The form of a plain journal, which asks no state of the domain: its peers and its script.
--- Source: docs/FORMATS.md, "Journal text". A turn visits each peer once, in their order; the puts of a call stand directly before
+-- The form of a plain journal. It depends on the peers and the script of the domain, and on no state.
+-- Source: docs/FORMATS.md, "Journal text". A turn visits each peer once, in their order; the puts of a call come directly before
 -- it, as many as its answer says that it made.
 use Rattle.std.specs.Prelude.{◌≡◌, ℕ, ◌+◌, List, [], ◌∷◌, map}
 use Rattle.board_model.specs.declared.scenario.CallLine.{CallLine}
 use Rattle.board_model.specs.Journal.{PlainEntry, turned, put, again, waits, called}
 use Rattle.board_model.specs.Unjoined.{puts_of, line_numbered}
 
--- the entries from one on, where so many puts stand directly before
+-- the entries from one on, which this many puts come directly before
 abbrev pub IsFrom : List ℕ → List CallLine → ℕ → List PlainEntry → Type 0
 IsFrom peers script n [] = n ≡ 0
 IsFrom peers script n (turned vs ∷ es) = (n ≡ 0) × (map (λ v. v.peer) vs ≡ peers) × IsFrom peers script 0 es

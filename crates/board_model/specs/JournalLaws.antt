@@ -16,10 +16,10 @@ use Rattle.board_model.specs.JournalParts.{Part, part_lines, part_entries, Stand
 abbrev pub JoinedIsReadBack : Type 0
 JoinedIsReadBack = (s : Scenario) (d : DomainLine) (es : List PlainEntry) → IsLawfulBoard s → IsJournal (peers_of s d) (script s d.domain) es → unjoined s d (joined es) ≡ es
 
--- parts that stand behind each other unjoined are the joined lines of their entries
+-- parts of which none can be joined to the lines before it are the joined lines of their entries
 abbrev pub PartsAreJoined : Type 0
 PartsAreJoined = (peers : List ℕ) (ps : List Part) → StandBehind [] ps → joined (flat_map (part_entries peers) ps) ≡ flat_map part_lines ps
 
--- and every plain journal is written by such parts
+-- and every plain journal consists of such parts
 abbrev pub JournalsHaveParts : Type 0
 JournalsHaveParts = (peers : List ℕ) (script : List CallLine) (es : List PlainEntry) → IsJournal peers script es → (ps : List Part) × StandBehind [] ps × (flat_map (part_entries peers) ps ≡ es) × (joined es ≡ flat_map part_lines ps)

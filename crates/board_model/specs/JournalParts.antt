@@ -38,7 +38,7 @@ last_line lines = slice_get lines (length lines - 1)
 abbrev pub IsCount : ℕ → Type 0
 IsCount n = (1 ≤ n) × (n ≤ 2 ^ 64 - 1)
 
--- the part stands behind these lines as it is, joined to none of them
+-- the part follows these lines as it is, joined to none of them
 abbrev pub StandsBehind : List Line → Part → Type 0
 StandsBehind lines (idles n) = IsCount n × (joinable (last_line lines) ≡ None)
 StandsBehind lines (spins n word) = IsCount n × (joinable (last_line lines) ≡ None) × (spinning word (last_line lines) ≡ None)

@@ -12,12 +12,12 @@ use Rattle.board_model.specs.DomainCall.{DomainCall, create_at, delete_at, looku
 use Rattle.board_model.specs.State.{DomainState, Asked, Outcome, Request, packet_at, has_item, request_at_place, place_of_request, place_of_packet}
 use Rattle.board_model.specs.Answer.{is_complete_at, first_complete, refusal, unless_refused}
 
--- a label, and the serial of the request or packet that was given for it
+-- a label, and the serial of the request or packet that it names
 pub record Labelled : Type 0 where
   pub label : List ℕ
   pub serial : ℕ
 
--- the requests and the packets that were given for labels. A label of a request for a packet comes to have both
+-- the requests and the packets that labels name. A label of a request for a packet names the packet too, once it is lent
 pub record Labels : Type 0 where
   pub requests : List Labelled
   pub packets : List Labelled
@@ -25,11 +25,11 @@ pub record Labels : Type 0 where
 abbrev pub no_labels : Labels
 no_labels = record { requests = []; packets = [] }
 
--- the serial that was given for a label
+-- the serial of a label
 abbrev pub serial_of : List Labelled → List ℕ → Option ℕ
 serial_of labels label = option_map (λ l. l.serial) (find (λ l. bytes_eq l.label label) labels)
 
--- the place of its request among the requests that stand
+-- the place of its request among the domain's requests
 abbrev pub place_of_label : List Labelled → DomainState → List ℕ → Option ℕ
 place_of_label requests s label = option_and_then (place_of_request s) (serial_of requests label)
 
@@ -64,7 +64,7 @@ call_of labels s (Cancel label) = cancel_of (place_of_label labels.requests s la
 call_of labels s (Raw domain bytes) = raw_to domain bytes
 call_of labels s Turn = turn_alone
 
--- the serial of the request that success gives
+-- the serial of the request that a successful call creates
 abbrev pub success_request : DomainState → DomainCall → Option ℕ
 success_request s (lookup_of name) = Some s.requests_given
 success_request s (request_at port max) = Some s.requests_given
@@ -84,7 +84,7 @@ abbrev pub packet_tested : DomainState → Option Request → Option ℕ
 packet_tested s None = None
 packet_tested s (Some r) = packet_brought s r.asked r.outcome
 
--- the serial of the packet that success lends
+-- the serial of the packet that a successful call lends
 abbrev pub success_packet : DomainState → DomainCall → Option ℕ
 success_packet s (lend_at port) = Some s.packets_lent
 success_packet s (test_of request) = packet_tested s (request_at_place s request)
@@ -94,12 +94,12 @@ success_packet s other = None
 abbrev pub packet_given : DomainState → ℕ → DomainCall → Option ℕ
 packet_given s node call = unless_refused (refusal s node call) None (success_packet s call)
 
--- a label has what was given for it
+-- the labels with one more, where a line has a label and its call created something for it
 abbrev pub with_label : List Labelled → Option (List ℕ) → Option ℕ → List Labelled
 with_label labels (Some label) (Some serial) = labels ++ record { label = label; serial = serial } ∷ []
 with_label labels label serial = labels
 
--- the label that a packet is lent under: the line's own, or that of the request which is told of
+-- the label that a packet is lent under: the line's own, or that of the request which the call reports complete
 abbrev pub is_complete_label : Labels → DomainState → List ℕ → Bool
 is_complete_label labels s label = is_complete_at s (place_of_label labels.requests s label)
 

@@ -1,4 +1,4 @@
--- Which texts tell which scenario, and for which line and reason another text is refused: the first line that has a reason,
+-- Which text is of which scenario, and for which line and reason any other text is refused: the first line that has a reason,
 -- and the first reason of that line.
 -- Source: docs/FORMATS.md, "Scenario files". A file without a domain line is refused as `domain` at the line after its last.
 use Rattle.std.specs.Prelude.{◌≡◌, ℕ, ◌+◌, ◌-◌, ◌^◌, ◌<◌, List, [], ◌∷◌, length, Option, None, Some, Result, Ok, Err, if◌then◌else◌}
@@ -24,15 +24,15 @@ abbrev pub unless_refused : ℕ → Option LineReason → Result Scenario Refuse
 unless_refused n None rest = rest
 unless_refused n (Some reason) rest = Err (refused n reason)
 
--- the lines of a file from this one on, after what the lines above it have told
+-- the lines of a file from this one on, with the scenario of the lines above it
 abbrev pub told_from : ℕ → Scenario → List (List ℕ) → Result Scenario RefusedLine
 told_from n above [] = if is_empty above.domains then Err (refused n Domain) else Ok above
 told_from n above (line ∷ lines) = unless_refused n (line_reason above line) (told_from (n + 1) (with_parts above (parts_of (words_of line))) lines)
 
--- what a text tells
+-- the scenario of a text, or the line for which it is refused
 abbrev pub told_by : List ℕ → Result Scenario RefusedLine
 told_by text = told_from 1 nothing_told (lines_of text)
 
--- a scenario is lawful where a text of a size that can be read tells it
+-- a scenario is lawful where it is that of a text small enough to be read
 abbrev pub IsLawfulBoard : Scenario → Type 0
 IsLawfulBoard s = (text : List ℕ) × (length text < 2 ^ 32 - 2) × (told_by text ≡ Ok s)

@@ -1,4 +1,4 @@
--- The laws of the scenario language: what holds of every scenario that a text tells.
+-- The laws of the scenario language: what holds of every scenario that has a text.
 -- Source: docs/FORMATS.md, "Scenario files"; docs/PROFILE.md, "Serial run"; docs/PROMISES.md, "The headline".
 use Rattle.board_model.specs.declared.scenario.Scenario.{Scenario}
 use Rattle.board_model.specs.Language.{IsLawfulBoard}

@@ -1,4 +1,4 @@
--- The reasons for which a line is refused, in their order, given what the lines above have told.
+-- The reasons for which a line is refused, in their order. They depend on the scenario of the lines above.
 -- Source: docs/FORMATS.md, "Scenario files", the list of reasons. The first that holds counts.
 use Rattle.std.specs.Prelude.{ℕ, Bool, true, false, not, ◌&&◌, ◌||◌, List, [], ◌∷◌, ◌++◌, length, bytes_eq, nat_le, nat_lt, ◌==◌, Option, None, Some, is_none, if◌then◌else◌}
 use Rattle.std.specs.List.{list_all, list_any}
@@ -32,7 +32,7 @@ is_late above other = false
 abbrev pub is_domain : Scenario → ℕ → Bool
 is_domain above d = list_any (λ line. line.domain == d) above.domains
 
--- a domain told twice, or named by a link or as the domain of a call line and not told
+-- a domain that is declared twice, or that a link or call line names and no line above declares
 abbrev pub has_wrong_domain : Scenario → Statement → Bool
 has_wrong_domain above says_none = false
 has_wrong_domain above (says_domain d) = is_domain above d.domain
@@ -55,23 +55,23 @@ abbrev pub is_label_in : List ℕ → Option (List ℕ) → Bool
 is_label_in label None = false
 is_label_in label (Some told) = bytes_eq label told
 
--- a line of this domain tells the label
+-- a line of this domain introduces the label
 abbrev pub tells : ℕ → List ℕ → CallLine → Bool
 tells d label c = c.domain == d && is_label_in label (label_in c)
 
 abbrev pub is_told : Scenario → ℕ → List ℕ → Bool
 is_told above d label = list_any (tells d label) above.calls
 
--- and its call is one of these
+-- some line above introduces the label, by one of these calls
 abbrev pub is_told_of : (Call → Bool) → Scenario → ℕ → List ℕ → Bool
 is_told_of may_be_of above d label = list_any (λ c. tells d label c && may_be_of c.call) above.calls
 
--- a label told where the form has none, or told twice in its domain
+-- a label that is introduced where the form has none, or twice in its domain
 abbrev pub tells_wrong_label : Scenario → Bool → ℕ → Option (List ℕ) → Bool
 tells_wrong_label above labelled d None = false
 tells_wrong_label above labelled d (Some label) = not labelled || is_told above d label
 
--- a label that the same domain has not told before, or of the wrong call
+-- a label that no line of the same domain above introduces, or by a call of the wrong kind only
 abbrev pub names_wrong_label : Scenario → ℕ → List NamedLabel → Bool
 names_wrong_label above d labels = list_any (λ l. not (is_told_of l.may_be_of above d l.word)) labels
 
@@ -130,7 +130,7 @@ first_reason (t ∷ ts) = if t.holds then Some t.reason else first_reason ts
 abbrev pub line_reason : Scenario → List ℕ → Option LineReason
 line_reason above line = first_reason (reasons above line)
 
--- what is told after a line
+-- the scenario with one line more
 abbrev pub with_statement : Scenario → Statement → Scenario
 with_statement above says_none = above
 with_statement above (says_domain d) = record above { domains = above.domains ++ (d ∷ []) }

@@ -1,4 +1,4 @@
--- Boards of linked domains: what the lines of a scenario keep so that its domains, links and calls fit together.
+-- Boards of linked domains: scenarios whose domains, links and calls fit together.
 -- Source: docs/FORMATS.md, "Scenario files".
 use Rattle.std.specs.Prelude.{◌≡◌, ◌⊎◌, ℕ, ◌*◌, ◌≤◌, ◌<◌, ◌^◌, List, [], ◌∷◌, map, length, Contains}
 use Rattle.std.specs.List.{AllByRecursion}
@@ -16,11 +16,11 @@ abbrev pub Differ : List ℕ → Type 0
 Differ [] = Unit {0}
 Differ (n ∷ ns) = AllByRecursion (λ m. m ≡ n → ⊥) ns × Differ ns
 
--- a domain that is told
+-- a domain that is declared
 abbrev pub IsTold : Scenario → ℕ → Type 0
 IsTold s d = Contains (map (λ l. l.domain) s.domains) d
 
--- a link joins two domains that are told
+-- a link joins two domains that are declared
 pub record Joins (s : Scenario) (l : LinkLine) : Type 0 where
   pub driver_told : IsTold s l.driver
   pub device_told : IsTold s l.device

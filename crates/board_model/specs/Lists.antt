@@ -37,6 +37,6 @@ abbrev pub with_rising : ℕ → List ℕ → List ℕ
 with_rising n [] = n ∷ []
 with_rising n (m ∷ ms) = if nat_lt n m then n ∷ m ∷ ms else m ∷ with_rising n ms
 
--- the one list begins with the other
+-- the first list is a prefix of the second
 abbrev pub IsPrefix : {A : Type 0} → List A → List A → Type 0
 IsPrefix {A = A} xs ys = (rest : List A) × (ys ≡ xs ++ rest)

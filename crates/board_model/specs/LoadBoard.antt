@@ -1,7 +1,7 @@
 -- The load board of n packets: four domains in a ring of links, of which each sends n packets to the domain after it over one
 -- channel, and receives and releases those of the domain before it.
 -- Source: docs/FORMATS.md, "The load board". The lines come in groups. Each group is written for the domains 0 to 3 before the next begins.
-use Rattle.std.specs.Prelude.{ℕ, zero, suc, ◌+◌, ◌%◌, List, [], ◌∷◌, ◌++◌, map, codes, decimal, Option, None, Some}
+use Rattle.std.specs.Prelude.{ℕ, zero, suc, ◌+◌, ◌%◌, List, [], ◌∷◌, ◌++◌, map, codes, decimal, None, Some}
 use Rattle.std.specs.List.{flat_map}
 use Rattle.byteorder.specs.Endian.{little_bytes}
 use Rattle.mc_base.specs.Limits.{try_limit}
@@ -39,7 +39,7 @@ far_end d = record { domain = next_on_ring d; node = 0; port = 2 }
 abbrev pub once : ℕ → Call → CallLine
 once d call = record { domain = d; node = 0; label = None; tries = None; call = call }
 
--- the most tries that there are
+-- the call, made again as often as a line allows
 abbrev pub tried : ℕ → Call → CallLine
 tried d call = record { domain = d; node = 0; label = None; tries = Some try_limit; call = call }
 
@@ -49,7 +49,7 @@ labelled d label call = record { domain = d; node = 0; label = Some (label_of la
 abbrev pub labelled_tried : ℕ → List ℕ → Call → CallLine
 labelled_tried d label call = record { domain = d; node = 0; label = Some (label_of label); tries = Some try_limit; call = call }
 
--- waits as long as there is
+-- waits with the largest limit
 abbrev pub waited : ℕ → List ℕ → CallLine
 waited d label = once d (Wait (label_of label) try_limit)
 
@@ -117,7 +117,7 @@ load_calls n = opening ++ (exchanges n ++ closing)
 abbrev pub ring_board : List CallLine → Scenario
 ring_board calls = record { domains = map ring_domain ring_numbers; links = map ring_link ring_numbers; calls = calls }
 
--- it stands by itself, so that a run of it is not computed
+-- it is not unfolded, so that a proof never computes a run of it
 unfoldable pub load_board : ℕ → Scenario
 load_board n = ring_board (load_calls n)
 

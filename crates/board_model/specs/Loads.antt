@@ -7,7 +7,7 @@ use Rattle.board_model.specs.State.{DomainState, Item, is_from, peer_of}
 use Rattle.board_model.specs.Turn.{turn_limit, after_visit}
 use Rattle.board_model.specs.Serial.{due_to, visit_of, returned_at_once}
 
--- a lane, the frames that were put on it and not taken, and how many of its buffers were given back and not shown
+-- a lane, the frames put on it and not taken, and how many of its buffers were given back and not shown
 pub record Load : Type 0 where
   pub sender : ℕ
   pub receiver : ℕ

@@ -8,13 +8,13 @@ use Rattle.board_model.specs.Board.{DomainJournal, IsBoardRun}
 use Rattle.board_model.specs.MessageOrder.{ReceivesBest, TestsTellTaken, DeletesTellDropped, CancelledTookNothing}
 use Rattle.board_model.specs.Headline.{NoMessageLost}
 
--- each message receive takes the oldest of the best priority that stands, or, where none does, the message that comes in that moment;
--- and one that answers gives the size and the first bytes of what it took
+-- each message receive takes the oldest queued message of the best priority, or, where none is queued, the message that comes in that
+-- moment; and one that answers returns the size and the first bytes of what it took
 abbrev pub ReceivesTakeTheBest : Type 0
 ReceivesTakeTheBest = (s : Scenario) (j : DomainJournal) → IsLinkedBoard s → IsDomainRun s j.line j.entries → ReceivesBest s j
 
--- each test answers by what was asked, and of a request for a message what it took: one message, of which it gives the size and the
--- first bytes, or none
+-- each test answers as the kind of its request requires, and for a request for a message by what it took: one message, of which it
+-- returns the size and the first bytes, or none
 abbrev pub TestsTellWhatWasTaken : Type 0
 TestsTellWhatWasTaken = (s : Scenario) (j : DomainJournal) → IsLinkedBoard s → IsDomainRun s j.line j.entries → TestsTellTaken s j
 

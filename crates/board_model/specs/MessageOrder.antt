@@ -21,7 +21,7 @@ use Rattle.board_model.specs.Deeds.{Deed, takes, calls, after_deeds, along, Each
 use Rattle.board_model.specs.JournalDeeds.{deeds_of, opened}
 use Rattle.board_model.specs.Takings.{Taking, is_message_taking, takings_by, took_something, cancelled_in}
 
--- ---- what stands at an endpoint: the messages that came to its address with the word queued, and were neither taken nor dropped
+-- ---- what is queued at an endpoint: the messages that came to its address with the word queued, and were neither taken nor dropped
 
 abbrev pub item_said : ℕ → ℕ → Option ℕ → Reading → List Item
 item_said address peer name (says source destination (msg priority content)) = if destination == address then message_item peer name source priority content ∷ [] else []
@@ -53,12 +53,12 @@ gone_from address s d = flat_map (items_at address) (takings_by s d) ++ dropped_
 abbrev pub is_same : Item → Item → Bool
 is_same i j = i.peer == j.peer && bytes_eq i.frames j.frames
 
--- after these deeds, in the order in which they came
+-- what is queued after these deeds, in the order in which it came
 abbrev pub standing : DomainState → List Deed → ℕ → List Item
 standing start before address = filter (λ i. not (list_any (is_same i) (along (gone_from address) start before))) (along (came_to address) start before)
 
--- ---- a receive takes the best of what stands. Where nothing stands, the message that comes in that moment is taken, by the oldest
--- receive that waits
+-- ---- a receive takes the best of what is queued. Where nothing is queued, the message that comes in that moment is taken, by the
+-- oldest receive that waits
 
 abbrev pub is_handed : Fate → Bool
 is_handed Handed = true
@@ -84,7 +84,7 @@ pub record Gives (max : ℕ) (i : Item) (size : ℕ) (bytes : List ℕ) : Type 0
   pub whole : size ≡ length i.content
   pub first : bytes ≡ take max i.content
 
--- a receive that answers gives what it took, and no more
+-- a receive that answers returns what it took, and no more
 abbrev pub GivesTaken : DomainState → Deed → Type 0
 GivesTaken s (calls node (receive_at port max) (gives size bytes)) = (t : Taking) × (takings_by s (calls node (receive_at port max) (gives size bytes)) ≡ t ∷ []) × Gives max t.item size bytes
 GivesTaken s other = Unit {0}
@@ -92,7 +92,7 @@ GivesTaken s other = Unit {0}
 abbrev pub TakesBest : DomainState → List Deed → Deed → Type 0
 TakesBest start before d = EachBest start before d × GivesTaken (after_deeds start before) d
 
--- ---- what a test or a wait answers, by what was asked
+-- ---- what a test or a wait answers, by what its request asked for
 
 -- the items that the request of this serial took
 abbrev pub is_by : ℕ → Option ℕ → Bool
@@ -107,20 +107,20 @@ pub record TellsTaken (max : ℕ) (took : List Item) (size : ℕ) (bytes : List 
   pub taken : took ≡ item ∷ []
   pub gives : Gives max item size bytes
 
--- of a request for a message: the message that it took, and no other; or, by a word, that it took none
+-- for a request for a message: the message that it took, and no other; or, where it answers a word, that it took none
 abbrev pub TellsMessage : ℕ → List Item → PlainAnswer → Type 0
 TellsMessage max took (completes None (brought size bytes)) = TellsTaken max took size bytes
 TellsMessage max took (completes None (ended_by word)) = took ≡ []
 TellsMessage max took (refuses word) = took ≡ []
 TellsMessage max took other = ⊥
 
--- of a lookup: an address, or a word; it took nothing
+-- for a lookup: an address, or a word; it took nothing
 abbrev pub TellsAddress : List Item → PlainAnswer → Type 0
 TellsAddress took (completes None (found_at address)) = took ≡ []
 TellsAddress took (refuses word) = took ≡ []
 TellsAddress took other = ⊥
 
--- of a request for a packet: the packet that it took, whole, or, by a word, that it took none
+-- for a request for a packet: the packet that it took, whole; or, where it answers a word, that it took none
 pub record TellsWhole (took : List Item) (size : ℕ) (bytes : List ℕ) : Type 0 where
   pub item : Item
   pub taken : took ≡ item ∷ []
@@ -145,8 +145,8 @@ TellsOf start before None (refuses word) = Unit {0}
 TellsOf start before None other = ⊥
 TellsOf start before (Some r) a = TellsAsked r.asked (taken_for start before r.serial) a
 
--- a wait tells of the first of its requests that is complete, and says its place where it says one. At its limit none of them has taken
--- anything
+-- a wait reports the first of its requests that is complete, and the place of that one where it says a place. At its limit none of them
+-- has taken anything
 abbrev pub WaitTells : DomainState → List Deed → List (Option ℕ) → Bool → PlainAnswer → Type 0
 WaitTells start before requests says_place (refuses Timeout) = AllByRecursion (λ r. TellsOf start before (request_at_place (after_deeds start before) r) (refuses Timeout)) requests
 WaitTells start before requests says_place (refuses word) = Unit {0}
@@ -158,7 +158,7 @@ TestTells start before (calls node (test_of place) a) = TellsOf start before (re
 TestTells start before (calls node (wait_for requests says_place) a) = WaitTells start before requests says_place a
 TestTells start before other = Unit {0}
 
--- ---- the number that a delete answers is that of the messages which it drops
+-- ---- the number that a delete returns is that of the messages which it drops
 
 abbrev pub DeleteTells : DomainState → List Deed → Deed → Type 0
 DeleteTells start before (calls node (delete_at port) (tells count)) = count ≡ length (at_live (live_at (after_deeds start before) (local node port)) (λ e. standing start before e.address))

@@ -32,7 +32,7 @@ pub record Message : Type 0 where
 abbrev pub message_of : ℕ → ℕ → Item → Message
 message_of receiver destination i = record { sender = i.peer; source = i.source; receiver = receiver; destination = destination; priority = i.priority; content = i.content }
 
--- the message that a frame on a lane says, if it says one
+-- the message that a frame on a lane carries, if it carries one
 abbrev pub said_by : ℕ → ℕ → Reading → List Message
 said_by sender receiver (says source destination (msg priority content)) = record { sender = sender; source = source; receiver = receiver; destination = destination; priority = priority; content = content } ∷ []
 said_by sender receiver other = []
@@ -40,7 +40,7 @@ said_by sender receiver other = []
 abbrev pub messages_in : ℕ → ℕ → List (List ℕ) → List Message
 messages_in sender receiver frames = flat_map (λ f. said_by sender receiver (reading f)) frames
 
--- whether a frame says one, by its bytes
+-- whether the bytes of a frame carry one
 abbrev pub carries_message : List ℕ → Bool
 carries_message frame = is_none (fault frame) && is_message frame
 

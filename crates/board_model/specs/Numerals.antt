@@ -1,4 +1,4 @@
--- The number that a word writes, where there is a greatest one, and where a byte first stands.
+-- The number that a word writes, where numbers have a limit, and where a byte first occurs.
 -- Source: docs/FORMATS.md, "Scenario files": numbers are decimal without leading zeros, each in its range.
 use Rattle.std.specs.Prelude.{ℕ, Bool, true, not, List, [], ◌∷◌, ◌==◌, nat_le, Option, None, Some, if◌then◌else◌}
 
@@ -10,7 +10,7 @@ at_most most (Some n) = if nat_le n most then Some n else None
 abbrev pub is_other : ℕ → ℕ → Bool
 is_other stop b = not (b == stop)
 
--- nothing, or this byte first
+-- an empty text, or one that begins with this byte
 abbrev pub ends_at : ℕ → List ℕ → Bool
 ends_at stop [] = true
 ends_at stop (b ∷ bs) = b == stop

@@ -9,7 +9,7 @@ use Rattle.board_model.specs.Traffic.{put_to, taken_from, back_looks}
 use Rattle.board_model.specs.Run.{left_by}
 use Rattle.board_model.specs.Board.{DomainJournal, journal_of, given_back}
 
--- what holds of the state that a domain is left in
+-- a count in the state that a domain is left in
 abbrev pub in_last_state : Scenario → (DomainState → ℕ) → Option DomainJournal → ℕ
 in_last_state s f None = 0
 in_last_state s f (Some j) = f (left_by s j.line j.entries).state
@@ -17,8 +17,8 @@ in_last_state s f (Some j) = f (left_by s j.line j.entries).state
 abbrev pub at_end : Scenario → List DomainJournal → ℕ → (DomainState → ℕ) → ℕ
 at_end s js d f = in_last_state s f (find (λ j. j.line.domain == d) js)
 
--- free is what the sender has free and what came back and was not shown yet; ring is what was put and not taken; the
--- receiver's items from the sender are queued or lent
+-- free: the sender's free buffers, and those given back that no look has shown yet; ring: the frames put and not taken; queue and
+-- lent: those of the receiver's items from the sender
 abbrev pub places_of : Scenario → List DomainJournal → Lane → LanePlaces
 places_of s js l = record {
   from = l.sender;

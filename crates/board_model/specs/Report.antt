@@ -16,7 +16,7 @@ use Rattle.board_model.specs.Board.{DomainJournal}
 use Rattle.board_model.specs.Totals.{channel_totals, totals}
 use Rattle.board_model.specs.Places.{places_of}
 
--- the words of how a request was complete. Where fewer bytes than the size were given, it is truncated
+-- the words of how a request was completed. Where fewer bytes than the size were returned, it is truncated
 abbrev pub result_words : PlainResult → List (List ℕ)
 result_words (found_at address) = decimal address ∷ []
 result_words was_accepted = codes "accepted" ∷ []
@@ -24,7 +24,7 @@ result_words (was_rejected reason) = codes "rejected" ∷ reason_text reason ∷
 result_words (brought size bytes) = if nat_lt (length bytes) size then codes "truncated" ∷ decimal size ∷ hex_text bytes ∷ [] else decimal size ∷ hex_text bytes ∷ []
 result_words (ended_by word) = refusal_text word ∷ []
 
--- the words of an answer. Where fewer bytes than the size were given, it is truncated
+-- the words of an answer. Where fewer bytes than the size were returned, it is truncated
 abbrev pub answer_words : PlainAnswer → List (List ℕ)
 answer_words (refuses word) = refusal_text word ∷ []
 answer_words agrees = codes "ok" ∷ []

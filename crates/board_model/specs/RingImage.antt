@@ -1,12 +1,12 @@
 -- The bytes of a virtqueue as its driver and its device lay them in memory, and the writes of both sides.
--- Source: VIRTIO 1.2, section 2.7: the descriptor table (2.7.5), the available ring (2.7.6) and the used ring (2.7.8), which stand
--- one after the other, each aligned by 16, 2 and 4. All numbers are little-endian.
+-- Source: VIRTIO 1.2, section 2.7: the descriptor table (2.7.5), the available ring (2.7.6) and the used ring (2.7.8), one after the
+-- other, with alignments of 16, 2 and 4 bytes. All numbers are little-endian.
 use Rattle.std.specs.Prelude.{ℕ, ◌+◌, ◌*◌, ◌%◌, ◌==◌, List, [], ◌∷◌, ◌++◌, take, drop, if◌then◌else◌}
 use Rattle.std.specs.List.{flat_map, range_with_len}
 use Rattle.byteorder.specs.Endian.{little_bytes}
 use Rattle.mc_base.specs.Limits.{buffer_size}
 
--- ---- where the fields stand
+-- ---- offsets of the fields
 
 -- a descriptor has 16 bytes: addr (8), len (4), flags (2), next (2)
 abbrev pub desc_addr_at : ℕ → ℕ
@@ -57,7 +57,7 @@ avail_event_at size = 26 * size + 12
 abbrev pub image_length : ℕ → ℕ
 image_length size = 26 * size + 14
 
--- ---- what they hold
+-- ---- values of the fields
 
 -- the buffers of queue 0 and of queue 1 lie side by side; the device writes the former (WRITE is 2) and reads the latter
 abbrev pub buffer_address : ℕ → ℕ → ℕ → ℕ
@@ -121,7 +121,7 @@ start_image size queue = image size (start_values size queue)
 
 -- ---- the writes of the two sides
 
--- a number is written at an offset, so many bytes wide
+-- a number is written at an offset, `width` bytes wide
 pub record ImageWrite : Type 0 where
   pub offset : ℕ
   pub width : ℕ
@@ -150,7 +150,7 @@ device_step size n e =
     ∷ write (used_idx_at size) 2 ((n + 1) % 65536)
     ∷ []
 
--- of all entries, the first of which is the n-th
+-- the writes for all entries, of which the first is the n-th
 abbrev pub steps_from : (ℕ → Offer → List ImageWrite) → ℕ → List Offer → List ImageWrite
 steps_from step n [] = []
 steps_from step n (e ∷ es) = step n e ++ steps_from step (n + 1) es
@@ -161,7 +161,7 @@ driver_writes size offered = steps_from (driver_step size) 0 offered
 abbrev pub device_writes : ℕ → List Offer → List ImageWrite
 device_writes size returned = steps_from (device_step size) 0 returned
 
--- the bytes after a write, and after one write after the other
+-- the bytes after a write, and after a list of writes
 abbrev pub written : List ℕ → ImageWrite → List ℕ
 written bytes w = take w.offset bytes ++ (little_bytes w.width w.value ++ drop (w.offset + w.width) bytes)
 

@@ -10,7 +10,7 @@ use Rattle.board_model.specs.State.{opening}
 use Rattle.board_model.specs.Labels.{no_labels}
 use Rattle.board_model.specs.Step.{RunState, Step, HasNoPuts, after}
 
--- before the first entry
+-- the state before the first entry
 abbrev pub start : Scenario → DomainLine → RunState
 start s d = record { state = opening d.domain d.nodes (neighbours s d); lines_called = 0; calls_made = 0; labels = no_labels; put_since_turn = None; waited = None }
 
@@ -28,7 +28,7 @@ after_all script r (e ∷ es) = after_all script (after script r e) es
 abbrev pub left_by : Scenario → DomainLine → List PlainEntry → RunState
 left_by s d entries = after_all (script s d.domain) (start s d) entries
 
--- the journal is one of this domain: it runs a front of its script
+-- the journal is one of this domain: it runs its script, to the end or up to some line
 pub record IsDomainRun (s : Scenario) (d : DomainLine) (entries : List PlainEntry) : Type 0 where
   pub steps : Leads (script s d.domain) (start s d) entries (left_by s d entries)
   pub settled : HasNoPuts (left_by s d entries).put_since_turn

@@ -1,4 +1,4 @@
--- What a scenario tells: its domains in rising number, who has a lane to whom, and the script of each domain.
+-- What a scenario says: its domains in rising number, the lanes between them, and the script of each domain.
 -- Source: docs/FORMATS.md, "Scenario files". A lane carries frames one way. There is one in each direction of a link, and
 -- one from each domain to itself, with the buffers of its pool.
 use Rattle.std.specs.Prelude.{ℕ, List, [], ◌∷◌, ◌==◌, nat_lt, filter, map, if◌then◌else◌, Option, option_map}
@@ -27,7 +27,7 @@ neighbour number size = record { number = number; size = size }
 abbrev pub linked_by : ℕ → LinkLine → List Neighbour
 linked_by d l = if l.driver == d then neighbour l.device l.size ∷ [] else if l.device == d then neighbour l.driver l.size ∷ [] else []
 
--- put where the numbers rise
+-- a neighbour inserted so that the numbers still rise
 abbrev pub ranked : Neighbour → List Neighbour → List Neighbour
 ranked n [] = n ∷ []
 ranked n (m ∷ ms) = if nat_lt n.number m.number then n ∷ m ∷ ms else m ∷ ranked n ms

@@ -1,4 +1,4 @@
--- Visits of the serial run, by what their looks show, and entries of the frames that its calls put.
+-- Visits of the serial run, by what their looks show, and entries for the frames that its calls put.
 -- Source: docs/PROFILE.md, "Serial run" and "What a domain does with a taken frame".
 use Rattle.std.specs.Prelude.{ℕ, not, List, [], ◌∷◌, ◌++◌, map, count_by, Option, None, Some}
 use Rattle.mc_base.specs.Reading.{reading}
@@ -19,16 +19,16 @@ abbrev pub dealt : DomainState → ℕ → List (List ℕ) → List Taken
 dealt s peer [] = []
 dealt s peer (f ∷ fs) = taken f (word_of s peer f) ∷ dealt (after_deed s (takes peer None f (word_of s peer f))) peer fs
 
--- the owed frames that the look at the buffers lets a turn put
+-- the owed frames that a turn puts, after a look that shows this many buffers
 abbrev pub due_to : ℕ → Option Peer → ℕ → List (List ℕ)
 due_to domain None back = []
 due_to domain (Some p) back = due_frames domain p back
 
--- a look at the buffers that shows so many, these owed frames, and a look at the frames that shows so many
+-- a look that shows `back` buffers, these owed frames put, and a look that shows `see` frames
 abbrev pub looks_deeds : ℕ → ℕ → List (List ℕ) → ℕ → List Deed
 looks_deeds peer back owed see = looks_back peer back ∷ (map (puts_owed peer) owed ++ looks_ahead peer see ∷ [])
 
--- a visit to a peer that looks so, and takes these frames
+-- a visit to a peer with these looks and puts, which takes these frames
 abbrev pub visit_of : DomainState → ℕ → ℕ → List (List ℕ) → ℕ → List (List ℕ) → Visit
 visit_of s peer back owed see frames = record { peer = peer; back = back; owed = owed; see = see; takes = dealt (after_deeds s (looks_deeds peer back owed see)) peer frames }
 

@@ -1,4 +1,4 @@
--- The serial run of a board: the lines are run in the file's order, and each look shows all that stands. Between two calls of a
+-- The serial run of a board: the lines are run in the file's order, and each look shows all there is to show. Between two calls of a
 -- line with tries every other domain makes one turn, in rising number. A wait first tests; then, up to its limit, every domain makes one
 -- turn, in rising number, and it tests again.
 -- Source: docs/PROFILE.md, "Serial run" and "Tries".
@@ -18,7 +18,7 @@ use Rattle.board_model.specs.Board.{DomainJournal}
 use Rattle.board_model.specs.Serial.{put_entry}
 use Rattle.board_model.specs.Loads.{Load, empty_load, turn_of, loads_turned, loads_put, loads_given}
 
--- a domain on its way through its script, with its journal so far
+-- a domain partway through its script, with its journal so far
 pub record Station : Type 0 where
   pub line : DomainLine
   pub run : RunState
@@ -99,7 +99,7 @@ again_by s line t r = all_turned s (with_entry s line.domain (again (word_in (an
 abbrev pub is_tried_at : CallLine → Station → Bool
 is_tried_at line t = is_tried (answer t.run.state line.node (call_at t.run line))
 
--- a line whose call is made so often at most, and once at least
+-- a line whose call is made `more` times at most after the first
 abbrev pub after_turn_of : Scenario → CallLine → Option Station → (Running → Running) → Running → Running
 after_turn_of s line None next r = r
 after_turn_of s line (Some t) next r = if is_tried_at line t then next (again_by s line t r) else called_by s line t r
@@ -123,16 +123,16 @@ more_calls (Some (suc n)) = n
 
 -- ---- waits
 
--- whether all requests of a wait stand and none is complete, in the state of its domain
+-- whether all requests of a wait exist and none is complete, in the state of its domain
 abbrev pub is_waiting_at : CallLine → Option Station → Bool
 is_waiting_at line None = false
 is_waiting_at line (Some t) = is_timeout (answer t.run.state line.node (call_at t.run line))
 
--- a wait that waits goes on so, and else it is called
+-- while none of its requests is complete a wait goes on, and else it is called
 abbrev pub while_waiting : Scenario → CallLine → (Running → Running) → Running → Running
 while_waiting s line next r = if is_waiting_at line (station_of line r) then next r else last_call s line (station_of line r) r
 
--- so many rounds at most, in each of which every domain makes a turn
+-- this many rounds at most, in each of which every domain makes a turn
 abbrev pub rounds : Scenario → CallLine → ℕ → Running → Running
 rounds s line zero r = last_call s line (station_of line r) r
 rounds s line (suc more) r = while_waiting s line (rounds s line more) (all_turned s r (numbers s))

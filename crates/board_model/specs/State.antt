@@ -1,6 +1,6 @@
 -- The state of a domain.
--- Source: docs/PROFILE.md, "A domain". Lists, in the order in which their items came. Buffers and requests are told apart
--- by their places in these lists.
+-- Source: docs/PROFILE.md, "A domain". Lists are in the order in which their items came. Buffers and requests are named by their
+-- places in these lists.
 use Rattle.std.specs.Prelude.{ℕ, ◌+◌, Bool, false, not, ◌&&◌, List, [], ◌∷◌, ◌++◌, ◌==◌, map, count_by, position, find, slice_get, Option, None, Some, option_map, option_and_then, unwrap_or, is_none}
 use Rattle.std.specs.List.{flat_map, list_any}
 use Rattle.mc_base.specs.Limits.{name_service_address}
@@ -61,7 +61,7 @@ pub data Asked : Type 0 where
   message_at : Local → ℕ → Asked
   packet_at : Local → Asked
 
--- how a request is complete
+-- how a request was completed
 pub data Outcome : Type 0 where
   has_address : ℕ → Outcome
   is_accepted : Outcome
@@ -69,7 +69,7 @@ pub data Outcome : Type 0 where
   has_item : Item → Outcome
   has_ended : Refusal → Outcome
 
--- a request that stands, pending or complete
+-- a request, pending or complete
 pub record Request : Type 0 where
   pub serial : ℕ
   pub asked : Asked
@@ -80,7 +80,7 @@ pub record LentPacket : Type 0 where
   pub serial : ℕ
   pub item : Item
 
--- what a linked domain is to be told: that the endpoint of this name and address is there from now on (`create`), or gone
+-- what is to be announced to a linked domain: that the endpoint of this name and address exists from now on (`create`), or is gone
 pub record Announcement : Type 0 where
   pub local : Local
   pub address : ℕ
@@ -105,8 +105,8 @@ pub record Peer : Type 0 where
   pub replies : List Reply
   pub known : Names
 
--- `endpoints` are the live ones in the order of their creation, and `ended` the addresses, in rising order, of those that were
--- deleted and of which some linked domain is still to be told so. A record is in use for each of both
+-- `endpoints` are the live ones in the order of their creation, and `ended` the addresses, in rising order, of those deleted whose end
+-- is still to be announced to some linked domain. Each of both uses a record
 pub record DomainState : Type 0 where
   pub number : ℕ
   pub nodes : ℕ
@@ -136,7 +136,7 @@ is_at local e = e.local.node == local.node && e.local.port == local.port
 abbrev pub has_address_of : ℕ → Endpoint → Bool
 has_address_of address e = e.address == address
 
--- the place of the endpoint of this name, and of this address
+-- the place of the endpoint with this name, and of that with this address
 abbrev pub place_at : DomainState → Local → Option ℕ
 place_at s local = position (is_at local) s.endpoints
 
@@ -146,7 +146,7 @@ place_of_address s address = position (has_address_of address) s.endpoints
 abbrev pub endpoint_at : DomainState → Local → Option Endpoint
 endpoint_at s local = option_and_then (λ i. slice_get s.endpoints i) (place_at s local)
 
--- the live endpoint of this name, and of this address, as a map has it
+-- the live endpoint with this name, and with this address
 abbrev pub live_at : DomainState → Local → Option Endpoint
 live_at s local = find (is_at local) s.endpoints
 
@@ -189,15 +189,15 @@ receives_at local (message_at at max) = at.node == local.node && at.port == loca
 receives_at local (packet_at at) = at.node == local.node && at.port == local.port
 receives_at local other = false
 
--- one that is pending
+-- a pending receive at the endpoint of this name
 abbrev pub waits_at : Local → Request → Bool
 waits_at local r = is_none r.outcome && receives_at local r.asked
 
--- whether one waits there
+-- whether a receive waits there
 abbrev pub one_waits : DomainState → Local → Bool
 one_waits s local = list_any (waits_at local) s.requests
 
--- the oldest of them
+-- the oldest receive that waits there
 abbrev pub oldest_waiting : DomainState → Local → Option Request
 oldest_waiting s local = find (waits_at local) s.requests
 
@@ -211,11 +211,11 @@ is_lent_as serial p = p.serial == serial
 abbrev pub place_of_packet : DomainState → ℕ → Option ℕ
 place_of_packet s serial = position (is_lent_as serial) s.lent
 
--- its place
+-- the place of the oldest receive that waits there
 abbrev pub place_of_waiting : DomainState → Local → Option ℕ
 place_of_waiting s local = position (waits_at local) s.requests
 
--- of the oldest that waits at the live endpoint with this address
+-- the same at the live endpoint with this address
 abbrev pub local_of_address : DomainState → ℕ → Option Local
 local_of_address s address = option_map (λ e. e.local) (option_and_then (λ i. slice_get s.endpoints i) (place_of_address s address))
 
@@ -233,7 +233,7 @@ place_of_peer s n = position (is_numbered n) s.peers
 abbrev pub peer_of : DomainState → ℕ → Option Peer
 peer_of s n = option_and_then (λ i. slice_get s.peers i) (place_of_peer s n)
 
--- the peer of this number, as a map has it
+-- the peer of this number
 abbrev pub peer_at : DomainState → ℕ → Option Peer
 peer_at s n = find (is_numbered n) s.peers
 
@@ -257,7 +257,7 @@ replying r = made r.source r.destination (spelling (letter_by r.channel r.reason
 abbrev pub owed_to : ℕ → Peer → List (List ℕ)
 owed_to domain p = map (announcing domain) p.announcements ++ map replying p.replies
 
--- a peer is still to be told that the endpoint of this address is gone
+-- that the endpoint of this address is gone is still to be announced
 abbrev pub tells_gone : ℕ → Announcement → Bool
 tells_gone address a = not a.create && a.address == address
 
@@ -281,7 +281,7 @@ item_in other = []
 abbrev pub lent_items : DomainState → List Item
 lent_items s = map (λ p. p.item) s.lent ++ flat_map (λ r. item_in r.outcome) s.requests
 
--- the buffers of the lane from a peer that stand in queues, and that are lent
+-- how many buffers of the lane from a peer are in queues, and how many are lent
 abbrev pub queued_from : ℕ → DomainState → ℕ
 queued_from n s = count_by (is_from n) (queued_items s)
 

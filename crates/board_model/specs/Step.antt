@@ -1,8 +1,8 @@
 -- The steps of a domain that runs its script: which entry is allowed where, and the state that it leads to.
--- Source: docs/PROFILE.md, "Steps" and "Tries". A call comes after a turn, and after the frames that it puts, if it is a success
--- that puts any. A line with tries makes its call again where it is refused with one of six words, until it was made as often as
--- the line says. A wait comes where it needs no turn; else it begins, and comes after the first turn after which one of its requests is
--- complete, or at its limit of turns. Other turns may stand between two calls.
+-- Source: docs/PROFILE.md, "Steps" and "Tries". A call comes after a turn, and after the frames that it puts, if it succeeds and puts
+-- any. A line with tries makes its call again where it is refused with one of six words, at most as often as the line says. A wait comes
+-- where it needs no turn; else it begins, and comes after the first turn after which one of its requests is complete, or at its limit of
+-- turns. Other turns may come between two calls.
 use Rattle.std.specs.Prelude.{◌≡◌, ℕ, ◌+◌, Bool, true, false, ◌&&◌, ◌||◌, ◌⊎◌, ◌≤◌, nat_lt, List, [], ◌∷◌, ◌++◌, slice_get, Option, None, Some, option_map, IsSome}
 use Rattle.board_model.specs.declared.scenario.Call.{Call}
 use Rattle.board_model.specs.declared.scenario.Call.TheVariants.{Wait, WaitAny}
@@ -22,8 +22,8 @@ pub record Waited : Type 0 where
   pub turns : ℕ
   pub done_before : Bool
 
--- a domain on its way through its script: how many lines were called, how often the call of the next line was made already, the
--- requests and packets that were given for labels, where a turn was made since, the frames that the next call put, each with its peer, and
+-- a domain partway through its script: how many lines were called, how often the call of the next line was made already, the requests
+-- and packets that labels name, the frames that the next call has put, each with its peer, where a turn was made since the last call, and
 -- the wait of the next line, where it has begun
 pub record RunState : Type 0 where
   pub state : DomainState
@@ -33,7 +33,7 @@ pub record RunState : Type 0 where
   pub put_since_turn : Option (List (ℕ × List ℕ))
   pub waited : Option Waited
 
--- no frame stands that no call has answered for yet
+-- no frames of the next call are put yet
 abbrev pub HasNoPuts : Option (List (ℕ × List ℕ)) → Type 0
 HasNoPuts None = Unit {0}
 HasNoPuts (Some puts) = puts ≡ []
@@ -65,7 +65,7 @@ abbrev pub may_try : Option ℕ → ℕ → Bool
 may_try None made = false
 may_try (Some tries) made = nat_lt (made + 1) tries
 
--- the call that is answered so is made again
+-- whether a call with this answer is made again
 abbrev pub tries_again : CallLine → RunState → PlainAnswer → Bool
 tries_again line r a = is_tried a && may_try line.tries r.calls_made
 
@@ -77,12 +77,12 @@ limit_of (Wait label limit) = Some limit
 limit_of (WaitAny labels limit) = Some limit
 limit_of other = None
 
--- a wait is answered so where all its requests stand and none is complete
+-- the answer of a wait where all its requests exist and none is complete
 abbrev pub is_timeout : PlainAnswer → Bool
 is_timeout (refuses Timeout) = true
 is_timeout other = false
 
--- and so where all stand and one is complete
+-- the answer of a wait where all its requests exist and one is complete
 abbrev pub is_done : PlainAnswer → Bool
 is_done (completes place result) = true
 is_done other = false

@@ -1,6 +1,6 @@
 -- What a domain does with a frame that it takes from a peer: for each thing that a frame may say, rows in their order, of which the
 -- first that applies counts. A row has a condition, a word, and what happens.
--- Source: docs/PROFILE.md, "What a domain does with a taken frame". Except for queued and handed the buffer is given back at once.
+-- Source: docs/PROFILE.md, "What a domain does with a taken frame". Except where queued or handed, the buffer is given back at once.
 use Rattle.std.specs.Prelude.{ℕ, Bool, true, false, not, ◌&&◌, ◌||◌, nat_le, List, [], ◌∷◌, ◌++◌, ◌==◌, length, Option, Some, None, is_some, option_to_list, if◌then◌else◌}
 use Rattle.byteorder.specs.Endian.{little_bytes}
 use Rattle.mc_base.specs.Letter.{PlainLetter, msg, connect, accept, reject, packet, scalar, send_close, bytes_of_bits}
@@ -28,7 +28,7 @@ pub record Row : Type 0 where
 abbrev pub row : Bool → Fate → List Change → Row
 row applies word happens = record { applies = applies; word = word; happens = happens }
 
--- the row for all that is left
+-- the row where none before it applies
 abbrev pub last_row : Fate → List Change → List Row
 last_row word happens = row true word happens ∷ []
 
@@ -57,7 +57,7 @@ name_rows peer known (Some name) address false =
 
 -- ---- a Connect, by the endpoint with its destination
 
--- the most replies that are owed to a peer
+-- how many replies may be owed to a peer at most
 abbrev pub reply_limit : ℕ
 reply_limit = 64
 
@@ -72,7 +72,7 @@ reply_to source destination number reason = record { source = destination; desti
 abbrev pub rejecting : ℕ → ℕ → ℕ → ℕ → Reason → List Change
 rejecting peer source destination number reason = reply_owed peer (reply_to source destination number (Some reason)) ∷ []
 
--- the endpoint hears the channel from now on
+-- the endpoint is the receiver of the channel from now on
 abbrev pub accepting : ℕ → ℕ → ℕ → ℕ → Kind → List Change
 accepting peer source destination number kind =
     channel_set destination (Some (accepted_end kind peer number peer source))

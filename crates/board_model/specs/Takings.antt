@@ -1,4 +1,4 @@
--- What receives took. A receive takes an item when it answers, or when its request becomes complete.
+-- What receives took. A receive takes an item when it answers, or when its request is completed.
 -- Source: docs/PROFILE.md, "Messages", "Channels" and "Requests".
 use Rattle.std.specs.Prelude.{ℕ, Bool, true, false, ◌&&◌, ◌==◌, List, [], ◌∷◌, ◌++◌, map, filter, option_to_list, option_map, Option, None, Some, if◌then◌else◌}
 use Rattle.std.specs.List.{flat_map, list_any}
@@ -14,8 +14,8 @@ use Rattle.board_model.specs.Deeds.{Deed, calls, after_deed, along}
 use Rattle.board_model.specs.JournalDeeds.{deeds_of, opened}
 use Rattle.board_model.specs.Messages.{Message, is_message_item, message_of}
 
--- an item that was taken, the address of the endpoint at which it was, and the serial of the request that took it, or none where a
--- receive answered at once
+-- an item that was taken, the address of the endpoint that had it, and the serial of the request that took it, or none where a receive
+-- answered at once
 pub record Taking : Type 0 where
   pub request : Option ℕ
   pub address : ℕ
@@ -32,7 +32,7 @@ answered_by s (calls node (lend_at port) (gives size bytes)) = at_live (live_at 
 answered_by s (calls node (scalar_at port bits) (tells value)) = at_live (live_at s (local node port)) (λ e. map (taking None e.address) (option_to_list (oldest e.queue)))
 answered_by s other = []
 
--- ---- by requests that become complete: those that hold an item, and held none before
+-- ---- by requests that are completed: those that hold an item, and held none before
 
 abbrev pub item_held : Option Outcome → List Item
 item_held (Some (has_item i)) = i ∷ []

@@ -17,7 +17,7 @@ abbrev pub is_taken_from : ℕ → Line → Bool
 is_taken_from n (take_line peer frame fate) = peer == n
 is_taken_from n other = false
 
--- a line of a frame that was put with a message, that was taken with one, and whose message was dropped
+-- whether a line is of a frame with a message that was put, of one that was taken, and of one that was taken and dropped
 abbrev pub is_sent_line : Line → Bool
 is_sent_line (put_line peer frame) = carries_message frame
 is_sent_line other = false

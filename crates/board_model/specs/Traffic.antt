@@ -1,4 +1,4 @@
--- What a journal tells of the lanes: the frames put and taken, the buffers given back, and the looks.
+-- What a journal says of the lanes: the frames put and taken, the buffers given back, and the looks.
 -- Source: docs/PROFILE.md, "Lanes".
 use Rattle.std.specs.Prelude.{ℕ, ◌+◌, List, [], ◌∷◌, ◌==◌, map, filter, not, count_by, if◌then◌else◌, Option, None, Some}
 use Rattle.std.specs.List.{flat_map}

@@ -29,7 +29,7 @@ visit_deeds name v = looks_back v.peer v.back ∷ (map (puts_owed v.peer) v.owed
 abbrev pub after_visit : DomainState → Visit → DomainState
 after_visit s v = after_deeds s (visit_deeds nameless v)
 
--- the visit is one that the lanes allow, and does as it must with what the looks showed
+-- the lanes allow the visit, and it puts and takes exactly what is due after what its looks showed
 pub record IsVisit (s : DomainState) (v : Visit) : Type 0 where
   pub at : Peer
   pub known : peer_of s v.peer ≡ Some at

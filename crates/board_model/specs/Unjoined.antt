@@ -26,12 +26,12 @@ frames_put (CloseRecv port) = 1
 frames_put (Raw domain bytes) = 1
 frames_put other = 0
 
--- a call's line, by its number from 1
+-- the line of a script with this number, counted from 1
 abbrev pub line_numbered : List CallLine → ℕ → Option CallLine
 line_numbered lines zero = None
 line_numbered lines (suc i) = slice_get lines i
 
--- and by its answer
+-- how many frames a call puts, by its answer
 abbrev pub puts_by : Call → PlainAnswer → ℕ
 puts_by call (refuses word) = 0
 puts_by call other = frames_put call
@@ -42,7 +42,7 @@ puts_of (Some line) a = puts_by line.call a
 
 -- ---- the lines of a turn
 
--- what a line says of a peer
+-- the part of a line that concerns a peer
 abbrev pub back_in : ℕ → Line → ℕ
 back_in p (back_line peer n) = if peer == p then n else 0
 back_in p other = 0
@@ -75,7 +75,7 @@ abbrev pub times : {A : Type 0} → ℕ → List A → List A
 times zero xs = []
 times (suc n) xs = xs ++ times n xs
 
--- the lines from one on: how many put lines in front are still a call's, the lines that are still a turn's, and the entries
+-- what the lines from one on say: how many put lines before them are still a call's, which lines are still a turn's, and the entries
 pub record Tail : Type 0 where
   pub due : ℕ
   pub behind : List Line

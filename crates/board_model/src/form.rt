@@ -1,4 +1,4 @@
-/// A call that a line may make. The table of forms in `specs/Forms.antt` has a row for each.
+/// A call that a line may make (docs/FORMATS.md, "Scenario files"). The table of forms in `specs/Forms.antt` has a row for each.
 #[derive(Clone, Copy, Debug, PartialEq, Eq)]
 pub enum Callee {
     Create,

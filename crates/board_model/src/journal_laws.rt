@@ -7,12 +7,12 @@ pub fn joined_is_read_back()
     ensures { JoinedIsReadBack }
 {}
 
-/// Parts that stand behind each other unjoined are the joined lines of their entries.
+/// Parts of which none can be joined to the lines before it are the joined lines of their entries.
 pub fn parts_are_joined()
     ensures { PartsAreJoined }
 {}
 
-/// Every plain journal is written by parts that stand so.
+/// Every plain journal consists of such parts.
 pub fn journals_have_parts()
     ensures { JournalsHaveParts }
 {}

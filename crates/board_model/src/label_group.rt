@@ -8,7 +8,7 @@ use mc_base::NoMemory;
 use std::alloc::Global;
 use std::marker::Model;
 
-/// One to eight labels, in a box: most lines have one label or none, and each has room for what the largest call holds.
+/// At most eight labels. They are boxed because every [`Call`](crate::Call) is as large as the largest, and few calls have them.
 #[derive(Debug, Drop)]
 pub struct LabelGroup {
     labels: Box<ArrayVec<Label, 8>>,
@@ -24,7 +24,7 @@ impl Model for LabelGroup {
 }
 
 impl LabelGroup {
-    /// Puts labels into a box.
+    /// Boxes labels.
     ///
     /// # Errors
     ///
@@ -38,7 +38,7 @@ impl LabelGroup {
         Ok(LabelGroup { labels })
     }
 
-    /// Lends the labels in their order.
+    /// Returns the labels in their order.
     pub fn as_slice(&self) -> &[Label]
         ensures labels { result.now ≡ self.now.items }
         ensures few { length result.now ≤ 8 }

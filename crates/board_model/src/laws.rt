@@ -23,7 +23,7 @@ pub fn letters_are_read_back()
     ensures { LettersAreReadBack }
 {}
 
-/// At each moment each address that a domain knows of a peer's name is one that the peer gave to an endpoint of its own.
+/// At each moment, every address that a domain knows for a name of a peer is one that the peer gave to an endpoint of its own.
 pub fn known_addresses_are_real()
     ensures { KnownAddressesAreReal }
 {}
@@ -33,7 +33,7 @@ pub fn receives_take_the_best()
     ensures { ReceivesTakeTheBest }
 {}
 
-/// A test tells what its request took: one message, or none.
+/// A test reports what its request took: one message, or none.
 pub fn tests_tell_what_was_taken()
     ensures { TestsTellWhatWasTaken }
 {}
@@ -48,8 +48,8 @@ pub fn no_message_is_lost()
     ensures { NoMessageIsLost }
 {}
 
-/// What the sender of a channel had accepted is what its receiver took, in its order, and then what was dropped, is queued or is in the
-/// ring. Where anything was dropped nothing is queued.
+/// The items that the sender of a channel had accepted are, in this order, those that its receiver took, and those that were dropped,
+/// are queued or are in the ring. Where any were dropped, none are queued.
 pub fn every_channel_is_kept()
     ensures { EveryChannelIsKept }
 {}

@@ -1,5 +1,5 @@
 //! What a board is and does: scenarios as plain types, and in `specs/` the definitions that everything is proved
-//! against. It has no code of its own beyond the types, the laws and the readers of a word.
+//! against. The only code beyond the types and the laws parses single words.
 //!
 //! `specs/` is to be read in this order: Lists, Scenario, FileLines, FileWords, Numerals, Forms, Grammar, LineReasons, Language,
 //! LinkedBoard, Words, Journal, State, Choice, DomainCall, Answer, Change, Dealing, TakenFrames, ChannelEnds, CallChanges, Deeds,

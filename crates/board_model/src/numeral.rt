@@ -1,4 +1,4 @@
-//! What a word of a file says: a number, or bytes; and where it ends.
+//! Parsing single words of a file, numbers and bytes, and finding where a word ends.
 
 ghost use Rattle.std.specs.Prelude.{◌≡◌, ◌≤◌, ◌<◌, ◌*◌, Some, None, true, false, nat_lt, if◌then◌else◌, length, take, drop, IfSome};
 ghost use Rattle.board_model.specs.FileWords.{number_from, number_of, digit_value, pairs_of};
@@ -15,7 +15,7 @@ fn is_digit(byte: u8) -> bool
     matches!(byte, b'0'..=b'9')
 }
 
-/// Returns the number that digits write, if it is at most this large.
+/// Parses decimal digits. Returns `None` where a byte is no digit or the number is more than `most`.
 fn digits(most: u64, word: &[u8]) -> Option<u64>
     ensures { result ≡ at_most most (number_from 0 word.now) }
 {
@@ -38,7 +38,8 @@ fn digits(most: u64, word: &[u8]) -> Option<u64>
     Some(value)
 }
 
-/// Returns the number that a word writes, if it is at most this large.
+/// Parses a decimal number without sign or leading zeros (docs/FORMATS.md, "Scenario files"). Returns `None` where the word is none
+/// or the number is more than `most`.
 pub fn number_to(most: u64, word: &[u8]) -> Option<u64>
     ensures value { result ≡ at_most most (number_of word.now) }
     ensures small { IfSome result (λ n. n ≤ most) }
@@ -76,8 +77,8 @@ pub fn hex_digit(byte: u8) -> Option<u8>
     if value < 16 { Some(value) } else { None }
 }
 
-/// Writes the bytes that pairs of hexadecimal digits spell, and returns whether all are digits. The loop ends nowhere
-/// early, so that it is compiled to vectors.
+/// Decodes pairs of hexadecimal digits of either case into `out`, and returns whether all were digits. The word must be twice as
+/// long as `out`. The loop never exits early, so that the compiler can vectorise it.
 pub fn decode_pairs(word: &[u8], out: &mut [u8]) -> bool
     requires { length word.now ≡ 2 * length out.old }
     ensures bytes { result ≡ true → pairs_of word.now ≡ Some out.new }
@@ -93,7 +94,7 @@ pub fn decode_pairs(word: &[u8], out: &mut [u8]) -> bool
     all
 }
 
-/// Whether a word spells no bytes: a dash.
+/// Returns whether a word is a dash, which stands for no bytes.
 pub fn is_dash(word: &[u8]) -> bool
     ensures { result ≡ spells_none word.now }
 {
@@ -103,7 +104,8 @@ pub fn is_dash(word: &[u8]) -> bool
     }
 }
 
-/// Counts the bytes before the first that is `stop`, by vectors. It pays on long texts alone.
+/// Counts the bytes before the first that is `stop`, or all where none is. `memchr` searches by vectors, which is faster on long
+/// texts only.
 fn place_of(stop: u8, text: &[u8]) -> usize
     ensures front { list_all (is_other stop) (take result text.now) ≡ true }
     ensures end { ends_at stop (drop result text.now) ≡ true }
@@ -115,10 +117,10 @@ fn place_of(stop: u8, text: &[u8]) -> usize
     }
 }
 
-/// The bytes of a text that are looked at one by one. Most words have fewer.
+/// How many bytes are searched one by one, before `memchr` is called. Most words are shorter.
 const SHORT_WORD: usize = 12;
 
-/// Counts the bytes before the first that is `stop`.
+/// Counts the bytes before the first that is `stop`, or all where none is.
 pub fn length_before(stop: u8, text: &[u8]) -> usize
     ensures front { list_all (is_other stop) (take result text.now) ≡ true }
     ensures end { ends_at stop (drop result text.now) ≡ true }

@@ -1,6 +1,6 @@
 use thiserror::Error;
 
-/// Why a line of a scenario file is refused. Where several reasons hold of a line, the first in this order counts.
+/// Why a line of a scenario file is refused (docs/FORMATS.md, "Scenario files"). Of several reasons, the first in this order counts.
 #[derive(Clone, Copy, Debug, PartialEq, Eq, Error)]
 pub enum LineReason {
     /// A byte is outside 0x20 to 0x7e, and no tab.
@@ -18,18 +18,18 @@ pub enum LineReason {
     /// Bytes have an odd number of digits or other digits, or are more than 9,000, or those of a raw frame are not 1 to 512.
     #[error("bytes are not hexadecimal digits, two a byte, or are too many: at most 9,000, and 1 to 512 in a raw frame")]
     Bytes,
-    /// A domain line stands after a link or call line, or a link line after a call line.
+    /// A domain line comes after a link or call line, or a link line after a call line.
     #[error("a domain line comes after a link or call line, or a link line after a call line")]
     Order,
-    /// A domain is told twice, or is named by a link or as the domain of a call line and not told above. A file that tells
-    /// no domain has this reason at the line after its last.
+    /// A domain is declared twice, or a link or call line names one that no line above declares. A file that declares no
+    /// domain has this reason at the line after its last.
     #[error("a domain is declared twice, or not declared above")]
     Domain,
     /// A domain is linked to itself, a pair is linked twice, or a size is no power of two from 2 to 256.
     #[error("a domain is linked to itself, a pair is linked twice, or the size is not a power of two from 2 to 256")]
     Link,
-    /// A label is told twice in its domain or told where no label stands, or is used and was not told above by the same
-    /// domain for a request.
+    /// A label is introduced twice in its domain, or by a call that takes none; or one is used that no line of the same domain
+    /// above introduces by a call of the right kind.
     #[error("a label is set twice, stands where none may, or is not set above by the same domain")]
     Label,
     /// A raw frame has no fault.

@@ -8,7 +8,7 @@ pub struct Totals {
     pub ring: u64,
 }
 
-/// The totals of the items of a channel, which is named by its sender's domain and by the number that this domain gave it.
+/// The totals of the items of a channel, named by its sender's domain and by the number that this domain gave the channel.
 #[derive(Clone, Copy, Debug, PartialEq, Eq)]
 pub struct ChannelTotals {
     pub owner: u8,

@@ -24,7 +24,7 @@ use Rattle.board_model.proofs.HearingItems.{bound_contents}
 use Rattle.board_model.proofs.HonestFrames.{MadeReads, made_faulty, made_letter, reads_made, Tells, tells_faulty, tells_name, tells_made}
 use Rattle.board_model.proofs.MessageAlls.{all-append, all-found}
 use Rattle.board_model.proofs.MessageLists.{get-position}
-use Rattle.board_model.proofs.OrderCalls.{none_holds}
+use Rattle.board_model.proofs.OrderLookups.{none_holds}
 use Rattle.board_model.proofs.OrderSound.{Sound, Bound, sound_bound}
 use Rattle.board_model.proofs.SendingCalls.{Reads}
 use Rattle.board_model.proofs.SendingDeeds.{ReadsDeed}
