@@ -1,4 +1,5 @@
 pub mod SenderNumbers
 pub mod RingLists
 pub mod BoardRings
+pub mod InTime
 pub mod RingTexts
