@@ -28,25 +28,25 @@ use Rattle.lane_end.specs.declared.finishing.RecvHalf.TheVariants as received
 use Rattle.lane_end.proofs.LaneRunLemmas.{sender_opened, receiver_opened, sides, lane-run}
 use Rattle.lane_end.proofs.EntryLemmas.{written-start}
 
-abbrev end_of_send : SendHalf → End
+abbrev pub end_of_send : SendHalf → End
 end_of_send (sent.Driver half) = half
 end_of_send (sent.Device half) = half
 
-abbrev end_of_recv : RecvHalf → End
+abbrev pub end_of_recv : RecvHalf → End
 end_of_recv (received.Driver half) = half
 end_of_recv (received.Device half) = half
 
-abbrev receiver_of : RecvHalf → Role
+abbrev pub receiver_of : RecvHalf → Role
 receiver_of (received.Driver half) = Driver
 receiver_of (received.Device half) = Device
 
-record SentOver (role : Role) (ring : RingId) (moves : List SendMove) (half : SendHalf) : Type 0 where
-  s : RingSender
-  moved : RingSends (sender_opened role ring) moves s
-  leaves : SenderLeaves role s (end_of_send half)
-  role_is : sender_of half ≡ role
+pub record SentOver (role : Role) (ring : RingId) (moves : List SendMove) (half : SendHalf) : Type 0 where
+  pub s : RingSender
+  pub moved : RingSends (sender_opened role ring) moves s
+  pub leaves : SenderLeaves role s (end_of_send half)
+  pub role_is : sender_of half ≡ role
 
-sent-over : (role : Role) (ring : RingId) (moves : List SendMove) (end : AnySend) (half : SendHalf) → AnySends (opened_send role ring) moves end → SendLeaves end half → SentOver role ring moves half
+pub sent-over : (role : Role) (ring : RingId) (moves : List SendMove) (end : AnySend) (half : SendHalf) → AnySends (opened_send role ring) moves end → SendLeaves end half → SentOver role ring moves half
 sent-over Driver ring moves (send.Driver s) (sent.Driver half) moved leaves = record { s = s; moved = moved; leaves = leaves; role_is = refl }
 sent-over Device ring moves (send.Device s) (sent.Device half) moved leaves = record { s = s; moved = moved; leaves = leaves; role_is = refl }
 sent-over Driver ring moves (send.Driver s) (sent.Device half) moved leaves = absurd leaves
@@ -56,13 +56,13 @@ sent-over Driver ring moves (send.Device s) half moved leaves = absurd moved
 sent-over Device ring moves (send.Plain s) half moved leaves = absurd moved
 sent-over Device ring moves (send.Driver s) half moved leaves = absurd moved
 
-record ReceivedOver (role : Role) (ring : RingId) (moves : List ReceiveMove) (half : RecvHalf) : Type 0 where
-  r : RingReceiver
-  moved : RingReceives (receiver_opened role ring) moves r
-  leaves : ReceiverLeaves (other role) r (end_of_recv half)
-  role_is : receiver_of half ≡ other role
+pub record ReceivedOver (role : Role) (ring : RingId) (moves : List ReceiveMove) (half : RecvHalf) : Type 0 where
+  pub r : RingReceiver
+  pub moved : RingReceives (receiver_opened role ring) moves r
+  pub leaves : ReceiverLeaves (other role) r (end_of_recv half)
+  pub role_is : receiver_of half ≡ other role
 
-received-over : (role : Role) (ring : RingId) (moves : List ReceiveMove) (end : AnyRecv) (half : RecvHalf) → AnyReceives (opened_recv role ring) moves end → RecvLeaves end half → ReceivedOver role ring moves half
+pub received-over : (role : Role) (ring : RingId) (moves : List ReceiveMove) (end : AnyRecv) (half : RecvHalf) → AnyReceives (opened_recv role ring) moves end → RecvLeaves end half → ReceivedOver role ring moves half
 received-over Driver ring moves (recv.Device r) (received.Device half) moved leaves = record { r = r; moved = moved; leaves = leaves; role_is = refl }
 received-over Device ring moves (recv.Driver r) (received.Driver half) moved leaves = record { r = r; moved = moved; leaves = leaves; role_is = refl }
 received-over Driver ring moves (recv.Device r) (received.Driver half) moved leaves = absurd leaves
@@ -72,7 +72,7 @@ received-over Driver ring moves (recv.Driver r) half moved leaves = absurd moved
 received-over Device ring moves (recv.Plain r) half moved leaves = absurd moved
 received-over Device ring moves (recv.Device r) half moved leaves = absurd moved
 
-between : (ring : TableShown) (a : SendHalf) (b : RecvHalf) (closed : FinishedRing) → AreFinished ring a b closed → IsFinishedBetween (sender_of a) ring (end_of_send a) (end_of_recv b) closed
+pub between : (ring : TableShown) (a : SendHalf) (b : RecvHalf) (closed : FinishedRing) → AreFinished ring a b closed → IsFinishedBetween (sender_of a) ring (end_of_send a) (end_of_recv b) closed
 between ring (sent.Driver a) (received.Device b) closed f = f
 between ring (sent.Device a) (received.Driver b) closed f = f
 between ring (sent.Driver a) (received.Driver b) closed f = absurd f

@@ -28,7 +28,7 @@ use Rattle.lane_end.proofs.MeetingLemmas.{given-is, given-count}
 
 -- ---- loads
 
-carriers-of : (es : List Entry) → carriers (loads_in es) ≡ numbers_in es
+pub carriers-of : (es : List Entry) → carriers (loads_in es) ≡ numbers_in es
 carriers-of [] = refl
 carriers-of (e ∷ es) = ap (λ (l : List ℕ). number_of e ∷ l) (carriers-of es)
 
@@ -79,7 +79,7 @@ pub record Sent (sender : Role) (ring : RingId) (sends : List SendMove) (s : Rin
 none-new : (ring : RingId) → drop (size_of ring) (whole (new_buffers ring)) ≡ []
 none-new ring = drop-all (size_of ring) (whole (new_buffers ring)) (whole-new ring)
 
-sent-since : (sender : Role) (ring : RingId) (sends : List SendMove) (s : RingSender) → RingSends (sender_opened sender ring) sends s → Sent sender ring sends s
+pub sent-since : (sender : Role) (ring : RingId) (sends : List SendMove) (s : RingSender) → RingSends (sender_opened sender ring) sends s → Sent sender ring sends s
 sent-since Driver ring sends s m = record { role = m.role; ring_is = m.ring; put = m.put; looks = m.looks; deals = m.deals }
 sent-since Device ring sends s m = record {
   role = m.role;
@@ -100,7 +100,7 @@ pub record Received (sender : Role) (ring : RingId) (receives : List receiving.R
 given-since : (old : List (ℕ × ℕ)) (role : Role) (es : List Entry) (ns : List ℕ) → old ≡ [] → returns_in es ≡ old ++ with_lengths role ns → numbers_in es ≡ ns
 given-since old role es ns none is = sym (firsts-of es) ∙ (ap firsts (is ∙ ap (λ (l : List (ℕ × ℕ)). l ++ with_lengths role ns) none) ∙ firsts-with role ns)
 
-received-since : (sender : Role) (ring : RingId) (receives : List receiving.ReceiveMove) (r : RingReceiver) → RingReceives (receiver_opened sender ring) receives r → Received sender ring receives r
+pub received-since : (sender : Role) (ring : RingId) (receives : List receiving.ReceiveMove) (r : RingReceiver) → RingReceives (receiver_opened sender ring) receives r → Received sender ring receives r
 received-since Driver ring receives r m = record {
   role = m.role;
   ring_is = m.ring;
@@ -198,7 +198,7 @@ module _ (sender : Role) (ring : TableShown) (s : RingSender) (r : RingReceiver)
   backs-are : sum (back_counts sends) + taken_before sender (size_of ring.ring) ≡ length s.half.taken
   backs-are = let l = ap sum a.looks in let t = before in omega (arith, is_sender, l, t)
 
-  given-all : given_entries r ≡ drop (taken_before s.role (sender_size s)) s.half.taken ++ f.rest_back
+  pub given-all : given_entries r ≡ drop (taken_before s.role (sender_size s)) s.half.taken ++ f.rest_back
   given-all = given-is s r one is_sender (f.rest, f.front) (f.rest_back, f.back)
 
   given-split : length (numbers_given receives) ≡ sum (back_counts sends) + length f.rest_back
@@ -207,7 +207,7 @@ module _ (sender : Role) (ring : TableShown) (s : RingSender) (r : RingReceiver)
   written-split : length r.half.written ≡ length s.half.taken + length f.rest_back
   written-split = ap (λ (es : List Entry). length es) f.back ∙ length-append s.half.taken f.rest_back
 
-  loads-are : loads_by s ≡ frames_taken receives ++ loads_in f.rest
+  pub loads-are : loads_by s ≡ frames_taken receives ++ loads_in f.rest
   loads-are = ap loads_in f.front ∙ (map-append load_in r.half.taken f.rest ∙ ap (λ (l : List (ℕ × List ℕ)). l ++ loads_in f.rest) b.taken)
 
   frames-are : frames_of (loads_by s) ≡ frames_sent sends

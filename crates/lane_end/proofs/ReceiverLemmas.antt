@@ -1,16 +1,18 @@
 -- What a receiver over a ring keeps, and what is out there.
-use Rattle.std.proofs.Common.{◌≡◌, ℕ, ◌+◌, ◌-◌, ◌<◌, ◌≤◌, List, [], ◌∷◌, ◌++◌, length, ap, ◌∙◌, arith, length-append, length-drop}
+use Rattle.std.proofs.Common.{◌≡◌, ℕ, ◌+◌, ◌-◌, ◌<◌, ◌≤◌, List, [], ◌∷◌, ◌++◌, length, refl, ap, sym, ◌∙◌, subst, arith, length-append, length-drop, append-nil, le_refl}
 use Rattle.std.specs.Prelude.{Contains}
-use Rattle.std.proofs.lemmas.List.{take-append-le}
+use Rattle.std.proofs.lemmas.List.{map-append, take-append-le}
+use Rattle.mc_base.specs.Stored.{Stored}
 use Rattle.shared_words.specs.Entry.{Entry, number_of, times}
 use Rattle.shared_words.specs.Places.{begins}
 use Rattle.shared_words.specs.Shown.{TableShown}
 use Rattle.split_ring.specs.Ends.{looks_at, takes, writes, HoldsNumber, IsSound}
 use Rattle.lane_end.specs.Numbers.{often, AreApart}
+use Rattle.lane_end.specs.ReceiveMoves.{Looked, Took, Gave}
 use Rattle.lane_end.specs.ReceiverContract.{without}
-use Rattle.lane_end.specs.Entries.{numbers_in}
-use Rattle.lane_end.specs.Opened.{written_before}
-use Rattle.lane_end.specs.RingReceiver.{RingReceiver, receiver_size, given_entries, out_at, struck}
+use Rattle.lane_end.specs.Entries.{frame_in, load_in, numbers_in, return_in, returns_in}
+use Rattle.lane_end.specs.Opened.{written_before, given_length}
+use Rattle.lane_end.specs.RingReceiver.{RingReceiver, receiver_size, taken_by, given_entries, given_by, written_by, out_at, struck, come_known, RingReceives}
 use Rattle.lane_end.specs.KeptRing.{KeepsReceiver}
 use Rattle.lane_end.proofs.CountLemmas.{often-contained}
 use Rattle.lane_end.proofs.EntryLemmas.{times-often, numbers-length, numbers-append, times-split, numbers-drop-more, written-start, AreAmong, often-struck, length-struck, struck-more, struck-last}
@@ -36,8 +38,8 @@ module _ (on : TableShown) (r : RingReceiver) (k : KeepsReceiver on r) where
       let o = often-struck (numbers_in (given_entries r)) (numbers_in r.half.taken) are-among x in
       let d = k.sound.differ x in let g = given-times x in let t = times-often x r.half.taken in omega (arith, o, d, g, t)
 
-  given-length : length (given_entries r) + written_before r.role (receiver_size r) ≡ length r.half.written
-  given-length = let d = length-drop (written_before r.role (receiver_size r)) r.half.written in let o = k.receiver.opened in omega (arith, d, o)
+  given-count : length (given_entries r) + written_before r.role (receiver_size r) ≡ length r.half.written
+  given-count = let d = length-drop (written_before r.role (receiver_size r)) r.half.written in let o = k.receiver.opened in omega (arith, d, o)
 
   pub out-count : length (out_at r) + length (given_entries r) ≡ length r.half.taken
   out-count =
@@ -47,7 +49,7 @@ module _ (on : TableShown) (r : RingReceiver) (k : KeepsReceiver on r) where
   pub out-room : length (out_at r) + r.shown ≤ receiver_size r
   out-room =
       let c = out-count in
-      let w = given-length in let s = written-start r.role (receiver_size r) in
+      let w = given-count in let s = written-start r.role (receiver_size r) in
       let room = k.sound.room in let shown = k.receiver.shown in omega (arith, c, w, s, room, shown)
 
   pub out-held : (n : ℕ) → Contains (out_at r) n → HoldsNumber r.role r.half n
@@ -82,3 +84,44 @@ module _ (on : TableShown) (r : RingReceiver) (k : KeepsReceiver on r) where
   out-gives e =
       ap (λ (l : List Entry). struck (numbers_in l) (numbers_in r.half.taken)) (numbers-drop-more (written_before r.role (receiver_size r)) r.half.written e k.receiver.opened)
       ∙ (ap (λ (l : List ℕ). struck l (numbers_in r.half.taken)) (numbers-append (given_entries r) (e ∷ [])) ∙ struck-last (numbers_in (given_entries r)) (number_of e) (numbers_in r.half.taken))
+
+  -- ---- each call as a move
+
+  pub look-moves : (n : ℕ) → r.half.shown ≤ length r.half.taken + n → RingReceives r (Looked n ∷ []) (looked n r)
+  look-moves n known = record {
+    ring = refl;
+    role = refl;
+    taken = sym (append-nil (taken_by r));
+    given = sym (append-nil (given_by r));
+    written = sym (append-nil (written_by r));
+    outs = refl;
+    looks = refl;
+    known = known;
+    seen = (known, le_refl (length r.half.taken + n), tt);
+  }
+
+  pub take-moves : (e : Entry) → AreApart (receiver_size r) (out_at (took e r)) → RingReceives r (Took (number_of e) (frame_in e) ∷ []) (took e r)
+  take-moves e apart = record {
+    ring = refl;
+    role = refl;
+    taken = map-append load_in r.half.taken (e ∷ []);
+    given = sym (append-nil (given_by r));
+    written = sym (append-nil (written_by r));
+    outs = (subst (AreApart (receiver_size r)) (out-takes e) apart, out-takes e);
+    looks = sym (append-nil r.half.looks);
+    known = le_refl (come_known r);
+    seen = tt;
+  }
+
+  pub give-moves : (b : Stored) → Contains (out_at r) b.number → RingReceives r (Gave b.number ∷ []) (gave (b, given_length r.role) r)
+  give-moves b out = let e : Entry = (b, given_length r.role) in record {
+    ring = refl;
+    role = refl;
+    taken = sym (append-nil (taken_by r));
+    given = ap returns_in (numbers-drop-more (written_before r.role (receiver_size r)) r.half.written e k.receiver.opened) ∙ map-append return_in (given_entries r) (e ∷ []);
+    written = map-append return_in r.half.written (e ∷ []);
+    outs = (out, out-gives e);
+    looks = sym (append-nil r.half.looks);
+    known = le_refl (come_known r);
+    seen = tt;
+  }

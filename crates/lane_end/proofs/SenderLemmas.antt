@@ -9,9 +9,9 @@ use Rattle.shared_words.specs.Shown.{TableShown, size_of}
 use Rattle.split_ring.specs.Ends.{writes, HoldsNumber, IsSound}
 use Rattle.lane_end.specs.Numbers.{often, AreApart}
 use Rattle.lane_end.specs.SendMoves.{Looked, Sent}
-use Rattle.lane_end.specs.Entries.{frame_in, frames_in, numbers_in}
+use Rattle.lane_end.specs.Entries.{frame_in, frames_in, lengths_in, numbers_in}
 use Rattle.lane_end.specs.Opened.{taken_before}
-use Rattle.lane_end.specs.RingSender.{RingSender, sender_size, put_by, back_to, back_known, RingSends}
+use Rattle.lane_end.specs.RingSender.{RingSender, sender_size, put_by, lengths_by, back_to, back_known, RingSends}
 use Rattle.lane_end.specs.KeptRing.{KeepsSender}
 use Rattle.lane_end.specs.LooksBack.{LooksBack}
 use Rattle.lane_end.proofs.CountLemmas.{tick-same, often-append}
@@ -43,11 +43,12 @@ module _ (on : TableShown) (capacity : ℕ) (s : RingSender) (k : KeepsSender on
     room = let r = k.room in omega (arith, r, room);
   }
 
-pub put-moves : (on : TableShown) (capacity : ℕ) (s : RingSender) (e : Entry) (rest frame : List ℕ) → s.free ≡ number_of e ∷ rest → KeepsSender on capacity (put_with e rest s) → frame_in e ≡ frame → RingSends s (Sent frame ∷ []) (put_with e rest s)
-put-moves on capacity s e rest frame is k carries = record {
+pub put-moves : (on : TableShown) (capacity : ℕ) (s : RingSender) (e : Entry) (rest frame : List ℕ) → s.free ≡ number_of e ∷ rest → KeepsSender on capacity (put_with e rest s) → frame_in e ≡ frame → e.1 ≡ length frame → RingSends s (Sent frame ∷ []) (put_with e rest s)
+put-moves on capacity s e rest frame is k carries long = record {
   ring = refl;
   role = refl;
   put = map-append frame_in s.half.written (e ∷ []) ∙ ap (λ (f : List ℕ). put_by s ++ f ∷ []) carries;
+  lengths = map-append (λ (x : Entry). x.1) s.half.written (e ∷ []) ∙ ap (λ (n : ℕ). lengths_by s ++ n ∷ []) long;
   looks = sym (append-nil s.half.looks);
   known = le_refl (back_known s);
   seen = tt;
@@ -104,6 +105,7 @@ module _ (on : TableShown) (capacity seen done : ℕ) (start now : RingSender) (
           ring = l.ring;
           role = l.role;
           put = ap frames_in l.written ∙ sym (append-nil (put_by start));
+          lengths = ap lengths_in l.written ∙ sym (append-nil (lengths_by start));
           looks = l.looks;
           known = omega (arith, g, b);
           seen = (omega (arith, k, s, g), omega (arith, k, s, b), tt);

@@ -12,7 +12,7 @@ AreEndsOfOneRing (send.Driver s) (recv.Device r) = AreOfOneRing s r
 AreEndsOfOneRing (send.Device s) (recv.Driver r) = AreOfOneRing s r
 AreEndsOfOneRing s r = ⊥
 
--- they met
+-- after a meeting the two ends are these
 abbrev pub EndsHaveMet : AnySend → AnyRecv → AnySend → AnyRecv → Type 0
 EndsHaveMet (send.Driver s) (recv.Device r) (send.Driver sender) (recv.Device receiver) = HaveMet s r sender receiver
 EndsHaveMet (send.Device s) (recv.Driver r) (send.Device sender) (recv.Driver receiver) = HaveMet s r sender receiver

@@ -1,5 +1,5 @@
--- What two ends of one ring, of any kind, keep where they meet.
--- Source: docs/PROFILE.md, "Lanes": what is free, shown and out stays.
+-- What a meeting of two ends of one ring, of any kind, leaves unchanged.
+-- Source: docs/PROFILE.md, "Lanes": a meeting does not change what is free, shown or out.
 use Rattle.std.specs.Prelude.{◌≡◌}
 use Rattle.std.proofs.Common.{ap, sym, ◌∙◌}
 use Rattle.shared_words.specs.Way.{other}
@@ -14,7 +14,7 @@ use Rattle.lane_end.specs.declared.any.AnyRecv.{AnyRecv}
 use Rattle.lane_end.specs.declared.any.AnySend.TheVariants as send
 use Rattle.lane_end.specs.declared.any.AnyRecv.TheVariants as recv
 
--- what holds of a meeting over either queue holds of ends that met
+-- what holds of every meeting over queue 1, and of every one over queue 0, holds of all ends that met
 pub over-either : (P : AnySend → AnyRecv → AnySend → AnyRecv → Type 0) → ((s : RingSender) (r : RingReceiver) (s' : RingSender) (r' : RingReceiver) → HaveMet s r s' r' → P (send.Driver s) (recv.Device r) (send.Driver s') (recv.Device r'))
     → ((s : RingSender) (r : RingReceiver) (s' : RingSender) (r' : RingReceiver) → HaveMet s r s' r' → P (send.Device s) (recv.Driver r) (send.Device s') (recv.Driver r')) → (a : AnySend) (b : AnyRecv) (c : AnySend) (d : AnyRecv) → EndsHaveMet a b c d → P a b c d
 over-either P one zero (send.Driver a) (recv.Device b) (send.Driver c) (recv.Device d) met = one a b c d met
@@ -33,7 +33,7 @@ over-either P one zero (send.Driver a) (recv.Device b) (send.Driver c) (recv.Dri
 over-either P one zero (send.Device a) (recv.Driver b) (send.Device c) (recv.Plain d) met = absurd met
 over-either P one zero (send.Device a) (recv.Driver b) (send.Device c) (recv.Device d) met = absurd met
 
--- what is seen of each end
+-- what a caller sees of each end is the same
 pub record SameSeen (a : AnySend) (b : AnyRecv) (c : AnySend) (d : AnyRecv) : Type 0 where
   pub size_to : sending.size_of_any c ≡ sending.size_of_any a
   pub free : sending.free_of_any c ≡ sending.free_of_any a

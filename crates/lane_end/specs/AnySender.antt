@@ -1,4 +1,4 @@
--- A sending end of any kind: its meanings are those of the end that it is, and its moves keep its kind.
+-- A sending end of any kind: its size and its free buffers are those of the end that it is, and moves keep its kind.
 -- Source: docs/PROFILE.md, "Lanes".
 use Rattle.std.specs.Prelude.{◌≡◌, ℕ, List, [], ◌++◌, refl}
 use Rattle.lane_end.specs.MoveLaws.{Lead-append}

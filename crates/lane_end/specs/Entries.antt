@@ -13,6 +13,9 @@ frames_in es = map frame_in es
 abbrev pub numbers_in : List Entry → List ℕ
 numbers_in es = map number_of es
 
+abbrev pub lengths_in : List Entry → List ℕ
+lengths_in es = map (λ (e : Entry). e.1) es
+
 -- each frame with its buffer's number
 abbrev pub load_in : Entry → ℕ × List ℕ
 load_in e = (number_of e, frame_in e)

@@ -8,14 +8,14 @@ use Rattle.lane_end.specs.ReceiveParts.{frames_taken}
 use Rattle.lane_end.specs.RingReceiver.{RingReceiver, taken_by, come_known, RingReceives}
 use Rattle.lane_end.specs.RingSender.{RingSender, back_known, RingSends}
 
--- each look shows all that stands: with the frames taken before it, all that were put
+-- each look shows all there is: what it shows and the frames taken before it are together all that were put
 abbrev pub SeesAll : ℕ → ℕ → List receiving.ReceiveMove → Type 0
 SeesAll put before [] = Unit {0}
 SeesAll put before (receiving.Looked n ∷ moves) = (before + n ≡ put) × SeesAll put before moves
 SeesAll put before (receiving.Took n frame ∷ moves) = SeesAll put (before + 1) moves
 SeesAll put before (receiving.Gave n ∷ moves) = SeesAll put before moves
 
--- and with all that looks showed before it, all buffers that were given back
+-- each look of a sender shows all there is: with what looks showed before it, all buffers that were given back
 abbrev pub ShowsAll : ℕ → ℕ → List sending.SendMove → Type 0
 ShowsAll given before [] = Unit {0}
 ShowsAll given before (sending.Looked n ∷ moves) = (before + n ≡ given) × ShowsAll given (before + n) moves

@@ -32,7 +32,7 @@ abbrev pub IsRingRecv : AnyRecv → Type 0
 IsRingRecv (recv.Plain r) = ⊥
 IsRingRecv r = Unit {0}
 
--- whatever moves it makes, it stays so
+-- moves keep an end over a ring
 pub RingSend-stays : (a b : AnySend) (moves : List SendMove) → IsRingSend a → AnySends a moves b → IsRingSend b
 RingSend-stays (send.Plain a) b moves over moved = absurd over
 RingSend-stays (send.Driver a) (send.Plain b) moves over moved = absurd moved
@@ -55,7 +55,7 @@ FreeAreHeld s = length s.free + length s.half.written ≡ starts_with s.role (se
 abbrev pub OutAreHeld : RingReceiver → Type 0
 OutAreHeld r = length (out_at r) + length (given_entries r) ≡ length r.half.taken
 
--- what is left of a sender, and of a receiver, that has this half of its ring
+-- what holds of a sender, and of a receiver, that ended and left this half of its ring
 pub record SenderLeaves (role : Role) (s : RingSender) (half : End) : Type 0 where
   pub half_is : half ≡ s.half
   pub role_is : s.role ≡ role
@@ -101,7 +101,7 @@ AreHalvesOf ring (sent.Driver driver) (received.Device device) = (driver.ring �
 AreHalvesOf ring (sent.Device device) (received.Driver driver) = (driver.ring ≡ ring.ring) × (device.ring ≡ ring.ring)
 AreHalvesOf ring half other = ⊥
 
--- the ring between them is finished as this
+-- this is left where the ring is finished with the two halves
 abbrev pub AreFinished : TableShown → SendHalf → RecvHalf → FinishedRing → Type 0
 AreFinished ring (sent.Driver driver) (received.Device device) closed = IsFinished ring driver device closed
 AreFinished ring (sent.Device device) (received.Driver driver) closed = IsFinished ring driver device closed

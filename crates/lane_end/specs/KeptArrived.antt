@@ -1,4 +1,4 @@
--- What the fields of an inbox stand for, and what they keep.
+-- What the fields of an inbox mean, and the invariant that they keep.
 -- Source: docs/ARCHITECTURE.md.
 use Rattle.std.specs.Prelude.{◌≤◌, vec_capacity}
 use Rattle.std.specs.VecDeque.{deque_len, deque_capacity}

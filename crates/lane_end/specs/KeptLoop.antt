@@ -1,4 +1,4 @@
--- What the fields of a lane to oneself stand for, and what they keep.
+-- What the fields of a lane from a domain to itself mean, and the invariant that they keep.
 -- Source: docs/ARCHITECTURE.md.
 use Rattle.std.specs.Prelude.{◌≡◌, ◌+◌, ◌≤◌, length}
 use Rattle.lane_end.specs.Arrived.{Arrived}
@@ -14,7 +14,7 @@ loop_with w a = record { size = w.size; free = w.free; frames = a.came; shown = 
 abbrev pub loop_of : Inside → Loop
 loop_of l = loop_with l.waiting l.inbox
 
--- no more is shown than stands, and no buffer is there twice
+-- no more frames are shown than there are, and no buffer occurs twice
 pub record IsSound (l : Loop) : Type 0 where
   pub shown : l.shown ≤ length l.frames
   pub fits : length l.free + length l.back + length l.frames + length l.out ≤ l.size

@@ -1,4 +1,4 @@
--- What the fields of a plain receiver stand for, and what they keep.
+-- What the fields of a plain receiver mean, and the invariant that they keep.
 -- Source: docs/ARCHITECTURE.md.
 use Rattle.std.specs.Prelude.{ℕ, ◌+◌, ◌≤◌, List, length}
 use Rattle.std.specs.VecDeque.{deque_capacity}
@@ -16,7 +16,7 @@ receiver_with a given = record { size = a.size; came = a.came; shown = a.shown; 
 abbrev pub receiver_of : Inside → Receiver
 receiver_of r = receiver_with r.inbox (numbers_of r.given.items)
 
--- no more is shown than came, and no buffer is there twice
+-- no more frames are shown than came, and no buffer occurs twice
 pub record IsSound (r : Receiver) : Type 0 where
   pub shown : r.shown ≤ length r.came
   pub fits : length r.came + length r.out + length r.given ≤ r.size

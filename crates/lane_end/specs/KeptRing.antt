@@ -1,4 +1,4 @@
--- What the ends over a ring keep from call to call.
+-- What the fields of an end over a ring mean, and the invariant that they keep.
 -- Source: docs/ARCHITECTURE.md, "The ends of a lane".
 use Rattle.std.specs.Prelude.{◌≡◌, ℕ, ◌+◌, ◌≤◌, List, length, take}
 use Rattle.mc_base.specs.Stored.{Stored}
@@ -22,7 +22,7 @@ sender_with role half buffers = record { role = role; half = half; free = number
 abbrev pub receiver_with : Role → End → ℕ → RingReceiver
 receiver_with role half shown = record { role = role; half = half; shown = shown }
 
--- the free buffers are just those that its half holds, and their list has room for all of the ring's
+-- the free buffers are exactly those that its half holds, and their list has room for all of the ring's
 pub record KeepsSender (on : TableShown) (capacity : ℕ) (s : RingSender) : Type 0 where
   pub ring : s.half.ring ≡ on.ring
   pub sound : IsSound s.role s.half
@@ -32,7 +32,7 @@ pub record KeepsSender (on : TableShown) (capacity : ℕ) (s : RingSender) : Typ
   pub small : sender_size s ≤ 256
   pub room : sender_size s ≤ capacity
 
--- what its half wrote before the lane was opened has each buffer with which the half began
+-- what its half wrote before the lane was opened are exactly the buffers with which the half began
 pub record KeepsReceiver (on : TableShown) (r : RingReceiver) : Type 0 where
   pub ring : r.half.ring ≡ on.ring
   pub sound : IsSound r.role r.half

@@ -1,4 +1,4 @@
--- What the fields of a plain sender stand for, and what they keep.
+-- What the fields of a plain sender mean, and the invariant that they keep.
 -- Source: docs/ARCHITECTURE.md.
 use Rattle.std.specs.Prelude.{ℕ, ◌+◌, ◌≤◌, List, length}
 use Rattle.std.specs.VecDeque.{deque_len, deque_capacity}

@@ -1,4 +1,4 @@
--- What the fields of a free list stand for, and what they keep.
+-- What the fields of a free list mean, and the invariant that they keep.
 -- Source: docs/ARCHITECTURE.md.
 use Rattle.std.specs.Prelude.{◌≤◌, take, drop}
 use Rattle.std.specs.VecDeque.{deque_len, deque_capacity}
@@ -6,7 +6,7 @@ use Rattle.lane_end.specs.Held.{numbers_of}
 use Rattle.lane_end.specs.Waiting.{Waiting}
 use Rattle.lane_end.specs.declared.free_list.FreeList.TheInside.{Inside}
 
--- the free ones stand first
+-- the free ones come first
 abbrev pub waiting_of : Inside → Waiting
 waiting_of l = record { size = l.size; free = take l.free (numbers_of l.buffers.items); back = drop l.free (numbers_of l.buffers.items) }
 

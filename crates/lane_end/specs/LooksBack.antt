@@ -1,4 +1,4 @@
--- A look of a sender over a ring on its way: some of the buffers that it showed are taken and free.
+-- A look of a sender over a ring in progress: it showed `seen` buffers, of which `done` are taken and free.
 -- Source: docs/ARCHITECTURE.md, "The ends of a lane".
 use Rattle.std.specs.Prelude.{◌≡◌, ℕ, ◌+◌, ◌≤◌, List, [], ◌∷◌, ◌++◌, length}
 use Rattle.shared_words.specs.Entry.{Entry}

@@ -1,4 +1,4 @@
--- A lane to oneself, both of whose ends are one: what it holds, and where the moves of each of its sides lead.
+-- A lane from a domain to itself, whose two ends are one: what it holds, and where the moves of each of its sides lead.
 -- Source: docs/PROFILE.md, "Lanes".
 use Rattle.std.specs.Prelude.{ℕ, List, [], ◌++◌}
 use Rattle.lane_end.specs.Numbers.{all_numbers}
@@ -22,8 +22,8 @@ pub record Loop : Type 0 where
 abbrev pub new_loop : ℕ → Loop
 new_loop size = record { size = size; free = all_numbers size; frames = []; shown = 0; out = []; back = [] }
 
--- its sides are a sender and a receiver that have the frames and the buffers given back in common, so all of them stand
--- before the next look
+-- its sides are a sender and a receiver that share the frames and the buffers given back, so the next look shows all of
+-- them
 abbrev pub sending_side : Loop → Sender
 sending_side l = record { size = l.size; free = l.free; put = l.frames; back = l.back }
 

@@ -1,4 +1,4 @@
--- The numbers of a lane's buffers, and how often one stands in a list.
+-- The numbers of a lane's buffers, and how often one occurs in a list.
 -- Source: docs/PROFILE.md, "Lanes".
 use Rattle.std.specs.Prelude.{ℕ, ◌<◌, ◌≤◌, List}
 use Rattle.std.specs.List.{range_with_len}
@@ -12,6 +12,6 @@ IsLaneSize size = (0 < size) × (size ≤ 256)
 abbrev pub all_numbers : ℕ → List ℕ
 all_numbers size = range_with_len 0 size
 
--- the numbers differ and are below the size: each of those stands at most once, and any other nowhere
+-- the numbers differ and are below the size: each number below the size occurs at most once, and no other occurs
 abbrev pub AreApart : ℕ → List ℕ → Type 0
 AreApart size numbers = (x : ℕ) → often x numbers ≤ inside size x

@@ -16,8 +16,8 @@ abbrev pub written_before : Role → ℕ → ℕ
 written_before Driver size = size
 written_before Device size = 0
 
--- the length with which the half that receives gives a buffer back: the device's buffers are all used, and the driver offers
--- the whole buffer for the next frame
+-- the length with which the half that receives gives a buffer back: the driver offers the whole buffer for the next frame, and
+-- the device has written nothing into it
 abbrev pub given_length : Role → ℕ
 given_length Driver = buffer_size
 given_length Device = 0

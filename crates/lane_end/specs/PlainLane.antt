@@ -12,7 +12,7 @@ new_sender size = record { size = size; free = all_numbers size; put = []; back 
 abbrev pub new_receiver : ℕ → Receiver
 new_receiver size = record { size = size; came = []; shown = 0; out = []; given = [] }
 
--- the numbers of frames' buffers
+-- the numbers of the buffers of frames
 abbrev pub carriers : List (ℕ × List ℕ) → List ℕ
 carriers frames = map (λ (f : ℕ × List ℕ). f.0) frames
 

@@ -14,7 +14,7 @@ pub record Receiver : Type 0 where
   pub out : List ℕ
   pub given : List ℕ
 
--- a look shows all that came, a take is of the oldest, and what is given back is out
+-- a look shows all frames that came, a take is of the oldest of those shown, and a buffer that is given back was out
 abbrev pub MayReceive : Receiver → ReceiveMove → Type 0
 MayReceive r (Looked n) = n ≡ length r.came
 MayReceive r (Took n frame) = (0 < r.shown) × (slice_get r.came 0 ≡ Some (n, frame))

@@ -12,12 +12,12 @@ pub record Sender : Type 0 where
   pub put : List (ℕ × List ℕ)
   pub back : List ℕ
 
--- a look shows all that came back, and a put wants a free buffer
+-- a look shows all buffers that came back, and a put needs a free buffer
 abbrev pub MaySend : Sender → SendMove → Type 0
 MaySend s (Looked n) = n ≡ length s.back
 MaySend s (Sent frame) = 0 < length s.free
 
--- what came back is free after what was free, and the first free buffer carries the frame
+-- a look appends the buffers that came back to the free ones, and a put uses the first free buffer
 abbrev pub sender_after : Sender → SendMove → Sender
 sender_after s (Looked n) = record s { free = s.free ++ s.back; back = [] }
 sender_after s (Sent frame) = record s { free = drop 1 s.free; put = s.put ++ (slice_index s.free 0, frame) ∷ [] }

@@ -1,4 +1,4 @@
--- The priming of queue 0 on its way: the driver offers buffers, and the device fetches them.
+-- The priming of queue 0 in progress: the driver offers buffers, and the device fetches them.
 -- Source: docs/ARCHITECTURE.md, "The ends of a lane".
 use Rattle.std.specs.Prelude.{◌≡◌, ℕ, List, ◌++◌, length}
 use Rattle.mc_base.specs.Stored.{Stored}
@@ -15,7 +15,7 @@ pub record Offers (old new : End) (done left : List Stored) : Type 0 where
   pub held : AreHeld Driver new left
   pub sound : IsSound Driver new
 
--- the device fetched so many buffers, which went to the end of a list
+-- the device fetched `count` buffers, which were appended to a list
 pub record Fetches (old new : End) (before after : List Stored) (count : ℕ) : Type 0 where
   pub more : List Entry
   pub device : new ≡ record old { taken = old.taken ++ more }

@@ -24,7 +24,7 @@ see_counts (Looked n ∷ moves) = n ∷ see_counts moves
 see_counts (Took n frame ∷ moves) = see_counts moves
 see_counts (Gave n ∷ moves) = see_counts moves
 
--- each look showed so many that with the frames taken before it they are from `low` to `high`
+-- what each look showed and the frames taken before it are together from `low` to `high`
 abbrev pub SeenBetween : ℕ → ℕ → ℕ → List ReceiveMove → Type 0
 SeenBetween low high before [] = Unit {0}
 SeenBetween low high before (Looked n ∷ moves) = (low ≤ before + n) × (before + n ≤ high) × SeenBetween low high before moves

@@ -2,7 +2,7 @@
 -- Source: docs/PROFILE.md, "Lanes".
 use Rattle.std.specs.Prelude.{ℕ, List, [], ◌∷◌, ◌==◌, if◌then◌else◌}
 
--- the list without its first such number
+-- the list without the first occurrence of a number
 abbrev pub without : ℕ → List ℕ → List ℕ
 without n [] = []
 without n (x ∷ xs) = if x == n then xs else x ∷ without n xs

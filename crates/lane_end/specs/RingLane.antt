@@ -13,12 +13,12 @@ use Rattle.lane_end.specs.Opened.{taken_before, written_before}
 use Rattle.lane_end.specs.RingSender.{RingSender, sender_size, put_by, loads_by, back_to, back_known}
 use Rattle.lane_end.specs.RingReceiver.{RingReceiver, receiver_size, taken_by, given_entries, come_known}
 
--- what holds of every sender: all that its looks showed came back to it
+-- what holds of every sender: it has taken all buffers that its looks showed
 abbrev pub IsSender : RingSender → Type 0
 IsSender s = sum s.half.looks + taken_before s.role (sender_size s) ≡ length s.half.taken
 
--- what holds of every receiver: what a look of its showed and it has not taken, it knows to have come; and its half had
--- written what it wrote before the lane was opened
+-- what holds of every receiver: it knows that the frames shown and not taken have come; and its half wrote all that it had to
+-- write before the lane was opened
 pub record IsReceiver (r : RingReceiver) : Type 0 where
   pub shown : length r.half.taken + r.shown ≤ r.half.shown
   pub opened : written_before r.role (receiver_size r) ≤ length r.half.written
@@ -48,15 +48,15 @@ receiver_met s r = record r { half = shows (length s.half.written) r.half }
 pub record HaveMet (s : RingSender) (r : RingReceiver) (sender : RingSender) (receiver : RingReceiver) : Type 0 where
   pub sends : sender ≡ sender_met s r
   pub receives : receiver ≡ receiver_met s r
-  -- what each knew before was done
+  -- what each knew before the meeting had been done
   pub come : come_known r ≤ length (put_by s)
   pub back : back_known s ≤ length (given_entries r)
-  -- and now each knows of all that was done
+  -- and after it each knows all that was done
   pub all_come : come_known receiver ≡ length (put_by s)
   pub all_back : back_known sender ≡ length (given_entries r)
   pub lane : IsRingLane sender receiver
 
--- their ring is finished as this: the half that sends is the driver's, or the device's
+-- this is left where their ring is finished; the half that sends is the driver's or the device's
 abbrev pub IsFinishedBetween : Role → TableShown → End → End → FinishedRing → Type 0
 IsFinishedBetween Driver ring sending receiving closed = IsFinished ring sending receiving closed
 IsFinishedBetween Device ring sending receiving closed = IsFinished ring receiving sending closed

@@ -1,6 +1,6 @@
 -- A sender over a ring: what contracts see of it, and where its moves lead.
 -- Source: docs/PROFILE.md, "Lanes".
-use Rattle.std.specs.Prelude.{◌≡◌, ℕ, ◌-◌, ◌≤◌, List, [], ◌∷◌, ◌++◌, length, drop, sum}
+use Rattle.std.specs.Prelude.{◌≡◌, ℕ, ◌-◌, ◌≤◌, List, [], ◌∷◌, ◌++◌, length, map, drop, sum}
 use Rattle.shared_words.specs.Entry.{Entry}
 use Rattle.shared_words.specs.Shown.{size_of}
 use Rattle.shared_words.specs.declared.view.Role.{Role}
@@ -8,7 +8,7 @@ use Rattle.split_ring.specs.Ends.{End}
 use Rattle.lane_end.specs.Numbers.{AreApart}
 use Rattle.lane_end.specs.SendMoves.{SendMove, Looked, Sent}
 use Rattle.lane_end.specs.SendParts.{frames_sent, back_counts, BackBetween}
-use Rattle.lane_end.specs.Entries.{frames_in, numbers_in, loads_in}
+use Rattle.lane_end.specs.Entries.{frames_in, lengths_in, numbers_in, loads_in}
 use Rattle.lane_end.specs.Opened.{taken_before}
 
 -- which half of the ring it has, what that half did, and the numbers of the free buffers
@@ -20,7 +20,7 @@ pub record RingSender : Type 0 where
 abbrev pub sender_size : RingSender → ℕ
 sender_size s = size_of s.half.ring
 
--- the frames that it put since the lane was opened, alone and with the numbers of their buffers, and these numbers
+-- the frames that it put since the lane was opened, alone and with the numbers of their buffers, these numbers, and the lengths of the entries
 abbrev pub put_by : RingSender → List (List ℕ)
 put_by s = frames_in s.half.written
 
@@ -29,6 +29,9 @@ loads_by s = loads_in s.half.written
 
 abbrev pub sent_by : RingSender → List ℕ
 sent_by s = numbers_in s.half.written
+
+abbrev pub lengths_by : RingSender → List ℕ
+lengths_by s = lengths_in s.half.written
 
 -- what came back to it since then, and the numbers of these buffers
 abbrev pub back_entries : RingSender → List Entry
@@ -62,6 +65,8 @@ pub record RingSends (old : RingSender) (moves : List SendMove) (new : RingSende
   pub ring : new.half.ring ≡ old.half.ring
   pub role : new.role ≡ old.role
   pub put : put_by new ≡ put_by old ++ frames_sent moves
+  -- each with its own length
+  pub lengths : lengths_by new ≡ lengths_by old ++ map (λ (frame : List ℕ). length frame) (frames_sent moves)
   pub looks : new.half.looks ≡ old.half.looks ++ back_counts moves
   pub known : back_known old ≤ back_known new
   -- a look shows no less than was known before the moves, and no more than is known after them

@@ -15,7 +15,7 @@ back_counts [] = []
 back_counts (Looked n ∷ moves) = n ∷ back_counts moves
 back_counts (Sent frame ∷ moves) = back_counts moves
 
--- each look showed so many that with all that looks showed before it they are from `low` to `high`
+-- what each look showed and what looks showed before it are together from `low` to `high`
 abbrev pub BackBetween : ℕ → ℕ → ℕ → List SendMove → Type 0
 BackBetween low high before [] = Unit {0}
 BackBetween low high before (Looked n ∷ moves) = (low ≤ before + n) × (before + n ≤ high) × BackBetween low high (before + n) moves

@@ -2,10 +2,10 @@
 -- Source: docs/PROFILE.md, "Lanes".
 use Rattle.std.specs.Prelude.{◌≡◌, ℕ, List, ◌∷◌, ◌++◌, length}
 
--- so many numbers came to the end of the list
+-- `count` numbers were appended to the list
 abbrev pub AppendsCount : ℕ → List ℕ → List ℕ → Type 0
 AppendsCount count old new = (more : List ℕ) × (length more ≡ count) × (new ≡ old ++ more)
 
--- the first number left the list
+-- the first number was removed from the list
 abbrev pub TakesFirst : List ℕ → List ℕ → Type 0
 TakesFirst old new = (first : ℕ) × (old ≡ first ∷ new)

@@ -10,7 +10,7 @@ use mc_base::Buffer;
 /// A sending end of any kind.
 #[derive(Debug, Drop)]
 pub enum AnySend<'a> {
-    /// A sender in one memory with its receiver.
+    /// A sender in the same memory as its receiver.
     Plain(PlainSend),
     /// A sender over the driver's half of queue 1.
     Driver(DriverSend<'a>),
@@ -21,7 +21,7 @@ pub enum AnySend<'a> {
 /// A receiving end of any kind.
 #[derive(Debug, Drop)]
 pub enum AnyRecv<'a> {
-    /// A receiver in one memory with its sender.
+    /// A receiver in the same memory as its sender.
     Plain(PlainRecv),
     /// A receiver over the driver's half of queue 0.
     Driver(DriverRecv<'a>),

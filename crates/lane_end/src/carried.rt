@@ -3,7 +3,7 @@ ghost use Rattle.mc_base.specs.Limits.{buffer_size};
 
 use mc_base::Buffer;
 
-/// A frame on its way, in its buffer.
+/// A frame in its buffer, of which it is the first `len` bytes.
 #[derive(Debug, Drop)]
 pub(crate) struct Carried {
     pub buffer: Buffer,

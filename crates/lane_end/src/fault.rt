@@ -4,7 +4,7 @@ ghost use Rattle.lane_end.specs.declared.fault.LaneFault.TheVariants.{NoMemory};
 use std::alloc::AllocError;
 use thiserror::Error;
 
-/// Why no lane was made.
+/// Why a lane was not made.
 #[derive(Debug, Drop, Error)]
 pub enum LaneFault {
     /// The size is not from 1 to 256.

@@ -1,4 +1,4 @@
-//! How a lane over a ring is finished once its ends have run.
+//! Finishing a lane over a ring once its ends are done.
 
 ghost use Rattle.lane_end.specs.Halves.{IsRingSend, IsRingRecv, SendLeaves, RecvLeaves, AreHalvesOf, AreFinished};
 ghost use Rattle.lane_end.specs.LaneRun.{AreLaneRuns, HeldByEnds, RunsLeaveHalves};
@@ -6,7 +6,7 @@ ghost use Rattle.lane_end.specs.LaneRun.{AreLaneRuns, HeldByEnds, RunsLeaveHalve
 use crate::any::{AnyRecv, AnySend};
 use split_ring::{Closed, Device, Driver, Ring};
 
-/// The half of a ring that is left of a sender. It borrows no ring.
+/// The half of a ring that is left when a sender ends. It does not borrow the ring.
 #[derive(Debug, Drop)]
 pub enum SendHalf {
     /// The driver's half, of queue 1.
@@ -15,7 +15,7 @@ pub enum SendHalf {
     Device(Device),
 }
 
-/// The half of a ring that is left of a receiver. It borrows no ring.
+/// The half of a ring that is left when a receiver ends. It does not borrow the ring.
 #[derive(Debug, Drop)]
 pub enum RecvHalf {
     /// The driver's half, of queue 0.
@@ -25,7 +25,7 @@ pub enum RecvHalf {
 }
 
 impl<'a> AnySend<'a> {
-    /// Ends the sender and returns its half as it is. The sender is over a ring. The free buffers are dropped.
+    /// Ends a sender over a ring and returns its half as it is. The free buffers are dropped. A plain sender has no half.
     pub fn into_half(self) -> SendHalf
         requires { IsRingSend self }
         ensures { SendLeaves self.entry result }
@@ -39,7 +39,7 @@ impl<'a> AnySend<'a> {
 }
 
 impl<'a> AnyRecv<'a> {
-    /// Ends the receiver and returns its half as it is. The receiver is over a ring.
+    /// Ends a receiver over a ring and returns its half as it is. A plain receiver has no half.
     pub fn into_half(self) -> RecvHalf
         requires { IsRingRecv self }
         ensures { RecvLeaves self.entry result }
@@ -52,11 +52,11 @@ impl<'a> AnyRecv<'a> {
     }
 }
 
-/// Finishes the ring of a lane from the halves of its two ends, and returns what is left of it. It takes no memory.
+/// Finishes the ring of a lane from the halves of its two ends, and returns what is left of it. It allocates nothing.
 ///
-/// The halves are of this ring: in queue 1 the driver's half sends, and in queue 0 the device's. Each end alone knows only its
-/// own moves. The finished ring shows that they fit together: which of the frames put were taken, which buffers came back, and
-/// where every buffer is.
+/// Both halves must belong to this ring: in queue 1 the driver's half sends, and in queue 0 the device's. Each end alone knows
+/// only its own moves. The finished ring shows how they fit together: which of the frames put were taken, which buffers came
+/// back, and where every buffer is (docs/PROFILE.md, "Lanes").
 pub fn finish_lane(ring: Ring, send: SendHalf, recv: RecvHalf) -> Closed
     requires halves { AreHalvesOf ring send recv }
     ensures finished { AreFinished ring send recv result }
@@ -75,7 +75,7 @@ pub fn finish_lane(ring: Ring, send: SendHalf, recv: RecvHalf) -> Closed
     }
 }
 
-/// Shows that the halves of the two ends of a lane are of its ring, whatever moves the ends made: so the ring can be finished.
+/// Shows that the halves of a lane's two ends belong to its ring whatever moves the ends made, so the ring can be finished.
 pub fn halves_stay_of_one_ring()
     ensures { RunsLeaveHalves }
 {}

@@ -9,7 +9,7 @@ use std::alloc::{AllocError, Global};
 use std::collections::VecDeque;
 use std::marker::Model;
 
-/// The buffers that wait to be put, in the order in which they will be: the free ones, and then those that came back
+/// The buffers that a sender can still use, in the order in which it will: the free ones, and then those that came back
 /// and that no look has shown.
 #[derive(Debug, Drop)]
 pub(crate) struct FreeList {
@@ -31,7 +31,7 @@ impl Model for FreeList {
 }
 
 impl FreeList {
-    /// All buffers of a lane, free.
+    /// Makes the list of all buffers of a lane, all free.
     pub fn new(alloc: Global, size: u32) -> Result<FreeList, AllocError>
         requires { size ≤ 256 }
         ensures { IfOk result (λ l. l ≡ all_free size) }
@@ -44,7 +44,7 @@ impl FreeList {
         })
     }
 
-    /// How many are free.
+    /// Returns how many buffers are free.
     pub fn len(&self) -> u32
         ensures free { result ≡ length self.now.free }
         ensures room { result ≤ self.now.size }
@@ -52,7 +52,7 @@ impl FreeList {
         self.free
     }
 
-    /// Makes all that came back free, and answers how many they are.
+    /// Makes all buffers that came back free, and returns how many there were.
     pub fn look(&mut self) -> u32
         ensures count { result ≡ length self.old.back }
         ensures all { self.new ≡ all_back_free self.old }
@@ -63,7 +63,7 @@ impl FreeList {
         back
     }
 
-    /// Hands out the first of the free buffers.
+    /// Removes and returns the first free buffer.
     pub fn use_first(&mut self) -> Buffer
         requires { 0 < length self.old.free }
         ensures first { self.old.free ≡ result.number ∷ self.new.free }
@@ -73,7 +73,7 @@ impl FreeList {
         self.buffers.pop_front().unwrap()
     }
 
-    /// Takes a buffer that came back.
+    /// Appends a buffer that came back.
     pub fn add(&mut self, buffer: Buffer)
         requires { length self.old.free + length self.old.back < self.old.size }
         ensures { self.new ≡ with_back self.old (buffer.number ∷ []) }
@@ -81,7 +81,7 @@ impl FreeList {
         self.buffers.push_back_reserved(buffer);
     }
 
-    /// Takes all buffers that came back.
+    /// Moves all buffers that came back to the end of the list.
     pub fn add_all(&mut self, buffers: &mut VecDeque<Buffer>)
         requires { length self.old.free + length self.old.back + deque_len buffers.old ≤ self.old.size }
         ensures added { self.new ≡ with_back self.old (numbers_of buffers.old.items) }
@@ -94,7 +94,7 @@ impl FreeList {
     }
 }
 
-// Buffers with the numbers from 0 on.
+// Makes `size` buffers, numbered from 0.
 fn all_buffers(alloc: Global, size: u32) -> Result<VecDeque<Buffer>, AllocError>
     requires { size ≤ 256 }
     ensures numbers { IfOk result (λ q. numbers_of q.items ≡ all_numbers size) }

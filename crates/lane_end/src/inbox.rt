@@ -9,7 +9,7 @@ use std::alloc::{AllocError, Global};
 use std::collections::VecDeque;
 use std::marker::Model;
 
-/// The frames that came, the oldest first, and the numbers of the buffers that were taken.
+/// The frames that came and were not taken, the oldest first, and the numbers of the buffers that are out.
 #[derive(Debug, Drop)]
 pub(crate) struct Inbox {
     size: u32,
@@ -31,7 +31,7 @@ impl Model for Inbox {
 }
 
 impl Inbox {
-    /// An inbox into which nothing came, with room for all buffers of a lane.
+    /// Makes an empty inbox with room for all buffers of a lane.
     pub fn new(alloc: Global, size: u32) -> Result<Inbox, AllocError>
         requires { size ≤ 256 }
         ensures { IfOk result (λ i. i ≡ none_arrived size) }
@@ -46,7 +46,7 @@ impl Inbox {
         })
     }
 
-    /// Shows all frames that came, and answers how many they are.
+    /// Shows all frames that came, and returns how many there are.
     pub fn look(&mut self) -> u32
         ensures count { result ≡ length self.old.came }
         ensures all { self.new ≡ all_shown self.old }
@@ -55,7 +55,7 @@ impl Inbox {
         self.shown
     }
 
-    /// Takes the oldest frame. Its buffer is out.
+    /// Takes the oldest frame. Its buffer is then out.
     pub fn take(&mut self) -> Carried
         requires shown { 0 < self.old.shown }
         requires room { length self.old.out < self.old.size }
@@ -68,7 +68,7 @@ impl Inbox {
         carried
     }
 
-    /// The buffer of this number is out no longer.
+    /// Removes the number of a buffer that is no longer out.
     pub fn strike(&mut self, number: u16)
         requires { Contains self.old.out number }
         ensures { self.new ≡ without_out self.old number }
@@ -76,7 +76,7 @@ impl Inbox {
         strike(&mut self.out, number);
     }
 
-    /// Takes in a frame that came.
+    /// Appends a frame that came.
     pub fn add(&mut self, carried: Carried)
         requires { length self.old.came < self.old.size }
         ensures { self.new ≡ with_frames self.old (frame_of carried ∷ []) }
@@ -84,7 +84,7 @@ impl Inbox {
         self.frames.push_back_reserved(carried);
     }
 
-    /// Takes in all frames that came.
+    /// Moves all frames that came to the end of the inbox.
     pub fn add_all(&mut self, frames: &mut VecDeque<Carried>)
         requires { length self.old.came + deque_len frames.old ≤ self.old.size }
         ensures added { self.new ≡ with_frames self.old (frames_of frames.old.items) }
@@ -97,7 +97,7 @@ impl Inbox {
     }
 }
 
-// Takes a number out of a list. At most as many are looked through as a lane has buffers.
+// Removes a number from a list. A linear search will do: the list has at most 256 numbers, one for each buffer of a lane.
 fn strike(numbers: &mut Vec<u16>, number: u16)
     requires { Contains numbers.old.items number }
     ensures rest { numbers.new.items ≡ without number numbers.old.items }

@@ -1,8 +1,9 @@
 //! The ends of lanes. A lane carries frames one way, each in one of its buffers, and its size is how many it has.
 //!
-//! [`SendEnd`] and [`RecvEnd`] say what every end does, whatever carries the frames. Plain ends stand in one memory, and
-//! a shuttle carries between them; a [`LoopLane`] is both ends at once. Ends over rings need no shuttle: [`open_queue1`] opens the
-//! lane from the driver of a link to its device, and [`open_queue0`] the lane back. Only making an end takes memory.
+//! [`SendEnd`] and [`RecvEnd`] say what every end does, whatever carries the frames. Plain ends share one memory, and [`shuttle`]
+//! carries frames and buffers between them; a [`LoopLane`] is both ends at once. Ends over rings need no shuttle: [`open_queue1`]
+//! opens the lane from the driver of a link to its device, and [`open_queue0`] the lane back. Memory is allocated only when plain
+//! ends and loop lanes are made. docs/PROFILE.md, "Lanes", has the rules.
 #![tactic(auto)]
 
 mod any;

@@ -13,7 +13,7 @@ use mc_base::Buffer;
 use std::alloc::Global;
 use std::marker::Model;
 
-/// A lane to oneself, which is both ends at once. Its looks show all that stands: what was put, and what was given back.
+/// A lane from a domain to itself, which is both ends at once. Its looks show every frame put and every buffer given back.
 #[derive(Debug, Drop)]
 pub struct LoopLane {
     waiting: FreeList,
@@ -33,9 +33,11 @@ impl Model for LoopLane {
 }
 
 impl LoopLane {
-    /// A lane of this size with all buffers free. All the memory that it will need is taken here.
+    /// Makes a lane of `size` buffers, all free. All the memory that it will need is allocated here.
     ///
-    /// Refused: `Size` where the size is not from 1 to 256.
+    /// # Errors
+    ///
+    /// `Size` where the size is not from 1 to 256, and else `NoMemory` where an allocation fails.
     pub fn new(alloc: Global, size: u32) -> Result<LoopLane, LaneFault>
         ensures size_refused { IsErrOf result LaneFault.Size ↔ (IsLaneSize size → ⊥) }
         ensures size { IfOk result (λ _. IsLaneSize size) }

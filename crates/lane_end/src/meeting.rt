@@ -16,8 +16,8 @@ ghost use Rattle.lane_end.specs.ExactLooks.{ReceivesExactly, SendsExactly};
 use crate::any::{AnyRecv, AnySend};
 use crate::opening::{DeviceRecv, DeviceSend, DriverRecv, DriverSend};
 
-/// Lets the two ends of a lane over one ring meet: each knows then of all that the other did. No look is made, and what is
-/// free, shown and out stays.
+/// Lets the two ends of a lane over one ring meet: each then knows all that the other did. A meeting is not a look: it does not
+/// change what is free, shown or out. The two must be the ends of one ring.
 pub fn meet_ends(send: &mut AnySend<'_>, recv: &mut AnyRecv<'_>)
     requires { AreEndsOfOneRing send.old recv.old }
     ensures met { EndsHaveMet send.old recv.old send.new recv.new }
@@ -50,7 +50,7 @@ fn meet_queue0(send: &mut DeviceSend<'_>, recv: &mut DriverRecv<'_>)
     recv.on.meet(&mut recv.half, &mut send.half);
 }
 
-/// Shows that the ends of one ring stay so, whatever moves each of them makes: so they can meet again.
+/// Shows that the ends of one ring remain its ends whatever moves each of them makes, so they can meet again.
 pub fn ends_stay_of_one_ring()
     ensures { (a b : AnySend) (c d : AnyRecv) (xs : List SendMove) (ys : List ReceiveMove) → AreEndsOfOneRing a c → sending.AnySends a xs b → receiving.AnyReceives c ys d → AreEndsOfOneRing b d }
 {}
@@ -60,8 +60,8 @@ pub fn finished_ends_are_one_lane()
     ensures { (ring : TableShown) (s : RingSender) (r : RingReceiver) (closed : FinishedRing) → AreOfOneRing s r → IsSender s → IsReceiver r → IsFinishedLane ring s r closed → IsRingLane s r }
 {}
 
-/// Shows that between two meetings of a ring, where the other end did nothing, each look shows all that stands, and the
-/// frames taken are the first of these.
+/// Shows that between two meetings in which the other end did nothing, each look shows all there is to show, and the frames
+/// taken are the oldest of those not taken before.
 pub fn looks_between_meetings_are_exact()
     ensures receives { ReceivesExactly }
     ensures sends { SendsExactly }

@@ -1,4 +1,4 @@
-//! How lanes are opened over the rings of a link.
+//! Opening lanes over the rings of a link.
 
 ghost use Rattle.std.specs.Prelude.{◌≡◌, ◌≤◌, IfOk, IsOk, vec_capacity};
 ghost use Rattle.shared_words.specs.Shape.{IsRingSize};
@@ -27,12 +27,13 @@ pub type DeviceSend<'a> = RingSend<'a, Device>;
 /// A receiver over the driver's half of queue 0.
 pub type DriverRecv<'a> = RingRecv<'a, Driver>;
 
-/// Opens the lane over queue 1 of a link, from the driver to the device. The halves and the buffers are as `Ring::new` gave
-/// them. All buffers are free with the sender. It takes no memory.
+/// Opens the lane over queue 1 of a link, from the driver to the device. All buffers are free at the sender.
+///
+/// The halves and the buffers must be as `Ring::new` returned them. It allocates nothing.
 ///
 /// # Errors
 ///
-/// None today. `NoMemory` is left for an opening that takes memory.
+/// None: the result is always `Ok`. `NoMemory` is reserved for an opening that allocates.
 pub fn open_queue1<'a>(
     on: &'a Ring,
     driver: Driver,
@@ -63,13 +64,14 @@ pub fn open_queue1<'a>(
     Ok((send, recv))
 }
 
-/// Opens the lane over queue 0 of a link, from the device to the driver. The halves and the buffers are as `Ring::new` gave
-/// them. The driver offers every buffer, whole, and the device fetches them all: they are free with the sender. It takes no
-/// memory.
+/// Opens the lane over queue 0 of a link, from the device to the driver. The driver offers every buffer whole, with length 512,
+/// and the device fetches them all, so that all buffers are free at the sender.
+///
+/// The halves and the buffers must be as `Ring::new` returned them. It allocates nothing.
 ///
 /// # Errors
 ///
-/// None today. `NoMemory` is left for an opening that takes memory.
+/// None: the result is always `Ok`. `NoMemory` is reserved for an opening that allocates.
 pub fn open_queue0<'a>(
     on: &'a Ring,
     mut driver: Driver,

@@ -1,4 +1,4 @@
-//! Plain lanes, whose ends stand in one memory.
+//! Plain lanes, whose two ends share one memory.
 
 ghost use Rattle.std.specs.Prelude.{◌≡◌, ◌≤◌, ◌↔◌, ℕ, List, IfOk, IsErrOf, IsTrue};
 ghost use Rattle.lane_end.specs.Numbers.{IsLaneSize};
@@ -14,10 +14,12 @@ use crate::plain_send::PlainSend;
 use mc_base::MAX_POOL;
 use std::alloc::Global;
 
-/// A lane of this size: its sender, with all buffers free, and its receiver. All the memory that the two will need is
-/// taken here.
+/// Makes a lane of `size` buffers: its sender, with all buffers free, and its receiver. All the memory that the two will need
+/// is allocated here.
 ///
-/// Refused: `Size` where the size is not from 1 to 256.
+/// # Errors
+///
+/// `Size` where the size is not from 1 to 256, and else `NoMemory` where an allocation fails.
 pub fn plain_lane(alloc: Global, size: u32) -> Result<(PlainSend, PlainRecv), LaneFault>
     ensures size_refused { IsErrOf result LaneFault.Size ↔ (IsLaneSize size → ⊥) }
     ensures size { IfOk result (λ _. IsLaneSize size) }
@@ -33,8 +35,8 @@ pub fn plain_lane(alloc: Global, size: u32) -> Result<(PlainSend, PlainRecv), La
     Ok((send, recv))
 }
 
-/// Makes visible on each side what the other did: the frames put come, and the buffers given back come back. A look
-/// shows them. The two are the ends of one lane.
+/// Carries the frames put to the receiver and the buffers given back to the sender, where the next looks show them. The two must
+/// be the ends of one lane.
 pub fn shuttle(from: &mut PlainSend, to: &mut PlainRecv)
     requires lane { AreOneLane from.old to.old }
     ensures sender { from.new ≡ shuttled_sender from.old to.old }
@@ -45,12 +47,12 @@ pub fn shuttle(from: &mut PlainSend, to: &mut PlainRecv)
     from.waiting.add_all(&mut to.given);
 }
 
-/// Shows that the ends of one lane stay so, whatever moves each of them makes: so they can be shuttled again.
+/// Shows that the ends of one lane remain so whatever moves each of them makes, so they can be shuttled again.
 pub fn ends_stay_one_lane()
     ensures { (a b : Sender) (c d : Receiver) (xs : List SendMove) (ys : List ReceiveMove) → AreOneLane a c → Sends a xs b → Receives c ys d → AreOneLane b d }
 {}
 
-/// Whether a lane can have so many buffers.
+/// Returns whether a lane can have this many buffers: 1 to 256.
 pub(crate) fn is_lane_size(size: u32) -> bool
     ensures { IsTrue result ↔ IsLaneSize size }
 {

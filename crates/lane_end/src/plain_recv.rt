@@ -10,11 +10,11 @@ use std::alloc::{AllocError, Global};
 use std::collections::VecDeque;
 use std::marker::Model;
 
-/// A receiver that stands in one memory with its sender. It sees what a shuttle has carried.
+/// A receiver in the same memory as its sender. Its looks show the frames that a shuttle has carried.
 #[derive(Debug, Drop)]
 pub struct PlainRecv {
     pub(crate) inbox: Inbox,
-    /// The buffers given back and not shuttled.
+    /// The buffers given back and not yet shuttled.
     pub(crate) given: VecDeque<Buffer>,
 }
 

@@ -10,11 +10,11 @@ use std::alloc::{AllocError, Global};
 use std::collections::VecDeque;
 use std::marker::Model;
 
-/// A sender that stands in one memory with its receiver. What it puts is there once a shuttle has carried it.
+/// A sender in the same memory as its receiver. The frames that it puts arrive once a shuttle has carried them.
 #[derive(Debug, Drop)]
 pub struct PlainSend {
     pub(crate) waiting: FreeList,
-    /// The frames put and not shuttled.
+    /// The frames put and not yet shuttled.
     pub(crate) put: VecDeque<Carried>,
 }
 

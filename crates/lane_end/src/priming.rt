@@ -11,8 +11,8 @@ use mc_base::{BUFFER_SIZE, Buffer};
 use split_ring::{Device, Driver, Ring};
 use std::collections::VecDeque;
 
-/// Lets all buffers go from the driver to the device, so that the device can send: the driver offers them, whole, and the
-/// device fetches them. They come back in their list, in the same order.
+/// Moves all buffers from the driver to the device, so that the device can send: the driver offers each whole, with length 512,
+/// and the device fetches it. The list then has the device's buffers, with the same numbers in the same order.
 pub(crate) fn prime(
     on: &Ring,
     driver: &mut Driver,
@@ -33,7 +33,7 @@ pub(crate) fn prime(
     offer_all(on, driver, buffers);
     on.meet(driver, device);
     fetch_all(on, device, buffers, size);
-    // Only this meeting tells that what was fetched is what was offered.
+    // Only this meeting shows that what was fetched is what was offered.
     on.meet(driver, device);
 }
 

@@ -6,10 +6,10 @@ ghost use Rattle.lane_end.specs.ReceiverContract.{without};
 
 use mc_base::Buffer;
 
-/// The receiving end of a lane: what holds of every kind.
+/// The receiving end of a lane: the contract of every kind. docs/PROFILE.md, "Lanes", has the rules.
 ///
-/// A look shows frames, and a take hands out the oldest of those shown, in its buffer. The buffer is out until it is
-/// given back. No call takes memory, and none waits.
+/// A look shows frames, and a take returns the oldest of those shown, in its buffer. The buffer is out until it is given back;
+/// buffers may be given back in any order. No call fails, allocates or waits.
 pub trait RecvEnd {
     /// The lane's size: how many buffers it has.
     ghost size: { Self → ℕ };
@@ -20,10 +20,10 @@ pub trait RecvEnd {
     /// The numbers of the buffers taken and not given back.
     ghost out: { Self → List ℕ };
 
-    /// These moves, oldest first, lead from the one state of the end to the other.
+    /// These moves, oldest first, lead from the first state of the end to the second.
     ghost Moved: { Self → List ReceiveMove → Self → Type 0 };
 
-    /// Looks once at the frames that came, and answers how many are shown and not taken.
+    /// Looks once for frames that came, and returns how many are shown and not taken. Over a ring it loads the other half's index.
     fn look(&mut self) -> u32
         ensures moved { Moved self.old (Looked result ∷ []) self.new }
         ensures more { shown self.old ≤ result }
@@ -33,7 +33,8 @@ pub trait RecvEnd {
         ensures room { length (out self.new) + shown self.new ≤ size self.new }
         ensures size { size self.new ≡ size self.old };
 
-    /// Takes the oldest frame, where one is shown: its buffer, and how many of the buffer's first bytes it has.
+    /// Takes the oldest frame shown, of which there must be one. Returns its buffer and its length, at most 512: the frame is the
+    /// buffer's first bytes.
     fn take(&mut self) -> (Buffer, u32)
         requires shown { 0 < shown self.old }
         ensures moved { Moved self.old (Took result.0.number (take result.1 result.0.bytes) ∷ []) self.new }
@@ -44,7 +45,7 @@ pub trait RecvEnd {
         ensures room { length (out self.new) + shown self.new ≤ size self.new }
         ensures size { size self.new ≡ size self.old };
 
-    /// Gives a buffer back that is out. A later look of the sender shows it.
+    /// Gives back a buffer that is out. A later look of the sender shows it, and it is free again.
     fn give_back(&mut self, buffer: Buffer)
         requires out { Contains (out self.old) buffer.number }
         ensures moved { Moved self.old (Gave buffer.number ∷ []) self.new }
@@ -54,12 +55,12 @@ pub trait RecvEnd {
         ensures room { length (out self.new) + shown self.new ≤ size self.new }
         ensures size { size self.new ≡ size self.old };
 
-    /// No move leads nowhere else.
+    /// An empty list of moves leads from each state to itself.
     ghost none: { (e : Self) → Moved e [] e };
 
-    /// Moves after moves are one list of moves.
+    /// Two lists of moves, one after the other, are one list of moves.
     ghost both: { (a b c : Self) (xs ys : List ReceiveMove) → Moved a xs b → Moved b ys c → Moved a (xs ++ ys) c };
 
-    /// Moves keep the size.
+    /// Moves do not change the size.
     ghost same_size: { (a b : Self) (xs : List ReceiveMove) → Moved a xs b → size b ≡ size a };
 }

@@ -8,8 +8,8 @@ use mc_base::{BUFFER_SIZE, Buffer};
 use split_ring::{Device, Driver, Ring};
 use std::fmt::Debug;
 
-/// A half of a ring, the driver's or the device's, as the ends of lanes use it. What the one offers and reclaims, the
-/// other gives and fetches.
+/// A half of a ring, the driver's or the device's, as the ends of lanes use it. The driver writes entries by `offer` and takes
+/// them by `reclaim`; the device writes by `give` and takes by `fetch`.
 pub trait RingHalf: Debug + Drop {
     /// Which half it is.
     ghost role: { Role };
@@ -17,14 +17,14 @@ pub trait RingHalf: Debug + Drop {
     /// What it wrote and took, and what its looks showed.
     ghost end: { Self → End };
 
-    /// Looks once at the other half's index, and answers how many entries are shown and not taken.
+    /// Loads the other half's index once, and returns how many entries are shown and not taken.
     fn look_once(&mut self, on: &Ring) -> u32
         requires ring { (end self.old).ring ≡ on.now.ring }
         ensures looked { end self.new ≡ looks_at result (end self.old) }
         ensures shown { (end self.old).shown ≤ (end self.new).shown }
         ensures sound { IsSound role (end self.new) };
 
-    /// Takes the oldest entry that is shown: a buffer with its length.
+    /// Takes the oldest entry shown, of which there must be one: a buffer, and the length written with it, at most 512.
     fn take_next(&mut self, on: &Ring) -> (Buffer, u32)
         requires ring { (end self.old).ring ≡ on.now.ring }
         requires left { IsLeft (end self.old) }
@@ -32,7 +32,7 @@ pub trait RingHalf: Debug + Drop {
         ensures fits { result.1 ≤ buffer_size }
         ensures sound { IsSound role (end self.new) };
 
-    /// Writes a buffer that it holds, with the length of the frame in it.
+    /// Writes an entry: a buffer that this half holds, with the length of the frame in it, at most 512.
     fn write(&mut self, on: &Ring, buffer: Buffer, len: u32)
         requires ring { (end self.old).ring ≡ on.now.ring }
         requires holds { HoldsNumber role (end self.old) buffer.number }
@@ -40,7 +40,7 @@ pub trait RingHalf: Debug + Drop {
         ensures written { end self.new ≡ writes (buffer, len) (end self.old) }
         ensures sound { IsSound role (end self.new) };
 
-    /// Writes a buffer that it holds, whose frame was dealt with.
+    /// Writes an entry: a buffer that this half holds, without a frame. The driver writes the length 512, and the device 0.
     fn write_back(&mut self, on: &Ring, buffer: Buffer)
         requires ring { (end self.old).ring ≡ on.now.ring }
         requires holds { HoldsNumber role (end self.old) buffer.number }

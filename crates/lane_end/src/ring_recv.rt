@@ -7,7 +7,7 @@ use mc_base::Buffer;
 use split_ring::Ring;
 use std::marker::Model;
 
-/// A receiver over one half of a ring. A take takes the next entry, and a buffer given back is written.
+/// A receiver over one half of a ring. A take takes the half's next entry, and a buffer given back is written to the ring.
 #[derive(Debug, Drop)]
 pub struct RingRecv<'a, H: RingHalf> {
     pub(crate) on: &'a Ring,

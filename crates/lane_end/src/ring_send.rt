@@ -10,7 +10,7 @@ use split_ring::Ring;
 use std::collections::VecDeque;
 use std::marker::Model;
 
-/// A sender over one half of a ring. A put writes a frame, and a look takes all buffers that came back.
+/// A sender over one half of a ring. A put writes an entry, and a look takes all buffers that it shows to have come back.
 #[derive(Debug, Drop)]
 pub struct RingSend<'a, H: RingHalf> {
     pub(crate) on: &'a Ring,

@@ -10,8 +10,8 @@ fn is_shared<T: Send + Sync>() {}
 
 fn moves<T: Send>() {}
 
-/// Shows that all ends may move between threads, and that threads may share those that stand in one memory. An end over a
-/// ring is one thread's at a time.
+/// Shows that every end may move between threads, and that threads may share plain ends and loop lanes. An end over a ring
+/// belongs to one thread at a time.
 pub fn may_cross_threads<'a>() {
     is_shared::<PlainSend>();
     is_shared::<PlainRecv>();

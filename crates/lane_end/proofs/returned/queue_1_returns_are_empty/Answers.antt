@@ -1,9 +1,9 @@
-use Rattle.std.proofs.Common.{◌≡◌, ◌∙◌, ℕ, zero, suc, List, [], ◌∷◌, length, map, drop, sym, ap, arith}
+use Rattle.std.proofs.Common.{◌≡◌, ◌∙◌, ℕ, zero, suc, List, [], ◌∷◌, length, drop, sym, ap, arith}
 use Rattle.std.specs.List.{All}
 use Rattle.shared_words.specs.Entry.{Entry}
 use Rattle.shared_words.specs.declared.view.Role.{Role}
 use Rattle.shared_words.specs.declared.view.Role.TheVariants.{Device}
-use Rattle.lane_end.specs.Entries.{return_in, returns_in}
+use Rattle.lane_end.specs.Entries.{returns_in}
 use Rattle.lane_end.specs.Opened.{written_before}
 use Rattle.lane_end.specs.ReceiveParts.{numbers_given}
 use Rattle.lane_end.specs.RingReceiver.{receiver_size, with_lengths}

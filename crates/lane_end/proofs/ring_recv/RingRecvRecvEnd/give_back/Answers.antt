@@ -1,13 +1,14 @@
-use Rattle.std.proofs.Common.{◌+◌, ◌≤◌, ◌∙◌, length, sym, subst, ap}
+use Rattle.std.proofs.Common.{◌+◌, ◌≤◌, ◌∙◌, ◌∷◌, [], length, sym, subst, ap}
 use Rattle.std.specs.Prelude.{Contains}
 use Rattle.shared_words.specs.Entry.{Entry}
 use Rattle.split_ring.specs.Ends.{End, IsSound}
 use Rattle.lane_end.specs.Numbers.{AreApart}
 use Rattle.lane_end.specs.Opened.{given_length}
+use Rattle.lane_end.specs.ReceiveMoves.{Gave}
 use Rattle.lane_end.specs.ReceiverContract.{without}
-use Rattle.lane_end.specs.RingReceiver.{RingReceiver, receiver_size, out_at}
+use Rattle.lane_end.specs.RingReceiver.{RingReceiver, receiver_size, out_at, RingReceives}
 use Rattle.lane_end.specs.KeptRing.{receiver_with}
-use Rattle.lane_end.proofs.ReceiverLemmas.{give-keeps, gave, out-apart, out-room, out-gives, out-held}
+use Rattle.lane_end.proofs.ReceiverLemmas.{give-keeps, give-moves, gave, out-apart, out-room, out-gives, out-held}
 use Rattle.lane_end.proofs.ring_recv.RingRecvRecvEnd.give_back.Goals as goal
 
 pub write_back-requires-clause-holds : goal.write_back-requires-clause-holds
@@ -35,3 +36,11 @@ returns-clause-room g c =
     let r = receiver_with role (g.H.RingHalf.end i.half) i.shown in
     let k = give-keeps i.on.now r c.self.invariant e (subst (IsSound role) is c.write_back.ensures.sound) in
     subst (λ (h : End). length (out_at (receiver_with role h i.shown)) + i.shown ≤ receiver_size (receiver_with role h i.shown)) (sym is) (out-room i.on.now (gave e r) k)
+
+pub returns-clause-moved : goal.returns-clause-moved
+returns-clause-moved g c =
+    let i = c.self.inside in let role = g.H.RingHalf.role in let is = c.write_back.ensures.written in
+    let r = receiver_with role (g.H.RingHalf.end i.half) i.shown in
+    let out = subst (λ (q : RingReceiver). Contains (out_at q) c.args.buffer.number) (sym c.self.view_is) c.requires.out in
+    subst (λ (x : RingReceiver × RingReceiver). RingReceives x.0 (Gave c.args.buffer.number ∷ []) x.1) (λ j. (c.self.view_is j, receiver_with role (sym is j) i.shown))
+    (give-moves i.on.now r c.self.invariant c.args.buffer out)

@@ -1,4 +1,4 @@
-use Rattle.std.proofs.Common.{◌≡◌, ◌≤◌, ◌∙◌, subst, arith, ℕ, ap, sym, List, ◌++◌, ◌∷◌, [], length, take, drop, Option, Some}
+use Rattle.std.proofs.Common.{◌≡◌, ◌≤◌, ◌∙◌, refl, subst, arith, ℕ, ap, sym, List, ◌++◌, ◌∷◌, [], length, take, drop, Option, Some}
 use Rattle.std.proofs.lemmas.List.{take-append-le, take-take}
 use Rattle.std.specs.Option.{option_to_list}
 use Rattle.std.specs.VecDeque.{deque_capacity}
@@ -46,5 +46,5 @@ returns-clause-moved g c =
     let pop = popped i.free.items rest c.pop_front.result b c.pop_front.ensures.items c.unwrap-buffer.ensures in
     let keeps = put-keeps i.on.now (deque_capacity i.free) s c.self.invariant e (numbers_of rest) (deque_capacity c.pop_front.new.self) pop (subst (IsSound role) is c.write.ensures.sound) (omega (arith, room)) in
     let within : length frame ≤ length c.copy.new.out = let q = c.bytes_mut.ensures.len in let r = c.requires.fits in omega (arith, q, r, c.copy.auto.out) in
-    let moves = put-moves i.on.now (deque_capacity c.pop_front.new.self) s e (numbers_of rest) frame pop keeps (frame-back c.copy.new.out b.bytes (length frame) within c.requires.fits ∙ c.copy.ensures) in
+    let moves = put-moves i.on.now (deque_capacity c.pop_front.new.self) s e (numbers_of rest) frame pop keeps (frame-back c.copy.new.out b.bytes (length frame) within c.requires.fits ∙ c.copy.ensures) refl in
     subst (λ (x : RingSender × RingSender). RingSends x.0 (Sent frame ∷ []) x.1) (λ j. (c.self.view_is j, sender_with role (sym is j) rest)) moves
