@@ -1,0 +1,10 @@
+pub mod Fronts
+pub mod Early
+pub mod Dealt
+pub mod Lists
+pub mod Laws
+pub mod RenamedChanges
+pub mod RenamedCalls
+pub mod RenamedDeeds
+pub mod Numbering
+pub mod GivenPlaces

@@ -1,0 +1,5 @@
+pub mod GivesAt
+pub mod Sendings
+pub mod LaneImages
+pub mod DeedMoves
+pub mod PlacesGiven
