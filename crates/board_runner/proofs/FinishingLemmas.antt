@@ -1,5 +1,5 @@
 -- The rings of links, finished one link after the other.
-use Rattle.std.proofs.Common.{◌≡◌, ℕ, zero, suc, ◌+◌, List, [], ◌∷◌, ◌++◌, drop, slice_get, Option, Some, None, refl, sym, ap, ◌∙◌, subst, inl, inr, arith, append_assoc, append-nil}
+use Rattle.std.proofs.Common.{◌≡◌, ℕ, zero, suc, ◌+◌, List, [], ◌∷◌, ◌++◌, drop, slice_get, Option, Some, refl, sym, ap, ◌∙◌, subst, inl, inr, arith, append_assoc, append-nil}
 use Rattle.std.specs.List.{All, AllByRecursion}
 use Rattle.shared_words.specs.Entry.{Entry}
 use Rattle.shared_words.specs.Shown.{TableShown, size_of}
@@ -219,9 +219,11 @@ module _ (moves : BoardMoves) (l : LinkLine) (on : LinkRings) (old mid new : Lis
         queue0 = is0.0;
         size0 = is0.1;
         finished0 = zero-finished on.queue0 back.send there.recv first closed0;
+        was0 = record { send = back.send; recv = there.recv; ran = run-zero; finished = closed0 };
         run0 = runs0 Device (sends (moves l.device l.driver)) (receives (moves l.driver l.device)) run-zero;
         queue1 = is1.0;
         size1 = is1.1;
         finished1 = one-finished law on.queue1 (sends (moves l.driver l.device)) (receives (moves l.device l.driver)) there.send back.recv last run-one closed1;
+        was1 = record { send = there.send; recv = back.recv; ran = run-one; finished = closed1 };
         run1 = runs1 Driver (sends (moves l.driver l.device)) (receives (moves l.device l.driver)) run-one;
       }

@@ -41,8 +41,10 @@ pub mod TallyLemmas
 pub mod TwoPlaces
 pub mod HoldingLemmas
 pub mod PeersFound
+pub mod NumberedMoves
 pub mod ToldMoves
 pub mod ToldTraffic
+pub mod ToldNumbers
 pub mod OwnRunLemmas
 pub mod JobLemmas
 pub mod OwnBoardLemmas

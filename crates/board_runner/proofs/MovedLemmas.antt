@@ -1,6 +1,7 @@
 -- How the ends of each link moved since they were opened, on a board whose domains ran on their own.
 use Rattle.std.proofs.Common.{◌≡◌, ℕ, ◌<◌, Bool, true, false, ◌&&◌, cond, List, [], ◌∷◌, ◌++◌, map, find, Option, Some, None, option_map, refl, sym, ap, ◌∙◌, subst, eq-eqb, eqb-true}
 use Rattle.std.specs.Prelude.{◌==◌, nat_lt}
+use Rattle.std.specs.List.{AllByRecursion}
 use Rattle.std.proofs.lemmas.Bool.{cond_both}
 use Rattle.lane_end.specs.AnySender.{AnySends}
 use Rattle.lane_end.specs.AnyReceiver.{AnyReceives}
@@ -8,25 +9,27 @@ use Rattle.lane_end.specs.Loop.{Loop, new_loop}
 use Rattle.board_model.specs.declared.scenario.DomainLine.{DomainLine}
 use Rattle.board_model.specs.declared.scenario.Scenario.{Scenario}
 use Rattle.board_model.specs.Scenario.{script, neighbours}
+use Rattle.board_model.specs.Deeds.{Deed, along}
 use Rattle.board_model.specs.Run.{start}
 use Rattle.board_model.specs.SerialRun as run
 use Rattle.board_model.specs.SerialRun.{opened_station, is_station}
 use Rattle.domain_core.specs.Carrying.{AnyLink, link_to}
 use Rattle.domain_core.specs.Ends.{EndsMoved}
 use Rattle.domain_core.specs.AllMoved.{AllMoved}
-use Rattle.domain_core.specs.LaneMoves.{LaneMove}
+use Rattle.domain_core.specs.LaneMoves.{LaneMove, receives}
 use Rattle.domain_core.specs.LinkMoved.{LinkMoved}
 use Rattle.domain_core.specs.LoopMoved.{LoopMoved}
 use Rattle.domain_core.specs.Opening.{ends_opened, links_in}
 use Rattle.domain_core.specs.declared.ends.Ends.TheVariants.{Own, Linked}
+use Rattle.lane_images.specs.DeedMoves.{deed_moves, unlooked, nameless_deed, IsNumbered}
 use Rattle.board_runner.specs.declared.station.Station.{Station}
 use Rattle.board_runner.specs.declared.wires.Wire.{Wire}
 use Rattle.board_runner.specs.Ended.{wire_of, wires_in, wires_left}
 use Rattle.board_runner.specs.Finishing.{BoardMoves}
 use Rattle.board_runner.specs.Near.{RunEnds, peers_of, EndsMatch}
-use Rattle.board_runner.specs.Opened.{IsOpened, AreOpened}
-use Rattle.board_runner.specs.OwnBoard.{RanAs, AllRanAs}
-use Rattle.board_runner.specs.OwnRun.{unnumbered, moves_told}
+use Rattle.board_runner.specs.Opened.{AreOpened}
+use Rattle.board_runner.specs.OwnBoard.{AllRanAs}
+use Rattle.board_runner.specs.OwnRun.{unnumbered, moves_told, deeds_told}
 use Rattle.board_runner.specs.Stations.{IsStation, AreStations}
 use Rattle.board_runner.specs.Wired.{leads_from, wire_at, links_wired}
 use Rattle.board_runner.proofs.OpeningLemmas.{opened-links}
@@ -117,6 +120,23 @@ module _ (s : Scenario) where
     where
       go : (c : Bool) → cond c (Some u) (find (is_station a) ts) ≡ Some t → (find (is_station a) ts ≡ Some t → ToldAt (moves_by ts olds news all.1 a) t) → ToldAt (λ b. cond c (all.0.moves.moves b) (moves_by ts olds news all.1 a b)) t
       go true here later = let same : u ≡ t = cc in subst (ToldAt all.0.moves.moves) same all.0.moves.told
+      go false here later = later here
+
+  -- what it did, each frame named by its buffer's number, is what the journal tells, and what the moves do
+  pub record DoneAt (moves : ℕ → List LaneMove) (t : run.Station) : Type 0 where
+    pub deeds : List Deed
+    pub numbered : AllByRecursion IsNumbered deeds
+    pub noted : map nameless_deed deeds ≡ deeds_told (script s t.line.domain) (start s t.line) t.entries
+    pub dealt : (p : ℕ) → unlooked (receives (moves p)) ≡ along (deed_moves p) (start s t.line).state deeds
+
+  pub done-at : (ts : List run.Station) (olds news : List Station) (all : AllRanAs s ts olds news) (a : ℕ) (t : run.Station) → find (is_station a) ts ≡ Some t → DoneAt (moves_by ts olds news all a) t
+  done-at [] olds news all a t at = absurd cc
+  done-at (u ∷ ts) [] news all a t at = absurd all
+  done-at (u ∷ ts) (o ∷ olds) [] all a t at = absurd all
+  done-at (u ∷ ts) (o ∷ olds) (n ∷ news) all a t at = go (u.line.domain == a) at (done-at ts olds news all.1 a t)
+    where
+      go : (c : Bool) → cond c (Some u) (find (is_station a) ts) ≡ Some t → (find (is_station a) ts ≡ Some t → DoneAt (moves_by ts olds news all.1 a) t) → DoneAt (λ b. cond c (all.0.moves.moves b) (moves_by ts olds news all.1 a b)) t
+      go true here later = let same : u ≡ t = cc in subst (DoneAt all.0.moves.moves) same (record { deeds = all.0.moves.deeds; numbered = all.0.moves.numbered; noted = all.0.moves.noted; dealt = all.0.moves.dealt })
       go false here later = later here
 
 module _ (s : Scenario) (ws : List Wire) where

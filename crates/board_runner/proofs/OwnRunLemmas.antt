@@ -12,6 +12,8 @@ use Rattle.board_model.specs.declared.scenario.DomainLine.{DomainLine}
 use Rattle.board_model.specs.declared.scenario.Scenario.{Scenario}
 use Rattle.board_model.specs.Answer.{answer, puts}
 use Rattle.board_model.specs.CallChanges.{returned}
+use Rattle.board_model.specs.Deeds as doing
+use Rattle.board_model.specs.JournalDeeds.{call_deeds}
 use Rattle.board_model.specs.DomainCall.{DomainCall}
 use Rattle.board_model.specs.Journal.{PlainEntry, PlainAnswer, turned, again, called, refuses, noted}
 use Rattle.board_model.specs.Labels.{call_of}
@@ -43,6 +45,7 @@ use Rattle.board_runner.specs.Near.{RunEnds, RunDomain, peers_of, EndsMatch}
 use Rattle.board_runner.specs.OwnRun.{MovedAsTold, station_in, IsOnItsWay, HasNotBegun, CountsOneLine, RunsNextLine, RunsScript}
 use Rattle.board_runner.specs.Runs.{MayCount}
 use Rattle.board_runner.specs.Stations.{IsStation}
+use Rattle.board_runner.proofs.NumberedMoves.{numbered-opened}
 use Rattle.board_runner.proofs.CallLemmas.{IsCall, called_station, again_station, DoesNothing, tried_word, tried_nothing}
 use Rattle.board_runner.proofs.HeldLemmas.{call_is}
 use Rattle.board_runner.proofs.SerialLemmas.{own_counted, other_counted, take_all, next_in_script, one_taken}
@@ -127,9 +130,9 @@ module _ (s : Scenario) (board : IsLinkedBoard s) (d : DomainLine) (ends : List 
       leads-append lines begun h.run t.run h.entries (turned calls.visits ∷ []) h.leads
       (leads_one lines h.run (turned calls.visits) (h.settled, subst (λ (x : DomainState). IsTurn x calls.visits) h.stands.state calls.turns.allowed))
 
-  turned_moves : MovedAsTold lines begun (peers_of old.domain) t.entries ends mid.ends
+  turned_moves : MovedAsTold lines begun (peers_of old.domain) t.entries ends mid.ends begun.state mid.numbered
   turned_moves =
-      moved_then lines begun (peers_of old.domain) h.entries (turned calls.visits ∷ []) ends old.domain.ends mid.ends h.moves
+      moved_then lines begun (peers_of old.domain) h.entries (turned calls.visits ∷ []) ends old.domain.ends mid.ends begun.state old.domain.numbered mid.numbered h.moves
       (turn_moved lines (after_all lines begun h.entries) old.domain mid calls.visits calls.numbers calls.turns differ)
 
   -- the call
@@ -167,15 +170,23 @@ module _ (s : Scenario) (board : IsLinkedBoard s) (d : DomainLine) (ends : List 
   comes_now = ap (slice_get lines) (sym turned_stands.number) ∙ comes
 
   -- with more entries
-  moves_on : (es : List PlainEntry) → MovedAsTold lines (after_all lines begun t.entries) (peers_of mid) es mid.ends called_to.domain.ends → new.domain ≡ called_to.domain → MovedAsTold lines begun (peers_of new.domain) (t.entries ++ es) ends new.domain.ends
+  moves_on : (es : List PlainEntry) → MovedAsTold lines (after_all lines begun t.entries) (peers_of mid) es mid.ends called_to.domain.ends mid.numbered called_to.domain.numbered → new.domain ≡ called_to.domain
+      → MovedAsTold lines begun (peers_of new.domain) (t.entries ++ es) ends new.domain.ends begun.state new.domain.numbered
   moves_on es moved same =
-      subst (λ (x : RunDomain). MovedAsTold lines begun (peers_of x) (t.entries ++ es) ends x.ends) (sym same)
-      (subst (λ (ps : List ℕ). MovedAsTold lines begun ps (t.entries ++ es) ends called_to.domain.ends) (sym (called_peers ∙ turned_peers))
-      (moved_then lines begun (peers_of old.domain) t.entries es ends mid.ends called_to.domain.ends turned_moves
-      (subst (λ (ps : List ℕ). MovedAsTold lines (after_all lines begun t.entries) ps es mid.ends called_to.domain.ends) turned_peers moved)))
+      subst (λ (x : RunDomain). MovedAsTold lines begun (peers_of x) (t.entries ++ es) ends x.ends begun.state x.numbered) (sym same)
+      (subst (λ (ps : List ℕ). MovedAsTold lines begun ps (t.entries ++ es) ends called_to.domain.ends begun.state called_to.domain.numbered) (sym (called_peers ∙ turned_peers))
+      (moved_then lines begun (peers_of old.domain) t.entries es ends mid.ends called_to.domain.ends begun.state mid.numbered called_to.domain.numbered turned_moves
+      (subst (λ (ps : List ℕ). MovedAsTold lines (after_all lines begun t.entries) ps es mid.ends called_to.domain.ends mid.numbered called_to.domain.numbered) turned_peers moved)))
 
   is_led : t.run ≡ after_all lines begun t.entries
   is_led = leads_to lines begun t.run t.entries turned_leads
+
+  -- the deed that its entry tells
+  deed : (a : PlainAnswer) → call_deeds (next_line lines (after_all lines begun t.entries)) (after_all lines begun t.entries) a ≡ doing.calls line.node call a ∷ []
+  deed a =
+      ap (λ (r : RunState). call_deeds (next_line lines r) r a) (sym is_led)
+      ∙ ap (λ (o : Option CallLine). call_deeds o t.run a) comes_now
+      ∙ ap (λ (c : DomainCall). doing.calls line.node c a ∷ []) (sym same_call)
 
   -- ---- one that is made again
 
@@ -220,7 +231,7 @@ module _ (s : Scenario) (board : IsLinkedBoard s) (d : DomainLine) (ends : List 
       rests = ap (option_map (one_turn_more (is_done_now (next_line lines h.run) h.run))) h.rests;
       moves =
           moves_on (again word ∷ [])
-          (again_moved lines (after_all lines begun t.entries) line.node call mid called_to.domain (plain_answer m.answer) m.given calls.does (again word) (λ p. refl) nothing.puts_none nothing.returns_none)
+          (again_moved lines (after_all lines begun t.entries) line.node call mid called_to.domain (plain_answer m.answer) m.given calls.does (again word) (refuses word) (λ p. refl) nothing.puts_none nothing.returns_none (deed (refuses word)))
           notes.domain;
     }
 
@@ -270,8 +281,8 @@ module _ (s : Scenario) (board : IsLinkedBoard s) (d : DomainLine) (ends : List 
       rests = ap (λ (r : RunState). r.waited) done;
       moves =
           moves_on entries
-          (subst (λ (ps : List (ℕ × List ℕ)). MovedAsTold lines (after_all lines begun t.entries) (peers_of mid) (call_entries ps (t.run.lines_called + 1) last_answer) mid.ends called_to.domain.ends) same_frames
-          (call_moved lines (after_all lines begun t.entries) line.node call mid called_to.domain (plain_answer m.answer) m.given calls.does (t.run.lines_called + 1) last_answer same_back))
+          (subst (λ (ps : List (ℕ × List ℕ)). MovedAsTold lines (after_all lines begun t.entries) (peers_of mid) (call_entries ps (t.run.lines_called + 1) last_answer) mid.ends called_to.domain.ends mid.numbered called_to.domain.numbered) same_frames
+          (call_moved lines (after_all lines begun t.entries) line.node call mid called_to.domain (plain_answer m.answer) m.given calls.does (t.run.lines_called + 1) last_answer same_back (deed last_answer)))
           last_notes.domain;
     }
 
@@ -346,7 +357,9 @@ ran_none s st h = record {
     settled = tt;
     made_is = refl;
     rests = refl;
-    moves = none_moved (script s d.domain) (start s d) d.domain (peers_of st.domain) st.domain.ends opened.matched;
+    moves =
+        none_moved (script s d.domain) (start s d) d.domain (peers_of st.domain) st.domain.ends opened.matched (start s d).state st.domain.numbered
+        (numbered-opened st.domain.numbered (start s d).state refl refl refl (sym opened.state ∙ st.domain.nameless));
   };
   number = h.number ∙ none s.calls;
   drops = omega (arith, h.dropped);

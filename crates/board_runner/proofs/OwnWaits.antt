@@ -1,5 +1,5 @@
 -- A line that waits at a domain that runs its script on its own: its entries are steps of its run, and its ends move as they tell.
-use Rattle.std.proofs.Common.{◌≡◌, ℕ, zero, suc, ◌+◌, ◌*◌, ◌≤◌, ◌<◌, ◌^◌, Bool, true, false, ◌&&◌, List, [], ◌∷◌, ◌++◌, length, map, Some, None, Option, refl, sym, ap, ap₂, ◌∙◌, subst, inl, inr, arith, true≢false}
+use Rattle.std.proofs.Common.{◌≡◌, ℕ, ◌+◌, ◌*◌, ◌≤◌, ◌<◌, ◌^◌, Bool, true, false, ◌&&◌, List, [], ◌∷◌, ◌++◌, length, map, Some, Option, refl, sym, ap, ap₂, ◌∙◌, subst, inl, inr, arith, true≢false}
 use Rattle.std.specs.Prelude.{IsSome, slice_get}
 use Rattle.mc_base.specs.declared.request.RequestId.{RequestId}
 use Rattle.board_model.specs.declared.scenario.CallLine.{CallLine}
@@ -7,14 +7,15 @@ use Rattle.board_model.specs.declared.scenario.DomainLine.{DomainLine}
 use Rattle.board_model.specs.declared.scenario.Scenario.{Scenario}
 use Rattle.board_model.specs.Answer.{answer, puts}
 use Rattle.board_model.specs.CallChanges.{returned}
+use Rattle.board_model.specs.Deeds.{calls}
+use Rattle.board_model.specs.JournalDeeds.{call_deeds}
 use Rattle.board_model.specs.DomainCall.{DomainCall}
-use Rattle.board_model.specs.Journal.{Line, PlainAnswer, PlainEntry, Visit, called, noted, noted_all, turned, waits}
-use Rattle.board_model.specs.Language.{IsLawfulBoard}
+use Rattle.board_model.specs.Journal.{PlainAnswer, PlainEntry, Visit, called, noted, noted_all, turned, waits}
 use Rattle.board_model.specs.LinkedBoard.{Differ, IsLinkedBoard}
 use Rattle.board_model.specs.Run.{start, Leads, after_all}
 use Rattle.board_model.specs.Scenario.{script}
 use Rattle.board_model.specs.State.{DomainState}
-use Rattle.board_model.specs.Step.{EndsBegun, EndsWait, HasNoPuts, MayCome, RunState, Waited, after, call_at, is_done, is_timeout, limit_of, may_try, next_line, tries_again}
+use Rattle.board_model.specs.Step.{EndsBegun, EndsWait, HasNoPuts, MayCome, RunState, Waited, after, call_at, is_done, is_timeout, limit_of, may_try, next_line}
 use Rattle.board_model.specs.Traffic.{returned_by}
 use Rattle.board_model.specs.Turn.{IsTurn, after_turn}
 use Rattle.board_model.proofs.LawfulBoards.{lawful_is_linked}
@@ -24,12 +25,12 @@ use Rattle.board_model.proofs.WholeJournals.{call_entries, called_run, leads-app
 use Rattle.board_model.proofs.WholeTurns.{turn_numbers}
 use Rattle.domain_core.specs.AllMoved.{turn_moves}
 use Rattle.domain_core.specs.Turned.{Turns}
-use Rattle.domain_core.specs.Waiting.{AreAwaited, Polls, Waits, wait_entries, wait_on}
+use Rattle.domain_core.specs.Waiting.{Polls, Waits, wait_entries, wait_on}
 use Rattle.mc_journal.specs.Entry.{plain_answer}
 use Rattle.mc_journal.specs.Written.{Written}
 use Rattle.board_runner.specs.declared.station.Station.{Station}
 use Rattle.board_runner.specs.declared.line.Made.{Made}
-use Rattle.board_runner.specs.Lines.{NotesCalled, call_at_station, dropped_by}
+use Rattle.board_runner.specs.Lines.{NotesCalled, call_at_station}
 use Rattle.board_runner.specs.Near.{RunDomain, RunEnds, peers_of, EndsMatch}
 use Rattle.board_runner.specs.OwnRun.{CountsOneLine, IsOnItsWay, MovedAsTold, RunsNextLine, station_in}
 use Rattle.board_runner.specs.Stations.{IsStation}
@@ -39,8 +40,8 @@ use Rattle.board_runner.proofs.ToldMoves.{all_rest, call_moved, moved_then, turn
 use Rattle.board_runner.proofs.TurnEnds.{Moved, ends-match}
 use Rattle.board_runner.proofs.TurnStations.{station-turned, turned_station}
 use Rattle.board_runner.proofs.WaitLemmas.{wait-drops}
-use Rattle.board_runner.proofs.WaitStations.{MadeAtOnce, begun-station, made-at-once, none-polled, wait-called, waiting-is}
-use Rattle.board_runner.proofs.WaitTurns.{IsWaiting, done_after, one_more_turn, same_call}
+use Rattle.board_runner.proofs.WaitStations.{begun-station, made-at-once, none-polled, wait-called, waiting-is}
+use Rattle.board_runner.proofs.WaitTurns.{done_after, one_more_turn, same_call}
 
 module _ (s : Scenario) (board : IsLinkedBoard s) (d : DomainLine) (ends : List RunEnds) (line : CallLine) (limit : ℕ) (is : limit_of line.call ≡ Some limit) where
   abbrev lines : List CallLine
@@ -58,7 +59,7 @@ module _ (s : Scenario) (board : IsLinkedBoard s) (d : DomainLine) (ends : List 
     leads : Leads lines opened entries r
     settled : HasNoPuts r.put_since_turn
     made_is : r.calls_made ≡ 0
-    moves : MovedAsTold lines opened (peers_of st.domain) entries ends st.domain.ends
+    moves : MovedAsTold lines opened (peers_of st.domain) entries ends st.domain.ends opened.state st.domain.numbered
     comes : next_line lines r ≡ Some line
 
   -- ---- the answer of the wait
@@ -101,11 +102,17 @@ module _ (s : Scenario) (board : IsLinkedBoard s) (d : DomainLine) (ends : List 
     same_frames : puts st.domain.state line.node call ≡ frames
     same_frames = ap₂ (λ (x : DomainState) (c : DomainCall). puts x line.node c) at.stands.state is_call.call_is
 
-    moved : MovedAsTold lines opened (peers_of st.domain) (entries ++ more) ends called_to.domain.ends
+    deed : call_deeds (next_line lines (after_all lines opened entries)) (after_all lines opened entries) answered ≡ calls line.node call answered ∷ []
+    deed =
+        ap (λ (x : RunState). call_deeds (next_line lines x) x answered) (sym is_led)
+        ∙ ap (λ (o : Option CallLine). call_deeds o r answered) at.comes
+        ∙ ap (λ (c : DomainCall). calls line.node c answered ∷ []) (sym is_call.call_is)
+
+    moved : MovedAsTold lines opened (peers_of st.domain) (entries ++ more) ends called_to.domain.ends opened.state called_to.domain.numbered
     moved =
-        moved_then lines opened (peers_of st.domain) entries more ends st.domain.ends called_to.domain.ends at.moves
-        (subst (λ (ps : List (ℕ × List ℕ)). MovedAsTold lines (after_all lines opened entries) (peers_of st.domain) (call_entries ps number answered) st.domain.ends called_to.domain.ends) same_frames
-        (call_moved lines (after_all lines opened entries) line.node call st.domain called_to.domain (plain_answer m.answer) m.given is_call.does number answered same_back))
+        moved_then lines opened (peers_of st.domain) entries more ends st.domain.ends called_to.domain.ends opened.state st.domain.numbered called_to.domain.numbered at.moves
+        (subst (λ (ps : List (ℕ × List ℕ)). MovedAsTold lines (after_all lines opened entries) (peers_of st.domain) (call_entries ps number answered) st.domain.ends called_to.domain.ends st.domain.numbered called_to.domain.numbered) same_frames
+        (call_moved lines (after_all lines opened entries) line.node call st.domain called_to.domain (plain_answer m.answer) m.given is_call.does number answered same_back deed))
 
     wait_goes : IsOnItsWay s d ends 0 new
     wait_goes = record {
@@ -117,8 +124,8 @@ module _ (s : Scenario) (board : IsLinkedBoard s) (d : DomainLine) (ends : List 
       made_is = ap (λ (x : RunState). x.calls_made) done;
       rests = ap (λ (x : RunState). x.waited) done;
       moves =
-          subst (λ (x : RunDomain). MovedAsTold lines opened (peers_of x) (entries ++ more) ends x.ends) (sym notes.domain)
-          (subst (λ (ps : List ℕ). MovedAsTold lines opened ps (entries ++ more) ends called_to.domain.ends) (sym is_call.peers) moved);
+          subst (λ (x : RunDomain). MovedAsTold lines opened (peers_of x) (entries ++ more) ends x.ends opened.state x.numbered) (sym notes.domain)
+          (subst (λ (ps : List ℕ). MovedAsTold lines opened ps (entries ++ more) ends called_to.domain.ends opened.state called_to.domain.numbered) (sym is_call.peers) moved);
     }
 
   -- ---- the turns of the wait
@@ -151,8 +158,17 @@ module _ (s : Scenario) (board : IsLinkedBoard s) (d : DomainLine) (ends : List 
           settled = h.settled;
           made_is = h.made_is;
           moves =
-              moved_then lines opened (peers_of st.domain) h.entries (e ∷ []) ends st.domain.ends st.domain.ends h.moves
-              (record { moves = λ p. []; told = λ p. refl; moved = all_rest d.domain (peers_of st.domain) st.domain.ends h.stands.matched });
+              moved_then lines opened (peers_of st.domain) h.entries (e ∷ []) ends st.domain.ends st.domain.ends opened.state st.domain.numbered st.domain.numbered h.moves
+              (record {
+                moves = λ p. [];
+                told = λ p. refl;
+                moved = all_rest d.domain (peers_of st.domain) st.domain.ends h.stands.matched;
+                deeds = [];
+                numbered = tt;
+                noted = refl;
+                led = refl;
+                dealt = λ p. refl;
+              });
           comes = comes_run;
         };
         waited = refl;
@@ -185,8 +201,8 @@ module _ (s : Scenario) (board : IsLinkedBoard s) (d : DomainLine) (ends : List 
           settled = refl;
           made_is = at.made_is;
           moves =
-              subst (λ (ps : List ℕ). MovedAsTold lines opened ps (h.entries ++ e ∷ []) ends next.ends) (sym peers)
-              (moved_then lines opened (peers_of st.domain) h.entries (e ∷ []) ends st.domain.ends next.ends at.moves
+              subst (λ (ps : List ℕ). MovedAsTold lines opened ps (h.entries ++ e ∷ []) ends next.ends opened.state next.numbered) (sym peers)
+              (moved_then lines opened (peers_of st.domain) h.entries (e ∷ []) ends st.domain.ends next.ends opened.state st.domain.numbered next.numbered at.moves
               (turn_moved lines (after_all lines opened h.entries) st.domain next visits numbers turn differ));
           comes = at.comes;
         };

@@ -7,7 +7,8 @@ use Rattle.split_ring.specs.Finished.{FinishedRing}
 use Rattle.board_model.specs.declared.scenario.LinkLine.{LinkLine}
 use Rattle.board_model.specs.declared.scenario.Scenario.{Scenario}
 use Rattle.board_model.specs.Board.{DomainJournal}
-use Rattle.board_runner.specs.RingLines.{AreOfLinks, image_of_ring, ring_lines, ring_text}
+use Rattle.board_runner.specs.RingLines.{AreOfLinks, image_of_ring, ring_lines}
+use Rattle.ring_numbers.specs.RingTexts.{ring_text}
 use Rattle.board_runner.specs.ThreadRun.{TellLanes}
 
 -- there are two rings for each link

@@ -1,11 +1,10 @@
 -- A board whose domains ran on their own over the rings of its links: the finished rings show that its lanes fit.
-use Rattle.std.proofs.Common.{◌≡◌, ℕ, ◌+◌, ◌%◌, ◌^◌, ◌<◌, Bool, true, false, ◌&&◌, cond, List, [], ◌∷◌, ◌++◌, length, map, sum, find, Option, Some, None, option_map, refl, sym, ap, ap₂, ◌∙◌, subst, inl, inr, arith, eq-eqb, ne_eqb, length-append}
+use Rattle.std.proofs.Common.{◌≡◌, ℕ, ◌+◌, ◌%◌, ◌^◌, ◌<◌, Bool, ◌&&◌, cond, List, [], ◌∷◌, length, map, sum, find, Option, Some, option_map, refl, sym, ap, ap₂, ◌∙◌, subst, inl, inr, arith, eq-eqb}
 use Rattle.std.specs.Prelude.{◌==◌}
 use Rattle.std.specs.List.{AllByRecursion}
 use Rattle.std.proofs.lemmas.Bool.{and_from}
-use Rattle.std.proofs.lemmas.Bool.Decides.{eqb_tells}
 use Rattle.std.proofs.lemmas.List.{length-map}
-use Rattle.shared_words.specs.Shown.{size_of}
+use Rattle.shared_words.specs.Shown.{TableShown, size_of}
 use Rattle.shared_words.specs.declared.view.Role.{Role}
 use Rattle.shared_words.specs.declared.view.Role.TheVariants.{Driver, Device}
 use Rattle.split_ring.specs.Finished.{FinishedRing}
@@ -40,26 +39,32 @@ use Rattle.domain_core.specs.Carrying.{AnyLink}
 use Rattle.domain_core.specs.LaneMoves.{sends, receives}
 use Rattle.board_numbers.specs.Tallied.{RanBoard, AreTallies, TallySomeRun, AddPlaces, TellTotals}
 use Rattle.board_numbers.proofs.LaneLemmas.{journal_found}
+use Rattle.ring_numbers.specs.BoardRings.{places_by, places_of as given_places, sent_to}
+use Rattle.ring_numbers.specs.InTime.{ComeBackLater, IsInTime, AreInTime}
+use Rattle.ring_numbers.specs.RingLists.{image_left}
+use Rattle.ring_numbers.specs.SenderNumbers.{at_start, after_all}
+use Rattle.lane_images.specs.GivesAt.{GivesAt}
+use Rattle.lane_images.specs.LaneImages.{WasRun, queue_of}
+use Rattle.lane_images.specs.Sendings.{sendings}
+use Rattle.lane_images.proofs.Laws.{backs-are-later, images-are-left}
 use Rattle.board_runner.specs.declared.ended.EndedLink.{EndedLink}
 use Rattle.board_runner.specs.declared.ended.Remains.{Remains}
 use Rattle.board_runner.specs.declared.rings.LinkHalves.{LinkHalves}
 use Rattle.board_runner.specs.declared.rings.LinkRings.{LinkRings}
-use Rattle.board_runner.specs.declared.station.Station.{Station}
 use Rattle.board_runner.specs.declared.wires.Wire.{Wire}
 use Rattle.board_runner.specs.Apart.{RanApart}
 use Rattle.board_runner.specs.Ended.{WiresEnd, wires_left, ended_at}
-use Rattle.board_runner.specs.Finishing.{BoardMoves, LinkHasRun, LinkIsRun, LinksHaveRun, LinksAreRun}
+use Rattle.board_runner.specs.Finishing.{BoardMoves, LinksHaveRun, LinksAreRun}
 use Rattle.board_runner.specs.Looks.{see_looks}
-use Rattle.board_runner.specs.OwnBoard.{AllRanAs, RanAs}
-use Rattle.board_runner.specs.Stations.{AreStations}
-use Rattle.board_runner.specs.ThreadRun.{WasFinished, TellsLane, TellLanes, IsThreadRun, queue_of, to_driver, to_device}
+use Rattle.board_runner.specs.ThreadRun.{WasFinished, TellsLane, TellLanes, IsThreadRun}
 use Rattle.board_runner.specs.Wired.{AreRings, driver_link, device_link, wires_for, leads_from, wire_at}
-use Rattle.board_runner.proofs.EndedLemmas.{EndsAt, ended-there}
+use Rattle.board_runner.proofs.EndedLemmas.{ended-there}
 use Rattle.board_runner.proofs.FittingLemmas.{EntriesFit, ring_fits, own_fits}
-use Rattle.board_runner.proofs.MovedLemmas.{LinkAfter, OwnAfter, moves_by, ToldAt, told-at, links-after, owns-after}
+use Rattle.board_runner.proofs.MovedLemmas.{LinkAfter, moves_by, ToldAt, told-at, done-at, links-after, owns-after}
 use Rattle.board_runner.proofs.OwnBoardLemmas.{are_stations, alone_whole, alone_board}
 use Rattle.board_runner.proofs.TallyLemmas.{stations-ended, stations-tallied, stations-told}
-use Rattle.board_runner.proofs.ToldTraffic.{HasTraffic, has_traffic}
+use Rattle.board_runner.proofs.ToldNumbers.{told-sendings, gives-at, own-in-time}
+use Rattle.board_runner.proofs.ToldTraffic.{has_traffic}
 use Rattle.board_runner.proofs.WiredLemmas.{driver_wire, device_wire, leads_no}
 
 -- ---- each link finds its own ends among the wires
@@ -199,6 +204,8 @@ module _ (s : Scenario) (board : IsLinkedBoard s) (rings : List LinkRings) (hs :
     size : ℕ
     closed : FinishedRing
     ran : IsLaneRun role size (sends (moves a b)) (receives (moves b a)) closed
+    ring : TableShown
+    was : WasRun role ring (sends (moves a b)) (receives (moves b a)) closed
 
   lane-ran : (ls : List LinkLine) (rs : List LinkRings) (closed : List FinishedRing) → LinksAreRun moves ls rs closed → (a b size : ℕ) → Has (IsLink a b size) ls → LaneRan a b
   lane-ran [] rs closed run a b size has = absurd has
@@ -207,9 +214,23 @@ module _ (s : Scenario) (board : IsLinkedBoard s) (rings : List LinkRings) (hs :
   lane-ran (l ∷ ls) (r ∷ rs) (z ∷ []) run a b size has = absurd run
   lane-ran (l ∷ ls) (r ∷ rs) (z ∷ (o ∷ closed)) run a b size (inr later) = lane-ran ls rs closed run.1 a b size later
   lane-ran (l ∷ ls) (r ∷ rs) (z ∷ (o ∷ closed)) run a b size (inl (inl (e, f), sized)) =
-      record { role = Driver; size = size_of r.queue1.ring; closed = o; ran = subst (λ (x : ℕ). IsLaneRun Driver (size_of r.queue1.ring) (sends (moves x b)) (receives (moves b x)) o) e (subst (λ (y : ℕ). IsLaneRun Driver (size_of r.queue1.ring) (sends (moves l.driver y)) (receives (moves y l.driver)) o) f run.0.run1) }
+      record {
+        role = Driver;
+        size = size_of r.queue1.ring;
+        closed = o;
+        ran = subst (λ (x : ℕ). IsLaneRun Driver (size_of r.queue1.ring) (sends (moves x b)) (receives (moves b x)) o) e (subst (λ (y : ℕ). IsLaneRun Driver (size_of r.queue1.ring) (sends (moves l.driver y)) (receives (moves y l.driver)) o) f run.0.run1);
+        ring = r.queue1;
+        was = subst (λ (x : ℕ). WasRun Driver r.queue1 (sends (moves x b)) (receives (moves b x)) o) e (subst (λ (y : ℕ). WasRun Driver r.queue1 (sends (moves l.driver y)) (receives (moves y l.driver)) o) f run.0.was1);
+      }
   lane-ran (l ∷ ls) (r ∷ rs) (z ∷ (o ∷ closed)) run a b size (inl (inr (e, f), sized)) =
-      record { role = Device; size = size_of r.queue0.ring; closed = z; ran = subst (λ (x : ℕ). IsLaneRun Device (size_of r.queue0.ring) (sends (moves x b)) (receives (moves b x)) z) f (subst (λ (y : ℕ). IsLaneRun Device (size_of r.queue0.ring) (sends (moves l.device y)) (receives (moves y l.device)) z) e run.0.run0) }
+      record {
+        role = Device;
+        size = size_of r.queue0.ring;
+        closed = z;
+        ran = subst (λ (x : ℕ). IsLaneRun Device (size_of r.queue0.ring) (sends (moves x b)) (receives (moves b x)) z) f (subst (λ (y : ℕ). IsLaneRun Device (size_of r.queue0.ring) (sends (moves l.device y)) (receives (moves y l.device)) z) e run.0.run0);
+        ring = r.queue0;
+        was = subst (λ (x : ℕ). WasRun Device r.queue0 (sends (moves x b)) (receives (moves b x)) z) f (subst (λ (y : ℕ). WasRun Device r.queue0 (sends (moves l.device y)) (receives (moves y l.device)) z) e run.0.was0);
+      }
 
   -- by their journals the two ends of a lane fit
   lane-fits : (l : Lane) (t u : run.Station) → find (is_station l.sender) ts ≡ Some t → find (is_station l.receiver) ts ≡ Some u → EntriesFit (script s u.line.domain) (start s u.line) l.sender l.receiver t.entries u.entries → LaneFits s js l
@@ -255,14 +276,54 @@ module _ (s : Scenario) (board : IsLinkedBoard s) (rings : List LinkRings) (hs :
     pub ran-board : RanBoard s ts
     ran-board = alone_board s h.olds h.news h.alone (all-weaken (λ l. Joined s l.sender l.receiver l.size) (LaneFits s js) each-fits (lanes s) (lanes_join s))
 
+    -- ---- the numbers of buffers
+
+    runs-at : (a : ℕ) (t : run.Station) → find (is_station a) ts ≡ Some t → IsDomainRun s t.line t.entries
+    runs-at a t at = all-found (λ x. IsDomainRun s x.line x.entries) (λ x. x.line.domain == a) js (journal_left t) ran-board.run.domain_runs (journal_found ts a t at)
+
+    -- the receiver gives back the buffers of the frames at the places that its journal tells
+    gives-told : (a b : ℕ) (u : run.Station) → find (is_station b) ts ≡ Some u → GivesAt [] (given_places s js b a) (receives (moves b a))
+    gives-told a b u at =
+        subst (λ (o : Option DomainJournal). GivesAt [] (places_by s o a) (receives (moves b a))) (sym (journal_found ts b u at))
+        (gives-at s u (moves b) a board (runs-at b u at) (done-at s ts h.olds h.news h.alone.ran b u at))
+
+    -- and the sender deals as its own tells
+    sends-told : (a b : ℕ) (t : run.Station) → find (is_station a) ts ≡ Some t → sendings (sends (moves a b)) ≡ sent_to b (journal_of a js)
+    sends-told a b t at =
+        told-sendings (script s t.line.domain) (start s t.line) b t.entries (moves a b) (told a t at b)
+        ∙ ap (λ (o : Option DomainJournal). sent_to b (journal_in o)) (sym (journal_found ts a t at))
+
+    link-later : (a b size : ℕ) (u : run.Station) → find (is_station b) ts ≡ Some u → Has (IsLink a b size) s.links → ComeBackLater (given_places s js b a) 0 (sendings (sends (moves a b)))
+    link-later a b size u at link =
+        let ran = lane-ran s.links rings closed finished a b size link in
+        backs-are-later ran.role ran.ring (sends (moves a b)) (receives (moves b a)) ran.closed (given_places s js b a) ran.was (gives-told a b u at)
+
+    own-later : (a b : ℕ) (t u : run.Station) → find (is_station a) ts ≡ Some t → find (is_station b) ts ≡ Some u → a ≡ b → ComeBackLater (given_places s js b a) 0 (sendings (sends (moves a b)))
+    own-later a b t u at_t at_u same =
+        let own = owns-after s ws (rising s) ts h.olds h.news h.alone.lines h.opens h.begun h.alone.ran a t at_t in
+        subst (λ (n : ℕ). ComeBackLater (given_places s js n a) 0 (sendings (sends (moves a n)))) same
+        (own-in-time t.line.pool own.loop (given_places s js a a) (moves a a) own.moved (gives-told a a t at_t))
+
+    each-in-time : (l : Lane) → Joined s l.sender l.receiver l.size → IsInTime s js l
+    each-in-time l joined =
+        let t = station-found l.sender l.receiver l.size joined in
+        let u = station-found l.receiver l.sender l.size (joined_back s l.sender l.receiver l.size joined) in
+        subst (ComeBackLater (given_places s js l.receiver l.sender) 0) (sends-told l.sender l.receiver t.0 t.1) (elim joined [
+          | inl own ↦ own-later l.sender l.receiver t.0 u.0 t.1 u.1 (own-same l.sender l.receiver l.size s.domains own)
+          | inr link ↦ link-later l.sender l.receiver l.size u.0 u.1 link
+        ])
+
+    pub in-time : AreInTime s js
+    in-time = all-weaken (λ l. Joined s l.sender l.receiver l.size) (IsInTime s js) each-in-time (lanes s) (lanes_join s)
+
     -- ---- what the rings tell
 
     -- a domain at the end holds what it took and did not give back
     held-at : (t : run.Station) (n : ℕ) → IsDomainRun s t.line t.entries → queued_from n (left_by s t.line t.entries).state + lent_from n (left_by s t.line t.entries).state + given (script s t.line.domain) (start s t.line) n t.entries ≡ length (takes_from n t.entries)
     held-at t n runs = let sums = sums_run (script s t.line.domain) n (free_to (start s t.line).state n) 0 0 0 0 (start s t.line) (left_by s t.line t.entries) t.entries (record { apart = tt; below = tt }) runs.steps (record { frees = omega arith; holds = refl }) in omega (arith, sums.holds)
 
-    lane-told : (role : Role) (a b size : ℕ) → Joined s a b size → (closed : FinishedRing) → WasFinished closed → closed.queue ≡ queue_of role → closed.size ≡ size → IsLaneRun role size (sends (moves a b)) (receives (moves b a)) closed → TellsLane s js role (record { sender = a; receiver = b; size = size }) closed
-    lane-told role a b size joined ring ended queue sized ran =
+    lane-told : (role : Role) (a b size : ℕ) → Joined s a b size → (closed : FinishedRing) → WasFinished closed → closed.queue ≡ queue_of role → closed.size ≡ size → IsLaneRun role size (sends (moves a b)) (receives (moves b a)) closed → (table : TableShown) → WasRun role table (sends (moves a b)) (receives (moves b a)) closed → TellsLane s js role (record { sender = a; receiver = b; size = size }) closed
+    lane-told role a b size joined ring ended queue sized ran table was =
         let l : Lane = record { sender = a; receiver = b; size = size } in
         let t = station-found a b size joined in
         let u = station-found b a size (joined_back s a b size joined) in
@@ -292,6 +353,9 @@ module _ (s : Scenario) (board : IsLinkedBoard s) (rings : List LinkRings) (hs :
           finished = ended;
           queue = queue;
           size = sized;
+          image =
+              images-are-left role table (sends (moves a b)) (receives (moves b a)) ring (given_places s js b a) was queue (gives-told a b u.0 u.1)
+              ∙ (λ i. image_left (sized i) ring.queue (after_all (at_start (sized i) (given_places s js b a)) (sends-told a b t.0 t.1 i)).used (given_places s js b a));
           free = omega (arith, every, in_it, held_is, gone, back, kept, got);
           ring = in_it;
           held = held_is;
@@ -315,8 +379,8 @@ module _ (s : Scenario) (board : IsLinkedBoard s) (rings : List LinkRings) (hs :
         go (l ∷ ls) (r ∷ rs) (g ∷ gs) (z ∷ (o ∷ cs)) joined new run =
             let zero = new.0.zero_new in
             let one = new.0.one_new in (
-              lane-told Device l.device l.driver l.size (joined_back s l.driver l.device l.size joined.0) z (run.0.finished0 (run.0.queue0 ∙ zero.is_queue)) (run.0.queue0 ∙ zero.is_queue) (run.0.size0 ∙ zero.sized) (subst (λ (n : ℕ). IsLaneRun Device n (sends (moves l.device l.driver)) (receives (moves l.driver l.device)) z) zero.sized run.0.run0),
-              lane-told Driver l.driver l.device l.size joined.0 o run.0.finished1 (run.0.queue1 ∙ one.is_queue) (run.0.size1 ∙ one.sized) (subst (λ (n : ℕ). IsLaneRun Driver n (sends (moves l.driver l.device)) (receives (moves l.device l.driver)) o) one.sized run.0.run1),
+              lane-told Device l.device l.driver l.size (joined_back s l.driver l.device l.size joined.0) z (run.0.finished0 (run.0.queue0 ∙ zero.is_queue)) (run.0.queue0 ∙ zero.is_queue) (run.0.size0 ∙ zero.sized) (subst (λ (n : ℕ). IsLaneRun Device n (sends (moves l.device l.driver)) (receives (moves l.driver l.device)) z) zero.sized run.0.run0) r.queue0 run.0.was0,
+              lane-told Driver l.driver l.device l.size joined.0 o run.0.finished1 (run.0.queue1 ∙ one.is_queue) (run.0.size1 ∙ one.sized) (subst (λ (n : ℕ). IsLaneRun Driver n (sends (moves l.driver l.device)) (receives (moves l.device l.driver)) o) one.sized run.0.run1) r.queue1 run.0.was1,
               go ls rs gs cs joined.1 new.1 run.1,
             )
 
@@ -341,4 +405,5 @@ module _ (s : Scenario) (board : IsLinkedBoard s) (rings : List LinkRings) (hs :
         messages = totalled ts ran-board whole-tallied;
       };
       rings = lanes-told;
+      in_time = in-time;
     }

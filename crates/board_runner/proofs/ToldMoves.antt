@@ -10,31 +10,40 @@ use Rattle.lane_end.specs.AnySender.{AnySends, AnySends-none, AnySends-both}
 use Rattle.lane_end.specs.AnyReceiver.{AnyReceives, AnyReceives-none, AnyReceives-both}
 use Rattle.lane_end.specs.SendMoves.{Looked, Sent}
 use Rattle.lane_end.specs.ReceiveMoves as receiving
-use Rattle.lane_end.specs.ReceiveMoves.{Took, Gave}
+use Rattle.lane_end.specs.ReceiveMoves.{ReceiveMove, Took, Gave}
 use Rattle.board_model.specs.declared.scenario.CallLine.{CallLine}
 use Rattle.board_model.specs.Answer.{puts}
 use Rattle.board_model.specs.CallChanges.{returned}
 use Rattle.board_model.specs.Dealing.{keeps_buffer}
+use Rattle.board_model.specs.Deeds.{Deed, calls, after_deeds, along}
+use Rattle.board_model.specs.Given.{frames_from}
+use Rattle.board_model.specs.JournalDeeds.{named_deeds, call_deeds, entry_deeds}
 use Rattle.board_model.specs.DomainCall.{DomainCall}
 use Rattle.board_model.specs.Journal.{PlainEntry, turned, PlainAnswer, Visit, Taken}
 use Rattle.board_model.specs.LinkedBoard.{Differ}
 use Rattle.board_model.specs.Serial.{put_entry}
-use Rattle.board_model.specs.State.{Item, is_from}
+use Rattle.board_model.specs.State.{DomainState, Item, is_from}
 use Rattle.board_model.specs.Step.{RunState, next_line, after}
 use Rattle.board_model.specs.Run.{after_all}
 use Rattle.board_model.specs.Traffic.{visits_to, returned_by}
+use Rattle.board_model.proofs.DeedJoins.{after-join, along-join}
+use Rattle.board_model.proofs.MessageAlls.{all-append}
 use Rattle.board_model.proofs.WholeJournals.{call_entries}
 use Rattle.domain_core.specs.declared.ends.Ends.TheVariants.{Own, Linked}
 use Rattle.domain_core.specs.AllMoved.{AllMoved, turn_moves, giving, frames_to, buffers_of, moves_at}
 use Rattle.domain_core.specs.Calls.{Does}
 use Rattle.domain_core.specs.Ends.{EndsMoved-both}
 use Rattle.domain_core.specs.InBook.{item_at}
-use Rattle.domain_core.specs.LaneMoves.{LaneMove, sender, receiver}
+use Rattle.domain_core.specs.LaneMoves.{LaneMove, sender, receiver, receives}
+use Rattle.domain_core.specs.NumberedDeeds.{turn_deeds}
 use Rattle.domain_core.specs.LinkMoved.{link-none}
 use Rattle.domain_core.specs.Turned.{HaveNumbers, Turns}
 use Rattle.domain_core.specs.VisitMoves.{putting, taking, visit_moves}
 use Rattle.board_runner.specs.Near.{RunEnds, RunDomain, peers_of, EndsMatch}
-use Rattle.board_runner.specs.OwnRun.{unnumbered, visit_told, entry_told, moves_told, MovedAsTold}
+use Rattle.lane_images.specs.DeedMoves as deals
+use Rattle.lane_images.specs.DeedMoves.{deed_moves, unlooked, nameless_deed, IsNumbered}
+use Rattle.board_runner.specs.OwnRun.{unnumbered, visit_told, entry_told, moves_told, deeds_told, MovedAsTold}
+use Rattle.board_runner.proofs.NumberedMoves.{dealt-append, turn_at, turn-numbered, turn-nameless, turn-dealt, call-dealt, call-noted}
 use Rattle.board_runner.proofs.TurnEnds.{Moved}
 
 -- ---- without the numbers of buffers
@@ -61,12 +70,6 @@ unnumbered_visit v ns e =
     ∙ ap (λ (xs : List LaneMove). putting v.owed ++ receiver (receiving.Looked v.see) ∷ xs) (unnumbered_taking ns v.takes e))
 
 -- ---- a turn
-
--- the moves of its visits to a peer
-abbrev turn_at : List Visit → List (List ℕ) → ℕ → List LaneMove
-turn_at [] nss p = []
-turn_at (v ∷ vs) [] p = []
-turn_at (v ∷ vs) (ns ∷ nss) p = cond (v.peer == p) (visit_moves v ns ++ turn_at vs nss p) (turn_at vs nss p)
 
 unnumbered_turn : (vs : List Visit) (nss : List (List ℕ)) → HaveNumbers vs nss → (p : ℕ) → map unnumbered (turn_at vs nss p) ≡ flat_map visit_told (visits_to p vs)
 unnumbered_turn [] [] have p = refl
@@ -105,7 +108,7 @@ each_once (v ∷ vs) (ns ∷ nss) have differ =
     ap₂ (λ (x : List LaneMove) (xs : List (List LaneMove)). x ∷ xs) here
     (past_one v ns vs nss (map (λ (u : Visit). u.peer) vs) differ.0 ∙ each_once vs nss have.1 differ.1)
 
-pub turn_moved : (lines : List CallLine) (r : RunState) (d d' : RunDomain) (visits : List Visit) (numbers : List (List ℕ)) → Turns Moved visits numbers d d' → Differ (peers_of d) → MovedAsTold lines r (peers_of d) (turned visits ∷ []) d.ends d'.ends
+pub turn_moved : (lines : List CallLine) (r : RunState) (d d' : RunDomain) (visits : List Visit) (numbers : List (List ℕ)) → Turns Moved visits numbers d d' → Differ (peers_of d) → MovedAsTold lines r (peers_of d) (turned visits ∷ []) d.ends d'.ends d.numbered d'.numbered
 turn_moved lines r d d' visits numbers turns differ =
     let peers = turns.allowed.each_peer in
     record {
@@ -114,6 +117,11 @@ turn_moved lines r d d' visits numbers turns differ =
       moved =
           subst (λ (ms : List (List LaneMove)). AllMoved Moved d.ends ms d'.ends)
           (sym (each_once visits numbers turns.each (subst Differ (sym peers) differ)) ∙ ap (map (turn_at visits numbers)) peers) turns.moved;
+      deeds = turn_deeds visits numbers;
+      numbered = turn-numbered visits numbers turns.each;
+      noted = turn-nameless [] visits numbers turns.each ∙ sym (append-nil (map nameless_deed (flat_map (named_deeds []) visits)));
+      led = turns.numbered;
+      dealt = λ p. turn-dealt p visits numbers d.numbered turns.each;
     }
 
 -- ---- a call
@@ -166,22 +174,37 @@ module _ (lines : List CallLine) (r : RunState) (node : ℕ) (call : DomainCall)
   abbrev frames : List (ℕ × List ℕ)
   frames = puts old.state node call
 
-  pub call_moved : (k : ℕ) (a : PlainAnswer) → returned old.state node call ≡ returned_by (next_line lines r) r → MovedAsTold lines r (peers_of old) (call_entries frames k a) old.ends new.ends
-  call_moved k a back = record {
+  dealt : (x : PlainAnswer) (p : ℕ) → unlooked (receives (moves_at frames does.slots p)) ≡ along (deed_moves p) old.numbered (calls node call x ∷ [])
+  dealt x p = call-dealt frames does.slots p ∙ (ap deals.giving (does.named p) ∙ sym (append-nil (deals.giving (frames_from p (returned old.numbered node call)))))
+
+  pub call_moved : (k : ℕ) (a : PlainAnswer) → returned old.state node call ≡ returned_by (next_line lines r) r → call_deeds (next_line lines r) r a ≡ calls node call a ∷ []
+      → MovedAsTold lines r (peers_of old) (call_entries frames k a) old.ends new.ends old.numbered new.numbered
+  call_moved k a back deed = record {
     moves = moves_at frames does.slots;
     told = λ p. unnumbered_call old.book frames does.slots p ∙ ap (λ (items : List Item). putting (frames_to p frames) ++ going_back p items) (does.returned ∙ back) ∙ sym (call_told lines r p frames k a);
     moved = does.moved;
+    deeds = calls node call a ∷ [];
+    numbered = (tt, tt);
+    noted = ap (map nameless_deed) (sym deed) ∙ sym (call-noted lines r frames k a);
+    led = does.numbered;
+    dealt = dealt a;
   }
 
   -- one that is made again does nothing
-  pub again_moved : (e : PlainEntry) → ((p : ℕ) → entry_told lines r p e ≡ []) → frames ≡ [] → returned old.state node call ≡ [] → MovedAsTold lines r (peers_of old) (e ∷ []) old.ends new.ends
-  again_moved e tells_none no_puts none_back = record {
+  pub again_moved : (e : PlainEntry) (a : PlainAnswer) → ((p : ℕ) → entry_told lines r p e ≡ []) → frames ≡ [] → returned old.state node call ≡ [] → entry_deeds lines [] r e ≡ calls node call a ∷ []
+      → MovedAsTold lines r (peers_of old) (e ∷ []) old.ends new.ends old.numbered new.numbered
+  again_moved e a tells_none no_puts none_back deed = record {
     moves = moves_at frames does.slots;
     told = λ p.
         unnumbered_call old.book frames does.slots p
         ∙ ap₂ (λ (fs : List (ℕ × List ℕ)) (items : List Item). putting (frames_to p fs) ++ going_back p items) no_puts (does.returned ∙ none_back)
         ∙ sym (append-nil (entry_told lines r p e) ∙ tells_none p);
     moved = does.moved;
+    deeds = calls node call a ∷ [];
+    numbered = (tt, tt);
+    noted = ap (map nameless_deed) (sym deed) ∙ sym (append-nil (map nameless_deed (entry_deeds lines [] r e)));
+    led = does.numbered;
+    dealt = dealt a;
   }
 
 -- ---- one after the other
@@ -191,6 +214,12 @@ told_append lines r p [] fs = refl
 told_append lines r p (e ∷ es) fs =
     ap (λ (ms : List LaneMove). entry_told lines r p e ++ ms) (told_append lines (after lines r e) p es fs)
     ∙ sym (append_assoc (entry_told lines r p e) (moves_told lines (after lines r e) p es) (moves_told lines (after_all lines (after lines r e) es) p fs))
+
+deeds_append : (lines : List CallLine) (r : RunState) (es fs : List PlainEntry) → deeds_told lines r (es ++ fs) ≡ deeds_told lines r es ++ deeds_told lines (after_all lines r es) fs
+deeds_append lines r [] fs = refl
+deeds_append lines r (e ∷ es) fs =
+    ap (λ (ds : List Deed). map nameless_deed (entry_deeds lines [] r e) ++ ds) (deeds_append lines (after lines r e) es fs)
+    ∙ sym (append_assoc (map nameless_deed (entry_deeds lines [] r e)) (deeds_told lines (after lines r e) es) (deeds_told lines (after_all lines (after lines r e) es) fs))
 
 moved_both : (f g : ℕ → List LaneMove) (ps : List ℕ) (olds bs cs : List RunEnds) → AllMoved Moved olds (map f ps) bs → AllMoved Moved bs (map g ps) cs → AllMoved Moved olds (map (λ p. f p ++ g p) ps) cs
 moved_both f g [] [] [] [] first then = tt
@@ -203,11 +232,19 @@ moved_both f g (p ∷ ps) (a ∷ olds) (b ∷ bs) [] first then = absurd then
 moved_both f g (p ∷ ps) (a ∷ olds) (b ∷ bs) (c ∷ cs) first then =
     (EndsMoved-both AnySends AnyReceives AnySends-both AnyReceives-both a b c (f p) (g p) first.0 then.0, moved_both f g ps olds bs cs first.1 then.1)
 
-pub moved_then : (lines : List CallLine) (r : RunState) (ps : List ℕ) (es fs : List PlainEntry) (olds bs cs : List RunEnds) → MovedAsTold lines r ps es olds bs → MovedAsTold lines (after_all lines r es) ps fs bs cs → MovedAsTold lines r ps (es ++ fs) olds cs
-moved_then lines r ps es fs olds bs cs first then = record {
+pub moved_then : (lines : List CallLine) (r : RunState) (ps : List ℕ) (es fs : List PlainEntry) (olds bs cs : List RunEnds) (from mid to : DomainState) → MovedAsTold lines r ps es olds bs from mid → MovedAsTold lines (after_all lines r es) ps fs bs cs mid to → MovedAsTold lines r ps (es ++ fs) olds cs from to
+moved_then lines r ps es fs olds bs cs from mid to first then = record {
   moves = λ p. first.moves p ++ then.moves p;
   told = λ p. map-append unnumbered (first.moves p) (then.moves p) ∙ ap₂ (λ (xs ys : List LaneMove). xs ++ ys) (first.told p) (then.told p) ∙ sym (told_append lines r p es fs);
   moved = moved_both first.moves then.moves ps olds bs cs first.moved then.moved;
+  deeds = first.deeds ++ then.deeds;
+  numbered = all-append IsNumbered first.deeds then.deeds first.numbered then.numbered;
+  noted = map-append nameless_deed first.deeds then.deeds ∙ ap₂ (λ (xs ys : List Deed). xs ++ ys) first.noted then.noted ∙ sym (deeds_append lines r es fs);
+  led = then.led ∙ ap (λ (s : DomainState). after_deeds s then.deeds) first.led ∙ sym (after-join from first.deeds then.deeds);
+  dealt = λ p.
+      dealt-append (first.moves p) (then.moves p)
+      ∙ ap₂ (λ (xs ys : List ReceiveMove). xs ++ ys) (first.dealt p) (then.dealt p ∙ ap (λ (s : DomainState). along (deed_moves p) s then.deeds) first.led)
+      ∙ sym (along-join (deed_moves p) from first.deeds then.deeds);
 }
 
 pub all_rest : (n : ℕ) (ps : List ℕ) (es : List RunEnds) → EndsMatch n ps es → AllMoved Moved es (map (λ p. []) ps) es
@@ -218,5 +255,6 @@ all_rest n (p ∷ ps) (Own l ∷ es) matched = (refl, all_rest n ps es matched.1
 all_rest n (p ∷ ps) (Linked l ∷ es) matched = (link-none AnySends AnyReceives AnySends-none AnyReceives-none l, all_rest n ps es matched.2)
 
 -- before the first entry
-pub none_moved : (lines : List CallLine) (r : RunState) (n : ℕ) (ps : List ℕ) (es : List RunEnds) → EndsMatch n ps es → MovedAsTold lines r ps [] es es
-none_moved lines r n ps es matched = record { moves = λ p. []; told = λ p. refl; moved = all_rest n ps es matched }
+pub none_moved : (lines : List CallLine) (r : RunState) (n : ℕ) (ps : List ℕ) (es : List RunEnds) → EndsMatch n ps es → (from to : DomainState) → to ≡ from → MovedAsTold lines r ps [] es es from to
+none_moved lines r n ps es matched from to same =
+    record { moves = λ p. []; told = λ p. refl; moved = all_rest n ps es matched; deeds = []; numbered = tt; noted = refl; led = same; dealt = λ p. refl }

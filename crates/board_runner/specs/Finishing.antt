@@ -8,6 +8,7 @@ use Rattle.lane_end.specs.LaneRun.{HaveRun, IsLaneRun}
 use Rattle.board_model.specs.declared.scenario.LinkLine.{LinkLine}
 use Rattle.board_model.specs.LinkedBoard.{PairsDiffer}
 use Rattle.domain_core.specs.LaneMoves.{LaneMove, sends, receives}
+use Rattle.lane_images.specs.LaneImages.{WasRun}
 use Rattle.board_runner.specs.declared.ended.EndedLink.{EndedLink}
 use Rattle.board_runner.specs.declared.rings.LinkRings.{LinkRings}
 use Rattle.board_runner.specs.Ended.{ended_at}
@@ -34,10 +35,12 @@ pub record LinkIsRun (moves : BoardMoves) (l : LinkLine) (on : LinkRings) (zero 
   pub queue0 : zero.queue ≡ on.queue0.queue
   pub size0 : zero.size ≡ size_of on.queue0.ring
   pub finished0 : zero.queue ≡ 0 → WasFinished zero
+  pub was0 : WasRun Device on.queue0 (sends (moves l.device l.driver)) (receives (moves l.driver l.device)) zero
   pub run0 : IsLaneRun Device (size_of on.queue0.ring) (sends (moves l.device l.driver)) (receives (moves l.driver l.device)) zero
   pub queue1 : one.queue ≡ on.queue1.queue
   pub size1 : one.size ≡ size_of on.queue1.ring
   pub finished1 : WasFinished one
+  pub was1 : WasRun Driver on.queue1 (sends (moves l.driver l.device)) (receives (moves l.device l.driver)) one
   pub run1 : IsLaneRun Driver (size_of on.queue1.ring) (sends (moves l.driver l.device)) (receives (moves l.device l.driver)) one
 
 -- some moves led there

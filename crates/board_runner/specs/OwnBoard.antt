@@ -16,7 +16,7 @@ pub record RanAs (s : Scenario) (t : run.Station) (ends : List RunEnds) (st : St
   pub whole : IsWhole s t.line t.entries
   pub led : t.run ≡ left_by s t.line t.entries
   pub stands : IsStation s t st
-  pub moves : MovedAsTold (script s t.line.domain) (start s t.line) (peers_of st.domain) t.entries ends st.domain.ends
+  pub moves : MovedAsTold (script s t.line.domain) (start s t.line) (peers_of st.domain) t.entries ends st.domain.ends (start s t.line).state st.domain.numbered
 
 -- each from the ends that its station had
 abbrev pub AllRanAs : Scenario → List run.Station → List Station → List Station → Type 0

@@ -1,7 +1,7 @@
 -- A domain that runs its script on its own, whatever the other domains do.
 -- Source: docs/PROFILE.md, "Runs", "Lanes" and "Tries". Between two calls of a line with tries it makes only the turns of its calls.
 use Rattle.std.specs.Prelude.{◌≡◌, ℕ, ◌+◌, ◌*◌, ◌≤◌, ◌^◌, List, [], ◌∷◌, ◌++◌, map, filter, slice_get, None, Some}
-use Rattle.std.specs.List.{flat_map}
+use Rattle.std.specs.List.{AllByRecursion, flat_map}
 use Rattle.lane_end.specs.AnySender.{AnySends}
 use Rattle.lane_end.specs.AnyReceiver.{AnyReceives}
 use Rattle.lane_end.specs.ReceiveMoves.{Took, Gave}
@@ -9,9 +9,11 @@ use Rattle.board_model.specs.declared.scenario.CallLine.{CallLine}
 use Rattle.board_model.specs.declared.scenario.DomainLine.{DomainLine}
 use Rattle.board_model.specs.declared.scenario.Scenario.{Scenario}
 use Rattle.board_model.specs.Scenario.{script}
+use Rattle.board_model.specs.Deeds.{Deed, after_deeds, along}
 use Rattle.board_model.specs.Journal.{PlainEntry, turned, put, again, waits, called, Visit}
+use Rattle.board_model.specs.JournalDeeds.{entry_deeds}
 use Rattle.board_model.specs.Language.{IsLawfulBoard}
-use Rattle.board_model.specs.State.{is_from}
+use Rattle.board_model.specs.State.{DomainState, is_from}
 use Rattle.board_model.specs.Step.{RunState, HasNoPuts, next_line, after}
 use Rattle.board_model.specs.Run.{start, Leads, left_by, IsDomainRun, IsWhole}
 use Rattle.board_model.specs.SerialRun as run
@@ -19,8 +21,9 @@ use Rattle.board_model.specs.SerialRun.{opened_station}
 use Rattle.board_model.specs.Traffic.{visits_to, puts_in, returned_by}
 use Rattle.domain_core.specs.AllMoved.{AllMoved}
 use Rattle.domain_core.specs.Ends.{EndsMoved}
-use Rattle.domain_core.specs.LaneMoves.{LaneMove, sender, receiver}
+use Rattle.domain_core.specs.LaneMoves.{LaneMove, sender, receiver, receives}
 use Rattle.domain_core.specs.VisitMoves.{putting, visit_moves}
+use Rattle.lane_images.specs.DeedMoves.{deed_moves, unlooked, nameless_deed, IsNumbered}
 use Rattle.board_runner.specs.declared.station.Station.{Station}
 use Rattle.board_runner.specs.Near.{RunEnds, peers_of}
 use Rattle.board_runner.specs.Stations.{IsStation}
@@ -51,11 +54,22 @@ abbrev pub moves_told : List CallLine → RunState → ℕ → List PlainEntry �
 moves_told lines r peer [] = []
 moves_told lines r peer (e ∷ es) = entry_told lines r peer e ++ moves_told lines (after lines r e) peer es
 
--- from ends to ends, by just the moves that the entries tell
-pub record MovedAsTold (lines : List CallLine) (r : RunState) (peers : List ℕ) (entries : List PlainEntry) (old new : List RunEnds) : Type 0 where
+-- the deeds that entries tell, but for the names of frames
+abbrev pub deeds_told : List CallLine → RunState → List PlainEntry → List Deed
+deeds_told lines r [] = []
+deeds_told lines r (e ∷ es) = map nameless_deed (entry_deeds lines [] r e) ++ deeds_told lines (after lines r e) es
+
+-- from ends to ends, by just the moves that the entries tell, and from state to state, in which each frame is named by its buffer's number
+pub record MovedAsTold (lines : List CallLine) (r : RunState) (peers : List ℕ) (entries : List PlainEntry) (old new : List RunEnds) (from to : DomainState) : Type 0 where
   pub moves : ℕ → List LaneMove
   pub told : (peer : ℕ) → map unnumbered (moves peer) ≡ moves_told lines r peer entries
   pub moved : AllMoved (EndsMoved AnySends AnyReceives) old (map moves peers) new
+  -- just the deeds were done that the entries tell, and what they take and give back is what the moves do
+  pub deeds : List Deed
+  pub numbered : AllByRecursion IsNumbered deeds
+  pub noted : map nameless_deed deeds ≡ deeds_told lines r entries
+  pub led : to ≡ after_deeds from deeds
+  pub dealt : (peer : ℕ) → unlooked (receives (moves peer)) ≡ along (deed_moves peer) from deeds
 
 -- ---- what a station counts
 
@@ -85,7 +99,7 @@ pub record IsOnItsWay (s : Scenario) (d : DomainLine) (ends : List RunEnds) (mad
   pub settled : HasNoPuts run.put_since_turn
   pub made_is : run.calls_made ≡ made
   pub rests : run.waited ≡ None
-  pub moves : MovedAsTold (script s d.domain) (start s d) (peers_of st.domain) entries ends st.domain.ends
+  pub moves : MovedAsTold (script s d.domain) (start s d) (peers_of st.domain) entries ends st.domain.ends (start s d).state st.domain.numbered
 
 -- the line is run, whatever run it was in which it came next
 abbrev pub RunsNextLine : CallLine → Station → Station → Type 0
@@ -98,7 +112,7 @@ pub record RanWhole (s : Scenario) (d : DomainLine) (ends : List RunEnds) (st : 
   pub runs : IsDomainRun s d entries
   pub whole : IsWhole s d entries
   pub stands : IsStation s (station_in d (left_by s d entries) entries) st
-  pub moves : MovedAsTold (script s d.domain) (start s d) (peers_of st.domain) entries ends st.domain.ends
+  pub moves : MovedAsTold (script s d.domain) (start s d) (peers_of st.domain) entries ends st.domain.ends (start s d).state st.domain.numbered
 
 -- whatever domain of a board stood there before its first line
 abbrev pub RunsScript : Scenario → Station → Station → Type 0

@@ -1,23 +1,18 @@
 -- The ring lines of a report, and the report of what a run left: of a run on threads with the image of each finished ring.
 -- Source: docs/FORMATS.md, "Report" and "Images of rings". A serial run closes none of its rings, so its report has no ring lines.
-use Rattle.std.specs.Prelude.{◌≡◌, ℕ, List, [], ◌∷◌, map, codes, decimal}
-use Rattle.mc_base.specs.Text.{hex_digits}
+use Rattle.std.specs.Prelude.{◌≡◌, ℕ, List, [], ◌∷◌, map}
 use Rattle.split_ring.specs.Finished.{FinishedRing}
 use Rattle.board_model.specs.declared.scenario.LinkLine.{LinkLine}
 use Rattle.board_model.specs.declared.scenario.Scenario.{Scenario}
 use Rattle.board_model.specs.Scenario.{lanes}
-use Rattle.board_model.specs.Grammar.{line_of}
 use Rattle.board_model.specs.Board.{DomainJournal}
 use Rattle.board_model.specs.Totals.{channel_totals, totals}
 use Rattle.board_model.specs.Places.{places_of}
 use Rattle.board_model.specs.Report.{Mode, serial, threads, lines_of, report_of}
+use Rattle.ring_numbers.specs.RingTexts.{ring_text}
 use Rattle.ring_trace.specs.WordImage.{word_image}
 use Rattle.board_runner.specs.declared.outcome.Outcome.{Outcome}
 use Rattle.board_runner.specs.Outcome.{lines_in}
-
--- the line of an image, under its link and its queue
-abbrev pub ring_text : LinkLine → ℕ → List ℕ → List ℕ
-ring_text l queue image = line_of (codes "ring" ∷ decimal l.driver ∷ decimal l.device ∷ decimal queue ∷ hex_digits image ∷ [])
 
 abbrev pub image_of_ring : FinishedRing → List ℕ
 image_of_ring ring = word_image ring.size ring.words

@@ -1,13 +1,17 @@
 -- What a run on threads leaves: whole journals that are a run of the board, their numbers, and the rings.
 -- Source: docs/PROFILE.md, "Runs" and "Lanes", and docs/FORMATS.md, "Report".
-use Rattle.std.specs.Prelude.{◌≡◌, ℕ, ◌+◌, ◌%◌, ◌^◌, List, [], ◌∷◌, length, sum}
+use Rattle.std.specs.Prelude.{◌≡◌, ◌+◌, ◌%◌, ◌^◌, List, [], ◌∷◌, length, sum}
 use Rattle.shared_words.specs.Shown.{TableShown}
 use Rattle.shared_words.specs.declared.view.Role.{Role}
 use Rattle.shared_words.specs.declared.view.Role.TheVariants.{Driver, Device}
 use Rattle.split_ring.specs.Ends.{End}
 use Rattle.split_ring.specs.Finished.{FinishedRing, IsFinished}
 use Rattle.ring_trace.specs.SoundImages.{ReturnsAreEmpty}
+use Rattle.ring_trace.specs.WordImage.{word_image}
+use Rattle.ring_numbers.specs.BoardRings.{ring_left}
+use Rattle.ring_numbers.specs.InTime.{AreInTime}
 use Rattle.lane_end.specs.LaneRun.{in_ring, coming_back, with_sender, with_receiver, sender_looks, sender_saw, receiver_looks, receiver_saw}
+use Rattle.lane_images.specs.LaneImages.{queue_of}
 use Rattle.board_model.specs.declared.scenario.LinkLine.{LinkLine}
 use Rattle.board_model.specs.declared.scenario.Scenario.{Scenario}
 use Rattle.board_model.specs.Scenario.{Lane}
@@ -18,11 +22,6 @@ use Rattle.board_runner.specs.declared.outcome.Outcome.{Outcome}
 use Rattle.board_runner.specs.Looks.{see_looks}
 use Rattle.board_runner.specs.Outcome.{IsOutcome}
 
--- in queue 1 the driver sends, and in queue 0 the device
-abbrev pub queue_of : Role → ℕ
-queue_of Driver = 1
-queue_of Device = 0
-
 -- two halves of a ring finished it so: its words and its lists are those of what they wrote and took. In queue 1, whose buffers the
 -- device reads, each was returned with a length of 0
 pub record WasFinished (closed : FinishedRing) : Type 0 where
@@ -32,12 +31,13 @@ pub record WasFinished (closed : FinishedRing) : Type 0 where
   pub finished : IsFinished ring driver device closed
   pub empty : ReturnsAreEmpty closed.queue device.written
 
--- the finished ring of a lane and the journals of its two domains tell the same: where its buffers are, and the looks of both ends,
+-- the finished ring of a lane and the journals of its two domains tell the same: its image, where its buffers are, and the looks of both ends,
 -- those that showed nothing among them
 pub record TellsLane (s : Scenario) (js : List DomainJournal) (sender : Role) (l : Lane) (closed : FinishedRing) : Type 0 where
   pub finished : WasFinished closed
   pub queue : closed.queue ≡ queue_of sender
   pub size : closed.size ≡ l.size
+  pub image : word_image closed.size closed.words ≡ ring_left s js closed.queue l.sender l.receiver l.size
   pub free : (places_of s js l).free ≡ length (with_sender sender closed) + length (coming_back sender closed)
   pub ring : (places_of s js l).ring ≡ length (in_ring sender closed)
   pub held : (places_of s js l).queue + (places_of s js l).lent ≡ length (with_receiver sender closed)
@@ -65,3 +65,5 @@ pub record IsThreadRun (s : Scenario) (o : Outcome) : Type 0 where
   pub whole : AreWhole s journals
   pub tells : IsOutcome s (record o { rings = [] }) journals
   pub rings : TellLanes s journals s.links o.rings
+  -- no buffer came back before the frame was put that it carried, on the own lanes of domains neither
+  pub in_time : AreInTime s journals

@@ -11,7 +11,8 @@ ghost use Rattle.board_model.specs.Report.{heading, journals_text, lines_text, s
 ghost use Rattle.board_numbers.specs.Told.{IsToldByText};
 ghost use Rattle.board_runner.specs.Mode.{mode_of};
 ghost use Rattle.board_runner.specs.Outcome.{lines_in};
-ghost use Rattle.board_runner.specs.RingLines.{AreOfLinks, HasRingsFor, image_of_ring, outcome_report, ring_lines, ring_lines_in, ring_text};
+ghost use Rattle.board_runner.specs.RingLines.{AreOfLinks, HasRingsFor, image_of_ring, outcome_report, ring_lines, ring_lines_in};
+ghost use Rattle.ring_numbers.specs.RingTexts.{ring_text};
 
 use crate::Outcome;
 use board_model::{LinkLine, Scenario};
