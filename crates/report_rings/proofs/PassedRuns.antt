@@ -32,7 +32,7 @@ use Rattle.report_text.specs.RightRuns.{PassesThree, TellsBoardRun, journal_due}
 use Rattle.report_text.specs.ScenarioPart.{Told}
 use Rattle.report_text.specs.StepPass.{wrong_step, unfinished}
 use Rattle.report_text.specs.Verdicts.{wrong_or, by_steps, by_told}
-use Rattle.report_text.proofs.BoardsTold.{found-mapped}
+use Rattle.report_text.proofs.BoardsTold.{found-mapped, sent-answers}
 use Rattle.report_text.proofs.LinksTold.{Linked, link-lines}
 use Rattle.report_text.proofs.NothingWrong.{none-either, none-moved}
 use Rattle.report_text.proofs.ReportsTold.{journals-right}
@@ -46,7 +46,7 @@ use Rattle.report_rings.specs.SenderLanes.{FindTheirs, AllFindTheirs, numbers_to
 use Rattle.report_rings.proofs.BuffersFound.{HaveRoom, busy-room, room-finds, run-room}
 use Rattle.report_rings.proofs.LaneSizes.{start-free}
 use Rattle.report_rings.proofs.LaneSteps.{backs-lines}
-use Rattle.report_rings.proofs.PlacesTold.{places-many, sent-answers}
+use Rattle.report_rings.proofs.PlacesTold.{places-many}
 use Rattle.report_rings.proofs.SendingsTold.{after-told, sendings-told}
 
 -- ---- by the verdict, the third pass found nothing

@@ -1,16 +1,12 @@
 -- The lines that show the images of rings, piece by piece; and the lines of a text of such lines.
-use Rattle.std.proofs.Common.{◌≡◌, ℕ, ◌+◌, ◌<◌, ◌/◌, ◌%◌, Bool, true, false, cond, List, [], ◌∷◌, ◌++◌, length, refl, ap, ◌∙◌, arith, append_assoc}
-use Rattle.std.specs.Prelude.{codes, decimal, nat_lt, not, ◌==◌}
-use Rattle.std.specs.List.{flat_map, list_all}
-use Rattle.std.proofs.lemmas.Bool.{and_from}
-use Rattle.std.proofs.lemmas.Bool.Decides.{nat_tests}
-use Rattle.mc_base.specs.Text.{hex_digit, hex_digits, hex_text}
+use Rattle.std.proofs.Common.{◌≡◌, ℕ, ◌<◌, List, [], ◌∷◌, ◌++◌, length, refl, ap, ◌∙◌, arith, append_assoc}
+use Rattle.std.specs.Prelude.{codes, decimal}
+use Rattle.std.specs.List.{flat_map}
+use Rattle.mc_base.specs.Text.{hex_digits, hex_text}
 use Rattle.board_model.specs.declared.scenario.LinkLine.{LinkLine}
-use Rattle.board_model.specs.Numerals.{is_other}
 use Rattle.ring_numbers.specs.RingTexts.{ring_text}
 use Rattle.report_text.specs.TextLines.{lines_in}
-use Rattle.report_text.proofs.KindsTold.{decimal-other}
-use Rattle.report_totals.proofs.DueLines.{HasNone, line-first}
+use Rattle.report_text.proofs.UnendedWords.{line-first, ring-none}
 
 pub ring-line : (driver device queue digits : List ℕ) → (codes "ring" ++ 32 ∷ (driver ++ 32 ∷ (device ++ 32 ∷ (queue ++ 32 ∷ digits)))) ++ 10 ∷ [] ≡ codes "ring " ++ (driver ++ (codes " " ++ (device ++ (codes " " ++ (queue ++ (codes " " ++ (digits ++ 10 ∷ [])))))))
 ring-line driver device queue digits = simp append_assoc
@@ -19,26 +15,10 @@ pub digits-some : (bytes : List ℕ) → 0 < length bytes → hex_text bytes ≡
 digits-some [] some = absurd (omega (arith, some))
 digits-some (b ∷ bs) some = refl
 
--- ---- a line has one newline, its last byte
-
-digit-other : (x : ℕ) → is_other 10 (hex_digit x) ≡ true
-digit-other x = go (nat_lt x 10)
-  where
-    go : (a : Bool) → is_other 10 (cond a (48 + x) (87 + x)) ≡ true
-    go true = let differs : (48 + x == 10) ≡ false = grind (arith, nat_tests) in ap not differs
-    go false = let differs : (87 + x == 10) ≡ false = grind (arith, nat_tests) in ap not differs
-
-digits-none : (bytes : List ℕ) → HasNone (hex_digits bytes)
-digits-none [] = refl
-digits-none (b ∷ bs) =
-    and_from (is_other 10 (hex_digit (b / 16))) (list_all (is_other 10) (hex_digit (b % 16) ∷ hex_digits bs)) (digit-other (b / 16))
-    (and_from (is_other 10 (hex_digit (b % 16))) (list_all (is_other 10) (hex_digits bs)) (digit-other (b % 16)) (digits-none bs))
-
 -- the line of a ring is the first of a text that begins with it
 pub ring-first : (l : LinkLine) (queue : ℕ) (image rest : List ℕ) → lines_in (ring_text l queue image ++ rest) ≡ ring_text l queue image ∷ lines_in rest
 ring-first l queue image rest =
-    let words : List (List ℕ) = codes "ring" ∷ decimal l.driver ∷ decimal l.device ∷ decimal queue ∷ hex_digits image ∷ [] in
-    line-first words (refl, (decimal-other 10 (omega arith) l.driver, (decimal-other 10 (omega arith) l.device, (decimal-other 10 (omega arith) queue, (digits-none image, tt))))) rest
+    line-first (codes "ring" ∷ decimal l.driver ∷ decimal l.device ∷ decimal queue ∷ hex_digits image ∷ []) (ring-none l queue image) rest
 
 -- the lines of a text that begins with the lines of two rings for each link
 pub rings-first : (image : LinkLine → ℕ → List ℕ) (ls : List LinkLine) (rest : List ℕ) → lines_in (flat_map (λ line. line) (flat_map (λ l. ring_text l 0 (image l 0) ∷ ring_text l 1 (image l 1) ∷ []) ls) ++ rest) ≡ flat_map (λ l. ring_text l 0 (image l 0) ∷ ring_text l 1 (image l 1) ∷ []) ls ++ lines_in rest

@@ -122,7 +122,7 @@ module _ (s : Scenario) (board : IsLinkedBoard s) where
     entries-are : told ≡ flat_map (part_entries (peers_of s j.line)) (parts_of s j)
     entries-are = unjoined-is s j.line (lines_of_texts j.texts)
 
-    puts-are : flat_map (put_in p) (lane_lines j) ≡ put_to p due
+    pub puts-are : flat_map (put_in p) (lane_lines j) ≡ put_to p due
     puts-are = ap (flat_map (put_in p)) lines-are ∙ of_lanes.parts-put (peers_of s j.line) p (parts_of s j) ∙ sym (ap (put_to p) entries-are) ∙ sym (put-answers (script s j.line.domain) p (start s j.line) told)
 
     pub takes-are : flat_map (of_lanes.frame_in p) (lane_lines j) ≡ taken_from p due
@@ -142,7 +142,7 @@ module _ (s : Scenario) (board : IsLinkedBoard s) where
     abbrev all_due : List DomainJournal
     all_due = map (journal_due s) js
 
-    frames-are : (from to : ℕ) → frames_put js from to ≡ put_to to (journal_of from all_due)
+    pub frames-are : (from to : ℕ) → frames_put js from to ≡ put_to to (journal_of from all_due)
     frames-are from to = go (find (λ j. j.line.domain == from) js) refl ∙ sym (ap (λ o. put_to to (journal_in o)) (found-mapped (journal_due s) (λ j. refl) from js))
       where
         go : (o : Option JournalText) → find (λ j. j.line.domain == from) js ≡ o → flat_map (put_in to) (lanes_in o) ≡ put_to to (journal_in (option_map (journal_due s) o))

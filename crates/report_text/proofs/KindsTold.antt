@@ -51,7 +51,7 @@ module _ (stop : ℕ) (low : stop < 48) where
   unfolding digits
   decimal-other n = onto-other 64 n [] refl
 
-decimal-alone : (n : ℕ) → list_all (is_other 32) (decimal n) ≡ true
+pub decimal-alone : (n : ℕ) → list_all (is_other 32) (decimal n) ≡ true
 decimal-alone = decimal-other 32 (omega arith)
 
 blank-within : (xs ys : List ℕ) → list_all (is_other 32) (xs ++ 32 ∷ ys) ≡ false

@@ -1,6 +1,7 @@
 pub mod AnswersTold
 pub mod BoardsTold
 pub mod GivenTold
+pub mod PlacesAnswered
 pub mod CallsDue
 pub mod EntriesTold
 pub mod EntryLines
@@ -25,6 +26,7 @@ pub mod TextCuts
 pub mod TextFronts
 pub mod TextTold
 pub mod TurnsDue
+pub mod UnendedWords
 pub mod TurnsTold
 pub mod VisitsDue
 pub mod KindsTold

@@ -196,6 +196,10 @@ texts-same (t ∷ ts) (u ∷ us) e = go (bytes_eq t u) refl e (λ k. texts-same 
     go true is e rest = ap₂ (λ (x : List ℕ) (xs : List (List ℕ)). x ∷ xs) ((bytes_eq-Decides t u).0 is) (rest (none-moved 1 (first_other ts us) e))
     go false is e rest = absurd cc
 
+pub first-same : (ls : List (List ℕ)) → first_other ls ls ≡ None
+first-same [] = refl
+first-same (l ∷ ls) = ap (λ (b : Bool). cond b (moved 1 (first_other ls ls)) (Some 0)) ((bytes_eq-Decides l l).1 refl) ∙ ap (moved 1) (first-same ls)
+
 pub tell-take : (ts : List (List ℕ)) (cs bs : List Line) → Tell ts (cs ++ bs) → Tell (take (length cs) ts) cs
 tell-take ts [] bs tell = tt
 tell-take [] (a ∷ cs) bs tell = absurd tell

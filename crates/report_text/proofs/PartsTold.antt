@@ -162,7 +162,7 @@ numbered script (suc i) =
     go None = refl
     go (Some c) = refl
 
-puts-are : (script : List CallLine) (k : ℕ) (a : PlainAnswer) → puts_of (line_numbered script k) a ≡ puts_of_line (puts_of_script script) (outline_of (call_line k a))
+pub puts-are : (script : List CallLine) (k : ℕ) (a : PlainAnswer) → puts_of (line_numbered script k) a ≡ puts_of_line (puts_of_script script) (outline_of (call_line k a))
 puts-are script k (refuses w) = go (line_numbered script k)
   where
     go : (o : Option CallLine) → puts_of o (refuses w) ≡ 0

@@ -91,7 +91,7 @@ reports-sound text t short told passes =
 
 -- ---- the numbers
 
-right-or : (reason : CheckReason) (o : Option ℕ) (v : Verdict) → wrong_or reason o v ≡ Right → (o ≡ None) × (v ≡ Right)
+pub right-or : (reason : CheckReason) (o : Option ℕ) (v : Verdict) → wrong_or reason o v ≡ Right → (o ≡ None) × (v ≡ Right)
 right-or reason None v e = (refl, e)
 right-or reason (Some line) v e = absurd cc
 
@@ -102,7 +102,7 @@ right-behind s (j ∷ js) next e =
     let whole = right-or of.Script (unfinished s j) (by_steps s js next) step.1 in
     right-behind s js next whole.1
 
-rings-due-same : (mode : Mode) (s : Scenario) (dues tolds : List DomainJournal) → ring_texts s dues ≡ ring_texts s tolds → rings_due mode s dues ≡ rings_due mode s tolds
+pub rings-due-same : (mode : Mode) (s : Scenario) (dues tolds : List DomainJournal) → ring_texts s dues ≡ ring_texts s tolds → rings_due mode s dues ≡ rings_due mode s tolds
 rings-due-same serial s dues tolds same = refl
 rings-due-same threads s dues tolds same = same
 

@@ -129,5 +129,9 @@ told-back s some back =
     ap (told_from 1 nothing_told) (canonical_lines s (are_texts nothing_told (lines_told s.domains s.links s.calls) s back))
     ∙ are_told 1 nothing_told (lines_told s.domains s.links s.calls) s (some_domain s.domains some) back
 
+-- the lines of a lawful scenario's canonical text tell it
+pub lines-back : (s : Scenario) → IsLawfulBoard s → IsReadBack s
+lines-back s h = text-keeps (λ n t. IsReadBack t) line_on h.0 s h.2 refl
+
 pub canonical_read_back : (s : Scenario) → IsLawfulBoard s → told_by (canonical s) ≡ Ok s
-canonical_read_back s h = told-back s (lawful-some s h) (text-keeps (λ n t. IsReadBack t) line_on h.0 s h.2 refl)
+canonical_read_back s h = told-back s (lawful-some s h) (lines-back s h)
