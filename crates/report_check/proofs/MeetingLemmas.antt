@@ -8,7 +8,7 @@ use Rattle.board_model.specs.Journal.{Line}
 use Rattle.board_model.specs.Report.{line_text}
 use Rattle.report_text.specs.TextLines.{lines_in, first_other, moved}
 use Rattle.report_text.specs.StepPass.{other_than}
-use Rattle.report_check.specs.Meeting.{LinesLeft, AreMet, IsMissed, Meets, place_at_end, place_after, IsOtherLine}
+use Rattle.report_check.specs.Meeting.{LinesLeft, AreMet, IsMissed, Meets, place_at_end, place_after, IsOtherText}
 use Rattle.report_text.proofs.TextCuts.{lines-some}
 
 -- ---- one line
@@ -17,9 +17,9 @@ taken-one : (count : ℕ) (l : List ℕ) (ls ms : List (List ℕ)) → 0 < count
 taken-one zero l ls ms some e = absurd (omega arith)
 taken-one (suc n) l ls ms some e = let less : n ≡ suc n - 1 = omega arith in ap (take (suc n)) e ∙ ap (λ k. l ∷ take k ms) less
 
-pub met-one : (count place : ℕ) (line : Line) (w text rest : List ℕ) → 0 < count → line_text line ≡ w ++ 10 ∷ [] → lines_in text ≡ (w ++ 10 ∷ []) ∷ lines_in rest → AreMet (record { texts = take count (lines_in text); place = place }) (record { texts = take (count - 1) (lines_in rest); place = place + 1 }) (line ∷ [])
-met-one count place line w text rest some is e = record {
-  texts = taken-one count (line_text line) (lines_in text) (lines_in rest) some (e ∙ ap (λ l. l ∷ lines_in rest) (sym is));
+pub met-one : (count place : ℕ) (line : Line) (text rest : List ℕ) → 0 < count → lines_in text ≡ line_text line ∷ lines_in rest → AreMet (record { texts = take count (lines_in text); place = place }) (record { texts = take (count - 1) (lines_in rest); place = place + 1 }) (line ∷ [])
+met-one count place line text rest some e = record {
+  texts = taken-one count (line_text line) (lines_in text) (lines_in rest) some e;
   place = refl;
 }
 
@@ -36,9 +36,9 @@ cut-other (suc n) l (k ∷ ks) more e = go (bytes_eq k l) e
     go true e = absurd (moved-none (first_other ks more) e)
     go false e = refl
 
-pub missed-one : (count place : ℕ) (line : Line) (w text : List ℕ) → line_text line ≡ w ++ 10 ∷ [] → IsOtherLine w (lines_in text) → IsMissed (record { texts = take count (lines_in text); place = place }) (record { texts = take count (lines_in text); place = place }) (line ∷ [])
-missed-one count place line w text is other = record {
-  place = λ more. ap (moved place) (cut-other count (line_text line) (lines_in text) (map line_text more) (ap (λ l. first_other (lines_in text) (l ∷ map line_text more)) is ∙ other (map line_text more))) ∙ ap Some (omega arith);
+pub missed-one : (count place : ℕ) (line : Line) (text : List ℕ) → IsOtherText (line_text line) (lines_in text) → IsMissed (record { texts = take count (lines_in text); place = place }) (record { texts = take count (lines_in text); place = place }) (line ∷ [])
+missed-one count place line text other = record {
+  place = λ more. ap (moved place) (cut-other count (line_text line) (lines_in text) (map line_text more) (other (map line_text more))) ∙ ap Some (omega arith);
 }
 
 pub missed-none : (count place : ℕ) (line : Line) (text : List ℕ) → count ≡ 0 → IsMissed (record { texts = take count (lines_in text); place = place }) (record { texts = take count (lines_in text); place = place }) (line ∷ [])

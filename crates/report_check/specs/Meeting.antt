@@ -34,6 +34,10 @@ place_after l false = Some l.place
 
 -- ---- one line
 
--- another line is the first than this one with its newline
+-- another text is the first than this one
+abbrev pub IsOtherText : List ℕ → List (List ℕ) → Type 0
+IsOtherText text texts = (more : List (List ℕ)) → first_other texts (text ∷ more) ≡ Some 0
+
+-- and than this line with its newline
 abbrev pub IsOtherLine : List ℕ → List (List ℕ) → Type 0
-IsOtherLine line texts = (more : List (List ℕ)) → first_other texts ((line ++ 10 ∷ []) ∷ more) ≡ Some 0
+IsOtherLine line texts = IsOtherText (line ++ 10 ∷ []) texts

@@ -1,13 +1,14 @@
 //! The lines of a journal that are compared with those that are due.
 
-ghost use Rattle.std.specs.Prelude.{◌≡◌, ◌∷◌, [], ◌++◌, IfOk, MatchOption, OnOk, take};
+ghost use Rattle.std.specs.Prelude.{◌≡◌, ◌∷◌, [], ◌++◌, true, IfOk, MatchOption, OnOk, take};
 ghost use Rattle.mc_journal.specs.Entry.{line_of_entry};
 ghost use Rattle.mc_journal.specs.EntryText.{entry_text};
 ghost use Rattle.report_text.specs.TextLines.{lines_in};
-ghost use Rattle.report_check.specs.Meeting.{IsOtherLine, Meets, place_at_end};
+ghost use Rattle.report_check.specs.Meeting.{IsOtherLine, IsOtherText, Meets, place_at_end};
 
+use crate::same_entries::is_same;
 use mc_base::NoMemory;
-use mc_journal::{Entry, write_entry};
+use mc_journal::{Entry, read_entry, write_entry};
 use outer_io::{Failed, Sink};
 use report_text::cut;
 use std::alloc::Global;
@@ -47,6 +48,38 @@ impl LineSink {
         }
         self.line.pop();
         Ok(())
+    }
+
+    /// Whether a line, without its newline, reads as this entry. Where several entries have its text, it may read as another.
+    fn reads(&mut self, line: &[u8], entry: Entry<'_>) -> Result<bool, NoMemory>
+        ensures { IfOk result (λ is. is ≡ true → entry_text entry.entry ≡ line.now ++ 10 ∷ []) }
+    {
+        self.line.clear();
+        if self.line.extend_from_slice(line).is_err() {
+            return Err(NoMemory);
+        }
+        match read_entry(line, &mut self.line) {
+            Ok(read) => Ok(is_same(read, entry)),
+            Err(_) => Ok(false),
+        }
+    }
+
+    /// Returns what follows the first line of a text, if it is that of an entry. The line is read first, and the entry's is written only where
+    /// another is read: to write takes longer, since a writer clears all its room first.
+    fn behind_entry<'a>(
+        &mut self,
+        text: &'a [u8],
+        entry: Entry<'_>,
+    ) -> Result<Option<&'a [u8]>, NoMemory>
+        ensures { IfOk result (λ found. MatchOption found (IsOtherText (entry_text entry.entry) (lines_in text.now)) (λ rest. lines_in text.now ≡ entry_text entry.entry ∷ lines_in rest.now)) }
+    {
+        if let Some((first, rest)) = cut(b'\n', text) {
+            if self.reads(first, entry)? {
+                return Ok(Some(rest));
+            }
+        }
+        self.set_line(entry)?;
+        Ok(behind_line(text, &self.line))
     }
 }
 
@@ -103,11 +136,10 @@ impl DueLines<'_> {
     pub fn meets(&mut self, entry: Entry<'_>) -> Result<bool, NoMemory>
         ensures { IfOk result (λ is. Meets self.old self.new (line_of_entry entry.entry ∷ []) is) }
     {
-        self.due.set_line(entry)?;
         if self.count == 0 {
             return Ok(false);
         }
-        match behind_line(self.text, &self.due.line) {
+        match self.due.behind_entry(self.text, entry)? {
             Some(rest) => {
                 self.text = rest;
                 self.count -= 1;

@@ -12,6 +12,7 @@ mod part_walk;
 mod parts;
 mod passes;
 mod run;
+mod same_entries;
 mod steps;
 mod told_turn;
 mod turn;
