@@ -8,11 +8,11 @@ use Rattle.ring_trace.specs.declared.checking.ImageInfo.{ImageInfo}
 use Rattle.ring_trace.specs.declared.checking.ImageFault.{ImageFault}
 use Rattle.scenario_cli.specs.declared.form.Form.{Form}
 use Rattle.scenario_cli.specs.Words.{IsForm, input_limit, report_limit, limit_of}
-use Rattle.scenario_cli.specs.VerdictText.{WrongLine, HasNoWrongLine, HasWrongLine}
+use Rattle.scenario_cli.specs.VerdictText.{WrongLine, HasNoWrongLine, IsOfRun, HasWrongLine}
 use Rattle.scenario_cli.specs.FrameText.{wrong_in}
 use Rattle.scenario_cli.specs.ImageText.{IsImage, IsNoImage}
 use Rattle.scenario_cli.proofs.WordLemmas.{one_form}
-use Rattle.scenario_cli.specs.Due.{IsDue, IsScenario, IsRefused, IfScenario, IfNoScenario, IfRightReport, IfWrongReport, IfSoundFrame, IfNoSoundFrame, IfSoundImage, IfNoSoundImage, IfTooLong, IsTooLong, DueFits}
+use Rattle.scenario_cli.specs.Due.{IsDue, IsScenario, IsRefused, IfScenario, IfNoScenario, IfRightReport, IfReportOfRun, IfWrongReport, IfSoundFrame, IfNoSoundFrame, IfSoundImage, IfNoSoundImage, IfTooLong, IsTooLong, DueFits}
 
 -- all that the source had was read
 pub all_read : (all rest text : List ℕ) → all ≡ text ++ rest → rest ≡ [] → all ≡ text
@@ -32,6 +32,9 @@ if_no_scenario old new text P read end h = if_text old new text (λ t. length t 
 
 pub if_right : (old new : Option (List ℕ)) (text : List ℕ) (P : Type 0) → Consumes old new text → IsAtEnd new → (HasNoWrongLine text → P) → IfRightReport old P
 if_right old new text P read end h = if_text old new text (λ t. length t ≤ report_limit → HasNoWrongLine t → P) read end (λ fits. h)
+
+pub if_of_run : (old new : Option (List ℕ)) (text : List ℕ) (P : Type 0) → Consumes old new text → IsAtEnd new → (IsOfRun text → P) → IfReportOfRun old P
+if_of_run old new text P read end h = if_text old new text (λ t. length t ≤ report_limit → IsOfRun t → P) read end (λ fits. h)
 
 pub if_wrong : (old new : Option (List ℕ)) (text : List ℕ) (P : Type 0) → Consumes old new text → IsAtEnd new → ((w : WrongLine) → HasWrongLine text w → P) → IfWrongReport old P
 if_wrong old new text P read end h = if_text old new text (λ t. length t ≤ report_limit → (w : WrongLine) → HasWrongLine t w → P) read end (λ fits. h)

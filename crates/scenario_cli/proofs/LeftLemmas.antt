@@ -1,5 +1,5 @@
 -- What the run of a board leaves is written as a report, in either mode.
-use Rattle.std.proofs.Common.{◌≡◌, ℕ, List, Result, Ok, Err, length, ap, arith, refl}
+use Rattle.std.proofs.Common.{◌≡◌, ℕ, List, Result, Ok, Err, length, ap, arith, refl, sym, subst}
 use Rattle.std.specs.Prelude.{IfOk}
 use Rattle.mc_base.specs.declared.refusal.NoMemory.{NoMemory}
 use Rattle.std.proofs.lemmas.List.{length-map}
@@ -15,11 +15,13 @@ use Rattle.board_model.proofs.LawfulRuns.{lawful_run}
 use Rattle.mc_journal.specs.Written.{Written}
 use Rattle.board_runner.specs.declared.outcome.Outcome.{Outcome}
 use Rattle.board_runner.specs.Outcome.{IsOutcome}
-use Rattle.board_runner.specs.RingLines.{HasRingsFor, outcome_report}
+use Rattle.board_runner.specs.RingLines.{HasRingsFor, outcome_report, report_left}
 use Rattle.board_runner.specs.ThreadRun.{IsThreadRun}
 use Rattle.board_runner.proofs.RingLemmas.{told-of-links}
 use Rattle.scenario_cli.specs.Due.{IsSound, IsScenario, IsReport}
 use Rattle.scenario_cli.specs.Left.{IsLeft, IsReportOf}
+use Rattle.scenario_cli.specs.VerdictText.{HasNoWrongLine}
+use Rattle.scenario_cli.proofs.RunsChecked.{left-checked}
 
 -- the headline holds of every whole run of the board
 sound_of : (s : Scenario) (js : List DomainJournal) → IsLawfulBoard s → IsBoardRun s js → AreWhole s js → IsSound s js
@@ -31,7 +33,7 @@ left_serial s o lawful is =
     record { journals = serial_run s; left = refl; sound = sound_of s (serial_run s) lawful run.0 run.1; told = record { journals = is.journals; rings = refl; places = is.places; channels = is.channels; messages = is.messages }; rings_left = is.rings }
 
 left_threads : (s : Scenario) (o : Outcome) → IsLawfulBoard s → IsThreadRun s o → IsLeft threads s o
-left_threads s o lawful is = record { journals = is.journals; left = tt; sound = sound_of s is.journals lawful is.run is.whole; told = is.tells; rings_left = is.rings }
+left_threads s o lawful is = record { journals = is.journals; left = tt; sound = sound_of s is.journals lawful is.run is.whole; told = is.tells; rings_left = (is.rings, is.in_time) }
 
 -- so it is with what a run answers
 pub if_left_serial : (s : Scenario) (r : Result Outcome NoMemory) → IsLawfulBoard s → IfOk r (λ o. IsOutcome s o (serial_run s)) → IfOk r (IsLeft serial s)
@@ -43,13 +45,23 @@ if_left_threads s (Ok o) lawful is = left_threads s o lawful is
 if_left_threads s (Err e) lawful is = tt
 
 -- its report is what is written of the outcome
-pub left-reported : (mode : Mode) (s : Scenario) (o : Outcome) → IsLeft mode s o → IsReportOf mode s (outcome_report mode s o)
-left-reported mode s o is = record { journals = is.journals; left = is.left; sound = is.sound; rings = o.rings; rings_left = is.rings_left; written = rw (is.told.journals, is.told.channels, is.told.messages, is.told.places) (cc) }
+pub left-reported : (mode : Mode) (s : Scenario) (o : Outcome) → IsLawfulBoard s → IsLeft mode s o → IsReportOf mode s (outcome_report mode s o)
+left-reported mode s o lawful is =
+    let written : outcome_report mode s o ≡ report_left mode s is.journals o.rings = rw (is.told.journals, is.told.channels, is.told.messages, is.told.places) (cc) in
+    record {
+      journals = is.journals;
+      left = is.left;
+      sound = is.sound;
+      rings = o.rings;
+      rings_left = is.rings_left;
+      written = written;
+      checked = subst HasNoWrongLine (sym written) (left-checked mode s is.journals o.rings lawful is.sound is.rings_left);
+    }
 
 -- the rings that it shows are there
 pub left-rings : (mode : Mode) (s : Scenario) (o : Outcome) → IsLeft mode s o → HasRingsFor mode s.links o.rings
 left-rings serial s o is = tt
-left-rings threads s o is = told-of-links s is.journals s.links o.rings is.rings_left
+left-rings threads s o is = told-of-links s is.journals s.links o.rings is.rings_left.0
 
 -- it has a journal for each domain
 pub journals-each : (mode : Mode) (s : Scenario) (o : Outcome) → IsLeft mode s o → length o.journals ≡ length s.domains
@@ -63,4 +75,4 @@ journals-each mode s o is =
 
 -- of the scenario that a text tells
 pub reported_of : (mode : Mode) (text output : List ℕ) (s : Scenario) → IsScenario text s → IsReportOf mode s output → IsReport mode text output
-reported_of mode text output s read is = record { scenario = s; read = read; journals = is.journals; left = is.left; sound = is.sound; rings = is.rings; rings_left = is.rings_left; written = is.written }
+reported_of mode text output s read is = record { scenario = s; read = read; journals = is.journals; left = is.left; sound = is.sound; rings = is.rings; rings_left = is.rings_left; written = is.written; checked = is.checked }

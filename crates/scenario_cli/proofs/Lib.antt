@@ -9,3 +9,4 @@ pub mod FrameLines
 pub mod RefusalPieces
 pub mod LoadWords
 pub mod ReportsTold
+pub mod RunsChecked

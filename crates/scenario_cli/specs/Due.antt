@@ -11,6 +11,7 @@ use Rattle.board_model.specs.Report.{Mode, serial, threads}
 use Rattle.board_model.specs.Headline.{Headline}
 use Rattle.board_runner.specs.RingLines.{report_left}
 use Rattle.board_runner.specs.ThreadRun.{TellLanes}
+use Rattle.ring_numbers.specs.InTime.{AreInTime}
 use Rattle.outer_io.specs.Writes.{AppendsPart}
 use Rattle.split_ring.specs.Finished.{FinishedRing}
 use Rattle.ring_trace.specs.declared.checking.ImageInfo.{ImageInfo}
@@ -44,13 +45,14 @@ abbrev pub MayLeave : Mode → Scenario → List DomainJournal → Type 0
 MayLeave serial s js = js ≡ serial_run s
 MayLeave threads s js = Unit {0}
 
--- and these rings with them: on one thread none is finished, and those of threads tell the lanes of the journals
+-- and these rings with them: on one thread none is finished; those of threads tell the lanes of the journals, over which no buffer came back
+-- before its frame was put
 abbrev pub MayLeaveRings : Mode → Scenario → List DomainJournal → List FinishedRing → Type 0
 MayLeaveRings serial s js rings = rings ≡ []
-MayLeaveRings threads s js rings = TellLanes s js s.links rings
+MayLeaveRings threads s js rings = TellLanes s js s.links rings × AreInTime s js
 
 -- the output is the report of a run in this mode of the scenario that the text tells, its journals are sound, and its ring lines are the
--- images of the rings
+-- images of the rings. It has no wrong line
 pub record IsReport (mode : Mode) (text output : List ℕ) : Type 0 where
   pub scenario : Scenario
   pub read : IsScenario text scenario
@@ -60,6 +62,7 @@ pub record IsReport (mode : Mode) (text output : List ℕ) : Type 0 where
   pub rings : List FinishedRing
   pub rings_left : MayLeaveRings mode scenario journals rings
   pub written : output ≡ report_left mode scenario journals rings
+  pub checked : HasNoWrongLine output
 
 -- the output that is due for a text of a run: the report of its scenario, or the refusal
 pub data IsRunDue (mode : Mode) (text output : List ℕ) : Type 0 where
@@ -136,6 +139,10 @@ IfRightReport rest P = IfSome rest (λ text. length text ≤ report_limit → Ha
 
 abbrev pub IfWrongReport : Option (List ℕ) → Type 0 → Type 0
 IfWrongReport rest P = IfSome rest (λ text. length text ≤ report_limit → (w : WrongLine) → HasWrongLine text w → P)
+
+-- for an input within the limit of reports that is the report of a whole run of its board
+abbrev pub IfReportOfRun : Option (List ℕ) → Type 0 → Type 0
+IfReportOfRun rest P = IfSome rest (λ text. length text ≤ report_limit → IsOfRun text → P)
 
 -- for an input within the limit: that is a sound frame, or that is none
 abbrev pub IfSoundFrame : Option (List ℕ) → Type 0 → Type 0

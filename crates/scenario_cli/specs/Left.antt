@@ -9,6 +9,7 @@ use Rattle.board_runner.specs.Outcome.{IsOutcome}
 use Rattle.board_runner.specs.RingLines.{report_left}
 use Rattle.split_ring.specs.Finished.{FinishedRing}
 use Rattle.scenario_cli.specs.Due.{IsSound, MayLeave, MayLeaveRings}
+use Rattle.scenario_cli.specs.VerdictText.{HasNoWrongLine}
 
 -- sound journals, their numbers, and their rings
 pub record IsLeft (mode : Mode) (s : Scenario) (o : Outcome) : Type 0 where
@@ -18,7 +19,7 @@ pub record IsLeft (mode : Mode) (s : Scenario) (o : Outcome) : Type 0 where
   pub told : IsOutcome s (record o { rings = [] }) journals
   pub rings_left : MayLeaveRings mode s journals o.rings
 
--- the output is the report of sound journals, and of rings, that a run in this mode may leave
+-- the output is the report of sound journals, and of rings, that a run in this mode may leave. It has no wrong line
 pub record IsReportOf (mode : Mode) (s : Scenario) (output : List ℕ) : Type 0 where
   pub journals : List DomainJournal
   pub left : MayLeave mode s journals
@@ -26,3 +27,4 @@ pub record IsReportOf (mode : Mode) (s : Scenario) (output : List ℕ) : Type 0 
   pub rings : List FinishedRing
   pub rings_left : MayLeaveRings mode s journals rings
   pub written : output ≡ report_left mode s journals rings
+  pub checked : HasNoWrongLine output

@@ -1,16 +1,17 @@
 -- What is told of a report: that it is right, or its first wrong line and why it is wrong.
 -- Source: README.md, "Forms and statuses"; docs/FORMATS.md, "How a report is checked".
-use Rattle.std.specs.Prelude.{◌≡◌, ℕ, List, [], ◌∷◌, codes, Ok}
+use Rattle.std.specs.Prelude.{◌≡◌, ℕ, List, [], ◌∷◌, codes}
 use Rattle.board_model.specs.Grammar.{line_of}
+use Rattle.board_model.specs.declared.scenario.Scenario.{Scenario}
+use Rattle.board_model.specs.Board.{DomainJournal}
 use Rattle.board_model.specs.Headline.{Headline}
+use Rattle.board_model.specs.Report.{Mode}
 use Rattle.report_text.specs.declared.verdict.CheckReason.{CheckReason}
 use Rattle.report_text.specs.declared.verdict.CheckReason.TheVariants.{Text, Step, Script, Link, Total}
 use Rattle.report_text.specs.declared.verdict.Verdict.{Verdict}
 use Rattle.report_text.specs.declared.verdict.Verdict.TheVariants.{Right, Wrong}
-use Rattle.report_text.specs.RightRuns.{TellsBoardRun, journals_due}
-use Rattle.report_text.specs.ScenarioPart.{Told}
-use Rattle.report_text.specs.TextPass.{told_by_text}
 use Rattle.report_text.specs.Verdicts.{verdict_on}
+use Rattle.report_laws.specs.RunReports.{IsRunReport}
 use Rattle.scenario_cli.specs.WrongText.{wrong_line}
 
 abbrev pub check_reason_text : CheckReason → List ℕ
@@ -36,9 +37,10 @@ HasNoWrongLine report = verdict_on report ≡ Right
 abbrev pub HasWrongLine : List ℕ → WrongLine → Type 0
 HasWrongLine report w = verdict_on report ≡ Wrong w.0 w.1
 
--- the journals of the report are those of a whole run of the board that it names, and the headline holds of them
+-- the report is that of a whole run of the board that it names, and the headline holds of the run's journals
 pub record IsOfRun (report : List ℕ) : Type 0 where
-  pub told : Told
-  pub read : told_by_text report ≡ Ok told
-  pub run : TellsBoardRun told
-  pub headline : Headline told.scenario (journals_due told)
+  pub mode : Mode
+  pub scenario : Scenario
+  pub journals : List DomainJournal
+  pub run : IsRunReport mode scenario journals report
+  pub headline : Headline scenario journals

@@ -29,6 +29,7 @@ pub fn tell_report<K: Sink>(alloc: Global, report: &[u8], output: &mut K) -> u8
     ensures no_fault { result ≢ 5 → K.faults output.new ≡ K.faults output.old }
     ensures faults { K.faults output.old ≤ K.faults output.new }
     ensures sound { HasNoWrongLine report.now → result ≢ 1 }
+    ensures of_run { IsOfRun report.now → result ≢ 1 }
     ensures unsound { (w : WrongLine) → HasWrongLine report.now w → result ≢ 0 }
     ensures room { (n : ℕ) → length (verdict_line (verdict_on report.now)) ≤ n → K.takes output.old n → result ≢ 5 }
 {

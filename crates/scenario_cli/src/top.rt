@@ -8,7 +8,7 @@ ghost use Rattle.scenario_cli.specs.declared.form.Form.TheVariants.{Run, SerialR
 ghost use Rattle.scenario_cli.specs.Words.{words_of, IsForm, run_in, IsNoForm, IsOneOfForms, usage_text, IsOneOf};
 ghost use Rattle.scenario_cli.specs.LoadText.{IsLoad};
 ghost use Rattle.scenario_cli.specs.Loading.{Loads};
-ghost use Rattle.scenario_cli.specs.Due.{Reports, Refuses, IsRight, IsWrong, IsRightReport, TellsRun, IsWrongReport, IsRightImage, IsWrongImage, BreaksOff, IsTooLong, IfScenario, IfNoScenario, IfRightReport, IfWrongReport, IfSoundFrame, IfNoSoundFrame, IfSoundImage, IfNoSoundImage, IfTooLong, DueFits};
+ghost use Rattle.scenario_cli.specs.Due.{Reports, Refuses, IsRight, IsWrong, IsRightReport, TellsRun, IsWrongReport, IsRightImage, IsWrongImage, BreaksOff, IsTooLong, IfScenario, IfNoScenario, IfRightReport, IfReportOfRun, IfWrongReport, IfSoundFrame, IfNoSoundFrame, IfSoundImage, IfNoSoundImage, IfTooLong, DueFits};
 
 use crate::form::{Form, form_of};
 use crate::frame::tell_frame;
@@ -50,7 +50,7 @@ pub fn mcrun<T: Threads + Sync, S: Source, K: Sink>(
     // 0 of a run: the report of journals that are a whole run of the board that was read, and of which the headline holds.
     ensures headline { (mode : Mode) → IsForm (run_in mode) (words_of words.now) → result ≡ 0 → Reports mode (S.rest input.old) (K.written output.old) (K.written output.new) }
 
-    // 0 of a report that is read: it is right. So it tells a whole run of its board, of which the headline holds.
+    // 0 of a report that is read: it is right. So it is the report of a whole run of its board, of which the headline holds.
     ensures right_report { IsForm Check (words_of words.now) → result ≡ 0 → IsRightReport (S.rest input.old) (K.written output.old) (K.written output.new) }
     ensures checked { IsForm Check (words_of words.now) → result ≡ 0 → TellsRun (S.rest input.old) }
 
@@ -105,6 +105,7 @@ pub fn mcrun<T: Threads + Sync, S: Source, K: Sink>(
     ensures scenario { (mode : Mode) → IsForm (run_in mode) (words_of words.now) → IfScenario (S.rest input.old) (IsOneOf (0 ∷ 4 ∷ 5 ∷ 6 ∷ []) result) }
     ensures no_scenario { (mode : Mode) → IsForm (run_in mode) (words_of words.now) → IfNoScenario (S.rest input.old) (IsOneOf (3 ∷ 4 ∷ 5 ∷ 6 ∷ []) result) }
     ensures sound_report { IsForm Check (words_of words.now) → IfRightReport (S.rest input.old) (IsOneOf (0 ∷ 4 ∷ 5 ∷ 6 ∷ []) result) }
+    ensures report_of_run { IsForm Check (words_of words.now) → IfReportOfRun (S.rest input.old) (IsOneOf (0 ∷ 4 ∷ 5 ∷ 6 ∷ []) result) }
     ensures unsound_report { IsForm Check (words_of words.now) → IfWrongReport (S.rest input.old) (IsOneOf (1 ∷ 4 ∷ 5 ∷ 6 ∷ []) result) }
     ensures sound_frame { IsForm Frame (words_of words.now) → IfSoundFrame (S.rest input.old) (IsOneOf (0 ∷ 4 ∷ 5 ∷ 6 ∷ []) result) }
     ensures unsound_frame { IsForm Frame (words_of words.now) → IfNoSoundFrame (S.rest input.old) (IsOneOf (1 ∷ 4 ∷ 5 ∷ 6 ∷ []) result) }

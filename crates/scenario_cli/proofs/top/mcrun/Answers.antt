@@ -13,7 +13,7 @@ use Rattle.scenario_cli.specs.FrameText.{TellsRight, TellsWrong}
 use Rattle.scenario_cli.specs.ImageText.{IsImage, IsNoImage, image_line, image_fault_line}
 use Rattle.scenario_cli.specs.Due.{IsDue, IsReport}
 use Rattle.scenario_cli.proofs.WordLemmas.{one_form, one_mode, run_no_check, run_no_frame, run_no_ring}
-use Rattle.scenario_cli.proofs.Inputs.{if_text, if_scenario, if_no_scenario, if_right, if_wrong, if_sound, if_unsound, if_image, if_no_image, due_fits, none_over, all_over}
+use Rattle.scenario_cli.proofs.Inputs.{if_text, if_scenario, if_no_scenario, if_right, if_of_run, if_wrong, if_sound, if_unsound, if_image, if_no_image, due_fits, none_over, all_over}
 use Rattle.scenario_cli.proofs.LoadWords.{form_no_load, unread_statuses, unread_not}
 use Rattle.scenario_cli.proofs.Statuses.{not_three, not_zero, not_one, one_left, or_no_memory}
 use Rattle.scenario_cli.proofs.top.mcrun.Goals as goal
@@ -35,6 +35,9 @@ returns-in_default-clause-wrong_report g c = λ form is. absurd (c.in_default.en
 
 pub returns-in_default-clause-sound_report : goal.returns-in_default-clause-sound_report
 returns-in_default-clause-sound_report g c = λ form. absurd (c.in_default.ensures.none refl Check form)
+
+pub returns-in_default-clause-report_of_run : goal.returns-in_default-clause-report_of_run
+returns-in_default-clause-report_of_run g c = λ form. absurd (c.in_default.ensures.none refl Check form)
 
 pub returns-in_default-clause-unsound_report : goal.returns-in_default-clause-unsound_report
 returns-in_default-clause-unsound_report g c = λ form. absurd (c.in_default.ensures.none refl Check form)
@@ -143,6 +146,10 @@ returns-in-Check-clause-breaks_off g c = λ f form is.
 pub returns-in-Check-clause-sound_report : goal.returns-in-Check-clause-sound_report
 returns-in-Check-clause-sound_report g c = λ form.
     if_right _ _ _ _ (rw (← c.deref-in-Check.ensures.value) at c.in-Ok.ensures.bytes) c.in-Ok.ensures.end (λ right. not_one c.tell_report.result c.tell_report.ensures.status (c.tell_report.ensures.sound right))
+
+pub returns-in-Check-clause-report_of_run : goal.returns-in-Check-clause-report_of_run
+returns-in-Check-clause-report_of_run g c = λ form.
+    if_of_run _ _ _ _ (rw (← c.deref-in-Check.ensures.value) at c.in-Ok.ensures.bytes) c.in-Ok.ensures.end (λ of. not_one c.tell_report.result c.tell_report.ensures.status (c.tell_report.ensures.of_run of))
 
 pub returns-in-Check-clause-unsound_report : goal.returns-in-Check-clause-unsound_report
 returns-in-Check-clause-unsound_report g c = λ form.
