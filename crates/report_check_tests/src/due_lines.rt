@@ -1,5 +1,5 @@
 use mc_base::Fate;
-use mc_journal::Entry;
+use mc_journal::{Answer, Entry};
 use report_check::DueLines;
 use std::process::Abort;
 use std::test::Fail;
@@ -39,5 +39,31 @@ fn no_line_is_met_behind_the_last(rt: HostRuntime) -> Result<(), Fail> {
     assert!(rt; lines.meets(Entry::Turn)?);
     assert!(rt; !lines.meets(Entry::Back { peer: 1, count: 2 })?);
     assert!(rt; lines.place() == 1);
+    Ok(())
+}
+
+#[test]
+fn a_line_is_met_by_each_entry_with_its_text(rt: HostRuntime) -> Result<(), Fail> {
+    let text = b"call 1 ok 1 22\n";
+    let mut bytes = DueLines::new(rt.alloc(), text, 1);
+    assert!(rt;
+        bytes.meets(Entry::Called {
+            number: 1,
+            answer: Answer::Bytes {
+                size: 1,
+                bytes: &[0x22]
+            }
+        })?
+    );
+    let mut channel = DueLines::new(rt.alloc(), text, 1);
+    assert!(rt;
+        channel.meets(Entry::Called {
+            number: 1,
+            answer: Answer::Channel {
+                request: 1,
+                channel: 22
+            }
+        })?
+    );
     Ok(())
 }

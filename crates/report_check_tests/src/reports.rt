@@ -1,5 +1,9 @@
 //! Reports of serial runs, and of runs that no serial run could be.
 
+mod threads;
+
+pub use threads::{OUT_OF_ORDER, OWN_OUT_OF_ORDER, RINGS, TAKEN_BEFORE_IT_IS_PUT};
+
 /// One domain sends itself a message.
 pub const MESSAGE: &[u8] = b"mcapi-report 1 serial
 domain 0 nodes 1 pool 2
@@ -451,21 +455,6 @@ lane 5 5 free 1 ring 0 queue 0 lent 0
 end
 ";
 
-/// A domain takes its frame in the turn before the call that puts it: there is no time on a lane.
-pub const TAKEN_BEFORE_IT_IS_PUT: &[u8] = b"mcapi-report 1 threads
-domain 0 nodes 1 pool 1
-0.0 raw 0 00
-journal 0
-turn
-see 0 1
-take 0 00 frame_short
-put 0 00
-call 1 ok
-messages accepted 0 taken 0 dropped 0 queued 0 ring 0
-lane 0 0 free 1 ring 0 queue 0 lent 0
-end
-";
-
 /// Each of two domains takes the other's frame before it puts its own.
 pub const EACH_AFTER_THE_OTHER: &[u8] = b"mcapi-report 1 serial
 domain 0 nodes 1 pool 1
@@ -490,161 +479,5 @@ lane 0 0 free 1 ring 0 queue 0 lent 0
 lane 0 1 free 2 ring 0 queue 0 lent 0
 lane 1 0 free 2 ring 0 queue 0 lent 0
 lane 1 1 free 1 ring 0 queue 0 lent 0
-end
-";
-
-/// Three domains on threads, with two links and no calls.
-pub const RINGS: &[u8] = b"mcapi-report 1 threads
-domain 0 nodes 1 pool 2
-domain 1 nodes 1 pool 2
-domain 3 nodes 1 pool 2
-link 3 0 size 2
-link 1 3 size 2
-journal 0
-journal 1
-journal 3
-messages accepted 0 taken 0 dropped 0 queued 0 ring 0
-lane 0 0 free 2 ring 0 queue 0 lent 0
-lane 0 3 free 2 ring 0 queue 0 lent 0
-lane 1 1 free 2 ring 0 queue 0 lent 0
-lane 1 3 free 2 ring 0 queue 0 lent 0
-lane 3 0 free 2 ring 0 queue 0 lent 0
-lane 3 1 free 2 ring 0 queue 0 lent 0
-lane 3 3 free 2 ring 0 queue 0 lent 0
-ring 3 0 0 000000000000000000020000020000000002000000000000000200000200000000000200000001000000000000000000000000000000000000000000000000000000
-ring 3 0 1 000400000000000000000000000000000006000000000000000000000000000000000000000000000000000000000000000000000000000000000000000000000000
-ring 1 3 0 000000000000000000020000020000000002000000000000000200000200000000000200000001000000000000000000000000000000000000000000000000000000
-ring 1 3 1 000400000000000000000000000000000006000000000000000000000000000000000000000000000000000000000000000000000000000000000000000000000000
-end
-";
-
-/// Two domains on threads. The second gives buffers back in another order than the one in which their frames were put.
-pub const OUT_OF_ORDER: &[u8] = b"mcapi-report 1 threads
-domain 0 nodes 1 pool 2
-domain 1 nodes 1 pool 2
-link 0 1 size 4
-0.0 create 1
-1.0 create 2
-1.0 create 3
-0.0 a = lookup 1:0:3
-0.0 wait a 100000
-0.0 b = lookup 1:0:2
-0.0 wait b 100000
-0.0 try 100000 msg_send 1 1:0:2 2 aa
-0.0 try 100000 msg_send 1 1:0:2 0 bbbb
-0.0 try 100000 msg_send 1 1:0:3 1 cccccc
-1.0 try 100000 msg_recv 3 100
-1.0 try 100000 msg_recv 2 100
-1.0 try 100000 msg_recv 2 100
-0.0 try 100000 msg_send 1 1:0:2 2 dddddddd
-1.0 try 100000 msg_recv 2 100
-0.0 turn
-journal 0
-idle 1
-call 1 ok 1024
-turn
-put 1 000400003500000000000000280000006d636170693a303a303a310000000000000000000000000000000000000000000004000000000000
-see 1 2
-take 1 000400003500000000000000280000006d636170693a313a303a320000000000000000000000000000000000000000000004000000000000 acted
-take 1 010400003500000000000000280000006d636170693a313a303a330000000000000000000000000000000000000000000104000000000000 acted
-call 2 ok 0
-call 3 done 1025
-turn
-back 1 1
-call 4 ok 1
-call 5 done 1024
-idle 1
-put 1 000400000004000000000000090000004d01010200000000aa
-call 6 ok
-idle 1
-put 1 0004000000040000000000000a0000004d01010000000000bbbb
-call 7 ok
-idle 1
-put 1 0004000001040000000000000b0000004d01010100000000cccccc
-call 8 ok
-idle 1
-put 1 0004000000040000000000000c0000004d01010200000000dddddddd
-call 9 ok
-idle 1
-call 10 ok
-journal 1
-idle 1
-call 1 ok 1024
-turn
-put 0 000400003500000000000000280000006d636170693a313a303a320000000000000000000000000000000000000000000004000000000000
-call 2 ok 1025
-turn
-put 0 010400003500000000000000280000006d636170693a313a303a330000000000000000000000000000000000000000000104000000000000
-again empty
-spin 7688 empty
-turn
-see 0 1
-take 0 000400003500000000000000280000006d636170693a303a303a310000000000000000000000000000000000000000000004000000000000 acted
-again empty
-turn
-back 0 1
-again empty
-spin 5 empty
-turn
-back 0 1
-again empty
-spin 55 empty
-turn
-see 0 1
-take 0 000400000004000000000000090000004d01010200000000aa queued
-again empty
-turn
-see 0 3
-take 0 0004000000040000000000000a0000004d01010000000000bbbb queued
-take 0 0004000001040000000000000b0000004d01010100000000cccccc queued
-take 0 0004000000040000000000000c0000004d01010200000000dddddddd queued
-call 3 ok 3 cccccc
-idle 1
-call 4 ok 2 bbbb
-idle 1
-call 5 ok 1 aa
-idle 1
-call 6 ok 4 dddddddd
-messages accepted 4 taken 4 dropped 0 queued 0 ring 0
-lane 0 0 free 2 ring 0 queue 0 lent 0
-lane 0 1 free 4 ring 0 queue 0 lent 0
-lane 1 0 free 4 ring 0 queue 0 lent 0
-lane 1 1 free 2 ring 0 queue 0 lent 0
-ring 0 1 0 00000000000000000002000002000000000200000000000000020000020000000004000000000000000200000200000000060000000000000002000002000000000006000000010002000300000000000000020000000000380000000100000038000000000000000000000000000000000000000000
-ring 0 1 1 00080000000000001c00000000000000000a0000000000001900000000000000000c0000000000001a00000000000000000e0000000000001b00000000000000000005000000010002000300000000000000050000000000000000000300000000000000020000000000000001000000000000000000
-end
-";
-
-/// One domain on a thread of its own. It receives the second of two messages to itself first.
-pub const OWN_OUT_OF_ORDER: &[u8] = b"mcapi-report 1 threads
-domain 0 nodes 1 pool 2
-0.0 create 1
-0.0 create 2
-0.0 msg_send 1 0:0:2 2 aa
-0.0 msg_send 1 0:0:2 0 bb
-0.0 msg_recv 2 488
-0.0 msg_recv 2 488
-journal 0
-idle 1
-call 1 ok 1024
-idle 1
-call 2 ok 1025
-idle 1
-put 0 000400000104000000000000090000004d01010200000000aa
-call 3 ok
-turn
-see 0 1
-take 0 000400000104000000000000090000004d01010200000000aa queued
-put 0 000400000104000000000000090000004d01010000000000bb
-call 4 ok
-turn
-see 0 1
-take 0 000400000104000000000000090000004d01010000000000bb queued
-call 5 ok 1 bb
-turn
-back 0 1
-call 6 ok 1 aa
-messages accepted 2 taken 2 dropped 0 queued 0 ring 0
-lane 0 0 free 2 ring 0 queue 0 lent 0
 end
 ";

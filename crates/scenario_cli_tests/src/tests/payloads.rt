@@ -1,5 +1,5 @@
-use crate::tests::comes_out;
 use crate::tests::frame::frame;
+use crate::tests::{comes_out, ends_with, serial};
 use std::alloc::{AllocError, Global};
 use std::process::Abort;
 use std::test::Fail;
@@ -401,5 +401,37 @@ fn longest_frames(rt: HostRuntime) -> Result<(), Fail> {
     for (i, row) in LONGEST_FRAMES.iter().enumerate() {
         assert!(rt; is_frame_told(&rt, rt.alloc(), *row)?, "row {i}");
     }
+    Ok(())
+}
+
+/// A scenario that sends a message of this many bytes.
+fn message_of(alloc: Global, size: usize) -> Result<Vec<u8>, AllocError> {
+    let mut text = Vec::from_slice(
+        alloc,
+        b"domain 0 nodes 1 pool 1\n0.0 create 0\n0.0 msg_send 0 0:0:0 1 ",
+    )?;
+    for _ in 0..size {
+        text.extend_from_slice(b"00")?;
+    }
+    text.push(b'\n')?;
+    Ok(text)
+}
+
+/// The end of the report of a message that fits no frame.
+const TOO_LONG_A_MESSAGE: &[u8] = b"
+idle 1
+call 2 msg_size
+messages accepted 0 taken 0 dropped 0 queued 0 ring 0
+lane 0 0 free 1 ring 0 queue 0 lent 0
+end
+";
+
+/// A message of 9,000 bytes is a scenario's, though it fits no frame; one of 9,001 is in none.
+#[test]
+fn longest_message(rt: HostRuntime) -> Result<(), Fail> {
+    let alloc = rt.alloc();
+    assert!(rt; ends_with(&rt, alloc, &message_of(alloc, 9000)?, TOO_LONG_A_MESSAGE)?);
+    let longer = message_of(alloc, 9001)?;
+    assert!(rt; comes_out(&rt, alloc, serial(&longer), 3, b"refused 3 bytes\n")?);
     Ok(())
 }
