@@ -9,7 +9,7 @@ use std::process::ExitCode;
 use std::rt::Env;
 use std::{env, io};
 
-/// The status at want of memory for the words.
+/// The status where memory for the words is out.
 const NO_MEMORY: u8 = 6;
 
 fn main(rt: HostRuntime) -> ExitCode {
@@ -21,7 +21,7 @@ fn main(rt: HostRuntime) -> ExitCode {
     ExitCode::from(mcrun(&rt, rt.alloc(), &words, &mut input, &mut output))
 }
 
-/// The words after the program's name, or `None` at want of memory. An argument that is no text is none of the words of
+/// The words after the program's name, or `None` where memory is out. An argument that is no text is none of the words of
 /// any form, so then there are no words.
 fn words<R: Env + AllocGlobal>(rt: &R, alloc: Global) -> Option<Vec<String>> {
     match env::args(rt) {

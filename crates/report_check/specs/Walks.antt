@@ -9,6 +9,7 @@ use Rattle.report_text.specs.declared.pass.ReportText.{ReportText}
 use Rattle.report_text.specs.declared.verdict.Verdict.{Verdict}
 use Rattle.report_text.specs.JournalRead.{JournalText, journals_at, behind_journals}
 use Rattle.report_text.specs.LaneLeft.{AreShort, AreTold}
+use Rattle.report_text.specs.LinkPass.{wrong_among}
 use Rattle.report_text.specs.ScenarioPart.{Rest, rest, Told}
 use Rattle.report_text.specs.StepPass.{wrong_step, unfinished}
 use Rattle.report_text.specs.TextLines.{lines_in}
@@ -52,6 +53,10 @@ pub record AreAllWalked (t : Told) (w : Walks) : Type 0 where
   pub right : AreRight t.scenario (journals_at (rising t.scenario) t.behind)
   pub walked : AreWalked t.scenario (journals_at (rising t.scenario) t.behind) w
   pub left : left_of w ≡ behind_journals (rising t.scenario) t.behind
+
+-- the first line that the third pass finds wrong
+abbrev pub wrong_link_of : Told → Option ℕ
+wrong_link_of t = wrong_among t.scenario (journals_at (rising t.scenario) t.behind) (journals_at (rising t.scenario) t.behind)
 
 -- the first line that the fourth pass finds wrong
 abbrev pub wrong_total_of : Told → Option ℕ

@@ -12,7 +12,7 @@ ghost use Rattle.report_text.specs.Verdicts.{by_told, verdict_on};
 ghost use Rattle.report_totals.specs.PassedReports.{IsPassed};
 ghost use Rattle.report_totals.specs.WholeLines.{AreWholeLines};
 ghost use Rattle.report_rings.specs.ToldRings.{texts_of};
-ghost use Rattle.report_check.specs.Walks.{AreAllWalked, AreReady, IsTextOf, wrong_total_of};
+ghost use Rattle.report_check.specs.Walks.{AreAllWalked, AreReady, IsTextOf, wrong_link_of, wrong_total_of};
 
 use crate::given::note_given;
 use crate::walks::Walks;
@@ -20,8 +20,8 @@ use board_model::Scenario;
 use mc_base::NoMemory;
 use report_rings::ring_lines;
 use report_text::{
-    CheckReason, Mode, ReportText, TextFault, Verdict, longest_line, read_text, rising_domains,
-    wrong_lanes,
+    CheckReason, Mode, ReportText, TextFault, Verdict, lanes_of, longest_line, read_text,
+    rising_domains, wrong_lanes,
 };
 use report_totals::{NumbersText, wrong_number};
 use std::alloc::Global;
@@ -82,9 +82,7 @@ fn check_walked(
     requires ready { AreReady (length room.old) (2 ^ 32 - 1) walks.now }
     ensures { IfOk result (λ verdict. verdict ≡ verdict_on _report.now) }
 {
-    let mut given = [[0; 8]; 8];
-    note_given(&walks.journals, &walks.states, &mut given, room);
-    if let Some(line) = wrong_lanes(alloc, &walks.journals, &given)? {
+    if let Some(line) = wrong_link(alloc, _report, told, walks, room)? {
         return Ok(Verdict::Wrong {
             line,
             reason: CheckReason::Link,
@@ -97,6 +95,25 @@ fn check_walked(
         }),
         None => Ok(Verdict::Right),
     }
+}
+
+/// The third pass: the number of the first line that does not fit what the domain at the other end of its lane did.
+fn wrong_link(
+    alloc: Global,
+    _report: &[u8],
+    told: &ReportText<'_>,
+    walks: &Walks<'_>,
+    room: &mut [u8],
+) -> Result<Option<u32>, NoMemory>
+    requires text { IsTextOf _report.now told.now }
+    requires walked { AreAllWalked (told_of told.now) walks.now }
+    requires ready { AreReady (length room.old) (2 ^ 32 - 1) walks.now }
+    ensures { IfOk result (λ line. line ≡ wrong_link_of (told_of told.now)) }
+{
+    let journals = lanes_of(alloc, &walks.journals, room)?;
+    let mut given = [[0; 8]; 8];
+    note_given(&journals, &walks.states, &mut given);
+    wrong_lanes(alloc, &journals, &given, room)
 }
 
 /// The fourth pass: the number of the first line that the journals do not come to. That is a line by which a buffer came back before its frame was

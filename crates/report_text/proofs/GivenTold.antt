@@ -1,5 +1,5 @@
 -- In a journal in which each step is right, what was taken from a peer is held at the end or was given back.
-use Rattle.std.proofs.Common.{◌≡◌, ℕ, ◌+◌, Bool, true, false, cond, List, [], ◌∷◌, ◌++◌, length, map, sum_by, Some, None, refl, sym, ap, ◌∙◌, arith, length-append}
+use Rattle.std.proofs.Common.{◌≡◌, ℕ, ◌+◌, Bool, true, false, cond, List, [], ◌∷◌, length, sum_by, Some, None, refl, ap, ◌∙◌, arith, length-append}
 use Rattle.std.specs.Prelude.{◌==◌}
 use Rattle.std.specs.List.{flat_map}
 use Rattle.std.proofs.lemmas.List.{length-map}
@@ -9,19 +9,17 @@ use Rattle.board_model.specs.declared.scenario.Scenario.{Scenario}
 use Rattle.board_model.specs.Scenario.{script}
 use Rattle.board_model.specs.LinkedBoard.{IsLinkedBoard}
 use Rattle.board_model.specs.Journal.{PlainEntry}
-use Rattle.board_model.specs.JournalParts.{part_entries}
 use Rattle.board_model.specs.State.{free_to, held_from}
-use Rattle.board_model.specs.Traffic.{takes_from, given}
+use Rattle.board_model.specs.Traffic.{takes_from}
 use Rattle.board_model.specs.Step.{RunState}
-use Rattle.board_model.specs.Unjoined.{peers_of}
 use Rattle.board_model.specs.Run.{start, after_all, left_by}
 use Rattle.board_model.specs.Board.{given_by}
 use Rattle.board_model.proofs.LaneRuns.{sums_run}
 use Rattle.report_text.specs.JournalRead.{JournalText, lines_of_texts}
 use Rattle.report_text.specs.LaneLines.{LaneLine, came_back, puts, shows, takes, nothing, lane_lines, taken_in}
-use Rattle.report_text.specs.StepPass.{parts_of, wrong_step, left_behind}
+use Rattle.report_text.specs.StepPass.{wrong_step, left_behind}
 use Rattle.report_text.specs.LinkPass.{journal_told}
-use Rattle.report_text.specs.RightRuns.{with_answers, journal_due}
+use Rattle.report_text.specs.RightRuns.{journal_due}
 use Rattle.report_text.proofs.RunsTold.{IsRight, after-answers, run-told}
 use Rattle.report_text.proofs.EntriesTold.{unjoined-is}
 use Rattle.report_text.proofs.LanesTold.{frame_in}

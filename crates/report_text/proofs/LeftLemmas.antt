@@ -1,5 +1,5 @@
 -- What is left of the lanes to a domain after one more line of its journal, and which line fits what is left.
-use Rattle.std.proofs.Common.{◌≡◌, ◌≢◌, ℕ, ◌+◌, ◌-◌, ◌<◌, ◌≤◌, Bool, true, false, cond, List, [], ◌∷◌, ◌++◌, length, map, drop, take, Option, Some, None, refl, sym, ap, ◌∙◌, subst, arith, zero, suc, drop-drop, length-drop}
+use Rattle.std.proofs.Common.{◌≡◌, ◌≢◌, ℕ, ◌+◌, ◌-◌, ◌<◌, ◌≤◌, Bool, true, false, cond, List, [], ◌∷◌, ◌++◌, length, map, drop, take, Option, Some, None, refl, sym, ap, ap₂, ◌∙◌, subst, arith, zero, suc, drop-drop, length-drop}
 use Rattle.std.specs.Prelude.{find, nat_le, slice_get, slice_set, ◌==◌}
 use Rattle.std.specs.List.{flat_map}
 use Rattle.std.proofs.lemmas.Bool.{eqb-true, eqb-false, ne_eqb, eq-eqb}
@@ -10,10 +10,11 @@ use Rattle.board_model.specs.declared.scenario.Scenario.{Scenario}
 use Rattle.board_model.specs.Board.{DomainJournal, given_by}
 use Rattle.report_text.specs.declared.link_pass.Left.{Left}
 use Rattle.report_text.specs.JournalRead.{JournalText}
-use Rattle.report_text.specs.LaneLines.{LaneLine, came_back, puts, shows, takes, nothing, back_in, put_in, taken_in, lanes_told}
+use Rattle.report_text.specs.LaneLines.{LaneLine, came_back, puts, shows, takes, nothing, back_in, put_in, taken_in}
 use Rattle.report_text.specs.LinkPass.{journal_told, gives_back, lanes_in, frames_put, taken_before, back_before, is_frame, fits}
 use Rattle.report_text.specs.Texts.{longest_line}
-use Rattle.report_text.specs.LaneLeft.{left_of, puts_told, IsTaken, TakesNext, IsLeft, AreLeft, HasFew, HasCome, ComesBack, Changes, IsReady, AreReady}
+use Rattle.report_text.specs.JournalLanes.{frames_at}
+use Rattle.report_text.specs.LaneLeft.{left_of, IsTaken, TakesNext, IsLeft, AreLeft, HasFew, HasCome, ComesBack, Changes, IsReady, AreReady}
 
 -- ---- lists
 
@@ -97,7 +98,7 @@ module _ (s : Scenario) (js : List JournalText) (to : ℕ) (before : List LaneLi
       record {
         frames = is.frames ∙ sym (ap (λ n. drop n (frames_put js q to)) same);
         few = omega (arith, is.few, same);
-        puts = is.puts;
+        count = is.count;
         given = omega (arith, is.given, back-more q before line, back);
       }
 
@@ -144,7 +145,7 @@ module _ (s : Scenario) (js : List JournalText) (to : ℕ) (before : List LaneLi
         (record {
           frames = took.frames ∙ ap (drop 1) is.frames ∙ drop-more (taken_before p before) (frames_put js p to) ∙ sym (ap (λ n. drop n (frames_put js p to)) more);
           few = omega (arith, more, below);
-          puts = took.count;
+          count = took.count;
           given = omega (arith, is.given, took.given, back-more p before (takes p frame));
         })
       where
@@ -167,7 +168,7 @@ module _ (s : Scenario) (js : List JournalText) (to : ℕ) (before : List LaneLi
         (record {
           frames = same ∙ is.frames ∙ sym (ap (λ n. drop n (frames_put js p to)) kept);
           few = omega (arith, is.few, kept);
-          puts = came.puts ∙ is.puts ∙ ap length (sym same);
+          count = came.count ∙ is.count ∙ ap length (sym same);
           given = omega (arith, is.given, came.given, back-more p before (came_back p n), itself);
         })
       where
@@ -175,7 +176,7 @@ module _ (s : Scenario) (js : List JournalText) (to : ℕ) (before : List LaneLi
         is = left.each p old at
 
         same : left_of to new ≡ left_of to old
-        same = ap (λ (t : _). flat_map (put_in to) (lanes_told t.now)) came.text
+        same = ap₂ (λ (t : _) (ls : _). frames_at to t.now ls.now) came.text came.puts
 
         kept : taken_before p (before ++ came_back p n ∷ []) ≡ taken_before p before
         kept = omega (arith, taken-more p before (came_back p n))
@@ -217,10 +218,10 @@ module _ (s : Scenario) (js : List JournalText) (to : ℕ) (before : List LaneLi
             by true e = subst P (eqb-true p q e) at-p
             by false e = others q (λ same. eqb-false p q e (sym same))
 
-    pub shows-fits : (p n : ℕ) (l : Left) → slice_get ls p ≡ Some l → nat_le n l.puts ≡ fits s js to before (shows p n)
+    pub shows-fits : (p n : ℕ) (l : Left) → slice_get ls p ≡ Some l → nat_le n l.count ≡ fits s js to before (shows p n)
     shows-fits p n l at =
         let is : IsLeft s js to before p l = left.each p l at in
-        let count : l.puts ≡ length (frames_put js p to) - taken_before p before = is.puts ∙ ap length is.frames ∙ length-drop (taken_before p before) (frames_put js p to) in
+        let count : l.count ≡ length (frames_put js p to) - taken_before p before = is.count ∙ ap length is.frames ∙ length-drop (taken_before p before) (frames_put js p to) in
         let few = is.few in
         grind (arith, nat_tests)
 
@@ -281,7 +282,7 @@ pub take-ready : (room to p : ℕ) (frame : List ℕ) (ls ls' : List Left) (old 
 take-ready room to p frame ls ls' old None is at ready took changes so = absurd (not-both is so changes.0)
 take-ready room to p frame ls ls' old (Some new) is at ready took changes so =
     let was : IsReady room to old = ready p old at in
-    subst (λ (xs : List Left). AreReady room to xs) (sym changes.1) (ready-set room to ls p old new at ready (record { line = omega (arith, was.line, took.short); count = took.count }))
+    subst (λ (xs : List Left). AreReady room to xs) (sym changes.1) (ready-set room to ls p old new at ready (record { line = subst (λ (t : _). longest_line t.now ≤ room) (sym took.text) was.line; count = took.count }))
 
 pub back-ready : (room to p n : ℕ) (ls ls' : List Left) (old : Left) (o : Option Left) (is : Bool) → slice_get ls p ≡ Some old → AreReady room to ls → ComesBack n old o → Changes p o ls ls' is → is ≡ true → AreReady room to ls'
 back-ready room to p n ls ls' old None is at ready came changes so = absurd (not-both is so changes.0)
@@ -290,5 +291,5 @@ back-ready room to p n ls ls' old (Some new) is at ready came changes so =
     subst (λ (xs : List Left). AreReady room to xs) (sym changes.1)
     (ready-set room to ls p old new at ready (record {
       line = subst (λ (t : _). longest_line t.now ≤ room) (sym came.text) was.line;
-      count = came.puts ∙ was.count ∙ ap (λ (t : _). length (puts_told to t.now)) (sym came.text);
+      count = came.count ∙ was.count ∙ ap₂ (λ (t : _) (ls : _). length (frames_at to t.now ls.now)) (sym came.text) (sym came.puts);
     }))

@@ -5,6 +5,7 @@ pub mod PlacesAnswered
 pub mod CallsDue
 pub mod EntriesTold
 pub mod EntryLines
+pub mod JournalLaneLemmas
 pub mod JournalSteps
 pub mod LaneLemmas
 pub mod LanesTold

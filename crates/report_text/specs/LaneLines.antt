@@ -1,6 +1,7 @@
 -- What a line of a journal says of the lane to a peer or from it.
 -- Source: docs/FORMATS.md, "Journal text".
 use Rattle.std.specs.Prelude.{ℕ, ◌==◌, List, [], ◌∷◌, map, Option, None, Some, if◌then◌else◌}
+use Rattle.std.specs.List.{flat_map}
 use Rattle.board_model.specs.Journal.{Line, back_line, put_line, see_line, take_line}
 use Rattle.report_text.specs.TextLines.{lines_in}
 use Rattle.report_text.specs.JournalRead.{JournalText, lines_of_texts, told_texts}
@@ -49,3 +50,7 @@ lanes_told text = lanes_of (told_texts (lines_in text))
 abbrev pub lanes_front : Option (LaneLine × List ℕ) → List LaneLine
 lanes_front None = []
 lanes_front (Some x) = x.0 ∷ lanes_told x.1
+
+-- the frames that the journal at the front of a text puts to a domain
+abbrev pub puts_told : ℕ → List ℕ → List (List ℕ)
+puts_told to text = flat_map (put_in to) (lanes_told text)

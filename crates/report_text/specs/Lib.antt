@@ -15,6 +15,7 @@ pub mod JournalRead
 pub mod StepPass
 pub mod LaneLines
 pub mod LinkPass
+pub mod JournalLanes
 pub mod LaneLeft
 pub mod RingPass
 pub mod TotalPass

@@ -1,6 +1,6 @@
 //! The lines of a journal in a text, as entries.
 
-ghost use Rattle.std.specs.Prelude.{◌≡◌, ◌+◌, ◌<◌, ◌≤◌, IfSome, option_map, length};
+ghost use Rattle.std.specs.Prelude.{◌≡◌, ◌+◌, ◌-◌, ◌<◌, ◌≤◌, IfSome, drop, option_map, length};
 ghost use Rattle.mc_journal.specs.Entry.{line_of_entry};
 ghost use Rattle.report_text.specs.CountedLines.{counted_front, counted_line, lines_counted};
 ghost use Rattle.report_text.specs.LaneLines.{lane_of, lanes_front, lanes_told};
@@ -17,6 +17,7 @@ pub fn next_entry<'a, 'r>(text: &'a [u8], room: &'r mut [u8]) -> Option<(Entry<'
     ensures lanes { lanes_told text.now ≡ lanes_front (option_map (λ x. (lane_of (line_of_entry x.0), x.1.now)) result) }
     ensures shorter { IfSome result (λ x. length x.1.now < length text.now) }
     ensures fits { IfSome result (λ x. longest_line x.1.now ≤ longest_line text.now) }
+    ensures behind { IfSome result (λ x. x.1.now ≡ drop (length text.now - length x.1.now) text.now) }
 {
     let (line, after) = cut(b'\n', text)?;
     match read_entry(line, room) {

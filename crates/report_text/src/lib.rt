@@ -6,6 +6,7 @@ mod entries;
 mod fault;
 mod joins;
 mod journal;
+mod journal_lanes;
 mod laws;
 mod lines;
 mod link_pass;
@@ -24,6 +25,7 @@ pub use board::{Numbered, neighbours_of_domain, numbers, rising_domains, script_
 pub use entries::next_entry;
 pub use fault::TextFault;
 pub use journal::puts_of_line;
+pub use journal_lanes::{JournalLanes, PutLine, lanes_of};
 pub use laws::{
     due_visits_are_allowed, idle_turns_keep, journal_examples_hold, right_numbers_are_due,
     right_reports_tell_runs, right_steps_tell_runs, verdict_examples_hold,

@@ -1,6 +1,6 @@
 //! Journals of two domains over a link of 4, and lines of the second that do not fit what the first did.
 
-use report_text::{JournalLines, wrong_lanes};
+use report_text::{JournalLines, lanes_of, longest_line, wrong_lanes};
 use std::alloc::Global;
 use std::process::Abort;
 use std::test::Fail;
@@ -62,7 +62,14 @@ fn is_found(alloc: Global, second: &[u8], back: u64, wrong: Option<u32>) -> bool
             text: second,
         },
     ];
-    match wrong_lanes(alloc, &journals, &given) {
+    let longest = longest_line(FIRST).max(longest_line(second));
+    let Ok(mut room) = vec![in alloc; 0u8; longest] else {
+        return false;
+    };
+    let Ok(lanes) = lanes_of(alloc, &journals, &mut room) else {
+        return false;
+    };
+    match wrong_lanes(alloc, &lanes, &given, &mut room) {
         Ok(line) => line == wrong,
         Err(_) => false,
     }

@@ -11,7 +11,7 @@ use Rattle.mc_journal.specs.LineForms.{line_in}
 use Rattle.mc_journal.specs.Readers.{cut_at}
 use Rattle.mc_journal.proofs.LinesRead.{line-is}
 use Rattle.report_text.specs.CountedLines.{counted_line}
-use Rattle.report_text.specs.LaneLines.{LaneLine, lane_of}
+use Rattle.report_text.specs.LaneLines.{lane_of}
 use Rattle.report_text.proofs.EntryLines.{line-fits}
 use Rattle.report_text.proofs.OutlinesRead.{counted-is, lane-is}
 use Rattle.report_text.proofs.TextCuts.{longest-cut}

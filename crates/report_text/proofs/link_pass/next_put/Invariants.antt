@@ -1,13 +1,11 @@
-use Rattle.std.proofs.Common.{◌≡◌, ◌≤◌, length}
-use Rattle.report_text.specs.LaneLeft.{puts_told}
-use Rattle.report_text.specs.Texts.{longest_line}
+use Rattle.std.proofs.Common.{◌≡◌, length}
+use Rattle.report_text.specs.JournalLanes.{frames_at}
 use Rattle.report_text.proofs.link_pass.next_put.Given as goal
 
-abbrev pub decreases-loop-entry : goal.decreases-loop-entry
-decreases-loop-entry l = length l.rest
+abbrev pub decreases-loop-rest : goal.decreases-loop-rest
+decreases-loop-rest l = length l.rest
 
-abbrev pub invariant-loop-entry : goal.invariant-loop-entry
-invariant-loop-entry l = record {
-  puts : puts_told l.to l.rest ≡ puts_told l.to l.text;
-  fits : longest_line l.rest ≤ longest_line l.text;
+abbrev pub invariant-loop-rest : goal.invariant-loop-rest
+invariant-loop-rest l = record {
+  puts : frames_at l.to l.left.text.now l.rest ≡ frames_at l.to l.left.text.now l.left.puts.now;
 }
