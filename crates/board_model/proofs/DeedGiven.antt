@@ -20,14 +20,14 @@ use Rattle.board_model.specs.Deeds.{Deed, looks_back, puts_owed, looks_ahead, ta
 use Rattle.board_model.specs.Turn.{takes_named, visit_deeds}
 use Rattle.board_model.specs.JournalDeeds.{names_from, named_deeds, call_deeds, entry_deeds, deeds_along, opened}
 use Rattle.board_model.specs.Given.{given_at_once, frames_from, names_given, places_given}
-use Rattle.board_model.proofs.DeedRuns.{unnamed}
+use Rattle.board_model.specs.Unnamed.{no_names, unnamed}
 use Rattle.board_model.proofs.ListsCounts.{one_if, count-cons, count-append}
-use Rattle.board_model.proofs.UnnamedCalls.{answer-unnamed}
 use Rattle.board_model.proofs.DeedJoins.{along-join}
 use Rattle.board_model.proofs.RunDeeds.{AllAllowed, allowed-all, left-leads}
 use Rattle.board_model.proofs.MessageAlls.{all-append}
 use Rattle.board_model.proofs.DeedHeld.{IsOne, HasName, deeds-held, returned-count, none-returned}
 use Rattle.board_model.proofs.ItemsHeld.{Held}
+use Rattle.board_model.proofs.RenamedCalls.{answer-renamed}
 
 -- how many buffers of taken frames are given back at once
 abbrev at_once : List Taken → ℕ
@@ -120,7 +120,7 @@ module _ (p : ℕ) where
     entry_given before r t (put q frame) same held allowed = refl
     entry_given before r t (again word) same held allowed =
         let line : CallLine = allowed.0 in
-        let told : refuses word ≡ answer t line.node (call_at r line) = allowed.2 ∙ (ap (λ s. answer s line.node (call_at r line)) same ∙ answer-unnamed t line.node (call_at r line)) in
+        let told : refuses word ≡ answer t line.node (call_at r line) = allowed.2 ∙ (ap (λ s. answer s line.node (call_at r line)) same ∙ answer-renamed no_names t line.node (call_at r line)) in
         ap (λ o. length (along (names_given p) t (call_deeds o r (refuses word)))) allowed.1
         ∙ ap (λ items. length (frames_from p items ++ [])) (none-returned t line.node word (call_at r line) told)
     entry_given before r t (waits k) same held allowed = refl

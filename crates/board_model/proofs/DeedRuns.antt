@@ -1,11 +1,10 @@
 -- Runs of deeds: what the laws of messages rest on. Each deed is allowed, and each frame is named by its place among those taken.
 use Rattle.std.proofs.Common.{◌≡◌, ℕ, ◌+◌, Bool, cond, List, [], ◌∷◌, ◌++◌, Some}
-use Rattle.std.specs.Prelude.{◌==◌, map}
+use Rattle.std.specs.Prelude.{◌==◌}
 use Rattle.std.specs.List.{flat_map}
 use Rattle.board_model.specs.Answer.{puts}
-use Rattle.board_model.specs.State.{Item, Endpoint, Outcome, has_item, Request, LentPacket, DomainState}
+use Rattle.board_model.specs.State.{DomainState}
 use Rattle.board_model.specs.Deeds.{Deed, puts_owed, takes, calls, AllMayDo}
-use Rattle.std.specs.Prelude.{option_map}
 
 -- how many frames deeds take from a peer
 abbrev pub taken_by : ℕ → Deed → ℕ
@@ -46,24 +45,3 @@ puts_by peer s other = []
 abbrev pub takes_by : ℕ → Deed → List (List ℕ)
 takes_by peer (takes p name frame word) = frames_if (p == peer) (frame ∷ [])
 takes_by peer other = []
-
--- ---- the state but for the names of frames
-
-abbrev pub unnamed_item : Item → Item
-unnamed_item i = record i { frames = [] }
-
-abbrev pub unnamed_end : Endpoint → Endpoint
-unnamed_end e = record e { queue = map unnamed_item e.queue }
-
-abbrev pub unnamed_outcome : Outcome → Outcome
-unnamed_outcome (has_item i) = has_item (unnamed_item i)
-unnamed_outcome other = other
-
-abbrev pub unnamed_request : Request → Request
-unnamed_request r = record r { outcome = option_map unnamed_outcome r.outcome }
-
-abbrev pub unnamed_packet : LentPacket → LentPacket
-unnamed_packet p = record p { item = unnamed_item p.item }
-
-abbrev pub unnamed : DomainState → DomainState
-unnamed s = record s { endpoints = map unnamed_end s.endpoints; requests = map unnamed_request s.requests; lent = map unnamed_packet s.lent }

@@ -18,8 +18,8 @@ use Rattle.board_model.specs.Messages.{message_of, is_message_item, accepted_in,
 use Rattle.board_model.specs.Drops.{dropped_in, dropped}
 use Rattle.board_model.specs.Takings.{messages_taken}
 use Rattle.board_model.specs.Tallies.{is_sent_line, is_brought_line, is_lost_line, deleted_in}
+use Rattle.board_model.specs.Unnamed.{unnamed_end, unnamed_item}
 use Rattle.board_model.proofs.RunDeeds.{AllAllowed, allowed-all}
-use Rattle.board_model.proofs.DeedRuns.{unnamed_item, unnamed_end}
 use Rattle.board_model.proofs.ListsCounts.{count-every}
 use Rattle.board_model.proofs.ListsMapped.{filter-mapped}
 use Rattle.board_model.proofs.MessageAlls.{all-weaken}

@@ -20,7 +20,8 @@ use Rattle.board_model.specs.Board.{DomainJournal}
 use Rattle.board_model.specs.Deeds.{Deed, looks_back, puts_owed, looks_ahead, takes, calls, along}
 use Rattle.board_model.specs.Turn.{takes_named}
 use Rattle.board_model.specs.JournalDeeds.{names_from, named_deeds, call_deeds, entry_deeds, deeds_along, deeds_of, opened, left_in}
-use Rattle.board_model.proofs.DeedRuns.{IsDeedRun, puts_by, takes_by, unnamed}
+use Rattle.board_model.specs.Unnamed.{unnamed}
+use Rattle.board_model.proofs.DeedRuns.{IsDeedRun, puts_by, takes_by}
 use Rattle.board_model.proofs.RunFronts.{allowed-front}
 use Rattle.board_model.proofs.RunDeeds.{AllAllowed, allowed-all, deeds_run, state_is, puts_are, takes_are}
 use Rattle.board_model.proofs.ListsApart.{all-unmap}

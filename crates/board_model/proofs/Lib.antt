@@ -87,8 +87,12 @@ pub mod RunFronts
 pub mod SerialFrames
 pub mod SerialRequests
 pub mod StateEnds
-pub mod UnnamedCalls
-pub mod UnnamedChanges
+pub mod RefusedCalls
+pub mod RenamedCalls
+pub mod RenamedChanges
+pub mod RenamedDeeds
+pub mod RenamedGiven
+pub mod UnnamedCounts
 pub mod UnnamedDeeds
 pub mod WholeBoard
 pub mod WholeCalls

@@ -24,14 +24,16 @@ use Rattle.board_model.specs.Traffic.{puts_in, takes_in, put_to, takes_from, tak
 use Rattle.board_model.specs.Board.{DomainJournal}
 use Rattle.board_model.specs.Deeds.{Deed, calls, after_deeds, along}
 use Rattle.board_model.specs.JournalDeeds.{named_deeds, call_deeds, entry_deeds, deeds_along, deeds_of, opened, left_in}
-use Rattle.board_model.proofs.DeedRuns.{count_taken, AreNamed, IsDeedRun, frames_if, frames_to, puts_by, takes_by, unnamed}
+use Rattle.board_model.specs.Unnamed.{no_names, unnamed}
+use Rattle.board_model.proofs.DeedRuns.{count_taken, AreNamed, IsDeedRun, frames_if, frames_to, puts_by, takes_by}
 use Rattle.board_model.proofs.WaitCalls.{wait-puts}
 use Rattle.board_model.proofs.PlaceBoards.{neighbours_differ}
-use Rattle.board_model.proofs.UnnamedCalls.{answer-unnamed, puts-unnamed, refused-is}
 use Rattle.board_model.proofs.StateEnds.{numbers_in}
 use Rattle.board_model.proofs.DeedJoins.{deeds-numbers, along-join}
 use Rattle.board_model.proofs.UnnamedDeeds.{deed-unnamed, Leads, leads-join, turn-leads}
 use Rattle.board_model.proofs.DeedTraffic.{entry-take, run-takes, count-join, count-takes, named-join, turn-named, turn-put}
+use Rattle.board_model.proofs.RefusedCalls.{refused-is}
+use Rattle.board_model.proofs.RenamedCalls.{answer-renamed, puts-renamed}
 
 -- ---- an entry
 
@@ -48,7 +50,7 @@ allowed-all lines r to (e ∷ es) leads =
 module _ (lines : List CallLine) (before : List PlainEntry) (r : RunState) (t : DomainState) (same : r.state ≡ unnamed t) where
   call_leads : (line : CallLine) (a : PlainAnswer) → a ≡ answer r.state line.node (call_at r line) → Leads t (call_deeds (Some line) r a) (effect (unnamed t) line.node (call_at r line))
   call_leads line a told = record {
-    may = (told ∙ (ap (λ s. answer s line.node (call_at r line)) same ∙ answer-unnamed t line.node (call_at r line)), tt);
+    may = (told ∙ (ap (λ s. answer s line.node (call_at r line)) same ∙ answer-renamed no_names t line.node (call_at r line)), tt);
     leads = deed-unnamed t (calls line.node (call_at r line) a);
   }
 
@@ -146,7 +148,7 @@ module _ (lines : List CallLine) (p : ℕ) where
   entry_puts before r t (put q frame) same allowed = sym (one_more p q frame r.put_since_turn allowed)
   entry_puts before r t (again word) same allowed =
       let line : CallLine = allowed.0 in
-      let told : refuses word ≡ answer t line.node (call_at r line) = allowed.2 ∙ (ap (λ s. answer s line.node (call_at r line)) same ∙ answer-unnamed t line.node (call_at r line)) in
+      let told : refuses word ≡ answer t line.node (call_at r line) = allowed.2 ∙ (ap (λ s. answer s line.node (call_at r line)) same ∙ answer-renamed no_names t line.node (call_at r line)) in
       let silent : frames_to p (puts t line.node (call_at r line)) ≡ [] = ap (λ o. frames_to p (unless_refused o [] (success_puts t line.node (call_at r line)))) (refused-is t line.node word (call_at r line) told) in
       ap (λ o. pending p o ++ []) allowed.3
       ∙ (ap (λ x. (x ++ []) ++ []) (sym silent)
@@ -154,7 +156,7 @@ module _ (lines : List CallLine) (p : ℕ) where
   entry_puts before r t (waits k) same allowed = append-nil (pending p r.put_since_turn)
   entry_puts before r t (called k a) same allowed =
       let line : CallLine = allowed.0 in
-      let put_so : puts r.state line.node (call_at r line) ≡ puts t line.node (call_at r line) = ap (λ s. puts s line.node (call_at r line)) same ∙ puts-unnamed t line.node (call_at r line) in
+      let put_so : puts r.state line.node (call_at r line) ≡ puts t line.node (call_at r line) = ap (λ s. puts s line.node (call_at r line)) same ∙ puts-renamed no_names t line.node (call_at r line) in
       ap (λ xs. xs ++ []) (came_with p line r (limit_of line.call) refl allowed.4)
       ∙ (ap (λ x. frames_to p x ++ []) put_so
       ∙ (sym (append-nil (frames_to p (puts t line.node (call_at r line)) ++ []))

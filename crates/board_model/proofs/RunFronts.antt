@@ -14,7 +14,8 @@ use Rattle.board_model.specs.Board.{DomainJournal}
 use Rattle.board_model.specs.Deeds.{Deed, after_deeds, along}
 use Rattle.board_model.specs.JournalDeeds.{entry_deeds, deeds_along, deeds_of, opened}
 use Rattle.board_model.specs.Given.{names_given}
-use Rattle.board_model.proofs.DeedRuns.{IsDeedRun, puts_by, takes_by, unnamed}
+use Rattle.board_model.specs.Unnamed.{unnamed}
+use Rattle.board_model.proofs.DeedRuns.{IsDeedRun, puts_by, takes_by}
 use Rattle.board_model.proofs.RunDeeds.{AllAllowed, allowed-all, opened-differ, run-leads, run-named, run-puts, pending}
 use Rattle.board_model.proofs.DeedTraffic.{run-takes}
 use Rattle.board_model.proofs.DeedGiven.{opened-held, run-given}

@@ -13,6 +13,8 @@ pub mod WordTables
 pub mod LinkedBoard
 pub mod Journal
 pub mod State
+pub mod Renamed
+pub mod Unnamed
 pub mod Choice
 pub mod Dealing
 pub mod DomainCall

@@ -12,8 +12,8 @@ use Rattle.board_model.specs.Step.{RunState, HasNoPuts, Allowed, MayCome, limit_
 use Rattle.board_model.specs.Tallies.{number_told}
 use Rattle.board_model.specs.Traffic.{taken_from}
 use Rattle.board_model.specs.Turn.{AreVisits, takes_named, after_visit}
+use Rattle.board_model.specs.Unnamed.{no_names, unnamed}
 use Rattle.board_model.proofs.DeedJoins.{along-join}
-use Rattle.board_model.proofs.DeedRuns.{unnamed}
 use Rattle.board_model.proofs.HearingLaw.{deed_keeps}
 use Rattle.board_model.proofs.MessageAlls.{all-append}
 use Rattle.board_model.proofs.OrderSerials.{Serials, succeeds, all_succeed}
@@ -21,7 +21,7 @@ use Rattle.board_model.proofs.OrderSound.{Sound}
 use Rattle.board_model.proofs.WaitCalls.{wait-puts}
 use Rattle.board_model.proofs.RunDeeds.{AllAllowed, left-leads}
 use Rattle.board_model.proofs.SendingDeeds.{ReadsDeed, AllRead}
-use Rattle.board_model.proofs.UnnamedCalls.{answer-unnamed, puts-unnamed}
+use Rattle.board_model.proofs.RenamedCalls.{answer-renamed, puts-renamed}
 use Rattle.board_numbers.specs.Items.{closes_channel}
 use Rattle.board_numbers.proofs.ClosedDeeds.{ClosesNone, owed-closes-none, close_lost, closing_put, refused_told, closes-told}
 use Rattle.board_numbers.proofs.ClosedLines.{closing, closed_in, OwesNone, again-closed, again-closing, turned-closed, turned-closing, put-closed, put-closing, called-closed, called-closing, waits-closed, waits-closing}
@@ -155,10 +155,10 @@ module _ (o n : ℕ) where
   entry_told script lines before r t (called k a) same allowed fit last =
       let line : CallLine = allowed.0 in
       let call = call_at r line in
-      let may : MayDo t (calls line.node call a) = allowed.3 ∙ (ap (λ s. answer s line.node call) same ∙ answer-unnamed t line.node call) in
+      let may : MayDo t (calls line.node call a) = allowed.3 ∙ (ap (λ s. answer s line.node call) same ∙ answer-renamed no_names t line.node call) in
       let fits : IsFit t (calls line.node call a) = (subst (λ x. AllFit t (call_deeds x r a)) allowed.1 fit).0 in
       let told = closes-told o n t fits.sound fits.owned line.node call a may fits.reads in
-      let put_so : closing o n lines ≡ closing_put o n false (puts t line.node call) = last ∙ (pending_puts r line (limit_of line.call) refl allowed.4 ∙ ap (closing_put o n false) (ap (λ s. puts s line.node call) same ∙ puts-unnamed t line.node call)) in
+      let put_so : closing o n lines ≡ closing_put o n false (puts t line.node call) = last ∙ (pending_puts r line (limit_of line.call) refl allowed.4 ∙ ap (closing_put o n false) (ap (λ s. puts s line.node call) same ∙ puts-renamed no_names t line.node call)) in
       let dropped : length (along (close_lost o n) t (call_deeds (next_line script r) r a)) ≡ cond (closing o n lines) (number_told a) 0
       = ap (λ x. length (along (close_lost o n) t (call_deeds x r a))) allowed.1 ∙ (one_more (close_lost o n t (calls line.node call a)) ∙ (sym told ∙ ap (λ b. cond b (number_told a) 0) (sym put_so))) in
       record { closed = omega (arith, called-closed o n lines k a, dropped); last = called-closing o n lines k a }

@@ -10,8 +10,9 @@ use Rattle.board_model.specs.Deeds.{Deed, looks_back, puts_owed, looks_ahead, ta
 use Rattle.board_model.specs.LinkedBoard.{Differ}
 use Rattle.board_model.specs.Scenario.{Neighbour}
 use Rattle.board_model.specs.State.{Item, ChannelEnd, Endpoint, DomainState, opening, new_peer, endpoint_of, queue_in, is_numbered}
+use Rattle.board_model.specs.Unnamed.{unnamed, unnamed_end, unnamed_item}
 use Rattle.board_model.proofs.ChannelWords.{not_begun, letters, InOrder, end_is, contents_if, Way}
-use Rattle.board_model.proofs.DeedRuns.{frames_if, takes_by, unnamed, unnamed_end, unnamed_item}
+use Rattle.board_model.proofs.DeedRuns.{frames_if, takes_by}
 use Rattle.board_model.proofs.Hearing.{heard, heard_of, Hearing, unheard, refused, heard_at, Lists, NoAccept, owed_replies}
 use Rattle.board_model.proofs.HearingDeeds.{IsSmallFrom}
 use Rattle.board_model.proofs.HearingItems.{bound_contents}

@@ -12,7 +12,7 @@ use Rattle.board_model.specs.Run.{left_by}
 use Rattle.board_model.specs.Board.{DomainJournal, IsBoardRun}
 use Rattle.board_model.specs.JournalDeeds.{deeds_of, left_in, opened}
 use Rattle.board_model.specs.Messages.{message_of, is_message_item, queued_at, queued_in, messages_queued}
-use Rattle.board_model.proofs.DeedRuns.{unnamed_item, unnamed_end}
+use Rattle.board_model.specs.Unnamed.{unnamed_end, unnamed_item}
 use Rattle.board_model.proofs.HonestBoard.{OnBoard, each_on_board}
 use Rattle.board_model.proofs.MessageAlls.{all-weaken}
 use Rattle.board_model.proofs.MessageOnce.{total, total-each, length-joined}

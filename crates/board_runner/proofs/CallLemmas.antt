@@ -28,10 +28,10 @@ use Rattle.board_model.specs.SerialRun as run
 use Rattle.board_model.specs.SerialRun.{Running, with_entry, with_entries, word_in, called_by, loads_with_puts}
 use Rattle.board_model.specs.Tallies.{deleted_in, deletes_line, number_told}
 use Rattle.board_model.proofs.DeedJoins.{changes-keep}
-use Rattle.board_model.proofs.UnnamedCalls.{refused-is}
 use Rattle.board_model.proofs.ListsJoined.{entry_lines, JoinsWeighNothing, sum-joined}
 use Rattle.board_model.proofs.WholeStations.{entered_all}
 use Rattle.board_model.proofs.WholeJournals.{call_entries, called_run}
+use Rattle.board_model.proofs.RefusedCalls.{refused-is}
 use Rattle.domain_core.specs.Calls.{Does, place_ended, place_released, success_ends, success_releases}
 use Rattle.domain_core.specs.Ends.{EndsMoved}
 use Rattle.mc_journal.specs.Entry.{plain_answer}

@@ -21,7 +21,6 @@ use Rattle.board_model.specs.State.{DomainState, LentPacket}
 use Rattle.board_model.specs.Answer.{refusal, unless_refused, success, answer, answer_by, puts}
 use Rattle.board_model.specs.Labels.{success_request, request_given, success_packet, packet_given}
 use Rattle.board_model.specs.Serial.{put_entry}
-use Rattle.board_model.proofs.UnnamedCalls.{refused-is}
 use Rattle.domain_core.specs.Calls.{Calls, place_ended, place_released, success_releases, LendsBy, tested, gives_whole, brings_whole, IsFresh, requested, given, connected, given_by}
 use Rattle.domain_core.specs.DomainView.{DomainView, packet_lent_as}
 use Rattle.domain_core.specs.Ends.{EndsMoved}
@@ -30,6 +29,7 @@ use Rattle.board_runner.specs.declared.station.Station.{Station}
 use Rattle.board_runner.specs.declared.line.Made.{Made}
 use Rattle.board_runner.specs.Lines.{CallsDomain, GivesWithin, MakesCall, call_at_station, dropped_by}
 use Rattle.board_runner.specs.Near.{RunDomain}
+use Rattle.board_model.proofs.RefusedCalls.{refused-is}
 
 -- ---- requests that calls give
 

@@ -16,6 +16,7 @@ use Rattle.board_model.specs.State.{DomainState}
 use Rattle.board_model.specs.Step.{RunState, next_line, after}
 use Rattle.board_model.specs.Traffic.{taken_from}
 use Rattle.board_model.specs.Turn.{takes_named, visit_deeds}
+use Rattle.board_model.specs.Unnamed.{unnamed, unnamed_end, unnamed_packet, unnamed_request}
 use Rattle.board_model.proofs.DeedJoins.{along-join}
 use Rattle.board_model.proofs.MessageAlls.{all-append}
 use Rattle.board_model.proofs.WholeJournals.{call_entries}
@@ -25,7 +26,6 @@ use Rattle.domain_core.specs.LaneMoves.{LaneMove, sender, receiver, receives}
 use Rattle.domain_core.specs.NumberedDeeds.{number_in, numbered_deeds, turn_deeds}
 use Rattle.domain_core.specs.Turned.{HaveNumbers}
 use Rattle.domain_core.specs.VisitMoves.{putting, taking, visit_moves}
-use Rattle.domain_core.specs.Unnamed.{unnamed, unnamed_end, unnamed_request, unnamed_packet}
 use Rattle.lane_images.specs.DeedMoves as deals
 use Rattle.lane_images.specs.DeedMoves.{deed_moves, unlooked, nameless_deed, IsNumbered}
 use Rattle.board_runner.specs.OwnRun.{deeds_told}

@@ -21,9 +21,10 @@ use Rattle.board_model.specs.SerialRun.{entered}
 use Rattle.board_model.specs.State.{DomainState}
 use Rattle.board_model.specs.Step.{call_at, is_timeout, limit_of}
 use Rattle.board_model.specs.Tallies.{deleted_in}
-use Rattle.board_model.proofs.UnnamedCalls.{answer-unnamed}
+use Rattle.board_model.specs.Unnamed.{no_names}
 use Rattle.board_model.proofs.WaitCalls.{wait-puts}
 use Rattle.board_model.proofs.WholePeers.{call_numbers}
+use Rattle.board_model.proofs.RenamedCalls.{answer-renamed}
 use Rattle.domain_core.specs.AllMoved.{AllMoved, call_moves}
 use Rattle.domain_core.specs.Awaiting.{places_named}
 use Rattle.domain_core.specs.Calls.{Does, IsFresh, place_ended, place_released}
@@ -220,7 +221,7 @@ module _ (s : Scenario) (t : run.Station) (st : Station) (h : IsStation s t st) 
     nothing_named =
         refused_nothing st.domain.numbered 0 Timeout (wait_on ids says st.domain)
         (timeout-word (answer st.domain.numbered 0 (wait_on ids says st.domain))
-        (ap is_timeout (sym (answer-unnamed st.domain.numbered 0 (wait_on ids says st.domain)) ∙ ap (λ (x : DomainState). answer x 0 (wait_on ids says st.domain)) (sym st.domain.nameless))
+        (ap is_timeout (sym (answer-renamed no_names st.domain.numbered 0 (wait_on ids says st.domain)) ∙ ap (λ (x : DomainState). answer x 0 (wait_on ids says st.domain)) (sym st.domain.nameless))
         ∙ (waiting-is says ∙ waiting)))
 
     pub times-out : (a : PlainAnswer) → a ≡ refuses Timeout → TimedOut ids says st.domain a

@@ -15,8 +15,9 @@ use Rattle.board_model.specs.Change.{changed_all}
 use Rattle.board_model.specs.CallChanges.{effect, returned, success_changes, success_returned}
 use Rattle.board_model.specs.Given.{frames_from}
 use Rattle.board_model.specs.Serial.{put_entry}
-use Rattle.board_model.proofs.DeedHeld.{returned-same}
-use Rattle.board_model.proofs.UnnamedCalls.{answer-unnamed, puts-unnamed}
+use Rattle.board_model.specs.Unnamed.{no_names, unnamed, unnamed_item}
+use Rattle.board_model.proofs.RenamedGiven.{returned-renamed}
+use Rattle.board_model.proofs.RenamedCalls.{answer-renamed, puts-renamed}
 use Rattle.domain_core.specs.AllMoved.{AllMoved, buffers_of, call_moves, moves_at, numbers_of}
 use Rattle.domain_core.specs.Calls.{Calls, Does, IsFresh, success_releases}
 use Rattle.domain_core.specs.InBook.{item_at, numbered_at}
@@ -27,7 +28,6 @@ use Rattle.domain_core.specs.Parts.{Holding, Parts, plain, shown, state_of}
 use Rattle.domain_core.specs.Steps.{all_moves}
 use Rattle.domain_core.specs.Stores.{KeepsBut}
 use Rattle.domain_core.specs.Turned.{MakesTurn}
-use Rattle.domain_core.specs.Unnamed.{unnamed, unnamed_item}
 use Rattle.domain_core.proofs.Calling.{puts-done, puts-nothing}
 use Rattle.domain_core.proofs.Ending.{ended-done, ended-refused, ids_in}
 use Rattle.domain_core.proofs.GivingLemmas.{numbers-in}
@@ -52,13 +52,13 @@ module _ {L : Type 0} (M : L → List LaneMove → L → Type 0) (node : ℕ) (c
   moved-in : (frames : List (ℕ × List ℕ)) → frames ≡ puts s node call → (slots : List _) (f : ℕ → List LaneMove) → ((n : ℕ) → f n ≡ moves_at frames slots n) → (ends : List L) → AllMoved M old.ends (map f (numbers_of p.peers)) ends
       → AllMoved M old.ends (call_moves (puts u node call) slots (map (λ (x : state.Peer). x.number) u.peers)) ends
   moved-in frames is slots f same ends moved =
-      subst (λ (fs : List (ℕ × List ℕ)). AllMoved M old.ends (call_moves fs slots (map (λ (x : state.Peer). x.number) s.peers)) ends) (is ∙ sym (puts-unnamed s node call))
+      subst (λ (fs : List (ℕ × List ℕ)). AllMoved M old.ends (call_moves fs slots (map (λ (x : state.Peer). x.number) s.peers)) ends) (is ∙ sym (puts-renamed no_names s node call))
       (subst (λ (ns : List ℕ). AllMoved M old.ends (call_moves frames slots ns) ends) (sym (numbers-in plain p.table p.peers))
       (subst (λ ms. AllMoved M old.ends ms ends) (map-same f (moves_at frames slots) same (numbers_of p.peers)) moved))
 
   -- what is given back, by its items and by their names
   items-back : (slots : List Slot) → map (numbered_at p.book) slots ≡ returned s node call → map (item_at p.book) slots ≡ returned u node call
-  items-back slots is = items-unnamed p.book slots ∙ ap (map unnamed_item) is ∙ sym (returned-same s node call)
+  items-back slots is = items-unnamed p.book slots ∙ ap (map unnamed_item) is ∙ sym (returned-renamed no_names s node call)
 
   names-back : (slots : List Slot) → map (numbered_at p.book) slots ≡ returned s node call → (peer : ℕ) → buffers_of peer slots ≡ frames_from peer (returned s node call)
   names-back slots is peer = names-are p.book peer slots ∙ ap (frames_from peer) is
@@ -74,7 +74,7 @@ module _ {L : Type 0} (M : L → List LaneMove → L → Type 0) (node : ℕ) (c
       subst (λ (h : Holding L). Does M node call (shown old) (shown h) answered given) (sym same)
       (subst (λ (o : Option RequestId). Does M node call (shown old) (shown old) answered o) (sym none)
       (record {
-        answer = answer-is ∙ sym (answer-unnamed s node call);
+        answer = answer-is ∙ sym (answer-renamed no_names s node call);
         state = ap unnamed stays ∙ effect-unnamed s node call;
         numbered = stays;
         slots = [];
@@ -95,7 +95,7 @@ module _ {L : Type 0} (M : L → List LaneMove → L → Type 0) (node : ℕ) (c
       let after : state_of new.parts ≡ effect s node call = ap state_of done.did.parts ∙ m.state ∙ sym (ap (λ (o : Option Refusal). changed_all s (unless_refused o [] (success_changes s node call))) e) in
       let back : map (numbered_at p.book) m.slots ≡ returned s node call = m.returned ∙ sym (ap (λ (o : Option Refusal). unless_refused o [] (success_returned s node call)) e) in
       record {
-        answer = answer-is ∙ sym (answer-unnamed s node call);
+        answer = answer-is ∙ sym (answer-renamed no_names s node call);
         state = ap unnamed after ∙ effect-unnamed s node call;
         numbered = after;
         slots = m.slots;
@@ -132,7 +132,7 @@ module _ {L : Type 0} (M : L → List LaneMove → L → Type 0) (node : ℕ) (c
           turned_to = shown old;
           turns = turn.turns;
           does = does-of rests acts;
-          told = told ∙ ap (λ (fs : List (ℕ × List ℕ)). noted_all lines' (map put_entry fs)) (sym (puts-unnamed s node call)) ∙ ap (λ (ls : List Line). noted_all ls (map put_entry (puts u node call))) turn.told;
+          told = told ∙ ap (λ (fs : List (ℕ × List ℕ)). noted_all lines' (map put_entry fs)) (sym (puts-renamed no_names s node call)) ∙ ap (λ (ls : List Line). noted_all ls (map put_entry (puts u node call))) turn.told;
         }
 
     -- where it never puts any

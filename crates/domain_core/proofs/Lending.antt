@@ -9,6 +9,7 @@ use Rattle.mc_base.specs.declared.request.Slot.{Slot}
 use Rattle.board_model.specs.Change.{changed, packet_lent}
 use Rattle.board_model.specs.State as state
 use Rattle.board_model.specs.State.{Item, LentPacket}
+use Rattle.board_model.specs.Unnamed.{unnamed_item}
 use Rattle.board_model.proofs.ListsCounts.{count-append, count-cons}
 use Rattle.buffer_book.specs.Book.{Book, Kept, if_lent, kept_at, queued_at, slot_of, with_lent}
 use Rattle.endpoint_table.specs.Table as endpoint_table
@@ -29,7 +30,6 @@ use Rattle.domain_core.specs.AllMoved.{numbers_of}
 use Rattle.domain_core.specs.Records.{Records, all_waiting, lent_slots, with_last_lent}
 use Rattle.domain_core.specs.Sound.{ArePeers, AreSound, out_at}
 use Rattle.domain_core.specs.Steps.{next_lent, with_lent_at}
-use Rattle.domain_core.specs.Unnamed.{unnamed_item}
 use Rattle.domain_core.specs.Stores.{KeepsBut}
 use Rattle.domain_core.proofs.Books.{each-slot, kept-there}
 use Rattle.domain_core.proofs.GivingLemmas.{All-each, InPlacesAt, SameEndpoints, same-tied}

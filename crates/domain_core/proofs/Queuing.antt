@@ -20,6 +20,7 @@ use Rattle.board_model.specs.State.{Item, LentPacket}
 use Rattle.board_model.specs.Choice.{best}
 use Rattle.domain_core.specs.PlacedFrames.{complete_with, item_of, queued_last}
 use Rattle.board_model.specs.Journal.{taken}
+use Rattle.board_model.specs.Unnamed.{unnamed_item}
 use Rattle.buffer_book.specs.Book.{AllDiffer, Book, IsAway, Kept, content, kept_at, queued_in, slot_of, with_queued, if_queued}
 use Rattle.message_queue.specs.Queue.{Waiting, waiting}
 use Rattle.request_set.specs.declared.ask.Ask.TheVariants as ask
@@ -33,7 +34,6 @@ use Rattle.domain_core.specs.Out.{Out}
 use Rattle.domain_core.specs.InBook.{channel_in, channel_of, content_in, endpoints_in, held_by, numbered_at, item_in, outcome_in, packets_in, priority_in, priority_of, request_in, requests_in, source_in, table_in}
 use Rattle.domain_core.specs.InRequests.{AreReceives, Receives, handed_by, handed_slots}
 use Rattle.domain_core.specs.InPlaces.{AreInPlaces, AreInPlacesBut, EachInPlace, IsLentAs, KeepOthers, is_misplaced, one_if, slot_at, slots_of, times_in, times_waiting}
-use Rattle.domain_core.specs.Unnamed.{unnamed_item}
 use Rattle.domain_core.specs.Stores.{Stores}
 use Rattle.domain_core.specs.Verdicts.{framed_item, item_with}
 use Rattle.domain_core.proofs.Handed.{packets-stay, requests-stay}

@@ -8,6 +8,7 @@ use Rattle.board_model.specs.Deeds.{Deed, after_deeds}
 use Rattle.board_model.specs.Journal.{Line, Visit, turn_line, visit_lines, is_idle, noted, noted_idle, turned}
 use Rattle.board_model.specs.State.{DomainState}
 use Rattle.board_model.specs.Turn.{IsVisit, AreVisits, after_visit, after_turn}
+use Rattle.board_model.specs.Unnamed.{unnamed}
 use Rattle.board_model.proofs.DeedJoins.{after-join}
 use Rattle.buffer_book.specs.Book.{Book}
 use Rattle.domain_core.specs.AllMoved.{AllMoved, numbers_of, turn_moves}
@@ -22,14 +23,13 @@ use Rattle.domain_core.specs.Sound.{AreRising}
 use Rattle.domain_core.specs.Steps.{Did, Step, all_moves, at_peer}
 use Rattle.domain_core.specs.Stores.{AreStored, KeepsHeld}
 use Rattle.domain_core.specs.Turned.{AllStored, HaveNumbers, VisitsAll, MakesTurn}
-use Rattle.domain_core.specs.Unnamed.{unnamed}
 use Rattle.domain_core.specs.VisitMoves.{visit_moves}
 use Rattle.domain_core.proofs.PeerPlaces.{numbers-in}
 use Rattle.domain_core.proofs.Stepping.{did-then, moves-append}
 use Rattle.domain_core.proofs.Storing.{keeps-both, keeps-none, stay-stored}
 use Rattle.domain_core.proofs.ToldTurns.{told-last, begun-last, turn-told, turn-begun}
 use Rattle.domain_core.proofs.Turning.{did-numbers, did-rests, number-in}
-use Rattle.domain_core.proofs.Unnaming.{visit-unnamed}
+use Rattle.domain_core.proofs.Unnaming.{visit-numbered}
 
 -- ---- one visit more
 
@@ -171,7 +171,7 @@ module _ {L : Type 0} (M : L → List LaneMove → L → Type 0) (m-none : (l : 
         numbers = so_far.numbers ++ made.numbers ∷ [];
         each_peer = map_push (λ (x : Visit). x.peer) vs w ∙ ap (λ (zs : List ℕ). zs ++ w.peer ∷ []) so_far.each_peer ∙ sym more;
         allowed = visits-last s vs w so_far.allowed (subst (λ (x : DomainState). IsVisit x w) (sym so_far.state) made.allowed);
-        state = turn-last s vs w ∙ ap (λ (x : DomainState). after_visit x w) so_far.state ∙ sym (ap unnamed made.doing.state ∙ visit-unnamed (state_of now.parts) w made.numbers);
+        state = turn-last s vs w ∙ ap (λ (x : DomainState). after_visit x w) so_far.state ∙ sym (ap unnamed made.doing.state ∙ visit-numbered (state_of now.parts) w made.numbers);
         numbered = made.doing.state
             ∙ ap (λ (x : DomainState). after_deeds x (numbered_deeds w made.numbers)) so_far.numbered
             ∙ sym (after-join (state_of old.parts) (turn_deeds vs so_far.numbers) (numbered_deeds w made.numbers))

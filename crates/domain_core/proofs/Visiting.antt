@@ -14,6 +14,7 @@ use Rattle.board_model.specs.Journal.{Line, Visit, Taken, back_line, put_line, s
 use Rattle.board_model.specs.State.{DomainState, held_from, is_numbered}
 use Rattle.board_model.specs.Turn.{takes_named}
 use Rattle.board_model.proofs.MessageLists.{get-position}
+use Rattle.board_model.proofs.UnnamedCounts.{held-unnamed}
 use Rattle.domain_core.specs.Beginning.{beginning, look_lines}
 use Rattle.domain_core.specs.CallSteps.{Rests}
 use Rattle.domain_core.specs.Doing.{Doing, PutsDue, Takes, Visits, owed_at}
@@ -31,7 +32,7 @@ use Rattle.domain_core.proofs.PeerPlaces.{All-at}
 use Rattle.domain_core.proofs.PeersAt.{find-place}
 use Rattle.domain_core.proofs.Storing.{Stores-more}
 use Rattle.domain_core.proofs.ToldTurns.{none-in}
-use Rattle.domain_core.proofs.Unnaming.{held-unnamed, visit-may}
+use Rattle.domain_core.proofs.Unnaming.{visit-may}
 use Rattle.domain_core.proofs.Turning.{did-numbers, doing-ends, doing-none, doing-then, same-length, same-number, seen-then}
 
 -- ---- frames, and one more

@@ -9,8 +9,9 @@ use Rattle.board_model.specs.Answer.{answer, first_complete, is_complete_at}
 use Rattle.board_model.specs.DomainCall.{test_of, wait_for}
 use Rattle.board_model.specs.Journal.{Line, PlainResult, Visit, completes, noted_all, refuses, turned, wait_line}
 use Rattle.board_model.specs.Step.{is_timeout}
+use Rattle.board_model.specs.Unnamed.{no_names, unnamed}
 use Rattle.board_model.proofs.ListsMapped.{position-alike}
-use Rattle.board_model.proofs.UnnamedCalls.{refusal-unnamed}
+use Rattle.board_model.proofs.RenamedCalls.{complete-renamed, refusal-renamed}
 use Rattle.domain_core.specs.Awaiting.{all_exist, first_complete_in, places_named}
 use Rattle.domain_core.specs.Calls.{Does, Lending}
 use Rattle.domain_core.specs.CallSteps.{Acts, Rests}
@@ -18,13 +19,11 @@ use Rattle.domain_core.specs.DomainView.{DomainView, place_of_id}
 use Rattle.domain_core.specs.LaneMoves.{LaneMove}
 use Rattle.domain_core.specs.Parts.{Holding, shown, state_of}
 use Rattle.domain_core.specs.Turned.{MakesTurn}
-use Rattle.domain_core.specs.Unnamed.{unnamed}
 use Rattle.domain_core.specs.declared.wait_fault.WaitFault.{WaitFault}
 use Rattle.domain_core.specs.declared.wait_fault.WaitFault.TheVariants as fault
 use Rattle.domain_core.specs.Waiting.{AreAwaited, Polled, Waits, place_told, wait_entries, wait_on, waited, waited_any, waited_at}
 use Rattle.domain_core.proofs.CallLemmas.{does-of}
 use Rattle.domain_core.proofs.Stepping.{acts-refused}
-use Rattle.domain_core.proofs.Unnaming.{complete-unnamed}
 use Rattle.domain_core.proofs.WaitPlaces.{first-complete, first-is, no-wait, timeout-word, wait-ends, wait-invalid}
 use Rattle.domain_core.proofs.WaitSteps.{Polling, more-many, more-polls, more-stand, more-told, wait-acts}
 
@@ -61,9 +60,9 @@ module _ {L : Type 0} (M : L → List LaneMove → L → Type 0) (ids : List Req
       let s = state_of old.parts in
       let ps = places_named ids (shown old) in
       let place : slice_get ps at ≡ Some (place_of_id (shown old).ids id) = slice_get-map (place_of_id (shown old).ids) ids at ∙ ap (option_map (place_of_id (shown old).ids)) here in
-      let found : position (is_complete_at s) ps ≡ Some at = sym (position-alike (is_complete_at (unnamed s)) (is_complete_at s) (complete-unnamed s) ps) ∙ is in
+      let found : position (is_complete_at s) ps ≡ Some at = sym (position-alike (is_complete_at (unnamed s)) (is_complete_at s) (complete-renamed no_names s) ps) ∙ is in
       let first = first-is s ps at found (place_of_id (shown old).ids id) place in
-      let done = sym (refusal-unnamed s 0 (wait_for ps says_place)) ∙ wait-ends (unnamed s) ps says_place at all is in
+      let done = sym (refusal-renamed no_names s 0 (wait_for ps says_place)) ∙ wait-ends (unnamed s) ps says_place at all is in
       let complete : is_complete_at s (first_complete s ps) ≡ true = ap (is_complete_at s) first ∙ first-complete s ps at found (place_of_id (shown old).ids id) place in
       let tested = subst (λ p. Acts M 0 (test_of p) old new (completes None r) None) (sym first) acts in
       let told : Acts M 0 (wait_on ids says_place (shown old)) old new (completes (place_told says_place at) r) None =
@@ -86,7 +85,7 @@ module _ {L : Type 0} (M : L → List LaneMove → L → Type 0) (ids : List Req
           few = omega arith;
           told = begins-not (is_timeout (answer s 0 (wait_on ids false (shown old)))) (no-wait s ps false (Some RequestInvalid) (wait-invalid s ps false none) refl);
           ends = (
-            does-of M 0 (wait_on ids says_place (shown old)) old old (refuses RequestInvalid) None rests (acts-refused M 0 (wait_on ids says_place (shown old)) old old RequestInvalid (sym (refusal-unnamed (state_of old.parts) 0 (wait_for ps says_place)) ∙ wait-invalid s ps says_place none) refl),
+            does-of M 0 (wait_on ids says_place (shown old)) old old (refuses RequestInvalid) None rests (acts-refused M 0 (wait_on ids says_place (shown old)) old old RequestInvalid (sym (refusal-renamed no_names (state_of old.parts) 0 (wait_for ps says_place)) ∙ wait-invalid s ps says_place none) refl),
             λ e. absurd cc,
           );
         }
@@ -124,7 +123,7 @@ module _ {L : Type 0} (M : L → List LaneMove → L → Type 0) (ids : List Req
         few = h.few;
         told = begins h.turns h.told;
         ends = (
-          does-of M 0 (wait_on ids says_place (shown new)) new new (refuses Timeout) None rests (acts-refused M 0 (wait_on ids says_place (shown new)) new new Timeout (sym (refusal-unnamed (state_of new.parts) 0 (wait_on ids says_place (shown new))) ∙ timeout-word (shown new).state (places_named ids (shown new)) says_place h.ends.0) refl),
+          does-of M 0 (wait_on ids says_place (shown new)) new new (refuses Timeout) None rests (acts-refused M 0 (wait_on ids says_place (shown new)) new new Timeout (sym (refusal-renamed no_names (state_of new.parts) 0 (wait_on ids says_place (shown new))) ∙ timeout-word (shown new).state (places_named ids (shown new)) says_place h.ends.0) refl),
           λ e. h.ends.1,
         );
       }

@@ -5,7 +5,7 @@ use Rattle.mc_base.specs.declared.request.PacketId.{PacketId}
 use Rattle.mc_base.specs.declared.request.RequestId.{RequestId}
 use Rattle.buffer_book.specs.Book.{Book}
 use Rattle.board_model.specs.State.{DomainState, LentPacket, packet_at_place}
-use Rattle.domain_core.specs.Unnamed.{unnamed}
+use Rattle.board_model.specs.Unnamed.{unnamed}
 
 -- the state, which names no frames; the same state with each item named by the number of its buffer; the ends towards each peer, in the
 -- order of the state's peers; the ids of the requests that stand and of the packets that are lent, in their orders in the state; and the

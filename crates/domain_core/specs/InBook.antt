@@ -9,6 +9,7 @@ use Rattle.mc_base.specs.declared.request.PacketId.{PacketId}
 use Rattle.mc_base.specs.declared.request.Slot.{Slot}
 use Rattle.board_model.specs.State as state
 use Rattle.board_model.specs.State.{LentPacket}
+use Rattle.board_model.specs.Unnamed.{unnamed_item}
 use Rattle.buffer_book.specs.Book.{Book, Kept, content, kept_at, slot_of}
 use Rattle.message_queue.specs.Queue.{Waiting, waiting}
 use Rattle.packet_channel.specs.End.{end_of}
@@ -20,7 +21,6 @@ use Rattle.request_set.specs.Requests.{Standing, Requests}
 use Rattle.domain_core.specs.declared.endpoints.Endpoint.{Endpoint}
 use Rattle.domain_core.specs.Table.{Held, Table}
 use Rattle.domain_core.specs.Records.{Records}
-use Rattle.domain_core.specs.Unnamed.{unnamed_item}
 
 -- the address that a buffer's frame came from, its content, its priority, and its channel or none
 abbrev pub source_in : Option Kept → ℕ

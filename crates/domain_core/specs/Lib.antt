@@ -12,7 +12,6 @@ pub mod InReplies
 pub mod Records
 pub mod InTable
 pub mod Hearing
-pub mod Unnamed
 pub mod InBook
 pub mod InRequests
 pub mod InPlaces

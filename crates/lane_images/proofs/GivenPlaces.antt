@@ -14,6 +14,9 @@ use Rattle.board_model.specs.Given.{given_at_once, frames_from, names_given}
 use Rattle.board_model.specs.JournalDeeds.{deeds_of, opened}
 use Rattle.board_model.specs.State.{DomainState, Item, is_from}
 use Rattle.board_model.specs.TakenFrames.{item_of}
+use Rattle.board_model.specs.Renamed.{renamed}
+use Rattle.board_model.proofs.RenamedDeeds.{deed-renamed, renamed_deed}
+use Rattle.board_model.proofs.RenamedGiven.{returned-renamed}
 use Rattle.board_model.proofs.DeedRuns.{taken_by, count_taken, IsNamed, AreNamed}
 use Rattle.board_model.proofs.DeedTraffic.{count-join}
 use Rattle.board_model.proofs.ItemsHeld.{Held, BringsItems, deed-holds, held-weaker, returned-holds}
@@ -25,9 +28,7 @@ use Rattle.lane_images.specs.GivesAt.{GivesAt}
 use Rattle.lane_images.specs.PlacesGiven.{PlacesAreGiven}
 use Rattle.lane_images.proofs.Fronts.{get-more}
 use Rattle.lane_images.proofs.Numbering.{name_at, renamed-are}
-use Rattle.lane_images.proofs.RenamedCalls.{returned-same}
-use Rattle.lane_images.proofs.RenamedChanges.{renamed}
-use Rattle.lane_images.proofs.RenamedDeeds.{renamed_deed, deed-renamed, frames-renamed}
+use Rattle.lane_images.proofs.NewNames.{frames-renamed, new_name, new_names, same-names}
 
 -- ---- looks give nothing back
 
@@ -104,13 +105,13 @@ module _ (g : ℕ → ℕ → ℕ) (peer : ℕ) where
   gives-more taken (n ∷ places) rest ms below each then = (each n below.0, gives-more taken places rest ms below.1 each then)
 
   abbrev moves_after : DomainState → List Deed → List ReceiveMove
-  moves_after t ds = along (deed_moves peer) (renamed g t) (map (renamed_deed g) ds)
+  moves_after t ds = along (deed_moves peer) (renamed (new_names g) t) (map (renamed_deed (new_name g)) ds)
 
   -- after a deed
   next : (t : DomainState) (d : Deed) (ds : List Deed) (taken places : List ℕ) (ms : List ReceiveMove) → GivesAt taken (places ++ along (names_given peer) (after_deed t d) ds) (ms ++ moves_after (after_deed t d) ds)
-      → GivesAt taken (places ++ along (names_given peer) (after_deed t d) ds) (ms ++ along (deed_moves peer) (after_deed (renamed g t) (renamed_deed g d)) (map (renamed_deed g) ds))
+      → GivesAt taken (places ++ along (names_given peer) (after_deed t d) ds) (ms ++ along (deed_moves peer) (after_deed (renamed (new_names g) t) (renamed_deed (new_name g) d)) (map (renamed_deed (new_name g)) ds))
   next t d ds taken places ms h =
-      subst (λ (s : DomainState). GivesAt taken (places ++ along (names_given peer) (after_deed t d) ds) (ms ++ along (deed_moves peer) s (map (renamed_deed g) ds))) (deed-renamed g t d) h
+      subst (λ (s : DomainState). GivesAt taken (places ++ along (names_given peer) (after_deed t d) ds) (ms ++ along (deed_moves peer) s (map (renamed_deed (new_name g)) ds))) (deed-renamed (new_names g) (new_name g) (same-names g) t d) h
 
   -- a frame that is taken in the buffer of its name
   take-gives : (taken rest : List ℕ) (ms : List ReceiveMove) (k : ℕ) (frame : List ℕ) (word : Fate) → length taken ≡ k → GivesAt (taken ++ g peer k ∷ []) rest ms
@@ -137,8 +138,8 @@ module _ (g : ℕ → ℕ → ℕ) (peer : ℕ) where
       next t (looks_ahead p c) ds taken [] []
       (gives (after_deed t (looks_ahead p c)) ds (before ++ looks_ahead p c ∷ []) taken named.1 (held-next before (looks_ahead p c) t named.0 held) (same-many before (looks_ahead p c) taken many refl) each)
   gives t (calls node call a ∷ ds) before taken named held many each =
-      let is : frames_from peer (returned (renamed g t) node call) ≡ map (g peer) (frames_from peer (returned t node call)) = ap (frames_from peer) (returned-same g t node call) ∙ frames-renamed g peer (returned t node call) in
-      next t (calls node call a) ds taken (frames_from peer (returned t node call)) (giving (frames_from peer (returned (renamed g t) node call)))
+      let is : frames_from peer (returned (renamed (new_names g) t) node call) ≡ map (g peer) (frames_from peer (returned t node call)) = ap (frames_from peer) (returned-renamed (new_names g) t node call) ∙ frames-renamed g peer (returned t node call) in
+      next t (calls node call a) ds taken (frames_from peer (returned t node call)) (giving (frames_from peer (returned (renamed (new_names g) t) node call)))
       (subst (λ (ns : List ℕ). GivesAt taken (frames_from peer (returned t node call) ++ along (names_given peer) (after_deed t (calls node call a)) ds) (giving ns ++ moves_after (after_deed t (calls node call a)) ds)) (sym is)
       (gives-more taken (frames_from peer (returned t node call)) (along (names_given peer) (after_deed t (calls node call a)) ds) (moves_after (after_deed t (calls node call a)) ds)
       (subst (λ (m : ℕ). AllByRecursion (λ n. n < m) (frames_from peer (returned t node call))) (sym many) (frames-below peer before (returned t node call) (returned-holds (Below before) t held node call))) each
@@ -149,7 +150,7 @@ module _ (g : ℕ → ℕ → ℕ) (peer : ℕ) where
       go : (b : Bool) → (p == peer) ≡ b
           → ((more : List ℕ) → length more ≡ count_taken peer (before ++ takes p name frame word ∷ []) → Named more → GivesAt more (along (names_given peer) (after_deed t (takes p name frame word)) ds) (moves_after (after_deed t (takes p name frame word)) ds))
           → GivesAt taken (cond b (given_at_once word name) [] ++ along (names_given peer) (after_deed t (takes p name frame word)) ds)
-          (cond b (taking (option_map (g p) name) frame word) [] ++ along (deed_moves peer) (after_deed (renamed g t) (renamed_deed g (takes p name frame word))) (map (renamed_deed g) ds))
+          (cond b (taking (option_map (g p) name) frame word) [] ++ along (deed_moves peer) (after_deed (renamed (new_names g) t) (renamed_deed (new_name g) (takes p name frame word))) (map (renamed_deed (new_name g)) ds))
       go false same then =
           next t (takes p name frame word) ds taken [] []
           (then taken (same-many before (takes p name frame word) taken many (ap (λ (b : Bool). cond {A = ℕ} b 1 0) same)) each)
@@ -166,7 +167,7 @@ module _ (g : ℕ → ℕ → ℕ) (peer : ℕ) where
 pub places-are-given : PlacesAreGiven
 places-are-given s j peer deeds moves board run did =
     let named = (deeds_run s j board run).named in
-    let is : deeds ≡ map (renamed_deed (name_at deeds)) (deeds_of s j) = renamed-are deeds [] deeds [] (deeds_of s j) refl (λ q. refl) did.numbered did.noted named in
+    let is : deeds ≡ map (renamed_deed (new_name (name_at deeds))) (deeds_of s j) = renamed-are deeds [] deeds [] (deeds_of s j) refl (λ q. refl) did.numbered did.noted named in
     gives-unlooked [] (along (names_given peer) (opened s j) (deeds_of s j)) moves
     (subst (GivesAt [] (along (names_given peer) (opened s j) (deeds_of s j))) (sym (did.moved ∙ ap (along (deed_moves peer) (opened s j)) is))
     (gives (name_at deeds) peer (opened s j) (deeds_of s j) [] [] named (record { queued = tt; lent = tt; packets = tt }) refl (λ k l. absurd (omega (arith, l)))))

@@ -3,8 +3,6 @@ pub mod Early
 pub mod Dealt
 pub mod Lists
 pub mod Laws
-pub mod RenamedChanges
-pub mod RenamedCalls
-pub mod RenamedDeeds
+pub mod NewNames
 pub mod Numbering
 pub mod GivenPlaces

@@ -6,8 +6,9 @@ use Rattle.mc_base.specs.declared.fate.Fate.{Fate}
 use Rattle.board_model.specs.Deeds.{Deed, looks_back, puts_owed, looks_ahead, takes, calls}
 use Rattle.board_model.proofs.DeedRuns.{taken_by, count_taken, IsNamed, AreNamed}
 use Rattle.board_model.proofs.DeedTraffic.{count-join}
+use Rattle.board_model.proofs.RenamedDeeds.{renamed_deed}
 use Rattle.lane_images.specs.DeedMoves.{nameless_deed, IsNumbered}
-use Rattle.lane_images.proofs.RenamedDeeds.{renamed_deed}
+use Rattle.lane_images.proofs.NewNames.{new_name}
 
 -- the names of the frames that are taken from a peer
 abbrev pub named_in : ℕ → Deed → List ℕ
@@ -33,7 +34,7 @@ index-there (x ∷ xs) ys n (suc k) e = index-there xs ys n k (omega (arith, e))
 
 -- a deed by a new name, which takes a frame where the other does
 record Renames (g : ℕ → ℕ → ℕ) (d x : Deed) : Type 0 where
-  is : d ≡ renamed_deed g x
+  is : d ≡ renamed_deed (new_name g) x
   counts : (q : ℕ) → length (named_in q d) ≡ taken_by q x
 
 one_or_none : (b : Bool) (n : ℕ) → length (cond b (n ∷ []) []) ≡ cond b 1 0
@@ -81,7 +82,7 @@ module _ (all : List Deed) where
   renames done rest before d (calls node call a) is many numbered same named = let e = same-deed d (calls node call a) tt same in record { is = e; counts = λ q. ap (λ y. length (named_in q y)) e }
 
   pub renamed-are : (done ds before xs : List Deed) → all ≡ done ++ ds → ((q : ℕ) → length (all_named q done) ≡ count_taken q before) → AllByRecursion IsNumbered ds → map nameless_deed ds ≡ map nameless_deed xs → AreNamed before xs
-      → ds ≡ map (renamed_deed (name_at all)) xs
+      → ds ≡ map (renamed_deed (new_name (name_at all))) xs
   renamed-are done [] before [] is many numbered same named = refl
   renamed-are done [] before (x ∷ xs) is many numbered same named = absurd cc
   renamed-are done (d ∷ ds) before [] is many numbered same named = absurd cc

@@ -9,9 +9,9 @@ use Rattle.board_model.specs.Journal.{again}
 use Rattle.board_model.specs.State.{DomainState}
 use Rattle.board_model.specs.Step.{RunState, after}
 use Rattle.board_model.specs.Unjoined.{times, idle_turn}
+use Rattle.board_model.specs.Unnamed.{unnamed}
 use Rattle.board_model.proofs.DeedJoins.{after-join, along-join}
 use Rattle.report_text.specs.StepPass.{idle_visits}
-use Rattle.report_replay.specs.Unnamed.{unnamed}
 use Rattle.report_check.specs.NamedStates.{plain, placed, takes_in, GoesOn, deeds_on, turn_deeds}
 use Rattle.report_check.specs.declared.named_state.NamedState.{NamedState}
 use Rattle.report_check.proofs.NamedLemmas.{goes-then, placed-join, takes-join}

@@ -12,13 +12,13 @@ use Rattle.board_model.specs.Scenario.{label_in}
 use Rattle.board_model.specs.State.{Asked, DomainState, Endpoint, Outcome, Request, channel_of, has_address, has_address_of, has_ended, has_item, has_serial, is_accepted, is_at, is_lent_as, is_rejected, message_at, name_of, packet_at, place_of_packet, place_of_request, request_at_place}
 use Rattle.board_model.proofs.ListsMapped.{find-alike, is_some-map, position-mapped}
 use Rattle.board_model.proofs.MessageAlls.{found-passes}
-use Rattle.board_model.proofs.UnnamedCalls.{answer-unnamed, first-unnamed, puts-unnamed, refusal-unnamed, request-unnamed}
-use Rattle.board_model.proofs.UnnamedChanges.{live-unnamed}
+use Rattle.board_model.proofs.RenamedCalls.{answer-renamed, first-renamed, puts-renamed, refusal-renamed, request-renamed}
+use Rattle.board_model.proofs.RenamedChanges.{live-renamed}
 use Rattle.report_replay.specs.Effects.{HasOwnAddresses}
-use Rattle.report_replay.specs.Unnamed.{unnamed, unnamed_end, unnamed_outcome, unnamed_packet, unnamed_request}
 use Rattle.board_model.specs.Answer.{answer, puts, refusal}
 use Rattle.board_model.specs.Deeds.{calls}
 use Rattle.board_model.specs.Journal.{PlainAnswer}
+use Rattle.board_model.specs.Unnamed.{no_names, unnamed, unnamed_end, unnamed_outcome, unnamed_packet, unnamed_request}
 use Rattle.mc_base.specs.declared.refusal.Refusal.{Refusal}
 use Rattle.std.specs.Prelude.{is_some}
 use Rattle.report_check.specs.NamedStates.{GoesOn, plain}
@@ -47,7 +47,7 @@ own_among at a (x ∷ xs) e is here there = go (is_at at x) refl (has_address_of
 pub own-named : (s : DomainState) → HasOwnAddresses (unnamed s) → HasOwnAddresses s
 own-named s own at e live =
     own_among at e.address s.endpoints e refl live
-    (own at (unnamed_end e) (live-unnamed s at ∙ ap (option_map unnamed_end) live))
+    (own at (unnamed_end e) (live-renamed no_names s at ∙ ap (option_map unnamed_end) live))
 
 -- ---- the call of a line
 
@@ -74,7 +74,7 @@ complete_unnamed (Some r) = is_some-map unnamed_outcome r.outcome
 complete_named : (ls : Labels) (s : DomainState) (label : List ℕ) → is_complete_label ls (unnamed s) label ≡ is_complete_label ls s label
 complete_named ls s label =
     ap (is_complete_at (unnamed s)) (label_place ls s label)
-    ∙ (ap is_complete (request-unnamed s (place_of_label ls.requests s label)) ∙ complete_unnamed (request_at_place s (place_of_label ls.requests s label)))
+    ∙ (ap is_complete (request-renamed no_names s (place_of_label ls.requests s label)) ∙ complete_unnamed (request_at_place s (place_of_label ls.requests s label)))
 
 lending_named : (ls : Labels) (s : DomainState) (c : Call) (own : Option (List ℕ)) → lending_label ls (unnamed s) c own ≡ lending_label ls s c own
 lending_named ls s (Test label) own = refl
@@ -100,10 +100,10 @@ tested_named s (Some r) = go r.asked r.outcome
 module _ (s : DomainState) (node : ℕ) where
   packets_named : (c : DomainCall) → success_packet (unnamed s) c ≡ success_packet s c
   packets_named (lend_at port) = refl
-  packets_named (test_of place) = ap (packet_tested (unnamed s)) (request-unnamed s place) ∙ tested_named s (request_at_place s place)
+  packets_named (test_of place) = ap (packet_tested (unnamed s)) (request-renamed no_names s place) ∙ tested_named s (request_at_place s place)
   packets_named (wait_for places says_place) =
-      ap (λ p. packet_tested (unnamed s) (request_at_place (unnamed s) p)) (first-unnamed s places)
-      ∙ (ap (packet_tested (unnamed s)) (request-unnamed s (first_complete s places))
+      ap (λ p. packet_tested (unnamed s) (request_at_place (unnamed s) p)) (first-renamed no_names s places)
+      ∙ (ap (packet_tested (unnamed s)) (request-renamed no_names s (first_complete s places))
       ∙ tested_named s (request_at_place s (first_complete s places)))
   packets_named other = refl
 
@@ -115,10 +115,10 @@ module _ (s : DomainState) (node : ℕ) where
   requests_named other = refl
 
   packet_named : (c : DomainCall) → packet_given (unnamed s) node c ≡ packet_given s node c
-  packet_named c = ap₂ (λ o p. unless_refused o None p) (refusal-unnamed s node c) (packets_named c)
+  packet_named c = ap₂ (λ o p. unless_refused o None p) (refusal-renamed no_names s node c) (packets_named c)
 
   request_named : (c : DomainCall) → request_given (unnamed s) node c ≡ request_given s node c
-  request_named c = ap₂ (λ o p. unless_refused o None p) (refusal-unnamed s node c) (requests_named c)
+  request_named c = ap₂ (λ o p. unless_refused o None p) (refusal-renamed no_names s node c) (requests_named c)
 
 pub labels-named : (ls : Labels) (s : DomainState) (line : CallLine) → labels_after ls (unnamed s) line ≡ labels_after ls s line
 labels-named ls s line =
@@ -134,13 +134,13 @@ labels-named ls s line =
 
 module _ (s x : DomainState) (node : ℕ) (call c : DomainCall) (is : x ≡ unnamed s) (same : call ≡ c) where
   pub next-refusal : (word : Option Refusal) → word ≡ refusal x node c → word ≡ refusal s node call
-  next-refusal word told = told ∙ (ap₂ (λ y k. refusal y node k) is (sym same) ∙ refusal-unnamed s node call)
+  next-refusal word told = told ∙ (ap₂ (λ y k. refusal y node k) is (sym same) ∙ refusal-renamed no_names s node call)
 
   pub next-answer : answer s node call ≡ answer x node c
-  next-answer = sym (answer-unnamed s node call) ∙ ap₂ (λ y k. answer y node k) (sym is) same
+  next-answer = sym (answer-renamed no_names s node call) ∙ ap₂ (λ y k. answer y node k) (sym is) same
 
   pub next-puts : puts s node call ≡ puts x node c
-  next-puts = sym (puts-unnamed s node call) ∙ ap₂ (λ y k. puts y node k) (sym is) same
+  next-puts = sym (puts-renamed no_names s node call) ∙ ap₂ (λ y k. puts y node k) (sym is) same
 
 pub none-is : {A : Type 0} (o : Option A) → is_some o ≡ false → o ≡ None
 none-is None e = refl

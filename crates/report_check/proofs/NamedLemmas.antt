@@ -9,14 +9,14 @@ use Rattle.board_model.specs.CallChanges.{success_changes, success_returned}
 use Rattle.board_model.specs.Change.{changed_all}
 use Rattle.board_model.specs.DomainCall.{DomainCall}
 use Rattle.board_model.specs.Journal.{PlainAnswer}
-use Rattle.board_model.proofs.UnnamedCalls.{refusal-unnamed}
 use Rattle.board_model.specs.Deeds.{Deed, looks_back, puts_owed, looks_ahead, takes, calls, after_deed, after_deeds, along}
 use Rattle.board_model.specs.Given.{frames_from, given_at_once, names_given}
 use Rattle.board_model.specs.State.{DomainState}
+use Rattle.board_model.specs.Unnamed.{no_names, unnamed}
 use Rattle.board_model.proofs.DeedJoins.{after-join, along-join}
 use Rattle.board_model.proofs.UnnamedDeeds.{deed-unnamed}
+use Rattle.board_model.proofs.RenamedCalls.{refusal-renamed}
 use Rattle.report_replay.specs.Naming.{AddsBy, AddsItems, names_for}
-use Rattle.report_replay.specs.Unnamed.{unnamed}
 use Rattle.report_check.specs.NamedStates.{plain, takes_of, takes_in, placed_deed, placed, AreFew, HasDone, GoesOn}
 use Rattle.report_check.specs.declared.named_state.NamedState.{NamedState}
 
@@ -128,7 +128,7 @@ module _ (s t : NamedState) (peer place : ℕ) (frame : List ℕ) (word : Fate) 
 
 module _ (s t : NamedState) (node : ℕ) (call : DomainCall) (none : refusal (plain s) node call ≡ None) (state : t.state ≡ changed_all s.state (success_changes s.state node call)) where
   not_refused : refusal s.state node call ≡ None
-  not_refused = sym (refusal-unnamed s.state node call) ∙ none
+  not_refused = sym (refusal-renamed no_names s.state node call) ∙ none
 
   pub goes-call : (a : PlainAnswer) → t.taken ≡ s.taken → AddsItems (success_returned s.state node call) s.given t.given → GoesOn s t (calls node call a ∷ [])
   goes-call a kept adds = record {
@@ -148,7 +148,7 @@ module _ (s t : NamedState) (node : ℕ) (call : DomainCall) (none : refusal (pl
 
 module _ (s : NamedState) (node : ℕ) (call : DomainCall) (word : Refusal) (refused : refusal (plain s) node call ≡ Some word) where
   also_named : refusal s.state node call ≡ Some word
-  also_named = sym (refusal-unnamed s.state node call) ∙ refused
+  also_named = sym (refusal-renamed no_names s.state node call) ∙ refused
 
   pub goes-refused : (a : PlainAnswer) → GoesOn s s (calls node call a ∷ [])
   goes-refused a = record {

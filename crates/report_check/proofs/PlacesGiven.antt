@@ -16,16 +16,17 @@ use Rattle.board_model.specs.State.{DomainState}
 use Rattle.board_model.specs.Step.{Allowed, RunState, after, call_at, next_line}
 use Rattle.board_model.specs.Traffic.{taken_from, takes_from, takes_in as frames_in}
 use Rattle.board_model.specs.Turn.{nameless, takes_named, visit_deeds}
+use Rattle.board_model.specs.Unnamed.{no_names, unnamed}
 use Rattle.board_model.proofs.DeedJoins.{along-join, deeds-numbers}
 use Rattle.board_model.proofs.DeedRuns.{AreNamed, IsNamed, count_taken}
 use Rattle.board_model.proofs.DeedTraffic.{count-join, count-takes, entry-take, turn-named}
 use Rattle.board_model.proofs.RunDeeds.{AllAllowed, left-leads}
 use Rattle.board_model.proofs.StateEnds.{numbers_in}
-use Rattle.board_model.proofs.UnnamedCalls.{answer-unnamed, refused-is}
 use Rattle.board_model.proofs.UnnamedDeeds.{unnamed_deed}
+use Rattle.board_model.proofs.RefusedCalls.{refused-is}
+use Rattle.board_model.proofs.RenamedCalls.{answer-renamed}
 use Rattle.report_text.specs.RightRuns.{with_answer, with_answers}
 use Rattle.report_text.proofs.StepsDue.{after-answer}
-use Rattle.report_replay.specs.Unnamed.{unnamed}
 use Rattle.report_check.specs.NamedStates.{deeds_by, deeds_on, placed, placed_deed, takes_in, takes_of, turn_deeds}
 use Rattle.report_check.proofs.NamedLemmas.{placed-join, takes-join}
 
@@ -149,7 +150,7 @@ module _ (lines : List CallLine) (q : ℕ) (before : List PlainEntry) (bd : List
   entry-alike (again word) allowed =
       let line : CallLine = allowed.0 in
       let call = call_at r line in
-      let told : refuses word ≡ answer t line.node call = allowed.2 ∙ (ap (λ s. answer s line.node call) same ∙ answer-unnamed t line.node call) in
+      let told : refuses word ≡ answer t line.node call = allowed.2 ∙ (ap (λ s. answer s line.node call) same ∙ answer-renamed no_names t line.node call) in
       let refused : refusal t line.node call ≡ Some word = refused-is t line.node word call told in
       subst (λ o. Alike q t [] (call_deeds o r (refuses word))) (sym allowed.1)
       (record {

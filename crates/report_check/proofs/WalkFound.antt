@@ -15,7 +15,6 @@ use Rattle.board_model.specs.JournalDeeds.{opened}
 use Rattle.board_model.specs.LinkedBoard.{IsLinkedBoard}
 use Rattle.board_model.proofs.LawfulBoards.{lawful_is_linked}
 use Rattle.board_model.proofs.RunDeeds.{AllAllowed, allowed-all, opened-differ}
-use Rattle.report_replay.specs.Unnamed.{unnamed}
 use Rattle.report_text.specs.LaneLines.{LaneLine, came_back, lane_of, lanes_of, nothing, puts, shows, takes}
 use Rattle.report_text.specs.LinkPass.{journal_told}
 use Rattle.report_text.specs.RightRuns.{journal_due, with_answers}
@@ -35,6 +34,7 @@ use Rattle.board_model.specs.Scenario.{script as script_in, Neighbour, neighbour
 use Rattle.board_model.specs.State.{DomainState, opening}
 use Rattle.board_model.specs.Step.{RunState}
 use Rattle.board_model.specs.Unjoined.{peers_of}
+use Rattle.board_model.specs.Unnamed.{unnamed}
 use Rattle.report_text.specs.declared.link_pass.JournalLines.{JournalLines}
 use Rattle.report_text.specs.JournalRead.{JournalText, lines_of_texts, parts_in}
 use Rattle.report_text.specs.StepPass.{left_behind, lines_left, step_place, unfinished, wrong_step}

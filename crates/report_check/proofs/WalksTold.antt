@@ -8,6 +8,7 @@ use Rattle.board_model.specs.Language.{IsLawfulBoard}
 use Rattle.board_model.specs.Scenario.{script}
 use Rattle.board_model.specs.State.{DomainState}
 use Rattle.board_model.specs.Unjoined.{peers_of}
+use Rattle.board_model.specs.Unnamed.{unnamed}
 use Rattle.board_model.proofs.LawfulBoards.{lawful_is_linked}
 use Rattle.mc_journal.specs.Readers.{cut_at}
 use Rattle.report_text.specs.declared.link_pass.JournalLines.{JournalLines}
@@ -28,7 +29,6 @@ use Rattle.report_text.specs.ReportLines.{journal_form}
 use Rattle.report_text.specs.TextPass.{◌>>=◌, puts_of_script, entries_from, journal_from, journals_from}
 use Rattle.report_text.proofs.ReportsTold.{Ends, lines-length, bind-ok, journal-ok}
 use Rattle.report_text.proofs.TextCuts.{one_line-uncut}
-use Rattle.report_replay.specs.Unnamed.{unnamed}
 use Rattle.report_check.specs.declared.steps.Walked.TheVariants as walked
 use Rattle.report_check.specs.declared.walks.Walks.{Walks}
 use Rattle.report_totals.specs.EndedJournals.{AreLeftBehind}

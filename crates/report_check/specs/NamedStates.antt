@@ -11,8 +11,8 @@ use Rattle.board_model.specs.JournalDeeds.{call_deeds}
 use Rattle.board_model.specs.State.{DomainState}
 use Rattle.board_model.specs.Step.{RunState, next_line, after}
 use Rattle.board_model.specs.Turn.{nameless, visit_deeds}
+use Rattle.board_model.specs.Unnamed.{unnamed}
 use Rattle.report_replay.specs.Naming.{names_for}
-use Rattle.report_replay.specs.Unnamed.{unnamed}
 use Rattle.report_check.specs.declared.named_state.NamedState.{NamedState}
 
 -- the state without the names of its frames

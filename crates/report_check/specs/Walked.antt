@@ -6,9 +6,9 @@ use Rattle.board_model.specs.declared.scenario.DomainLine.{DomainLine}
 use Rattle.board_model.specs.Scenario.{script}
 use Rattle.board_model.specs.Grammar.{IsLawfulDomain}
 use Rattle.board_model.specs.Unjoined.{peers_of}
+use Rattle.board_model.specs.Unnamed.{unnamed}
 use Rattle.report_text.specs.declared.link_pass.JournalLines.{JournalLines}
 use Rattle.report_text.specs.declared.verdict.CheckReason.TheVariants as of
-use Rattle.report_replay.specs.Unnamed.{unnamed}
 use Rattle.report_text.specs.JournalOrder.{journal_place}
 use Rattle.report_text.specs.JournalRead.{JournalText, told_texts, lines_of_texts}
 use Rattle.report_text.specs.Outlines.{outline_of}

@@ -15,7 +15,7 @@ use Rattle.board_model.specs.Journal.{PlainAnswer, refuses, agrees, tells, conne
 use Rattle.board_model.specs.Labels.{Labels, call_of}
 use Rattle.board_model.specs.Unjoined.{frames_put, puts_by}
 use Rattle.board_model.proofs.MessageAlls.{none-passes}
-use Rattle.board_model.proofs.UnnamedCalls.{refused-is}
+use Rattle.board_model.proofs.RefusedCalls.{refused-is}
 use Rattle.report_text.specs.Outlines.{is_refusal}
 
 -- a call that is not refused for want of a channel has one, and puts one frame on it

@@ -10,8 +10,8 @@ use Rattle.board_model.specs.Journal.{PlainAnswer, refuses, agrees, tells, conne
 use Rattle.board_model.specs.Report.{line_text}
 use Rattle.board_model.specs.Step.{RunState, Waited, HasNoPuts, next_line, call_at, is_tried, may_try, tries_again, limit_of, is_timeout, is_done, EndsBegun, EndsWait, MayCome, Allowed, after}
 use Rattle.board_model.proofs.JournalReading.{put_entries}
-use Rattle.board_model.proofs.UnnamedCalls.{refused-is}
 use Rattle.board_model.proofs.WaitCalls.{wait-untried}
+use Rattle.board_model.proofs.RefusedCalls.{refused-is}
 use Rattle.report_text.specs.RightRuns.{answered}
 use Rattle.report_text.specs.StepPass.{due_answer, has_ended, due_wait, due_behind, due_at_limit, due_by, due_call}
 use Rattle.report_text.proofs.CallsDue.{put_lines, said}

@@ -10,5 +10,4 @@ pub mod SerialsHeld
 pub mod ShortLetters
 pub mod Returned
 pub mod NamesAdded
-pub mod UnnamedRows
 pub mod UnnamedCounts

@@ -5,7 +5,7 @@ use Rattle.mc_base.specs.declared.name.Local.{Local}
 use Rattle.board_model.specs.CallChanges.{at_live, best_item}
 use Rattle.board_model.specs.Choice.{best, oldest}
 use Rattle.board_model.specs.State.{DomainState, Endpoint, Item, live_at, queue_at, queue_in}
-use Rattle.board_model.proofs.UnnamedCalls.{at-live}
+use Rattle.board_model.proofs.RenamedCalls.{at-live}
 
 pub first-oldest : {A : Type 0} (o : Option (Bor A)) (q : List A) → option_copied o ≡ slice_get q 0 → option_map (λ i. i.now) o ≡ oldest q
 first-oldest None [] is = refl

@@ -1,50 +1,12 @@
--- What is counted in a state without the names of frames is what is counted in the state.
-use Rattle.std.proofs.Common.{◌≡◌, ℕ, ◌+◌, List, [], ◌∷◌, ◌++◌, map, length, find, Option, Some, None, refl, sym, ap, ap₂, ◌∙◌, arith, sum_by}
-use Rattle.std.specs.Prelude.{count_by, option_map, is_none, if◌then◌else◌}
-use Rattle.std.specs.List.{flat_map}
-use Rattle.std.proofs.lemmas.List.{length-map, map-append}
+-- What waits at endpoints without a channel, and what a channel's receiver has queued, is the same in a state without the names of frames.
+use Rattle.std.proofs.Common.{◌≡◌, ℕ, List, [], ◌∷◌, map, length, find, Option, Some, None, refl, ap, ◌∙◌, arith, sum_by}
+use Rattle.std.specs.Prelude.{option_map, is_none, if◌then◌else◌}
+use Rattle.std.proofs.lemmas.List.{length-map}
 use Rattle.std.proofs.lemmas.List.Sums.{sum_by-cons}
-use Rattle.board_model.specs.State.{DomainState, Endpoint, Item, LentPacket, Outcome, Request, has_address, has_ended, has_item, held_from, is_accepted, is_from, is_rejected, item_in, lent_from, lent_items, queue_in, queued_from, queued_items}
+use Rattle.board_model.specs.State.{DomainState, Endpoint, queue_in}
+use Rattle.board_model.specs.Unnamed.{unnamed, unnamed_end, unnamed_item}
 use Rattle.board_model.proofs.ListsMapped.{find-mapped}
-use Rattle.board_model.proofs.MessageVisitLines.{count-map}
 use Rattle.report_replay.specs.Queues.{hears, messages_at, queued_on}
-use Rattle.report_replay.specs.Unnamed.{unnamed, unnamed_end, unnamed_item, unnamed_outcome, unnamed_packet, unnamed_request}
-
-queues_unnamed : (es : List Endpoint) → flat_map (λ (e : Endpoint). e.queue) (map unnamed_end es) ≡ map unnamed_item (flat_map (λ (e : Endpoint). e.queue) es)
-queues_unnamed [] = refl
-queues_unnamed (e ∷ es) = ap (λ (is : List Item). map unnamed_item e.queue ++ is) (queues_unnamed es) ∙ sym (map-append unnamed_item e.queue (flat_map (λ (x : Endpoint). x.queue) es))
-
-packets_unnamed : (ps : List LentPacket) → map (λ (p : LentPacket). p.item) (map unnamed_packet ps) ≡ map unnamed_item (map (λ (p : LentPacket). p.item) ps)
-packets_unnamed [] = refl
-packets_unnamed (p ∷ ps) = ap (λ (is : List Item). unnamed_item p.item ∷ is) (packets_unnamed ps)
-
-outcome_unnamed : (o : Option Outcome) → item_in (option_map unnamed_outcome o) ≡ map unnamed_item (item_in o)
-outcome_unnamed None = refl
-outcome_unnamed (Some (has_address a)) = refl
-outcome_unnamed (Some is_accepted) = refl
-outcome_unnamed (Some (is_rejected reason)) = refl
-outcome_unnamed (Some (has_item i)) = refl
-outcome_unnamed (Some (has_ended word)) = refl
-
-requests_unnamed : (rs : List Request) → flat_map (λ (r : Request). item_in r.outcome) (map unnamed_request rs) ≡ map unnamed_item (flat_map (λ (r : Request). item_in r.outcome) rs)
-requests_unnamed [] = refl
-requests_unnamed (r ∷ rs) =
-    ap₂ (λ (xs ys : List Item). xs ++ ys) (outcome_unnamed r.outcome) (requests_unnamed rs)
-    ∙ sym (map-append unnamed_item (item_in r.outcome) (flat_map (λ (x : Request). item_in x.outcome) rs))
-
-lent_unnamed : (s : DomainState) → lent_items (unnamed s) ≡ map unnamed_item (lent_items s)
-lent_unnamed s =
-    ap₂ (λ (xs ys : List Item). xs ++ ys) (packets_unnamed s.lent) (requests_unnamed s.requests)
-    ∙ sym (map-append unnamed_item (map (λ (p : LentPacket). p.item) s.lent) (flat_map (λ (r : Request). item_in r.outcome) s.requests))
-
-pub queued-unnamed : (n : ℕ) (s : DomainState) → queued_from n (unnamed s) ≡ queued_from n s
-queued-unnamed n s = ap (count_by (is_from n)) (queues_unnamed s.endpoints) ∙ count-map (is_from n) unnamed_item (queued_items s)
-
-pub lent-unnamed : (n : ℕ) (s : DomainState) → lent_from n (unnamed s) ≡ lent_from n s
-lent-unnamed n s = ap (count_by (is_from n)) (lent_unnamed s) ∙ count-map (is_from n) unnamed_item (lent_items s)
-
-pub held-unnamed : (n : ℕ) (s : DomainState) → held_from n (unnamed s) ≡ held_from n s
-held-unnamed n s = ap₂ (λ a b. a + b) (queued-unnamed n s) (lent-unnamed n s)
 
 pub messages-unnamed : (es : List Endpoint) → sum_by messages_at (map unnamed_end es) ≡ sum_by messages_at es
 messages-unnamed [] = refl

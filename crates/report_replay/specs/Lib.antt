@@ -8,5 +8,4 @@ pub mod Puts
 pub mod Queues
 pub mod Views
 pub mod ShortLetters
-pub mod Unnamed
 pub mod Naming

@@ -15,7 +15,7 @@ use Rattle.board_model.proofs.ListsCounts.{one_if, count-cons, count-append}
 use Rattle.board_model.proofs.LanePeers.{peer_found}
 use Rattle.board_model.proofs.LaneSends.{goes_to, call_frees}
 use Rattle.board_model.proofs.MessageAlls.{all-append}
-use Rattle.board_model.proofs.UnnamedCalls.{refused-is}
+use Rattle.board_model.proofs.RefusedCalls.{refused-is}
 use Rattle.report_text.specs.StepPass.{due_answer, has_ended, due_wait, due_behind, due_at_limit, due_by, due_call}
 use Rattle.report_text.proofs.TurnsDue.{Sound}
 use Rattle.report_text.proofs.LinesTold.{IsSmall}

@@ -1,11 +1,12 @@
 -- What a domain holds is counted alike with the names of frames and without them.
 use Rattle.std.proofs.Common.{◌^◌, ◌<◌, Some, sym, ap, subst, ◌∙◌}
 use Rattle.board_model.specs.State.{DomainState}
+use Rattle.board_model.specs.Unnamed.{unnamed}
 use Rattle.board_numbers.specs.Tallied.{AreHeld}
 use Rattle.board_numbers.specs.declared.tally.HeldBuffers.{HeldBuffers}
-use Rattle.report_replay.specs.Unnamed.{unnamed}
-use Rattle.report_replay.proofs.UnnamedCounts.{lent-unnamed, messages-unnamed, queued-unnamed}
+use Rattle.report_replay.proofs.UnnamedCounts.{messages-unnamed}
 use Rattle.report_totals.specs.SmallRuns.{HoldsFew}
+use Rattle.board_model.proofs.UnnamedCounts.{lent-unnamed, queued-unnamed}
 
 pub few-named : (s : DomainState) → HoldsFew (unnamed s) → HoldsFew s
 few-named s few = record {

@@ -14,6 +14,7 @@ use Rattle.board_model.specs.Step.{RunState}
 use Rattle.board_model.specs.Run.{start, left_by}
 use Rattle.board_model.specs.Board.{DomainJournal, IsBoardRun}
 use Rattle.board_model.specs.SerialRun.{Station, journal_left}
+use Rattle.board_model.specs.Unnamed.{unnamed}
 use Rattle.board_model.proofs.KeptNumbers.{lost}
 use Rattle.board_model.proofs.LawfulBoards.{lawful_is_linked}
 use Rattle.board_model.proofs.ListsApart.{all-unmap, differ-found}
@@ -35,7 +36,6 @@ use Rattle.report_text.proofs.RightReports.{right_reports, reports-sound}
 use Rattle.report_text.proofs.RunsTold.{due-left}
 use Rattle.report_text.proofs.TurnsDue.{Sound}
 use Rattle.report_totals.specs.declared.ended_journal.EndedJournal.{EndedJournal}
-use Rattle.report_replay.specs.Unnamed.{unnamed}
 use Rattle.report_totals.specs.EndedJournals.{AreLeftBehind, IsEnded, AreEnded, lines_due_at, ended_by, CountsAsTold}
 use Rattle.report_totals.specs.JournalTallies.{EndRun, EndSomeRun}
 use Rattle.report_totals.specs.PassedReports.{IsPassed}

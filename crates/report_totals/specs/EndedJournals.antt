@@ -6,8 +6,8 @@ use Rattle.board_model.specs.declared.scenario.Scenario.{Scenario}
 use Rattle.board_model.specs.Scenario.{rising}
 use Rattle.board_model.specs.Journal.{Line, joined}
 use Rattle.board_model.specs.State.{DomainState}
+use Rattle.board_model.specs.Unnamed.{unnamed}
 use Rattle.board_numbers.specs.EndedDomains.{Ended}
-use Rattle.report_replay.specs.Unnamed.{unnamed}
 use Rattle.report_text.specs.declared.link_pass.JournalLines.{JournalLines}
 use Rattle.report_text.specs.CountedLines.{counted_line, lines_counted}
 use Rattle.report_text.specs.JournalRead.{JournalText, told_texts}

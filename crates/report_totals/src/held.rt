@@ -2,8 +2,8 @@
 
 ghost use Rattle.std.specs.Prelude.{◌≡◌, ◌≤◌, min};
 ghost use Rattle.board_model.specs.State.{lent_from, queued_from};
+ghost use Rattle.board_model.specs.Unnamed.{unnamed};
 ghost use Rattle.board_numbers.specs.Tallied.{AreHeld};
-ghost use Rattle.report_replay.specs.Unnamed.{unnamed};
 ghost use Rattle.report_totals.specs.SmallRuns.{HoldsFew};
 
 use board_numbers::HeldBuffers;

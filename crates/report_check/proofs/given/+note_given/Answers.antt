@@ -6,7 +6,9 @@ use Rattle.board_model.specs.declared.scenario.Scenario.{Scenario}
 use Rattle.board_model.specs.Board.{given_by}
 use Rattle.board_model.specs.Language.{IsLawfulBoard}
 use Rattle.board_model.specs.State.{DomainState, held_from}
+use Rattle.board_model.specs.Unnamed.{unnamed}
 use Rattle.board_model.proofs.LawfulBoards.{lawful_is_linked}
+use Rattle.board_model.proofs.UnnamedCounts.{held-unnamed}
 use Rattle.report_text.specs.declared.journal_lanes.JournalLanes.{JournalLanes}
 use Rattle.report_text.specs.declared.link_pass.JournalLines.{JournalLines}
 use Rattle.report_text.specs.JournalLanes.{HasLanes, journals_of}
@@ -21,8 +23,6 @@ use Rattle.report_text.specs.TextLines.{lines_in}
 use Rattle.report_text.proofs.LinesTold.{Tell}
 use Rattle.report_text.proofs.ReportsTold.{lines-end, texts-tell}
 use Rattle.report_text.proofs.RunsTold.{IsRight}
-use Rattle.report_replay.specs.Unnamed.{unnamed}
-use Rattle.report_replay.proofs.UnnamedCounts.{held-unnamed}
 use Rattle.report_totals.specs.EndedJournals.{AreLeftBehind}
 use Rattle.report_check.specs.RightSteps.{HasRightSteps, HaveRightSteps}
 use Rattle.report_check.proofs.given.+note_given.Goals as goal

@@ -1,9 +1,9 @@
 use Rattle.std.proofs.Common.{◌≡◌, List, map, ap, subst, ◌∙◌, arith}
 use Rattle.board_model.specs.Scenario.{Neighbour}
 use Rattle.board_model.specs.State.{opening}
+use Rattle.board_model.specs.Unnamed.{unnamed}
 use Rattle.report_text.specs.Texts.{neighbours_of}
 use Rattle.report_text.specs.declared.board.Numbered.{Numbered}
-use Rattle.report_replay.specs.Unnamed.{unnamed}
 use Rattle.report_check.specs.NamedStates.{plain}
 use Rattle.report_check.specs.PartsWalked.{IsPartsWalked}
 use Rattle.report_check.specs.Runs.{begun, script_of}

@@ -9,10 +9,10 @@ use Rattle.report_text.specs.StepPass.{due_back, due_see, frames_coming}
 use Rattle.report_check.specs.Meeting.{Meets}
 use Rattle.report_check.specs.Doing.{PutsDone, owed_first}
 use Rattle.report_check.specs.ToldTurns.{frame_told}
-use Rattle.report_replay.proofs.UnnamedCounts.{held-unnamed}
 use Rattle.report_check.specs.declared.named_state.NamedState.{NamedState}
 use Rattle.report_check.proofs.NamedLemmas.{goes-quiet}
 use Rattle.report_check.proofs.VisitSteps.{back-missed, owed-missed, ahead-missed, code-puts, code-sees, code-takes, coming-less}
+use Rattle.board_model.proofs.UnnamedCounts.{held-unnamed}
 use Rattle.report_check.proofs.turn.visit.Goals as goal
 
 pub returns-then-not-branch : goal.returns-then-not-branch

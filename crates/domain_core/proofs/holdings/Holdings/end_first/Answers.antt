@@ -5,13 +5,14 @@ use Rattle.mc_base.specs.declared.refusal.Refusal.{Refusal}
 use Rattle.mc_base.specs.declared.request.Done.{Done}
 use Rattle.mc_base.specs.declared.request.RequestId.{RequestId}
 use Rattle.board_model.specs.DomainCall.{test_of}
-use Rattle.board_model.proofs.UnnamedCalls.{answer-unnamed}
+use Rattle.board_model.specs.Unnamed.{no_names}
 use Rattle.domain_core.specs.Calls.{result_of_done, tested}
 use Rattle.domain_core.specs.CallSteps.{Acts}
 use Rattle.domain_core.specs.DomainView.{packet_lent_as, place_of_id}
 use Rattle.domain_core.specs.Parts.{shown, state_of}
 use Rattle.domain_core.proofs.WaitPlaces.{complete-ends, named-complete, named-within}
 use Rattle.domain_core.proofs.WaitEnds.{ends-first}
+use Rattle.board_model.proofs.RenamedCalls.{answer-renamed}
 use Rattle.domain_core.proofs.holdings.Holdings.end_first.Goals as goal
 
 -- what is read at a place of the list
@@ -27,7 +28,7 @@ unwrap-requires g c =
     let ids = c.args.ids.now in
     let id = id_at ids c.args.at in
     let here = slice_get-get_or ids c.args.at (record { key = 0; serial = 0 }) (named-within ids old c.args.at c.requires.first) in
-    complete-ends old.state (place_of_id old.ids id) c.end_request.result c.end_request.new.out (packet_lent_as (shown c.end_request.new.self)) (named-complete ids old c.args.at c.requires.first id here) (c.end_request.ensures.acts.answer ∙ sym (answer-unnamed (state_of c.args.self.now.parts) 0 (test_of (place_of_id old.ids id))))
+    complete-ends old.state (place_of_id old.ids id) c.end_request.result c.end_request.new.out (packet_lent_as (shown c.end_request.new.self)) (named-complete ids old c.args.at c.requires.first id here) (c.end_request.ensures.acts.answer ∙ sym (answer-renamed no_names (state_of c.args.self.now.parts) 0 (test_of (place_of_id old.ids id))))
 
 pub returns-clause-does : goal.returns-clause-does
 returns-clause-does g c = λ says_place.

@@ -14,6 +14,7 @@ use Rattle.board_model.specs.Answer.{result_of}
 use Rattle.board_model.specs.DomainCall.{test_of}
 use Rattle.board_model.specs.Journal.{PlainAnswer, PlainResult, brought, completes}
 use Rattle.board_model.specs.State.{request_at_place}
+use Rattle.board_model.specs.Unnamed.{unnamed}
 use Rattle.buffer_book.specs.Book.{queued_at, kept_at, Book, IsQueued, Kept}
 use Rattle.request_set.specs.declared.ask.Complete.TheVariants as complete
 use Rattle.request_set.specs.Requests.{Requests, progress_of, without_request}
@@ -27,7 +28,6 @@ use Rattle.domain_core.specs.InBook.{content_in}
 use Rattle.domain_core.specs.InRequests.{handed_slots, AreReceives}
 use Rattle.domain_core.specs.Parts.{Holding, Parts, Sound, holding_in, parts_in, peers_seen, plain, shown, state_of}
 use Rattle.domain_core.specs.Steps.{Did, done, message_ended, request_ended, Step, without_at, next_lent, packet_ended}
-use Rattle.domain_core.specs.Unnamed.{unnamed}
 use Rattle.domain_core.proofs.Unnaming.{lent-brings}
 use Rattle.domain_core.proofs.Ending.{held-message, ids_in, quiet-items, quiet-lends, quiet-result, quiet-same, quiet-slots, test-complete, test-done, test-refused, tested-fewer, tested-items, tested-lends, tested-result, packet-fewer, held-packet, by, left-receives, packet-request, request_for}
 use Rattle.domain_core.proofs.GivingLemmas.{given-length}

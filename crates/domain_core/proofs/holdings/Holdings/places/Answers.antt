@@ -6,11 +6,11 @@ use Rattle.domain_core.proofs.Stepping.{sound-unseen, state-seen}
 use Rattle.domain_core.specs.InPlaces.{is_of}
 use Rattle.domain_core.specs.InRequests.{handed_slots}
 use Rattle.domain_core.specs.Records.{all_waiting}
-use Rattle.domain_core.proofs.Unnaming.{lent-unnamed, queued-unnamed}
 use Rattle.domain_core.proofs.CountsFrom.{both-are, held-few, kept-from, lent-are, lent-within, lent-is, queued-is}
 use Rattle.domain_core.proofs.PeerPlaces.{contained-found, found-contained, number-place, numbers-in}
 use Rattle.domain_core.proofs.Slots.{slots}
 use Rattle.domain_core.proofs.holdings.Holdings.places.Given.{Over}
+use Rattle.board_model.proofs.UnnamedCounts.{lent-unnamed, queued-unnamed}
 use Rattle.domain_core.proofs.holdings.Holdings.places.Goals as goal
 
 absurd-no : true ≡ false → ⊥

@@ -2,8 +2,8 @@ use Rattle.std.proofs.Common.{Some, sym, ap, ◌∙◌}
 use Rattle.std.specs.Prelude.{slice_index}
 use Rattle.mc_base.specs.Reading.{reading}
 use Rattle.board_model.specs.TakenFrames.{Row}
-use Rattle.report_replay.proofs.UnnamedRows.{row-unnamed}
 use Rattle.report_check.proofs.NamedLemmas.{goes-take}
+use Rattle.board_model.proofs.UnnamedDeeds.{row-unnamed}
 use Rattle.report_check.proofs.named_state.NamedState.take.Goals as goal
 
 pub returns-clause-word : goal.returns-clause-word

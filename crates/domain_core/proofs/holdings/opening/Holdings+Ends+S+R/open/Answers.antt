@@ -6,9 +6,9 @@ use Rattle.domain_core.specs.Ends.{ends_seen}
 use Rattle.domain_core.specs.AllMoved.{ends_of}
 use Rattle.domain_core.specs.Opened.{sizes_opened}
 use Rattle.domain_core.specs.Records.{opening_records, Records}
-use Rattle.domain_core.specs.Unnamed.{unnamed}
 use Rattle.domain_core.proofs.Stepping.{sound-seen, state-seen}
 use Rattle.domain_core.proofs.Opening.{ends-opening, kept-none, parts-sound, parts-state, room-fits, sizes-apart}
+use Rattle.board_model.specs.Unnamed.{unnamed}
 use Rattle.domain_core.proofs.holdings.opening.Holdings+Ends+S+R.open.Goals as goal
 
 pub buffers_in-requires : goal.buffers_in-requires
