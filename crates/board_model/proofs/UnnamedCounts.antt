@@ -1,9 +1,12 @@
 -- What is counted in a state without the names of frames is what is counted in the state.
-use Rattle.std.proofs.Common.{◌≡◌, ℕ, ◌+◌, List, [], ◌∷◌, ◌++◌, map, Option, Some, None, refl, sym, ap, ap₂, ◌∙◌}
-use Rattle.std.specs.Prelude.{count_by, option_map}
+use Rattle.std.proofs.Common.{◌≡◌, ℕ, ◌+◌, List, [], ◌∷◌, ◌++◌, map, length, find, Option, Some, None, refl, sym, ap, ap₂, ◌∙◌, arith, sum_by}
+use Rattle.std.specs.Prelude.{count_by, option_map, is_none, if◌then◌else◌}
 use Rattle.std.specs.List.{flat_map}
-use Rattle.std.proofs.lemmas.List.{map-append}
-use Rattle.board_model.specs.State.{DomainState, Endpoint, Item, LentPacket, Outcome, Request, has_address, has_ended, has_item, held_from, is_accepted, is_from, is_rejected, item_in, lent_from, lent_items, queued_from, queued_items}
+use Rattle.std.proofs.lemmas.List.{length-map, map-append}
+use Rattle.std.proofs.lemmas.List.Sums.{sum_by-cons}
+use Rattle.board_model.specs.Queues.{hears, messages_at, queued_on}
+use Rattle.board_model.specs.State.{DomainState, Endpoint, Item, LentPacket, Outcome, Request, has_address, has_ended, has_item, held_from, is_accepted, is_from, is_rejected, item_in, lent_from, lent_items, queue_in, queued_from, queued_items}
+use Rattle.board_model.proofs.ListsMapped.{find-mapped}
 use Rattle.board_model.proofs.MessageVisitLines.{count-map}
 use Rattle.board_model.specs.Unnamed.{unnamed, unnamed_end, unnamed_item, unnamed_outcome, unnamed_packet, unnamed_request}
 
@@ -42,3 +45,14 @@ lent-unnamed n s = ap (count_by (is_from n)) (lent_unnamed s) ∙ count-map (is_
 
 pub held-unnamed : (n : ℕ) (s : DomainState) → held_from n (unnamed s) ≡ held_from n s
 held-unnamed n s = ap₂ (λ a b. a + b) (queued-unnamed n s) (lent-unnamed n s)
+
+pub messages-unnamed : (es : List Endpoint) → sum_by messages_at (map unnamed_end es) ≡ sum_by messages_at es
+messages-unnamed [] = refl
+messages-unnamed (e ∷ es) = omega (arith, sum_by-cons messages_at (unnamed_end e) (map unnamed_end es), sum_by-cons messages_at e es, messages-unnamed es, ap (λ (n : ℕ). if is_none e.channel then n else 0) (length-map e.queue unnamed_item))
+
+pub queue-unnamed-on : (owner number : ℕ) (s : DomainState) → queued_on owner number (unnamed s) ≡ queued_on owner number s
+queue-unnamed-on owner number s = ap (λ x. length (queue_in x)) (find-mapped unnamed_end (hears owner number) (hears owner number) (λ e. refl) s.endpoints) ∙ go (find (hears owner number) s.endpoints)
+  where
+    go : (x : Option Endpoint) → length (queue_in (option_map unnamed_end x)) ≡ length (queue_in x)
+    go None = refl
+    go (Some e) = length-map e.queue unnamed_item

@@ -13,6 +13,7 @@ pub mod WordTables
 pub mod LinkedBoard
 pub mod Journal
 pub mod State
+pub mod Queues
 pub mod Renamed
 pub mod Unnamed
 pub mod Choice

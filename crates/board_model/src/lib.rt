@@ -2,10 +2,10 @@
 //! against. The only code beyond the types and the laws parses single words.
 //!
 //! `specs/` is to be read in this order: Lists, Scenario, FileLines, FileWords, Numerals, Forms, Grammar, LineReasons, Language,
-//! LinkedBoard, Words, Journal, State, Choice, DomainCall, Answer, Change, Dealing, TakenFrames, ChannelEnds, CallChanges, Deeds,
-//! Turn, Labels, Step, Run, Traffic, Board, JournalDeeds, Given, Channels, Messages, Takings, Drops, MessageOrder, Totals, Tallies,
-//! Places, Serial, Loads, SerialRun, Report, Headline, Laws, MessageLaws, Honesty, ReadBack, SerialLaws, LanguageLaws, WordTables,
-//! Unjoined, JournalForm, JournalParts, JournalLaws, RingImage.
+//! LinkedBoard, Words, Journal, State, Renamed, Unnamed, Choice, DomainCall, Answer, Change, Dealing, TakenFrames, ChannelEnds,
+//! Queues, CallChanges, Deeds, Turn, Labels, Step, Run, Traffic, Board, JournalDeeds, Given, Channels, Messages, Takings, Drops,
+//! MessageOrder, Totals, Tallies, Places, Serial, Loads, SerialRun, LoadBoard, Report, Headline, Laws, MessageLaws, ChannelLaws,
+//! Honesty, ReadBack, SerialLaws, LanguageLaws, WordTables, Unjoined, JournalForm, JournalParts, JournalLaws, RingImage.
 #![tactic(auto)]
 
 mod form;

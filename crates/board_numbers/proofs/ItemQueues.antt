@@ -18,8 +18,8 @@ use Rattle.board_model.proofs.HearingDeeds.{IsSmallFrom}
 use Rattle.board_model.proofs.HearingItems.{bound_contents}
 use Rattle.board_model.proofs.HearingLaw.{run_hearing, opening_sound, IsSmallFrame}
 use Rattle.board_model.proofs.HearingQueues.{queued_on}
-use Rattle.board_numbers.specs.Queues as ended
-use Rattle.board_numbers.specs.Queues.{is_receiver_of}
+use Rattle.board_model.specs.Queues as ended
+use Rattle.board_model.specs.Queues.{is_receiver_of}
 use Rattle.board_model.proofs.ListsApart.{differ-found}
 use Rattle.board_model.proofs.ListsMapped.{find-alike, find-mapped}
 use Rattle.board_model.proofs.ListsOne.{AtMostOne, differ-one, joined-none, joined-one}

@@ -19,7 +19,7 @@ use Rattle.board_model.proofs.MessageOnce.{total, total-each, length-joined}
 use Rattle.board_model.proofs.OrderLaws.{stands_end, stands_open}
 use Rattle.board_model.proofs.OrderSerials.{all_succeed}
 use Rattle.board_model.proofs.OrderSound.{Bound, CameOn, IsBound, IsMessage, Sound, came-no-message}
-use Rattle.board_numbers.specs.Queues.{messages_at}
+use Rattle.board_model.specs.Queues.{messages_at}
 
 -- how many messages are queued in a state
 abbrev pub queued_apart : DomainState → ℕ

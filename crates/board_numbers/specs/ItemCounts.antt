@@ -8,7 +8,7 @@ use Rattle.board_numbers.specs.declared.items.ChannelKey.{ChannelKey}
 use Rattle.board_numbers.specs.Counts.{one_if}
 use Rattle.board_numbers.specs.EndedDomains.{Ended}
 use Rattle.board_numbers.specs.Items.{is_item_put, is_item_taken, is_item_lost, is_close_put, told_in, closing_last, closed_after}
-use Rattle.board_numbers.specs.Queues.{queued_on}
+use Rattle.board_model.specs.Queues.{queued_on}
 
 -- ---- what the lines of a journal tell of a channel, which is that of the domain of the number `own`
 

@@ -1,7 +1,6 @@
 pub mod Lanes
 pub mod Told
 pub mod Counts
-pub mod Queues
 pub mod EndedDomains
 pub mod Tallied
 pub mod Items

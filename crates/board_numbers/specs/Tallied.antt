@@ -19,7 +19,7 @@ use Rattle.board_numbers.specs.declared.tally.HeldBuffers.{HeldBuffers}
 use Rattle.board_numbers.specs.declared.tally.Tally.{Tally}
 use Rattle.board_numbers.specs.Counts.{AreCounts}
 use Rattle.board_numbers.specs.Lanes.{lane_between}
-use Rattle.board_numbers.specs.Queues.{messages_at}
+use Rattle.board_model.specs.Queues.{messages_at}
 
 -- where the buffers of the lane from a peer are held
 abbrev pub places_held : ℕ → DomainState → Places

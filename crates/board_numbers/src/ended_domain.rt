@@ -2,7 +2,7 @@
 
 ghost use Rattle.std.specs.Prelude.{◌≡◌};
 ghost use Rattle.board_numbers.specs.EndedDomains.{Ended};
-ghost use Rattle.board_numbers.specs.Queues.{queued_on};
+ghost use Rattle.board_model.specs.Queues.{queued_on};
 
 /// A domain that has ended its run, as far as the numbers of its channels need it.
 pub trait EndedDomain {

@@ -23,7 +23,7 @@ use Rattle.board_model.proofs.RenamedChanges.{renamed-all}
 use Rattle.buffer_book.specs.Book.{Book}
 use Rattle.domain_core.specs.AllMoved.{buffers_of}
 use Rattle.domain_core.specs.Calls.{brings_whole, gives_whole, place_ended, place_released, success_ends, success_releases}
-use Rattle.domain_core.specs.Hearing.{hears, messages_at, queued_on}
+use Rattle.board_model.specs.Queues.{hears, messages_at, queued_on}
 use Rattle.domain_core.specs.InBook.{item_at, numbered_at}
 use Rattle.domain_core.specs.NumberedDeeds.{number_in, numbered_deeds}
 
@@ -35,19 +35,6 @@ visit-may t v numbers may = subst (AllMayDo (unnamed t)) (visit-unnamed (number_
 
 pub visit-numbered : (t : DomainState) (v : Visit) (numbers : List ℕ) → unnamed (after_deeds t (numbered_deeds v numbers)) ≡ after_deeds (unnamed t) (visit_deeds nameless v)
 visit-numbered t v numbers = deeds-unnamed t (numbered_deeds v numbers) ∙ ap (after_deeds (unnamed t)) (visit-unnamed (number_in numbers) v)
-
--- ---- what is counted
-
-pub messages-unnamed : (es : List Endpoint) → sum_by messages_at (map unnamed_end es) ≡ sum_by messages_at es
-messages-unnamed [] = refl
-messages-unnamed (e ∷ es) = omega (arith, sum_by-cons messages_at (unnamed_end e) (map unnamed_end es), sum_by-cons messages_at e es, messages-unnamed es, ap (λ (n : ℕ). if is_none e.channel then n else 0) (length-map e.queue unnamed_item))
-
-pub queue-unnamed-on : (owner number : ℕ) (s : DomainState) → queued_on owner number (unnamed s) ≡ queued_on owner number s
-queue-unnamed-on owner number s = ap (λ x. length (queue_in x)) (find-mapped unnamed_end (hears owner number) (hears owner number) (λ e. refl) s.endpoints) ∙ go (find (hears owner number) s.endpoints)
-  where
-    go : (x : Option Endpoint) → length (queue_in (option_map unnamed_end x)) ≡ length (queue_in x)
-    go None = refl
-    go (Some e) = length-map e.queue unnamed_item
 
 -- ---- lent packets and requests
 

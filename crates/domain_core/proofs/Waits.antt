@@ -19,7 +19,8 @@ use Rattle.message_queue.specs.Queue.{Waiting}
 use Rattle.packet_channel.specs.End.{end_of}
 use Rattle.packet_channel.specs.declared.channel.Channel.{Channel}
 use Rattle.domain_core.specs.declared.endpoints.Endpoint.{Endpoint}
-use Rattle.domain_core.specs.Hearing.{messages_at, messages_waiting}
+use Rattle.board_model.specs.Queues.{messages_at}
+use Rattle.domain_core.specs.Hearing.{messages_waiting}
 use Rattle.domain_core.specs.Table.{items_in}
 use Rattle.domain_core.specs.Records.{all_waiting, waiting_in, with_best_taken, with_waiting}
 use Rattle.domain_core.specs.InBook.{channel_in, content_in, endpoint_in, endpoints_in, item_in, source_in}

@@ -5,7 +5,7 @@ ghost use Rattle.board_model.specs.DomainCall.{create_at, delete_at, lookup_of, 
 ghost use Rattle.board_model.specs.Journal.{agrees};
 ghost use Rattle.board_model.specs.State.{lent_from, queued_from, place_of_peer};
 ghost use Rattle.domain_core.specs.Ends.{EndsMoved};
-ghost use Rattle.domain_core.specs.Hearing.{messages_at};
+ghost use Rattle.board_model.specs.Queues.{messages_at};
 ghost use Rattle.domain_core.specs.Room.{call_entries, call_bytes};
 ghost use Rattle.domain_core.specs.DomainView.{packet_lent_as, place_of_id};
 ghost use Rattle.domain_core.specs.Turned.{MakesTurn};

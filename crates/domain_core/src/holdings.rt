@@ -7,7 +7,7 @@ ghost use Rattle.mc_base.specs.Letter.{HasSpelling, plain_letter, spelling};
 ghost use Rattle.board_model.specs.Answer.{address_of, has_channel};
 ghost use Rattle.board_model.specs.Journal.{noted_all};
 ghost use Rattle.board_model.specs.Serial.{put_entry};
-ghost use Rattle.domain_core.specs.Hearing.{messages_at};
+ghost use Rattle.board_model.specs.Queues.{messages_at};
 ghost use Rattle.domain_core.specs.Parts.{Sound, shown, state_of};
 ghost use Rattle.domain_core.specs.Steps.{Did, frame_put};
 

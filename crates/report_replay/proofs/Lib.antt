@@ -10,4 +10,3 @@ pub mod SerialsHeld
 pub mod ShortLetters
 pub mod Returned
 pub mod NamesAdded
-pub mod UnnamedCounts

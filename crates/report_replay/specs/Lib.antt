@@ -5,7 +5,6 @@ pub mod Effects
 pub mod HeldLabels
 pub mod PlainCalls
 pub mod Puts
-pub mod Queues
 pub mod Views
 pub mod ShortLetters
 pub mod Naming

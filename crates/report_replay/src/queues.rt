@@ -1,7 +1,7 @@
 //! What is queued at the endpoints: messages, and the items of channels.
 
 ghost use Rattle.std.specs.Prelude.{◌≡◌, find, min, sum_by, option_map};
-ghost use Rattle.report_replay.specs.Queues.{hears, is_receiver_of, messages_at, queued_on};
+ghost use Rattle.board_model.specs.Queues.{hears, is_receiver_of, messages_at, queued_on};
 ghost use Rattle.report_replay.specs.Replayed.{greatest};
 ghost use Rattle.report_replay.specs.Views.{end_of};
 

@@ -4,7 +4,7 @@ use Rattle.board_model.specs.State.{DomainState}
 use Rattle.board_model.specs.Unnamed.{unnamed}
 use Rattle.board_numbers.specs.Tallied.{AreHeld}
 use Rattle.board_numbers.specs.declared.tally.HeldBuffers.{HeldBuffers}
-use Rattle.report_replay.proofs.UnnamedCounts.{messages-unnamed}
+use Rattle.board_model.proofs.UnnamedCounts.{messages-unnamed}
 use Rattle.report_totals.specs.SmallRuns.{HoldsFew}
 use Rattle.board_model.proofs.UnnamedCounts.{lent-unnamed, queued-unnamed}
 

@@ -7,7 +7,7 @@ use Rattle.board_model.specs.Journal.{joined}
 use Rattle.board_model.specs.State.{DomainState, peer_of, queued_from, lent_from}
 use Rattle.board_model.specs.Tallies.{deleted_in}
 use Rattle.board_model.specs.SerialRun.{Station}
-use Rattle.report_replay.specs.Queues.{messages_at}
+use Rattle.board_model.specs.Queues.{messages_at}
 
 -- what a domain in this state holds
 pub record HoldsFew (s : DomainState) : Type 0 where

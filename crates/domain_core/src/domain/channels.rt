@@ -5,7 +5,7 @@ ghost use Rattle.mc_base.specs.declared.channel.Side.TheVariants.{Receiver, Send
 ghost use Rattle.board_model.specs.DomainCall.{close_at, connect_from, open_at};
 ghost use Rattle.domain_core.specs.Calls.{Calls, connected, deleted, given_by, sent};
 ghost use Rattle.domain_core.specs.Ends.{EndsMoved};
-ghost use Rattle.domain_core.specs.Hearing.{queued_on};
+ghost use Rattle.board_model.specs.Queues.{queued_on};
 ghost use Rattle.domain_core.specs.Room.{call_bytes, call_entries};
 
 use crate::domain::Domain;

@@ -13,7 +13,7 @@ ghost use Rattle.board_model.specs.State.{one_waits, place_at, queue_at};
 ghost use Rattle.packet_channel.specs.End.{end_of};
 ghost use Rattle.domain_core.specs.Calls.{closed, connected, given_by, sent};
 ghost use Rattle.domain_core.specs.CallSteps.{Acts, Empties};
-ghost use Rattle.domain_core.specs.Hearing.{queued_on};
+ghost use Rattle.board_model.specs.Queues.{queued_on};
 ghost use Rattle.domain_core.specs.InTable.{IsNumbered};
 ghost use Rattle.domain_core.specs.Parts.{state_of};
 ghost use Rattle.domain_core.specs.Records.{kept, slots_at};

@@ -1,5 +1,5 @@
 use Rattle.std.proofs.Common.{◌≡◌, length, sum_by}
-use Rattle.domain_core.specs.Hearing.{messages_at}
+use Rattle.board_model.specs.Queues.{messages_at}
 use Rattle.board_runner.proofs.HoldingLemmas.{HeldBelow}
 use Rattle.board_runner.proofs.ending.held_by.Given as goal
 

@@ -1,7 +1,7 @@
 use Rattle.std.proofs.Common.{◌∙◌, ap, sym}
-use Rattle.domain_core.specs.Hearing.{queued_on}
+use Rattle.board_model.specs.Queues.{queued_on}
 use Rattle.domain_core.specs.Parts.{state_of}
-use Rattle.domain_core.proofs.Unnaming.{queue-unnamed-on}
+use Rattle.board_model.proofs.UnnamedCounts.{queue-unnamed-on}
 use Rattle.domain_core.proofs.domain.Domain.queued.Goals as goal
 
 pub returns : goal.returns

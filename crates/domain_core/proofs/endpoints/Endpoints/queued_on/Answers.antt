@@ -6,7 +6,8 @@ use Rattle.board_model.specs.State as state
 use Rattle.board_model.specs.State.{queue_in}
 use Rattle.buffer_book.specs.Book.{Book}
 use Rattle.domain_core.specs.declared.endpoints.Endpoint.{Endpoint}
-use Rattle.domain_core.specs.Hearing.{hears, hears_at}
+use Rattle.board_model.specs.Queues.{hears}
+use Rattle.domain_core.specs.Hearing.{hears_at}
 use Rattle.domain_core.specs.InBook.{endpoint_in, endpoints_in, item_in}
 use Rattle.domain_core.specs.Records.{Records, waiting_in}
 use Rattle.domain_core.proofs.Tables.{position-map, slice_get-read}

@@ -1,7 +1,7 @@
 use Rattle.std.proofs.Common.{◌∙◌, ap, sym, arith, sum_by}
-use Rattle.domain_core.specs.Hearing.{messages_at}
+use Rattle.board_model.specs.Queues.{messages_at}
 use Rattle.domain_core.specs.Parts.{peers_seen, plain, state_of}
-use Rattle.domain_core.proofs.Unnaming.{messages-unnamed}
+use Rattle.board_model.proofs.UnnamedCounts.{messages-unnamed}
 use Rattle.domain_core.proofs.CountsFrom.{waiting-fits}
 use Rattle.domain_core.proofs.Waits.{messages-in}
 use Rattle.domain_core.proofs.holdings.Holdings.messages_queued.Goals as goal

@@ -1,5 +1,5 @@
 use Rattle.std.proofs.Common.{sym, ◌∙◌}
-use Rattle.report_replay.proofs.UnnamedCounts.{queue-unnamed-on}
+use Rattle.board_model.proofs.UnnamedCounts.{queue-unnamed-on}
 use Rattle.report_totals.proofs.ended_journal.EndedJournalEndedDomain.queued.Goals as goal
 
 pub returns : goal.returns
