@@ -74,7 +74,7 @@ module _ (s : Scenario) (js : List DomainJournal) (board : IsLinkedBoard s) (run
   each_line : AllByRecursion (λ j. Has (λ e. e ≡ j.line) s.domains) js
   each_line = all-unmap (λ (d : DomainLine). Has (λ e. e ≡ d) s.domains) (λ (j : DomainJournal). j.line) js (subst (AllByRecursion (λ d. Has (λ e. e ≡ d) s.domains)) (sym run.each_domain) (rising_told s))
 
-  each_runs : AllByRecursion (JournalRun s) js
+  pub each_runs : AllByRecursion (JournalRun s) js
   each_runs = all-with (OnBoard s js board run) (λ j. Has (λ e. e ≡ j.line) s.domains) (JournalRun s) runs js (each_on_board s js board run) each_line
     where
       runs : (j : DomainJournal) → OnBoard s js board run j → Has (λ e. e ≡ j.line) s.domains → JournalRun s j

@@ -103,6 +103,7 @@ pub mod WholeJoined
 pub mod WholeJournals
 pub mod WholeLanes
 pub mod WholeRests
+pub mod WaitTurns
 pub mod WholeRounds
 pub mod WholeWaits
 pub mod WholeLines

@@ -58,7 +58,6 @@ pub mod FinishingLemmas
 pub mod ThreadLemmas
 pub mod LendingLemmas
 pub mod WaitLemmas
-pub mod WaitTurns
 pub mod WaitStations
 pub mod WaitRuns
 pub mod WaitTests

@@ -41,7 +41,7 @@ use Rattle.board_runner.proofs.TurnEnds.{Moved, ends-match}
 use Rattle.board_runner.proofs.TurnStations.{station-turned, turned_station}
 use Rattle.board_runner.proofs.WaitLemmas.{wait-drops}
 use Rattle.board_runner.proofs.WaitStations.{begun-station, made-at-once, none-polled, wait-called, waiting-is}
-use Rattle.board_runner.proofs.WaitTurns.{done_after, one_more_turn, same_call}
+use Rattle.board_model.proofs.WaitTurns.{done_after, one_more_turn, same_call}
 
 module _ (s : Scenario) (board : IsLinkedBoard s) (d : DomainLine) (ends : List RunEnds) (line : CallLine) (limit : ℕ) (is : limit_of line.call ≡ Some limit) where
   abbrev lines : List CallLine

@@ -37,7 +37,7 @@ use Rattle.board_runner.proofs.TriesLemmas.{next_stays}
 use Rattle.board_runner.proofs.WaitLemmas.{wait-named}
 use Rattle.board_runner.proofs.WaitRuns.{wait-found, wait-there, waiting-here}
 use Rattle.board_runner.proofs.WaitStations.{same-call}
-use Rattle.board_runner.proofs.WaitTurns.{one_turn, same_call}
+use Rattle.board_model.proofs.WaitTurns.{one_turn, same_call}
 
 -- ---- a round
 
