@@ -13,15 +13,12 @@ use Rattle.board_model.specs.Unjoined.{times, idle_turn, visit_in}
 use Rattle.board_model.specs.JournalParts.{Part, idles, spins, tries, turn_of, wait_of, call_of, part_lines, part_entries, last_line, StandsBehind, StandBehind}
 use Rattle.board_model.specs.JournalLaws.{JournalsHaveParts}
 use Rattle.board_model.proofs.JournalReading.{IsOfTurn, put_entries, times-more}
-use Rattle.board_model.proofs.JournalVisits.{visits_all, idle_is}
-use Rattle.board_model.proofs.JournalJoins.{joinable-tells, spinning-tells, one_idle-tells}
+use Rattle.board_model.proofs.JournalVisits.{visits_all, idle_is, flat-append}
+use Rattle.board_model.proofs.JournalJoins.{spinning-tells, one_idle-tells}
 use Rattle.board_model.proofs.WordsRead.{one_word}
 use Rattle.board_model.proofs.JournalPartsJoined.{last-is, parts_are_joined}
+use Rattle.board_model.proofs.ListsJoined.{joinable-tells}
 use Rattle.board_model.specs.JournalForm.{IsFrom}
-
-flat-append : {X Y : Type 0} (f : X → List Y) (xs ys : List X) → flat_map f (xs ++ ys) ≡ flat_map f xs ++ flat_map f ys
-flat-append f [] ys = refl
-flat-append f (x ∷ xs) ys = ap (λ zs. f x ++ zs) (flat-append f xs ys) ∙ sym (append_assoc (f x) (flat_map f xs) (flat_map f ys))
 
 flat-push : {X Y : Type 0} (f : X → List Y) (xs : List X) (x : X) → flat_map f (xs ++ x ∷ []) ≡ flat_map f xs ++ f x
 flat-push f xs x = flat-append f xs (x ∷ []) ∙ ap (λ ys. flat_map f xs ++ ys) (append-nil (f x))

@@ -13,6 +13,7 @@ use Rattle.board_model.specs.Journal.{PlainEntry, turned, again, Visit, Line, id
 use Rattle.board_model.specs.Unjoined.{times, tail, read_onto, entries_in, idle_turn, turn_in, visit_in}
 use Rattle.board_model.proofs.JournalReading.{times-more, entries-more, read-turn}
 use Rattle.board_model.proofs.JournalVisits.{visits_all, visits_back, idle_is}
+use Rattle.board_model.proofs.ListsJoined.{joinable-tells}
 
 -- ---- the last line
 
@@ -32,23 +33,6 @@ last_set lines x y at =
     set_split lines last y within ∙ ap (λ ys. take last lines ++ y ∷ ys) past
 
 -- ---- what the last line is
-
-joinable_if : (b : Bool) (m n : ℕ) → cond b (Some m) None ≡ Some n → Some (idle_line m) ≡ Some (idle_line n)
-joinable_if true m n e = let same : m ≡ n = cc in ap (λ k. Some (idle_line k)) same
-joinable_if false m n e = absurd cc
-
-pub joinable-tells : (o : Option Line) (n : ℕ) → joinable o ≡ Some n → o ≡ Some (idle_line n)
-joinable-tells None n e = absurd cc
-joinable-tells (Some (idle_line m)) n e = joinable_if (ltb m (2 ^ 64 - 1)) m n e
-joinable-tells (Some (again_line w)) n e = absurd cc
-joinable-tells (Some (spin_line k w)) n e = absurd cc
-joinable-tells (Some turn_line) n e = absurd cc
-joinable-tells (Some (back_line p k)) n e = absurd cc
-joinable-tells (Some (put_line p f)) n e = absurd cc
-joinable-tells (Some (see_line p k)) n e = absurd cc
-joinable-tells (Some (take_line p f w)) n e = absurd cc
-joinable-tells (Some (call_line k a)) n e = absurd cc
-joinable-tells (Some (wait_line k)) n e = absurd cc
 
 module _ (one_word : (v w : Refusal) → same_word v w ≡ true → v ≡ w) where
   spin_if : (c b : Bool) (m n : ℕ) (v w : Refusal) → (c ≡ true → v ≡ w) → cond (c && b) (Some m) None ≡ Some n → Some (spin_line m v) ≡ Some (spin_line n w)

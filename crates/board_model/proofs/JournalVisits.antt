@@ -8,6 +8,7 @@ use Rattle.board_model.specs.LinkedBoard.{Differ}
 use Rattle.board_model.specs.Journal.{Taken, taken, Visit, Line, back_line, put_line, see_line, is_idle, looked, taken_line, visit_lines}
 use Rattle.board_model.specs.Unjoined.{back_in, owed_in, see_in, takes_in, visit_in}
 use Rattle.board_model.proofs.JournalReading.{IsOfTurn}
+use Rattle.board_model.proofs.ListsJoined.{none_of}
 
 -- ---- all lines of visits are of a turn
 
@@ -48,7 +49,7 @@ both v w = record { peer = v.peer; back = v.back + w.back; owed = v.owed ++ w.ow
 same_visit : (p : ℕ) {a b : ℕ} {c d : List (List ℕ)} {e f : ℕ} {g h : List Taken} → a ≡ b → c ≡ d → e ≡ f → g ≡ h → (let v : Visit = record { peer = p; back = a; owed = c; see = e; takes = g } in v) ≡ record { peer = p; back = b; owed = d; see = f; takes = h }
 same_visit p x y z w = cc
 
-flat-append : {X Y : Type 0} (f : X → List Y) (xs ys : List X) → flat_map f (xs ++ ys) ≡ flat_map f xs ++ flat_map f ys
+pub flat-append : {X Y : Type 0} (f : X → List Y) (xs ys : List X) → flat_map f (xs ++ ys) ≡ flat_map f xs ++ flat_map f ys
 flat-append f [] ys = refl
 flat-append f (x ∷ xs) ys = ap (λ zs. f x ++ zs) (flat-append f xs ys) ∙ sym (append_assoc (f x) (flat_map f xs) (flat_map f ys))
 
@@ -159,10 +160,6 @@ visits_back (v ∷ vs) differ =
     (behind v vs (map (λ w. w.peer) vs) differ.0 ∙ visits_back vs differ.1)
 
 -- ---- an idle turn
-
-none_of : {A : Type 0} (xs : List A) → (length xs == 0) ≡ true → xs ≡ []
-none_of [] e = refl
-none_of (x ∷ xs) e = let h = eqb-true (length (x ∷ xs)) 0 e in absurd (omega arith)
 
 idle_none : (v : Visit) → is_idle v ≡ true → v ≡ no_visit v.peer
 idle_none v e =

@@ -262,7 +262,7 @@ lost_along lines before r (e ∷ es) allowed =
 
 -- ---- deletes, line by line
 
-sum_none : (f : Line → ℕ) (ls : List Line) → AllByRecursion (λ l. f l ≡ 0) ls → sum_by f ls ≡ 0
+pub sum_none : (f : Line → ℕ) (ls : List Line) → AllByRecursion (λ l. f l ≡ 0) ls → sum_by f ls ≡ 0
 sum_none f [] all = refl
 sum_none f (l ∷ ls) all = omega (arith, sum_by-cons f l ls, all.0, sum_none f ls all.1)
 

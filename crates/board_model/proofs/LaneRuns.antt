@@ -33,14 +33,14 @@ abbrev free_of : Option Peer → ℕ
 free_of o = unwrap_or (option_map (λ p. p.free) o) 0
 
 -- frames that are taken use no buffer of a lane to a peer
-visit_free : (n : ℕ) (s : DomainState) (v : Visit) (b : Bool) → (v.peer == n) ≡ b → free_to (after_visit s v) n ≡ free_of (option_map (λ p. cond b (looked v p) p) (peer_at s n))
+pub visit_free : (n : ℕ) (s : DomainState) (v : Visit) (b : Bool) → (v.peer == n) ≡ b → free_to (after_visit s v) n ≡ free_of (option_map (λ p. cond b (looked v p) p) (peer_at s n))
 visit_free n s v b is =
     ap (λ t. free_to t n) (visit-after s v)
     ∙ (free-at (after_takes (after_looks s v) v.peer v.takes) n
     ∙ (ap (λ o. unwrap_or o 0) (takes-free (after_looks s v) v.peer v.takes n) ∙ ap free_of (looks-peer s v n b is)))
 
 -- what is put is at most what is free after the look
-due_within : (s : DomainState) (v : Visit) (h : IsVisit s v) → length v.owed ≤ h.at.free + v.back
+pub due_within : (s : DomainState) (v : Visit) (h : IsVisit s v) → length v.owed ≤ h.at.free + v.back
 due_within s v h = omega (arith, ap length h.puts_due, length-take (min turn_limit (h.at.free + v.back)) (owed_to s.number h.at))
 
 -- at the peer itself
@@ -58,7 +58,7 @@ visit_frees n s v same h =
     )
 
 -- at the others
-visit_other : (n : ℕ) (s : DomainState) (v : Visit) → (v.peer ≡ n → ⊥) → free_to (after_visit s v) n ≡ free_to s n
+pub visit_other : (n : ℕ) (s : DomainState) (v : Visit) → (v.peer ≡ n → ⊥) → free_to (after_visit s v) n ≡ free_to s n
 visit_other n s v differ = visit_free n s v false (ne_eqb v.peer n differ) ∙ (go (peer_at s n) ∙ sym (free-at s n))
   where
     go : (o : Option Peer) → free_of (option_map (λ p. p) o) ≡ free_of o
@@ -66,7 +66,7 @@ visit_other n s v differ = visit_free n s v false (ne_eqb v.peer n differ) ∙ (
     go (Some p) = refl
 
 -- looks change nothing that is held
-looks_hold : (n : ℕ) (s : DomainState) (v : Visit) → held_from n (after_looks s v) ≡ held_from n s
+pub looks_hold : (n : ℕ) (s : DomainState) (v : Visit) → held_from n (after_looks s v) ≡ held_from n s
 looks_hold n s v = looks-keep (held_from n) (λ t p k. refl) (λ t p. refl) (λ t p k. refl) s v
 
 visit_holds : (n : ℕ) (s : DomainState) (v : Visit) → v.peer ≡ n → HaveWords (after_looks s v) v.peer v.takes → held_from n (after_visit s v) + count_by (λ t. not (keeps_buffer t.fate)) v.takes ≡ held_from n s + length v.takes

@@ -31,7 +31,7 @@ domain_told s n e = any-contains (λ (d : DomainLine). d.domain) n s.domains e
 other_number : (n m : ℕ) → (m == n) ≡ false → m ≡ n → ⊥
 other_number n m other same = let e = eq-eqb m n same in cc
 
-domain_new : (s : Scenario) (n : ℕ) → is_domain s n ≡ false → AllByRecursion (λ m. m ≡ n → ⊥) (map (λ d. d.domain) s.domains)
+pub domain_new : (s : Scenario) (n : ℕ) → is_domain s n ≡ false → AllByRecursion (λ m. m ≡ n → ⊥) (map (λ d. d.domain) s.domains)
 domain_new s n e =
     all-map (λ m. m ≡ n → ⊥) (λ (d : DomainLine). d.domain) s.domains
     (all-weaken (λ (d : DomainLine). (d.domain == n) ≡ false) (λ d. d.domain ≡ n → ⊥) (λ d other. other_number n d.domain other) s.domains (none-pass (λ (d : DomainLine). d.domain == n) s.domains e))

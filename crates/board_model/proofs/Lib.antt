@@ -92,6 +92,7 @@ pub mod RenamedCalls
 pub mod RenamedChanges
 pub mod RenamedDeeds
 pub mod RenamedGiven
+pub mod RenamedLabels
 pub mod UnnamedCounts
 pub mod UnnamedDeeds
 pub mod WholeBoard

@@ -20,11 +20,11 @@ entry_lines (called number answer) = call_line number answer ∷ []
 
 -- ---- idle turns
 
-joinable_if : (b : Bool) (m n : ℕ) → cond b (Some m) None ≡ Some n → Some (idle_line m) ≡ Some (idle_line n)
+pub joinable_if : (b : Bool) (m n : ℕ) → cond b (Some m) None ≡ Some n → Some (idle_line m) ≡ Some (idle_line n)
 joinable_if true m n e = let same : m ≡ n = cc in ap (λ k. Some (idle_line k)) same
 joinable_if false m n e = absurd cc
 
-joinable-tells : (o : Option Line) (n : ℕ) → joinable o ≡ Some n → o ≡ Some (idle_line n)
+pub joinable-tells : (o : Option Line) (n : ℕ) → joinable o ≡ Some n → o ≡ Some (idle_line n)
 joinable-tells None n e = absurd cc
 joinable-tells (Some (idle_line m)) n e = joinable_if (ltb m (2 ^ 64 - 1)) m n e
 joinable-tells (Some (again_line w)) n e = absurd cc
@@ -113,7 +113,7 @@ sum-again f joins word lines true e =
     sum-with_spin f joins word front (spinning word (slice_get front (length front - 1))) refl ∙ sum-front f lines (idle_line idle.0) idle.1 (joins.idle idle.0)
 sum-again f joins word lines false e = omega (arith, sum_by-append f lines (again_line word ∷ []), sum_by-cons f (again_line word) [], joins.again word)
 
-none_of : {A : Type 0} (xs : List A) → (length xs == 0) ≡ true → xs ≡ []
+pub none_of : {A : Type 0} (xs : List A) → (length xs == 0) ≡ true → xs ≡ []
 none_of [] e = refl
 none_of (x ∷ xs) e = let h = eqb-true (length (x ∷ xs)) 0 e in absurd (omega arith)
 

@@ -23,10 +23,11 @@ use Rattle.board_model.proofs.OrderQueues.{messages_at, messages_of}
 use Rattle.board_model.proofs.OrderDeeds.{Takes}
 use Rattle.board_model.proofs.OrderSound.{Sound, sound_own}
 use Rattle.board_model.proofs.OrderTakings.{all_old, none_taken}
-use Rattle.board_model.proofs.OrderStands.{Stands, stands_more, given_few, after_append, all_done, done_same, taken_after}
+use Rattle.board_model.proofs.OrderStands.{Stands, stands_more, given_few, all_done, done_same, taken_after}
 use Rattle.board_model.proofs.OrderCancels.{cancels_done, test_tells, wait_tells}
 use Rattle.board_model.proofs.OrderRequests.{IsDone, items_by, taken_more}
 use Rattle.board_model.proofs.OrderSerials.{succeeds, all_succeed}
+use Rattle.board_model.proofs.DeedJoins.{after-join}
 
 -- ---- what holds of each deed where this is known
 
@@ -43,7 +44,7 @@ each_deed start P holds room before (d ∷ ds) stands may named few =
     let cancelled = cancels_done start before (after_deeds start before) stands.moment.serials.differ stands.moment.serials.below stands.held d may.0 in (
       holds room before d stands may.0 named.0 (omega arith),
       each_deed start P holds (room - succeeds d) (before ++ d ∷ []) ds (stands_more room start before d (succeeds d) named.0 does.1 (omega arith) (omega (arith, stands.moment.serials.small)) (cancels_after start before d cancelled) stands does.0)
-          (subst (λ t. AllMayDo t ds) (sym (after_append start before (d ∷ []))) may.1) named.1 (omega arith),
+          (subst (λ t. AllMayDo t ds) (sym (after-join start before (d ∷ []))) may.1) named.1 (omega arith),
     )
 
 -- the opening
@@ -162,7 +163,7 @@ AllQueues s (d ∷ ds) = Sound s × AllQueues (after_deed s d) ds
 
 all_queues : (start : DomainState) (before ds : List Deed) → EachDeed (λ b d. Sound (after_deeds start b)) before ds → AllQueues (after_deeds start before) ds
 all_queues start before [] each = tt
-all_queues start before (d ∷ ds) each = (each.0, subst (λ t. AllQueues t ds) (after_append start before (d ∷ [])) (all_queues start (before ++ d ∷ []) ds each.1))
+all_queues start before (d ∷ ds) each = (each.0, subst (λ t. AllQueues t ds) (after-join start before (d ∷ [])) (all_queues start (before ++ d ∷ []) ds each.1))
 
 -- what is queued is as it must be
 module _ (number nodes : ℕ) (neighbours : List Neighbour) (ds : List Deed) (run : IsDeedRun (opening number nodes neighbours) ds) (few : all_succeed ds + 1 < 2 ^ 64) where
@@ -177,7 +178,7 @@ stands_end start room before (d ∷ ds) stands may named few =
     let does = given_few room before (after_deeds start before) d may.0 named.0 (omega arith) stands.moment in
     let cancelled = cancels_done start before (after_deeds start before) stands.moment.serials.differ stands.moment.serials.below stands.held d may.0 in
     let next = stands_more room start before d (succeeds d) named.0 does.1 (omega arith) (omega (arith, stands.moment.serials.small)) (cancels_after start before d cancelled) stands does.0 in
-    let rest = stands_end start (room - succeeds d) (before ++ d ∷ []) ds next (subst (λ t. AllMayDo t ds) (sym (after_append start before (d ∷ []))) may.1) named.1 (omega arith) in
+    let rest = stands_end start (room - succeeds d) (before ++ d ∷ []) ds next (subst (λ t. AllMayDo t ds) (sym (after-join start before (d ∷ []))) may.1) named.1 (omega arith) in
     (rest.0, subst (Stands rest.0 start) (append_assoc before (d ∷ []) ds) rest.1)
 
 none_in : (xs : List ℕ) → xs ≡ [] → (k : ℕ) → Contains xs k → ⊥

@@ -1,10 +1,11 @@
 -- Which messages are queued at an address after each change.
-use Rattle.std.proofs.Common.{◌≡◌, ℕ, Bool, true, false, not, cond, List, [], ◌∷◌, ◌++◌, filter, find, Option, Some, None, option_map, refl, sym, ap, ◌∙◌, subst, arith}
+use Rattle.std.proofs.Common.{◌≡◌, ℕ, Bool, true, false, cond, List, [], ◌∷◌, ◌++◌, find, Option, Some, None, option_map, refl, sym, ap, ◌∙◌, subst, arith}
 use Rattle.std.specs.Prelude.{◌==◌}
 use Rattle.std.proofs.lemmas.Bool.{eqb-true, eqb-false, eq-eqb}
 use Rattle.board_model.specs.Choice.{without_best}
 use Rattle.board_model.specs.State.{Item, ChannelEnd, Endpoint, DomainState, has_address_of, endpoint_of}
 use Rattle.board_model.specs.Change.{endpoint_made, endpoint_gone, item_queued, best_gone, with_queue, endpoint_with, at_address, changed}
+use Rattle.board_model.proofs.Views.{seen_gone}
 
 -- the messages that are queued: at a channel's end there are none
 abbrev pub messages_at : Option ChannelEnd → List Item → List Item
@@ -28,10 +29,6 @@ queued_for s b = messages_of (endpoint_of s b)
 seen_changed : (f : Endpoint → Endpoint) → ((e : Endpoint) → (f e).address ≡ e.address) → (a b : ℕ) (es : List Endpoint) → find (has_address_of b) (at_address a f es) ≡ cond (a == b) (option_map f (find (has_address_of b) es)) (find (has_address_of b) es)
 seen_changed f same a b [] = grind (arith)
 seen_changed f same a b (e ∷ es) = let keep = same e in let more = seen_changed f same a b es in grind (arith, eqb-true, eqb-false, eq-eqb)
-
-seen_gone : (a b : ℕ) (es : List Endpoint) → find (has_address_of b) (filter (λ e. not (has_address_of a e)) es) ≡ cond (a == b) None (find (has_address_of b) es)
-seen_gone a b [] = grind (arith)
-seen_gone a b (e ∷ es) = let more = seen_gone a b es in grind (arith, eqb-true, eqb-false, eq-eqb)
 
 messages_last : (x : Endpoint) → messages_at x.channel x.queue ≡ [] → (b : ℕ) (es : List Endpoint) → messages_of (find (has_address_of b) (es ++ x ∷ [])) ≡ messages_of (find (has_address_of b) es)
 messages_last x none b [] = go (x.address == b)

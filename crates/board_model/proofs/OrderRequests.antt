@@ -1,6 +1,6 @@
 -- What the requests of a domain hold: each the item that it took, and none where it took none; and a request that was cancelled took
 -- nothing.
-use Rattle.std.proofs.Common.{◌≡◌, ◌⊎◌, inl, inr, ℕ, zero, suc, ◌+◌, ◌%◌, ◌^◌, ◌<◌, ◌≤◌, Bool, true, false, cond, List, [], ◌∷◌, ◌++◌, map, filter, find, Option, Some, None, refl, sym, ap, ap₂, ◌∙◌, subst, arith}
+use Rattle.std.proofs.Common.{◌≡◌, ◌⊎◌, inl, inr, ℕ, ◌+◌, ◌%◌, ◌^◌, ◌<◌, ◌≤◌, Bool, true, false, cond, List, [], ◌∷◌, ◌++◌, map, filter, find, Option, Some, None, refl, sym, ap, ap₂, ◌∙◌, subst, arith}
 use Rattle.std.specs.Prelude.{◌==◌, ◌&&◌, is_none}
 use Rattle.std.specs.List.{AllByRecursion}
 use Rattle.std.proofs.lemmas.Bool.{eqb-true, eq-eqb, ne_eqb, cases_Bool, and_parts}
@@ -9,12 +9,12 @@ use Rattle.std.proofs.Math.Nat.{mod-eq_of_lt}
 use Rattle.mc_base.specs.declared.name.Local.{Local}
 use Rattle.mc_base.specs.declared.name.EndName.{EndName}
 use Rattle.mc_base.specs.declared.refusal.Refusal.{Refusal}
-use Rattle.board_model.specs.Lists.{changed_first, without, without_at}
+use Rattle.board_model.specs.Lists.{changed_first, without}
 use Rattle.board_model.specs.State.{Item, Endpoint, Asked, name_of, channel_of, message_at, packet_at, Outcome, has_address, is_accepted, is_rejected, has_item, has_ended, Request, DomainState, waits_at, receives_at}
 use Rattle.board_model.specs.Change.{done_with, all_done, asks_for, connects_on, ended_in}
 use Rattle.board_model.specs.Takings.{Taking, item_held}
 use Rattle.board_model.specs.MessageOrder.{is_by}
-use Rattle.board_model.proofs.OrderSerials.{IsOther, Differ, Below}
+use Rattle.board_model.proofs.OrderSerials.{IsOther, Differ, Below, all_without, all_last}
 
 -- the items that requests of a serial took
 abbrev pub items_by : ℕ → List Taking → List Item
@@ -108,20 +108,7 @@ away_turned : (took : Took) (k : ℕ) (f : Request → Request) → ((r : Reques
 away_turned took k f turns [] all away = tt
 away_turned took k f turns (r ∷ rs) all away = let h : Holds took r = all.0 in (ap (λ n. n == k) (turned_serial r (f r) (turns r h.fits)) ∙ away.0, away_turned took k f turns rs all.1 away.1)
 
-all_without : (P : Request → Type 0) (place : Option ℕ) (rs : List Request) → AllByRecursion P rs → AllByRecursion P (without place rs)
-all_without P None rs all = all
-all_without P (Some i) rs all = go i rs all
-  where
-    go : (i : ℕ) (rs : List Request) → AllByRecursion P rs → AllByRecursion P (without_at i rs)
-    go i [] all = tt
-    go zero (r ∷ rs) all = all.1
-    go (suc i) (r ∷ rs) all = (all.0, go i rs all.1)
-
 -- ---- a request that is given
-
-all_last : (P : Request → Type 0) (rs : List Request) (r : Request) → AllByRecursion P rs → P r → AllByRecursion P (rs ++ r ∷ [])
-all_last P [] r all here = (here, tt)
-all_last P (x ∷ rs) r all here = (all.0, all_last P rs r all.1 here)
 
 below_holds : (took : Took) (n : ℕ) (ts : List Taking) (is : List Item) → ((k : ℕ) → items_by k ts ≡ cond (n == k) is []) → (rs : List Request) → Below n rs → AllByRecursion (Holds took) rs → AllByRecursion (Holds (taken_more took ts)) rs
 below_holds took n ts is items [] below all = tt

@@ -68,7 +68,7 @@ module _ (f : Request → Request) (same : (r : Request) → (f r).serial ≡ r.
 
 -- ---- requests that are gone
 
-all_without : (P : Request → Type 0) (place : Option ℕ) (rs : List Request) → AllByRecursion P rs → AllByRecursion P (without place rs)
+pub all_without : (P : Request → Type 0) (place : Option ℕ) (rs : List Request) → AllByRecursion P rs → AllByRecursion P (without place rs)
 all_without P None rs all = all
 all_without P (Some i) rs all = go i rs all
   where
@@ -92,7 +92,7 @@ other_above : (n : ℕ) (rs : List Request) → Below n rs → AllByRecursion (�
 other_above n [] all = tt
 other_above n (r ∷ rs) all = (let low : r.serial < n = all.0 in ne_eqb n r.serial (λ same. absurd (omega arith)), other_above n rs all.1)
 
-all_last : (P : Request → Type 0) (rs : List Request) (r : Request) → AllByRecursion P rs → P r → AllByRecursion P (rs ++ r ∷ [])
+pub all_last : (P : Request → Type 0) (rs : List Request) (r : Request) → AllByRecursion P rs → P r → AllByRecursion P (rs ++ r ∷ [])
 all_last P [] r all here = (here, tt)
 all_last P (x ∷ rs) r all here = (all.0, all_last P rs r all.1 here)
 

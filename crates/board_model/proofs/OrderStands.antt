@@ -20,12 +20,9 @@ use Rattle.board_model.proofs.OrderQueues.{queued_for}
 use Rattle.board_model.specs.Takings.{Taking, takings_by, cancelled_by}
 use Rattle.board_model.proofs.OrderRequests.{Took, Held, IsDone, taken_more, items_by, held_more, done_more, all_holds_same}
 use Rattle.board_model.proofs.OrderSerials.{given_by_all, succeeds}
+use Rattle.board_model.proofs.DeedJoins.{after-join}
 
 -- ---- deeds one after the other
-
-pub after_append : (s : DomainState) (xs ys : List Deed) → after_deeds s (xs ++ ys) ≡ after_deeds (after_deeds s xs) ys
-after_append s [] ys = refl
-after_append s (x ∷ xs) ys = after_append (after_deed s x) xs ys
 
 pub along_append : {A : Type 0} (f : DomainState → Deed → List A) (s : DomainState) (xs ys : List Deed) → along f s (xs ++ ys) ≡ along f s xs ++ along f (after_deeds s xs) ys
 along_append f s [] ys = refl
@@ -135,7 +132,7 @@ brings_past before (calls node call a) named = tt
 pub stands_more : (room : ℕ) (start : DomainState) (before : List Deed) (d : Deed) (less : ℕ) → IsNamed before d → given_by_all (happens_by (after_deeds start before) d) ≤ less → less ≤ room → (after_deeds start before).requests_given + 1 < 2 ^ 64 → AllByRecursion (IsDone (taken_for start (before ++ d ∷ [])) (after_deed (after_deeds start before) d).requests (after_deed (after_deeds start before) d).requests_given) (cancelled_by (after_deeds start before) d) → Stands room start before → Does room before (after_deeds start before) d → Stands (room - less) start (before ++ d ∷ [])
 stands_more room start before d less named given fits small cancelled stands does =
     let s : DomainState = after_deeds start before in
-    let after : after_deeds start (before ++ d ∷ []) ≡ after_deed s d = after_append start before (d ∷ []) in
+    let after : after_deeds start (before ++ d ∷ []) ≡ after_deed s d = after-join start before (d ∷ []) in
     record {
       moment = subst (λ t. Moment (room - less) (before ++ d ∷ []) t) (sym after) (record {
         sound = does.sound;

@@ -86,16 +86,16 @@ success_ended s other = None
 abbrev pub request_ended : DomainState → ℕ → DomainCall → Option ℕ
 request_ended s node call = unless_refused (refusal s node call) None (success_ended s call)
 
-map-without_at : {A B : Type 0} (f : A → B) (i : ℕ) (xs : List A) → map f (without_at i xs) ≡ without_at i (map f xs)
+pub map-without_at : {A B : Type 0} (f : A → B) (i : ℕ) (xs : List A) → map f (without_at i xs) ≡ without_at i (map f xs)
 map-without_at f i [] = refl
 map-without_at f zero (x ∷ xs) = refl
 map-without_at f (suc i) (x ∷ xs) = ap (λ ys. f x ∷ ys) (map-without_at f i xs)
 
-map-without : {A B : Type 0} (f : A → B) (o : Option ℕ) (xs : List A) → map f (without o xs) ≡ without o (map f xs)
+pub map-without : {A B : Type 0} (f : A → B) (o : Option ℕ) (xs : List A) → map f (without o xs) ≡ without o (map f xs)
 map-without f None xs = refl
 map-without f (Some i) xs = map-without_at f i xs
 
-live_same : {X : Type 0} (f : DomainState → X) (s : DomainState) (o : Option Endpoint) (cs : Endpoint → List Change) → ((e : Endpoint) → f (changed_all s (cs e)) ≡ f s) → f (changed_all s (at_live o cs)) ≡ f s
+pub live_same : {X : Type 0} (f : DomainState → X) (s : DomainState) (o : Option Endpoint) (cs : Endpoint → List Change) → ((e : Endpoint) → f (changed_all s (cs e)) ≡ f s) → f (changed_all s (at_live o cs)) ≡ f s
 live_same f s None cs same = refl
 live_same f s (Some e) cs same = same e
 
@@ -127,7 +127,7 @@ module _ (s : DomainState) (node port : ℕ) (to : EndName) (kind : Kind) where
 abbrev opens : Endpoint → ChannelEnd → List Change
 opens e c = buffer_used c.peer ∷ channel_set e.address (Some (opened_end c)) ∷ []
 
-end_same : {X : Type 0} (f : DomainState → X) (s : DomainState) (o : Option Endpoint) (cs : Endpoint → ChannelEnd → List Change) → ((e : Endpoint) (c : ChannelEnd) → f (changed_all s (cs e c)) ≡ f s) → f (changed_all s (at_end o cs)) ≡ f s
+pub end_same : {X : Type 0} (f : DomainState → X) (s : DomainState) (o : Option Endpoint) (cs : Endpoint → ChannelEnd → List Change) → ((e : Endpoint) (c : ChannelEnd) → f (changed_all s (cs e c)) ≡ f s) → f (changed_all s (at_end o cs)) ≡ f s
 end_same f s o cs same = end-holds (λ ds. f (changed_all s ds) ≡ f s) refl o cs (λ e c live has. same e c)
 
 -- what sends over ends keep

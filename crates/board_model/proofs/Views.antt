@@ -35,7 +35,7 @@ seen_made : (e : Endpoint) (b : ℕ) (es : List Endpoint) → find (has_address_
 seen_made e b [] = refl
 seen_made e b (x ∷ xs) = let more = seen_made e b xs in grind (arith)
 
-seen_gone : (a b : ℕ) (es : List Endpoint) → find (has_address_of b) (filter (λ e. not (has_address_of a e)) es) ≡ cond (a == b) None (find (has_address_of b) es)
+pub seen_gone : (a b : ℕ) (es : List Endpoint) → find (has_address_of b) (filter (λ e. not (has_address_of a e)) es) ≡ cond (a == b) None (find (has_address_of b) es)
 seen_gone a b [] = grind (arith)
 seen_gone a b (e ∷ es) = let more = seen_gone a b es in grind (arith, eqb-true, eqb-false, eq-eqb)
 

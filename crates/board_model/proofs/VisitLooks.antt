@@ -100,7 +100,7 @@ replies_less : (rs : List Reply) → map replying (drop 1 rs) ≡ drop 1 (map re
 replies_less [] = refl
 replies_less (r ∷ rs) = refl
 
-put_owed : (d : ℕ) (p : Peer) (news : List Announcement) → owed_to d (first_put (record p { announcements = news })) ≡ drop 1 (owed_to d (record p { announcements = news }))
+pub put_owed : (d : ℕ) (p : Peer) (news : List Announcement) → owed_to d (first_put (record p { announcements = news })) ≡ drop 1 (owed_to d (record p { announcements = news }))
 put_owed d p [] = replies_less p.replies
 put_owed d p (a ∷ news) =
     ap (λ b. owed_to d (cond b (record p { free = p.free - 1; announcements = a ∷ news; replies = drop 1 p.replies }) (record p { free = p.free - 1; announcements = news }))) (ne_eqb (length (a ∷ news)) 0 (λ e. absurd (omega arith)))

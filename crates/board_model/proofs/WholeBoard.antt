@@ -25,7 +25,7 @@ use Rattle.board_model.proofs.WholeRests.{opened_rests}
 use Rattle.board_model.proofs.WholeLines.{lines_go}
 
 -- every line is called once, and no call is made of a next one
-finished_going : (s : Scenario) → IsLinkedBoard s → Going s (Joined s) (λ n. length (script s n)) (λ n. 0) (finished s)
+pub finished_going : (s : Scenario) → IsLinkedBoard s → Going s (Joined s) (λ n. length (script s n)) (λ n. 0) (finished s)
 finished_going s board = lines_go s board [] s.calls refl board.lines_told (opened s) (opened_rests s) (opened_going s board)
 
 -- ---- journals

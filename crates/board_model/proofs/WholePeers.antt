@@ -40,7 +40,7 @@ shown_read s n = ap (λ (o : Option Peer). unwrap_or (option_map (λ p. p.shown)
 
 -- ---- deeds, and frames that are taken
 
-deeds_size : (s : DomainState) (ds : List Deed) (n : ℕ) → read_of (λ p. p.size) (after_deeds s ds) n ≡ read_of (λ p. p.size) s n
+pub deeds_size : (s : DomainState) (ds : List Deed) (n : ℕ) → read_of (λ p. p.size) (after_deeds s ds) n ≡ read_of (λ p. p.size) s n
 deeds_size s [] n = refl
 deeds_size s (d ∷ ds) n = deeds_size (after_deed s d) ds n ∙ size-all s (happens_by s d) n
 

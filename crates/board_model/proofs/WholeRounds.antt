@@ -1,32 +1,21 @@
 -- A board that runs serially goes on through the rounds of a wait.
-use Rattle.std.proofs.Common.{◌≡◌, ℕ, zero, suc, ◌+◌, Bool, true, false, not, cond, List, [], ◌∷◌, map, Option, Some, None, slice_get, option_map, refl, sym, ap, ap₂, ◌∙◌, subst, inl, inr, arith, eq-eqb}
+use Rattle.std.proofs.Common.{◌≡◌, ℕ, zero, suc, ◌+◌, Bool, true, false, cond, List, [], ◌∷◌, Some, None, slice_get, refl, sym, ap, ◌∙◌, subst, inl, inr, arith, eq-eqb}
 use Rattle.std.specs.Prelude.{IsSome}
-use Rattle.arrayvec.specs.ArrayVec.{ArrayVec}
-use Rattle.mc_base.specs.declared.refusal.Refusal.TheVariants.{RequestInvalid, Timeout}
-use Rattle.board_model.specs.declared.scenario.Call.{Call}
-use Rattle.board_model.specs.declared.scenario.Call.TheVariants.{Wait, WaitAny}
 use Rattle.board_model.specs.declared.scenario.CallLine.{CallLine}
 use Rattle.board_model.specs.declared.scenario.Scenario.{Scenario}
 use Rattle.board_model.specs.Scenario.{script, rising}
-use Rattle.board_model.specs.LinkedBoard.{IsTold, IsLinkedBoard, Differ}
-use Rattle.board_model.specs.Journal.{turned, waits, PlainAnswer, PlainResult, refuses, agrees, tells, connects, gives, completes, Visit}
-use Rattle.board_model.specs.DomainCall.{DomainCall, wait_for}
-use Rattle.board_model.specs.State.{DomainState}
-use Rattle.board_model.specs.Labels.{Labels, place_of_label, call_of}
-use Rattle.board_model.specs.Turn.{after_turn}
-use Rattle.board_model.specs.Answer.{answer, answer_by, lacks_request, lacks_complete}
-use Rattle.board_model.specs.Step.{next_line, call_at, limit_of, is_timeout, is_done, is_done_now, one_turn_more, EndsWait}
-use Rattle.board_model.specs.Loads.{turn_of, loads_turned}
-use Rattle.board_model.specs.SerialRun.{Station, Running, with_entry, turned_by, turned_once, all_turned, numbers, called_by, last_call, is_waiting_at, rounds, with_beginning, wait_run}
-use Rattle.board_model.proofs.MessageAlls.{all-weaken}
+use Rattle.board_model.specs.LinkedBoard.{IsTold, IsLinkedBoard}
+use Rattle.board_model.specs.Journal.{turned, waits, Visit}
+use Rattle.board_model.specs.Answer.{answer}
+use Rattle.board_model.specs.Step.{call_at, limit_of, is_timeout, is_done, EndsWait}
+use Rattle.board_model.specs.SerialRun.{Station, Running, with_entry, all_turned, numbers, called_by, last_call, is_waiting_at, rounds, with_beginning, wait_run}
 use Rattle.board_model.proofs.PlaceBoards.{rising_differ}
-use Rattle.board_model.proofs.WaitCalls.{Waits, call-waits}
-use Rattle.board_model.proofs.WholeHas.{Has, has-gives, has-map, has-contained}
+use Rattle.board_model.proofs.WaitCalls.{call-waits}
+use Rattle.board_model.proofs.WholeHas.{Has, has-map, has-contained}
 use Rattle.board_model.proofs.WholeStations.{station, station_after, entered_all}
 use Rattle.board_model.proofs.WholeGoing.{Going}
 use Rattle.board_model.proofs.WholeJoined.{Joined, has-rising}
 use Rattle.board_model.proofs.WholeSteps.{turns_go, made_of, next_of, begin_goes, wait_call_goes, one_more}
-use Rattle.board_model.proofs.WholeWaits.{others_stay, turn_all_stand, turn_place}
 use Rattle.board_model.proofs.WaitTurns.{IsWaiting, done_after, one_more_turn, one_turn, same_call}
 
 is_numbered : (s : Scenario) (d : ℕ) → IsTold s d → Has (λ n. n ≡ d) (numbers s)

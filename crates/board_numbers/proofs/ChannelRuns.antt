@@ -1,36 +1,21 @@
 -- What a domain takes from another is a front of what that one put, deed by deed.
-use Rattle.std.proofs.Common.{◌≡◌, ◌⊎◌, inl, inr, ℕ, Bool, true, false, List, [], ◌∷◌, ◌++◌, find, flat_map, Option, None, Some, refl, sym, ap, ◌∙◌, subst}
-use Rattle.std.specs.Prelude.{◌==◌}
+use Rattle.std.proofs.Common.{◌≡◌, ◌⊎◌, inl, inr, ℕ, List, [], ◌++◌, flat_map, sym, ap, ◌∙◌, subst}
 use Rattle.std.specs.List.{AllByRecursion}
-use Rattle.std.proofs.lemmas.Bool.{eqb-true, eq-eqb}
-use Rattle.std.proofs.lemmas.List.{append_assoc}
-use Rattle.board_model.specs.declared.scenario.DomainLine.{DomainLine}
 use Rattle.board_model.specs.declared.scenario.Scenario.{Scenario}
-use Rattle.board_model.specs.Answer.{holds, words_of}
 use Rattle.board_model.specs.Lists.{IsPrefix}
-use Rattle.board_model.specs.Scenario.{Neighbour, Lane, lanes, neighbours}
+use Rattle.board_model.specs.Scenario.{Lane, lanes}
 use Rattle.board_model.specs.LinkedBoard.{IsLinkedBoard}
 use Rattle.board_model.specs.Traffic.{put_to, taken_from}
 use Rattle.board_model.specs.Board.{DomainJournal, journal_in, journal_of, LaneFits, IsBoardRun}
-use Rattle.board_model.specs.Deeds.{Deed, looks_back, puts_owed, looks_ahead, takes, calls, after_deeds, along}
-use Rattle.board_model.specs.JournalDeeds.{deeds_of, opened, left_in}
+use Rattle.board_model.specs.Deeds.{takes, along}
+use Rattle.board_model.specs.JournalDeeds.{deeds_of, opened}
 use Rattle.board_model.proofs.BoardsLanes.{lane_between, lane-found}
 use Rattle.board_model.proofs.ChannelBoard.{JournalRun}
 use Rattle.board_model.proofs.ChannelLaw.{each_runs}
-use Rattle.board_model.proofs.DeedJoins.{after-join}
-use Rattle.board_model.proofs.DeedRuns.{frames_if, puts_by, takes_by}
-use Rattle.board_model.proofs.HonestBoard.{may_know, OnBoard, each_on_board, moment, moment_far, once_holds}
-use Rattle.board_model.proofs.HonestPosts.{posts_read}
-use Rattle.board_model.proofs.KeptBoard.{reach}
-use Rattle.board_model.proofs.KeptLanes.{IsOnce, IsFrom}
-use Rattle.board_model.proofs.KeptSends.{FitsDeed}
-use Rattle.board_model.proofs.KeptTells.{numbers_of}
-use Rattle.board_model.proofs.ListsApart.{all-map, all-unmap}
-use Rattle.board_model.proofs.MessageAlls.{none-passes, all-found, all-with, found-passes}
-use Rattle.board_model.proofs.SendingDeeds.{ReadsDeed, AllRead}
-use Rattle.board_model.proofs.WholeHas.{Has}
-use Rattle.board_model.proofs.WholeJoined.{Joined, joined_back, neighbours_join, rising_told}
-use Rattle.board_model.proofs.OrderLookups.{none_holds}
+use Rattle.board_model.proofs.DeedRuns.{puts_by, takes_by}
+use Rattle.board_model.proofs.HonestBoard.{OnBoard, each_on_board}
+use Rattle.board_model.proofs.MessageAlls.{all-found, all-with}
+use Rattle.board_model.proofs.WholeJoined.{Joined, joined_back}
 
 module _ (s : Scenario) (js : List DomainJournal) (board : IsLinkedBoard s) (run : IsBoardRun s js) where
   abbrev pub IsPlaced : DomainJournal → Type 0

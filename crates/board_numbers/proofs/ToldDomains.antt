@@ -1,22 +1,19 @@
 -- The domains that some text tells, of whatever length, are those of a board without links and calls.
-use Rattle.std.proofs.Common.{◌≡◌, ℕ, ◌+◌, true, false, ◌&&◌, [], map, Option, Some, None, arith, eq-eqb}
+use Rattle.std.proofs.Common.{◌≡◌, ℕ, ◌+◌, true, ◌&&◌, [], Option, Some, None, arith}
 use Rattle.std.specs.Prelude.{◌==◌}
-use Rattle.std.specs.List.{AllByRecursion, list_all}
+use Rattle.std.specs.List.{list_all}
 use Rattle.std.proofs.lemmas.Bool.{and_parts}
-use Rattle.board_model.specs.declared.scenario.DomainLine.{DomainLine}
 use Rattle.board_model.specs.declared.scenario.Scenario.{Scenario}
 use Rattle.board_model.specs.LinkedBoard.{IsLinkedBoard}
 use Rattle.board_model.specs.FileWords.{numeral, is_number, number}
 use Rattle.board_model.specs.Forms.{LineParts, no_parts, domain_parts, link_parts, call_parts, numerals}
-use Rattle.board_model.specs.LineReasons.{is_domain, word_reasons, with_parts}
+use Rattle.board_model.specs.LineReasons.{word_reasons, with_parts}
 use Rattle.board_model.specs.Language.{nothing_told, IsLawfulBoard}
-use Rattle.board_model.proofs.MessageAlls.{all-weaken}
-use Rattle.board_model.proofs.ListsApart.{all-map}
-use Rattle.board_model.proofs.LawfulTests.{none-pass}
 use Rattle.board_model.proofs.LawfulWords.{number_fits}
 use Rattle.board_model.proofs.LawfulParts.{FitsIfRead}
 use Rattle.board_model.proofs.LawfulTelling.{from_not, HoldNot, text-keeps}
 use Rattle.board_model.proofs.LawfulSteps.{with_domain}
+use Rattle.board_model.proofs.LawfulBoards.{domain_new}
 use Rattle.board_numbers.specs.Told.{IsToldByText}
 
 pub lawful-told : (s : Scenario) → IsLawfulBoard s → IsToldByText s
@@ -25,14 +22,6 @@ lawful-told s (text, few, told) = (text, told)
 -- the domains of a scenario
 abbrev pub domains_alone : Scenario → Scenario
 domains_alone s = record { domains = s.domains; links = []; calls = [] }
-
-other_number : (n m : ℕ) → (m == n) ≡ false → m ≡ n → ⊥
-other_number n m other same = let e = eq-eqb m n same in cc
-
-domain_new : (s : Scenario) (n : ℕ) → is_domain s n ≡ false → AllByRecursion (λ m. m ≡ n → ⊥) (map (λ d. d.domain) s.domains)
-domain_new s n e =
-    all-map (λ m. m ≡ n → ⊥) (λ (d : DomainLine). d.domain) s.domains
-    (all-weaken (λ (d : DomainLine). (d.domain == n) ≡ false) (λ d. d.domain ≡ n → ⊥) (λ d other. other_number n d.domain other) s.domains (none-pass (λ (d : DomainLine). d.domain == n) s.domains e))
 
 abbrev AreLinkedAlone : ℕ → Scenario → Type 0
 AreLinkedAlone n s = IsLinkedBoard (domains_alone s)

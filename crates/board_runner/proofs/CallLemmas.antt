@@ -25,7 +25,7 @@ use Rattle.board_model.specs.State.{DomainState, Item}
 use Rattle.board_model.specs.Step.{RunState, next_line, call_at, is_tried, effect_of_line, labels_of_line, after}
 use Rattle.board_model.specs.Run.{after_all}
 use Rattle.board_model.specs.SerialRun as run
-use Rattle.board_model.specs.SerialRun.{Running, with_entry, with_entries, word_in, called_by, loads_with_puts}
+use Rattle.board_model.specs.SerialRun.{word_in, loads_with_puts}
 use Rattle.board_model.specs.Tallies.{deleted_in, deletes_line, number_told}
 use Rattle.board_model.proofs.DeedJoins.{changes-keep}
 use Rattle.board_model.proofs.ListsJoined.{entry_lines, JoinsWeighNothing, sum-joined}
@@ -45,12 +45,9 @@ use Rattle.board_runner.specs.Stations.{HoldsIds, HoldsPackets, HoldsLabels, IsS
 use Rattle.board_runner.proofs.HeldLemmas.{holds_after, holds_same}
 use Rattle.board_runner.proofs.LendingLemmas.{lent_under}
 use Rattle.board_runner.proofs.PacketLemmas.{packets_after, packets_stay}
+use Rattle.domain_core.proofs.WaitSteps.{noted-append}
 
 -- ---- the lines of a journal
-
-noted_all-append : (lines : List Line) (es fs : List PlainEntry) → noted_all lines (es ++ fs) ≡ noted_all (noted_all lines es) fs
-noted_all-append lines [] fs = refl
-noted_all-append lines (e ∷ es) fs = noted_all-append (noted lines e) es fs
 
 -- ---- what deletes dropped, by the entries of a journal
 
@@ -136,8 +133,8 @@ module _ (s : Scenario) (t : run.Station) (line : CallLine) (st called_to new : 
   told_after =
       notes.told
       ∙ ap₂ (λ (ls : List Line) (e : PlainEntry). noted ls e) (h.told ∙ ap₂ (λ (ls : List Line) (ps : List (ℕ × List ℕ)). noted_all ls (map put_entry ps)) h.stands.told same_puts) (ap₂ (λ (k : ℕ) (a : PlainAnswer). called (k + 1) a) (h.number ∙ h.stands.number) same_answer)
-      ∙ sym (noted_all-append (joined t.entries) (map put_entry (puts_of t.run.state (call_at t.run line))) (called (t.run.lines_called + 1) (answer t.run.state line.node (call_at t.run line)) ∷ []))
-      ∙ sym (noted_all-append [] t.entries entries)
+      ∙ sym (noted-append (joined t.entries) (map put_entry (puts_of t.run.state (call_at t.run line))) (called (t.run.lines_called + 1) (answer t.run.state line.node (call_at t.run line)) ∷ []))
+      ∙ sym (noted-append [] t.entries entries)
 
   number_after : new.number ≡ (entered_all s entries t).run.lines_called
   number_after = notes.number ∙ ap (λ (k : ℕ). k + 1) (h.number ∙ h.stands.number) ∙ sym (ap (λ (r : RunState). r.lines_called) leads)
@@ -297,7 +294,7 @@ module _ (s : Scenario) (t : run.Station) (line : CallLine) (st called_to new : 
       ∙ ap₂ (λ (ls : List Line) (a : PlainAnswer). noted ls (again (word_in a)))
       (h.told ∙ ap₂ (λ (ls : List Line) (ps : List (ℕ × List ℕ)). noted_all ls (map put_entry ps)) h.stands.told nothing.puts_none)
       (h.does.answer ∙ ap₂ (λ (x : DomainState) (c : DomainCall). answer x line.node c) h.stands.state h.call_is)
-      ∙ sym (noted_all-append [] t.entries (again word ∷ []))
+      ∙ sym (noted-append [] t.entries (again word ∷ []))
 
   dropped_again : new.dropped ≡ sum_by (deleted_in (script s t.line.domain)) new.journal.lines
   dropped_again =

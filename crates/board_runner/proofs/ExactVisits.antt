@@ -1,6 +1,6 @@
 -- Visits that are exact: what the domain's looks showed and what it took is just what was there.
-use Rattle.std.proofs.Common.{◌≡◌, ◌≢◌, ℕ, ◌+◌, ◌≤◌, Bool, true, false, ◌&&◌, cond, List, [], ◌∷◌, ◌++◌, length, map, Some, refl, sym, ap, ◌∙◌, subst, inl, inr, arith, append-nil, length-append, eq-eqb, eqb-true, ne_eqb, true≢false}
-use Rattle.std.specs.Prelude.{◌==◌, slice_get, slice_set}
+use Rattle.std.proofs.Common.{◌≡◌, ◌≢◌, ℕ, ◌+◌, ◌≤◌, Bool, true, false, ◌&&◌, cond, List, [], ◌∷◌, ◌++◌, length, map, Some, refl, sym, ap, ◌∙◌, subst, arith, append-nil, length-append, eq-eqb, eqb-true, true≢false}
+use Rattle.std.specs.Prelude.{◌==◌, slice_get}
 use Rattle.std.specs.List.{AllByRecursion, list_all}
 use Rattle.lane_end.specs.SendMoves.{SendMove}
 use Rattle.lane_end.specs.ReceiveMoves.{ReceiveMove}
@@ -13,7 +13,7 @@ use Rattle.lane_end.specs.declared.any.AnyRecv.TheVariants as recv
 use Rattle.mc_base.specs.declared.request.Slot.{Slot}
 use Rattle.board_model.specs.declared.scenario.DomainLine.{DomainLine}
 use Rattle.board_model.specs.declared.scenario.Scenario.{Scenario}
-use Rattle.board_model.specs.Scenario.{Lane, lanes, rising, neighbours}
+use Rattle.board_model.specs.Scenario.{Lane, lanes, rising}
 use Rattle.board_model.specs.LinkedBoard.{Differ, IsLinkedBoard}
 use Rattle.board_model.specs.Journal.{Visit, Taken, is_idle}
 use Rattle.board_model.specs.Loads.{frames_on, returned_on}
@@ -25,20 +25,20 @@ use Rattle.board_model.proofs.WholeHas.{Has, has-gives}
 use Rattle.board_model.proofs.WholeTakes.{frames_of}
 use Rattle.domain_core.specs.declared.ends.Ends.TheVariants.{Own, Linked}
 use Rattle.domain_core.specs.Carrying.{AnyLink}
-use Rattle.domain_core.specs.AllMoved.{AllMoved, call_moves, frames_to, buffers_of, moves_at, turn_moves}
+use Rattle.domain_core.specs.AllMoved.{AllMoved, call_moves, frames_to, buffers_of, moves_at}
 use Rattle.domain_core.specs.LaneMoves.{LaneMove, sends, receives}
 use Rattle.domain_core.specs.Turned.{Turns}
 use Rattle.board_runner.specs.declared.station.Station.{Station}
-use Rattle.board_runner.specs.Near.{Near, SentNear, GotNear, sent_near, got_near, RunEnds, RunDomain, near_to, near_among, near_of, peers_of, EndsMatch, IsLinkTo}
-use Rattle.board_runner.specs.Carried.{HasCome, IsTrue, AreCarried, KnowsTruly, Knows}
-use Rattle.board_runner.specs.Stations.{near, LaneHolds, IsRun, IsBoard}
+use Rattle.board_runner.specs.Near.{Near, sent_near, got_near, RunEnds, RunDomain, near_to, near_among, near_of, peers_of, EndsMatch, IsLinkTo}
+use Rattle.board_runner.specs.Carried.{HasCome, IsTrue, AreCarried, Knows}
+use Rattle.board_runner.specs.Stations.{near, LaneHolds, IsRun}
 use Rattle.board_runner.proofs.LanesNear.{Exact}
-use Rattle.board_runner.proofs.NearCalled.{LinkCalled, link-called}
+use Rattle.board_runner.proofs.NearCalled.{link-called, match_rest}
 use Rattle.board_runner.proofs.NearEnds.{LinkVisited}
 use Rattle.board_runner.proofs.RunBoards.{run-board, matched-at}
 use Rattle.board_runner.proofs.RunFinds.{mapped-at}
 use Rattle.board_runner.proofs.RunStations.{domains_in, number_in, StationAt, station-at, station-number, numbers-differ, near-was, has-both}
-use Rattle.board_runner.proofs.TurnEnds.{Moved, ends-match, VisitedAt, ExactAt, visits-told}
+use Rattle.board_runner.proofs.TurnEnds.{Moved, VisitedAt, ExactAt, visits-told}
 use Rattle.board_runner.proofs.TurnLanes.{HasBoth}
 
 -- ---- what is known at the ends of a link does not fall
@@ -64,10 +64,6 @@ got_knows (recv.Driver r) (recv.Plain q) ms moved = absurd moved
 got_knows (recv.Driver r) (recv.Device q) ms moved = absurd moved
 got_knows (recv.Device r) (recv.Plain q) ms moved = absurd moved
 got_knows (recv.Device r) (recv.Driver q) ms moved = absurd moved
-
-match_rest : (n p : ℕ) (ps : List ℕ) (e : RunEnds) (es : List RunEnds) → EndsMatch n (p ∷ ps) (e ∷ es) → EndsMatch n ps es
-match_rest n p ps (Own l) es matched = matched.1
-match_rest n p ps (Linked l) es matched = matched.2
 
 -- what holds of the ends of a link to a peer before and after moves holds of what is near towards another domain
 module _ (P : Near → Near → Type 0) (nothing : (x : Near) → P x x) (moves_of : ℕ → List LaneMove) (links : (p : ℕ) (a b : AnyLink) → IsLinkTo p a → Moved (Linked a) (moves_of p) (Linked b) → P (near_to (Linked a)) (near_to (Linked b))) where

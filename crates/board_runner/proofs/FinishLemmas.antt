@@ -1,5 +1,5 @@
 -- A board at its end: its stations are found by their numbers, and are in the states that their journals leave.
-use Rattle.std.proofs.Common.{◌≡◌, List, [], ◌∷◌, map, length, Some, find, refl, sym, ap, ◌∙◌, subst}
+use Rattle.std.proofs.Common.{◌≡◌, List, [], ◌∷◌, map, Some, find, sym, ap, ◌∙◌, subst}
 use Rattle.std.specs.List.{AllByRecursion}
 use Rattle.std.proofs.lemmas.Simd.{map-map}
 use Rattle.board_model.specs.declared.scenario.DomainLine.{DomainLine}
@@ -8,23 +8,15 @@ use Rattle.board_model.specs.Scenario.{script, rising, neighbours}
 use Rattle.board_model.specs.LinkedBoard.{Differ, IsLinkedBoard}
 use Rattle.board_model.specs.Run.{start, left_by}
 use Rattle.board_model.specs.State.{DomainState}
-use Rattle.board_model.specs.SerialRun.{Station, is_station, opened, finished}
+use Rattle.board_model.specs.SerialRun.{Station, is_station, finished}
 use Rattle.board_model.proofs.MessageAlls.{all-weaken}
 use Rattle.board_model.proofs.ListsApart.{differ-found}
 use Rattle.board_model.proofs.PlaceBoards.{rising_differ}
 use Rattle.board_model.proofs.WholeJournals.{leads_to}
-use Rattle.board_model.proofs.WholeGoing.{Going}
-use Rattle.board_model.proofs.WholeJoined.{Joined}
-use Rattle.board_model.proofs.WholeOpening.{opened_going}
-use Rattle.board_model.proofs.WholeRests.{opened_rests}
-use Rattle.board_model.proofs.WholeLines.{lines_go}
-use Rattle.board_model.proofs.WholeBoard.{serial_run_is_whole}
+use Rattle.board_model.proofs.WholeBoard.{serial_run_is_whole, finished_going}
 use Rattle.board_numbers.specs.Tallied.{RanBoard}
 use Rattle.board_runner.specs.declared.station.Station as code
 use Rattle.board_runner.specs.Stations.{AreStations}
-
-pub finish_going : (s : Scenario) → IsLinkedBoard s → Going s (Joined s) (λ n. length (script s n)) (λ n. 0) (finished s)
-finish_going s board = lines_go s board [] s.calls refl board.lines_told (opened s) (opened_rests s) (opened_going s board)
 
 -- ---- the serial run is one
 
@@ -37,7 +29,7 @@ known_peers s (t ∷ ts) (st ∷ sts) are = (ap (λ (x : DomainState). map (λ p
 pub finished_ran : (s : Scenario) → IsLinkedBoard s → (sts : List code.Station) → AreStations s (finished s).stations sts → RanBoard s (finished s).stations
 finished_ran s board sts are =
     let ts = (finished s).stations in
-    let going = finish_going s board in
+    let going = finished_going s board in
     let numbers : map (λ (d : DomainLine). d.domain) (rising s) ≡ map (λ (t : Station). t.line.domain) ts = ap (map (λ (d : DomainLine). d.domain)) (sym going.domains) ∙ map-map (λ (d : DomainLine). d.domain) (λ (t : Station). t.line) ts in
     record {
       run = (serial_run_is_whole s board).0;

@@ -1,5 +1,5 @@
 -- The ids that a runner holds go along with the labels of the run.
-use Rattle.std.proofs.Common.{◌≡◌, ◌≢◌, ℕ, zero, suc, ◌+◌, ◌<◌, ◌≤◌, ◌^◌, Bool, true, false, ◌&&◌, cond, List, [], ◌∷◌, ◌++◌, length, map, Option, Some, None, position, option_map, option_and_then, option_to_list, refl, sym, ap, ap₂, ◌∙◌, subst, inl, inr, arith, true≢false}
+use Rattle.std.proofs.Common.{◌≡◌, ◌≢◌, ℕ, ◌+◌, ◌<◌, ◌≤◌, ◌^◌, Bool, true, false, ◌&&◌, cond, List, [], ◌∷◌, ◌++◌, length, map, Option, Some, None, position, option_map, option_and_then, option_to_list, refl, sym, ap, ap₂, ◌∙◌, subst, inl, inr, arith, true≢false}
 use Rattle.std.specs.Prelude.{◌==◌, is_some, find, unwrap_or, IfSome}
 use Rattle.std.specs.Option.{option_or}
 use Rattle.std.specs.List.{AllByRecursion, position_from}
@@ -16,13 +16,13 @@ use Rattle.mc_base.specs.declared.request.RequestId.{RequestId}
 use Rattle.board_model.specs.declared.scenario.Call.{Call}
 use Rattle.board_model.specs.declared.scenario.Call.TheVariants.{Create, Delete, Lookup, MsgSend, MsgRecv, MsgRecvI, MsgAvailable, Connect, OpenSend, OpenRecv, PktSend, PktRecv, PktRecvI, Release, SclSend, SclRecv, CloseSend, CloseRecv, Test, Wait, WaitAny, Cancel, Raw, Turn}
 use Rattle.board_model.specs.DomainCall.{DomainCall, create_at, delete_at, lookup_of, send_from, receive_at, request_at, available_at, connect_from, open_at, packet_from, lend_at, packet_request_at, release_of, scalar_from, scalar_at, close_at, test_of, wait_for, cancel_of, raw_to, turn_alone}
-use Rattle.board_model.specs.Lists.{without_at, without}
+use Rattle.board_model.specs.Lists.{without}
 use Rattle.board_model.specs.State.{DomainState, place_of_request}
 use Rattle.board_model.specs.Answer.{refusal, unless_refused}
 use Rattle.board_model.specs.CallChanges.{effect}
 use Rattle.board_model.specs.Labels.{Labelled, Labels, serial_of, place_of_label, call_of, request_given, with_label}
 use Rattle.board_model.proofs.MessageAlls.{all-append, all-weaken, all-without}
-use Rattle.board_model.proofs.SerialRequests.{serials, call_serials, call_gives, given_is, request_ended, success_ended, keyed_place}
+use Rattle.board_model.proofs.SerialRequests.{serials, call_serials, call_gives, given_is, request_ended, success_ended, keyed_place, map-without}
 use Rattle.domain_core.specs.Calls.{place_ended, success_ends, IsFresh}
 use Rattle.domain_core.specs.DomainView.{place_of_id, has_id}
 use Rattle.board_runner.specs.Held.{Held, Ids, PacketIds, id_for, id_or_none, no_id, told_for, TellsId}
@@ -85,15 +85,6 @@ call_is d ids packets labels k (Raw domain bytes) h = refl
 call_is d ids packets labels k Turn h = refl
 
 -- ---- the ids that stand
-
-map-without_at : {A B : Type 0} (f : A → B) (i : ℕ) (xs : List A) → map f (without_at i xs) ≡ without_at i (map f xs)
-map-without_at f i [] = refl
-map-without_at f zero (x ∷ xs) = refl
-map-without_at f (suc i) (x ∷ xs) = ap (λ ys. f x ∷ ys) (map-without_at f i xs)
-
-pub map-without : {A B : Type 0} (f : A → B) (o : Option ℕ) (xs : List A) → map f (without o xs) ≡ without o (map f xs)
-map-without f None xs = refl
-map-without f (Some i) xs = map-without_at f i xs
 
 pub map-option : {A B : Type 0} (f : A → B) (o : Option A) → map f (option_to_list o) ≡ option_to_list (option_map f o)
 map-option f None = refl

@@ -1,13 +1,12 @@
 -- One call at a domain's ends towards a peer: what the domain did there after it, by what it did before.
 use Rattle.std.proofs.Common.{◌≡◌, ℕ, ◌+◌, ◌≤◌, Bool, true, false, cond, List, [], ◌∷◌, ◌++◌, length, map, sum, count_by, filter, refl, sym, ap, ◌∙◌, subst, inl, inr, arith, append-nil, length-append, eqb-true, eq-eqb, ne_eqb, true≢false}
 use Rattle.std.specs.Prelude.{◌==◌}
-use Rattle.std.proofs.lemmas.List.{length-map, map-append}
+use Rattle.std.proofs.lemmas.List.{length-map}
 use Rattle.mc_base.specs.declared.request.Slot.{Slot}
 use Rattle.lane_end.specs.Halves.{IsRingSend, IsRingRecv}
 use Rattle.lane_end.specs.SendMoves.{SendMove, Sent}
 use Rattle.lane_end.specs.ReceiveMoves.{ReceiveMove, Gave}
-use Rattle.lane_end.specs.SendParts.{frames_sent, back_counts}
-use Rattle.lane_end.specs.ReceiveParts.{frames_taken, numbers_given, see_counts}
+use Rattle.lane_end.specs.ReceiveParts.{frames_taken, numbers_given}
 use Rattle.lane_end.specs.Entries.{return_in}
 use Rattle.lane_end.specs.RingSender.{RingSender, put_by, RingSends}
 use Rattle.lane_end.specs.RingReceiver.{RingReceiver, RingReceives, taken_by, given_entries, given_by, with_lengths}
@@ -29,7 +28,7 @@ use Rattle.domain_core.specs.LoopMoved.{LoopMoved, loop_after}
 use Rattle.domain_core.specs.VisitMoves.{putting}
 use Rattle.domain_core.specs.AllMoved.{AllMoved, giving, frames_to, buffers_of, moves_at, call_moves}
 use Rattle.domain_core.specs.Carrying.{AnyLink}
-use Rattle.board_runner.specs.Near.{Near, SentNear, GotNear, RunEnds, sent_by, got_by, sent_near, got_near, IsLinkTo, frame_in, near_to, near_among, EndsMatch}
+use Rattle.board_runner.specs.Near.{Near, SentNear, GotNear, RunEnds, sent_by, got_by, sent_near, got_near, IsLinkTo, near_to, near_among, EndsMatch}
 use Rattle.board_runner.proofs.NearEnds.{contents, loads-frames, sent_puts, puts_show_none, sends_putting, receives_putting, loop-put}
 use Rattle.board_runner.proofs.PeersLanes.{HasPeer}
 use Rattle.board_runner.proofs.TurnEnds.{Moved}
@@ -149,7 +148,7 @@ one_called n puts slots p ps (Linked a) (Linked b) es matched moved =
 one_called n puts slots p ps (Own a) (Linked b) es matched moved = absurd moved
 one_called n puts slots p ps (Linked a) (Own b) es matched moved = absurd moved
 
-match_rest : (n p : ℕ) (ps : List ℕ) (e : RunEnds) (es : List RunEnds) → EndsMatch n (p ∷ ps) (e ∷ es) → EndsMatch n ps es
+pub match_rest : (n p : ℕ) (ps : List ℕ) (e : RunEnds) (es : List RunEnds) → EndsMatch n (p ∷ ps) (e ∷ es) → EndsMatch n ps es
 match_rest n p ps (Own l) es matched = matched.1
 match_rest n p ps (Linked l) es matched = matched.2
 

@@ -1,17 +1,17 @@
 -- Serials of packets: a turn leaves those of the packets that are lent, and a call releases one of them at most and lends the next one
 -- at most. The place of a packet is that of its serial.
-use Rattle.std.proofs.Common.{◌≡◌, ℕ, zero, suc, true, false, ◌+◌, ◌<◌, ◌^◌, List, [], ◌∷◌, ◌++◌, length, map, Option, Some, None, position, option_map, option_to_list, refl, sym, ap, ◌∙◌, arith, append-nil, mod-eq_of_lt}
+use Rattle.std.proofs.Common.{◌≡◌, ℕ, false, ◌+◌, ◌<◌, ◌^◌, List, [], ◌∷◌, ◌++◌, length, map, Option, Some, None, position, option_map, option_to_list, refl, sym, ap, ◌∙◌, arith, append-nil, mod-eq_of_lt}
 use Rattle.std.specs.Prelude.{◌==◌}
 use Rattle.std.specs.List.{AllByRecursion}
 use Rattle.std.proofs.lemmas.List.{map-append}
 use Rattle.mc_base.specs.declared.channel.Side.{Side}
 use Rattle.mc_base.specs.declared.channel.Side.TheVariants.{Sender, Receiver}
 use Rattle.mc_base.specs.declared.refusal.Refusal.{Refusal}
-use Rattle.mc_base.specs.declared.refusal.Refusal.TheVariants.{EndpInvalid, Empty}
+use Rattle.mc_base.specs.declared.refusal.Refusal.TheVariants.{EndpInvalid}
 use Rattle.board_model.specs.DomainCall.{DomainCall, create_at, delete_at, lookup_of, send_from, receive_at, request_at, available_at, connect_from, open_at, packet_from, lend_at, packet_request_at, release_of, scalar_from, scalar_at, close_at, test_of, wait_for, cancel_of, raw_to, turn_alone}
-use Rattle.board_model.specs.Lists.{without_at, without}
+use Rattle.board_model.specs.Lists.{without}
 use Rattle.board_model.specs.Journal.{Visit}
-use Rattle.board_model.specs.State.{DomainState, ChannelEnd, Endpoint, Item, Asked, Request, LentPacket, Outcome, channel_of, message_at, packet_at, has_item, is_lent_as, is_at, endpoint_at, queue_in, queue_at, live_at, request_at_place, place_of_packet}
+use Rattle.board_model.specs.State.{DomainState, ChannelEnd, Endpoint, Item, Asked, Request, LentPacket, Outcome, channel_of, message_at, packet_at, has_item, is_lent_as, is_at, queue_in, queue_at, live_at, request_at_place, place_of_packet}
 use Rattle.board_model.specs.Change.{Change, endpoint_gone, best_gone, oldest_gone, channel_set, waiting_ended, request_added, request_gone, end_announced, buffer_used, packet_lent, packet_gone, channel_given, changed, changed_all}
 use Rattle.board_model.specs.ChannelEnds.{opened_end}
 use Rattle.board_model.specs.CallChanges.{at_live, at_end, new_sender, closing, best_item, lending, lent_by, lent_by_test, success_changes, effect}
@@ -21,8 +21,8 @@ use Rattle.board_model.specs.Answer.{first_complete, local, holds, words_of, ref
 use Rattle.board_model.specs.Labels.{success_packet, packet_given, packet_tested, packet_brought}
 use Rattle.board_model.proofs.MessageAlls.{none-passes}
 use Rattle.board_model.proofs.MessageLists.{get-position}
-use Rattle.board_model.proofs.SerialRequests.{position-map}
-use Rattle.board_model.proofs.StateEnds.{there_is, end-holds}
+use Rattle.board_model.proofs.SerialRequests.{position-map, map-without, end_same, live_same}
+use Rattle.board_model.proofs.StateEnds.{there_is}
 use Rattle.board_model.proofs.TurnChanges.{IsOfTurn, turn-keeps}
 
 -- the serials of the packets that are lent, in their order
@@ -55,22 +55,6 @@ success_released other = None
 
 abbrev pub packet_released : DomainState → ℕ → DomainCall → Option ℕ
 packet_released s node call = unless_refused (refusal s node call) None (success_released call)
-
-map-without_at : {A B : Type 0} (f : A → B) (i : ℕ) (xs : List A) → map f (without_at i xs) ≡ without_at i (map f xs)
-map-without_at f i [] = refl
-map-without_at f zero (x ∷ xs) = refl
-map-without_at f (suc i) (x ∷ xs) = ap (λ ys. f x ∷ ys) (map-without_at f i xs)
-
-map-without : {A B : Type 0} (f : A → B) (o : Option ℕ) (xs : List A) → map f (without o xs) ≡ without o (map f xs)
-map-without f None xs = refl
-map-without f (Some i) xs = map-without_at f i xs
-
-live_same : {X : Type 0} (f : DomainState → X) (s : DomainState) (o : Option Endpoint) (cs : Endpoint → List Change) → ((e : Endpoint) → f (changed_all s (cs e)) ≡ f s) → f (changed_all s (at_live o cs)) ≡ f s
-live_same f s None cs same = refl
-live_same f s (Some e) cs same = same e
-
-end_same : {X : Type 0} (f : DomainState → X) (s : DomainState) (o : Option Endpoint) (cs : Endpoint → ChannelEnd → List Change) → ((e : Endpoint) (c : ChannelEnd) → f (changed_all s (cs e c)) ≡ f s) → f (changed_all s (at_end o cs)) ≡ f s
-end_same f s o cs same = end-holds (λ ds. f (changed_all s ds) ≡ f s) refl o cs (λ e c live has. same e c)
 
 -- a receive that is not refused finds its endpoint, where a packet is queued
 module _ (s : DomainState) (node port : ℕ) where

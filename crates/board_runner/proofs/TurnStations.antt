@@ -10,7 +10,7 @@ use Rattle.board_model.specs.declared.scenario.Scenario.{Scenario}
 use Rattle.board_model.specs.Scenario.{script}
 use Rattle.board_model.specs.State.{DomainState}
 use Rattle.board_model.specs.Labels.{Labelled}
-use Rattle.board_model.specs.Journal.{Line, back_line, put_line, see_line, looked, taken_line, visit_lines, Visit, Taken, PlainEntry, turned, noted, noted_all, joined}
+use Rattle.board_model.specs.Journal.{Line, back_line, put_line, see_line, looked, taken_line, visit_lines, Visit, Taken, PlainEntry, turned, noted, joined}
 use Rattle.board_model.specs.Tallies.{deleted_in}
 use Rattle.board_model.specs.Turn.{after_turn}
 use Rattle.board_model.specs.SerialRun as run
@@ -19,6 +19,7 @@ use Rattle.board_model.proofs.ListsJoined.{entry_lines, sum-joined}
 use Rattle.board_model.proofs.MessageAlls.{all-append}
 use Rattle.board_model.proofs.SerialRequests.{turn_serials, turn_gives}
 use Rattle.board_model.proofs.WholeTurns.{turn_number}
+use Rattle.board_model.proofs.KeptTold.{sum_none}
 use Rattle.mc_journal.specs.Written.{Written}
 use Rattle.domain_core.specs.Turned.{Turns}
 use Rattle.board_runner.specs.declared.station.Station.{Station}
@@ -28,6 +29,7 @@ use Rattle.board_runner.specs.Stations.{IsKnown, HoldsIds, IsStation}
 use Rattle.board_runner.proofs.TurnEnds.{Moved}
 use Rattle.board_runner.proofs.PacketLemmas.{packets_stay}
 use Rattle.board_runner.proofs.SerialPackets.{packets, turn-lends, turn-packets}
+use Rattle.domain_core.proofs.WaitSteps.{noted-append}
 
 -- ---- ids
 
@@ -55,14 +57,6 @@ ids-stay d d' ids labels lines given serials same h =
 
 -- ---- the journal, and its deletes
 
-pub noted_all-append : (lines : List Line) (es fs : List PlainEntry) → noted_all lines (es ++ fs) ≡ noted_all (noted_all lines es) fs
-noted_all-append lines [] fs = refl
-noted_all-append lines (e ∷ es) fs = noted_all-append (noted lines e) es fs
-
-sum_none : (f : Line → ℕ) (ls : List Line) → AllByRecursion (λ l. f l ≡ 0) ls → sum_by f ls ≡ 0
-sum_none f [] all = refl
-sum_none f (l ∷ ls) all = omega (arith, sum_by-cons f l ls, all.0, sum_none f ls all.1)
-
 module _ (lines : List CallLine) where
   abbrev deletes_in : PlainEntry → ℕ
   deletes_in e = sum_by (deleted_in lines) (entry_lines e)
@@ -81,7 +75,7 @@ module _ (lines : List CallLine) where
         arith,
         deletes-joined es,
         deletes-joined (es ++ e ∷ []),
-        ap (sum_by (deleted_in lines)) (noted_all-append [] es (e ∷ [])),
+        ap (sum_by (deleted_in lines)) (noted-append [] es (e ∷ [])),
         sum_by-append deletes_in es (e ∷ []),
         sum_by-cons deletes_in e [],
       )
@@ -131,7 +125,7 @@ station-turned s t st visits numbers d' j h turns told peers matched =
     let lines : j.lines ≡ noted (joined t.entries) (turned visits) = told ∙ ap (λ (ls : List Line). noted ls (turned visits)) h.told in
     record {
       state = turns.state ∙ ap (λ (x : DomainState). after_turn x visits) h.state;
-      told = lines ∙ sym (noted_all-append [] t.entries (turned visits ∷ []));
+      told = lines ∙ sym (noted-append [] t.entries (turned visits ∷ []));
       number = h.number;
       held = record {
         requests =

@@ -1,43 +1,41 @@
 -- The rounds of a wait on a board that runs serially, and a line that waits as a whole.
-use Rattle.std.proofs.Common.{◌≡◌, ◌⊎◌, ℕ, zero, suc, ◌+◌, ◌-◌, ◌<◌, Bool, true, false, not, ◌||◌, cond, List, [], ◌∷◌, length, map, take, position, Some, None, Option, option_map, is_some, refl, sym, ap, ap₂, ◌∙◌, subst, inl, inr, arith}
+use Rattle.std.proofs.Common.{◌≡◌, ◌⊎◌, ℕ, zero, suc, ◌+◌, ◌-◌, ◌<◌, Bool, true, false, not, ◌||◌, cond, List, [], ◌∷◌, length, take, position, Some, None, Option, option_map, is_some, refl, sym, ap, ◌∙◌, subst, inl, inr, arith}
 use Rattle.std.specs.Prelude.{IsSome, slice_get}
-use Rattle.std.specs.List.{AllByRecursion, list_all, list_any, position_from}
+use Rattle.std.specs.List.{AllByRecursion, list_any}
 use Rattle.std.proofs.lemmas.Iterator.Adapters.{position_from-zero}
 use Rattle.std.proofs.lemmas.List.{length-map}
 use Rattle.mc_base.specs.declared.refusal.Refusal.TheVariants.{RequestInvalid, Timeout}
 use Rattle.board_model.specs.declared.scenario.CallLine.{CallLine}
 use Rattle.board_model.specs.declared.scenario.Scenario.{Scenario}
-use Rattle.board_model.specs.Answer.{answer, answer_by, is_complete_at, lacks_complete, lacks_request, place_said, stands_at, success}
+use Rattle.board_model.specs.Answer.{answer, answer_by, is_complete_at, lacks_complete, lacks_request, place_said, success}
 use Rattle.board_model.specs.DomainCall.{DomainCall, wait_for}
-use Rattle.board_model.specs.Journal.{Visit, turned}
+use Rattle.board_model.specs.Journal.{turned}
 use Rattle.board_model.specs.Language.{IsLawfulBoard}
 use Rattle.board_model.specs.SerialRun as run
-use Rattle.board_model.specs.SerialRun.{Running, all_turned, is_waiting_at, last_call, line_by, line_run, numbers, rounds, station_of, turned_once, wait_run, with_beginning}
+use Rattle.board_model.specs.SerialRun.{Running, all_turned, is_waiting_at, last_call, line_by, line_run, numbers, rounds, station_of, turned_once, with_beginning}
 use Rattle.board_model.specs.State.{DomainState}
 use Rattle.board_model.specs.Step.{call_at, is_timeout, limit_of}
-use Rattle.board_model.specs.Turn.{after_turn}
 use Rattle.board_model.proofs.LawfulBoards.{lawful_is_linked}
 use Rattle.board_model.proofs.PlaceBoards.{rising_differ}
-use Rattle.board_model.proofs.WaitCalls.{Waits, call-waits}
+use Rattle.board_model.proofs.WaitCalls.{call-waits}
 use Rattle.board_model.proofs.WholeHas.{Has}
 use Rattle.board_model.proofs.WholeStations.{entered_all}
 use Rattle.board_model.proofs.WholeWaits.{turn_all_stand}
 use Rattle.domain_core.specs.Awaiting.{first_settled, places_named}
 use Rattle.domain_core.specs.Waiting.{wait_on}
 use Rattle.board_runner.specs.declared.station.Station.{Station}
-use Rattle.board_runner.specs.Near.{RunDomain}
-use Rattle.board_runner.specs.Runs.{AllCarried, At, CountsFit, DropsFit, IsNext, IsSomeNext, IsSomeRun, KeepCounts, Leads, OneLineMore, RunsLine, TurnsOnce}
+use Rattle.board_runner.specs.Runs.{AllCarried, At, CountsFit, DropsFit, IsNext, IsSomeNext, IsSomeRun, KeepCounts, Leads, RunsLine, TurnsOnce}
 use Rattle.board_runner.specs.Stations.{IsRun}
-use Rattle.board_runner.specs.StationsMet.{counted}
-use Rattle.board_runner.specs.Waits.{CountsTest, HasSettled, HasTested, RoundsUntil, TestsWait, TimesOut, TurnsAll, ids_named, says_place}
+use Rattle.board_runner.specs.Waits.{HasSettled, HasTested, RoundsUntil, TestsWait, TimesOut, TurnsAll, ids_named, says_place}
 use Rattle.board_runner.proofs.OthersLemmas.{all_turned-append, board_numbers, number_at, some_turned, take-all, take-more}
-use Rattle.board_runner.proofs.StationCounts.{at_place, one_line_after}
-use Rattle.board_runner.proofs.StationLemmas.{StandsAt, domains_rise, here, item_at, numbers_are}
+use Rattle.board_runner.proofs.StationCounts.{at_place}
+use Rattle.board_runner.proofs.StationLemmas.{domains_rise, item_at, numbers_are}
 use Rattle.board_runner.proofs.TriesLemmas.{next_stays}
 use Rattle.board_runner.proofs.WaitLemmas.{wait-named}
 use Rattle.board_runner.proofs.WaitRuns.{wait-found, wait-there, waiting-here}
 use Rattle.board_runner.proofs.WaitStations.{same-call}
 use Rattle.board_model.proofs.WaitTurns.{one_turn, same_call}
+use Rattle.domain_core.proofs.WaitPlaces.{any-from}
 
 -- ---- a round
 
@@ -98,21 +96,13 @@ waits_by s node places says = go (lacks_request s (wait_for places says)) (lacks
     go false true e = refl
     go false false e = refl
 
-any_from : {A : Type 0} (p : A → Bool) (k : ℕ) (xs : List A) → is_some (position_from p k xs) ≡ list_any p xs
-any_from p k [] = refl
-any_from p k (x ∷ xs) = go (p x) (any_from p (k + 1) xs)
-  where
-    go : (t : Bool) → is_some (position_from p (k + 1) xs) ≡ list_any p xs → is_some (cond t (Some k) (position_from p (k + 1) xs)) ≡ (t || list_any p xs)
-    go true rest = refl
-    go false rest = rest
-
 some_map : {A B : Type 0} (f : A → B) (o : Option A) → is_some (option_map f o) ≡ is_some o
 some_map f None = refl
 some_map f (Some x) = refl
 
 some_said : (s : DomainState) (places : List (Option ℕ)) → is_some (place_said s places true) ≡ list_any (is_complete_at s) places
 some_said s places =
-    some_map (λ (i : ℕ). i + 1) (position (is_complete_at s) places) ∙ ap (λ (o : Option ℕ). is_some o) (position_from-zero (is_complete_at s) places) ∙ any_from (is_complete_at s) 0 places
+    some_map (λ (i : ℕ). i + 1) (position (is_complete_at s) places) ∙ ap (λ (o : Option ℕ). is_some o) (position_from-zero (is_complete_at s) places) ∙ any-from (is_complete_at s) 0 places
 
 has_at : (ns : List ℕ) (i n : ℕ) → slice_get ns i ≡ Some n → Has (λ m. m ≡ n) ns
 has_at [] i n e = absurd cc

@@ -1,5 +1,5 @@
 -- A station whose next line waits: its wait begins, ends, or does nothing.
-use Rattle.std.proofs.Common.{◌≡◌, ℕ, ◌+◌, Bool, true, false, not, cond, List, [], ◌∷◌, ◌++◌, length, map, Option, Some, None, option_map, option_to_list, sum_by, refl, sym, ap, ap₂, ◌∙◌, subst, arith, append-nil, true≢false}
+use Rattle.std.proofs.Common.{◌≡◌, ℕ, ◌+◌, Bool, true, false, not, List, [], ◌∷◌, ◌++◌, length, map, Option, Some, None, option_map, option_to_list, sum_by, refl, sym, ap, ap₂, ◌∙◌, subst, arith, append-nil, true≢false}
 use Rattle.std.specs.Prelude.{◌≤◌, IfSome, IsSome}
 use Rattle.std.proofs.lemmas.List.Sums.{sum_by-cons}
 use Rattle.mc_base.specs.declared.refusal.Refusal.TheVariants.{Timeout}
@@ -12,7 +12,7 @@ use Rattle.board_model.specs.CallChanges.{effect, returned}
 use Rattle.board_model.specs.DomainCall.{DomainCall}
 use Rattle.board_model.specs.Given.{frames_from}
 use Rattle.board_model.specs.Journal.{Line, PlainAnswer, refuses, Visit, joined, noted, noted_all, wait_line, waits}
-use Rattle.board_model.specs.Labels.{call_of, packet_given, request_given, success_request}
+use Rattle.board_model.specs.Labels.{call_of, packet_given, success_request}
 use Rattle.board_model.specs.Lists.{without}
 use Rattle.board_model.specs.Scenario.{script}
 use Rattle.board_model.specs.Serial.{put_entry}
@@ -28,7 +28,7 @@ use Rattle.board_model.proofs.RenamedCalls.{answer-renamed}
 use Rattle.domain_core.specs.AllMoved.{AllMoved, call_moves}
 use Rattle.domain_core.specs.Awaiting.{places_named}
 use Rattle.domain_core.specs.Calls.{Does, IsFresh, place_ended, place_released}
-use Rattle.domain_core.specs.Waiting.{EndsPolled, Polls, Waits, wait_entries, wait_on}
+use Rattle.domain_core.specs.Waiting.{Polls, Waits, wait_entries, wait_on}
 use Rattle.mc_journal.specs.Entry.{plain_answer}
 use Rattle.mc_journal.specs.Written.{Written}
 use Rattle.board_runner.specs.declared.station.Station.{Station}
@@ -36,7 +36,7 @@ use Rattle.board_runner.specs.declared.line.Made.{Made}
 use Rattle.board_runner.specs.Held.{Ids, PacketIds}
 use Rattle.board_runner.specs.Lines.{call_at_station}
 use Rattle.board_runner.specs.Near.{RunDomain, peers_of, EndsMatch}
-use Rattle.board_runner.specs.Stations.{HoldsIds, HoldsPackets, IsStation}
+use Rattle.board_runner.specs.Stations.{IsStation}
 use Rattle.board_runner.specs.Waits.{ids_named, says_place}
 use Rattle.board_runner.proofs.CallLemmas.{IsCall, DoesNothing, refused_nothing}
 use Rattle.board_runner.proofs.HeldLemmas.{call_is, holds_same}
@@ -45,8 +45,9 @@ use Rattle.board_runner.proofs.PacketLemmas.{packets_stay}
 use Rattle.board_runner.proofs.StationLemmas.{own_number}
 use Rattle.board_runner.proofs.ToldMoves.{all_rest}
 use Rattle.board_runner.proofs.TurnEnds.{Moved, ends-match}
-use Rattle.board_runner.proofs.TurnStations.{deleted-noted, noted_all-append, turned_station}
+use Rattle.board_runner.proofs.TurnStations.{deleted-noted, turned_station}
 use Rattle.board_runner.proofs.WaitLemmas.{timeout-anywhere, timeout-word, wait-named}
+use Rattle.domain_core.proofs.WaitSteps.{noted-append}
 
 -- ---- a wait that makes no turn
 
@@ -90,7 +91,7 @@ begun-station s t st j h told =
     let lines : j.lines ≡ noted (joined t.entries) (waits k) = told ∙ ap₂ (λ (ls : List Line) (n : ℕ). noted ls (waits (n + 1))) h.told h.number in
     record {
       state = h.state;
-      told = lines ∙ sym (noted_all-append [] t.entries (waits k ∷ []));
+      told = lines ∙ sym (noted-append [] t.entries (waits k ∷ []));
       number = h.number;
       held = h.held;
       dropped = omega (arith, h.dropped, ap (sum_by (deleted_in sc)) h.told, ap (sum_by (deleted_in sc)) lines, deleted-noted sc t.entries (waits k), sum_by-cons (deleted_in sc) (wait_line k) []);

@@ -17,6 +17,7 @@ use Rattle.board_model.specs.Given.{frames_from}
 use Rattle.board_model.specs.Serial.{put_entry}
 use Rattle.board_model.specs.Unnamed.{no_names, unnamed, unnamed_item}
 use Rattle.board_model.proofs.RenamedGiven.{returned-renamed}
+use Rattle.board_model.proofs.RenamedLabels.{given-renamed}
 use Rattle.board_model.proofs.RenamedCalls.{answer-renamed, puts-renamed}
 use Rattle.domain_core.specs.AllMoved.{AllMoved, buffers_of, call_moves, moves_at, numbers_of}
 use Rattle.domain_core.specs.Calls.{Calls, Does, IsFresh, success_releases}
@@ -31,7 +32,7 @@ use Rattle.domain_core.specs.Turned.{MakesTurn}
 use Rattle.domain_core.proofs.Calling.{puts-done, puts-nothing}
 use Rattle.domain_core.proofs.Ending.{ended-done, ended-refused, ids_in}
 use Rattle.domain_core.proofs.GivingLemmas.{numbers-in}
-use Rattle.domain_core.proofs.Unnaming.{effect-unnamed, ended-unnamed, given-unnamed, items-unnamed, names-are, released-unnamed}
+use Rattle.domain_core.proofs.Unnaming.{effect-unnamed, ended-unnamed, items-unnamed, names-are, released-unnamed}
 
 map-same : {A B : Type 0} (f g : A → B) → ((x : A) → f x ≡ g x) → (xs : List A) → map f xs ≡ map g xs
 map-same f g is [] = refl
@@ -86,7 +87,7 @@ module _ {L : Type 0} (M : L → List LaneMove → L → Type 0) (node : ℕ) (c
         fresh = tt;
         lent = None;
         packets = sym (append-nil (without _ p.records.lent) ∙ ap (λ (o : Option ℕ). without o p.records.lent) (released-unnamed s node call) ∙ ap (λ (o : Option Refusal). without (unless_refused o None (success_releases call)) p.records.lent) e);
-        lends = sym (given-unnamed s node call ∙ ap (λ (o : Option Refusal). unless_refused o None (success_packet s call)) e);
+        lends = sym (given-renamed no_names s node call ∙ ap (λ (o : Option Refusal). unless_refused o None (success_packet s call)) e);
       }))
 
   succeeded : refusal s node call ≡ None → answered ≡ answer s node call → Succeeds M node call old new given → Does M node call (shown old) (shown new) answered given
@@ -108,7 +109,7 @@ module _ {L : Type 0} (M : L → List LaneMove → L → Type 0) (node : ℕ) (c
         lent = m.lent;
         packets = ap (λ (x : Parts). x.records.lent) done.did.parts ∙ m.packets ∙ ap (λ (o : Option Refusal). without (unless_refused o None (success_releases call)) p.records.lent ++ option_to_list m.lent) (sym e)
             ∙ ap (λ (o : Option ℕ). without o p.records.lent ++ option_to_list m.lent) (sym (released-unnamed s node call));
-        lends = m.lends ∙ sym (given-unnamed s node call ∙ ap (λ (o : Option Refusal). unless_refused o None (success_packet s call)) e);
+        lends = m.lends ∙ sym (given-renamed no_names s node call ∙ ap (λ (o : Option Refusal). unless_refused o None (success_packet s call)) e);
       }
 
   -- what a call does inside is what it does

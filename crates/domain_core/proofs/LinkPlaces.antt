@@ -10,6 +10,7 @@ use Rattle.domain_core.specs.declared.link.Link.{Link}
 use Rattle.domain_core.specs.Opened.{own_place, placed}
 use Rattle.domain_core.specs.Sound.{AreRising}
 use Rattle.domain_core.specs.Tied.{linked_among}
+use Rattle.domain_core.proofs.Filters.{filter-every}
 
 pub map-map : {X Y Z : Type 0} (g : Y → Z) (f : X → Y) (xs : List X) → map g (map f xs) ≡ map (λ x. g (f x)) xs
 map-map g f [] = refl
@@ -18,10 +19,6 @@ map-map {X} {Y} {Z} g f (x ∷ xs) = ap (λ (zs : List Z). g (f x) ∷ zs) (map-
 pub map-same : {X Y : Type 0} (f g : X → Y) (xs : List X) → AllByRecursion (λ x. f x ≡ g x) xs → map f xs ≡ map g xs
 map-same f g [] same = refl
 map-same {X} {Y} f g (x ∷ xs) same = ap (λ (y : Y). y ∷ map f xs) same.0 ∙ ap (λ (ys : List Y). g x ∷ ys) (map-same f g xs same.1)
-
-filter-all : {X : Type 0} (p : X → Bool) (xs : List X) → AllByRecursion (λ x. p x ≡ true) xs → filter p xs ≡ xs
-filter-all p [] all = refl
-filter-all {X} p (x ∷ xs) all = ap (λ (b : Bool). cond b (x ∷ filter p xs) (filter p xs)) all.0 ∙ ap (λ (ys : List X). x ∷ ys) (filter-all p xs all.1)
 
 -- ---- numbers that rise
 
@@ -120,7 +117,7 @@ module _ {S R : Type 0} (number : ℕ) where
   filter-placed p none (l ∷ ls) each =
       let rest = filter-placed p none ls each.1 in
       elim (above l) as (λ b. filter p (cond b (number ∷ map peer_of (l ∷ ls)) (l.peer ∷ placed number peer_of number ls)) ≡ map peer_of (l ∷ ls)) [
-        | true ↦ ap (λ (b : Bool). cond b (number ∷ filter p (map peer_of (l ∷ ls))) (filter p (map peer_of (l ∷ ls)))) none ∙ filter-all p (map peer_of (l ∷ ls)) (all-map (λ n. p n ≡ true) peer_of (l ∷ ls) each)
+        | true ↦ ap (λ (b : Bool). cond b (number ∷ filter p (map peer_of (l ∷ ls))) (filter p (map peer_of (l ∷ ls)))) none ∙ filter-every p (map peer_of (l ∷ ls)) (all-map (λ n. p n ≡ true) peer_of (l ∷ ls) each)
         | false ↦ ap (λ (b : Bool). cond b (l.peer ∷ filter p (placed number peer_of number ls)) (filter p (placed number peer_of number ls))) each.0 ∙ ap (λ (ns : List ℕ). l.peer ∷ ns) rest
       ]
 

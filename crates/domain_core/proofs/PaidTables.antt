@@ -13,6 +13,8 @@ use Rattle.domain_core.specs.Owed.{owed_by}
 use Rattle.domain_core.specs.Peers.{ended_in}
 use Rattle.domain_core.specs.Records.{Records}
 use Rattle.domain_core.specs.Tied.{AreTied}
+use Rattle.domain_core.proofs.Filters.{filter-every}
+use Rattle.domain_core.proofs.LinkPlaces.{map-map}
 
 -- a linked domain was told so many
 abbrev paid_times : ℕ → Table → ℕ → Table
@@ -60,10 +62,6 @@ told-peer k peer o = go (o.peer == peer)
 map-same : {X Y : Type 0} (f g : X → Y) → ((x : X) → f x ≡ g x) → (xs : List X) → map f xs ≡ map g xs
 map-same f g same [] = refl
 map-same {X} {Y} f g same (x ∷ xs) = ap (λ (y : Y). y ∷ map f xs) (same x) ∙ ap (λ (ys : List Y). g x ∷ ys) (map-same f g same xs)
-
-map-map : {X Y Z : Type 0} (g : Y → Z) (f : X → Y) (xs : List X) → map g (map f xs) ≡ map (λ x. g (f x)) xs
-map-map g f [] = refl
-map-map {X} {Y} {Z} g f (x ∷ xs) = ap (λ (zs : List Z). g (f x) ∷ zs) (map-map g f xs)
 
 map-none : {X : Type 0} (xs : List X) → map (λ x. x) xs ≡ xs
 map-none [] = refl
@@ -125,10 +123,6 @@ owed-other k peer n (o ∷ os) differ = go (o.peer == n) refl (owed-other k peer
 pub filter-same : {X : Type 0} (p q : X → Bool) → ((x : X) → p x ≡ q x) → (xs : List X) → filter p xs ≡ filter q xs
 filter-same p q same [] = refl
 filter-same {X} p q same (x ∷ xs) = ap (λ (b : Bool). cond b (x ∷ filter p xs) (filter p xs)) (same x) ∙ ap (λ (ys : List X). cond (q x) (x ∷ ys) ys) (filter-same p q same xs)
-
-pub filter-every : {X : Type 0} (p : X → Bool) (xs : List X) → AllByRecursion (λ x. p x ≡ true) xs → filter p xs ≡ xs
-filter-every p [] all = refl
-filter-every {X} p (x ∷ xs) all = ap (λ (b : Bool). cond b (x ∷ filter p xs) (filter p xs)) all.0 ∙ ap (λ (ys : List X). x ∷ ys) (filter-every p xs all.1)
 
 filter-passes : {X : Type 0} (p : X → Bool) (xs : List X) → AllByRecursion (λ x. p x ≡ true) (filter p xs)
 filter-passes p [] = tt

@@ -52,6 +52,7 @@ use Rattle.domain_core.proofs.Storing.{Stores-returned, keeps-none}
 use Rattle.domain_core.proofs.TurnMeaning.{frame_handed-is, frame_queued-is, frame_returned-is}
 use Rattle.domain_core.proofs.TurnSteps.{but-one, frame_handed-keeps, frame_queued-keeps, frame_returned-keeps}
 use Rattle.domain_core.proofs.Turning.{doing-by, peer-is, peers-are, seen-there}
+use Rattle.buffer_book.proofs.PlaceLemmas.{set-same}
 
 -- ---- lists
 
@@ -59,11 +60,6 @@ set_twice : {X : Type 0} (xs : List X) (i : ℕ) (x y : X) → slice_set (slice_
 set_twice [] i x y = refl
 set_twice (z ∷ xs) zero x y = refl
 set_twice {X} (z ∷ xs) (suc i) x y = ap (λ (zs : List X). z ∷ zs) (set_twice xs i x y)
-
-get_set : {X : Type 0} (xs : List X) (i : ℕ) (x y : X) → slice_get xs i ≡ Some x → slice_get (slice_set xs i y) i ≡ Some y
-get_set [] i x y there = absurd cc
-get_set (z ∷ xs) zero x y there = refl
-get_set (z ∷ xs) (suc i) x y there = get_set xs i x y there
 
 -- what is seen of the ends is the same, whatever is known of the peer and owed to it
 ends-known : {L : Type 0} (ps : List (Peer L)) (i : ℕ) (x : Peer L) (e : L) (names : Names) (rs : List Reply) → ends_of (slice_set ps i (record x { ends = e; known = names; replies = rs })) ≡ ends_of (slice_set ps i (record x { ends = e }))
@@ -213,7 +209,7 @@ module _ {L : Type 0} (M : L → List LaneMove → L → Type 0) (m-none : (l : 
       set_peers = set-is-map n both (peers_seen v ps) i y sound.peers.rising at refl
 
       there' : slice_get returned.peers i ≡ Some y'
-      there' = subst (λ (zs : List (Peer LaneSeen)). slice_get zs i ≡ Some y') set_peers (get_set (peers_seen v ps) i y y' at)
+      there' = subst (λ (zs : List (Peer LaneSeen)). slice_get zs i ≡ Some y') set_peers (set-same (peers_seen v ps) i y y' at)
 
       back-peers : peers_seen v back_ps ≡ map (changed_peer n (with_left does)) returned.peers
       back-peers =

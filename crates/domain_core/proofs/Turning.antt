@@ -28,16 +28,13 @@ use Rattle.domain_core.proofs.PeerPlaces.{All-at, All-from}
 use Rattle.domain_core.proofs.Stepping.{did-then, done-numbers, moves-append, one-moved, one-seen}
 use Rattle.domain_core.proofs.Storing.{keeps-both, keeps-none}
 use Rattle.domain_core.proofs.Tables.{slice_get-read}
+use Rattle.board_model.proofs.DeedJoins.{after-join}
 
 -- ---- deeds after deeds
 
 pub may-then : (s : DomainState) (xs ys : List Deed) → AllMayDo s xs → AllMayDo (after_deeds s xs) ys → AllMayDo s (xs ++ ys)
 may-then s [] ys first then = then
 may-then s (x ∷ xs) ys first then = (first.0, may-then (after_deed s x) xs ys first.1 then)
-
-pub after-then : (s : DomainState) (xs ys : List Deed) → after_deeds s (xs ++ ys) ≡ after_deeds (after_deeds s xs) ys
-after-then s [] ys = refl
-after-then s (x ∷ xs) ys = after-then (after_deed s x) xs ys
 
 pub at-then : (d n : ℕ) (xs ys : List LaneMove) → at_peer d (xs ++ ys) n ≡ at_peer d xs n ++ at_peer d ys n
 at-then d n xs ys = by (d == n)
@@ -76,7 +73,7 @@ module _ {L : Type 0} (M : L → List LaneMove → L → Type 0) where
     did = did-then M both first.steps then.steps a b c first.did then.did;
     moves_are = λ n. moves-append first.steps then.steps n ∙ ap (λ zs. zs ++ all_moves then.steps n) (first.moves_are n) ∙ ap (λ zs. at_peer d ms n ++ zs) (then.moves_are n) ∙ sym (at-then d n ms ks);
     may = may-then (state_of a.parts) xs ys first.may (subst (λ s. AllMayDo s ys) first.state then.may);
-    state = then.state ∙ ap (λ s. after_deeds s ys) first.state ∙ sym (after-then (state_of a.parts) xs ys);
+    state = then.state ∙ ap (λ s. after_deeds s ys) first.state ∙ sym (after-join (state_of a.parts) xs ys);
     stays = keeps-both a.parts.book b.parts.book c.parts.book first.stays then.stays;
     ids = then.ids ∙ first.ids;
     packets = then.packets ∙ first.packets;

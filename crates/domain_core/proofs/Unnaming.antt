@@ -1,29 +1,25 @@
 -- The state but for the names of frames: what a domain may do is the same there, and so is what it counts.
-use Rattle.std.proofs.Common.{◌≡◌, ℕ, ◌+◌, Bool, true, false, ◌&&◌, ◌||◌, cond, List, [], ◌∷◌, ◌++◌, map, length, find, Option, Some, None, refl, ap, ap₂, ◌∙◌, subst, arith, sum_by}
-use Rattle.std.specs.Prelude.{filter, option_map, is_none, ◌==◌, if◌then◌else◌}
+use Rattle.std.proofs.Common.{◌≡◌, ℕ, Bool, true, false, cond, List, [], ◌∷◌, map, Option, Some, None, refl, ap, ap₂, ◌∙◌, subst}
+use Rattle.std.specs.Prelude.{filter, option_map, ◌==◌}
 use Rattle.std.specs.List.{flat_map}
-use Rattle.std.proofs.lemmas.List.{length-map}
-use Rattle.std.proofs.lemmas.List.Sums.{sum_by-cons}
 use Rattle.mc_base.specs.declared.request.Slot.{Slot}
-use Rattle.board_model.specs.Answer.{first_complete, unless_refused}
+use Rattle.board_model.specs.Answer.{unless_refused}
 use Rattle.board_model.specs.CallChanges.{call_changes, effect}
 use Rattle.board_model.specs.Change.{changed_all}
 use Rattle.board_model.specs.Deeds.{calls, after_deeds, AllMayDo}
-use Rattle.board_model.specs.DomainCall.{DomainCall, cancel_of, lend_at, test_of, wait_for}
+use Rattle.board_model.specs.DomainCall.{DomainCall, cancel_of, test_of, wait_for}
 use Rattle.board_model.specs.Given.{frames_from}
 use Rattle.board_model.specs.Journal.{Visit}
-use Rattle.board_model.specs.Labels.{packet_brought, packet_given, packet_tested, success_packet}
-use Rattle.board_model.specs.State.{Asked, Item, Endpoint, DomainState, LentPacket, Outcome, Request, channel_of, has_address, has_ended, has_item, is_accepted, is_from, is_rejected, message_at, name_of, packet_at, packet_at_place, queue_in, request_at_place}
+use Rattle.board_model.specs.State.{Item, DomainState, LentPacket, is_from, packet_at_place}
 use Rattle.board_model.specs.Turn.{nameless, visit_deeds}
-use Rattle.board_model.specs.Unnamed.{no_names, unnamed, unnamed_end, unnamed_item, unnamed_outcome, unnamed_packet, unnamed_request}
-use Rattle.board_model.proofs.ListsMapped.{find-mapped, option-map-map}
-use Rattle.board_model.proofs.RenamedCalls.{call-renamed, first-renamed, packet-renamed, refusal-renamed, request-renamed}
-use Rattle.board_model.proofs.UnnamedDeeds.{all-unnamed, deeds-unnamed, visit-unnamed}
+use Rattle.board_model.specs.Unnamed.{no_names, unnamed, unnamed_item, unnamed_packet}
+use Rattle.board_model.proofs.ListsMapped.{option-map-map}
+use Rattle.board_model.proofs.RenamedCalls.{call-renamed, first-renamed, packet-renamed, refusal-renamed}
 use Rattle.board_model.proofs.RenamedChanges.{renamed-all}
+use Rattle.board_model.proofs.UnnamedDeeds.{all-unnamed, deeds-unnamed, visit-unnamed}
 use Rattle.buffer_book.specs.Book.{Book}
 use Rattle.domain_core.specs.AllMoved.{buffers_of}
 use Rattle.domain_core.specs.Calls.{brings_whole, gives_whole, place_ended, place_released, success_ends, success_releases}
-use Rattle.board_model.specs.Queues.{hears, messages_at, queued_on}
 use Rattle.domain_core.specs.InBook.{item_at, numbered_at}
 use Rattle.domain_core.specs.NumberedDeeds.{number_in, numbered_deeds}
 
@@ -58,21 +54,6 @@ lent-content s place = ap (option_map (λ (p : LentPacket). p.item.content)) (pa
 pub none-lent : (s : DomainState) (place : Option ℕ) → packet_at_place s place ≡ None → packet_at_place (unnamed s) place ≡ None
 none-lent s place none = packet-renamed no_names s place ∙ ap (option_map unnamed_packet) none
 
-packet_unnamed_tested : (s : DomainState) (o : Option Request) → packet_tested (unnamed s) (option_map unnamed_request o) ≡ packet_tested s o
-packet_unnamed_tested s None = refl
-packet_unnamed_tested s (Some r) = go r.asked r.outcome
-  where
-    go : (a : Asked) (o : Option Outcome) → packet_brought (unnamed s) a (option_map unnamed_outcome o) ≡ packet_brought s a o
-    go (name_of n) o = refl
-    go (channel_of n) o = refl
-    go (message_at at max) o = refl
-    go (packet_at at) None = refl
-    go (packet_at at) (Some (has_address a)) = refl
-    go (packet_at at) (Some is_accepted) = refl
-    go (packet_at at) (Some (is_rejected reason)) = refl
-    go (packet_at at) (Some (has_item i)) = refl
-    go (packet_at at) (Some (has_ended word)) = refl
-
 -- ---- calls
 
 module _ (s : DomainState) (node : ℕ) (call : DomainCall) where
@@ -90,18 +71,6 @@ module _ (s : DomainState) (node : ℕ) (call : DomainCall) where
 
   pub released-unnamed : place_released (unnamed s) node call ≡ place_released s node call
   released-unnamed = ap (λ o. unless_refused o None (success_releases call)) (refusal-renamed no_names s node call)
-
-  packets_unnamed_by : (c : DomainCall) → success_packet (unnamed s) c ≡ success_packet s c
-  packets_unnamed_by (lend_at port) = refl
-  packets_unnamed_by (test_of place) = ap (packet_tested (unnamed s)) (request-renamed no_names s place) ∙ packet_unnamed_tested s (request_at_place s place)
-  packets_unnamed_by (wait_for places says_place) =
-      ap (λ p. packet_tested (unnamed s) (request_at_place (unnamed s) p)) (first-renamed no_names s places)
-      ∙ ap (packet_tested (unnamed s)) (request-renamed no_names s (first_complete s places))
-      ∙ packet_unnamed_tested s (request_at_place s (first_complete s places))
-  packets_unnamed_by other = refl
-
-  pub given-unnamed : packet_given (unnamed s) node call ≡ packet_given s node call
-  given-unnamed = ap₂ (λ o p. unless_refused o None p) (refusal-renamed no_names s node call) (packets_unnamed_by call)
 
 -- ---- the names of what is given back
 

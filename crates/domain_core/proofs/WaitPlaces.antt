@@ -64,7 +64,7 @@ pub all-named : (s : DomainState) (all ids : List RequestId) → list_all (λ id
 all-named s all [] = refl
 all-named s all (i ∷ is) = ap (λ x. stands_at s (place_of_id all i) && x) (all-named s all is)
 
-any-from : {A : Type 0} (p : A → Bool) (k : ℕ) (xs : List A) → is_some (position_from p k xs) ≡ list_any p xs
+pub any-from : {A : Type 0} (p : A → Bool) (k : ℕ) (xs : List A) → is_some (position_from p k xs) ≡ list_any p xs
 any-from p k [] = refl
 any-from p k (x ∷ xs) = go (p x) (any-from p (k + 1) xs)
   where

@@ -43,7 +43,7 @@ no-turns M ids start lines awaited = record { turns = []; polls = refl; many = r
 pub with-lines : {L : Type 0} (M : L → List LaneMove → L → Type 0) (ids : List RequestId) (made : ℕ) (start now : DomainView L) (lines lines' after : List Line) → Polling M ids made start now lines lines' → after ≡ lines' → Polling M ids made start now lines after
 with-lines M ids made start now lines lines' after h same = record { turns = h.turns; polls = h.polls; many = h.many; told = same ∙ h.told; awaited = h.awaited }
 
-noted-append : (lines : List Line) (es fs : List PlainEntry) → noted_all lines (es ++ fs) ≡ noted_all (noted_all lines es) fs
+pub noted-append : (lines : List Line) (es fs : List PlainEntry) → noted_all lines (es ++ fs) ≡ noted_all (noted_all lines es) fs
 noted-append lines [] fs = refl
 noted-append lines (e ∷ es) fs = noted-append (noted lines e) es fs
 

@@ -4,7 +4,6 @@ use Rattle.std.specs.Prelude.{◌==◌, filter, slice_get, option_to_list, optio
 use Rattle.std.specs.List.{AllByRecursion, flat_map}
 use mathlib.Core.Logic.{dite}
 use native.Mathlib.Decide.{dec_lt}
-use Rattle.mc_base.specs.Letter.{PlainLetter, msg, packet, scalar}
 use Rattle.mc_base.specs.declared.fate.Fate.{Fate}
 use Rattle.lane_end.specs.ReceiveMoves.{ReceiveMove, Looked, Took, Gave}
 use Rattle.board_model.specs.CallChanges.{returned}
@@ -13,14 +12,13 @@ use Rattle.board_model.specs.Deeds.{Deed, looks_back, puts_owed, looks_ahead, ta
 use Rattle.board_model.specs.Given.{given_at_once, frames_from, names_given}
 use Rattle.board_model.specs.JournalDeeds.{deeds_of, opened}
 use Rattle.board_model.specs.State.{DomainState, Item, is_from}
-use Rattle.board_model.specs.TakenFrames.{item_of}
 use Rattle.board_model.specs.Renamed.{renamed}
 use Rattle.board_model.proofs.RenamedDeeds.{deed-renamed, renamed_deed}
 use Rattle.board_model.proofs.RenamedGiven.{returned-renamed}
 use Rattle.board_model.proofs.DeedRuns.{taken_by, count_taken, IsNamed, AreNamed}
 use Rattle.board_model.proofs.DeedTraffic.{count-join}
 use Rattle.board_model.proofs.ItemsHeld.{Held, BringsItems, deed-holds, held-weaker, returned-holds}
-use Rattle.board_model.proofs.LaneRows.{item-frames}
+use Rattle.board_model.proofs.LaneRows.{item-frames, item-peer}
 use Rattle.board_model.proofs.MessageAlls.{all-append, all-weaken}
 use Rattle.board_model.proofs.RunDeeds.{deeds_run}
 use Rattle.lane_images.specs.DeedMoves.{deed_moves, giving, taking, unlooked}
@@ -43,12 +41,6 @@ gives-unlooked taken (place ∷ places) (Gave n ∷ ms) g = (g.0, gives-unlooked
 
 abbrev Below : List Deed → Item → Type 0
 Below before i = AllByRecursion (λ n. n < count_taken i.peer before) i.frames
-
-item-peer : (peer : ℕ) (name : Option ℕ) (source : ℕ) (l : PlainLetter) → (item_of peer name source l).peer ≡ peer
-item-peer peer name source (msg priority content) = refl
-item-peer peer name source (packet number content) = refl
-item-peer peer name source (scalar number bits value) = refl
-item-peer peer name source other = refl
 
 count-more : (p : ℕ) (before : List Deed) (d : Deed) → count_taken p (before ++ d ∷ []) ≡ count_taken p before + taken_by p d
 count-more p before d = let j = count-join p before (d ∷ []) in omega (arith, j)

@@ -33,7 +33,7 @@ peer-alone : (n : ℕ) → n < 2 ^ 8 → list_all (is_other 32) (decimal n) ≡ 
 peer-alone n small = decimal-alone n (omega (arith, small))
 
 -- a call's words are those of its answer behind its number
-call_spaced : (k : ℕ) (a : PlainAnswer) → spaced (line_words (call_line k a)) ≡ codes "call " ++ (decimal k ++ 32 ∷ spaced (answer_words a))
+pub call_spaced : (k : ℕ) (a : PlainAnswer) → spaced (line_words (call_line k a)) ≡ codes "call " ++ (decimal k ++ 32 ∷ spaced (answer_words a))
 call_spaced k (refuses word) = refl
 call_spaced k agrees = refl
 call_spaced k (tells n) = refl

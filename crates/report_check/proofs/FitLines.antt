@@ -1,7 +1,5 @@
 -- The call of a line: that what it puts fits into a frame, and that it is one call whatever lists the labels are held by.
-use Rattle.std.proofs.Common.{◌≡◌, ℕ, zero, suc, true, false, List, [], ◌∷◌, Some, ap, map, refl, subst}
-use Rattle.std.specs.Prelude.{slice_get}
-use Rattle.std.specs.List.{AllByRecursion}
+use Rattle.std.proofs.Common.{◌≡◌, ℕ, true, false, List, [], ◌∷◌, ap, map, refl}
 use Rattle.board_model.specs.declared.scenario.Call.{Call}
 use Rattle.board_model.specs.declared.scenario.Call.TheVariants.{Create, Delete, Lookup, MsgSend, MsgRecv, MsgRecvI, MsgAvailable, Connect, OpenSend, OpenRecv, PktSend, PktRecv, PktRecvI, Release, SclSend, SclRecv, CloseSend, CloseRecv, Test, Wait, WaitAny, Cancel, Raw, Turn}
 use Rattle.board_model.specs.DomainCall.{cancel_of, release_of, test_of, wait_for}
@@ -35,11 +33,6 @@ fits-call ls s (WaitAny names limit) fits = tt
 fits-call ls s (Cancel label) fits = tt
 fits-call ls s (Raw domain bytes) fits = fits
 fits-call ls s Turn fits = tt
-
-pub all-at : {A : Type 0} (P : A → Type 0) (xs : List A) (i : ℕ) (x : A) → AllByRecursion P xs → slice_get xs i ≡ Some x → P x
-all-at P [] i x all at = absurd cc
-all-at P (y ∷ ys) zero x all at = let same : y ≡ x = cc in subst P same all.0
-all-at P (y ∷ ys) (suc i) x all at = all-at P ys i x all.1 at
 
 -- ---- two lists of labels that say the same, each in a state of its own
 

@@ -5,20 +5,21 @@ use Rattle.mc_base.specs.declared.name.Local.{Local}
 use Rattle.board_model.specs.declared.scenario.Call.{Call}
 use Rattle.board_model.specs.declared.scenario.Call.TheVariants.{Test, Wait, WaitAny}
 use Rattle.board_model.specs.declared.scenario.CallLine.{CallLine}
-use Rattle.board_model.specs.Answer.{first_complete, is_complete, is_complete_at, unless_refused}
-use Rattle.board_model.specs.DomainCall.{DomainCall, lookup_of, request_at, connect_from, lend_at, packet_request_at, test_of, wait_for}
-use Rattle.board_model.specs.Labels.{Labelled, Labels, call_of, is_complete_label, labels_after, lending_label, packet_brought, packet_given, packet_tested, place_of_label, request_given, success_packet, success_request, with_label, serial_of}
+use Rattle.board_model.specs.Answer.{is_complete_at, unless_refused}
+use Rattle.board_model.specs.DomainCall.{DomainCall, lookup_of, request_at, connect_from, packet_request_at}
+use Rattle.board_model.specs.Labels.{Labelled, Labels, call_of, is_complete_label, labels_after, lending_label, packet_given, place_of_label, request_given, success_request, with_label, serial_of}
 use Rattle.board_model.specs.Scenario.{label_in}
-use Rattle.board_model.specs.State.{Asked, DomainState, Endpoint, Outcome, Request, channel_of, has_address, has_address_of, has_ended, has_item, has_serial, is_accepted, is_at, is_lent_as, is_rejected, message_at, name_of, packet_at, place_of_packet, place_of_request, request_at_place}
-use Rattle.board_model.proofs.ListsMapped.{find-alike, is_some-map, position-mapped}
+use Rattle.board_model.specs.State.{DomainState, Endpoint, has_address_of, has_serial, is_at, is_lent_as, place_of_packet, place_of_request}
+use Rattle.board_model.proofs.ListsMapped.{find-alike, position-mapped}
 use Rattle.board_model.proofs.MessageAlls.{found-passes}
-use Rattle.board_model.proofs.RenamedCalls.{answer-renamed, first-renamed, puts-renamed, refusal-renamed, request-renamed}
+use Rattle.board_model.proofs.RenamedCalls.{answer-renamed, complete-renamed, puts-renamed, refusal-renamed}
+use Rattle.board_model.proofs.RenamedLabels.{given-renamed}
 use Rattle.board_model.proofs.RenamedChanges.{live-renamed}
 use Rattle.report_replay.specs.Effects.{HasOwnAddresses}
 use Rattle.board_model.specs.Answer.{answer, puts, refusal}
 use Rattle.board_model.specs.Deeds.{calls}
 use Rattle.board_model.specs.Journal.{PlainAnswer}
-use Rattle.board_model.specs.Unnamed.{no_names, unnamed, unnamed_end, unnamed_outcome, unnamed_packet, unnamed_request}
+use Rattle.board_model.specs.Unnamed.{no_names, unnamed, unnamed_end, unnamed_packet, unnamed_request}
 use Rattle.mc_base.specs.declared.refusal.Refusal.{Refusal}
 use Rattle.std.specs.Prelude.{is_some}
 use Rattle.report_check.specs.NamedStates.{GoesOn, plain}
@@ -67,14 +68,10 @@ call-named ls s c = calls-same ls ls (unnamed s) s (label_place ls s) (λ label.
 
 -- ---- what it gives for labels
 
-complete_unnamed : (o : Option Request) → is_complete (option_map unnamed_request o) ≡ is_complete o
-complete_unnamed None = refl
-complete_unnamed (Some r) = is_some-map unnamed_outcome r.outcome
-
 complete_named : (ls : Labels) (s : DomainState) (label : List ℕ) → is_complete_label ls (unnamed s) label ≡ is_complete_label ls s label
 complete_named ls s label =
     ap (is_complete_at (unnamed s)) (label_place ls s label)
-    ∙ (ap is_complete (request-renamed no_names s (place_of_label ls.requests s label)) ∙ complete_unnamed (request_at_place s (place_of_label ls.requests s label)))
+    ∙ complete-renamed no_names s (place_of_label ls.requests s label)
 
 lending_named : (ls : Labels) (s : DomainState) (c : Call) (own : Option (List ℕ)) → lending_label ls (unnamed s) c own ≡ lending_label ls s c own
 lending_named ls s (Test label) own = refl
@@ -82,40 +79,13 @@ lending_named ls s (Wait label limit) own = refl
 lending_named ls s (WaitAny names limit) own = find-alike (is_complete_label ls (unnamed s)) (is_complete_label ls s) (complete_named ls s) (map (λ l. l.items) names.items)
 lending_named ls s other own = refl
 
-tested_named : (s : DomainState) (o : Option Request) → packet_tested (unnamed s) (option_map unnamed_request o) ≡ packet_tested s o
-tested_named s None = refl
-tested_named s (Some r) = go r.asked r.outcome
-  where
-    go : (a : Asked) (o : Option Outcome) → packet_brought (unnamed s) a (option_map unnamed_outcome o) ≡ packet_brought s a o
-    go (name_of n) o = refl
-    go (channel_of n) o = refl
-    go (message_at at max) o = refl
-    go (packet_at at) None = refl
-    go (packet_at at) (Some (has_address a)) = refl
-    go (packet_at at) (Some is_accepted) = refl
-    go (packet_at at) (Some (is_rejected reason)) = refl
-    go (packet_at at) (Some (has_item i)) = refl
-    go (packet_at at) (Some (has_ended word)) = refl
-
 module _ (s : DomainState) (node : ℕ) where
-  packets_named : (c : DomainCall) → success_packet (unnamed s) c ≡ success_packet s c
-  packets_named (lend_at port) = refl
-  packets_named (test_of place) = ap (packet_tested (unnamed s)) (request-renamed no_names s place) ∙ tested_named s (request_at_place s place)
-  packets_named (wait_for places says_place) =
-      ap (λ p. packet_tested (unnamed s) (request_at_place (unnamed s) p)) (first-renamed no_names s places)
-      ∙ (ap (packet_tested (unnamed s)) (request-renamed no_names s (first_complete s places))
-      ∙ tested_named s (request_at_place s (first_complete s places)))
-  packets_named other = refl
-
   requests_named : (c : DomainCall) → success_request (unnamed s) c ≡ success_request s c
   requests_named (lookup_of name) = refl
   requests_named (request_at port max) = refl
   requests_named (connect_from port to kind) = refl
   requests_named (packet_request_at port) = refl
   requests_named other = refl
-
-  packet_named : (c : DomainCall) → packet_given (unnamed s) node c ≡ packet_given s node c
-  packet_named c = ap₂ (λ o p. unless_refused o None p) (refusal-renamed no_names s node c) (packets_named c)
 
   request_named : (c : DomainCall) → request_given (unnamed s) node c ≡ request_given s node c
   request_named c = ap₂ (λ o p. unless_refused o None p) (refusal-renamed no_names s node c) (requests_named c)
@@ -124,7 +94,7 @@ pub labels-named : (ls : Labels) (s : DomainState) (line : CallLine) → labels_
 labels-named ls s line =
     let same = call-named ls s line.call in
     let requests = ap (request_given (unnamed s) line.node) same ∙ request_named s line.node (call_of ls s line.call) in
-    let packets = ap (packet_given (unnamed s) line.node) same ∙ packet_named s line.node (call_of ls s line.call) in
+    let packets = ap (packet_given (unnamed s) line.node) same ∙ given-renamed no_names s line.node (call_of ls s line.call) in
     let lending = lending_named ls s line.call (label_in line) in
     ap₂ (λ (rs : List Labelled) (ps : List Labelled). record { requests = rs; packets = ps })
     (ap (with_label ls.requests (label_in line)) requests)

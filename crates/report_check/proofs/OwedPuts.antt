@@ -1,22 +1,13 @@
 -- The owed frames that are put to a peer.
-use Rattle.std.proofs.Common.{◌≡◌, ℕ, zero, suc, ◌-◌, ◌<◌, min, cond, List, [], ◌∷◌, length, map, take, drop, Option, None, Some, refl, sym, ap, ◌∙◌, arith, eq-eqb}
+use Rattle.std.proofs.Common.{◌≡◌, ℕ, zero, suc, ◌-◌, ◌<◌, min, cond, List, [], ◌∷◌, take, drop, Option, None, Some, refl, sym, ap, ◌∙◌, arith, eq-eqb}
 use Rattle.std.specs.Prelude.{option_map, slice_get, unwrap_or, ◌==◌}
-use Rattle.std.proofs.lemmas.Bool.{ne_eqb}
-use Rattle.board_model.specs.State.{Announcement, Reply, Peer, DomainState, peer_of, free_to, replying, owed_to}
+use Rattle.board_model.specs.State.{Peer, DomainState, peer_of, free_to, owed_to}
 use Rattle.board_model.specs.Change.{first_put, owed_put, changed}
 use Rattle.board_model.proofs.LanePeers.{peer_found, peer-changed, first-free}
+use Rattle.board_model.proofs.VisitLooks.{put_owed}
 use Rattle.report_check.specs.Doing.{owed_first}
 
 -- ---- what is owed after a put. The first two are as in board_model's VisitLooks
-
-replies_less : (rs : List Reply) → map replying (drop 1 rs) ≡ drop 1 (map replying rs)
-replies_less [] = refl
-replies_less (r ∷ rs) = refl
-
-put_owed : (d : ℕ) (p : Peer) (news : List Announcement) → owed_to d (first_put (record p { announcements = news })) ≡ drop 1 (owed_to d (record p { announcements = news }))
-put_owed d p [] = replies_less p.replies
-put_owed d p (a ∷ news) =
-    ap (λ b. owed_to d (cond b (record p { free = p.free - 1; announcements = a ∷ news; replies = drop 1 p.replies }) (record p { free = p.free - 1; announcements = news }))) (ne_eqb (length (a ∷ news)) 0 (λ e. absurd (omega arith)))
 
 first-taken : (most free : ℕ) (frame : List ℕ) (owed : List (List ℕ)) → 0 < most → 0 < free → slice_get owed 0 ≡ Some frame → take (min most free) owed ≡ frame ∷ take (min (most - 1) (free - 1)) (drop 1 owed)
 first-taken most free frame [] some room e = absurd cc

@@ -15,14 +15,13 @@ use Rattle.board_model.specs.LinkedBoard.{Differ}
 use Rattle.board_model.specs.State.{DomainState}
 use Rattle.board_model.specs.Step.{Allowed, RunState, after, call_at, next_line}
 use Rattle.board_model.specs.Traffic.{taken_from, takes_from, takes_in as frames_in}
-use Rattle.board_model.specs.Turn.{nameless, takes_named, visit_deeds}
 use Rattle.board_model.specs.Unnamed.{no_names, unnamed}
 use Rattle.board_model.proofs.DeedJoins.{along-join, deeds-numbers}
 use Rattle.board_model.proofs.DeedRuns.{AreNamed, IsNamed, count_taken}
 use Rattle.board_model.proofs.DeedTraffic.{count-join, count-takes, entry-take, turn-named}
 use Rattle.board_model.proofs.RunDeeds.{AllAllowed, left-leads}
 use Rattle.board_model.proofs.StateEnds.{numbers_in}
-use Rattle.board_model.proofs.UnnamedDeeds.{unnamed_deed}
+use Rattle.board_model.proofs.UnnamedDeeds.{unnamed_deed, visit-unnamed}
 use Rattle.board_model.proofs.RefusedCalls.{refused-is}
 use Rattle.board_model.proofs.RenamedCalls.{answer-renamed}
 use Rattle.report_text.specs.RightRuns.{with_answer, with_answers}
@@ -58,26 +57,11 @@ named-placed b c (d ∷ ds) counts named =
 
 -- ---- the deeds of a turn
 
-takes_unnamed : (name : ℕ → Option ℕ) (peer : ℕ) (ts : List Taken) → map unnamed_deed (takes_named name peer ts) ≡ takes_named nameless peer ts
-takes_unnamed name peer [] = refl
-takes_unnamed name peer (t ∷ ts) = ap (λ ds. takes peer None t.frame t.fate ∷ ds) (takes_unnamed (λ k. name (k + 1)) peer ts)
-
-puts_unnamed : (peer : ℕ) (fs : List (List ℕ)) → map unnamed_deed (map (puts_owed peer) fs) ≡ map (puts_owed peer) fs
-puts_unnamed peer [] = refl
-puts_unnamed peer (f ∷ fs) = ap (λ ds. puts_owed peer f ∷ ds) (puts_unnamed peer fs)
-
-visit_unnamed : (name : ℕ → Option ℕ) (v : Visit) → map unnamed_deed (visit_deeds name v) ≡ visit_deeds nameless v
-visit_unnamed name v =
-    ap (λ ds. looks_back v.peer v.back ∷ ds)
-    (map-append unnamed_deed (map (puts_owed v.peer) v.owed) (looks_ahead v.peer v.see ∷ takes_named name v.peer v.takes)
-    ∙ (ap (λ ds. ds ++ looks_ahead v.peer v.see ∷ map unnamed_deed (takes_named name v.peer v.takes)) (puts_unnamed v.peer v.owed)
-    ∙ ap (λ ds. map (puts_owed v.peer) v.owed ++ looks_ahead v.peer v.see ∷ ds) (takes_unnamed name v.peer v.takes)))
-
 turn_unnamed : (before : List PlainEntry) (vs : List Visit) → map unnamed_deed (flat_map (named_deeds before) vs) ≡ turn_deeds vs
 turn_unnamed before [] = refl
 turn_unnamed before (v ∷ vs) =
     map-append unnamed_deed (named_deeds before v) (flat_map (named_deeds before) vs)
-    ∙ ap₂ (λ (xs ys : List Deed). xs ++ ys) (visit_unnamed (names_from (length (taken_from v.peer before))) v) (turn_unnamed before vs)
+    ∙ ap₂ (λ (xs ys : List Deed). xs ++ ys) (visit-unnamed (names_from (length (taken_from v.peer before))) v) (turn_unnamed before vs)
 
 -- ---- how many frames are taken
 

@@ -7,10 +7,11 @@ use Rattle.board_model.specs.State.{DomainState, Peer, peer_of, is_numbered}
 use Rattle.board_model.specs.Deeds.{Deed, happens_by, after_deed, after_deeds}
 use Rattle.board_model.specs.Turn.{nameless, visit_deeds, after_visit, after_turn}
 use Rattle.board_model.proofs.StateEnds.{numbers-all}
-use Rattle.board_model.proofs.LanePeers.{peer_found, read_of, size-all}
+use Rattle.board_model.proofs.LanePeers.{peer_found}
 use Rattle.report_check.specs.Meeting.{LinesLeft}
 use Rattle.report_text.specs.StepPass.{due_visit, due_visits}
 use Rattle.board_model.proofs.DeedJoins.{after-join}
+use Rattle.board_model.proofs.WholePeers.{deeds_size}
 use Rattle.report_check.specs.NamedStates.{GoesOn, plain, turn_deeds}
 use Rattle.report_check.specs.declared.named_state.NamedState.{NamedState}
 use Rattle.report_check.specs.Doing.{AreVisited, HasPeers, VisitDone}
@@ -45,10 +46,6 @@ turn-made s (v ∷ vs) = after-join s (visit_deeds nameless v) (turn_deeds vs) �
 
 -- ---- peers stay
 
-size-deeds : (s : DomainState) (ds : List Deed) (n : ℕ) → read_of (λ p. p.size) (after_deeds s ds) n ≡ read_of (λ p. p.size) s n
-size-deeds s [] n = refl
-size-deeds s (d ∷ ds) n = size-deeds (after_deed s d) ds n ∙ size-all s (happens_by s d) n
-
 still-there : (o q : Option Peer) (p : Peer) → option_map (λ x. x.size) q ≡ option_map (λ x. x.size) o → o ≡ Some p → (x : Peer) × (q ≡ Some x)
 still-there o None p e is = absurd (absent (e ∙ ap (option_map (λ x. x.size)) is))
   where
@@ -60,7 +57,7 @@ pub peers-stay : (s : DomainState) (ds : List Deed) (ns : List ℕ) → HasPeers
 peers-stay s ds [] has = tt
 peers-stay s ds (n ∷ ns) has = (
   still-there (peer_of s n) (peer_of (after_deeds s ds) n) has.0.0
-      (ap (option_map (λ x. x.size)) (peer_found (after_deeds s ds) n) ∙ (size-deeds s ds n ∙ ap (option_map (λ x. x.size)) (sym (peer_found s n))))
+      (ap (option_map (λ x. x.size)) (peer_found (after_deeds s ds) n) ∙ (deeds_size s ds n ∙ ap (option_map (λ x. x.size)) (sym (peer_found s n))))
       has.0.1,
   peers-stay s ds ns has.1,
 )

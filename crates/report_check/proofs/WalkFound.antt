@@ -77,7 +77,7 @@ frames-few : (p : ℕ) (ls : List LaneLine) → length (flat_map (frame_in p) ls
 frames-few p [] = omega arith
 frames-few p (l ∷ ls) = omega (arith, length-append (frame_in p l) (flat_map (frame_in p) ls), frame-few p l, frames-few p ls)
 
-tell-length : (ts : List (List ℕ)) (ls : List Line) → Tell ts ls → length ts ≡ length ls
+pub tell-length : (ts : List (List ℕ)) (ls : List Line) → Tell ts ls → length ts ≡ length ls
 tell-length [] [] tell = refl
 tell-length [] (l ∷ ls) tell = absurd tell
 tell-length (t ∷ ts) [] tell = absurd tell

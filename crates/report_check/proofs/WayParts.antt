@@ -47,6 +47,7 @@ use Rattle.report_check.proofs.NamedLemmas.{goes-nothing, goes-then}
 use Rattle.report_check.proofs.RunSteps.{deeds-join}
 use Rattle.report_check.proofs.PartTexts.{front-told}
 use Rattle.report_check.proofs.TurnSteps.{peers-there}
+use Rattle.report_check.proofs.WalkFound.{tell-length}
 
 -- ---- a state of a run has its peers, and its endpoints have addresses of their own
 
@@ -197,12 +198,6 @@ part-within script peers r (wait_of k) ts n e = other-within ts _ n e
 part-within script peers r (call_of ps k a) ts n e = other-within ts _ n e
 
 -- ---- texts
-
-tell-length : (ts : List (List ℕ)) (ls : List Line) → Tell ts ls → length ts ≡ length ls
-tell-length [] [] tell = refl
-tell-length [] (l ∷ ls) tell = absurd tell
-tell-length (t ∷ ts) [] tell = absurd tell
-tell-length (t ∷ ts) (l ∷ ls) tell = ap suc (tell-length ts ls tell.1)
 
 some-lines : (p : Part) → 0 < length (part_lines p)
 some-lines (idles n) = omega arith

@@ -17,11 +17,10 @@ use Rattle.board_model.proofs.WordsRead.{refusal-read, fate-read}
 use Rattle.mc_journal.specs.Readers.{cut_at, pair_by, peer_in, count_in, long_in, bytes_in, taken_in, takes, answer_in}
 use Rattle.mc_journal.specs.LineForms.{line_in}
 use Rattle.mc_journal.proofs.Cuts.{cut-found}
-use Rattle.mc_journal.proofs.LinesRead.{line-is}
+use Rattle.mc_journal.proofs.LinesRead.{line-is, call_spaced}
 use Rattle.mc_journal.proofs.PartsRead.{map_gives, both_give, pair_read}
 use Rattle.report_text.proofs.KindsTold.{decimal-alone, number-same}
 use Rattle.report_text.proofs.LinesTold.{Tell, hex-alone, told-bare}
-use Rattle.report_text.proofs.OutlinesRead.{call-spaced}
 use Rattle.report_text.proofs.TurnsDue.{cons-parts}
 
 -- ---- numbers, words and frames
@@ -94,7 +93,7 @@ text-one (take_line q frame fate) l e =
     inl (sym p.made ∙ ap₂ takes (number-told 255 q p.front (omega arith) p.front_is) (taken-told frame fate p.back p.back_is))
 text-one (wait_line k) l e = map_gives wait_line (count_in (decimal k)) (λ x. OneText x (wait_line k)) (λ x h. inl (ap wait_line (number-told 4294967295 k x (omega arith) h))) l e
 text-one (call_line k a) l e =
-    let p = two-parts count_in answer_in call_line (decimal k) (spaced (answer_words a)) l (decimal-alone k) (sym (ap line_in (call-spaced k a)) ∙ e) in
+    let p = two-parts count_in answer_in call_line (decimal k) (spaced (answer_words a)) l (decimal-alone k) (sym (ap line_in (call_spaced k a)) ∙ e) in
     let is : l ≡ call_line k p.back = sym p.made ∙ ap (λ n. call_line n p.back) (number-told 4294967295 k p.front (omega arith) p.front_is) in
     inr (record {
       number = k;

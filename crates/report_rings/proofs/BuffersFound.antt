@@ -1,23 +1,21 @@
 -- In a run of a domain each frame that is put finds a free buffer of its lane.
-use Rattle.std.proofs.Common.{◌≡◌, ℕ, ◌+◌, ◌-◌, ◌<◌, ◌≤◌, Bool, true, false, cond, List, [], ◌∷◌, ◌++◌, length, map, min, take, Option, Some, None, is_some, option_map, count_by, refl, sym, ap, subst, ◌∙◌, inl, inr, arith, append_assoc, length-append, length-drop, length-take, eq-eqb, eqb-true}
+use Rattle.std.proofs.Common.{◌≡◌, ℕ, ◌+◌, ◌-◌, ◌<◌, ◌≤◌, Bool, true, false, cond, List, [], ◌∷◌, ◌++◌, length, map, take, Option, Some, None, is_some, option_map, count_by, refl, sym, ap, subst, ◌∙◌, inl, inr, arith, append_assoc, length-append, length-drop, length-take, eq-eqb, eqb-true}
 use Rattle.std.specs.Prelude.{◌==◌, unwrap_or}
 use Rattle.std.specs.List.{flat_map}
-use Rattle.std.proofs.lemmas.Bool.{ne_eqb}
 use Rattle.std.proofs.lemmas.Bool.Decides.{eqb_tells}
 use Rattle.std.proofs.lemmas.List.{length-map}
 use Rattle.board_model.specs.declared.scenario.CallLine.{CallLine}
 use Rattle.board_model.specs.Journal.{Visit, PlainEntry, turned, put, again, waits, called}
-use Rattle.board_model.specs.State.{DomainState, Peer, peer_at, peer_of, free_to, owed_to}
-use Rattle.board_model.specs.Turn.{turn_limit, after_visit, after_turn, IsVisit, AreVisits}
+use Rattle.board_model.specs.State.{DomainState, Peer, peer_at, peer_of, free_to}
+use Rattle.board_model.specs.Turn.{after_visit, after_turn, IsVisit, AreVisits}
 use Rattle.board_model.specs.Step.{RunState, HasNoPuts, Allowed, after, call_at, effect_of_line, limit_of, MayCome}
 use Rattle.board_model.specs.Run.{Leads}
 use Rattle.board_model.specs.Traffic.{visits_to}
 use Rattle.board_model.proofs.ListsCounts.{count-append, count-cons, one_if}
 use Rattle.board_model.proofs.LanePeers.{peer_found, free-at}
-use Rattle.board_model.proofs.LaneRuns.{waiting, waiting_none}
+use Rattle.board_model.proofs.LaneRuns.{waiting, waiting_none, visit_free, visit_other, due_within}
 use Rattle.board_model.proofs.LaneSends.{goes_to, call_frees}
-use Rattle.board_model.proofs.LaneTakes.{takes-free}
-use Rattle.board_model.proofs.VisitLooks.{after_looks, after_takes, visit-after, looked, looked-free, looks-peer}
+use Rattle.board_model.proofs.VisitLooks.{looked, looked-free}
 use Rattle.board_model.proofs.WaitCalls.{wait-puts}
 use Rattle.ring_numbers.specs.SenderNumbers.{Numbers, Sending, comes_back, puts as puts_bytes, number_at, after_sending}
 use Rattle.ring_numbers.specs.BoardRings.{put_of, sent_at, sent_by, sent_to}
@@ -47,15 +45,6 @@ busy-room free (comes_back count ∷ es) room = go (count == 0) refl (λ k. busy
 abbrev free_of : Option Peer → ℕ
 free_of o = unwrap_or (option_map (λ p. p.free) o) 0
 
-visit_free : (n : ℕ) (s : DomainState) (v : Visit) (b : Bool) → (v.peer == n) ≡ b → free_to (after_visit s v) n ≡ free_of (option_map (λ p. cond b (looked v p) p) (peer_at s n))
-visit_free n s v b is =
-    ap (λ t. free_to t n) (visit-after s v)
-    ∙ (free-at (after_takes (after_looks s v) v.peer v.takes) n
-    ∙ (ap (λ o. unwrap_or o 0) (takes-free (after_looks s v) v.peer v.takes n) ∙ ap free_of (looks-peer s v n b is)))
-
-due_within : (s : DomainState) (v : Visit) (h : IsVisit s v) → length v.owed ≤ h.at.free + v.back
-due_within s v h = omega (arith, ap length h.puts_due, length-take (min turn_limit (h.at.free + v.back)) (owed_to s.number h.at))
-
 record VisitFree (n : ℕ) (s : DomainState) (v : Visit) : Type 0 where
   room : length v.owed ≤ free_to s n + v.back
   left : free_to (after_visit s v) n ≡ free_to s n + v.back - length v.owed
@@ -68,13 +57,6 @@ visit-own n s v same h =
       room = omega (arith, due_within s v h, free);
       left = visit_free n s v true (eq-eqb v.peer n same) ∙ ap (λ o. free_of (option_map (looked v) o)) known ∙ looked-free v h.at ∙ ap (λ k. k + v.back - length v.owed) (sym free);
     }
-
-visit-other : (n : ℕ) (s : DomainState) (v : Visit) → (v.peer ≡ n → ⊥) → free_to (after_visit s v) n ≡ free_to s n
-visit-other n s v differ = visit_free n s v false (ne_eqb v.peer n differ) ∙ (go (peer_at s n) ∙ sym (free-at s n))
-  where
-    go : (o : Option Peer) → free_of (option_map (λ p. p) o) ≡ free_of o
-    go None = refl
-    go (Some p) = refl
 
 -- ---- a turn
 
@@ -94,7 +76,7 @@ module _ (n : ℕ) (rest : List Sending) where
         (puts-room v.owed (free_to s n + v.back) later one.room (room-same (free_to (after_visit s v) n) (free_to s n + v.back - length v.owed) later one.left (turn-room (after_visit s v) vs are.1 room))))
     | inr other ↦
         subst (λ (us : List Visit). HaveRoom (free_to s n) (flat_map sent_at us ++ rest)) (sym (ap (λ b. cond b (v ∷ visits_to n vs) (visits_to n vs)) other.0))
-        (room-same (free_to (after_visit s v) n) (free_to s n) (flat_map sent_at (visits_to n vs) ++ rest) (visit-other n s v other.1) (turn-room (after_visit s v) vs are.1 room))
+        (room-same (free_to (after_visit s v) n) (free_to s n) (flat_map sent_at (visits_to n vs) ++ rest) (visit_other n s v other.1) (turn-room (after_visit s v) vs are.1 room))
   ]
 
 -- ---- a run

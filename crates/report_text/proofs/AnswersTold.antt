@@ -11,14 +11,11 @@ use Rattle.board_model.specs.JournalParts.{Part, idles, spins, tries, turn_of, w
 use Rattle.board_model.specs.Step.{RunState, next_line, after}
 use Rattle.board_model.specs.Run.{after_all}
 use Rattle.board_model.proofs.JournalPartsJoined.{last-is, parts_are_joined}
+use Rattle.board_model.proofs.MessageAlls.{all-parts}
 use Rattle.report_text.specs.RightRuns.{answered, with_answer, with_answers}
 use Rattle.report_text.proofs.LinesTold.{bare}
 use Rattle.report_text.proofs.StepsDue.{Due}
 use Rattle.report_text.proofs.CallsDue.{put_lines}
-
-pub all-split : {A : Type 0} (P : A → Type 0) (xs ys : List A) → AllByRecursion P (xs ++ ys) → AllByRecursion P xs × AllByRecursion P ys
-all-split P [] ys all = (tt, all)
-all-split P (x ∷ xs) ys all = let rest = all-split P xs ys all.1 in ((all.0, rest.0), rest.1)
 
 -- ---- what stands behind a line does not hang on its answer
 
@@ -173,14 +170,14 @@ module _ (peers : List ℕ) (script : List CallLine) where
     one-said r (wait_of k) es all due = refl
     one-said r (call_of ps k a) es all due =
         map-append f (put_lines ps) (call_line k (answered (next_line script r) r a) ∷ [])
-        ∙ ap (λ x. map f (put_lines ps) ++ x ∷ []) (by-text k (answered (next_line script r) r a) a (all-split P (put_lines ps) (call_line k a ∷ []) all).1.0 (call-text r ps k a es due))
+        ∙ ap (λ x. map f (put_lines ps) ++ x ∷ []) (by-text k (answered (next_line script r) r a) a (all-parts P (put_lines ps) (call_line k a ∷ []) all).1.0 (call-text r ps k a es due))
         ∙ sym (map-append f (put_lines ps) (call_line k a ∷ []))
 
     all-said : (r : RunState) (ps : List Part) → AllByRecursion P (flat_map part_lines ps) → Due script r (flat_map (part_entries peers) ps) → map f (flat_map part_lines (parts_answered r ps)) ≡ map f (flat_map part_lines ps)
     all-said r [] all due = refl
     all-said r (p ∷ ps) all due =
         let next : RunState = after_all script r (part_entries peers p) in
-        let both = all-split P (part_lines p) (flat_map part_lines ps) all in
+        let both = all-parts P (part_lines p) (flat_map part_lines ps) all in
         map-append f (part_lines (part_answered script r p)) (flat_map part_lines (parts_answered next ps))
         ∙ ap₂ (λ us vs. us ++ vs) (one-said r p (flat_map (part_entries peers) ps) both.0 due) (all-said next ps both.1 (due-behind r (part_entries peers p) (flat_map (part_entries peers) ps) due))
         ∙ sym (map-append f (part_lines p) (flat_map part_lines ps))

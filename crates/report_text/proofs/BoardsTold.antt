@@ -25,6 +25,7 @@ use Rattle.report_text.proofs.RunsTold.{IsRight, told-parts, run-told}
 use Rattle.report_text.proofs.EntriesTold.{unjoined-is}
 use Rattle.report_text.proofs.LanesTold as of_lanes
 use Rattle.report_text.proofs.LinksTold.{Shows, parts-show, Linked, link-lines}
+use Rattle.board_model.proofs.ListsApart.{all-map}
 
 -- ---- answers change nothing at lanes
 
@@ -78,10 +79,6 @@ module _ (lines : List CallLine) (p : ℕ) where
   sees-answers most k r (called n a ∷ es) h = sees-answers most k (after lines r (called n a)) es h
 
 -- ---- lists
-
-all-mapped : {A B : Type 0} (P : B → Type 0) (f : A → B) (xs : List A) → AllByRecursion (λ x. P (f x)) xs → AllByRecursion P (map f xs)
-all-mapped P f [] all = tt
-all-mapped P f (x ∷ xs) all = (all.0, all-mapped P f xs all.1)
 
 all-any : {A : Type 0} (P : A → Type 0) → ((x : A) → P x) → (xs : List A) → AllByRecursion P xs
 all-any P each [] = tt
@@ -229,10 +226,10 @@ module _ (s : Scenario) (board : IsLinkedBoard s) where
         record {
           run = record {
             each_domain = lines-same js ∙ domains;
-            domain_runs = all-mapped (λ (d : DomainJournal). IsDomainRun s d.line d.entries) (journal_due s) js all.runs;
+            domain_runs = all-map (λ (d : DomainJournal). IsDomainRun s d.line d.entries) (journal_due s) js all.runs;
             lanes_fit = all-any (LaneFits s all_due) (lane-fits links) (lanes s);
           };
-          whole = all-mapped (λ (d : DomainJournal). IsWhole s d.line d.entries) (journal_due s) js all.wholes;
+          whole = all-map (λ (d : DomainJournal). IsWhole s d.line d.entries) (journal_due s) js all.wholes;
           written = all.written;
         }
       where

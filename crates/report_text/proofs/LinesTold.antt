@@ -21,9 +21,8 @@ use Rattle.mc_journal.proofs.BytesRead.{bytes-are}
 use Rattle.mc_journal.proofs.Cuts.{cut-found}
 use Rattle.mc_journal.proofs.PartsRead.{decimal-alone, pair_read}
 use Rattle.mc_journal.proofs.ResultsRead.{count-read, long-read}
-use Rattle.mc_journal.proofs.LinesRead.{line-is}
+use Rattle.mc_journal.proofs.LinesRead.{line-is, call_spaced}
 use Rattle.report_text.specs.TextLines.{moved, first_other}
-use Rattle.report_text.proofs.OutlinesRead.{call-spaced}
 use Rattle.report_text.proofs.NothingWrong.{none-moved}
 use Rattle.report_text.proofs.TurnsDue.{cons-parts}
 
@@ -149,7 +148,7 @@ told-bare (take_line p frame fate) l small e =
             some-taken a b e = cc
 told-bare (wait_line k) l small e = one-line l (wait_line k) _ (ap (option_map wait_line) (count-read k small)) e
 told-bare (call_line k a) l small e =
-    let t = pair-told count_in answer_in call_line (decimal k) (spaced (answer_words a)) k l (decimal-alone k (omega (arith, small))) (count-read k small) (sym (ap line_in (call-spaced k a)) ∙ e) in
+    let t = pair-told count_in answer_in call_line (decimal k) (spaced (answer_words a)) k l (decimal-alone k (omega (arith, small))) (count-read k small) (sym (ap line_in (call_spaced k a)) ∙ e) in
     sym (ap bare t.2)
 
 -- ---- texts and the lines that they tell

@@ -19,9 +19,9 @@ use Rattle.board_model.proofs.DeedJoins.{after-join, along-join}
 use Rattle.mc_journal.specs.EntryText.{FitsAnswer}
 use Rattle.mc_journal.specs.Readers.{answer_in}
 use Rattle.report_text.specs.RightRuns.{answered, with_answers}
-use Rattle.report_text.proofs.OutlinesRead.{call-spaced}
 use Rattle.report_text.proofs.StepsDue.{ReadsSo, Due}
 use Rattle.report_text.proofs.DeedsTold.{Alike, due-alike}
+use Rattle.mc_journal.proofs.LinesRead.{call_spaced}
 
 -- an answer is the one that its text is read as
 abbrev pub IsRead : PlainEntry → Type 0
@@ -31,7 +31,7 @@ IsRead other = Unit {0}
 pub words-same : (k : ℕ) (a b : PlainAnswer) → line_text (call_line k a) ≡ line_text (call_line k b) → spaced (answer_words a) ≡ spaced (answer_words b)
 words-same k a b e =
     let lines : spaced (line_words (call_line k a)) ≡ spaced (line_words (call_line k b)) = append_cancel_right (spaced (line_words (call_line k a))) (spaced (line_words (call_line k b))) (10 ∷ []) e in
-    let behind : decimal k ++ 32 ∷ spaced (answer_words a) ≡ decimal k ++ 32 ∷ spaced (answer_words b) = ap (drop 5) (sym (call-spaced k a) ∙ lines ∙ call-spaced k b) in
+    let behind : decimal k ++ 32 ∷ spaced (answer_words a) ≡ decimal k ++ 32 ∷ spaced (answer_words b) = ap (drop 5) (sym (call_spaced k a) ∙ lines ∙ call_spaced k b) in
     ap (drop 1) (append_cancel_left (decimal k) (32 ∷ spaced (answer_words a)) (32 ∷ spaced (answer_words b)) behind)
 
 module _ {A : Type 0} (f : DomainState → Deed → List A) (f-same : (s : DomainState) (node : ℕ) (call : DomainCall) (a b : PlainAnswer) → Alike call a b → f s (calls node call a) ≡ f s (calls node call b)) (lines : List CallLine) where

@@ -1,5 +1,5 @@
 -- A line's outline, and what it says of a lane, are read from its text, whichever of the lines with this text is read.
-use Rattle.std.proofs.Common.{◌≡◌, ℕ, ◌^◌, ◌<◌, Bool, true, false, cond, List, [], ◌∷◌, ◌++◌, length, Option, Some, None, refl, sym, ap, ◌∙◌, arith}
+use Rattle.std.proofs.Common.{◌≡◌, ℕ, ◌^◌, ◌<◌, Bool, true, false, cond, List, [], ◌∷◌, ◌++◌, length, Option, Some, refl, sym, ap, ◌∙◌, arith}
 use Rattle.std.specs.Prelude.{decimal, codes, nat_lt, option_map, ◌||◌, ◌==◌, ◌&&◌}
 use Rattle.std.specs.List.{list_all}
 use Rattle.board_model.specs.Numerals.{is_other}
@@ -19,6 +19,7 @@ use Rattle.mc_journal.proofs.BytesRead.{bytes-read, bytes-alone}
 use Rattle.mc_journal.proofs.PartsRead.{decimal-alone, pair_read}
 use Rattle.mc_journal.proofs.AnswersRead.{answer-is, answer-read}
 use Rattle.mc_journal.proofs.ResultsRead.{count-read, long-read}
+use Rattle.mc_journal.proofs.LinesRead.{call_spaced}
 use Rattle.report_text.specs.declared.outline.Outline.TheVariants as outline
 use Rattle.report_text.specs.Outlines.{is_refusal, outline_of, outline_in}
 use Rattle.report_text.specs.CountedLines.{counted_line}
@@ -109,15 +110,6 @@ peer-read n small = decimal-read 255 n (omega (arith, small)) (omega arith)
 peer-alone : (n : ℕ) → n < 2 ^ 8 → list_all (is_other 32) (decimal n) ≡ true
 peer-alone n small = decimal-alone n (omega (arith, small))
 
-pub call-spaced : (k : ℕ) (a : PlainAnswer) → spaced (line_words (call_line k a)) ≡ codes "call " ++ (decimal k ++ 32 ∷ spaced (answer_words a))
-call-spaced k (refuses word) = refl
-call-spaced k agrees = refl
-call-spaced k (tells n) = refl
-call-spaced k (connects request channel) = refl
-call-spaced k (gives size bytes) = refl
-call-spaced k (completes None result) = refl
-call-spaced k (completes (Some place) result) = refl
-
 -- what hangs on a line, and of a call's answer on its text alone
 module _ {A : Type 0} (f : Line → A) (by-text : (k : ℕ) (a b : PlainAnswer) → FitsAnswer b → spaced (answer_words a) ≡ spaced (answer_words b) → f (call_line k a) ≡ f (call_line k b)) where
   said : List ℕ → Option A
@@ -138,7 +130,7 @@ module _ {A : Type 0} (f : Line → A) (by-text : (k : ℕ) (a b : PlainAnswer) 
   said-read (wait_line number) fits = ap (λ (o : Option ℕ). option_map f (option_map wait_line o)) (count-read number fits)
   said-read (call_line number a) fits =
       let read = answer-read a fits.1 in
-      ap said (call-spaced number a)
+      ap said (call_spaced number a)
       ∙ ap (option_map f) (pair_read count_in answer_in call_line (decimal number) (spaced (answer_words a)) number read.0 (decimal-alone number (omega (arith, fits.0))) (count-read number fits.0) read.1)
       ∙ ap Some (by-text number read.0 a fits.1 (answer-is (spaced (answer_words a)) read.0 read.1))
 

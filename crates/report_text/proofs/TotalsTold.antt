@@ -28,7 +28,7 @@ use Rattle.board_model.specs.Channels as channels
 use Rattle.board_model.specs.Messages as messages
 use Rattle.board_model.specs.Totals.{numbers_to, item_totals, totals_of_channel, totals_of_owner, totals}
 use Rattle.board_model.specs.Places.{in_last_state, at_end, places_of}
-use Rattle.board_model.proofs.MessageAlls.{all-append, all-found}
+use Rattle.board_model.proofs.MessageAlls.{all-append, all-found, all-parts}
 use Rattle.ring_numbers.specs.BoardRings.{image_of_queue, places_by, places_of as places_to, ring_left, sent_to}
 use Rattle.ring_numbers.specs.RingLists.{image_left}
 use Rattle.ring_numbers.specs.RingTexts.{ring_text}
@@ -37,7 +37,7 @@ use Rattle.std.specs.Prelude.{decimal}
 use Rattle.mc_journal.specs.EntryText.{FitsAnswer}
 use Rattle.mc_journal.specs.Readers.{count_in, answer_in}
 use Rattle.mc_journal.specs.LineForms.{line_in}
-use Rattle.mc_journal.proofs.LinesRead.{line-is}
+use Rattle.mc_journal.proofs.LinesRead.{line-is, call_spaced}
 use Rattle.mc_journal.proofs.PartsRead.{decimal-alone}
 use Rattle.mc_journal.proofs.ResultsRead.{count-read}
 use Rattle.report_text.specs.JournalRead.{JournalText, lines_of_texts}
@@ -46,9 +46,7 @@ use Rattle.report_text.specs.LinkPass.{journal_told}
 use Rattle.report_text.specs.RingPass.{ring_texts}
 use Rattle.report_text.specs.TotalPass.{number_texts}
 use Rattle.report_text.specs.RightRuns.{journal_due}
-use Rattle.report_text.proofs.AnswersTold.{all-split}
 use Rattle.report_text.proofs.EntryLines.{line-fits}
-use Rattle.report_text.proofs.OutlinesRead.{call-spaced}
 use Rattle.report_text.proofs.LinesTold.{Tell, pair-told}
 use Rattle.report_text.proofs.StepsDue.{Due}
 use Rattle.report_text.proofs.CallsDue.{put_lines}
@@ -71,7 +69,7 @@ line-read : (x : List ℕ) (l : Line) → line_in x ≡ Some l → IsReadLine l
 line-read x (call_line k b) e =
     let fits = line-fits x (call_line k b) e in
     let small = fits.0 in
-    let t = pair-told count_in answer_in call_line (decimal k) (spaced (answer_words b)) k (call_line k b) (decimal-alone k (omega (arith, small))) (count-read k fits.0) (ap line_in (sym (call-spaced k b) ∙ line-is x (call_line k b) e) ∙ e) in
+    let t = pair-told count_in answer_in call_line (decimal k) (spaced (answer_words b)) k (call_line k b) (decimal-alone k (omega (arith, small))) (count-read k fits.0) (ap line_in (sym (call_spaced k b) ∙ line-is x (call_line k b) e) ∙ e) in
     (t.1 ∙ ap Some (same-answer k t.0 b t.2), fits.1)
 line-read x (idle_line n) e = tt
 line-read x (again_line w) e = tt
@@ -110,7 +108,7 @@ part-read qs (call_of ps k a) all = go ps all
 
 parts-read : (qs : List ℕ) (ps : List Part) → AllByRecursion IsReadLine (flat_map part_lines ps) → AllByRecursion IsRead (flat_map (part_entries qs) ps)
 parts-read qs [] all = tt
-parts-read qs (p ∷ ps) all = let both = all-split IsReadLine (part_lines p) (flat_map part_lines ps) all in all-append IsRead (part_entries qs p) (flat_map (part_entries qs) ps) (part-read qs p both.0) (parts-read qs ps both.1)
+parts-read qs (p ∷ ps) all = let both = all-parts IsReadLine (part_lines p) (flat_map part_lines ps) all in all-append IsRead (part_entries qs p) (flat_map (part_entries qs) ps) (part-read qs p both.0) (parts-read qs ps both.1)
 
 -- ---- a journal
 

@@ -14,9 +14,9 @@ use Rattle.board_model.proofs.StateEnds.{Ends}
 use Rattle.board_model.proofs.DeedJoins.{call-ends, deeds-ends, deeds-numbers}
 use Rattle.board_model.proofs.LanePeers.{peer_found}
 use Rattle.board_model.proofs.LaneRows.{item-peer}
-use Rattle.board_model.proofs.LaneRuns.{call_holds}
+use Rattle.board_model.proofs.LaneRuns.{call_holds, looks_hold}
 use Rattle.board_model.proofs.LaneTakes.{takes_count, takes_none}
-use Rattle.board_model.proofs.VisitLooks.{after_looks, visit-after, visit-words, looks-keep}
+use Rattle.board_model.proofs.VisitLooks.{after_looks, visit-after, visit-words}
 use Rattle.board_model.proofs.WholePeers.{size_at, shown_at, takes_size, takes_shown, call_size, call_numbers, call_shown, looks_size, looks_other}
 use Rattle.board_model.proofs.WholeLanes.{shown_own}
 use Rattle.report_text.specs.StepPass.{due_at, due_visit, due_visits}
@@ -34,9 +34,6 @@ pub record Sound (peers : List ℕ) (s : DomainState) : Type 0 where
   pub small : (n size : ℕ) → size_at s n ≡ Some size → size < 2 ^ 32
 
 -- ---- a visit keeps it
-
-looks_hold : (n : ℕ) (s : DomainState) (v : Visit) → held_from n (after_looks s v) ≡ held_from n s
-looks_hold n s v = looks-keep (held_from n) (λ t p k. refl) (λ t p. refl) (λ t p k. refl) s v
 
 visit_size : (s : DomainState) (v : Visit) (n : ℕ) → size_at (after_visit s v) n ≡ size_at s n
 visit_size s v n = ap (λ t. size_at t n) (visit-after s v) ∙ takes_size (after_looks s v) v.peer v.takes n ∙ looks_size s v n

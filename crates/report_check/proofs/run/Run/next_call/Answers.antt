@@ -5,8 +5,9 @@ use Rattle.board_model.specs.Unnamed.{no_names, unnamed}
 use Rattle.report_replay.specs.Puts.{FitsFrame}
 use Rattle.report_check.proofs.NamedCalls.{call-named}
 use Rattle.report_check.specs.Runs.{FitsLine, script_of}
-use Rattle.report_check.proofs.FitLines.{all-at, fits-call}
+use Rattle.report_check.proofs.FitLines.{fits-call}
 use Rattle.board_model.proofs.RenamedCalls.{refusal-renamed}
+use Rattle.board_model.proofs.MessageAlls.{all-at}
 use Rattle.report_check.proofs.run.Run.next_call.Goals as goal
 
 pub returns-clause-call : goal.returns-clause-call
