@@ -10,15 +10,14 @@ use Rattle.board_model.specs.declared.scenario.Scenario.{Scenario}
 use Rattle.board_model.specs.Language.{IsLawfulBoard}
 use Rattle.board_model.specs.LinkedBoard.{Differ, IsLinkedBoard}
 use Rattle.board_model.specs.Scenario.{Lane, lanes}
-use Rattle.board_model.specs.SerialRun.{Running}
 use Rattle.board_model.proofs.LawfulBoards.{lawful_is_linked}
 use Rattle.board_model.proofs.WholeHas.{has-gives}
 use Rattle.domain_core.specs.declared.ends.Ends.TheVariants.{Own, Linked}
 use Rattle.domain_core.specs.Carrying.{AreLinked, Carries}
 use Rattle.board_runner.specs.declared.station.Station.{Station}
 use Rattle.board_runner.specs.Near.{Near, nothing_near, frame_in, RunEnds, RunDomain, near_to, near_among, near_of, peers_of, EndsMatch}
-use Rattle.board_runner.specs.Stations.{domain_of, near_in, near, LaneJoins, IsRun, IsBoard}
-use Rattle.board_runner.specs.Carried.{HasCome, IsTrue, OthersCarried, KnowsTruly, DidNothing, Knows}
+use Rattle.board_runner.specs.Stations.{domain_of, near_in, near, LaneJoins, IsBoard}
+use Rattle.board_runner.specs.Carried.{HasCome, IsTrue, OthersCarried, KnowsTruly, DidNothing}
 use Rattle.board_runner.specs.Runs.{AllCarried, CarriedBut, KnowsTrulyAt}
 use Rattle.board_runner.specs.Meeting.{MayMeetAt, MeetAt}
 use Rattle.board_runner.specs.StationsMet.{AreLinkedPeers, DomainsMeet, linked, apart, StationsMayMeet, StationsMeet, domains_of, numbers_of, KeepsRun, ComesFrom, TrueOf, LinksMeetAt}

@@ -1,5 +1,5 @@
 -- What a call of a domain leaves on the lanes.
-use Rattle.std.proofs.Common.{◌≡◌, ℕ, Bool, cond, List, [], ◌∷◌, map, Option, Some, refl, sym, ap, ◌∙◌, subst, eq-eqb, ne_eqb}
+use Rattle.std.proofs.Common.{◌≡◌, ℕ, cond, List, ◌∷◌, map, Option, Some, refl, sym, ap, ◌∙◌, subst}
 use Rattle.std.specs.Prelude.{◌==◌, slice_get, slice_set}
 use Rattle.std.specs.List.{AllByRecursion}
 use Rattle.mc_base.specs.declared.request.RequestId.{RequestId}
@@ -23,7 +23,7 @@ use Rattle.domain_core.specs.Calls.{Does}
 use Rattle.domain_core.specs.Ends.{EndsMoved}
 use Rattle.domain_core.specs.InBook.{item_at}
 use Rattle.board_runner.specs.declared.station.Station.{Station}
-use Rattle.board_runner.specs.Near.{Near, RunEnds, RunDomain, near_to, near_among, near_of, peers_of, EndsMatch}
+use Rattle.board_runner.specs.Near.{Near, RunDomain, near_among, near_of, peers_of, EndsMatch}
 use Rattle.board_runner.specs.Stations.{near, IsRun, LaneHolds, LaneJoins}
 use Rattle.board_runner.proofs.RunBoards.{run-board, matched-at}
 use Rattle.board_runner.proofs.CallLanes.{loads_called, lane-called}

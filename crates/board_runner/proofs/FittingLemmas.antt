@@ -1,14 +1,14 @@
 -- The two ends of a lane fit together by what their domains' journals tell: over a finished ring, and on a lane to oneself.
-use Rattle.std.proofs.Common.{◌≡◌, ℕ, ◌+◌, ◌≤◌, Bool, true, false, cond, List, [], ◌∷◌, ◌++◌, length, map, flat_map, filter, drop, sum, slice_get, slice_index, Some, refl, sym, ap, ap₂, ◌∙◌, subst, arith, append_assoc, append-nil, length-append}
+use Rattle.std.proofs.Common.{◌≡◌, ℕ, ◌+◌, ◌≤◌, Bool, true, false, cond, List, [], ◌∷◌, ◌++◌, length, map, flat_map, filter, drop, sum, slice_index, sym, ap, ◌∙◌, subst, arith, append_assoc, append-nil, length-append}
 use Rattle.std.proofs.lemmas.List.{map-append, length-map}
 use Rattle.std.proofs.lemmas.List.Sums.{sum_by-cons}
 use Rattle.shared_words.specs.declared.view.Role.{Role}
 use Rattle.split_ring.specs.Finished.{FinishedRing}
-use Rattle.lane_end.specs.SendMoves.{SendMove, Looked, Sent}
+use Rattle.lane_end.specs.SendMoves.{Looked, Sent}
 use Rattle.lane_end.specs.ReceiveMoves as receiving
 use Rattle.lane_end.specs.ReceiveMoves.{ReceiveMove, Took, Gave}
 use Rattle.lane_end.specs.SendParts.{frames_sent, back_counts}
-use Rattle.lane_end.specs.ReceiveParts.{frames_taken, numbers_given, see_counts}
+use Rattle.lane_end.specs.ReceiveParts.{frames_taken, numbers_given}
 use Rattle.lane_end.specs.Loop.{Loop, new_loop}
 use Rattle.lane_end.specs.LaneRun.{IsLaneRun, SeesAtMost as SeeMovesAtMost}
 use Rattle.board_model.specs.declared.scenario.CallLine.{CallLine}
@@ -23,7 +23,7 @@ use Rattle.domain_core.specs.LaneMoves.{LaneMove, sender, receiver, sends, recei
 use Rattle.domain_core.specs.LinkMoved.{receives-append}
 use Rattle.domain_core.specs.LoopMoved.{LoopMoved, loop_after}
 use Rattle.domain_core.specs.VisitMoves.{taking}
-use Rattle.board_runner.specs.OwnRun.{unnumbered, visit_told, entry_told, moves_told}
+use Rattle.board_runner.specs.OwnRun.{unnumbered, visit_told, moves_told}
 use Rattle.board_runner.proofs.NearEnds.{contents, first-came, receives_putting}
 use Rattle.board_runner.proofs.ToldTraffic.{HasTraffic, has_traffic, zeros, zeros_many, visit_receives, goes_back}
 

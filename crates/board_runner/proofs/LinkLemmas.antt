@@ -6,7 +6,6 @@ use Rattle.std.proofs.lemmas.Bool.{cond_both, ne_eqb, lt-ltb, le-ltb}
 use Rattle.std.proofs.lemmas.Bool.Decides.{eqb_tells}
 use Rattle.std.proofs.lemmas.List.{append-nil, map-append}
 use Rattle.std.proofs.lemmas.List.Elements.{filter-append}
-use Rattle.std.proofs.lemmas.List.FromFn.{length-range_with_len}
 use Rattle.lane_end.specs.AnySender as sending
 use Rattle.lane_end.specs.AnyReceiver as receiving
 use Rattle.board_model.specs.declared.scenario.DomainLine.{DomainLine}

@@ -1,12 +1,12 @@
 -- What a domain did and knows at its ends after one of its links was carried.
-use Rattle.std.proofs.Common.{◌≡◌, ◌≢◌, ℕ, ◌+◌, ◌≤◌, Bool, true, false, cond, List, [], ◌∷◌, ◌++◌, length, sum, Option, Some, refl, sym, ap, ap₂, ◌∙◌, subst, arith, eqb-true, ne_eqb}
+use Rattle.std.proofs.Common.{◌≡◌, ◌≢◌, ℕ, ◌+◌, ◌≤◌, Bool, true, false, cond, List, [], ◌∷◌, ◌++◌, length, sum, Option, Some, refl, sym, ap, ◌∙◌, subst, arith, eqb-true, ne_eqb}
 use Rattle.std.specs.Prelude.{◌==◌}
 use Rattle.std.proofs.lemmas.List.{map-append}
 use Rattle.lane_end.specs.Halves.{IsRingSend, IsRingRecv}
 use Rattle.lane_end.specs.AnyLane.{EndsHaveMet}
 use Rattle.lane_end.specs.AnyLaneLaws.{over-either}
 use Rattle.lane_end.specs.RingLane.{HaveMet}
-use Rattle.lane_end.specs.RingSender.{RingSender, put_by, loads_by}
+use Rattle.lane_end.specs.RingSender.{RingSender, put_by}
 use Rattle.lane_end.specs.RingReceiver.{RingReceiver, taken_by, given_entries}
 use Rattle.lane_end.specs.Entries.{frames_in}
 use Rattle.lane_end.specs.declared.any.AnySend.{AnySend}
@@ -19,7 +19,7 @@ use Rattle.domain_core.specs.Carrying.{AnyLink, LinksMeet, leads_to, link_to, wi
 use Rattle.domain_core.specs.Opening.{links_in}
 use Rattle.domain_core.proofs.Carries.{link-with}
 use Rattle.board_runner.specs.Near.{Near, SentNear, GotNear, RunEnds, sent_by, got_by, sent_near, got_near, IsLinkTo, frame_in, near_to, near_among, EndsMatch}
-use Rattle.board_runner.specs.Carried.{HasCome, IsTrue, Knows, DidNothing}
+use Rattle.board_runner.specs.Carried.{IsTrue, DidNothing}
 use Rattle.board_runner.proofs.NearEnds.{contents, loads-frames}
 
 -- ---- a lane

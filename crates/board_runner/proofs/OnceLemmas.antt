@@ -1,11 +1,9 @@
 -- A call of a line at its station, where all was known before, and the links that are carried after it.
-use Rattle.std.proofs.Common.{◌≡◌, ◌≢◌, ℕ, ◌<◌, Bool, true, false, not, List, length, map, set, get_or, Some, Option, Result, Ok, Err, refl, sym, ap, ◌∙◌, subst, arith}
+use Rattle.std.proofs.Common.{◌≡◌, ◌≢◌, ℕ, ◌<◌, Bool, true, false, not, List, length, map, set, get_or, Some, Result, Ok, Err, sym, ap, ◌∙◌, subst, arith}
 use Rattle.std.specs.Prelude.{slice_get, IfOk, OnOk}
 use Rattle.std.specs.List.{AllByRecursion, list_all}
 use Rattle.std.proofs.lemmas.Option.{slice_get-get_or}
 use Rattle.mc_base.specs.declared.refusal.NoMemory.{NoMemory}
-use Rattle.lane_end.specs.AnySender.{AnySends}
-use Rattle.lane_end.specs.AnyReceiver.{AnyReceives}
 use Rattle.board_model.specs.declared.scenario.CallLine.{CallLine}
 use Rattle.board_model.specs.declared.scenario.Scenario.{Scenario}
 use Rattle.board_model.specs.Journal.{Visit, is_idle}
@@ -22,11 +20,11 @@ use Rattle.domain_core.proofs.Going.{any-calls-go}
 use Rattle.mc_journal.specs.Entry.{plain_answer}
 use Rattle.board_runner.specs.declared.station.Station.{Station}
 use Rattle.board_runner.specs.declared.line.Made.{Made}
-use Rattle.board_runner.specs.Carried.{IsTrue, StayCarried, StayCarriedWhere}
+use Rattle.board_runner.specs.Carried.{IsTrue, StayCarriedWhere}
 use Rattle.board_runner.specs.Lines.{Tries, NotesAnswer, IsIdleWhere, call_at_station}
 use Rattle.board_runner.specs.Near.{Near, RunDomain, near_among, near_of, peers_of, EndsMatch}
-use Rattle.board_runner.specs.Runs.{IsSomeBoard, IsSomeNext, Leads, AllCarried, CarriedBut, KnowsTrulyAt, IsNext, IsCalled, after_call, CallsLine}
-use Rattle.board_runner.specs.Stations.{IsRun, IsBoard, near}
+use Rattle.board_runner.specs.Runs.{IsSomeBoard, IsSomeNext, Leads, AllCarried, CarriedBut, KnowsTrulyAt, IsNext, after_call, CallsLine}
+use Rattle.board_runner.specs.Stations.{IsRun, near}
 use Rattle.board_runner.proofs.ExactVisits.{after-call, true-called, come-here, exact-idle, exact-turn, matched-here, peers-differ, stood-all}
 use Rattle.board_runner.proofs.RunBoards.{run-board}
 use Rattle.board_runner.proofs.RunLemmas.{call_goes}

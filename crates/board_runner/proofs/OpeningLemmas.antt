@@ -1,15 +1,13 @@
 -- A board before its first line: its stations stand for those of the run, every lane is empty, and the ends of each link fit together.
-use Rattle.std.proofs.Common.{◌≡◌, ◌≢◌, ℕ, ◌+◌, ◌<◌, Bool, true, false, cond, List, [], ◌∷◌, ◌++◌, map, sum_by, Option, Some, None, find, filter, option_map, option_to_list, is_some, refl, sym, ap, ap₂, ◌∙◌, subst, arith, inl, inr, eq-eqb, eqb-true}
+use Rattle.std.proofs.Common.{◌≡◌, ◌≢◌, ℕ, ◌+◌, ◌<◌, Bool, true, false, cond, List, [], ◌∷◌, ◌++◌, map, sum_by, Option, Some, None, find, option_map, option_to_list, is_some, refl, sym, ap, ap₂, ◌∙◌, subst, arith, eq-eqb, eqb-true}
 use Rattle.std.specs.Prelude.{◌==◌, nat_lt, IfSome, IsSome}
 use Rattle.std.specs.List.{AllByRecursion}
 use Rattle.std.proofs.lemmas.Bool.{cond_both, ne_eqb, and_from}
-use Rattle.std.proofs.lemmas.Bool.Decides.{eqb_tells}
 use Rattle.std.proofs.lemmas.List.{append-nil}
 use Rattle.mc_base.specs.Limits.{no_key}
 use Rattle.mc_base.specs.declared.request.PacketId.{PacketId}
 use Rattle.mc_base.specs.declared.request.RequestId.{RequestId}
 use Rattle.lane_end.specs.Loop.{Loop, new_loop}
-use Rattle.lane_end.specs.AnyLane.{AreEndsOfOneRing}
 use Rattle.board_model.specs.declared.scenario.DomainLine.{DomainLine}
 use Rattle.board_model.specs.declared.scenario.LinkLine.{LinkLine}
 use Rattle.board_model.specs.declared.scenario.Scenario.{Scenario}
@@ -31,13 +29,13 @@ use Rattle.board_model.proofs.WholeHas.{Has, has-weaken, has-map, has-each, has-
 use Rattle.board_model.proofs.WholeJoined.{Joined, joined_back, joined_found, found_neighbour, lanes_join}
 use Rattle.domain_core.specs.declared.ends.Ends.TheVariants.{Own, Linked}
 use Rattle.domain_core.specs.Opening.{neighbour_of, neighbours_opened, ends_opened, links_in}
-use Rattle.domain_core.specs.Carrying.{AnyLink, AreLinked, link_to}
+use Rattle.domain_core.specs.Carrying.{AnyLink, link_to}
 use Rattle.board_numbers.specs.Lanes.{line_of_domain, joins, size_between}
 use Rattle.board_runner.specs.declared.station.Station.{Station}
 use Rattle.board_runner.specs.Near.{Near, SentNear, GotNear, nothing_near, RunEnds, RunDomain, near_to, near_among, peers_of, near_of, EndsMatch}
 use Rattle.board_runner.specs.declared.wires.Wire.{Wire}
 use Rattle.board_runner.specs.Carried.{HasCome}
-use Rattle.board_runner.specs.Wired.{IsNewLink, AreLinksOn, IsWired, wire_at, links_wired}
+use Rattle.board_runner.specs.Wired.{IsNewLink, IsWired, wire_at, links_wired}
 use Rattle.board_runner.specs.Opened.{IsOpened, AreOpened}
 use Rattle.board_runner.specs.Runs.{AllCarried}
 use Rattle.board_runner.specs.Stations.{IsKnown, IsKnownPacket, domain_of, near_in, near, LaneHolds, LaneJoins, IsStation, AreStations, IsRun}

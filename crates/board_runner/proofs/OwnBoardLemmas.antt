@@ -1,5 +1,5 @@
 -- The journals of domains that ran on their own are a run of the board where the two ends of each lane fit together.
-use Rattle.std.proofs.Common.{◌≡◌, List, [], ◌∷◌, map, refl, sym, ap, ap₂, ◌∙◌}
+use Rattle.std.proofs.Common.{◌≡◌, List, [], ◌∷◌, map, refl, sym, ap, ◌∙◌}
 use Rattle.std.specs.List.{AllByRecursion}
 use Rattle.std.proofs.lemmas.Simd.{map-map}
 use Rattle.board_model.specs.declared.scenario.DomainLine.{DomainLine}

@@ -1,10 +1,9 @@
 -- The ids of packets that a runner holds go along with the labels of the run.
-use Rattle.std.proofs.Common.{◌≡◌, ℕ, ◌+◌, ◌<◌, ◌≤◌, ◌^◌, List, [], ◌∷◌, ◌++◌, length, map, Option, Some, None, option_map, option_to_list, refl, sym, ap, ap₂, ◌∙◌, subst, arith, append-nil}
+use Rattle.std.proofs.Common.{◌≡◌, ℕ, ◌+◌, ◌<◌, ◌≤◌, ◌^◌, List, ◌∷◌, ◌++◌, length, map, Option, Some, None, option_map, option_to_list, refl, sym, ap, ap₂, ◌∙◌, subst, arith}
 use Rattle.std.specs.Prelude.{IfSome}
 use Rattle.std.specs.Option.{option_or}
 use Rattle.std.specs.List.{AllByRecursion}
 use Rattle.std.proofs.lemmas.List.{map-append}
-use Rattle.mc_base.specs.declared.refusal.Refusal.{Refusal}
 use Rattle.mc_base.specs.declared.request.PacketId.{PacketId}
 use Rattle.board_model.specs.DomainCall.{DomainCall, create_at, delete_at, lookup_of, send_from, receive_at, request_at, available_at, connect_from, open_at, packet_from, lend_at, packet_request_at, release_of, scalar_from, scalar_at, close_at, test_of, wait_for, cancel_of, raw_to, turn_alone}
 use Rattle.board_model.specs.Answer.{refusal, unless_refused}
@@ -13,12 +12,13 @@ use Rattle.board_model.specs.Labels.{Labelled, serial_of, packet_given, with_lab
 use Rattle.board_model.specs.Lists.{without}
 use Rattle.board_model.specs.State.{DomainState}
 use Rattle.board_model.proofs.MessageAlls.{all-weaken}
+use Rattle.board_model.proofs.SerialRequests.{map-without}
 use Rattle.domain_core.specs.Calls.{place_released, success_releases}
 use Rattle.board_runner.specs.Held.{PacketIds, id_for, told_for, TellsId}
 use Rattle.board_runner.specs.Near.{RunDomain}
 use Rattle.board_runner.specs.Stations.{IsKnownPacket, HoldsPackets}
-use Rattle.board_runner.proofs.HeldLemmas.{all_ids, few_more, if_or, if_told, if_weaker, map-option, map-or, map-without, serial_after}
-use Rattle.board_runner.proofs.SerialPackets.{packets, call_packets, call_lends, lent_is_next, packet_released, success_released}
+use Rattle.board_runner.proofs.HeldLemmas.{all_ids, few_more, if_or, if_told, if_weaker, map-option, map-or, serial_after}
+use Rattle.board_runner.proofs.SerialPackets.{packets, call_packets, call_lends, lent_is_next, success_released}
 
 same_releases : (call : DomainCall) → success_releases call ≡ success_released call
 same_releases (release_of place) = refl

@@ -9,12 +9,9 @@ use Rattle.mc_base.specs.declared.request.Slot.{Slot}
 use Rattle.lane_end.specs.SendMoves.{Looked, Sent}
 use Rattle.lane_end.specs.ReceiveMoves as receiving
 use Rattle.lane_end.specs.Loop.{Loop}
-use Rattle.lane_end.specs.SendMoves.{SendMove}
-use Rattle.lane_end.specs.ReceiveMoves.{ReceiveMove}
 use Rattle.lane_end.specs.SendParts.{frames_sent, back_counts}
 use Rattle.lane_end.specs.ReceiveParts.{frames_taken, numbers_given}
 use Rattle.lane_end.specs.Entries.{return_in}
-use Rattle.lane_end.specs.Opened.{given_length}
 use Rattle.lane_end.specs.RingSender.{RingSender, put_by, RingSends}
 use Rattle.lane_end.specs.RingReceiver.{RingReceiver, RingReceives, taken_by, given_by, given_entries, with_lengths}
 use Rattle.lane_end.specs.AnySender.{AnySends}
@@ -42,8 +39,8 @@ use Rattle.domain_core.specs.InBook.{item_at}
 use Rattle.mc_journal.specs.Entry.{plain_answer}
 use Rattle.board_runner.specs.declared.station.Station.{Station}
 use Rattle.board_runner.specs.declared.line.Made.{Made}
-use Rattle.board_runner.specs.Near.{SentNear, GotNear, sent_by, got_by, sent_near, got_near, frame_in, nothing_near, RunEnds, near_to, near_among}
-use Rattle.board_runner.specs.Carried.{DidNothing, Knows, StayCarried, StayCarriedWhere}
+use Rattle.board_runner.specs.Near.{SentNear, GotNear, sent_by, got_by, sent_near, got_near, nothing_near, RunEnds, near_to, near_among}
+use Rattle.board_runner.specs.Carried.{DidNothing, StayCarried, StayCarriedWhere}
 use Rattle.board_runner.specs.Lines.{MakesCall, IsIdleWhere, call_by, call_at_station, is_idle_line, ends_idle, is_turn, is_quiet}
 use Rattle.board_runner.proofs.CallLemmas.{tried_nothing}
 use Rattle.board_runner.proofs.NearEnds.{contents, loads-frames}

@@ -1,5 +1,5 @@
 -- A board that runs stays as it is where the link between two of its domains is carried.
-use Rattle.std.proofs.Common.{◌≡◌, ◌≢◌, ℕ, zero, suc, ◌+◌, ◌≤◌, Bool, cond, List, [], ◌∷◌, ◌++◌, length, map, slice_get, slice_set, Option, Some, refl, sym, ap, ap₂, ◌∙◌, subst, inl, inr, arith, eq-eqb, ne_eqb}
+use Rattle.std.proofs.Common.{◌≡◌, ◌≢◌, ℕ, zero, suc, ◌+◌, ◌≤◌, Bool, cond, List, [], ◌∷◌, ◌++◌, length, map, slice_get, slice_set, Option, Some, refl, sym, ap, ◌∙◌, subst, inl, inr, arith, eq-eqb, ne_eqb}
 use Rattle.std.specs.Prelude.{◌==◌}
 use Rattle.std.proofs.lemmas.Bool.Decides.{eqb_tells}
 use Rattle.lane_end.specs.AnyLane.{AreEndsOfOneRing, EndsHaveMet}
@@ -13,12 +13,12 @@ use Rattle.board_model.specs.SerialRun as run
 use Rattle.board_model.specs.SerialRun.{Running}
 use Rattle.board_model.proofs.MessageAlls.{all-weaken}
 use Rattle.domain_core.specs.declared.ends.Ends.TheVariants.{Linked}
-use Rattle.domain_core.specs.Carrying.{AnyLink, AreLinked, Carries, link_to, with_link}
+use Rattle.domain_core.specs.Carrying.{AnyLink, AreLinked, Carries, link_to}
 use Rattle.domain_core.proofs.Carries.{linked-carried}
 use Rattle.board_runner.specs.declared.station.Station.{Station}
 use Rattle.board_runner.specs.Near.{Near, IsLinkTo, RunEnds, RunDomain, near_to, near_of, near_among, peers_of, EndsMatch}
 use Rattle.board_runner.specs.Stations.{domain_of, near, LaneHolds, LaneJoins, IsStation, AreStations, IsRun, IsOnBoard, IsBoard}
-use Rattle.board_runner.specs.Carried.{HasCome, IsTrue, DidNothing, Knows}
+use Rattle.board_runner.specs.Carried.{HasCome, DidNothing}
 use Rattle.board_runner.specs.StationsMet.{counted}
 use Rattle.board_runner.proofs.PacketLemmas.{packets_stay}
 use Rattle.board_runner.proofs.NearCarried.{Meets, link-met, link-peer, links-met, links-other, linked-near, match-carried, link-other, near-other, near-own}

@@ -18,7 +18,7 @@ use Rattle.board_model.specs.Scenario.{lanes, script}
 use Rattle.board_model.specs.State.{DomainState}
 use Rattle.board_model.specs.Step.{next_line, call_at, is_tried}
 use Rattle.board_model.specs.SerialRun as run
-use Rattle.board_model.specs.SerialRun.{Running, is_station, station_of, turned_once, with_entry, with_entries, word_in, called_by, is_tried_at, loads_with_puts}
+use Rattle.board_model.specs.SerialRun.{Running, is_station, station_of, turned_once, with_entry, with_entries, word_in, called_by, loads_with_puts}
 use Rattle.mc_base.specs.declared.request.PacketId.{PacketId}
 use Rattle.mc_base.specs.declared.request.RequestId.{RequestId}
 use Rattle.board_model.proofs.WholeTurns.{turn_number}

@@ -10,7 +10,7 @@ use Rattle.board_model.specs.Journal.{Visit, PlainEntry, turned, noted}
 use Rattle.board_model.specs.State.{DomainState}
 use Rattle.board_model.specs.Loads.{Load, turn_of, loads_turned}
 use Rattle.board_model.specs.SerialRun as run
-use Rattle.board_model.specs.SerialRun.{Running, is_station, entered, with_entry, turned_by, turned_once}
+use Rattle.board_model.specs.SerialRun.{Running, entered, with_entry, turned_by, turned_once}
 use Rattle.board_model.proofs.MessageAlls.{all-weaken}
 use Rattle.board_model.proofs.PlaceBoards.{neighbours_differ}
 use Rattle.board_model.proofs.WholeTurns.{turn_number}

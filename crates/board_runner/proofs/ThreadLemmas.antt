@@ -26,7 +26,7 @@ use Rattle.board_model.specs.State.{free_to, queued_from, lent_from}
 use Rattle.board_model.specs.Board.{DomainJournal, journal_in, journal_of, given_by, SeesAtMost, LaneFits}
 use Rattle.board_model.specs.Places.{in_last_state, places_of, EveryBuffer}
 use Rattle.board_model.specs.SerialRun as run
-use Rattle.board_model.specs.SerialRun.{is_station, journal_left, opened_station, opened}
+use Rattle.board_model.specs.SerialRun.{is_station, journal_left, opened}
 use Rattle.board_model.proofs.LaneRuns.{sums_run}
 use Rattle.board_model.proofs.MessageAlls.{all-found, all-weaken}
 use Rattle.board_model.proofs.BoardsLanes.{lane-found}

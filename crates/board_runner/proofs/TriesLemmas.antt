@@ -5,7 +5,7 @@ use Rattle.board_model.specs.declared.scenario.Scenario.{Scenario}
 use Rattle.board_model.specs.Language.{IsLawfulBoard}
 use Rattle.board_model.specs.Step.{limit_of}
 use Rattle.board_model.specs.SerialRun as run
-use Rattle.board_model.specs.SerialRun.{Running, station_of, turned_once, all_turned, others, again_by, called_by, is_tried_at, after_turn_of, last_call, tried, more_calls, line_by, line_run}
+use Rattle.board_model.specs.SerialRun.{Running, turned_once, all_turned, others, again_by, called_by, is_tried_at, after_turn_of, last_call, tried, more_calls, line_by, line_run}
 use Rattle.board_runner.specs.declared.station.Station.{Station}
 use Rattle.board_runner.specs.Runs.{IsSomeRun, IsSomeNext, At, Leads, OthersTurn, KeepCounts, IsNext, after_call, CallsLine, RunsLine}
 use Rattle.board_runner.specs.Stations.{IsRun}

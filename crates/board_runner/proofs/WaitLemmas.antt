@@ -1,9 +1,7 @@
 -- A wait of a domain alone: its call, the packet that it lends, and its answer.
-use Rattle.std.proofs.Common.{◌≡◌, ℕ, ◌+◌, ◌≤◌, ◌<◌, ◌^◌, Bool, true, false, not, cond, List, [], ◌∷◌, ◌++◌, length, map, Option, Some, None, option_map, option_to_list, refl, sym, ap, ◌∙◌, subst, arith, append-nil}
-use Rattle.std.specs.Prelude.{IfOk, IfSome, IsSome, Result, Ok, Err}
+use Rattle.std.proofs.Common.{◌≡◌, ℕ, ◌+◌, ◌≤◌, ◌<◌, ◌^◌, Bool, true, false, cond, List, [], ◌∷◌, ◌++◌, length, map, Option, Some, None, option_to_list, refl, sym, ap, ◌∙◌, subst, arith, append-nil}
+use Rattle.std.specs.Prelude.{IfOk, IsSome, Result, Ok, Err}
 use Rattle.arrayvec.specs.ArrayVec.{ArrayVec}
-use Rattle.lane_end.specs.AnySender.{AnySends}
-use Rattle.lane_end.specs.AnyReceiver.{AnyReceives}
 use Rattle.mc_base.specs.declared.refusal.NoMemory.{NoMemory}
 use Rattle.mc_base.specs.declared.refusal.Refusal.{Refusal}
 use Rattle.mc_base.specs.declared.refusal.Refusal.TheVariants.{RequestInvalid, Timeout}
@@ -15,22 +13,20 @@ use Rattle.board_model.specs.declared.scenario.Call.{Call}
 use Rattle.board_model.specs.declared.scenario.Call.TheVariants.{Wait, WaitAny}
 use Rattle.board_model.specs.declared.scenario.CallLine.{CallLine}
 use Rattle.board_model.specs.Answer.{answer, answer_by, lacks_complete, lacks_request, success}
-use Rattle.board_model.specs.DomainCall.{DomainCall, wait_for}
-use Rattle.board_model.specs.Journal.{Line, PlainAnswer, Visit, completes, noted_all, refuses}
+use Rattle.board_model.specs.DomainCall.{wait_for}
+use Rattle.board_model.specs.Journal.{Line, PlainAnswer, Visit, completes, refuses}
 use Rattle.board_model.specs.State.{DomainState}
 use Rattle.board_model.specs.Step.{is_timeout, limit_of}
 use Rattle.domain_core.specs.declared.wait_fault.WaitFault.{WaitFault}
 use Rattle.domain_core.specs.declared.wait_fault.WaitFault.TheVariants as fault
-use Rattle.domain_core.specs.Awaiting.{places_named}
 use Rattle.domain_core.specs.Calls.{Does, GivesTo, Lending, LendsBy, result_of_done}
 use Rattle.domain_core.specs.DomainView.{packet_lent_as, place_of_id}
-use Rattle.domain_core.specs.Ends.{EndsMoved}
-use Rattle.domain_core.specs.Waiting.{AreAwaited, Polls, Waits, wait_entries, wait_on, waited, waited_any}
+use Rattle.domain_core.specs.Waiting.{Polls, Waits, wait_on, waited, waited_any}
 use Rattle.mc_journal.specs.Entry.{plain_answer, bytes_in_answer}
 use Rattle.board_runner.specs.declared.station.Station.{Station}
 use Rattle.board_runner.specs.declared.line.Made.{Made}
 use Rattle.board_runner.specs.Held.{Ids, PacketIds, id_or_none}
-use Rattle.board_runner.specs.Lines.{GivesWithin, HasFitNumbers, NotesCalled, call_by, dropped_by}
+use Rattle.board_runner.specs.Lines.{GivesWithin, HasFitNumbers, call_by, dropped_by}
 use Rattle.board_runner.specs.Near.{RunDomain}
 use Rattle.board_runner.specs.Waits.{EndsWithout, GivesAtMost, WaitsAlone, WaitsDomain, ids_named, packet_in, says_place}
 use Rattle.board_runner.proofs.LineLemmas.{lends_added, refused_lends}

@@ -1,9 +1,7 @@
 -- A line that waits on a board that runs serially: its tests, and what it is answered at its limit.
-use Rattle.std.proofs.Common.{◌≡◌, ℕ, ◌+◌, ◌<◌, ◌^◌, Bool, true, false, not, cond, List, [], ◌∷◌, length, map, set, find, Some, None, Option, refl, sym, ap, ap₂, ◌∙◌, subst, arith, eq-eqb}
+use Rattle.std.proofs.Common.{◌≡◌, ℕ, ◌+◌, ◌<◌, ◌^◌, Bool, true, false, not, cond, List, [], ◌∷◌, set, find, Some, None, Option, refl, sym, ap, ap₂, ◌∙◌, subst, eq-eqb}
 use Rattle.std.specs.Prelude.{IsSome, slice_get}
 use Rattle.std.specs.List.{AllByRecursion}
-use Rattle.lane_end.specs.AnySender.{AnySends}
-use Rattle.lane_end.specs.AnyReceiver.{AnyReceives}
 use Rattle.mc_base.specs.declared.refusal.Refusal.TheVariants.{Timeout}
 use Rattle.mc_base.specs.declared.request.RequestId.{RequestId}
 use Rattle.board_model.specs.declared.scenario.CallLine.{CallLine}
@@ -11,8 +9,7 @@ use Rattle.board_model.specs.declared.scenario.Scenario.{Scenario}
 use Rattle.board_model.specs.Answer.{answer, puts}
 use Rattle.board_model.specs.CallChanges.{returned}
 use Rattle.board_model.specs.DomainCall.{DomainCall}
-use Rattle.board_model.specs.Journal.{Line, PlainAnswer, noted, noted_all, refuses, waits}
-use Rattle.board_model.specs.Language.{IsLawfulBoard}
+use Rattle.board_model.specs.Journal.{noted, noted_all, refuses, waits}
 use Rattle.board_model.specs.LinkedBoard.{IsLinkedBoard}
 use Rattle.board_model.specs.Loads.{Load, loads_given}
 use Rattle.board_model.specs.Scenario.{lanes, script}
@@ -20,7 +17,6 @@ use Rattle.board_model.specs.SerialRun as run
 use Rattle.board_model.specs.SerialRun.{Running, is_station, is_waiting_at, last_call, loads_with_puts, station_of, with_beginning, with_entry}
 use Rattle.board_model.specs.State.{DomainState, Item}
 use Rattle.board_model.specs.Step.{call_at, is_timeout, limit_of, next_line}
-use Rattle.board_model.proofs.LawfulBoards.{lawful_is_linked}
 use Rattle.board_model.proofs.WholeStations.{entered_all, station, station_after}
 use Rattle.domain_core.specs.Calls.{Does}
 use Rattle.domain_core.specs.Waiting.{wait_entries, wait_on}
@@ -28,15 +24,13 @@ use Rattle.mc_journal.specs.Entry.{plain_answer}
 use Rattle.board_runner.specs.declared.station.Station.{Station}
 use Rattle.board_runner.specs.declared.line.Made.{Made}
 use Rattle.board_runner.specs.Lines.{NotesCalled, call_at_station}
-use Rattle.board_runner.specs.Near.{RunDomain}
-use Rattle.board_runner.specs.Runs.{At, IsNext, MayCount}
+use Rattle.board_runner.specs.Runs.{IsNext}
 use Rattle.board_runner.specs.Stations.{IsRun, IsStation, LaneHolds}
-use Rattle.board_runner.specs.StationsMet.{domains_of}
-use Rattle.board_runner.specs.Waits.{EndsAtOnce, HasTested, NotesEnd, TestsWait, TimesOut, WaitsAlone, after_test, ids_named, says_place}
-use Rattle.board_runner.proofs.CallKept.{LanesKept, call_kept}
+use Rattle.board_runner.specs.Waits.{EndsAtOnce, HasTested, NotesEnd, after_test, ids_named, says_place}
+use Rattle.board_runner.proofs.CallKept.{call_kept}
 use Rattle.board_runner.proofs.CallLemmas.{DoesNothing, nothing_given, refused_nothing}
 use Rattle.board_runner.proofs.RunLemmas.{is_called}
-use Rattle.board_runner.proofs.StationCounts.{at_place, may_count}
+use Rattle.board_runner.proofs.StationCounts.{may_count}
 use Rattle.board_runner.proofs.StationLemmas.{StandsAt, domains, domains_differ, found_at, here, own_number, run_entered}
 use Rattle.board_runner.proofs.TurnEnds.{Moved}
 use Rattle.board_runner.proofs.TurnStations.{turned_station}

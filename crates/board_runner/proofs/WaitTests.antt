@@ -1,19 +1,15 @@
 -- The stations of a board around a line that waits: what is carried after its tests, and what they count.
-use Rattle.std.proofs.Common.{◌≡◌, ℕ, zero, suc, ◌+◌, ◌<◌, ◌^◌, Bool, true, false, List, [], ◌∷◌, length, map, set, Some, None, Option, option_map, refl, sym, ap, ap₂, ◌∙◌, subst, arith}
+use Rattle.std.proofs.Common.{◌≡◌, ℕ, ◌+◌, ◌<◌, ◌^◌, Bool, true, false, List, ◌∷◌, map, set, Some, None, option_map, refl, sym, ap, ap₂, ◌∙◌, subst, arith}
 use Rattle.std.specs.Prelude.{IsSome, slice_get}
 use Rattle.std.proofs.lemmas.List.{map-set}
 use Rattle.std.proofs.lemmas.Option.{slice_get-map}
 use Rattle.mc_base.specs.declared.refusal.Refusal.TheVariants.{Timeout}
-use Rattle.mc_base.specs.declared.request.PacketId.{PacketId}
 use Rattle.mc_base.specs.declared.request.RequestId.{RequestId}
 use Rattle.board_model.specs.declared.scenario.CallLine.{CallLine}
-use Rattle.board_model.specs.declared.scenario.Scenario.{Scenario}
 use Rattle.board_model.specs.Answer.{puts}
 use Rattle.board_model.specs.CallChanges.{call_changes}
 use Rattle.board_model.specs.DomainCall.{DomainCall}
 use Rattle.board_model.specs.Journal.{refuses}
-use Rattle.board_model.specs.Language.{IsLawfulBoard}
-use Rattle.board_model.specs.SerialRun.{Running}
 use Rattle.board_model.specs.State.{DomainState}
 use Rattle.board_model.specs.Step.{limit_of}
 use Rattle.board_model.proofs.DeedJoins.{changes-keep}
@@ -28,10 +24,9 @@ use Rattle.board_runner.specs.declared.line.Made.{Made}
 use Rattle.board_runner.specs.Carried.{AreCarried}
 use Rattle.board_runner.specs.Lines.{NotesCalled, dropped_by}
 use Rattle.board_runner.specs.Near.{RunDomain, peers_of}
-use Rattle.board_runner.specs.Runs.{AllCarried, At, CarriedBut, IsNext, IsSomeBoard, IsSomeNext, KeepCounts, Leads, OneLineMore}
-use Rattle.board_runner.specs.Stations.{IsRun}
+use Rattle.board_runner.specs.Runs.{AllCarried, CarriedBut, IsNext, IsSomeBoard, IsSomeNext, KeepCounts, Leads, OneLineMore}
 use Rattle.board_runner.specs.StationsMet.{counted, domains_of}
-use Rattle.board_runner.specs.Waits.{CountsTest, EndsAtOnce, HasTested, NotesEnd, TestsWait, TimesOut, after_test, ids_named, says_place}
+use Rattle.board_runner.specs.Waits.{CountsTest, EndsAtOnce, NotesEnd, TestsWait, TimesOut, after_test, ids_named, says_place}
 use Rattle.board_runner.proofs.Resting.{board-moved, carried-but}
 use Rattle.board_runner.proofs.RunBoards.{run-board}
 use Rattle.board_runner.proofs.RunStations.{number_in}

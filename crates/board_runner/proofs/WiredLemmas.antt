@@ -1,10 +1,10 @@
 -- The links of a board over its rings: those of a domain lead to its neighbours, and the ends of each lane are those of one new ring.
-use Rattle.std.proofs.Common.{◌≡◌, ◌≢◌, ℕ, zero, suc, ◌+◌, ◌-◌, ◌<◌, ◌≤◌, Bool, true, false, ◌&&◌, ◌||◌, cond, List, [], ◌∷◌, ◌++◌, length, map, drop, get_or, slice_get, option_and_then, Option, Some, None, find, filter, option_map, option_to_list, refl, sym, ap, ap₂, ◌∙◌, subst, inl, inr, arith, append-nil, append_assoc, eq-eqb, eqb-true, ne_eqb, true≢false, length-append, length-drop}
+use Rattle.std.proofs.Common.{◌≡◌, ◌≢◌, ℕ, zero, suc, ◌+◌, ◌-◌, ◌<◌, ◌≤◌, Bool, true, false, ◌&&◌, ◌||◌, cond, List, [], ◌∷◌, ◌++◌, length, map, drop, get_or, slice_get, option_and_then, Option, Some, None, find, filter, option_map, option_to_list, refl, sym, ap, ap₂, ◌∙◌, subst, inl, inr, arith, append-nil, append_assoc, eq-eqb, eqb-true, ne_eqb, length-drop}
 use Rattle.std.specs.Prelude.{◌==◌, position}
 use Rattle.std.specs.List.{remove}
 use Rattle.std.proofs.lemmas.Option.{slice_get-get_or}
 use Rattle.std.specs.List.{AllByRecursion}
-use Rattle.std.proofs.lemmas.Bool.{and_parts, and_from}
+use Rattle.std.proofs.lemmas.Bool.{and_parts}
 use Rattle.std.proofs.lemmas.Bool.Decides.{eqb_tells}
 use Rattle.std.proofs.lemmas.List.{map-append, length-map}
 use Rattle.std.proofs.lemmas.List.FromFn.{length-range_with_len}
@@ -14,9 +14,8 @@ use Rattle.shared_words.specs.Shown.{RingId, size_of}
 use Rattle.shared_words.specs.Slots.{numbers_from}
 use Rattle.shared_words.specs.Start.{new_buffer}
 use Rattle.lane_end.specs.Entries.{numbers_in}
-use Rattle.lane_end.specs.RingLane.{AreOfOneRing}
 use Rattle.lane_end.specs.RingOpening.{new_buffers, whole, queue1_sender, queue1_receiver, queue0_sender, queue0_receiver}
-use Rattle.lane_end.specs.RingReceiver.{struck, given_entries, out_at}
+use Rattle.lane_end.specs.RingReceiver.{struck, given_entries}
 use Rattle.lane_end.specs.declared.any.AnySend.TheVariants as send
 use Rattle.lane_end.specs.declared.any.AnyRecv.TheVariants as recv
 use Rattle.board_model.specs.declared.scenario.DomainLine.{DomainLine}
@@ -32,10 +31,10 @@ use Rattle.board_numbers.specs.Lanes.{joins, size_between}
 use Rattle.board_runner.specs.declared.rings.LinkHalves.{LinkHalves}
 use Rattle.board_runner.specs.declared.rings.LinkRings.{LinkRings}
 use Rattle.board_runner.specs.declared.wires.Wire.{Wire}
-use Rattle.board_runner.specs.Near.{SentNear, GotNear, nothing_sent, nothing_got}
+use Rattle.board_runner.specs.Near.{nothing_sent, nothing_got}
 use Rattle.board_runner.specs.Opened.{IsLineIn}
-use Rattle.board_runner.specs.Wired.{IsWiredBack, IsNewRing, HaveParts, AreRings, driver_link, device_link, wires_for, leads_from, wire_at, links_wired, IsNewLane, IsWired, IsNewLink, AreLinksOn, link_neighbour, is_other}
-use Rattle.board_runner.proofs.LinkLemmas.{Bare, bare, new_bare, to_bare, links_of, links_below, links-begin, links-next, links-done}
+use Rattle.board_runner.specs.Wired.{HaveParts, AreRings, driver_link, device_link, wires_for, leads_from, wire_at, links_wired, IsNewLane, IsWired, IsNewLink, AreLinksOn, link_neighbour, is_other}
+use Rattle.board_runner.proofs.LinkLemmas.{Bare, bare, new_bare, to_bare, links_below, links-begin, links-next, links-done}
 
 -- ---- a new lane over a ring
 

@@ -3,7 +3,7 @@ use Rattle.std.proofs.lemmas.Bool.{lt-ltb}
 use Rattle.std.proofs.lemmas.Option.{get_or_from_slice_get, slice_get_within}
 use Rattle.board_runner.specs.declared.rings.LinkHalves.{LinkHalves}
 use Rattle.board_runner.specs.Wired.{AreRings, HaveParts, wires_for}
-use Rattle.board_runner.proofs.WiredLemmas.{NextRings, next-rings, none-rings, wires-more}
+use Rattle.board_runner.proofs.WiredLemmas.{next-rings, none-rings, wires-more}
 use Rattle.board_runner.proofs.wires.wires_of.Goals as goal
 use Rattle.board_runner.proofs.wires.wires_of.Goals.{in_default-via-in-Some+in_default, in_default-via-in_default}
 

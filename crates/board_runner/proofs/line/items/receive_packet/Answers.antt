@@ -1,4 +1,4 @@
-use Rattle.std.proofs.Common.{refl, arith, ap, sym, length, ◌∙◌, Some, None}
+use Rattle.std.proofs.Common.{refl, arith, ap, sym, ◌∙◌, Some}
 use Rattle.board_model.specs.DomainCall.{lend_at}
 use Rattle.board_runner.proofs.LineLemmas.{calls_domain, gives_none, lends_added, refused_lends, whole_told}
 use Rattle.domain_core.specs.Calls.{lent}

@@ -1,5 +1,5 @@
-use Rattle.std.proofs.Common.{◌∷◌, [], true, false, refl, arith, ap, length, sym}
-use Rattle.board_runner.proofs.WaitLemmas.{some-named, waits-alone, says-place}
+use Rattle.std.proofs.Common.{◌∷◌, arith, ap, length}
+use Rattle.board_runner.proofs.WaitLemmas.{some-named}
 use Rattle.board_runner.proofs.line.waits.wait_for.Goals as goal
 
 pub wait_any-requires-clause-some : goal.wait_any-requires-clause-some
