@@ -1,13 +1,16 @@
-ghost use Rattle.std.specs.Prelude.{◌≡◌};
+ghost use Rattle.std.specs.Prelude.{◌≡◌, IfOk};
+ghost use Rattle.shared_words.specs.Shown.{size_of};
+ghost use Rattle.lane_end.specs.RingOpening.{queue0_receiver, queue0_sender, queue1_receiver, queue1_sender};
+ghost use Rattle.ring_domain_tests.specs.OnRings.{AreOfRings};
 
 use crate::deeds::Call::{
     CloseRecv, CloseSend, Connect, Create, Lookup, OpenRecv, OpenSend, Receive, Send, Test, Turn,
 };
 use crate::deeds::{Answered, Deed, does_plainly};
 use crate::journals::{agree, count};
-use crate::ring_pair::RingPair;
+use crate::ring_pair::{Halves, RingPair};
 use domain_core::Journal;
-use lane_end::{open_queue0, open_queue1};
+use lane_end::{DeviceRecv, DeviceSend, DriverRecv, DriverSend, open_queue0, open_queue1};
 use linked_pair::Which::{One, Two};
 use linked_pair::{LinkedPair, Member, Which, reserve_call};
 use mc_base::{NoMemory, Refusal};
@@ -105,17 +108,35 @@ fn plays_plainly(pair: &mut LinkedPair, notes: &mut Notes, rows: &[Row]) -> Resu
     Ok(true)
 }
 
+/// Over these lanes: whether the rows answer what they must, and the halves of the rings.
+fn over_lanes<'a>(
+    alloc: Global,
+    ring0: &'a Ring,
+    ring1: &'a Ring,
+    zero: (DeviceSend<'a>, DriverRecv<'a>),
+    one: (DriverSend<'a>, DeviceRecv<'a>),
+    notes: &mut Notes,
+) -> Result<(bool, Halves), Fail>
+    requires sizes { (size_of ring0.now.ring ≡ 2) × (size_of ring1.now.ring ≡ 2) }
+    requires zero { (zero.0 ≡ queue0_sender ring0.now.ring) × (zero.1 ≡ queue0_receiver ring0.now.ring) }
+    requires one { (one.0 ≡ queue1_sender ring1.now.ring) × (one.1 ≡ queue1_receiver ring1.now.ring) }
+    ensures { IfOk result (λ r. AreOfRings (ring0.now.ring, ring1.now.ring) r.1.driver0.ring r.1.device0.ring r.1.driver1.ring r.1.device1.ring) }
+{
+    let mut pair = RingPair::open(alloc, ring0, ring1, zero, one)?;
+    let as_due = plays(&mut pair, notes, &ROWS)?;
+    match pair.into_halves() {
+        Some(halves) => Ok((as_due, halves)),
+        None => Err("no links".into()),
+    }
+}
+
 /// Over rings: whether the rows answer what they must, what was noted, and the rings of both queues once they are finished.
 fn over_rings(alloc: Global, notes: &mut Notes) -> Result<(bool, Closed, Closed), Fail> {
     let (ring0, driver0, device0, buffers0) = Ring::new(alloc, 0, 2)?;
     let (ring1, driver1, device1, buffers1) = Ring::new(alloc, 1, 2)?;
     let zero = open_queue0(&ring0, driver0, device0, buffers0)?;
     let one = open_queue1(&ring1, driver1, device1, buffers1)?;
-    let mut pair = RingPair::open(alloc, &ring0, &ring1, zero, one)?;
-    let as_due = plays(&mut pair, notes, &ROWS)?;
-    let Some(halves) = pair.into_halves() else {
-        return Err("no links".into());
-    };
+    let (as_due, halves) = over_lanes(alloc, &ring0, &ring1, zero, one, notes)?;
     let closed0 = ring0.finish(halves.driver0, halves.device0);
     let closed1 = ring1.finish(halves.driver1, halves.device1);
     Ok((as_due, closed0, closed1))
