@@ -1,3 +1,4 @@
+use std::fmt::{self, Display, Formatter, Write};
 use thiserror::Error;
 
 /// Memory is out. Any call that allocates may return it, at any time.
@@ -26,93 +27,113 @@ pub struct Full;
 pub struct RequestLimit;
 
 /// Why a call of a domain is refused. E is the endpoint that the call is made at.
-#[derive(Clone, Copy, Debug, PartialEq, Eq, Error)]
+#[derive(Clone, Copy, Debug, PartialEq, Eq)]
 pub enum Refusal {
     /// The node is not below the domain's number of nodes.
-    #[error("the domain has no such node")]
     NodeInvalid,
     /// E is live.
-    #[error("the endpoint exists already")]
     ExistsAlready,
     /// 64 endpoint records are in use.
-    #[error("64 endpoint records are in use; delete an endpoint, then turn until its end is announced")]
     EndpLimit,
     /// 60,000 endpoints were created.
-    #[error("the domain has created 60,000 endpoints and has no address left")]
     AddressSpent,
     /// E is not live.
-    #[error("the endpoint does not exist; create it first")]
     EndpInvalid,
     /// The named endpoint is of this domain and not live, or of another and not known from there.
-    #[error("the named endpoint is not known here; look it up first")]
     PeerInvalid,
     /// E has a channel, at a call on messages.
-    #[error("the endpoint has a channel; send messages from another endpoint")]
     OnChannel,
     /// E has a channel, at a call that needs it to have none.
-    #[error("the endpoint has a channel already; use another endpoint")]
     ChanConnected,
     /// E's queue is not empty, or E has a waiting receive.
-    #[error("the endpoint has queued messages or a waiting receive; receive or cancel first")]
     EndpBusy,
     /// All 65,535 channel numbers are used.
-    #[error("the domain has used all 65,535 channel numbers")]
     ChanLimit,
     /// 64 requests exist.
-    #[error("64 requests exist; take a result or cancel a request first")]
     RequestLimit,
     /// E has no channel, or its stage is connecting.
-    #[error("the endpoint is not connected; connect a channel first")]
     NotConnected,
     /// E is the other end of its channel.
-    #[error("the endpoint is the other end of its channel")]
     ChanDirection,
     /// The channel is of the other kind.
-    #[error("the channel is of the other kind (packets or scalars)")]
     ChanType,
     /// The channel is closed for this call.
-    #[error("the channel is closed for this call")]
     ChanClosed,
     /// The channel is open already.
-    #[error("this end of the channel is open already")]
     AlreadyOpen,
     /// The channel is not open for this call.
-    #[error("the channel is not open for this call; open both ends first")]
     NotOpen,
     /// A message of more than 488 bytes.
-    #[error("the message has more than 488 bytes; split it")]
     MsgSize,
     /// A packet of more than 488 bytes.
-    #[error("the packet has more than 488 bytes; split it")]
     PktSize,
     /// No buffer of the lane to the peer is free after the call's turn.
-    #[error("no buffer to the peer is free; try again after the peer has made a turn")]
     NoBuffer,
     /// The queue is empty.
-    #[error("the queue is empty; try again after a turn")]
     Empty,
     /// The front item's size is another.
-    #[error("the front scalar has another size")]
     SclSize,
     /// No lent packet has this id.
-    #[error("no lent packet has this id")]
     BufInvalid,
     /// No request has this id.
-    #[error("no request has this id")]
     RequestInvalid,
     /// The request is not complete.
-    #[error("the request is not complete; try again after a turn")]
     Pending,
     /// The request is complete.
-    #[error("the request is complete; take its result")]
     TooLate,
     /// The limit of turns was made, and no named request is complete.
-    #[error("no named request was complete within the limit of turns")]
     Timeout,
     /// The peer is neither linked nor the domain itself.
-    #[error("the peer is neither linked nor the domain itself")]
     LinkInvalid,
     /// The frame has no fault.
-    #[error("the frame has no fault; only faulty frames are put raw")]
     RawSound,
 }
+
+impl Refusal {
+    /// Returns the text that `Display` writes.
+    fn text(self) -> &'static str {
+        match self {
+            Refusal::NodeInvalid => "the domain has no such node",
+            Refusal::ExistsAlready => "the endpoint exists already",
+            Refusal::EndpLimit =>
+                "64 endpoint records are in use; delete an endpoint, then turn until its end is announced",
+            Refusal::AddressSpent =>
+                "the domain has created 60,000 endpoints and has no address left",
+            Refusal::EndpInvalid => "the endpoint does not exist; create it first",
+            Refusal::PeerInvalid => "the named endpoint is not known here; look it up first",
+            Refusal::OnChannel => "the endpoint has a channel; send messages from another endpoint",
+            Refusal::ChanConnected => "the endpoint has a channel already; use another endpoint",
+            Refusal::EndpBusy =>
+                "the endpoint has queued messages or a waiting receive; receive or cancel first",
+            Refusal::ChanLimit => "the domain has used all 65,535 channel numbers",
+            Refusal::RequestLimit => "64 requests exist; take a result or cancel a request first",
+            Refusal::NotConnected => "the endpoint is not connected; connect a channel first",
+            Refusal::ChanDirection => "the endpoint is the other end of its channel",
+            Refusal::ChanType => "the channel is of the other kind (packets or scalars)",
+            Refusal::ChanClosed => "the channel is closed for this call",
+            Refusal::AlreadyOpen => "this end of the channel is open already",
+            Refusal::NotOpen => "the channel is not open for this call; open both ends first",
+            Refusal::MsgSize => "the message has more than 488 bytes; split it",
+            Refusal::PktSize => "the packet has more than 488 bytes; split it",
+            Refusal::NoBuffer =>
+                "no buffer to the peer is free; try again after the peer has made a turn",
+            Refusal::Empty => "the queue is empty; try again after a turn",
+            Refusal::SclSize => "the front scalar has another size",
+            Refusal::BufInvalid => "no lent packet has this id",
+            Refusal::RequestInvalid => "no request has this id",
+            Refusal::Pending => "the request is not complete; try again after a turn",
+            Refusal::TooLate => "the request is complete; take its result",
+            Refusal::Timeout => "no named request was complete within the limit of turns",
+            Refusal::LinkInvalid => "the peer is neither linked nor the domain itself",
+            Refusal::RawSound => "the frame has no fault; only faulty frames are put raw",
+        }
+    }
+}
+
+impl Display for Refusal {
+    fn fmt<W: Write>(&self, f: &mut Formatter<W>) -> fmt::Result {
+        f.write_str(self.text())
+    }
+}
+
+impl std::error::Error for Refusal {}
