@@ -6,13 +6,15 @@ use Rattle.board_model.specs.LinkedBoard.{IsLinkedBoard}
 use Rattle.board_model.specs.Run.{IsDomainRun}
 use Rattle.board_model.specs.Board.{DomainJournal, IsBoardRun}
 use Rattle.board_model.specs.Channels.{items_left}
-use Rattle.board_model.specs.MessageOrder.{ReceivesBest, TestsTellTaken, DeletesTellDropped, CancelledTookNothing}
+use Rattle.board_model.specs.MessageOrder.{ReceivesBest, TestsTellTaken, DeletesTellDropped, AvailableTellQueued, CancelledTookNothing}
+use Rattle.board_model.specs.Replied.{TestsTellSaid}
 use Rattle.board_model.specs.Headline.{Headline}
 use Rattle.board_model.proofs.ChannelLaw.{every-channel-is-kept, closes-tell-dropped}
 use Rattle.board_model.proofs.KeptBoard.{no-message-lost}
 use Rattle.board_model.proofs.MessageAlls.{all-weaken}
-use Rattle.board_model.proofs.OrderRuns.{receives_best, tests_tell_taken, deletes_tell_dropped, cancelled_took_nothing}
+use Rattle.board_model.proofs.OrderRuns.{receives_best, tests_tell_taken, deletes_tell_dropped, available_tell_queued, cancelled_took_nothing}
 use Rattle.board_model.proofs.PlaceCounts.{every_lane}
+use Rattle.board_model.proofs.RepliedRuns.{tests_tell_said}
 
 pub linked_headline : (s : Scenario) (js : List DomainJournal) → IsLinkedBoard s → IsBoardRun s js → Headline s js
 linked_headline s js board run =
@@ -21,6 +23,8 @@ linked_headline s js board run =
       channel_prefix = λ sender channel. (items_left s js sender channel, (every-channel-is-kept s js board run sender channel).kept);
       best_first = each (ReceivesBest s) (λ j is. receives_best s j board is);
       tests_tell_taken = each (TestsTellTaken s) (λ j is. tests_tell_taken s j board is);
+      tests_tell_said = each (TestsTellSaid s) (λ j is. tests_tell_said s j board is);
+      available_tell_queued = each (AvailableTellQueued s) (λ j is. available_tell_queued s j board is);
       deletes_tell_dropped = each (DeletesTellDropped s) (λ j is. deletes_tell_dropped s j board is);
       cancelled_nothing = each (CancelledTookNothing s) (λ j is. cancelled_took_nothing s j board is);
       closes_tell_dropped = closes-tell-dropped s js board run;

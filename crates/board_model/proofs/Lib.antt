@@ -82,6 +82,9 @@ pub mod OrderTakings
 pub mod PlaceBoards
 pub mod PlaceCounts
 pub mod WaitCalls
+pub mod RepliedSound
+pub mod RepliedDeeds
+pub mod RepliedRuns
 pub mod RunDeeds
 pub mod RunFronts
 pub mod SerialFrames

@@ -5,18 +5,22 @@ use Rattle.std.specs.Prelude.{Contains}
 use Rattle.std.proofs.lemmas.Bool.{eq-eqb}
 use Rattle.std.proofs.lemmas.List.{append-nil, append_assoc}
 use Rattle.std.proofs.lemmas.List.Elements.{Contains-append_cases, Contains-push_cases}
+use Rattle.mc_base.specs.declared.name.Local.{Local}
 use Rattle.mc_base.specs.declared.refusal.Refusal.{Refusal}
-use Rattle.board_model.specs.Choice.{best}
-use Rattle.board_model.specs.DomainCall.{delete_at, receive_at, test_of, wait_for}
+use Rattle.byteorder.specs.Endian.{little_number}
+use Rattle.mc_base.specs.Letter.{bytes_of_bits}
+use Rattle.mc_base.specs.declared.channel.Bits.{Bits}
+use Rattle.board_model.specs.Choice.{best, oldest}
+use Rattle.board_model.specs.DomainCall.{delete_at, available_at, lend_at, receive_at, scalar_at, test_of, wait_for}
 use Rattle.board_model.specs.Journal.{tells, gives}
 use Rattle.board_model.specs.Scenario.{Neighbour}
 use Rattle.board_model.specs.State.{Item, Endpoint, DomainState, opening, live_at, endpoint_at, queue_at, queue_in}
-use Rattle.board_model.specs.Answer.{local, has_channel, holds, words_of, refusal, success, answer, answer_by, unless_refused, given}
-use Rattle.board_model.specs.Change.{best_gone, changed_all}
-use Rattle.board_model.specs.CallChanges.{at_live, best_item, success_changes, call_changes}
+use Rattle.board_model.specs.Answer.{local, has_channel, holds, words_of, refusal, success, answer, answer_by, unless_refused, given, lent_whole, value_of}
+use Rattle.board_model.specs.Change.{best_gone, oldest_gone, packet_lent, changed_all}
+use Rattle.board_model.specs.CallChanges.{at_live, best_item, lending, success_changes, call_changes}
 use Rattle.board_model.specs.Deeds.{Deed, calls, after_deed, after_deeds, MayDo, AllMayDo, along, EachDeed}
 use Rattle.board_model.specs.Takings.{Taking, taking, is_message_taking, answered_by, completed_by, takings_by, cancelled_by}
-use Rattle.board_model.specs.MessageOrder.{Gives, GivesTaken, is_by, taken_for, standing, TakesWhatComes, TakesBest, TestTells, DeleteTells}
+use Rattle.board_model.specs.MessageOrder.{Gives, GivesTaken, is_by, taken_for, standing, TakesWhatComes, TakesBest, TestTells, DeleteTells, AvailableTells}
 use Rattle.board_model.proofs.DeedRuns.{IsNamed, AreNamed, IsDeedRun}
 use Rattle.board_model.proofs.OrderLookups.{live_found, free_here, none_holds}
 use Rattle.board_model.proofs.OrderQueues.{messages_at, messages_of}
@@ -95,8 +99,64 @@ module _ (s : DomainState) (node port max : ℕ) (size : ℕ) (bytes : List ℕ)
           let rest : flat_map (completed_by s) (changed_all s (call_changes s node (receive_at port max))).requests ≡ [] = ap (λ cs. flat_map (completed_by s) (changed_all s cs).requests) after ∙ none_taken s s.requests (all_old s) in
           (taking None e.0.address i.0, ap₂ (λ xs ys. xs ++ ys) answers rest, i.2)
 
+-- the oldest item of a live endpoint
+found_oldest : (o : Option Endpoint) (i : Item) → oldest (queue_in o) ≡ Some i → (e : Endpoint) × (o ≡ Some e) × (oldest e.queue ≡ Some i)
+found_oldest None i is = absurd cc
+found_oldest (Some e) i is = (e, refl, is)
+
+-- a receive of a packet that answers
+module _ (s : DomainState) (node port : ℕ) (size : ℕ) (bytes : List ℕ) where
+  lent_is : (x : Option Item) → gives size bytes ≡ lent_whole x → (i : Item) × (x ≡ Some i) × (size ≡ length i.content) × (bytes ≡ i.content)
+  lent_is None is = absurd cc
+  lent_is (Some i) is = (i, refl, size_is is, bytes_are is)
+    where
+      size_is : gives size bytes ≡ gives (length i.content) i.content → size ≡ length i.content
+      size_is e = cc
+
+      bytes_are : gives size bytes ≡ gives (length i.content) i.content → bytes ≡ i.content
+      bytes_are e = cc
+
+  lend_gives : gives size bytes ≡ answer s node (lend_at port) → GivesTaken s (calls node (lend_at port) (gives size bytes))
+  lend_gives may = go (refusal s node (lend_at port)) refl may
+    where
+      go : (o : Option Refusal) → refusal s node (lend_at port) ≡ o → gives size bytes ≡ answer_by o (success s node (lend_at port)) → GivesTaken s (calls node (lend_at port) (gives size bytes))
+      go (Some w) refused is = absurd cc
+      go None none is =
+          let i = lent_is (oldest (queue_at s (local node port))) is in
+          let e = found_oldest (live_at s (local node port)) i.0 (ap (λ o. oldest (queue_in o)) (sym (live_found s (local node port))) ∙ i.1) in
+          let answers : answered_by s (calls node (lend_at port) (gives size bytes)) ≡ taking None e.0.address i.0 ∷ [] =
+          ap (λ o. at_live o (λ f. map (taking None f.address) (option_to_list (oldest f.queue)))) e.1 ∙ ap (λ x. map (taking None e.0.address) (option_to_list x)) e.2 in
+          let after : call_changes s node (lend_at port) ≡ oldest_gone e.0.address ∷ packet_lent i.0 ∷ [] = ap (λ o. unless_refused o [] (success_changes s node (lend_at port))) none ∙ (ap (λ o. at_live o (λ f. oldest_gone f.address ∷ lending (oldest f.queue))) e.1 ∙ ap (λ x. oldest_gone e.0.address ∷ lending x) e.2) in
+          let rest : flat_map (completed_by s) (changed_all s (call_changes s node (lend_at port))).requests ≡ [] = ap (λ cs. flat_map (completed_by s) (changed_all s cs).requests) after ∙ none_taken s s.requests (all_old s) in
+          (taking None e.0.address i.0, ap₂ (λ xs ys. xs ++ ys) answers rest, i.2, i.3)
+
+-- a receive of a scalar that answers
+module _ (s : DomainState) (node port : ℕ) (bits : Bits) (value : ℕ) where
+  value_is : (x : Option Item) → tells value ≡ value_of bits x → (i : Item) × (x ≡ Some i) × (value ≡ little_number (bytes_of_bits bits) i.content)
+  value_is None is = absurd cc
+  value_is (Some i) is = (i, refl, number_is is)
+    where
+      number_is : tells value ≡ tells (little_number (bytes_of_bits bits) i.content) → value ≡ little_number (bytes_of_bits bits) i.content
+      number_is e = cc
+
+  scalar_gives : tells value ≡ answer s node (scalar_at port bits) → GivesTaken s (calls node (scalar_at port bits) (tells value))
+  scalar_gives may = go (refusal s node (scalar_at port bits)) refl may
+    where
+      go : (o : Option Refusal) → refusal s node (scalar_at port bits) ≡ o → tells value ≡ answer_by o (success s node (scalar_at port bits)) → GivesTaken s (calls node (scalar_at port bits) (tells value))
+      go (Some w) refused is = absurd cc
+      go None none is =
+          let i = value_is (oldest (queue_at s (local node port))) is in
+          let e = found_oldest (live_at s (local node port)) i.0 (ap (λ o. oldest (queue_in o)) (sym (live_found s (local node port))) ∙ i.1) in
+          let answers : answered_by s (calls node (scalar_at port bits) (tells value)) ≡ taking None e.0.address i.0 ∷ [] =
+          ap (λ o. at_live o (λ f. map (taking None f.address) (option_to_list (oldest f.queue)))) e.1 ∙ ap (λ x. map (taking None e.0.address) (option_to_list x)) e.2 in
+          let after : call_changes s node (scalar_at port bits) ≡ oldest_gone e.0.address ∷ [] = ap (λ o. unless_refused o [] (success_changes s node (scalar_at port bits))) none ∙ ap (λ o. at_live o (λ f. oldest_gone f.address ∷ [])) e.1 in
+          let rest : flat_map (completed_by s) (changed_all s (call_changes s node (scalar_at port bits))).requests ≡ [] = ap (λ cs. flat_map (completed_by s) (changed_all s cs).requests) after ∙ none_taken s s.requests (all_old s) in
+          (taking None e.0.address i.0, ap₂ (λ xs ys. xs ++ ys) answers rest, i.2)
+
 gives_taken : (s : DomainState) (d : Deed) → MayDo s d → GivesTaken s d
 gives_taken s (calls node (receive_at port max) (gives size bytes)) may = receive_gives s node port max size bytes may
+gives_taken s (calls node (lend_at port) (gives size bytes)) may = lend_gives s node port size bytes may
+gives_taken s (calls node (scalar_at port bits) (tells value)) may = scalar_gives s node port bits value may
 gives_taken s other may = tt
 
 takes_best : (start : DomainState) (room : ℕ) (before : List Deed) (d : Deed) → Stands room start before → MayDo (after_deeds start before) d → IsNamed before d → succeeds d ≤ room → TakesBest start before d
@@ -112,29 +172,40 @@ takes_best start room before d stands may named few =
     each [] all = tt
     each (t ∷ ts) all = (one t all.0, each ts all.1)
 
--- ---- a delete
+-- ---- a call that counts what is queued at an endpoint without a channel
+
+module _ (start : DomainState) (room : ℕ) (before : List Deed) (stands : Stands room start before) (at : Local) (none : has_channel (endpoint_at (after_deeds start before) at) ≡ false) where
+  queue_stands : (o : Option Endpoint) → live_at (after_deeds start before) at ≡ o → length (queue_in o) ≡ length (at_live o (λ e. standing start before e.address))
+  queue_stands None is = refl
+  queue_stands (Some e) is =
+      let free : e.channel ≡ None = free_here (after_deeds start before) at e is none in
+      ap length (sym (ap messages_of (sound_own (after_deeds start before) stands.moment.sound at e is) ∙ ap (λ c. messages_at c e.queue) free) ∙ stands.queues e.address)
+
+  queued_stands : length (queue_at (after_deeds start before) at) ≡ length (at_live (live_at (after_deeds start before) at) (λ e. standing start before e.address))
+  queued_stands = ap (λ o. length (queue_in o)) (live_found (after_deeds start before) at) ∙ queue_stands (live_at (after_deeds start before) at) refl
+
+count_is : (n m : ℕ) → tells n ≡ tells m → n ≡ m
+count_is n m e = cc
 
 delete_tells : (start : DomainState) (room : ℕ) (before : List Deed) (d : Deed) → Stands room start before → MayDo (after_deeds start before) d → IsNamed before d → succeeds d ≤ room → DeleteTells start before d
 delete_tells start room before (calls node (delete_at port) (tells count)) stands may named few = go (refusal (after_deeds start before) node (delete_at port)) refl may
   where
-    dropped : Option Endpoint → ℕ
-    dropped o = length (at_live o (λ e. standing start before e.address))
-
-    count_is : (n m : ℕ) → tells n ≡ tells m → n ≡ m
-    count_is n m e = cc
-
-    queue_is : (o : Option Endpoint) → live_at (after_deeds start before) (local node port) ≡ o → has_channel (endpoint_at (after_deeds start before) (local node port)) ≡ false → length (queue_in o) ≡ length (at_live o (λ e. standing start before e.address))
-    queue_is None is none = refl
-    queue_is (Some e) is none =
-        let free : e.channel ≡ None = free_here (after_deeds start before) (local node port) e is none in
-        ap length (sym (ap messages_of (sound_own (after_deeds start before) stands.moment.sound (local node port) e is) ∙ ap (λ c. messages_at c e.queue) free) ∙ stands.queues e.address)
-
     go : (o : Option Refusal) → refusal (after_deeds start before) node (delete_at port) ≡ o → tells count ≡ answer_by o (success (after_deeds start before) node (delete_at port)) → count ≡ length (at_live (live_at (after_deeds start before) (local node port)) (λ e. standing start before e.address))
     go (Some w) some is = absurd cc
     go None none is =
         let words = none_holds (holds (after_deeds start before) node (delete_at port)) (words_of (delete_at port)) none in
-        count_is count (length (queue_at (after_deeds start before) (local node port))) is ∙ (ap (λ o. length (queue_in o)) (live_found (after_deeds start before) (local node port)) ∙ queue_is (live_at (after_deeds start before) (local node port)) refl words.1.0)
+        count_is count (length (queue_at (after_deeds start before) (local node port))) is ∙ queued_stands start room before stands (local node port) words.1.0
 delete_tells start room before other stands may named few = tt
+
+available_tells : (start : DomainState) (room : ℕ) (before : List Deed) (d : Deed) → Stands room start before → MayDo (after_deeds start before) d → IsNamed before d → succeeds d ≤ room → AvailableTells start before d
+available_tells start room before (calls node (available_at port) (tells count)) stands may named few = go (refusal (after_deeds start before) node (available_at port)) refl may
+  where
+    go : (o : Option Refusal) → refusal (after_deeds start before) node (available_at port) ≡ o → tells count ≡ answer_by o (success (after_deeds start before) node (available_at port)) → count ≡ length (at_live (live_at (after_deeds start before) (local node port)) (λ e. standing start before e.address))
+    go (Some w) some is = absurd cc
+    go None none is =
+        let words = none_holds (holds (after_deeds start before) node (available_at port)) (words_of (available_at port)) none in
+        count_is count (length (queue_at (after_deeds start before) (local node port))) is ∙ queued_stands start room before stands (local node port) words.1.0
+available_tells start room before other stands may named few = tt
 
 -- ---- a test
 
@@ -151,6 +222,9 @@ module _ (number nodes : ℕ) (neighbours : List Neighbour) (ds : List Deed) (ru
 
   pub run_deletes_tell : EachDeed (DeleteTells (opening number nodes neighbours)) [] ds
   run_deletes_tell = each_deed (opening number nodes neighbours) (DeleteTells (opening number nodes neighbours)) (delete_tells (opening number nodes neighbours)) (all_succeed ds + 1) [] ds (stands_open (all_succeed ds + 1) number nodes neighbours few) run.may run.named (omega arith)
+
+  pub run_available_tell : EachDeed (AvailableTells (opening number nodes neighbours)) [] ds
+  run_available_tell = each_deed (opening number nodes neighbours) (AvailableTells (opening number nodes neighbours)) (available_tells (opening number nodes neighbours)) (all_succeed ds + 1) [] ds (stands_open (all_succeed ds + 1) number nodes neighbours few) run.may run.named (omega arith)
 
   pub run_tests_tell : EachDeed (TestTells (opening number nodes neighbours)) [] ds
   run_tests_tell = each_deed (opening number nodes neighbours) (TestTells (opening number nodes neighbours)) (test_tells_taken (opening number nodes neighbours)) (all_succeed ds + 1) [] ds (stands_open (all_succeed ds + 1) number nodes neighbours few) run.may run.named (omega arith)

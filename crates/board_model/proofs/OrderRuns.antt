@@ -15,9 +15,9 @@ use Rattle.board_model.specs.Deeds.{Deed, puts_owed, looks_ahead}
 use Rattle.board_model.specs.Traffic.{taken_from}
 use Rattle.board_model.specs.Turn.{takes_named}
 use Rattle.board_model.specs.JournalDeeds.{names_from, named_deeds, call_deeds, deeds_along, deeds_of}
-use Rattle.board_model.specs.MessageOrder.{ReceivesBest, TestsTellTaken, DeletesTellDropped, CancelledTookNothing}
+use Rattle.board_model.specs.MessageOrder.{ReceivesBest, TestsTellTaken, DeletesTellDropped, AvailableTellQueued, CancelledTookNothing}
 use Rattle.board_model.proofs.RunDeeds.{AllAllowed, allowed-all, deeds_run}
-use Rattle.board_model.proofs.OrderLaws.{run_takes_best, run_tests_tell, run_deletes_tell, run_cancelled}
+use Rattle.board_model.proofs.OrderLaws.{run_takes_best, run_tests_tell, run_deletes_tell, run_available_tell, run_cancelled}
 use Rattle.board_model.proofs.OrderSerials.{all_succeed}
 
 -- ---- calls that are not refused are as many as lines at most
@@ -92,6 +92,9 @@ module _ (s : Scenario) (j : DomainJournal) (board : IsLinkedBoard s) (run : IsD
 
   pub deletes_tell_dropped : DeletesTellDropped s j
   deletes_tell_dropped = run_deletes_tell j.line.domain j.line.nodes (neighbours s j.line) (deeds_of s j) (deeds_run s j board run) (few s j board run)
+
+  pub available_tell_queued : AvailableTellQueued s j
+  available_tell_queued = run_available_tell j.line.domain j.line.nodes (neighbours s j.line) (deeds_of s j) (deeds_run s j board run) (few s j board run)
 
   pub cancelled_took_nothing : CancelledTookNothing s j
   cancelled_took_nothing = run_cancelled j.line.domain j.line.nodes (neighbours s j.line) (deeds_of s j) (deeds_run s j board run) (few s j board run)

@@ -12,7 +12,8 @@ use Rattle.board_model.specs.Channels.{items_accepted, items_taken, items_left, 
 use Rattle.board_model.specs.Messages.{Message, accepted, messages_queued, messages_in_ring}
 use Rattle.board_model.specs.Drops.{dropped}
 use Rattle.board_model.specs.Takings.{messages_taken}
-use Rattle.board_model.specs.MessageOrder.{ReceivesBest, TestsTellTaken, DeletesTellDropped, CancelledTookNothing}
+use Rattle.board_model.specs.MessageOrder.{ReceivesBest, TestsTellTaken, DeletesTellDropped, AvailableTellQueued, CancelledTookNothing}
+use Rattle.board_model.specs.Replied.{TestsTellSaid}
 use Rattle.board_model.specs.Places.{EveryBuffer}
 
 -- each message that was accepted was taken or dropped, or is queued or in the ring, each as often as it was accepted: any test
@@ -25,6 +26,10 @@ pub record Headline (s : Scenario) (js : List DomainJournal) : Type 0 where
   pub best_first : AllByRecursion (ReceivesBest s) js
   -- the test of a request to receive returns what the request took
   pub tests_tell_taken : AllByRecursion (TestsTellTaken s) js
+  -- the test of a lookup returns an address that was said of the name, and that of a request to connect the reply that came
+  pub tests_tell_said : AllByRecursion (TestsTellSaid s) js
+  -- the number of available messages is that of those which are queued
+  pub available_tell_queued : AllByRecursion (AvailableTellQueued s) js
   -- a delete answers how many messages it dropped
   pub deletes_tell_dropped : AllByRecursion (DeletesTellDropped s) js
   pub cancelled_nothing : AllByRecursion (CancelledTookNothing s) js

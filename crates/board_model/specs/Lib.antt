@@ -41,6 +41,7 @@ pub mod Given
 pub mod Messages
 pub mod Takings
 pub mod MessageOrder
+pub mod Replied
 pub mod Drops
 pub mod Totals
 pub mod Tallies
@@ -51,6 +52,8 @@ pub mod SerialRun
 pub mod Report
 pub mod Headline
 pub mod Laws
+pub mod RunLaws
+pub mod RenamedLaws
 pub mod MessageLaws
 pub mod SerialLaws
 pub mod LanguageLaws

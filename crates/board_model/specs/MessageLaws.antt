@@ -5,7 +5,8 @@ use Rattle.board_model.specs.declared.scenario.Scenario.{Scenario}
 use Rattle.board_model.specs.LinkedBoard.{IsLinkedBoard}
 use Rattle.board_model.specs.Run.{IsDomainRun}
 use Rattle.board_model.specs.Board.{DomainJournal, IsBoardRun}
-use Rattle.board_model.specs.MessageOrder.{ReceivesBest, TestsTellTaken, DeletesTellDropped, CancelledTookNothing}
+use Rattle.board_model.specs.MessageOrder.{ReceivesBest, TestsTellTaken, DeletesTellDropped, AvailableTellQueued, CancelledTookNothing}
+use Rattle.board_model.specs.Replied.{TestsTellSaid}
 use Rattle.board_model.specs.Headline.{NoMessageLost}
 
 -- each message receive takes the oldest queued message of the best priority, or, where none is queued, the message that comes in that
@@ -17,6 +18,16 @@ ReceivesTakeTheBest = (s : Scenario) (j : DomainJournal) → IsLinkedBoard s →
 -- returns the size and the first bytes, or none
 abbrev pub TestsTellWhatWasTaken : Type 0
 TestsTellWhatWasTaken = (s : Scenario) (j : DomainJournal) → IsLinkedBoard s → IsDomainRun s j.line j.entries → TestsTellTaken s j
+
+-- a test or a wait that returns an address for a lookup returns one that was said of the name: by the domain itself, which gave it to an
+-- endpoint that it made under the name, or by a frame that it took from the name's domain. One that returns a reply to a request to connect
+-- returns one that it took from the channel's peer
+abbrev pub TestsTellWhatWasSaid : Type 0
+TestsTellWhatWasSaid = (s : Scenario) (j : DomainJournal) → IsLinkedBoard s → IsDomainRun s j.line j.entries → TestsTellSaid s j
+
+-- the number of available messages is that of those which are queued
+abbrev pub AvailableTellsWhatIsQueued : Type 0
+AvailableTellsWhatIsQueued = (s : Scenario) (j : DomainJournal) → IsLinkedBoard s → IsDomainRun s j.line j.entries → AvailableTellQueued s j
 
 -- each delete answers how many messages it dropped
 abbrev pub DeletesTellWhatWasDropped : Type 0

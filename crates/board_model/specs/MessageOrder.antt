@@ -3,13 +3,14 @@
 use Rattle.std.specs.Prelude.{◌≡◌, ◌⊎◌, ℕ, Bool, true, false, not, ◌&&◌, ◌==◌, List, [], ◌∷◌, ◌++◌, length, take, map, filter, option_map, option_and_then, if◌then◌else◌, Option, None, Some, Contains}
 use Rattle.std.specs.List.{AllByRecursion, flat_map, list_any}
 use Rattle.std.specs.Str.{bytes_eq}
-use Rattle.mc_base.specs.Letter.{msg}
+use Rattle.byteorder.specs.Endian.{little_number}
+use Rattle.mc_base.specs.Letter.{msg, bytes_of_bits}
 use Rattle.mc_base.specs.Reading.{Reading, says, reading}
 use Rattle.mc_base.specs.declared.refusal.Refusal.TheVariants.{Timeout}
 use Rattle.mc_base.specs.declared.fate.Fate.{Fate}
 use Rattle.mc_base.specs.declared.fate.Fate.TheVariants.{Queued, Handed}
 use Rattle.board_model.specs.declared.scenario.Scenario.{Scenario}
-use Rattle.board_model.specs.DomainCall.{delete_at, receive_at, test_of, wait_for}
+use Rattle.board_model.specs.DomainCall.{delete_at, available_at, lend_at, receive_at, scalar_at, test_of, wait_for}
 use Rattle.board_model.specs.Journal.{found_at, brought, ended_by, PlainAnswer, refuses, tells, gives, completes}
 use Rattle.board_model.specs.State.{DomainState, Item, Endpoint, Asked, name_of, message_at, packet_at, Request, live_at, endpoint_of, oldest_waiting, request_at_place}
 use Rattle.board_model.specs.Choice.{best}
@@ -87,6 +88,8 @@ pub record Gives (max : ℕ) (i : Item) (size : ℕ) (bytes : List ℕ) : Type 0
 -- a receive that answers returns what it took, and no more
 abbrev pub GivesTaken : DomainState → Deed → Type 0
 GivesTaken s (calls node (receive_at port max) (gives size bytes)) = (t : Taking) × (takings_by s (calls node (receive_at port max) (gives size bytes)) ≡ t ∷ []) × Gives max t.item size bytes
+GivesTaken s (calls node (lend_at port) (gives size bytes)) = (t : Taking) × (takings_by s (calls node (lend_at port) (gives size bytes)) ≡ t ∷ []) × (size ≡ length t.item.content) × (bytes ≡ t.item.content)
+GivesTaken s (calls node (scalar_at port bits) (tells value)) = (t : Taking) × (takings_by s (calls node (scalar_at port bits) (tells value)) ≡ t ∷ []) × (value ≡ little_number (bytes_of_bits bits) t.item.content)
 GivesTaken s other = Unit {0}
 
 abbrev pub TakesBest : DomainState → List Deed → Deed → Type 0
@@ -164,6 +167,12 @@ abbrev pub DeleteTells : DomainState → List Deed → Deed → Type 0
 DeleteTells start before (calls node (delete_at port) (tells count)) = count ≡ length (at_live (live_at (after_deeds start before) (local node port)) (λ e. standing start before e.address))
 DeleteTells start before other = Unit {0}
 
+-- ---- the number of messages that are said to be available is that of those which are queued
+
+abbrev pub AvailableTells : DomainState → List Deed → Deed → Type 0
+AvailableTells start before (calls node (available_at port) (tells count)) = count ≡ length (at_live (live_at (after_deeds start before) (local node port)) (λ e. standing start before e.address))
+AvailableTells start before other = Unit {0}
+
 -- ---- of a journal
 
 abbrev pub ReceivesBest : Scenario → DomainJournal → Type 0
@@ -174,6 +183,9 @@ TestsTellTaken s j = EachDeed (TestTells (opened s j)) [] (deeds_of s j)
 
 abbrev pub DeletesTellDropped : Scenario → DomainJournal → Type 0
 DeletesTellDropped s j = EachDeed (DeleteTells (opened s j)) [] (deeds_of s j)
+
+abbrev pub AvailableTellQueued : Scenario → DomainJournal → Type 0
+AvailableTellQueued s j = EachDeed (AvailableTells (opened s j)) [] (deeds_of s j)
 
 abbrev pub CancelledTookNothing : Scenario → DomainJournal → Type 0
 CancelledTookNothing s j = (request : ℕ) → Contains (cancelled_in s j) request → Contains (took_something s j) request → ⊥

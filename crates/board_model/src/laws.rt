@@ -3,6 +3,8 @@ ghost use Rattle.board_model.specs.Laws.{PlaceLaw, HeadlineLaw};
 ghost use Rattle.board_model.specs.MessageLaws.{
   ReceivesTakeTheBest,
   TestsTellWhatWasTaken,
+  TestsTellWhatWasSaid,
+  AvailableTellsWhatIsQueued,
   DeletesTellWhatWasDropped,
   NoMessageIsLost,
   CancelledRequestsTookNothing,
@@ -10,6 +12,8 @@ ghost use Rattle.board_model.specs.MessageLaws.{
 ghost use Rattle.board_model.specs.ChannelLaws.{EveryChannelIsKept};
 ghost use Rattle.board_model.specs.Honesty.{KnownAddressesAreReal};
 ghost use Rattle.board_model.specs.ReadBack.{LettersAreReadBack};
+ghost use Rattle.board_model.specs.RunLaws.{JournalsTellDeeds};
+ghost use Rattle.board_model.specs.RenamedLaws.{CallsHangOnNoName};
 ghost use Rattle.board_model.specs.SerialLaws.{LinkedSerialIsBoardRun};
 ghost use Rattle.board_model.specs.LanguageLaws.{LawfulIsLinked, LawfulSerialIsBoardRun, LawfulSerialHeadline};
 
@@ -36,6 +40,16 @@ pub fn receives_take_the_best()
 /// A test reports what its request took: one message, or none.
 pub fn tests_tell_what_was_taken()
     ensures { TestsTellWhatWasTaken }
+{}
+
+/// A test returns what was said of its request: of a lookup, an address of the name; of a request to connect, the reply.
+pub fn tests_tell_what_was_said()
+    ensures { TestsTellWhatWasSaid }
+{}
+
+/// The number of available messages is that of those which are queued.
+pub fn available_tells_what_is_queued()
+    ensures { AvailableTellsWhatIsQueued }
 {}
 
 /// A delete answers how many messages it dropped.
@@ -82,4 +96,14 @@ pub fn lawful_serial_run_is_a_board_run()
 /// The headline holds of the serial run of every scenario of the language.
 pub fn lawful_serial_run_keeps_the_headline()
     ensures { LawfulSerialHeadline }
+{}
+
+/// The deeds of a run's journal are allowed, and leave the run's state, but for the names of frames.
+pub fn journals_tell_deeds()
+    ensures { JournalsTellDeeds }
+{}
+
+/// What a call does depends on no name of a frame.
+pub fn calls_hang_on_no_name()
+    ensures { CallsHangOnNoName }
 {}

@@ -4,8 +4,8 @@
 //! `specs/` is to be read in this order: Lists, Scenario, FileLines, FileWords, Numerals, Forms, Grammar, LineReasons, Language,
 //! LinkedBoard, Words, Journal, State, Renamed, Unnamed, Choice, DomainCall, Answer, Change, Dealing, TakenFrames, ChannelEnds,
 //! Queues, CallChanges, Deeds, Turn, Labels, Step, Run, Traffic, Board, JournalDeeds, Given, Channels, Messages, Takings, Drops,
-//! MessageOrder, Totals, Tallies, Places, Serial, Loads, SerialRun, LoadBoard, Report, Headline, Laws, MessageLaws, ChannelLaws,
-//! Honesty, ReadBack, SerialLaws, LanguageLaws, WordTables, Unjoined, JournalForm, JournalParts, JournalLaws, RingImage.
+//! MessageOrder, Replied, Totals, Tallies, Places, Serial, Loads, SerialRun, LoadBoard, Report, Headline, Laws, MessageLaws, ChannelLaws,
+//! RunLaws, RenamedLaws, Honesty, ReadBack, SerialLaws, LanguageLaws, WordTables, Unjoined, JournalForm, JournalParts, JournalLaws, RingImage.
 #![tactic(auto)]
 
 mod form;

@@ -1,0 +1,70 @@
+-- Where the answers of lookups and of requests to connect come from.
+-- Source: docs/PROFILE.md, "Names", "Channels" and "Requests".
+use Rattle.std.specs.Prelude.{ℕ, Bool, true, false, ◌&&◌, ◌==◌, List, [], ◌∷◌, if◌then◌else◌, Option, None, Some, Contains}
+use Rattle.mc_base.specs.FullName.{end_name, endpoint_named}
+use Rattle.mc_base.specs.NameMap.{rank}
+use Rattle.mc_base.specs.Letter.{accept, reject}
+use Rattle.mc_base.specs.Reading.{Reading, announces, says, reading}
+use Rattle.mc_base.specs.declared.name.EndName.{EndName}
+use Rattle.board_model.specs.declared.scenario.Scenario.{Scenario}
+use Rattle.board_model.specs.DomainCall.{create_at, test_of, wait_for}
+use Rattle.board_model.specs.Journal.{PlainResult, found_at, was_accepted, was_rejected, tells, completes}
+use Rattle.board_model.specs.State.{DomainState, ChannelEnd, Asked, name_of, channel_of, Request, endpoint_of, channel_in, request_at_place}
+use Rattle.board_model.specs.ChannelEnds.{sends_to}
+use Rattle.board_model.specs.Answer.{local, first_complete}
+use Rattle.board_model.specs.Board.{DomainJournal}
+use Rattle.board_model.specs.Deeds.{Deed, takes, calls, after_deeds, along, EachDeed}
+use Rattle.board_model.specs.JournalDeeds.{deeds_of, opened}
+
+-- ---- the addresses that were said of a name, which is given by its place in the order of names: the one that the domain itself gave an
+-- endpoint that it made under this name, and those that frames of the name's own domain announced
+
+abbrev pub announced_by : ℕ → ℕ → ℕ → Option EndName → List ℕ
+announced_by name peer address None = []
+announced_by name peer address (Some n) = if n.domain == peer && rank n == name then address ∷ [] else []
+
+abbrev pub announced_in : ℕ → ℕ → Reading → List ℕ
+announced_in name peer (announces text address true) = announced_by name peer address (endpoint_named text)
+announced_in name peer other = []
+
+abbrev pub addresses_said : ℕ → DomainState → Deed → List ℕ
+addresses_said name s (calls node (create_at port) (tells address)) = if rank (end_name s.number (local node port)) == name then address ∷ [] else []
+addresses_said name s (takes peer frame_name frame word) = announced_in name peer (reading frame)
+addresses_said name s other = []
+
+-- ---- the replies to a Connect: the Accept or the Reject of the channel that was taken from the peer to which the channel's sender, the
+-- endpoint that has it, is connecting
+
+abbrev pub sends_there : ℕ → ℕ → Option ChannelEnd → Bool
+sends_there peer channel None = false
+sends_there peer channel (Some c) = sends_to peer channel c
+
+abbrev pub replied_in : ℕ → DomainState → ℕ → Reading → List PlainResult
+replied_in channel s peer (says source destination (accept number)) = if number == channel && sends_there peer number (channel_in (endpoint_of s destination)) then was_accepted ∷ [] else []
+replied_in channel s peer (says source destination (reject number reason)) = if number == channel && sends_there peer number (channel_in (endpoint_of s destination)) then was_rejected reason ∷ [] else []
+replied_in channel s peer other = []
+
+abbrev pub replies_said : ℕ → DomainState → Deed → List PlainResult
+replies_said channel s (takes peer frame_name frame word) = replied_in channel s peer (reading frame)
+replies_said channel s other = []
+
+-- ---- what a test or a wait returns of such a request was said before
+
+abbrev pub WasSaid : DomainState → List Deed → Asked → PlainResult → Type 0
+WasSaid start before (name_of name) (found_at address) = Contains (along (addresses_said (rank name)) start before) address
+WasSaid start before (channel_of channel) was_accepted = Contains (along (replies_said channel) start before) was_accepted
+WasSaid start before (channel_of channel) (was_rejected reason) = Contains (along (replies_said channel) start before) (was_rejected reason)
+WasSaid start before asked result = Unit {0}
+
+abbrev pub WasSaidOf : DomainState → List Deed → Option Request → PlainResult → Type 0
+WasSaidOf start before None result = Unit {0}
+WasSaidOf start before (Some r) result = WasSaid start before r.asked result
+
+abbrev pub TellsSaid : DomainState → List Deed → Deed → Type 0
+TellsSaid start before (calls node (test_of place) (completes which result)) = WasSaidOf start before (request_at_place (after_deeds start before) place) result
+TellsSaid start before (calls node (wait_for requests says_place) (completes which result)) = WasSaidOf start before (request_at_place (after_deeds start before) (first_complete (after_deeds start before) requests)) result
+TellsSaid start before other = Unit {0}
+
+-- of a journal
+abbrev pub TestsTellSaid : Scenario → DomainJournal → Type 0
+TestsTellSaid s j = EachDeed (TellsSaid (opened s j)) [] (deeds_of s j)
