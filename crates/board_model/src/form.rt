@@ -28,7 +28,7 @@ pub enum Callee {
 }
 
 /// What an argument of a call is.
-#[derive(Clone, Copy, Debug, PartialEq, Eq)]
+#[derive(Clone, Copy, PartialEq, Eq)]
 pub enum ArgumentKind {
     /// PORT: the port of an endpoint of the caller's node, 0 to 65535.
     Port,
