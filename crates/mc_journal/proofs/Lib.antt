@@ -2,9 +2,11 @@ pub mod AnswerText
 pub mod AnswersRead
 pub mod BytesRead
 pub mod Cuts
+mod DigitsRead
 pub mod DoneRead
 pub mod Journals
 pub mod LinesRead
+mod PairsSpelled
 pub mod PartsRead
 pub mod RefusalsAlone
 pub mod ResultsRead

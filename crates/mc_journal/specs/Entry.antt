@@ -1,6 +1,6 @@
 -- The line that an entry of the code is, and what noting it does.
 -- Source: docs/FORMATS.md, "Journal text".
-use Rattle.std.specs.Prelude.{◌≡◌, ℕ, List, [], ◌∷◌, ◌++◌, length}
+use Rattle.std.specs.Prelude.{◌≡◌, ℕ, Bool, true, false, Option, Some, List, [], ◌∷◌, ◌++◌, length}
 use Rattle.board_model.specs.Journal.{Line, PlainResult, found_at, was_accepted, was_rejected, brought, ended_by, PlainAnswer, idle_line, again_line, spin_line, turn_line, back_line, put_line, see_line, take_line, wait_line, call_line, refuses, agrees, tells, connects, gives, completes, noted_idle, noted_again}
 use Rattle.mc_journal.specs.declared.entry.Answer.{Answer}
 use Rattle.mc_journal.specs.declared.entry.Answer.TheVariants as answer
@@ -69,3 +69,8 @@ abbrev pub IsPlain : Entry → Type 0
 IsPlain (entry.Idle n) = ⊥
 IsPlain (entry.Again word) = ⊥
 IsPlain other = Unit {0}
+
+-- the last line is one of idle turns
+abbrev pub is_idle_last : Option Line → Bool
+is_idle_last (Some (idle_line n)) = true
+is_idle_last other = false

@@ -1,14 +1,19 @@
 //! The journal: what a domain did, entry by entry. Idle turns in a row are joined into one entry, and so are calls that are
 //! made again.
 
-ghost use Rattle.std.specs.Prelude.{◌≡◌, ◌≤◌, ◌<◌, ◌+◌, [], IfOk, OnOk, IsNone, ◌↔◌, length, option_map, slice_get};
-ghost use Rattle.mc_journal.specs.Entry.{line_of_entry, bytes_in, noted_entry, IsNotable};
+ghost use Rattle.std.specs.Prelude.{◌≡◌, ◌≤◌, ◌<◌, ◌+◌, ◌-◌, Some, [], IfOk, OnOk, IsNone, ◌↔◌, length, option_map, slice_get};
+ghost use Rattle.board_model.specs.Journal.{Line};
+ghost use Rattle.board_model.specs.Report.{line_text};
+ghost use Rattle.outer_io.specs.Puts.{Puts};
+ghost use Rattle.mc_journal.specs.Entry.{line_of_entry, is_idle_last, bytes_in, noted_entry, IsNotable};
 ghost use Rattle.mc_journal.specs.Written.{StaysOrDoubles, byte_places, entry_places};
 
 use crate::entry::Entry;
 use crate::kept::{Kept, entry_of, keep, keep_again, keep_idle};
 use crate::room::make_room;
+use crate::text::put_kept;
 use mc_base::NoMemory;
+use outer_io::{Sink, Writer};
 use std::alloc::Global;
 use std::marker::Model;
 
@@ -112,6 +117,21 @@ impl Journal {
         ensures { result ≡ length self.now.lines }
     {
         self.entries.len()
+    }
+
+    /// Puts the line of the entry at a place, with its newline.
+    pub(crate) fn put_at<K: Sink>(&self, out: &mut Writer<'_, K>, at: usize)
+        requires { at < length self.now.lines }
+        ensures { (line : Line) → slice_get self.now.lines at ≡ Some line → Puts K.Sink out.old out.new (line_text line) }
+    {
+        put_kept(out, &self.bytes, self.entries[at]);
+    }
+
+    /// Whether the last entry is one of idle turns.
+    pub fn ends_idle(&self) -> bool
+        ensures { result ≡ is_idle_last (slice_get self.now.lines (length self.now.lines - 1)) }
+    {
+        matches!(self.entries.last(), Some(Kept::Idle(_)))
     }
 
     /// Returns the entry at a place, counted from 0, or `None` past the end.

@@ -170,8 +170,8 @@ pub fn entry_of(bytes: &[u8], kept: Kept) -> Entry<'_>
     }
 }
 
-/// How a request ended, as it was kept.
-fn told_of(bytes: &[u8], kept: KeptResult) -> Told<'_>
+/// Returns how a request ended, as it was kept.
+pub fn told_of(bytes: &[u8], kept: KeptResult) -> Told<'_>
     requires { IsResultWithin (length bytes.now) kept }
     ensures { result_of_told result ≡ kept_result bytes.now kept }
 {
@@ -187,7 +187,8 @@ fn told_of(bytes: &[u8], kept: KeptResult) -> Told<'_>
     }
 }
 
-fn bytes_of(bytes: &[u8], piece: Piece) -> &[u8]
+/// Returns the bytes of a piece.
+pub fn bytes_of(bytes: &[u8], piece: Piece) -> &[u8]
     requires { piece.start + piece.len ≤ length bytes.now }
     ensures { result.now ≡ piece_of bytes.now piece }
 {

@@ -8,11 +8,13 @@ ghost use Rattle.board_model.specs.Journal.{brought, completes};
 ghost use Rattle.board_model.specs.Report.{line_text, lines_text, answer_words, result_words};
 ghost use Rattle.board_model.specs.Words.{reason_text, fate_text, refusal_text};
 ghost use Rattle.mc_journal.specs.Entry.{line_of_entry, plain_answer, result_of_told};
+ghost use Rattle.mc_journal.specs.Kept.{IsWithin, kept_line};
 ghost use Rattle.mc_journal.specs.LineForms.{form_text, place_front};
 
 use crate::entry::{Answer, Entry, Told};
 use crate::forms::{Form, form_word};
 use crate::journal::Journal;
+use crate::kept::{Kept, bytes_of, told_of};
 use crate::words::{fate_word, reason_word, refusal_word};
 use mc_base::{Fate, Reason, Refusal};
 use outer_io::{Sink, Writer};
@@ -22,8 +24,49 @@ pub fn put_entries<K: Sink>(out: &mut Writer<'_, K>, journal: &Journal)
     ensures { Puts K.Sink out.old out.new (lines_text journal.now.lines) }
 {
     for at in 0..journal.len() {
-        let entry = journal.entry(at).unwrap();
-        put_entry(out, entry);
+        journal.put_at(out, at);
+    }
+}
+
+/// Puts the line of an entry as it is kept, with its newline.
+///
+/// It makes no `Entry` of it: LLVM does not join the match that would build one with the match that takes it apart.
+pub fn put_kept<K: Sink>(out: &mut Writer<'_, K>, bytes: &[u8], kept: Kept)
+    requires { IsWithin (length bytes.now) kept }
+    ensures { Puts K.Sink out.old out.new (line_text (kept_line bytes.now kept)) }
+{
+    match kept {
+        Kept::Turn => put_turn(out),
+        Kept::Back(peer, count) => put_look(out, Form::Back, peer, count),
+        Kept::Put(peer, piece) => put_frame(out, peer, bytes_of(bytes, piece)),
+        Kept::See(peer, count) => put_look(out, Form::See, peer, count),
+        Kept::Take(peer, piece, fate) => put_take(out, peer, bytes_of(bytes, piece), fate),
+        Kept::Idle(turns) => put_idle(out, turns),
+        Kept::Again(word) => put_again(out, word),
+        Kept::Spin(times, word) => put_spin(out, times, word),
+        Kept::WaitStart(number) => put_wait(out, number),
+        Kept::Refused(number, word) => put_call(out, number, Answer::Refused(word)),
+        Kept::Agreed(number) => put_call(out, number, Answer::Ok),
+        Kept::Number(number, n) => put_call(out, number, Answer::Number(n)),
+        Kept::Channel(number, request, channel) => {
+            put_call(out, number, Answer::Channel { request, channel })
+        }
+        Kept::Bytes(number, size, piece) => put_call(
+            out,
+            number,
+            Answer::Bytes {
+                size,
+                bytes: bytes_of(bytes, piece),
+            },
+        ),
+        Kept::Done(number, place, how) => put_call(
+            out,
+            number,
+            Answer::Done {
+                place,
+                result: told_of(bytes, how),
+            },
+        ),
     }
 }
 

@@ -1,7 +1,7 @@
 use Rattle.std.proofs.Common.{◌≡◌, ◌%◌, length, sym, arith}
 use Rattle.std.proofs.lemmas.Bool.Decides.{nat_tests}
 use Rattle.board_model.proofs.WordDigits.{odd_pairs}
-use Rattle.mc_journal.proofs.pieces.bytes_of_pairs.Goals as goal
+use Rattle.mc_journal.proofs.spelled.bytes_of_pairs.Goals as goal
 
 pub returns-then-word-ne0 : goal.returns-then-word-ne0
 returns-then-word-ne0 c =

@@ -1,7 +1,0 @@
-use Rattle.std.proofs.Common.{◌≡◌, take}
-use Rattle.std.specs.List.{list_all}
-use Rattle.mc_journal.specs.Readers.{is_small}
-use Rattle.mc_journal.proofs.pieces.are_small_digits.Given as goal
-
-abbrev pub invariant-loop-i : goal.invariant-loop-i
-invariant-loop-i l = l.all ≡ list_all is_small (take l.i l.word)
