@@ -87,8 +87,21 @@ fn unless_same(place: u32, one: &[u8], two: &[u8]) -> Option<u32>
     if is_same(one, two) { None } else { Some(place) }
 }
 
-/// Returns the place of the first line that is another in the two texts.
+/// Returns the place of the first line that is another in the two texts. Where they are the same, as in a right report, one comparison
+/// shows it.
 pub fn other_line(one: &[u8], two: &[u8]) -> Option<u32>
+    requires { length one.now < 2 ^ 32 }
+    ensures value { result ≡ first_other (lines_in one.now) (lines_in two.now) }
+    ensures within { IfSome result (λ place. place ≤ length one.now) }
+{
+    if is_same(one, two) {
+        return None;
+    }
+    line_of_difference(one, two)
+}
+
+/// Looks for it line by line.
+fn line_of_difference(one: &[u8], two: &[u8]) -> Option<u32>
     requires { length one.now < 2 ^ 32 }
     ensures value { result ≡ first_other (lines_in one.now) (lines_in two.now) }
     ensures within { IfSome result (λ place. place ≤ length one.now) }

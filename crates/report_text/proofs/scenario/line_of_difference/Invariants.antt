@@ -1,6 +1,6 @@
 use Rattle.std.proofs.Common.{◌≡◌, ◌+◌, ◌≤◌, length}
 use Rattle.report_text.specs.TextLines.{first_other, lines_in, moved}
-use Rattle.report_text.proofs.scenario.other_line.Given as goal
+use Rattle.report_text.proofs.scenario.line_of_difference.Given as goal
 
 abbrev pub decreases-loop-line : goal.decreases-loop-line
 decreases-loop-line l = length l.front
