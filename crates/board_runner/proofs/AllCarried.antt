@@ -12,7 +12,7 @@ use Rattle.board_model.specs.LinkedBoard.{Differ, IsLinkedBoard}
 use Rattle.board_model.specs.Scenario.{Lane, lanes}
 use Rattle.board_model.proofs.LawfulBoards.{lawful_is_linked}
 use Rattle.board_model.proofs.WholeHas.{has-gives}
-use Rattle.domain_core.specs.declared.ends.Ends.TheVariants.{Own, Linked}
+use Rattle.domain_core.specs.declared.Ends.TheVariants.{Own, Linked}
 use Rattle.domain_core.specs.Carrying.{AreLinked, Carries}
 use Rattle.board_runner.specs.declared.station.Station.{Station}
 use Rattle.board_runner.specs.Near.{Near, nothing_near, frame_in, RunEnds, RunDomain, near_to, near_among, near_of, peers_of, EndsMatch}

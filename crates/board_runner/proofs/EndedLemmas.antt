@@ -14,7 +14,7 @@ use Rattle.board_model.proofs.MessageLists.{get-position}
 use Rattle.lane_end.specs.Halves.{SendLeaves, RecvLeaves}
 use Rattle.domain_core.specs.Carrying.{AnyLink}
 use Rattle.domain_core.specs.Opening.{links_in}
-use Rattle.domain_core.specs.declared.ends.Ends.TheVariants.{Own, Linked}
+use Rattle.domain_core.specs.declared.Ends.TheVariants.{Own, Linked}
 use Rattle.board_runner.specs.declared.ended.EndedLink.{EndedLink}
 use Rattle.board_runner.specs.declared.station.Station.{Station}
 use Rattle.board_runner.specs.declared.wires.Wire.{Wire}

@@ -23,7 +23,7 @@ use Rattle.board_model.proofs.MessageAlls.{all-weaken, all-with}
 use Rattle.board_model.proofs.PlaceBoards.{neighbours_differ}
 use Rattle.board_model.proofs.WholeHas.{Has, has-gives}
 use Rattle.board_model.proofs.WholeTakes.{frames_of}
-use Rattle.domain_core.specs.declared.ends.Ends.TheVariants.{Own, Linked}
+use Rattle.domain_core.specs.declared.Ends.TheVariants.{Own, Linked}
 use Rattle.domain_core.specs.Carrying.{AnyLink}
 use Rattle.domain_core.specs.AllMoved.{AllMoved, call_moves, frames_to, buffers_of, moves_at}
 use Rattle.domain_core.specs.LaneMoves.{LaneMove, sends, receives}

@@ -21,7 +21,7 @@ use Rattle.board_model.proofs.BoardsNeighbours.{LeadsTo, told-fits, neighbours-f
 use Rattle.board_model.proofs.BoardsFound.{below, rising-next, rising-done, domain-at, neighbour-at}
 use Rattle.domain_core.specs.Opening.{AreLinksOf, IsOpenLink, neighbour_of, neighbours_opened}
 use Rattle.domain_core.specs.Sound as sound
-use Rattle.domain_core.specs.declared.link.Link.{Link}
+use Rattle.domain_core.specs.declared.Link.{Link}
 use Rattle.domain_core.specs.Carrying.{AnyLink}
 use Rattle.board_numbers.specs.Lanes.{joins, size_between}
 use Rattle.board_runner.specs.Wired.{IsNewLink, AreLinksOn, is_other, link_neighbour}

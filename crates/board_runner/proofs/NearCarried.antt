@@ -14,7 +14,7 @@ use Rattle.lane_end.specs.declared.any.AnyRecv.{AnyRecv}
 use Rattle.board_model.specs.Lists.{IsPrefix}
 use Rattle.board_model.proofs.MessageAlls.{found-passes}
 use Rattle.board_model.proofs.MessageLists.{changed_first, changed-position}
-use Rattle.domain_core.specs.declared.ends.Ends.TheVariants.{Own, Linked}
+use Rattle.domain_core.specs.declared.Ends.TheVariants.{Own, Linked}
 use Rattle.domain_core.specs.Carrying.{AnyLink, LinksMeet, leads_to, link_to, with_link}
 use Rattle.domain_core.specs.Opening.{links_in}
 use Rattle.domain_core.proofs.Carries.{link-with}

@@ -25,7 +25,7 @@ use Rattle.board_model.specs.Dealing.{keeps_buffer}
 use Rattle.board_model.specs.Serial.{returned_at_once}
 use Rattle.board_model.proofs.ListsCounts.{one_if, count-cons}
 use Rattle.board_model.proofs.WholeTakes.{frames_of}
-use Rattle.domain_core.specs.declared.ends.Ends.TheVariants.{Own, Linked}
+use Rattle.domain_core.specs.declared.Ends.TheVariants.{Own, Linked}
 use Rattle.domain_core.specs.LaneMoves.{LaneMove, sender, receiver, sends, receives}
 use Rattle.domain_core.specs.LinkMoved.{LinkMoved}
 use Rattle.domain_core.specs.LoopMoved.{LoopMoved, loop_after}

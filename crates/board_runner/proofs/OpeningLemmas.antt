@@ -27,7 +27,7 @@ use Rattle.board_model.proofs.BoardsNeighbours.{rising-lawful, told-fits, joined
 use Rattle.board_model.proofs.BoardsFound.{below, rising-next, rising-done, domain-at, neighbour-at}
 use Rattle.board_model.proofs.WholeHas.{Has, has-weaken, has-map, has-each, has-found}
 use Rattle.board_model.proofs.WholeJoined.{Joined, joined_back, joined_found, found_neighbour, lanes_join}
-use Rattle.domain_core.specs.declared.ends.Ends.TheVariants.{Own, Linked}
+use Rattle.domain_core.specs.declared.Ends.TheVariants.{Own, Linked}
 use Rattle.domain_core.specs.Opening.{neighbour_of, neighbours_opened, ends_opened, links_in}
 use Rattle.domain_core.specs.Carrying.{AnyLink, link_to}
 use Rattle.board_numbers.specs.Lanes.{line_of_domain, joins, size_between}

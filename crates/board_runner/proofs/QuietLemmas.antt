@@ -30,7 +30,7 @@ use Rattle.board_model.specs.Journal.{Line, turn_line, back_line, put_line, see_
 use Rattle.board_model.specs.Serial.{put_entry}
 use Rattle.board_model.specs.State.{DomainState, Item}
 use Rattle.board_model.specs.Step.{is_tried}
-use Rattle.domain_core.specs.declared.ends.Ends.TheVariants.{Own, Linked}
+use Rattle.domain_core.specs.declared.Ends.TheVariants.{Own, Linked}
 use Rattle.domain_core.specs.LoopMoved.{LoopMoved, loop_after}
 use Rattle.domain_core.specs.LaneMoves.{LaneMove, sender, receiver, sends, receives}
 use Rattle.domain_core.specs.VisitMoves.{putting, taking, visit_moves}

@@ -12,7 +12,7 @@ use Rattle.board_model.specs.Loads.{Load, frames_on}
 use Rattle.board_model.specs.SerialRun as run
 use Rattle.board_model.specs.SerialRun.{Running}
 use Rattle.board_model.proofs.MessageAlls.{all-weaken}
-use Rattle.domain_core.specs.declared.ends.Ends.TheVariants.{Linked}
+use Rattle.domain_core.specs.declared.Ends.TheVariants.{Linked}
 use Rattle.domain_core.specs.Carrying.{AnyLink, AreLinked, Carries, link_to}
 use Rattle.domain_core.proofs.Carries.{linked-carried}
 use Rattle.board_runner.specs.declared.station.Station.{Station}

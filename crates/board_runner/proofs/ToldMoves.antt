@@ -29,7 +29,7 @@ use Rattle.board_model.specs.Traffic.{visits_to, returned_by}
 use Rattle.board_model.proofs.DeedJoins.{after-join, along-join}
 use Rattle.board_model.proofs.MessageAlls.{all-append}
 use Rattle.board_model.proofs.WholeJournals.{call_entries}
-use Rattle.domain_core.specs.declared.ends.Ends.TheVariants.{Own, Linked}
+use Rattle.domain_core.specs.declared.Ends.TheVariants.{Own, Linked}
 use Rattle.domain_core.specs.AllMoved.{AllMoved, turn_moves, giving, frames_to, buffers_of, moves_at}
 use Rattle.domain_core.specs.Calls.{Does}
 use Rattle.domain_core.specs.Ends.{EndsMoved-both}

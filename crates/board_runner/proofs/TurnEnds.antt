@@ -14,7 +14,7 @@ use Rattle.board_model.specs.Loads.{Load, turn_of, loads_turned, visits_to_all, 
 use Rattle.board_model.proofs.ListsApart.{all-map, all-unmap}
 use Rattle.board_model.proofs.MessageAlls.{all-weaken, all-with}
 use Rattle.board_model.proofs.WholeTurns.{turn_numbers}
-use Rattle.domain_core.specs.declared.ends.Ends.TheVariants.{Own, Linked}
+use Rattle.domain_core.specs.declared.Ends.TheVariants.{Own, Linked}
 use Rattle.domain_core.specs.LaneMoves.{LaneMove, sends, receives}
 use Rattle.domain_core.specs.LinkMoved.{LinkMoved}
 use Rattle.domain_core.specs.Carrying.{AnyLink}

@@ -17,8 +17,8 @@ use Rattle.board_model.specs.DomainCall.{wait_for}
 use Rattle.board_model.specs.Journal.{Line, PlainAnswer, Visit, completes, refuses}
 use Rattle.board_model.specs.State.{DomainState}
 use Rattle.board_model.specs.Step.{is_timeout, limit_of}
-use Rattle.domain_core.specs.declared.wait_fault.WaitFault.{WaitFault}
-use Rattle.domain_core.specs.declared.wait_fault.WaitFault.TheVariants as fault
+use Rattle.domain_core.specs.declared.WaitFault.{WaitFault}
+use Rattle.domain_core.specs.declared.WaitFault.TheVariants as fault
 use Rattle.domain_core.specs.Calls.{Does, GivesTo, Lending, LendsBy, result_of_done}
 use Rattle.domain_core.specs.DomainView.{packet_lent_as, place_of_id}
 use Rattle.domain_core.specs.Waiting.{Polls, Waits, wait_on, waited, waited_any}

@@ -19,8 +19,8 @@ use Rattle.board_model.specs.Language.{IsLawfulBoard}
 use Rattle.board_model.specs.Step.{is_timeout}
 use Rattle.board_model.specs.SerialRun as run
 use Rattle.board_model.specs.SerialRun.{Running, all_turned, is_waiting_at, last_call, numbers, rounds, station_of, with_beginning}
-use Rattle.domain_core.specs.declared.wait_fault.WaitFault.{WaitFault}
-use Rattle.domain_core.specs.declared.wait_fault.WaitFault.TheVariants as fault
+use Rattle.domain_core.specs.declared.WaitFault.{WaitFault}
+use Rattle.domain_core.specs.declared.WaitFault.TheVariants as fault
 use Rattle.domain_core.specs.Ends.{EndsMoved}
 use Rattle.domain_core.specs.Waiting.{Waits}
 use Rattle.mc_journal.specs.Entry.{plain_answer, bytes_in_answer}

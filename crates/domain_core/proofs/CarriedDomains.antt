@@ -1,11 +1,11 @@
 -- Two domains whose insides were carried, and what contracts see of them.
 use Rattle.std.proofs.Common.{◌≡◌, ap, ◌∙◌, sym, subst}
-use Rattle.domain_core.specs.declared.ends.Ends.{Ends}
-use Rattle.domain_core.specs.Carried.{AreJoinedEnds, EndsMeet, MayMeet, FirstMeet}
-use Rattle.domain_core.specs.Carrying.{AreLinked, Carries, leads_to}
-use Rattle.domain_core.specs.DomainView.{DomainView}
-use Rattle.domain_core.specs.Parts.{Holding, shown, state_of}
-use Rattle.domain_core.proofs.Carries.{ends-carry, linked-carried, linked-may}
+use Rattle.domain_parts.specs.declared.ends.Ends.{Ends}
+use Rattle.domain_parts.specs.Carried.{AreJoinedEnds, EndsMeet, MayMeet, FirstMeet}
+use Rattle.domain_parts.specs.Carrying.{AreLinked, Carries, leads_to}
+use Rattle.domain_parts.specs.DomainView.{DomainView}
+use Rattle.domain_parts.specs.Parts.{Holding, shown, state_of}
+use Rattle.domain_parts.proofs.Carries.{ends-carry, linked-carried, linked-may}
 
 module _ {S R : Type 0} (one two : Holding (Ends S R)) (d e : DomainView (Ends S R)) (one_is : shown one ≡ d) (two_is : shown two ≡ e) where
   pub linked-inside : (AreOne : S → R → Type 0) → AreLinked AreOne d.state.number e.state.number d.ends e.ends → MayMeet leads_to (AreJoinedEnds AreOne) (state_of one.parts).number (state_of two.parts).number one.ends two.ends

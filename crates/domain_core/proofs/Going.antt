@@ -19,17 +19,17 @@ use Rattle.lane_end.proofs.AnyLaneLemmas.{ends-stay}
 use Rattle.lane_end.specs.PlainSender.{Sends, MaySend, sender_after}
 use Rattle.lane_end.specs.PlainReceiver.{Receives, MayReceive, receiver_after}
 use Rattle.lane_end.proofs.LaneLemmas.{stay-one-lane}
-use Rattle.domain_core.specs.declared.ends.Ends.{Ends}
-use Rattle.domain_core.specs.declared.ends.Ends.TheVariants.{Own, Linked}
-use Rattle.domain_core.specs.LaneMoves.{LaneMove, sends, receives}
-use Rattle.domain_core.specs.LinkMoved.{LinkMoved}
-use Rattle.domain_core.specs.Ends.{EndsMoved, EndsMoved-both}
-use Rattle.domain_core.specs.AllMoved.{AllMoved}
-use Rattle.domain_core.specs.DomainView.{DomainView}
-use Rattle.domain_core.specs.Calls.{Calls}
-use Rattle.domain_core.specs.Carrying.{AreLinked, link_to}
+use Rattle.domain_parts.specs.declared.ends.Ends.{Ends}
+use Rattle.domain_parts.specs.declared.ends.Ends.TheVariants.{Own, Linked}
+use Rattle.domain_parts.specs.LaneMoves.{LaneMove, sends, receives}
+use Rattle.domain_parts.specs.LinkMoved.{LinkMoved}
+use Rattle.domain_parts.specs.Ends.{EndsMoved, EndsMoved-both}
+use Rattle.domain_parts.specs.AllMoved.{AllMoved}
+use Rattle.domain_parts.specs.DomainView.{DomainView}
+use Rattle.domain_parts.specs.Calls.{Calls}
+use Rattle.domain_parts.specs.Carrying.{AreLinked, link_to}
 use Rattle.domain_core.specs.Going.{CallsGoBy, StayLinkedBy, AreLinkedBy, Goes, LinkedDomain}
-use Rattle.domain_core.specs.declared.link.Link.{Link}
+use Rattle.domain_parts.specs.declared.link.Link.{Link}
 
 -- ---- the number
 

@@ -12,14 +12,14 @@ use Rattle.lane_end.specs.AnySender.{AnySends, AnySends-none, AnySends-both}
 use Rattle.lane_end.specs.AnyReceiver.{AnyReceives, AnyReceives-none, AnyReceives-both}
 use Rattle.lane_end.specs.PlainSender.{Sends, MaySend, sender_after}
 use Rattle.lane_end.specs.PlainReceiver.{Receives, MayReceive, receiver_after}
-use Rattle.domain_core.specs.AllMoved.{AllMoved, turn_moves}
-use Rattle.domain_core.specs.Calls.{Does}
-use Rattle.domain_core.specs.DomainView.{DomainView}
-use Rattle.domain_core.specs.Ends.{EndsMoved, EndsMoved-both, EndsMoved-none}
+use Rattle.domain_parts.specs.AllMoved.{AllMoved, turn_moves}
+use Rattle.domain_parts.specs.Calls.{Does}
+use Rattle.domain_parts.specs.DomainView.{DomainView}
+use Rattle.domain_parts.specs.Ends.{EndsMoved, EndsMoved-both, EndsMoved-none}
 use Rattle.domain_core.specs.Going.{Goes, LinkedDomain, WaitsGoBy}
-use Rattle.domain_core.specs.LaneMoves.{LaneMove}
-use Rattle.domain_core.specs.Turned.{Turns}
-use Rattle.domain_core.specs.Waiting.{EndsPolled, Polls, Waits}
+use Rattle.domain_parts.specs.LaneMoves.{LaneMove}
+use Rattle.domain_parts.specs.Turned.{Turns}
+use Rattle.domain_parts.specs.Waiting.{EndsPolled, Polls, Waits}
 use Rattle.domain_core.proofs.Going.{all-both, effect-number}
 
 module _ {L : Type 0} (Moved : L → List LaneMove → L → Type 0) (none : (l : L) → Moved l [] l) (both : (a b c : L) (xs ys : List LaneMove) → Moved a xs b → Moved b ys c → Moved a (xs ++ ys) c) where

@@ -15,14 +15,14 @@ use Rattle.lane_end.specs.declared.any.AnySend.{AnySend}
 use Rattle.lane_end.specs.declared.any.AnyRecv.{AnyRecv}
 use Rattle.lane_end.specs.SendMoves.{SendMove}
 use Rattle.lane_end.specs.ReceiveMoves.{ReceiveMove}
-use Rattle.domain_core.specs.declared.ends.Ends.{Ends}
-use Rattle.domain_core.specs.LaneMoves.{LaneMove}
-use Rattle.domain_core.specs.Ends.{EndsMoved}
-use Rattle.domain_core.specs.AllMoved.{AllMoved}
-use Rattle.domain_core.specs.DomainView.{DomainView}
-use Rattle.domain_core.specs.Calls.{Calls}
-use Rattle.domain_core.specs.Carrying.{AreLinked}
-use Rattle.domain_core.specs.Waiting.{Waits}
+use Rattle.domain_parts.specs.declared.ends.Ends.{Ends}
+use Rattle.domain_parts.specs.LaneMoves.{LaneMove}
+use Rattle.domain_parts.specs.Ends.{EndsMoved}
+use Rattle.domain_parts.specs.AllMoved.{AllMoved}
+use Rattle.domain_parts.specs.DomainView.{DomainView}
+use Rattle.domain_parts.specs.Calls.{Calls}
+use Rattle.domain_parts.specs.Carrying.{AreLinked}
+use Rattle.domain_parts.specs.Waiting.{Waits}
 
 pub record Goes {L : Type 0} (Moved : L → List LaneMove → L → Type 0) (old new : DomainView L) : Type 0 where
   pub number : new.state.number ≡ old.state.number

@@ -4,12 +4,12 @@ ghost use Rattle.std.specs.Prelude.{◌≡◌, ◌≤◌, ◌+◌, IfOk, IfSome,
 ghost use Rattle.board_model.specs.DomainCall.{create_at, delete_at, lookup_of, turn_alone, send_from, receive_at, request_at, available_at, test_of, cancel_of};
 ghost use Rattle.board_model.specs.Journal.{agrees};
 ghost use Rattle.board_model.specs.State.{lent_from, queued_from, place_of_peer};
-ghost use Rattle.domain_core.specs.Ends.{EndsMoved};
+ghost use Rattle.domain_parts.specs.Ends.{EndsMoved};
 ghost use Rattle.board_model.specs.Queues.{messages_at};
-ghost use Rattle.domain_core.specs.Room.{call_entries, call_bytes};
-ghost use Rattle.domain_core.specs.DomainView.{packet_lent_as, place_of_id};
-ghost use Rattle.domain_core.specs.Turned.{MakesTurn};
-ghost use Rattle.domain_core.specs.Calls.{Calls, GivesTo, LendsBy, created, deleted, sent, received, requested, given, available, tested, cancelled};
+ghost use Rattle.domain_parts.specs.Room.{call_entries, call_bytes};
+ghost use Rattle.domain_parts.specs.DomainView.{packet_lent_as, place_of_id};
+ghost use Rattle.domain_parts.specs.Turned.{MakesTurn};
+ghost use Rattle.domain_parts.specs.Calls.{Calls, GivesTo, LendsBy, created, deleted, sent, received, requested, given, available, tested, cancelled};
 
 mod channels;
 mod data;
@@ -17,21 +17,12 @@ mod opening;
 mod raw;
 mod waits;
 
-use crate::ends::Ends;
-use crate::holdings::Holdings;
-use crate::link_room::LinkRoom;
-pub use buffer_book::Places;
+use domain_parts::{Ends, Holdings, LinkRoom, Places};
 use lane_end::{RecvEnd, SendEnd};
 use mc_base::{Done, EndName, Got, Local, Priority, Refusal, RequestId};
 use mc_journal::Journal;
 pub use opening::{carry, carry_rings};
 use std::marker::Model;
-
-/// The number of journal entries for which a call needs room.
-pub const CALL_ENTRIES: u32 = 160;
-
-/// The number of bytes in these entries for which a call needs room.
-pub const CALL_BYTES: u32 = 67_584;
 
 /// A domain: what one core of a board runs.
 ///
@@ -52,9 +43,9 @@ pub struct Domain<S: SendEnd, R: RecvEnd> {
 }
 
 impl<S: SendEnd, R: RecvEnd> Model for Domain<S, R> {
-    ghost use Rattle.domain_core.specs.declared.ends.Ends.{Ends};
-    ghost use Rattle.domain_core.specs.DomainView.{DomainView};
-    ghost use Rattle.domain_core.specs.Parts.{shown};
+    ghost use Rattle.domain_parts.specs.declared.ends.Ends.{Ends};
+    ghost use Rattle.domain_parts.specs.DomainView.{DomainView};
+    ghost use Rattle.domain_parts.specs.Parts.{shown};
 
     ghost Value = { DomainView (Ends S R) };
 

@@ -2,39 +2,17 @@
 //! journal records what it does.
 //!
 //! [`Domain`] has the calls; docs/PROFILE.md says in full what each does. Only [`Domain::open`] allocates, and the waits, which
-//! make room in the journal for their turns.
+//! make room in the journal for their turns. A domain's inside is the crate `domain_parts`, of which a user names nothing.
 #![tactic(auto)]
 
-mod announcements;
-mod carrying;
-mod dealing;
 mod domain;
-mod endpoints;
-mod ends;
-mod fates;
-mod holdings;
-mod link;
-mod link_room;
-mod linking;
-mod messages;
-mod noting;
-mod own_lane;
-mod peer;
-mod peer_lane;
-mod peers;
-mod replies;
-mod requests;
+mod keeping;
 mod threads;
-mod wait_fault;
 
-pub use carrying::{MeetingEnds, calls_move_ends, domains_stay_linked, waits_move_ends};
-pub use domain::{CALL_BYTES, CALL_ENTRIES, Domain, Places, carry, carry_rings};
-pub use ends::Ends;
-pub use fates::fault_fate;
-pub use link::Link;
+pub use domain::{Domain, carry, carry_rings};
+pub use domain_parts::{
+    CALL_BYTES, CALL_ENTRIES, Ends, Link, PeerLane, Places, WaitFault, fault_fate,
+};
+pub use keeping::{calls_move_ends, domains_stay_linked, waits_move_ends};
 pub use mc_journal::{Answer, Entry, Journal, Told};
-pub use peer::Peer;
-pub use peer_lane::PeerLane;
-pub use replies::{Replies, Reply};
 pub use threads::{domain_may_cross_threads, domain_may_move, may_cross_threads};
-pub use wait_fault::WaitFault;

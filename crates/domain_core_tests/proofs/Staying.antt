@@ -7,7 +7,7 @@ use Rattle.domain_core.specs.DomainView.{DomainView}
 use Rattle.domain_core.specs.Ends.{EndsMoved, EndsMoved-none}
 use Rattle.domain_core.specs.Going.{Goes}
 use Rattle.domain_core.specs.LaneMoves.{LaneMove}
-use Rattle.domain_core.specs.declared.ends.Ends.{Ends}
+use Rattle.domain_core.specs.declared.Ends.{Ends}
 
 all-stay : {L : Type 0} (Moved : L → List LaneMove → L → Type 0) → ((e : L) → Moved e [] e) → (es : List L) → (ms : List (List LaneMove)) × AllMoved Moved es ms es
 all-stay Moved none [] = ([], tt)

@@ -20,15 +20,15 @@ use Rattle.buffer_book.specs.Book.{Book}
 use Rattle.packet_channel.specs.End.{end_of}
 use Rattle.packet_channel.specs.declared.channel.Channel.{Channel}
 use Rattle.request_set.specs.Requests.{Requests}
-use Rattle.domain_core.specs.declared.dealing.Verdict.{Verdict}
-use Rattle.domain_core.specs.declared.endpoints.Endpoint.{Endpoint}
-use Rattle.domain_core.specs.Accepting.{DoesBy, DoesRow, Hears, Leaves, settled_by, size_of}
-use Rattle.domain_core.specs.InBook.{endpoint_in, endpoints_in}
-use Rattle.domain_core.specs.InRequests.{AreReceives}
-use Rattle.domain_core.specs.Records.{Records, with_channel_at}
-use Rattle.domain_core.specs.Table.{holding}
-use Rattle.domain_core.specs.Verdicts.{Desk, Effect, IsItem, IsJudged, IsPlaced, IsReturned, Shows, desk, effect_changes, ends, left_by, letter_row, loses, nothing, requests_left, sets, settles}
-use Rattle.domain_core.proofs.Judging.{brought-judged, end-there, place-there}
+use Rattle.domain_parts.specs.declared.dealing.Verdict.{Verdict}
+use Rattle.domain_parts.specs.declared.endpoints.Endpoint.{Endpoint}
+use Rattle.domain_parts.specs.Accepting.{DoesBy, DoesRow, Hears, Leaves, settled_by, size_of}
+use Rattle.domain_parts.specs.InBook.{endpoint_in, endpoints_in}
+use Rattle.domain_parts.specs.InRequests.{AreReceives}
+use Rattle.domain_parts.specs.Records.{Records, with_channel_at}
+use Rattle.domain_parts.specs.Table.{holding}
+use Rattle.domain_parts.specs.Verdicts.{Desk, Effect, IsItem, IsJudged, IsPlaced, IsReturned, Shows, desk, effect_changes, ends, left_by, letter_row, loses, nothing, requests_left, sets, settles}
+use Rattle.domain_parts.proofs.Judging.{brought-judged, end-there, place-there}
 
 -- ---- letters of channels
 

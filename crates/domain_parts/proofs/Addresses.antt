@@ -16,13 +16,13 @@ use Rattle.endpoint_table.specs.Table.{is_live_at}
 use Rattle.board_model.specs.Lists.{without_at}
 use Rattle.board_model.proofs.MessageLists.{get-position, some-position}
 use Rattle.board_model.proofs.WholeFinds.{find-mapped}
-use Rattle.domain_core.specs.declared.endpoints.Endpoint.{Endpoint}
-use Rattle.domain_core.specs.InTable.{AreInOrder}
-use Rattle.domain_core.specs.Records.{new_record}
-use Rattle.domain_core.specs.Tied.{live_record}
-use Rattle.domain_core.proofs.Filters.{find-both}
-use Rattle.domain_core.proofs.Tables.{All-push, All-without}
-use Rattle.domain_core.proofs.Tying.{is_live, is_named, named-there}
+use Rattle.domain_parts.specs.declared.endpoints.Endpoint.{Endpoint}
+use Rattle.domain_parts.specs.InTable.{AreInOrder}
+use Rattle.domain_parts.specs.Records.{new_record}
+use Rattle.domain_parts.specs.Tied.{live_record}
+use Rattle.domain_parts.proofs.Filters.{find-both}
+use Rattle.domain_parts.proofs.Tables.{All-push, All-without}
+use Rattle.domain_parts.proofs.Tying.{is_live, is_named, named-there}
 
 -- ---- what stays in order
 

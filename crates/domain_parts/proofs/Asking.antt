@@ -7,25 +7,25 @@ use Rattle.mc_base.specs.declared.request.RequestId.{RequestId}
 use Rattle.mc_base.specs.declared.request.Slot.{Slot}
 use Rattle.board_model.specs.State as state
 use Rattle.board_model.specs.State.{DomainState, Item, Outcome, has_address, name_of}
-use Rattle.domain_core.specs.PlacedCalls.{with_request}
+use Rattle.domain_parts.specs.PlacedCalls.{with_request}
 use Rattle.buffer_book.specs.Book.{Book}
 use Rattle.endpoint_table.specs.Table as endpoint_table
 use Rattle.request_set.specs.declared.ask.Ask.{Ask}
 use Rattle.request_set.specs.declared.ask.Complete.{Complete}
 use Rattle.request_set.specs.Requests.{Requests, Standing, keys}
-use Rattle.domain_core.specs.LaneSeen.{LaneSeen}
-use Rattle.domain_core.specs.declared.peer.Peer.{Peer}
-use Rattle.domain_core.specs.InBook.{asked_in, outcome_in, request_in, requests_in}
-use Rattle.domain_core.specs.InPlaces.{AreInPlaces, EachInPlace, slots_of}
-use Rattle.domain_core.specs.InRequests.{IsReceive, handed_slots, slots_in}
-use Rattle.domain_core.specs.Out.{Out}
-use Rattle.domain_core.specs.Peers.{state_in}
-use Rattle.domain_core.specs.Records.{Records, all_waiting, lent_slots}
-use Rattle.domain_core.specs.Sound.{AreSound, out_at}
-use Rattle.domain_core.specs.Steps.{with_last}
-use Rattle.domain_core.proofs.Beginning.{last-receives, new_standing}
-use Rattle.domain_core.proofs.PeerPlaces.{All-from}
-use Rattle.domain_core.proofs.Slots.{slots}
+use Rattle.domain_parts.specs.LaneSeen.{LaneSeen}
+use Rattle.domain_parts.specs.declared.peer.Peer.{Peer}
+use Rattle.domain_parts.specs.InBook.{asked_in, outcome_in, request_in, requests_in}
+use Rattle.domain_parts.specs.InPlaces.{AreInPlaces, EachInPlace, slots_of}
+use Rattle.domain_parts.specs.InRequests.{IsReceive, handed_slots, slots_in}
+use Rattle.domain_parts.specs.Out.{Out}
+use Rattle.domain_parts.specs.Peers.{state_in}
+use Rattle.domain_parts.specs.Records.{Records, all_waiting, lent_slots}
+use Rattle.domain_parts.specs.Sound.{AreSound, out_at}
+use Rattle.domain_parts.specs.Steps.{with_last}
+use Rattle.domain_parts.proofs.Beginning.{last-receives, new_standing}
+use Rattle.domain_parts.proofs.PeerPlaces.{All-from}
+use Rattle.domain_parts.proofs.Slots.{slots}
 
 -- ---- a key that no request has
 

@@ -12,12 +12,12 @@ use Rattle.request_set.specs.declared.ask.Complete.{Complete}
 use Rattle.request_set.specs.declared.ask.Complete.TheVariants as complete
 use Rattle.request_set.specs.Requests.{Requests, Standing, completed, is_id, keys, with_complete, with_request}
 use Rattle.board_model.specs.State.{DomainState}
-use Rattle.domain_core.specs.Calls.{IsFresh}
-use Rattle.domain_core.specs.InRequests.{AreReceives, IsReceive, handed_slots, slots_in}
-use Rattle.domain_core.specs.Steps.{with_last}
-use Rattle.domain_core.proofs.Placed.{HasMore, HaveSame}
-use Rattle.domain_core.proofs.Receives.{differ-more, handed-new, keys_in, not-among, others-fresh, others-stay}
-use Rattle.domain_core.proofs.Tables.{All-push}
+use Rattle.domain_parts.specs.Calls.{IsFresh}
+use Rattle.domain_parts.specs.InRequests.{AreReceives, IsReceive, handed_slots, slots_in}
+use Rattle.domain_parts.specs.Steps.{with_last}
+use Rattle.domain_parts.proofs.Placed.{HasMore, HaveSame}
+use Rattle.domain_parts.proofs.Receives.{differ-more, handed-new, keys_in, not-among, others-fresh, others-stay}
+use Rattle.domain_parts.proofs.Tables.{All-push}
 
 abbrev pub new_standing : RequestId → Ask → Option Complete → Standing
 new_standing id a o = record { id = id; ask = a; complete = o }

@@ -5,7 +5,7 @@ use Rattle.std.proofs.lemmas.Bool.{eqb-true, eqb-false, and_parts, and_from, bot
 use Rattle.mc_base.specs.declared.request.Slot.{Slot}
 use Rattle.buffer_book.specs.Book.{Book, Kept, if_queued, kept_at, place_at, queued_at, with_place}
 use Rattle.buffer_book.proofs.PlaceLemmas.{at-other_number, at-other_peer}
-use Rattle.domain_core.specs.InPlaces.{is_same, slot_at}
+use Rattle.domain_parts.specs.InPlaces.{is_same, slot_at}
 
 pub itself : (s : Slot) → is_same s s ≡ true
 itself s = and_from _ _ (eq-eqb s.peer s.peer refl) (eq-eqb s.buffer s.buffer refl)

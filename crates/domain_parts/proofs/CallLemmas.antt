@@ -19,20 +19,20 @@ use Rattle.board_model.specs.Unnamed.{no_names, unnamed, unnamed_item}
 use Rattle.board_model.proofs.RenamedGiven.{returned-renamed}
 use Rattle.board_model.proofs.RenamedLabels.{given-renamed}
 use Rattle.board_model.proofs.RenamedCalls.{answer-renamed, puts-renamed}
-use Rattle.domain_core.specs.AllMoved.{AllMoved, buffers_of, call_moves, moves_at, numbers_of}
-use Rattle.domain_core.specs.Calls.{Calls, Does, IsFresh, success_releases}
-use Rattle.domain_core.specs.InBook.{item_at, numbered_at}
-use Rattle.domain_core.specs.CallSteps.{Acted, Acts, Rests, Succeeds, call_steps}
-use Rattle.domain_core.specs.DomainView.{DomainView}
-use Rattle.domain_core.specs.LaneMoves.{LaneMove}
-use Rattle.domain_core.specs.Parts.{Holding, Parts, plain, shown, state_of}
-use Rattle.domain_core.specs.Steps.{all_moves}
-use Rattle.domain_core.specs.Stores.{KeepsBut}
-use Rattle.domain_core.specs.Turned.{MakesTurn}
-use Rattle.domain_core.proofs.Calling.{puts-done, puts-nothing}
-use Rattle.domain_core.proofs.Ending.{ended-done, ended-refused, ids_in}
-use Rattle.domain_core.proofs.GivingLemmas.{numbers-in}
-use Rattle.domain_core.proofs.Unnaming.{effect-unnamed, ended-unnamed, items-unnamed, names-are, released-unnamed}
+use Rattle.domain_parts.specs.AllMoved.{AllMoved, buffers_of, call_moves, moves_at, numbers_of}
+use Rattle.domain_parts.specs.Calls.{Calls, Does, IsFresh, success_releases}
+use Rattle.domain_parts.specs.InBook.{item_at, numbered_at}
+use Rattle.domain_parts.specs.CallSteps.{Acted, Acts, Rests, Succeeds, call_steps}
+use Rattle.domain_parts.specs.DomainView.{DomainView}
+use Rattle.domain_parts.specs.LaneMoves.{LaneMove}
+use Rattle.domain_parts.specs.Parts.{Holding, Parts, plain, shown, state_of}
+use Rattle.domain_parts.specs.Steps.{all_moves}
+use Rattle.domain_parts.specs.Stores.{KeepsBut}
+use Rattle.domain_parts.specs.Turned.{MakesTurn}
+use Rattle.domain_parts.proofs.Calling.{puts-done, puts-nothing}
+use Rattle.domain_parts.proofs.Ending.{ended-done, ended-refused, ids_in}
+use Rattle.domain_parts.proofs.GivingLemmas.{numbers-in}
+use Rattle.domain_parts.proofs.Unnaming.{effect-unnamed, ended-unnamed, items-unnamed, names-are, released-unnamed}
 
 map-same : {A B : Type 0} (f g : A → B) → ((x : A) → f x ≡ g x) → (xs : List A) → map f xs ≡ map g xs
 map-same f g is [] = refl

@@ -17,7 +17,7 @@ use Rattle.board_model.proofs.MessageAlls.{found-passes}
 use Rattle.board_model.proofs.MessageLists.{changed-position, without-position, get-position, some-position}
 use Rattle.board_model.proofs.ListsMapped.{changed-found, changed-nothing}
 use Rattle.board_model.proofs.StateEnds.{Ends, by_address, named_so}
-use Rattle.domain_core.specs.PlacedCalls.{ended_by_word, used_one, received, best_queued, with_announced, with_endpoint, with_request, with_received, with_used, without_endpoint, success_returns}
+use Rattle.domain_parts.specs.PlacedCalls.{ended_by_word, used_one, received, best_queued, with_announced, with_endpoint, with_request, with_received, with_used, without_endpoint, success_returns}
 
 pub at-live : (s : DomainState) (at : Local) → state.endpoint_at s at ≡ live_at s at
 at-live s at = get-position (is_at at) s.endpoints

@@ -9,16 +9,16 @@ use Rattle.board_model.proofs.MessageLists.{changed_first, changed-position, get
 use Rattle.buffer_book.specs.Book.{Book}
 use Rattle.endpoint_table.specs.Table as endpoint_table
 use Rattle.request_set.specs.Requests.{Requests}
-use Rattle.domain_core.specs.LaneSeen.{LaneSeen}
-use Rattle.domain_core.specs.declared.ends.Ends.{Ends}
-use Rattle.domain_core.specs.declared.ends.Ends.TheVariants.{Own, Linked}
-use Rattle.domain_core.specs.declared.link.Link.{Link}
-use Rattle.domain_core.specs.declared.peer.Peer.{Peer}
-use Rattle.domain_core.specs.AllMoved.{ends_of}
-use Rattle.domain_core.specs.Carried.{AreJoinedEnds, EndsMeet, MayMeet, FirstMeet, with_ends, with_peer}
-use Rattle.domain_core.specs.Carrying.{AreJoined, AreLinked, LinksMeet, Carries, leads_to, link_to, with_link}
-use Rattle.domain_core.specs.Parts.{Holding, holding_in, parts_in, peer_seen}
-use Rattle.domain_core.specs.Records.{Records}
+use Rattle.domain_parts.specs.LaneSeen.{LaneSeen}
+use Rattle.domain_parts.specs.declared.ends.Ends.{Ends}
+use Rattle.domain_parts.specs.declared.ends.Ends.TheVariants.{Own, Linked}
+use Rattle.domain_parts.specs.declared.link.Link.{Link}
+use Rattle.domain_parts.specs.declared.peer.Peer.{Peer}
+use Rattle.domain_parts.specs.AllMoved.{ends_of}
+use Rattle.domain_parts.specs.Carried.{AreJoinedEnds, EndsMeet, MayMeet, FirstMeet, with_ends, with_peer}
+use Rattle.domain_parts.specs.Carrying.{AreJoined, AreLinked, LinksMeet, Carries, leads_to, link_to, with_link}
+use Rattle.domain_parts.specs.Parts.{Holding, holding_in, parts_in, peer_seen}
+use Rattle.domain_parts.specs.Records.{Records}
 
 some-is : {A : Type 0} (o : Option A) (x y : A) → o ≡ Some x → o ≡ Some y → x ≡ y
 some-is o x y a b = cc

@@ -2,11 +2,11 @@
 use Rattle.std.proofs.Common.{◌≡◌, ℕ, zero, suc, ◌<◌, Bool, true, false, cond, List, [], ◌∷◌, map, Some, refl, sym, ap, ◌∙◌, subst, arith, eq-eqb, ne_eqb}
 use Rattle.std.specs.Prelude.{slice_get, slice_set, ◌==◌}
 use Rattle.std.specs.List.{AllByRecursion}
-use Rattle.domain_core.specs.declared.peer.Peer.{Peer}
-use Rattle.domain_core.specs.AllMoved.{numbers_of}
-use Rattle.domain_core.specs.LaneSeen.{LaneSeen}
-use Rattle.domain_core.specs.Sound.{AreRising}
-use Rattle.domain_core.specs.Steps.{changed_peer}
+use Rattle.domain_parts.specs.declared.peer.Peer.{Peer}
+use Rattle.domain_parts.specs.AllMoved.{numbers_of}
+use Rattle.domain_parts.specs.LaneSeen.{LaneSeen}
+use Rattle.domain_parts.specs.Sound.{AreRising}
+use Rattle.domain_parts.specs.Steps.{changed_peer}
 
 pub number-above : {L : Type 0} (n : ℕ) (ps : List (Peer L)) (i : ℕ) (p : Peer L) → AllByRecursion (λ m. n < m) (numbers_of ps) → slice_get ps i ≡ Some p → n < p.number
 number-above n [] i p all there = absurd cc

@@ -35,36 +35,36 @@ use Rattle.request_set.specs.declared.ask.Ask.{Ask}
 use Rattle.request_set.specs.declared.ask.Ask.TheVariants as ask
 use Rattle.request_set.specs.declared.ask.Complete.{Complete}
 use Rattle.request_set.specs.declared.ask.Complete.TheVariants as complete
-use Rattle.domain_core.specs.LaneSeen.{LaneSeen}
-use Rattle.domain_core.specs.declared.endpoints.Endpoint.{Endpoint}
-use Rattle.domain_core.specs.declared.peer.Peer.{Peer}
-use Rattle.domain_core.specs.declared.requests.Waiters.TheVariants as waiters
-use Rattle.domain_core.specs.AllMoved.{giving, buffers_of, moves_at}
-use Rattle.domain_core.specs.Calls as calls
-use Rattle.domain_core.specs.Calls.{IsFresh}
-use Rattle.domain_core.specs.CallSteps.{Empties, Means, as_channel, call_steps, drops, emptying, if_some, putting_all}
-use Rattle.domain_core.specs.InBook.{asked_in, endpoint_in, endpoints_in, item_in, outcome_in}
-use Rattle.domain_core.specs.LaneMoves.{LaneMove, sender}
-use Rattle.domain_core.specs.Parts.{Holding, Parts, Sound, plain, state_of}
-use Rattle.domain_core.specs.Peers.{state_in}
-use Rattle.domain_core.specs.Records.{kept, slots_at, waiting_in}
-use Rattle.domain_core.specs.Steps.{Did, Step, all_moves, channel_given, channel_set, done, done_all, frame_put, receives_ended, request_begun, step_moves, with_last}
-use Rattle.domain_core.specs.Stores.{KeepsBut}
-use Rattle.domain_core.specs.VisitMoves.{putting}
-use Rattle.domain_core.proofs.Asking.{asked-state}
-use Rattle.domain_core.proofs.Beginning.{last-ids}
-use Rattle.domain_core.proofs.CallsAgree.{returned-agrees, send-agrees, there_at}
-use Rattle.domain_core.proofs.Channels.{as-end, end-as, ends-as, posts-are}
-use Rattle.domain_core.proofs.Completing.{ids-all}
-use Rattle.domain_core.proofs.Dropping.{IsLeft, all-left, drops-moves, moves-cons}
-use Rattle.domain_core.proofs.Ending.{ids_in}
-use Rattle.domain_core.proofs.Removing.{gone-items}
-use Rattle.domain_core.proofs.StateFits.{ends-of}
-use Rattle.domain_core.proofs.Stepping.{did-then, done-append, quiet-peers}
-use Rattle.domain_core.proofs.Steps.{drops-place, frame_put-is, frame_put-keeps, no-slots, queue-long}
-use Rattle.domain_core.proofs.Storing.{keeps-but_none}
-use Rattle.domain_core.proofs.TurnMeaning.{channel_given-is, endpoints-set, receives_ended-is}
-use Rattle.domain_core.proofs.TurnSteps.{receives_ended-keeps}
+use Rattle.domain_parts.specs.LaneSeen.{LaneSeen}
+use Rattle.domain_parts.specs.declared.endpoints.Endpoint.{Endpoint}
+use Rattle.domain_parts.specs.declared.peer.Peer.{Peer}
+use Rattle.domain_parts.specs.declared.requests.Waiters.TheVariants as waiters
+use Rattle.domain_parts.specs.AllMoved.{giving, buffers_of, moves_at}
+use Rattle.domain_parts.specs.Calls as calls
+use Rattle.domain_parts.specs.Calls.{IsFresh}
+use Rattle.domain_parts.specs.CallSteps.{Empties, Means, as_channel, call_steps, drops, emptying, if_some, putting_all}
+use Rattle.domain_parts.specs.InBook.{asked_in, endpoint_in, endpoints_in, item_in, outcome_in}
+use Rattle.domain_parts.specs.LaneMoves.{LaneMove, sender}
+use Rattle.domain_parts.specs.Parts.{Holding, Parts, Sound, plain, state_of}
+use Rattle.domain_parts.specs.Peers.{state_in}
+use Rattle.domain_parts.specs.Records.{kept, slots_at, waiting_in}
+use Rattle.domain_parts.specs.Steps.{Did, Step, all_moves, channel_given, channel_set, done, done_all, frame_put, receives_ended, request_begun, step_moves, with_last}
+use Rattle.domain_parts.specs.Stores.{KeepsBut}
+use Rattle.domain_parts.specs.VisitMoves.{putting}
+use Rattle.domain_parts.proofs.Asking.{asked-state}
+use Rattle.domain_parts.proofs.Beginning.{last-ids}
+use Rattle.domain_parts.proofs.CallsAgree.{returned-agrees, send-agrees, there_at}
+use Rattle.domain_parts.proofs.Channels.{as-end, end-as, ends-as, posts-are}
+use Rattle.domain_parts.proofs.Completing.{ids-all}
+use Rattle.domain_parts.proofs.Dropping.{IsLeft, all-left, drops-moves, moves-cons}
+use Rattle.domain_parts.proofs.Ending.{ids_in}
+use Rattle.domain_parts.proofs.Removing.{gone-items}
+use Rattle.domain_parts.proofs.StateFits.{ends-of}
+use Rattle.domain_parts.proofs.Stepping.{did-then, done-append, quiet-peers}
+use Rattle.domain_parts.proofs.Steps.{drops-place, frame_put-is, frame_put-keeps, no-slots, queue-long}
+use Rattle.domain_parts.proofs.Storing.{keeps-but_none}
+use Rattle.domain_parts.proofs.TurnMeaning.{channel_given-is, endpoints-set, receives_ended-is}
+use Rattle.domain_parts.proofs.TurnSteps.{receives_ended-keeps}
 
 -- ---- steps as changes
 

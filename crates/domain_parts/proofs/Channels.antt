@@ -25,13 +25,13 @@ use Rattle.packet_channel.specs.declared.channel.Channel.{Channel}
 use Rattle.packet_channel.specs.declared.channel.Stage.{Stage}
 use Rattle.packet_channel.specs.declared.channel.Stage.TheVariants as stage
 use Rattle.request_set.specs.Requests.{Standing, oldest_waiting, waits_at}
-use Rattle.domain_core.specs.CallSteps.{as_channel, stage_from}
-use Rattle.domain_core.specs.InBook.{request_in, requests_in}
-use Rattle.domain_core.specs.Parts.{Parts, state_of}
-use Rattle.domain_core.specs.Records.{kept, waiting_in}
-use Rattle.domain_core.proofs.Receives.{waits-map}
-use Rattle.domain_core.proofs.Steps.{queue-long}
-use Rattle.domain_core.proofs.Tables.{kept-is}
+use Rattle.domain_parts.specs.CallSteps.{as_channel, stage_from}
+use Rattle.domain_parts.specs.InBook.{request_in, requests_in}
+use Rattle.domain_parts.specs.Parts.{Parts, state_of}
+use Rattle.domain_parts.specs.Records.{kept, waiting_in}
+use Rattle.domain_parts.proofs.Receives.{waits-map}
+use Rattle.domain_parts.proofs.Steps.{queue-long}
+use Rattle.domain_parts.proofs.Tables.{kept-is}
 
 -- ---- ends as a domain has them
 

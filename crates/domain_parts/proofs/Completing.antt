@@ -10,20 +10,20 @@ use Rattle.mc_base.specs.declared.request.RequestId.{RequestId}
 use Rattle.mc_base.specs.declared.request.Slot.{Slot}
 use Rattle.board_model.specs.State.{Request, has_ended, Asked}
 use Rattle.board_model.specs.Change.{asks_for, all_done, connects_on}
-use Rattle.domain_core.specs.PlacedFrames.{found_for}
-use Rattle.domain_core.specs.PlacedCalls.{ended_by_word}
+use Rattle.domain_parts.specs.PlacedFrames.{found_for}
+use Rattle.domain_parts.specs.PlacedCalls.{ended_by_word}
 use Rattle.buffer_book.specs.Book.{AllDiffer, Book}
 use Rattle.request_set.specs.declared.ask.Ask.{Ask}
 use Rattle.request_set.specs.declared.ask.Ask.TheVariants as ask
 use Rattle.request_set.specs.declared.ask.Complete.{Complete}
 use Rattle.request_set.specs.declared.ask.Complete.TheVariants as complete
 use Rattle.request_set.specs.Requests.{Requests, Standing, completed, is_id}
-use Rattle.domain_core.specs.declared.requests.Waiters.{Waiters}
-use Rattle.domain_core.specs.declared.requests.Waiters.TheVariants as waiters
-use Rattle.domain_core.specs.InBook.{asked_in, outcome_in, request_in, requests_in}
-use Rattle.domain_core.specs.InRequests.{AreReceives, IsReceive, MayEnd, Receives, completed_with, handed_slots, is_among, slots_in, with_all_complete}
-use Rattle.domain_core.proofs.Handed.{Listing, listing, none-listed, none-past}
-use Rattle.domain_core.proofs.Receives.{complete_now, id-stays, itself, keys_in, none-map, other-key, others-of, others-stay, waits-map}
+use Rattle.domain_parts.specs.declared.requests.Waiters.{Waiters}
+use Rattle.domain_parts.specs.declared.requests.Waiters.TheVariants as waiters
+use Rattle.domain_parts.specs.InBook.{asked_in, outcome_in, request_in, requests_in}
+use Rattle.domain_parts.specs.InRequests.{AreReceives, IsReceive, MayEnd, Receives, completed_with, handed_slots, is_among, slots_in, with_all_complete}
+use Rattle.domain_parts.proofs.Handed.{Listing, listing, none-listed, none-past}
+use Rattle.domain_parts.proofs.Receives.{complete_now, id-stays, itself, keys_in, none-map, other-key, others-of, others-stay, waits-map}
 
 -- ---- one after the other
 

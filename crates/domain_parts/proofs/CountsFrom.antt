@@ -19,20 +19,20 @@ use Rattle.lane_end.specs.ReceiverContract.{without}
 use Rattle.lane_end.proofs.CountLemmas.{tick, tick-same, length-apart, length-without, often-without}
 use Rattle.message_queue.specs.Queue.{Waiting}
 use Rattle.request_set.specs.Requests.{Requests, Standing}
-use Rattle.domain_core.specs.LaneSeen.{LaneSeen}
-use Rattle.domain_core.specs.declared.peer.Peer.{Peer}
-use Rattle.domain_core.specs.AllMoved.{numbers_of}
-use Rattle.domain_core.specs.InBook.{numbered_at, item_in, packets_in, requests_in}
-use Rattle.domain_core.specs.InPlaces.{AreInPlaces, EachInPlace, is_of, is_same, one_if, slot_at, slots_of, times_in}
-use Rattle.domain_core.specs.InRequests.{handed_slots, slots_in}
-use Rattle.domain_core.specs.Out.{Out}
-use Rattle.domain_core.specs.Peers.{state_in}
-use Rattle.domain_core.specs.Records.{Records, all_waiting, lent_slots}
-use Rattle.domain_core.specs.Sound.{AreRising, AreSound, IsSized, out_at, outs_count}
-use Rattle.domain_core.proofs.Handed.{Listing, items-handed, listing, none-listed, none-past, nothing-there}
-use Rattle.domain_core.proofs.PeerPlaces.{All-at, peer-at}
-use Rattle.domain_core.proofs.Slots.{length-all, slots}
-use Rattle.domain_core.proofs.Waits.{items-are}
+use Rattle.domain_parts.specs.LaneSeen.{LaneSeen}
+use Rattle.domain_parts.specs.declared.peer.Peer.{Peer}
+use Rattle.domain_parts.specs.AllMoved.{numbers_of}
+use Rattle.domain_parts.specs.InBook.{numbered_at, item_in, packets_in, requests_in}
+use Rattle.domain_parts.specs.InPlaces.{AreInPlaces, EachInPlace, is_of, is_same, one_if, slot_at, slots_of, times_in}
+use Rattle.domain_parts.specs.InRequests.{handed_slots, slots_in}
+use Rattle.domain_parts.specs.Out.{Out}
+use Rattle.domain_parts.specs.Peers.{state_in}
+use Rattle.domain_parts.specs.Records.{Records, all_waiting, lent_slots}
+use Rattle.domain_parts.specs.Sound.{AreRising, AreSound, IsSized, out_at, outs_count}
+use Rattle.domain_parts.proofs.Handed.{Listing, items-handed, listing, none-listed, none-past, nothing-there}
+use Rattle.domain_parts.proofs.PeerPlaces.{All-at, peer-at}
+use Rattle.domain_parts.proofs.Slots.{length-all, slots}
+use Rattle.domain_parts.proofs.Waits.{items-are}
 
 -- ---- what waits, and what was handed
 

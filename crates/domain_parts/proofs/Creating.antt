@@ -17,23 +17,23 @@ use Rattle.message_queue.specs.Queue.{Waiting}
 use Rattle.request_set.specs.declared.ask.Complete.{Complete}
 use Rattle.request_set.specs.declared.ask.Complete.TheVariants as complete
 use Rattle.request_set.specs.Requests.{Requests}
-use Rattle.domain_core.specs.LaneSeen.{LaneSeen}
-use Rattle.domain_core.specs.declared.peer.Peer.{Peer}
-use Rattle.domain_core.specs.declared.requests.Waiters.{Waiters}
-use Rattle.domain_core.specs.declared.requests.Waiters.TheVariants as waiters
-use Rattle.domain_core.specs.AllMoved.{numbers_of}
-use Rattle.domain_core.specs.InBook.{endpoint_in}
-use Rattle.domain_core.specs.InPlaces.{AreInPlaces, slots_of}
-use Rattle.domain_core.specs.InRequests.{handed_slots, with_all_complete}
-use Rattle.domain_core.specs.Peers.{state_in}
-use Rattle.domain_core.specs.Records.{Records, all_waiting, new_record, with_record}
-use Rattle.domain_core.specs.Sound.{AreSound, out_at}
-use Rattle.domain_core.specs.Tied.{AreTied}
-use Rattle.domain_core.proofs.Completing.{handed-all, receives-all}
-use Rattle.domain_core.proofs.Queuing.{same-held}
-use Rattle.domain_core.proofs.Slots.{slots}
-use Rattle.domain_core.proofs.Tying.{length-records, live-some, tied-created}
-use Rattle.domain_core.proofs.Waits.{waiting-new}
+use Rattle.domain_parts.specs.LaneSeen.{LaneSeen}
+use Rattle.domain_parts.specs.declared.peer.Peer.{Peer}
+use Rattle.domain_parts.specs.declared.requests.Waiters.{Waiters}
+use Rattle.domain_parts.specs.declared.requests.Waiters.TheVariants as waiters
+use Rattle.domain_parts.specs.AllMoved.{numbers_of}
+use Rattle.domain_parts.specs.InBook.{endpoint_in}
+use Rattle.domain_parts.specs.InPlaces.{AreInPlaces, slots_of}
+use Rattle.domain_parts.specs.InRequests.{handed_slots, with_all_complete}
+use Rattle.domain_parts.specs.Peers.{state_in}
+use Rattle.domain_parts.specs.Records.{Records, all_waiting, new_record, with_record}
+use Rattle.domain_parts.specs.Sound.{AreSound, out_at}
+use Rattle.domain_parts.specs.Tied.{AreTied}
+use Rattle.domain_parts.proofs.Completing.{handed-all, receives-all}
+use Rattle.domain_parts.proofs.Queuing.{same-held}
+use Rattle.domain_parts.proofs.Slots.{slots}
+use Rattle.domain_parts.proofs.Tying.{length-records, live-some, tied-created}
+use Rattle.domain_parts.proofs.Waits.{waiting-new}
 
 -- ---- the words, by their conditions
 

@@ -26,28 +26,28 @@ use Rattle.board_model.specs.State.{ChannelEnd, DomainState, Item, address_at, l
 use Rattle.message_queue.specs.Queue.{Waiting}
 use Rattle.packet_channel.specs.End.{may}
 use Rattle.scalar_channel.specs.Scalar.{scalar_of}
-use Rattle.domain_core.specs.LaneSeen.{LaneSeen}
-use Rattle.domain_core.specs.declared.peer.Peer.{Peer}
-use Rattle.domain_core.specs.AllMoved.{moves_at}
-use Rattle.domain_core.specs.Calls.{success_ends, success_releases}
-use Rattle.domain_core.specs.CallSteps.{Means, call_steps, if_some, oldest_slot, putting_all}
-use Rattle.domain_core.specs.InBook.{endpoints_in, numbered_at, item_in}
-use Rattle.domain_core.specs.Parts.{Parts, Sound, plain, state_of}
-use Rattle.domain_core.specs.Records.{waiting_in}
-use Rattle.domain_core.specs.Steps.{Step, all_moves, done, done_all, oldest_dropped}
-use Rattle.domain_core.specs.Stores.{KeepsBut}
+use Rattle.domain_parts.specs.LaneSeen.{LaneSeen}
+use Rattle.domain_parts.specs.declared.peer.Peer.{Peer}
+use Rattle.domain_parts.specs.AllMoved.{moves_at}
+use Rattle.domain_parts.specs.Calls.{success_ends, success_releases}
+use Rattle.domain_parts.specs.CallSteps.{Means, call_steps, if_some, oldest_slot, putting_all}
+use Rattle.domain_parts.specs.InBook.{endpoints_in, numbered_at, item_in}
+use Rattle.domain_parts.specs.Parts.{Parts, Sound, plain, state_of}
+use Rattle.domain_parts.specs.Records.{waiting_in}
+use Rattle.domain_parts.specs.Steps.{Step, all_moves, done, done_all, oldest_dropped}
+use Rattle.domain_parts.specs.Stores.{KeepsBut}
 use Rattle.board_model.proofs.StateEnds.{by_address}
-use Rattle.domain_core.proofs.CallsAgree.{returned-agrees, there_at}
-use Rattle.domain_core.proofs.ChannelMeaning.{changed-there, end-changes, used-is}
-use Rattle.domain_core.proofs.Channels.{answered-none, answered-word, data-words, or_then, posts-are}
-use Rattle.domain_core.proofs.Ending.{ids_in}
-use Rattle.domain_core.proofs.Dropping.{one-dropped}
-use Rattle.domain_core.proofs.Meaning.{one-gave, one-put}
-use Rattle.domain_core.proofs.Removing.{gone-items}
-use Rattle.domain_core.proofs.StateFits.{ends-of}
-use Rattle.domain_core.proofs.Steps.{oldest_dropped-left}
-use Rattle.domain_core.proofs.Waits.{queue-there}
-use Rattle.domain_core.proofs.Storing.{keeps-away, keeps-but_none}
+use Rattle.domain_parts.proofs.CallsAgree.{returned-agrees, there_at}
+use Rattle.domain_parts.proofs.ChannelMeaning.{changed-there, end-changes, used-is}
+use Rattle.domain_parts.proofs.Channels.{answered-none, answered-word, data-words, or_then, posts-are}
+use Rattle.domain_parts.proofs.Ending.{ids_in}
+use Rattle.domain_parts.proofs.Dropping.{one-dropped}
+use Rattle.domain_parts.proofs.Meaning.{one-gave, one-put}
+use Rattle.domain_parts.proofs.Removing.{gone-items}
+use Rattle.domain_parts.proofs.StateFits.{ends-of}
+use Rattle.domain_parts.proofs.Steps.{oldest_dropped-left}
+use Rattle.domain_parts.proofs.Waits.{queue-there}
+use Rattle.domain_parts.proofs.Storing.{keeps-away, keeps-but_none}
 
 -- an item is sent over the channel of an endpoint
 module _ (p : Parts) (sound : Sound p) (at : Local) (i : ℕ) (there : place_at (state_of p) at ≡ Some i) (c : ChannelEnd) (has : channel_at (state_of p) at ≡ Some c) (a : ℕ) (address : Some a ≡ address_at (state_of p) at) (j : ℕ) (peer : Some j ≡ position (λ (x : Peer LaneSeen). x.number == c.peer) p.peers)

@@ -16,25 +16,25 @@ use Rattle.message_queue.specs.Queue.{Waiting}
 use Rattle.request_set.specs.declared.ask.Complete.{Complete}
 use Rattle.request_set.specs.declared.ask.Complete.TheVariants as complete
 use Rattle.request_set.specs.Requests.{Requests}
-use Rattle.domain_core.specs.LaneSeen.{LaneSeen}
-use Rattle.domain_core.specs.declared.endpoints.Endpoint.{Endpoint}
-use Rattle.domain_core.specs.declared.peer.Peer.{Peer}
-use Rattle.domain_core.specs.AllMoved.{numbers_of}
-use Rattle.domain_core.specs.GivingBack.{GivesBack, IsOutAt}
-use Rattle.domain_core.specs.LaneMoves.{LaneMove}
-use Rattle.domain_core.specs.Records.{Records, all_waiting, waiting_in, with_oldest_taken, with_oldest_taken_at, without_record_at}
-use Rattle.domain_core.specs.Sound.{AreSound, out_at}
-use Rattle.domain_core.specs.Tied.{AreTied}
-use Rattle.domain_core.specs.InBook.{endpoint_in, endpoints_in, item_in}
-use Rattle.domain_core.specs.InRequests.{handed_slots, with_all_complete}
-use Rattle.domain_core.specs.declared.requests.Waiters.{Waiters}
-use Rattle.domain_core.specs.declared.requests.Waiters.TheVariants as waiters
-use Rattle.domain_core.specs.InPlaces.{is_misplaced, one_if, slots_of, times_in}
-use Rattle.domain_core.proofs.Completing.{handed-all, receives-all}
-use Rattle.domain_core.proofs.GivingLemmas.{InPlacesAt, oldest-same, sound-given, stands-out, stands-queued}
-use Rattle.domain_core.proofs.Placed.{HasMore, times-here}
-use Rattle.domain_core.proofs.Queuing.{out-fewer, out-more, same-held}
-use Rattle.domain_core.proofs.Slots.{slots}
+use Rattle.domain_parts.specs.LaneSeen.{LaneSeen}
+use Rattle.domain_parts.specs.declared.endpoints.Endpoint.{Endpoint}
+use Rattle.domain_parts.specs.declared.peer.Peer.{Peer}
+use Rattle.domain_parts.specs.AllMoved.{numbers_of}
+use Rattle.domain_parts.specs.GivingBack.{GivesBack, IsOutAt}
+use Rattle.domain_parts.specs.LaneMoves.{LaneMove}
+use Rattle.domain_parts.specs.Records.{Records, all_waiting, waiting_in, with_oldest_taken, with_oldest_taken_at, without_record_at}
+use Rattle.domain_parts.specs.Sound.{AreSound, out_at}
+use Rattle.domain_parts.specs.Tied.{AreTied}
+use Rattle.domain_parts.specs.InBook.{endpoint_in, endpoints_in, item_in}
+use Rattle.domain_parts.specs.InRequests.{handed_slots, with_all_complete}
+use Rattle.domain_parts.specs.declared.requests.Waiters.{Waiters}
+use Rattle.domain_parts.specs.declared.requests.Waiters.TheVariants as waiters
+use Rattle.domain_parts.specs.InPlaces.{is_misplaced, one_if, slots_of, times_in}
+use Rattle.domain_parts.proofs.Completing.{handed-all, receives-all}
+use Rattle.domain_parts.proofs.GivingLemmas.{InPlacesAt, oldest-same, sound-given, stands-out, stands-queued}
+use Rattle.domain_parts.proofs.Placed.{HasMore, times-here}
+use Rattle.domain_parts.proofs.Queuing.{out-fewer, out-more, same-held}
+use Rattle.domain_parts.proofs.Slots.{slots}
 
 -- ---- the oldest of a queue
 

@@ -9,7 +9,7 @@ use Rattle.mc_base.specs.declared.request.Slot.{Slot}
 use Rattle.board_model.specs.DomainCall.{delete_at}
 use Rattle.message_queue.specs.Queue.{Waiting}
 use Rattle.board_model.specs.Choice.{oldest}
-use Rattle.domain_core.specs.PlacedCalls.{ended_by_word, with_announced, without_endpoint}
+use Rattle.domain_parts.specs.PlacedCalls.{ended_by_word, with_announced, without_endpoint}
 use Rattle.board_model.specs.Lists.{changed_at, with_rising, without, without_at}
 use Rattle.board_model.specs.State as state
 use Rattle.board_model.specs.State.{DomainState, address_at, place_at}
@@ -17,30 +17,30 @@ use Rattle.buffer_book.specs.Book.{Book, Kept}
 use Rattle.endpoint_table.specs.Table.{Table, deleted}
 use Rattle.lane_end.specs.ReceiveMoves.{Gave}
 use Rattle.request_set.specs.declared.ask.Complete.TheVariants as complete
-use Rattle.domain_core.specs.LaneSeen.{LaneSeen}
-use Rattle.domain_core.specs.declared.endpoints.Endpoint.{Endpoint}
-use Rattle.domain_core.specs.declared.peer.Peer.{Peer}
-use Rattle.domain_core.specs.declared.requests.Waiters.TheVariants as waiters
-use Rattle.domain_core.specs.AllMoved.{buffers_of, giving}
-use Rattle.domain_core.specs.CallSteps.{Means, call_steps, drops, if_some}
-use Rattle.domain_core.specs.InBook.{endpoints_in}
-use Rattle.domain_core.specs.LaneMoves.{LaneMove, receiver}
-use Rattle.domain_core.specs.Parts.{Parts, Sound, plain, state_of}
-use Rattle.domain_core.specs.Peers.{state_in}
-use Rattle.domain_core.specs.Records.{slots_at, with_oldest_taken, waiting_in}
-use Rattle.domain_core.specs.Steps.{Step, all_moves, done, done_all, endpoint_gone, oldest_dropped, step_moves}
-use Rattle.domain_core.specs.Stores.{KeepsBut}
-use Rattle.domain_core.proofs.CallsAgree.{delete-agrees, returned-agrees}
-use Rattle.domain_core.proofs.StateFits.{ends-of}
-use Rattle.domain_core.proofs.Completing.{ids-all, requests-ended}
-use Rattle.domain_core.proofs.Deleting.{endpoints-oldest, endpoints-without, oldest-more, without_first}
-use Rattle.domain_core.proofs.Ending.{ids_in}
-use Rattle.domain_core.proofs.Receiving.{given-state}
-use Rattle.domain_core.proofs.Removing.{deleted-is, gone-address, gone-items, the}
-use Rattle.domain_core.proofs.Steps.{drops-place, first-there, oldest_dropped-keeps, oldest_dropped-left, oldest_dropped-out}
-use Rattle.domain_core.proofs.Stepping.{Any, done-append, gives-seen, quiet-peers}
-use Rattle.domain_core.proofs.Storing.{keeps-away, keeps-but_none}
-use Rattle.domain_core.proofs.TiedStates.{ended-state}
+use Rattle.domain_parts.specs.LaneSeen.{LaneSeen}
+use Rattle.domain_parts.specs.declared.endpoints.Endpoint.{Endpoint}
+use Rattle.domain_parts.specs.declared.peer.Peer.{Peer}
+use Rattle.domain_parts.specs.declared.requests.Waiters.TheVariants as waiters
+use Rattle.domain_parts.specs.AllMoved.{buffers_of, giving}
+use Rattle.domain_parts.specs.CallSteps.{Means, call_steps, drops, if_some}
+use Rattle.domain_parts.specs.InBook.{endpoints_in}
+use Rattle.domain_parts.specs.LaneMoves.{LaneMove, receiver}
+use Rattle.domain_parts.specs.Parts.{Parts, Sound, plain, state_of}
+use Rattle.domain_parts.specs.Peers.{state_in}
+use Rattle.domain_parts.specs.Records.{slots_at, with_oldest_taken, waiting_in}
+use Rattle.domain_parts.specs.Steps.{Step, all_moves, done, done_all, endpoint_gone, oldest_dropped, step_moves}
+use Rattle.domain_parts.specs.Stores.{KeepsBut}
+use Rattle.domain_parts.proofs.CallsAgree.{delete-agrees, returned-agrees}
+use Rattle.domain_parts.proofs.StateFits.{ends-of}
+use Rattle.domain_parts.proofs.Completing.{ids-all, requests-ended}
+use Rattle.domain_parts.proofs.Deleting.{endpoints-oldest, endpoints-without, oldest-more, without_first}
+use Rattle.domain_parts.proofs.Ending.{ids_in}
+use Rattle.domain_parts.proofs.Receiving.{given-state}
+use Rattle.domain_parts.proofs.Removing.{deleted-is, gone-address, gone-items, the}
+use Rattle.domain_parts.proofs.Steps.{drops-place, first-there, oldest_dropped-keeps, oldest_dropped-left, oldest_dropped-out}
+use Rattle.domain_parts.proofs.Stepping.{Any, done-append, gives-seen, quiet-peers}
+use Rattle.domain_parts.proofs.Storing.{keeps-away, keeps-but_none}
+use Rattle.domain_parts.proofs.TiedStates.{ended-state}
 
 -- ---- one is dropped
 

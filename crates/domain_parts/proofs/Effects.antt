@@ -13,21 +13,21 @@ use Rattle.request_set.specs.Requests.{Requests, Standing}
 use Rattle.mc_base.specs.NameMap.{Names}
 use Rattle.mc_base.specs.declared.fate.Fate.{Fate}
 use Rattle.board_model.specs.TakenFrames.{Row, row}
-use Rattle.domain_core.specs.Records.{Records}
-use Rattle.domain_core.specs.declared.replies.Reply.{Reply}
-use Rattle.domain_core.specs.declared.peer.Peer.{Peer}
-use Rattle.domain_core.specs.declared.requests.Waiters.TheVariants as waiters
-use Rattle.domain_core.specs.InBook.{outcome_in}
-use Rattle.domain_core.specs.InRequests.{MayEnd}
-use Rattle.domain_core.specs.LaneSeen.{LaneSeen}
-use Rattle.domain_core.specs.Parts.{Parts, Sound, state_of}
-use Rattle.domain_core.specs.Steps as steps
-use Rattle.domain_core.specs.Steps.{Step, all_moves, changed_peer, done, done_all, moved_peer, name_told, names_told, receives_ended, step_moves, with_names, with_reply}
-use Rattle.domain_core.specs.Verdicts.{Changes, Effect, IsHeard, IsPlaced, IsReturned, accepts, desk, effect_changes, ends, finds, left_at, left_by, loses, names_left, nothing, outcome_by, records_left, replies, replies_left, requests_left, sets, settled, settles, tells}
-use Rattle.domain_core.proofs.Completing.{ids-all}
-use Rattle.domain_core.proofs.Stepping.{quiet-peers}
-use Rattle.domain_core.proofs.TurnMeaning.{channel_set-is, connect_settled-is, name_told-is, names_told-is, receives_ended-is, reply_owed-is}
-use Rattle.domain_core.proofs.TurnSteps.{channel_set-keeps, connect_settled-keeps, name_told-keeps, names_told-keeps, receives_ended-keeps, reply_owed-keeps}
+use Rattle.domain_parts.specs.Records.{Records}
+use Rattle.domain_parts.specs.declared.replies.Reply.{Reply}
+use Rattle.domain_parts.specs.declared.peer.Peer.{Peer}
+use Rattle.domain_parts.specs.declared.requests.Waiters.TheVariants as waiters
+use Rattle.domain_parts.specs.InBook.{outcome_in}
+use Rattle.domain_parts.specs.InRequests.{MayEnd}
+use Rattle.domain_parts.specs.LaneSeen.{LaneSeen}
+use Rattle.domain_parts.specs.Parts.{Parts, Sound, state_of}
+use Rattle.domain_parts.specs.Steps as steps
+use Rattle.domain_parts.specs.Steps.{Step, all_moves, changed_peer, done, done_all, moved_peer, name_told, names_told, receives_ended, step_moves, with_names, with_reply}
+use Rattle.domain_parts.specs.Verdicts.{Changes, Effect, IsHeard, IsPlaced, IsReturned, accepts, desk, effect_changes, ends, finds, left_at, left_by, loses, names_left, nothing, outcome_by, records_left, replies, replies_left, requests_left, sets, settled, settles, tells}
+use Rattle.domain_parts.proofs.Completing.{ids-all}
+use Rattle.domain_parts.proofs.Stepping.{quiet-peers}
+use Rattle.domain_parts.proofs.TurnMeaning.{channel_set-is, connect_settled-is, name_told-is, names_told-is, receives_ended-is, reply_owed-is}
+use Rattle.domain_parts.proofs.TurnSteps.{channel_set-keeps, connect_settled-keeps, name_told-keeps, names_told-keeps, receives_ended-keeps, reply_owed-keeps}
 
 abbrev pub effect_steps : ℕ → Effect → List Step
 effect_steps peer nothing = []

@@ -21,16 +21,16 @@ use Rattle.request_set.specs.declared.ask.Complete.{Complete}
 use Rattle.request_set.specs.declared.ask.Complete.TheVariants as complete
 use Rattle.request_set.specs.Requests as set
 use Rattle.request_set.specs.Requests.{Requests, Standing, is_id, progress_of, request_of, without_request}
-use Rattle.domain_core.specs.Calls.{place_ended, success_ends}
-use Rattle.domain_core.specs.DomainView.{place_of_id}
-use Rattle.domain_core.specs.Table.{with_requests}
-use Rattle.domain_core.specs.Records.{Records}
-use Rattle.domain_core.specs.InBook.{asked_in, numbered_at, content_in, outcome_in, request_in, requests_in, table_in}
-use Rattle.domain_core.specs.InRequests.{AreReceives, Receives, handed_slots, slots_in}
-use Rattle.domain_core.proofs.Calling.{cancel_by, cancel-is, test_by, test-is}
-use Rattle.domain_core.proofs.Handed.{item-in}
-use Rattle.domain_core.proofs.Placed.{HasMore, HaveSame}
-use Rattle.domain_core.proofs.Receives.{differ-filter, each-filter, found-receives, gone-at, handed-less, length-filter, map-without, place-of_id, request-there}
+use Rattle.domain_parts.specs.Calls.{place_ended, success_ends}
+use Rattle.domain_parts.specs.DomainView.{place_of_id}
+use Rattle.domain_parts.specs.Table.{with_requests}
+use Rattle.domain_parts.specs.Records.{Records}
+use Rattle.domain_parts.specs.InBook.{asked_in, numbered_at, content_in, outcome_in, request_in, requests_in, table_in}
+use Rattle.domain_parts.specs.InRequests.{AreReceives, Receives, handed_slots, slots_in}
+use Rattle.domain_parts.proofs.Calling.{cancel_by, cancel-is, test_by, test-is}
+use Rattle.domain_parts.proofs.Handed.{item-in}
+use Rattle.domain_parts.proofs.Placed.{HasMore, HaveSame}
+use Rattle.domain_parts.proofs.Receives.{differ-filter, each-filter, found-receives, gone-at, handed-less, length-filter, map-without, place-of_id, request-there}
 
 -- ---- the request that a call names
 

@@ -14,24 +14,24 @@ use Rattle.board_model.proofs.MessageLists.{some-position}
 use Rattle.lane_end.specs.ReceiveMoves.{Gave}
 use Rattle.buffer_book.specs.Book.{Book, IsQueued, slot_of, with_away}
 use Rattle.endpoint_table.specs.Table as endpoint_table
-use Rattle.domain_core.specs.LaneSeen.{LaneSeen}
-use Rattle.domain_core.specs.declared.peer.Peer.{Peer}
-use Rattle.domain_core.specs.LaneMoves.{LaneMove, receiver}
-use Rattle.domain_core.specs.AllMoved.{AllMoved, buffers_of, call_moves, ends_of, giving, moves_at, numbers_of}
-use Rattle.domain_core.specs.GivingBack.{GivesBack, IsOutAt}
-use Rattle.domain_core.specs.Peers.{peer_in, peers_in}
-use Rattle.domain_core.specs.declared.endpoints.Endpoint.{Endpoint}
-use Rattle.domain_core.specs.Records.{Records, all_waiting, lent_slots, with_best_taken, with_best_taken_at, with_oldest_taken, with_oldest_taken_at}
+use Rattle.domain_parts.specs.LaneSeen.{LaneSeen}
+use Rattle.domain_parts.specs.declared.peer.Peer.{Peer}
+use Rattle.domain_parts.specs.LaneMoves.{LaneMove, receiver}
+use Rattle.domain_parts.specs.AllMoved.{AllMoved, buffers_of, call_moves, ends_of, giving, moves_at, numbers_of}
+use Rattle.domain_parts.specs.GivingBack.{GivesBack, IsOutAt}
+use Rattle.domain_parts.specs.Peers.{peer_in, peers_in}
+use Rattle.domain_parts.specs.declared.endpoints.Endpoint.{Endpoint}
+use Rattle.domain_parts.specs.Records.{Records, all_waiting, lent_slots, with_best_taken, with_best_taken_at, with_oldest_taken, with_oldest_taken_at}
 use Rattle.request_set.specs.Requests.{Requests}
-use Rattle.domain_core.specs.InRequests.{AreReceives}
-use Rattle.domain_core.specs.InPlaces.{AreInPlaces, EachInPlace, IsLentAs, is_misplaced, is_of, is_same, one_if, slots_of, times_in}
-use Rattle.domain_core.specs.Sound.{AreRising, ArePeers, AreSound, IsSized, buffers_count, out_at, outs_count}
-use Rattle.domain_core.specs.Tied.{AreTied, linked_among, live_record}
-use Rattle.domain_core.proofs.Books.{same-slot}
-use Rattle.domain_core.proofs.Leaving.{GivesUp, left-up}
-use Rattle.domain_core.proofs.Outs.{given-places, length-given, lent-out, there-out, there-queued}
-use Rattle.domain_core.proofs.Placed.{HasMore, HaveSame, other-slots}
-use Rattle.domain_core.proofs.Slots.{length-same}
+use Rattle.domain_parts.specs.InRequests.{AreReceives}
+use Rattle.domain_parts.specs.InPlaces.{AreInPlaces, EachInPlace, IsLentAs, is_misplaced, is_of, is_same, one_if, slots_of, times_in}
+use Rattle.domain_parts.specs.Sound.{AreRising, ArePeers, AreSound, IsSized, buffers_count, out_at, outs_count}
+use Rattle.domain_parts.specs.Tied.{AreTied, linked_among, live_record}
+use Rattle.domain_parts.proofs.Books.{same-slot}
+use Rattle.domain_parts.proofs.Leaving.{GivesUp, left-up}
+use Rattle.domain_parts.proofs.Outs.{given-places, length-given, lent-out, there-out, there-queued}
+use Rattle.domain_parts.proofs.Placed.{HasMore, HaveSame, other-slots}
+use Rattle.domain_parts.proofs.Slots.{length-same}
 
 -- ---- lists
 

@@ -15,11 +15,11 @@ use Rattle.request_set.specs.declared.ask.Ask.{Ask}
 use Rattle.request_set.specs.declared.ask.Complete.{Complete}
 use Rattle.request_set.specs.declared.ask.Complete.TheVariants as complete
 use Rattle.request_set.specs.Requests.{Standing}
-use Rattle.domain_core.specs.InBook.{channel_in, content_in, numbered_at, outcome_in, packet_in, packets_in, priority_in, request_in, requests_in, source_in}
-use Rattle.domain_core.specs.InRequests.{handed_slots, slots_in}
-use Rattle.domain_core.specs.InPlaces.{is_of, is_same, times_in}
-use Rattle.domain_core.proofs.Books.{differ-back, kept-there}
-use Rattle.domain_core.proofs.Placed.{no-one}
+use Rattle.domain_parts.specs.InBook.{channel_in, content_in, numbered_at, outcome_in, packet_in, packets_in, priority_in, request_in, requests_in, source_in}
+use Rattle.domain_parts.specs.InRequests.{handed_slots, slots_in}
+use Rattle.domain_parts.specs.InPlaces.{is_of, is_same, times_in}
+use Rattle.domain_parts.proofs.Books.{differ-back, kept-there}
+use Rattle.domain_parts.proofs.Placed.{no-one}
 
 -- ---- what was handed in other buffers than the one that changed stays
 

@@ -26,20 +26,20 @@ use Rattle.buffer_book.specs.Book.{Book}
 use Rattle.packet_channel.specs.End.{end_of}
 use Rattle.packet_channel.specs.declared.channel.Channel.{Channel}
 use Rattle.request_set.specs.Requests.{IsPending, Standing, oldest_waiting, receives_at, request_of, waits_at}
-use Rattle.domain_core.specs.declared.dealing.Verdict.{Verdict}
-use Rattle.domain_core.specs.declared.dealing.Verdict.TheVariants as verdict
-use Rattle.domain_core.specs.declared.endpoints.Endpoint.{Endpoint}
-use Rattle.domain_core.specs.declared.replies.Reply.{Reply}
-use Rattle.domain_core.specs.Accepting.{Accepts, busy_at, has_end}
-use Rattle.domain_core.specs.InBook.{endpoint_in, endpoints_in, item_in}
-use Rattle.domain_core.specs.InRequests.{AreReceives}
-use Rattle.domain_core.specs.Peers.{reply_in}
-use Rattle.domain_core.specs.Records.{Records, kept, with_channel_at}
-use Rattle.domain_core.specs.Table.{holding}
-use Rattle.domain_core.specs.Verdicts.{Brings, Desk, Fits, IsHanded, IsItem, IsJudged, IsQueued, IsReturned, IsVerdict, Shows, accepts, desk, framed_item, letter_row, local_of, nothing, replies}
-use Rattle.domain_core.proofs.Readings.{AreBytes, item-read}
-use Rattle.domain_core.proofs.Receives.{found-place, waiting-place}
-use Rattle.domain_core.proofs.Tables.{kept-new, some-end}
+use Rattle.domain_parts.specs.declared.dealing.Verdict.{Verdict}
+use Rattle.domain_parts.specs.declared.dealing.Verdict.TheVariants as verdict
+use Rattle.domain_parts.specs.declared.endpoints.Endpoint.{Endpoint}
+use Rattle.domain_parts.specs.declared.replies.Reply.{Reply}
+use Rattle.domain_parts.specs.Accepting.{Accepts, busy_at, has_end}
+use Rattle.domain_parts.specs.InBook.{endpoint_in, endpoints_in, item_in}
+use Rattle.domain_parts.specs.InRequests.{AreReceives}
+use Rattle.domain_parts.specs.Peers.{reply_in}
+use Rattle.domain_parts.specs.Records.{Records, kept, with_channel_at}
+use Rattle.domain_parts.specs.Table.{holding}
+use Rattle.domain_parts.specs.Verdicts.{Brings, Desk, Fits, IsHanded, IsItem, IsJudged, IsQueued, IsReturned, IsVerdict, Shows, accepts, desk, framed_item, letter_row, local_of, nothing, replies}
+use Rattle.domain_parts.proofs.Readings.{AreBytes, item-read}
+use Rattle.domain_parts.proofs.Receives.{found-place, waiting-place}
+use Rattle.domain_parts.proofs.Tables.{kept-new, some-end}
 
 -- a name that is not known is not forgotten
 pub none-forgotten : (n : EndName) (ks : Names) → is_some (address_in n ks) ≡ false → forgotten n ks ≡ ks

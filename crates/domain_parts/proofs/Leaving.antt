@@ -11,17 +11,17 @@ use Rattle.board_model.proofs.ListsCounts.{count-cons}
 use Rattle.buffer_book.specs.Book.{Book, Kept, if_lent, slot_of, with_away, with_place}
 use Rattle.message_queue.specs.Queue.{Waiting}
 use Rattle.request_set.specs.Requests.{Requests}
-use Rattle.domain_core.specs.Table.{with_held}
-use Rattle.domain_core.specs.Records.{Records, all_waiting, lent_slots}
-use Rattle.domain_core.specs.Out.{Out}
-use Rattle.domain_core.specs.InBook.{endpoints_in, held_by, packets_in, requests_in, table_in}
-use Rattle.domain_core.specs.InRequests.{handed_slots}
-use Rattle.domain_core.specs.InPlaces.{AreInPlaces, AreInPlacesBut, EachInPlace, IsLentAs, KeepOthers, is_misplaced, is_same, one_if, slots_of, times_in, times_waiting}
-use Rattle.domain_core.proofs.Books.{differ-back, kept-there}
-use Rattle.domain_core.proofs.Handed.{packets-stay, requests-stay}
-use Rattle.domain_core.proofs.Placed.{HasMore, more-queued, no-one, none-left, queued-not_lent, stands-of, withdrawn, withdrawn-other}
-use Rattle.domain_core.proofs.Slots.{length-more, misplaced-stay, times-all}
-use Rattle.domain_core.proofs.Waits.{endpoints-stay}
+use Rattle.domain_parts.specs.Table.{with_held}
+use Rattle.domain_parts.specs.Records.{Records, all_waiting, lent_slots}
+use Rattle.domain_parts.specs.Out.{Out}
+use Rattle.domain_parts.specs.InBook.{endpoints_in, held_by, packets_in, requests_in, table_in}
+use Rattle.domain_parts.specs.InRequests.{handed_slots}
+use Rattle.domain_parts.specs.InPlaces.{AreInPlaces, AreInPlacesBut, EachInPlace, IsLentAs, KeepOthers, is_misplaced, is_same, one_if, slots_of, times_in, times_waiting}
+use Rattle.domain_parts.proofs.Books.{differ-back, kept-there}
+use Rattle.domain_parts.proofs.Handed.{packets-stay, requests-stay}
+use Rattle.domain_parts.proofs.Placed.{HasMore, more-queued, no-one, none-left, queued-not_lent, stands-of, withdrawn, withdrawn-other}
+use Rattle.domain_parts.proofs.Slots.{length-more, misplaced-stay, times-all}
+use Rattle.domain_parts.proofs.Waits.{endpoints-stay}
 
 -- a slot is given up: its lane has it back, every other lane stays in order, and one slot fewer is held
 pub record GivesUp (r r' : Records) (q q' : Requests) (b : Book) (s : Slot) : Type 0 where

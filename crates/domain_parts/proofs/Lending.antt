@@ -17,26 +17,26 @@ use Rattle.message_queue.specs.Queue.{Waiting, waiting}
 use Rattle.request_set.specs.declared.ask.Complete.{Complete}
 use Rattle.request_set.specs.declared.ask.Complete.TheVariants as complete
 use Rattle.request_set.specs.Requests.{Requests, Standing}
-use Rattle.domain_core.specs.LaneSeen.{LaneSeen}
-use Rattle.domain_core.specs.declared.endpoints.Endpoint.{Endpoint}
-use Rattle.domain_core.specs.declared.peer.Peer.{Peer}
-use Rattle.domain_core.specs.DomainView.{has_packet_id, place_of_packet_id}
-use Rattle.domain_core.specs.InBook.{channel_in, content_in, endpoint_in, endpoints_in, numbered_at, item_in, outcome_in, packet_in, packets_in, priority_in, request_in, requests_in, source_in}
-use Rattle.domain_core.specs.InPlaces.{AreInPlaces, IsLentAs, is_misplaced, is_same, one_if, slots_of, times_in}
-use Rattle.domain_core.specs.InRequests.{AreReceives}
-use Rattle.domain_core.specs.Out.{Out}
-use Rattle.domain_core.specs.Peers.{state_in}
-use Rattle.domain_core.specs.AllMoved.{numbers_of}
-use Rattle.domain_core.specs.Records.{Records, all_waiting, lent_slots, with_last_lent}
-use Rattle.domain_core.specs.Sound.{ArePeers, AreSound, out_at}
-use Rattle.domain_core.specs.Steps.{next_lent, with_lent_at}
-use Rattle.domain_core.specs.Stores.{KeepsBut}
-use Rattle.domain_core.proofs.Books.{each-slot, kept-there}
-use Rattle.domain_core.proofs.GivingLemmas.{All-each, InPlacesAt, SameEndpoints, same-tied}
-use Rattle.domain_core.proofs.Leaving.{each-lent}
-use Rattle.domain_core.proofs.Placed.{HasMore, kept-still, kept-was, lent-here, lent-place, no-one, queued-not_lent, stands-of}
-use Rattle.domain_core.proofs.Slots.{length-more}
-use Rattle.domain_core.proofs.Tables.{All-push}
+use Rattle.domain_parts.specs.LaneSeen.{LaneSeen}
+use Rattle.domain_parts.specs.declared.endpoints.Endpoint.{Endpoint}
+use Rattle.domain_parts.specs.declared.peer.Peer.{Peer}
+use Rattle.domain_parts.specs.DomainView.{has_packet_id, place_of_packet_id}
+use Rattle.domain_parts.specs.InBook.{channel_in, content_in, endpoint_in, endpoints_in, numbered_at, item_in, outcome_in, packet_in, packets_in, priority_in, request_in, requests_in, source_in}
+use Rattle.domain_parts.specs.InPlaces.{AreInPlaces, IsLentAs, is_misplaced, is_same, one_if, slots_of, times_in}
+use Rattle.domain_parts.specs.InRequests.{AreReceives}
+use Rattle.domain_parts.specs.Out.{Out}
+use Rattle.domain_parts.specs.Peers.{state_in}
+use Rattle.domain_parts.specs.AllMoved.{numbers_of}
+use Rattle.domain_parts.specs.Records.{Records, all_waiting, lent_slots, with_last_lent}
+use Rattle.domain_parts.specs.Sound.{ArePeers, AreSound, out_at}
+use Rattle.domain_parts.specs.Steps.{next_lent, with_lent_at}
+use Rattle.domain_parts.specs.Stores.{KeepsBut}
+use Rattle.domain_parts.proofs.Books.{each-slot, kept-there}
+use Rattle.domain_parts.proofs.GivingLemmas.{All-each, InPlacesAt, SameEndpoints, same-tied}
+use Rattle.domain_parts.proofs.Leaving.{each-lent}
+use Rattle.domain_parts.proofs.Placed.{HasMore, kept-still, kept-was, lent-here, lent-place, no-one, queued-not_lent, stands-of}
+use Rattle.domain_parts.proofs.Slots.{length-more}
+use Rattle.domain_parts.proofs.Tables.{All-push}
 
 -- ---- lists
 

@@ -1,16 +1,16 @@
 -- What the steps mean by which packets are lent and requested.
-use Rattle.domain_core.proofs.Queuing.{ended-more}
-use Rattle.domain_core.proofs.Meaning.{left-ids}
-use Rattle.domain_core.proofs.Receives.{map-without}
+use Rattle.domain_parts.proofs.Queuing.{ended-more}
+use Rattle.domain_parts.proofs.Meaning.{left-ids}
+use Rattle.domain_parts.proofs.Receives.{map-without}
 use Rattle.board_model.specs.Labels.{packet_tested}
 use Rattle.board_model.specs.Lists.{changed_at}
 use Rattle.lane_end.proofs.CountLemmas.{length-apart}
-use Rattle.domain_core.specs.AllMoved.{numbers_of}
-use Rattle.domain_core.specs.Sound.{buffers_count, out_at, outs_count}
-use Rattle.domain_core.specs.InRequests.{AreReceives, handed_slots}
-use Rattle.domain_core.specs.declared.endpoints.Endpoint.{Endpoint}
+use Rattle.domain_parts.specs.AllMoved.{numbers_of}
+use Rattle.domain_parts.specs.Sound.{buffers_count, out_at, outs_count}
+use Rattle.domain_parts.specs.InRequests.{AreReceives, handed_slots}
+use Rattle.domain_parts.specs.declared.endpoints.Endpoint.{Endpoint}
 use Rattle.std.specs.List.{AllByRecursion}
-use Rattle.domain_core.specs.InPlaces.{AreInPlaces, slots_of, times_in}
+use Rattle.domain_parts.specs.InPlaces.{AreInPlaces, slots_of, times_in}
 use Rattle.std.proofs.Common.{◌≡◌, ℕ, ◌+◌, Bool, true, false, cond, List, [], ◌∷◌, ◌++◌, drop, length, map, Option, Some, None, refl, sym, ap, ◌∙◌, subst, arith, ◌<◌, ◌≤◌, zero, suc}
 use Rattle.std.specs.Prelude.{is_some, option_and_then, option_map, slice_get, ◌==◌, unwrap_or, Contains}
 use Rattle.std.proofs.lemmas.List.{append-nil}
@@ -32,31 +32,31 @@ use Rattle.message_queue.specs.Queue.{Waiting}
 use Rattle.request_set.specs.declared.ask.Ask.TheVariants as ask
 use Rattle.request_set.specs.declared.ask.Complete.TheVariants as complete
 use Rattle.request_set.specs.Requests.{Requests}
-use Rattle.domain_core.specs.LaneSeen.{LaneSeen}
-use Rattle.domain_core.specs.declared.peer.Peer.{Peer}
-use Rattle.domain_core.specs.Calls.{IsFresh, gives_whole, brings_whole}
-use Rattle.domain_core.specs.CallSteps.{Means, call_steps, if_some, oldest_slot, requesting, ending, how_held}
-use Rattle.domain_core.specs.DomainView.{place_of_packet_id}
-use Rattle.domain_core.specs.InBook.{endpoints_in, numbered_at, packets_in, request_in}
-use Rattle.domain_core.specs.Parts.{Parts, Sound, plain, state_of}
-use Rattle.domain_core.specs.Peers.{state_in}
-use Rattle.domain_core.specs.Records.{Records, lent_slots, waiting_in, with_last_lent, with_oldest_taken_at, all_waiting, with_oldest_taken}
-use Rattle.domain_core.specs.Steps.{Step, all_moves, done, done_all, next_lent, oldest_lent, packet_begun, with_last, with_lent_at, request_begun, packet_ended, step_moves, without_at}
-use Rattle.domain_core.specs.Stores.{KeepsBut}
-use Rattle.domain_core.proofs.Asking.{asked-state}
-use Rattle.domain_core.proofs.Beginning.{last-ids, last-more, pending-same}
-use Rattle.domain_core.proofs.CallsAgree.{at-live, there_at}
-use Rattle.domain_core.proofs.ChannelMeaning.{changed-there}
-use Rattle.domain_core.proofs.DataMeaning.{oldest-there, no-oldest}
-use Rattle.domain_core.proofs.Deleting.{endpoints-oldest, oldest-fewer, oldest-more, oldest-queued}
-use Rattle.domain_core.proofs.Ending.{ids_in}
-use Rattle.domain_core.proofs.GivingLemmas.{oldest-same, sound-moved, same-endpoints}
-use Rattle.domain_core.proofs.Lending.{keeps-lent, lent-book, lent-sound, lent-state, packet-new, packet_at_place_in}
-use Rattle.domain_core.proofs.Placed.{queued-not_lent, stands-of, HasMore}
-use Rattle.domain_core.proofs.Slots.{handed-has, length-more}
-use Rattle.domain_core.proofs.StateFits.{ends-of}
-use Rattle.domain_core.proofs.Stepping.{quiet-peers}
-use Rattle.domain_core.proofs.Storing.{keeps-but_none}
+use Rattle.domain_parts.specs.LaneSeen.{LaneSeen}
+use Rattle.domain_parts.specs.declared.peer.Peer.{Peer}
+use Rattle.domain_parts.specs.Calls.{IsFresh, gives_whole, brings_whole}
+use Rattle.domain_parts.specs.CallSteps.{Means, call_steps, if_some, oldest_slot, requesting, ending, how_held}
+use Rattle.domain_parts.specs.DomainView.{place_of_packet_id}
+use Rattle.domain_parts.specs.InBook.{endpoints_in, numbered_at, packets_in, request_in}
+use Rattle.domain_parts.specs.Parts.{Parts, Sound, plain, state_of}
+use Rattle.domain_parts.specs.Peers.{state_in}
+use Rattle.domain_parts.specs.Records.{Records, lent_slots, waiting_in, with_last_lent, with_oldest_taken_at, all_waiting, with_oldest_taken}
+use Rattle.domain_parts.specs.Steps.{Step, all_moves, done, done_all, next_lent, oldest_lent, packet_begun, with_last, with_lent_at, request_begun, packet_ended, step_moves, without_at}
+use Rattle.domain_parts.specs.Stores.{KeepsBut}
+use Rattle.domain_parts.proofs.Asking.{asked-state}
+use Rattle.domain_parts.proofs.Beginning.{last-ids, last-more, pending-same}
+use Rattle.domain_parts.proofs.CallsAgree.{at-live, there_at}
+use Rattle.domain_parts.proofs.ChannelMeaning.{changed-there}
+use Rattle.domain_parts.proofs.DataMeaning.{oldest-there, no-oldest}
+use Rattle.domain_parts.proofs.Deleting.{endpoints-oldest, oldest-fewer, oldest-more, oldest-queued}
+use Rattle.domain_parts.proofs.Ending.{ids_in}
+use Rattle.domain_parts.proofs.GivingLemmas.{oldest-same, sound-moved, same-endpoints}
+use Rattle.domain_parts.proofs.Lending.{keeps-lent, lent-book, lent-sound, lent-state, packet-new, packet_at_place_in}
+use Rattle.domain_parts.proofs.Placed.{queued-not_lent, stands-of, HasMore}
+use Rattle.domain_parts.proofs.Slots.{handed-has, length-more}
+use Rattle.domain_parts.proofs.StateFits.{ends-of}
+use Rattle.domain_parts.proofs.Stepping.{quiet-peers}
+use Rattle.domain_parts.proofs.Storing.{keeps-but_none}
 
 pub some-of : {X : Type 0} (o : Option X) → is_some o ≡ true → (x : X) × (o ≡ Some x)
 some-of None is = absurd cc

@@ -6,11 +6,11 @@ use Rattle.std.specs.List.{AllByRecursion, insert}
 use Rattle.board_model.specs.LinkedBoard.{Differ}
 use Rattle.board_model.proofs.ListsApart.{all-map, all-unmap}
 use Rattle.board_model.proofs.MessageAlls.{all-weaken}
-use Rattle.domain_core.specs.declared.link.Link.{Link}
-use Rattle.domain_core.specs.Opened.{own_place, placed}
-use Rattle.domain_core.specs.Sound.{AreRising}
-use Rattle.domain_core.specs.Tied.{linked_among}
-use Rattle.domain_core.proofs.Filters.{filter-every}
+use Rattle.domain_parts.specs.declared.link.Link.{Link}
+use Rattle.domain_parts.specs.Opened.{own_place, placed}
+use Rattle.domain_parts.specs.Sound.{AreRising}
+use Rattle.domain_parts.specs.Tied.{linked_among}
+use Rattle.domain_parts.proofs.Filters.{filter-every}
 
 pub map-map : {X Y Z : Type 0} (g : Y → Z) (f : X → Y) (xs : List X) → map g (map f xs) ≡ map (λ x. g (f x)) xs
 map-map g f [] = refl

@@ -1,12 +1,12 @@
 -- The links among the ends of a domain.
 use Rattle.std.proofs.Common.{◌≡◌, ◌≤◌, ◌<◌, List, [], ◌∷◌, ◌++◌, length, refl, sym, ap, ◌∙◌, arith}
 use Rattle.std.proofs.lemmas.List.{append_assoc, length-append, length-map}
-use Rattle.domain_core.specs.declared.link.Link.{Link}
-use Rattle.domain_core.specs.declared.ends.Ends.{Ends}
-use Rattle.domain_core.specs.declared.ends.Ends.TheVariants.{Own, Linked}
-use Rattle.domain_core.specs.declared.peer.Peer.{Peer}
-use Rattle.domain_core.specs.AllMoved.{ends_of}
-use Rattle.domain_core.specs.Opening.{links_in}
+use Rattle.domain_parts.specs.declared.link.Link.{Link}
+use Rattle.domain_parts.specs.declared.ends.Ends.{Ends}
+use Rattle.domain_parts.specs.declared.ends.Ends.TheVariants.{Own, Linked}
+use Rattle.domain_parts.specs.declared.peer.Peer.{Peer}
+use Rattle.domain_parts.specs.AllMoved.{ends_of}
+use Rattle.domain_parts.specs.Opening.{links_in}
 
 pub whole-more : {X : Type 0} (first : List X) (x : X) (rest all : List X) → first ++ x ∷ rest ≡ all → (first ++ x ∷ []) ++ rest ≡ all
 whole-more first x rest all whole = append_assoc first (x ∷ []) rest ∙ whole

@@ -10,7 +10,7 @@ use Rattle.mc_base.specs.declared.request.Slot.{Slot}
 use Rattle.board_model.specs.Answer.{address_of}
 use Rattle.board_model.specs.Choice.{best}
 use Rattle.board_model.specs.DomainCall.{available_at, cancel_of, create_at, lookup_of, raw_to, receive_at, request_at, send_from, test_of}
-use Rattle.domain_core.specs.PlacedCalls.{best_queued, with_request}
+use Rattle.domain_parts.specs.PlacedCalls.{best_queued, with_request}
 use Rattle.board_model.specs.CallChanges.{held_by, lent_by, lent_by_test}
 use Rattle.board_model.specs.Labels.{packet_brought, packet_tested}
 use Rattle.board_model.specs.Change.{Change, changed, changed_all, request_gone}
@@ -25,41 +25,41 @@ use Rattle.request_set.specs.declared.ask.Ask.TheVariants as ask
 use Rattle.request_set.specs.declared.ask.Complete.{Complete}
 use Rattle.request_set.specs.declared.ask.Complete.TheVariants as complete
 use Rattle.request_set.specs.Requests.{Requests, Standing, is_id, progress_of, request_of, without_request}
-use Rattle.domain_core.specs.LaneSeen.{LaneSeen}
-use Rattle.domain_core.specs.declared.endpoints.Endpoint.{Endpoint}
-use Rattle.domain_core.specs.declared.peer.Peer.{Peer}
-use Rattle.domain_core.specs.declared.requests.Waiters.TheVariants as waiters
-use Rattle.domain_core.specs.AllMoved.{giving}
-use Rattle.domain_core.specs.Calls.{IsFresh}
-use Rattle.domain_core.specs.CallSteps.{Means, best_slot, call_steps, ending, if_some, receiving, how_held}
-use Rattle.domain_core.specs.DomainView.{place_of_id}
-use Rattle.domain_core.specs.GivingBack.{IsOutAt}
-use Rattle.domain_core.specs.InBook.{endpoints_in, numbered_at, item_in, outcome_in, request_in}
-use Rattle.domain_core.specs.InRequests.{AreReceives, handed_slots, slots_in, with_all_complete}
-use Rattle.domain_core.specs.LaneMoves.{receiver, sender}
-use Rattle.domain_core.specs.Parts.{Parts, Sound, plain, state_of}
-use Rattle.domain_core.specs.Peers.{state_in}
-use Rattle.domain_core.specs.Records.{Records, waiting_in, with_best_taken_at, with_record}
-use Rattle.domain_core.specs.Steps.{Step, all_moves, done, done_all, message_ended, request_ended, step_moves, with_last, without_at}
-use Rattle.domain_core.specs.Stores.{KeepsBut}
-use Rattle.domain_core.specs.VisitMoves.{putting}
-use Rattle.domain_core.proofs.Asking.{asked-state}
-use Rattle.domain_core.proofs.CallsAgree.{create-agrees, raw-agrees, receive-agrees, request-agrees, returned-agrees, send-agrees}
-use Rattle.domain_core.proofs.StateFits.{ends-of}
+use Rattle.domain_parts.specs.LaneSeen.{LaneSeen}
+use Rattle.domain_parts.specs.declared.endpoints.Endpoint.{Endpoint}
+use Rattle.domain_parts.specs.declared.peer.Peer.{Peer}
+use Rattle.domain_parts.specs.declared.requests.Waiters.TheVariants as waiters
+use Rattle.domain_parts.specs.AllMoved.{giving}
+use Rattle.domain_parts.specs.Calls.{IsFresh}
+use Rattle.domain_parts.specs.CallSteps.{Means, best_slot, call_steps, ending, if_some, receiving, how_held}
+use Rattle.domain_parts.specs.DomainView.{place_of_id}
+use Rattle.domain_parts.specs.GivingBack.{IsOutAt}
+use Rattle.domain_parts.specs.InBook.{endpoints_in, numbered_at, item_in, outcome_in, request_in}
+use Rattle.domain_parts.specs.InRequests.{AreReceives, handed_slots, slots_in, with_all_complete}
+use Rattle.domain_parts.specs.LaneMoves.{receiver, sender}
+use Rattle.domain_parts.specs.Parts.{Parts, Sound, plain, state_of}
+use Rattle.domain_parts.specs.Peers.{state_in}
+use Rattle.domain_parts.specs.Records.{Records, waiting_in, with_best_taken_at, with_record}
+use Rattle.domain_parts.specs.Steps.{Step, all_moves, done, done_all, message_ended, request_ended, step_moves, with_last, without_at}
+use Rattle.domain_parts.specs.Stores.{KeepsBut}
+use Rattle.domain_parts.specs.VisitMoves.{putting}
+use Rattle.domain_parts.proofs.Asking.{asked-state}
+use Rattle.domain_parts.proofs.CallsAgree.{create-agrees, raw-agrees, receive-agrees, request-agrees, returned-agrees, send-agrees}
+use Rattle.domain_parts.proofs.StateFits.{ends-of}
 use Rattle.board_model.proofs.MessageLists.{get-position}
-use Rattle.domain_core.proofs.Beginning.{last-ids}
-use Rattle.domain_core.proofs.Completing.{ids-all}
-use Rattle.domain_core.proofs.Ending.{ids_in}
-use Rattle.domain_core.proofs.Placed.{HasMore}
-use Rattle.domain_core.proofs.Queuing.{ended-more}
-use Rattle.domain_core.proofs.Receives.{gone-at, map-without, place-of_id}
-use Rattle.domain_core.proofs.Receiving.{begun-state, best-is, best-item, given-state}
-use Rattle.domain_core.proofs.Steps.{best_dropped-is, best_dropped-steps, frame_put-is}
-use Rattle.domain_core.proofs.Stepping.{Any, gives-seen, quiet-peers}
-use Rattle.domain_core.proofs.Storing.{keeps-away, keeps-but_none}
-use Rattle.domain_core.proofs.Tables.{taken-none}
-use Rattle.domain_core.proofs.TiedStates.{made-state}
-use Rattle.domain_core.proofs.Waits.{queue-there}
+use Rattle.domain_parts.proofs.Beginning.{last-ids}
+use Rattle.domain_parts.proofs.Completing.{ids-all}
+use Rattle.domain_parts.proofs.Ending.{ids_in}
+use Rattle.domain_parts.proofs.Placed.{HasMore}
+use Rattle.domain_parts.proofs.Queuing.{ended-more}
+use Rattle.domain_parts.proofs.Receives.{gone-at, map-without, place-of_id}
+use Rattle.domain_parts.proofs.Receiving.{begun-state, best-is, best-item, given-state}
+use Rattle.domain_parts.proofs.Steps.{best_dropped-is, best_dropped-steps, frame_put-is}
+use Rattle.domain_parts.proofs.Stepping.{Any, gives-seen, quiet-peers}
+use Rattle.domain_parts.proofs.Storing.{keeps-away, keeps-but_none}
+use Rattle.domain_parts.proofs.Tables.{taken-none}
+use Rattle.domain_parts.proofs.TiedStates.{made-state}
+use Rattle.domain_parts.proofs.Waits.{queue-there}
 
 -- a buffer given back, and a frame put, at a peer whose number is the one or not
 pub one-gave : (s : Slot) (b : Bool) → cond b (receiver (Gave s.buffer) ∷ []) [] ≡ giving (map (λ (x : Slot). x.buffer) (cond b (s ∷ []) []))

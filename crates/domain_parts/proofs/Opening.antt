@@ -19,23 +19,23 @@ use Rattle.endpoint_table.specs.Table as endpoint_table
 use Rattle.endpoint_table.specs.Table.{Owing, nothing_owed, opening_table, owing_to}
 use Rattle.lane_end.specs.Loop.{Loop, new_loop}
 use Rattle.request_set.specs.Requests.{Requests, no_requests}
-use Rattle.domain_core.specs.LaneSeen.{LaneSeen}
-use Rattle.domain_core.specs.declared.link.Link.{Link}
-use Rattle.domain_core.specs.declared.ends.Ends.{Ends}
-use Rattle.domain_core.specs.declared.ends.Ends.TheVariants.{Own, Linked}
-use Rattle.domain_core.specs.declared.peer.Peer.{Peer}
-use Rattle.domain_core.specs.AllMoved.{ends_of, numbers_of}
-use Rattle.domain_core.specs.Ends.{ends_seen}
-use Rattle.domain_core.specs.InPlaces.{AreInPlaces, EachInPlace, IsShort, one_if}
-use Rattle.domain_core.specs.Opened.{linked_peer, own_peer, peers_opened, placed, size_of, sizes_opened}
-use Rattle.domain_core.specs.Opening.{AreLinksOf, IsOpenLink, ends_opened, neighbour_of, neighbours_opened}
-use Rattle.domain_core.specs.Out.{out_of}
-use Rattle.domain_core.specs.Owed.{owed_by}
-use Rattle.domain_core.specs.Peers.{announcement_in, peer_in, state_in}
-use Rattle.domain_core.specs.Records.{Records, opening_records}
-use Rattle.domain_core.specs.Sound.{AreRising, ArePeers, AreSound, IsSized, buffers_count, out_at, outs_count}
-use Rattle.domain_core.specs.Tied.{linked_among}
-use Rattle.domain_core.proofs.LinkPlaces.{all-placed, length-rising, map-map, map-placed, placed-contains, placed-linked, placed-rising, placed-same, rising-differ}
+use Rattle.domain_parts.specs.LaneSeen.{LaneSeen}
+use Rattle.domain_parts.specs.declared.link.Link.{Link}
+use Rattle.domain_parts.specs.declared.ends.Ends.{Ends}
+use Rattle.domain_parts.specs.declared.ends.Ends.TheVariants.{Own, Linked}
+use Rattle.domain_parts.specs.declared.peer.Peer.{Peer}
+use Rattle.domain_parts.specs.AllMoved.{ends_of, numbers_of}
+use Rattle.domain_parts.specs.Ends.{ends_seen}
+use Rattle.domain_parts.specs.InPlaces.{AreInPlaces, EachInPlace, IsShort, one_if}
+use Rattle.domain_parts.specs.Opened.{linked_peer, own_peer, peers_opened, placed, size_of, sizes_opened}
+use Rattle.domain_parts.specs.Opening.{AreLinksOf, IsOpenLink, ends_opened, neighbour_of, neighbours_opened}
+use Rattle.domain_parts.specs.Out.{out_of}
+use Rattle.domain_parts.specs.Owed.{owed_by}
+use Rattle.domain_parts.specs.Peers.{announcement_in, peer_in, state_in}
+use Rattle.domain_parts.specs.Records.{Records, opening_records}
+use Rattle.domain_parts.specs.Sound.{AreRising, ArePeers, AreSound, IsSized, buffers_count, out_at, outs_count}
+use Rattle.domain_parts.specs.Tied.{linked_among}
+use Rattle.domain_parts.proofs.LinkPlaces.{all-placed, length-rising, map-map, map-placed, placed-contains, placed-linked, placed-rising, placed-same, rising-differ}
 
 -- ---- the book of buffers
 

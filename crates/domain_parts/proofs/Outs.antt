@@ -7,10 +7,10 @@ use Rattle.lane_end.specs.ReceiverContract.{without}
 use Rattle.lane_end.proofs.CountLemmas.{tick, contained-often, length-apart, length-without, often-append, often-without}
 use Rattle.buffer_book.specs.Book.{Book, IsQueued, kept_at, queued_at}
 use Rattle.request_set.specs.Requests.{Requests}
-use Rattle.domain_core.specs.Records.{Records, lent_slots}
-use Rattle.domain_core.specs.Out.{Out, out_of, with_one_back}
-use Rattle.domain_core.specs.InPlaces.{AreInPlaces, AreInPlacesBut, is_of, one_if, slot_at, slots_of, times_in}
-use Rattle.domain_core.proofs.Placed.{often-own, queued-kept}
+use Rattle.domain_parts.specs.Records.{Records, lent_slots}
+use Rattle.domain_parts.specs.Out.{Out, out_of, with_one_back}
+use Rattle.domain_parts.specs.InPlaces.{AreInPlaces, AreInPlacesBut, is_of, one_if, slot_at, slots_of, times_in}
+use Rattle.domain_parts.proofs.Placed.{often-own, queued-kept}
 
 -- a buffer out of all places is out
 stands : (number : ℕ) (r : Records) (q : Requests) (b : Book) (o : Out) (n : ℕ) → AreInPlacesBut n number r q b o → 0 < often n o.numbers

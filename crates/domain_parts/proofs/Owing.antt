@@ -4,24 +4,24 @@ use Rattle.std.specs.Prelude.{◌==◌, not, ◌||◌, find, option_map, option_
 use Rattle.std.proofs.lemmas.List.{append-nil, length-append, map-append}
 use Rattle.board_model.specs.Journal.{Line, put_line, turn_line}
 use Rattle.lane_end.specs.SendMoves.{Sent}
-use Rattle.domain_core.specs.LaneMoves.{LaneMove, sender}
-use Rattle.domain_core.specs.VisitMoves.{putting}
+use Rattle.domain_parts.specs.LaneMoves.{LaneMove, sender}
+use Rattle.domain_parts.specs.VisitMoves.{putting}
 use Rattle.mc_base.specs.Limits.{name_service_address}
 use Rattle.mc_base.specs.Frame.{made}
 use Rattle.mc_base.specs.Announcement.{announcement}
 use Rattle.endpoint_table.specs.Table.{Owing, Table, announcement_of, owing_to, paid_to, told_oldest}
 use Rattle.board_model.specs.Deeds.{Deed, MayDo, puts_owed}
 use Rattle.board_model.specs.State as state
-use Rattle.domain_core.specs.declared.peer.Peer.{Peer}
-use Rattle.domain_core.specs.declared.replies.Reply.{Reply}
-use Rattle.domain_core.specs.CallSteps.{Rests}
-use Rattle.domain_core.specs.Doing.{Doing, Puts, owed_at}
-use Rattle.domain_core.specs.LaneSeen.{LaneSeen, after_moves}
-use Rattle.domain_core.specs.Owed.{owed_by, put_lines, room_for}
-use Rattle.domain_core.specs.Parts.{Holding, Parts, Sound, nobody, peer_at, peer_seen, peers_seen, plain, state_of}
-use Rattle.domain_core.specs.Peers.{announcement_in, peer_in, reply_in}
-use Rattle.domain_core.proofs.PeersAt.{find-place}
-use Rattle.domain_core.proofs.Turning.{did-numbers, doing-none, doing-then, same-number}
+use Rattle.domain_parts.specs.declared.peer.Peer.{Peer}
+use Rattle.domain_parts.specs.declared.replies.Reply.{Reply}
+use Rattle.domain_parts.specs.CallSteps.{Rests}
+use Rattle.domain_parts.specs.Doing.{Doing, Puts, owed_at}
+use Rattle.domain_parts.specs.LaneSeen.{LaneSeen, after_moves}
+use Rattle.domain_parts.specs.Owed.{owed_by, put_lines, room_for}
+use Rattle.domain_parts.specs.Parts.{Holding, Parts, Sound, nobody, peer_at, peer_seen, peers_seen, plain, state_of}
+use Rattle.domain_parts.specs.Peers.{announcement_in, peer_in, reply_in}
+use Rattle.domain_parts.proofs.PeersAt.{find-place}
+use Rattle.domain_parts.proofs.Turning.{did-numbers, doing-none, doing-then, same-number}
 use Rattle.endpoint_table.specs.declared.announced.Announced.{Announced}
 
 -- ---- what is owed

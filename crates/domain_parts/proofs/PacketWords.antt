@@ -11,7 +11,7 @@ use Rattle.board_model.specs.ChannelEnds.{end_refusal, receives}
 use Rattle.board_model.specs.DomainCall.{lend_at, packet_request_at}
 use Rattle.board_model.specs.State.{ChannelEnd, DomainState, place_at, queue_at}
 use Rattle.packet_channel.specs.End.{may}
-use Rattle.domain_core.proofs.Channels.{answered-none, answered-word, data-words, or_then}
+use Rattle.domain_parts.proofs.Channels.{answered-none, answered-word, data-words, or_then}
 
 module _ (s : DomainState) (at : Local) (i : ℕ) (c : ChannelEnd) (there : place_at s at ≡ Some i) (has : channel_at s at ≡ Some c) (queued : ℕ) (count : queued ≡ length (queue_at s at)) where
   abbrev lend_rest : Option Refusal

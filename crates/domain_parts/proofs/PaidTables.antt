@@ -9,12 +9,12 @@ use Rattle.endpoint_table.specs.declared.record.Record.{Record}
 use Rattle.endpoint_table.specs.declared.announced.Announced.{Announced}
 use Rattle.endpoint_table.specs.Table.{Owing, Table, tells_gone, owes_gone, is_in_use, told_oldest, paid_to}
 use Rattle.endpoint_table.proofs.RecordLemmas.{all-filter, rising-filter}
-use Rattle.domain_core.specs.Owed.{owed_by}
-use Rattle.domain_core.specs.Peers.{ended_in}
-use Rattle.domain_core.specs.Records.{Records}
-use Rattle.domain_core.specs.Tied.{AreTied}
-use Rattle.domain_core.proofs.Filters.{filter-every}
-use Rattle.domain_core.proofs.LinkPlaces.{map-map}
+use Rattle.domain_parts.specs.Owed.{owed_by}
+use Rattle.domain_parts.specs.Peers.{ended_in}
+use Rattle.domain_parts.specs.Records.{Records}
+use Rattle.domain_parts.specs.Tied.{AreTied}
+use Rattle.domain_parts.proofs.Filters.{filter-every}
+use Rattle.domain_parts.proofs.LinkPlaces.{map-map}
 
 -- a linked domain was told so many
 abbrev paid_times : ℕ → Table → ℕ → Table

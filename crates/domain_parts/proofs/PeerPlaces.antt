@@ -14,12 +14,12 @@ use Rattle.board_model.proofs.MessageLists.{some-position}
 use Rattle.buffer_book.specs.Book.{Book}
 use Rattle.endpoint_table.specs.Table as endpoint_table
 use Rattle.request_set.specs.Requests.{Requests}
-use Rattle.domain_core.specs.LaneSeen.{LaneSeen}
-use Rattle.domain_core.specs.declared.peer.Peer.{Peer}
-use Rattle.domain_core.specs.AllMoved.{numbers_of}
-use Rattle.domain_core.specs.Peers.{peer_in, peers_in, state_in}
-use Rattle.domain_core.specs.Records.{Records}
-use Rattle.domain_core.proofs.Tables.{position-map}
+use Rattle.domain_parts.specs.LaneSeen.{LaneSeen}
+use Rattle.domain_parts.specs.declared.peer.Peer.{Peer}
+use Rattle.domain_parts.specs.AllMoved.{numbers_of}
+use Rattle.domain_parts.specs.Peers.{peer_in, peers_in, state_in}
+use Rattle.domain_parts.specs.Records.{Records}
+use Rattle.domain_parts.proofs.Tables.{position-map}
 
 -- ---- what holds of all holds of each
 

@@ -9,13 +9,13 @@ use Rattle.board_model.proofs.MessageAlls.{all-at, all-filter}
 use Rattle.board_model.proofs.MessageLists.{changed_first}
 use Rattle.endpoint_table.specs.declared.announced.Announced.{Announced}
 use Rattle.endpoint_table.specs.Table.{Owing, Table, owing_to, tells_gone, owes_gone}
-use Rattle.domain_core.specs.LaneSeen.{LaneSeen}
-use Rattle.domain_core.specs.declared.peer.Peer.{Peer}
-use Rattle.domain_core.specs.Owed.{owed_by}
-use Rattle.domain_core.specs.Peers.{peer_in, peers_in, announcement_in}
-use Rattle.domain_core.specs.AllMoved.{numbers_of}
-use Rattle.domain_core.specs.Sound.{AreRising, outs_count, buffers_count}
-use Rattle.domain_core.specs.Tied.{linked_among}
+use Rattle.domain_parts.specs.LaneSeen.{LaneSeen}
+use Rattle.domain_parts.specs.declared.peer.Peer.{Peer}
+use Rattle.domain_parts.specs.Owed.{owed_by}
+use Rattle.domain_parts.specs.Peers.{peer_in, peers_in, announcement_in}
+use Rattle.domain_parts.specs.AllMoved.{numbers_of}
+use Rattle.domain_parts.specs.Sound.{AreRising, outs_count, buffers_count}
+use Rattle.domain_parts.specs.Tied.{linked_among}
 
 -- ---- a place among peers in rising number
 

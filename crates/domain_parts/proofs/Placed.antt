@@ -6,11 +6,11 @@ use Rattle.std.proofs.lemmas.Bool.{eqb-true, and_right, false_from_ne_true}
 use Rattle.mc_base.specs.Stored.{Stored}
 use Rattle.mc_base.specs.declared.request.Slot.{Slot}
 use Rattle.buffer_book.specs.Book.{Book, Kept, IsAway, IsQueued, if_queued, kept_at, place_at, queued_at, queued_in, with_away, with_lent, with_place, with_queued}
-use Rattle.domain_core.specs.InPlaces.{EachInPlace, IsShort, is_of, is_same, one_if, slot_at, times_in}
+use Rattle.domain_parts.specs.InPlaces.{EachInPlace, IsShort, is_of, is_same, one_if, slot_at, times_in}
 use Rattle.lane_end.specs.Numbers.{often, AreApart}
-use Rattle.domain_core.specs.Out.{Out}
+use Rattle.domain_parts.specs.Out.{Out}
 use Rattle.buffer_book.proofs.PlaceLemmas.{at-changed}
-use Rattle.domain_core.proofs.Books.{each-slot, itself, kept-there, place-there, queued-there}
+use Rattle.domain_parts.proofs.Books.{each-slot, itself, kept-there, place-there, queued-there}
 
 -- ---- counts of one
 

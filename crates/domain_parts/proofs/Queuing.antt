@@ -18,7 +18,7 @@ use Rattle.board_model.specs.Lists.{changed, changed_at}
 use Rattle.board_model.specs.State as state
 use Rattle.board_model.specs.State.{Item, LentPacket}
 use Rattle.board_model.specs.Choice.{best}
-use Rattle.domain_core.specs.PlacedFrames.{complete_with, item_of, queued_last}
+use Rattle.domain_parts.specs.PlacedFrames.{complete_with, item_of, queued_last}
 use Rattle.board_model.specs.Journal.{taken}
 use Rattle.board_model.specs.Unnamed.{unnamed_item}
 use Rattle.buffer_book.specs.Book.{AllDiffer, Book, IsAway, Kept, content, kept_at, queued_in, slot_of, with_queued, if_queued}
@@ -27,22 +27,22 @@ use Rattle.request_set.specs.declared.ask.Ask.TheVariants as ask
 use Rattle.request_set.specs.declared.ask.Complete.{Complete}
 use Rattle.request_set.specs.declared.ask.Ask.{Ask}
 use Rattle.request_set.specs.Requests.{IsPending, Requests, Standing, is_id, receives_at, request_of, with_complete}
-use Rattle.domain_core.specs.declared.endpoints.Endpoint.{Endpoint}
-use Rattle.domain_core.specs.Table.{Held, with_held}
-use Rattle.domain_core.specs.Records.{Records, all_waiting, lent_slots, waiting_in, with_best_taken, with_waiting, with_waiting_at}
-use Rattle.domain_core.specs.Out.{Out}
-use Rattle.domain_core.specs.InBook.{channel_in, channel_of, content_in, endpoints_in, held_by, numbered_at, item_in, outcome_in, packets_in, priority_in, priority_of, request_in, requests_in, source_in, table_in}
-use Rattle.domain_core.specs.InRequests.{AreReceives, Receives, handed_by, handed_slots}
-use Rattle.domain_core.specs.InPlaces.{AreInPlaces, AreInPlacesBut, EachInPlace, IsLentAs, KeepOthers, is_misplaced, one_if, slot_at, slots_of, times_in, times_waiting}
-use Rattle.domain_core.specs.Stores.{Stores}
-use Rattle.domain_core.specs.Verdicts.{framed_item, item_with}
-use Rattle.domain_core.proofs.Handed.{packets-stay, requests-stay}
-use Rattle.domain_core.proofs.Leaving.{each-lent}
-use Rattle.domain_core.proofs.Placed.{HasMore, away-lent, enqueued, enqueued-other, is-away, kept-here, none-waits, stands-of}
-use Rattle.domain_core.proofs.Receives.{complete-at, complete_now, each-complete, handed-more, ids-stay, keys-stay, length-stays, map-changed}
-use Rattle.domain_core.proofs.Slots.{handed-has, length-more, misplaced-stay, slots, times-all, waiting-has}
-use Rattle.domain_core.proofs.Storing.{keeps-held}
-use Rattle.domain_core.proofs.Waits.{endpoints-more, endpoints-stay, waiting-less, waiting-more}
+use Rattle.domain_parts.specs.declared.endpoints.Endpoint.{Endpoint}
+use Rattle.domain_parts.specs.Table.{Held, with_held}
+use Rattle.domain_parts.specs.Records.{Records, all_waiting, lent_slots, waiting_in, with_best_taken, with_waiting, with_waiting_at}
+use Rattle.domain_parts.specs.Out.{Out}
+use Rattle.domain_parts.specs.InBook.{channel_in, channel_of, content_in, endpoints_in, held_by, numbered_at, item_in, outcome_in, packets_in, priority_in, priority_of, request_in, requests_in, source_in, table_in}
+use Rattle.domain_parts.specs.InRequests.{AreReceives, Receives, handed_by, handed_slots}
+use Rattle.domain_parts.specs.InPlaces.{AreInPlaces, AreInPlacesBut, EachInPlace, IsLentAs, KeepOthers, is_misplaced, one_if, slot_at, slots_of, times_in, times_waiting}
+use Rattle.domain_parts.specs.Stores.{Stores}
+use Rattle.domain_parts.specs.Verdicts.{framed_item, item_with}
+use Rattle.domain_parts.proofs.Handed.{packets-stay, requests-stay}
+use Rattle.domain_parts.proofs.Leaving.{each-lent}
+use Rattle.domain_parts.proofs.Placed.{HasMore, away-lent, enqueued, enqueued-other, is-away, kept-here, none-waits, stands-of}
+use Rattle.domain_parts.proofs.Receives.{complete-at, complete_now, each-complete, handed-more, ids-stay, keys-stay, length-stays, map-changed}
+use Rattle.domain_parts.proofs.Slots.{handed-has, length-more, misplaced-stay, slots, times-all, waiting-has}
+use Rattle.domain_parts.proofs.Storing.{keeps-held}
+use Rattle.domain_parts.proofs.Waits.{endpoints-more, endpoints-stay, waiting-less, waiting-more}
 
 -- ---- what a frame says lies in its buffer
 

@@ -7,7 +7,7 @@ use Rattle.mc_base.specs.declared.refusal.Refusal.TheVariants.{LinkInvalid, NoBu
 use Rattle.board_model.specs.Answer.{lacks_buffers, refusal}
 use Rattle.board_model.specs.DomainCall.{raw_to}
 use Rattle.board_model.specs.State.{DomainState, free_to, place_of_peer}
-use Rattle.domain_core.proofs.Channels.{lacks-none}
+use Rattle.domain_parts.proofs.Channels.{lacks-none}
 
 abbrev raw_by : Bool → Bool → Bool → Option Refusal
 raw_by near sound full = cond (not near) (Some LinkInvalid) (cond sound (Some RawSound) (cond full (Some NoBuffer) None))

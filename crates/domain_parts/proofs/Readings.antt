@@ -18,14 +18,14 @@ use Rattle.mc_base.specs.declared.fault.FrameFault.TheVariants.{FrameShort, Fram
 use Rattle.mc_base.specs.declared.fault.LetterFault.TheVariants.{PayloadShort, Magic, Version, Kind, Argument, Channel, Size}
 use Rattle.mc_base.specs.declared.fault.NsFault.TheVariants.{NsSize, NsFlags, NsName}
 use Rattle.board_model.specs.Dealing.{fault_word, keeps_buffer}
-use Rattle.domain_core.specs.InBook.{channel_of, priority_of}
-use Rattle.domain_core.specs.PlacedFrames.{item_of}
+use Rattle.domain_parts.specs.InBook.{channel_of, priority_of}
+use Rattle.domain_parts.specs.PlacedFrames.{item_of}
 use Rattle.board_model.specs.State.{Item}
 use Rattle.board_model.specs.TakenFrames as taken
 use Rattle.bridge_frame.proofs.Bytes.{little_bytes-little_number}
 use Rattle.mc_base.specs.declared.channel.Bits.{Bits}
 use Rattle.mc_base.specs.declared.channel.Bits.TheVariants.{B8, B16, B32, B64}
-use Rattle.domain_core.specs.Verdicts.{Fits, IsItem, IsInBounds, framed_item, item_with}
+use Rattle.domain_parts.specs.Verdicts.{Fits, IsItem, IsInBounds, framed_item, item_with}
 
 pub none-from : {X : Type 0} (o : Option X) → ((x : X) → o ≡ Some x → ⊥) → o ≡ None
 none-from None h = refl

@@ -18,11 +18,11 @@ use Rattle.request_set.specs.declared.ask.Ask.{Ask}
 use Rattle.request_set.specs.declared.ask.Ask.TheVariants as ask
 use Rattle.request_set.specs.declared.ask.Complete.{Complete}
 use Rattle.request_set.specs.Requests.{Requests, Standing, is_id, completed, receives_at, request_of, waits_at}
-use Rattle.domain_core.specs.DomainView.{has_id}
-use Rattle.domain_core.specs.InBook.{asked_in, outcome_in, request_in, requests_in}
-use Rattle.domain_core.specs.InRequests.{AreReceives, IsReceive, Receives, handed_by, handed_slots, slots_in}
-use Rattle.domain_core.specs.InPlaces.{one_if}
-use Rattle.domain_core.proofs.Tables.{All-push, position-map}
+use Rattle.domain_parts.specs.DomainView.{has_id}
+use Rattle.domain_parts.specs.InBook.{asked_in, outcome_in, request_in, requests_in}
+use Rattle.domain_parts.specs.InRequests.{AreReceives, IsReceive, Receives, handed_by, handed_slots, slots_in}
+use Rattle.domain_parts.specs.InPlaces.{one_if}
+use Rattle.domain_parts.proofs.Tables.{All-push, position-map}
 
 abbrev pub key_in : Standing → ℕ
 key_in r = r.id.key

@@ -11,7 +11,7 @@ use Rattle.board_model.specs.State as state
 use Rattle.board_model.specs.State.{DomainState, Item, Outcome, has_item, message_at, place_at, queue_in, request_at_place, LentPacket}
 use Rattle.board_model.specs.Choice.{best}
 use Rattle.board_model.specs.Answer.{local}
-use Rattle.domain_core.specs.PlacedCalls.{best_queued, received, with_received, with_request}
+use Rattle.domain_parts.specs.PlacedCalls.{best_queued, received, with_received, with_request}
 use Rattle.buffer_book.specs.Book.{Book, IsQueued, Kept, content, if_queued, queued_at, with_away}
 use Rattle.buffer_book.specs.Book as book
 use Rattle.endpoint_table.specs.Table as endpoint_table
@@ -20,25 +20,25 @@ use Rattle.request_set.specs.declared.ask.Ask.TheVariants as ask
 use Rattle.request_set.specs.declared.ask.Complete.{Complete}
 use Rattle.request_set.specs.declared.ask.Complete.TheVariants as complete
 use Rattle.request_set.specs.Requests.{Requests, without_request}
-use Rattle.domain_core.specs.LaneSeen.{LaneSeen}
-use Rattle.domain_core.specs.declared.peer.Peer.{Peer}
-use Rattle.domain_core.specs.GivingBack.{GivesBack, IsOutAt}
-use Rattle.domain_core.specs.InBook.{endpoints_in, numbered_at, item_in, outcome_in, request_in, requests_in, packets_in}
-use Rattle.domain_core.specs.InPlaces.{IsShort, slots_of, times_in}
-use Rattle.domain_core.specs.InRequests.{AreReceives, handed_slots}
-use Rattle.domain_core.specs.LaneMoves.{LaneMove}
-use Rattle.domain_core.specs.Peers.{peers_in, state_in}
-use Rattle.domain_core.specs.Records.{Records, all_waiting, waiting_in, with_best_taken_at}
-use Rattle.domain_core.specs.Sound.{AreSound, out_at}
-use Rattle.domain_core.specs.Steps.{with_last}
-use Rattle.domain_core.proofs.Beginning.{last-more, new_standing, pending-same}
-use Rattle.domain_core.proofs.Ending.{left-receives}
-use Rattle.domain_core.proofs.GivingLemmas.{All-at, InPlacesAt, best-same, given-peers, same-endpoints, sound-given, sound-moved, stands-out, stands-queued}
-use Rattle.domain_core.proofs.Leaving.{left-endpoints, left-packets, left-requests}
-use Rattle.domain_core.proofs.Placed.{HasMore, HaveSame, times-here}
-use Rattle.domain_core.proofs.Queuing.{ended-more, received-fewer, received-more, received-priority}
-use Rattle.domain_core.proofs.Slots.{handed-has, handed-same}
-use Rattle.domain_core.proofs.Waits.{best-there, endpoints-less}
+use Rattle.domain_parts.specs.LaneSeen.{LaneSeen}
+use Rattle.domain_parts.specs.declared.peer.Peer.{Peer}
+use Rattle.domain_parts.specs.GivingBack.{GivesBack, IsOutAt}
+use Rattle.domain_parts.specs.InBook.{endpoints_in, numbered_at, item_in, outcome_in, request_in, requests_in, packets_in}
+use Rattle.domain_parts.specs.InPlaces.{IsShort, slots_of, times_in}
+use Rattle.domain_parts.specs.InRequests.{AreReceives, handed_slots}
+use Rattle.domain_parts.specs.LaneMoves.{LaneMove}
+use Rattle.domain_parts.specs.Peers.{peers_in, state_in}
+use Rattle.domain_parts.specs.Records.{Records, all_waiting, waiting_in, with_best_taken_at}
+use Rattle.domain_parts.specs.Sound.{AreSound, out_at}
+use Rattle.domain_parts.specs.Steps.{with_last}
+use Rattle.domain_parts.proofs.Beginning.{last-more, new_standing, pending-same}
+use Rattle.domain_parts.proofs.Ending.{left-receives}
+use Rattle.domain_parts.proofs.GivingLemmas.{All-at, InPlacesAt, best-same, given-peers, same-endpoints, sound-given, sound-moved, stands-out, stands-queued}
+use Rattle.domain_parts.proofs.Leaving.{left-endpoints, left-packets, left-requests}
+use Rattle.domain_parts.proofs.Placed.{HasMore, HaveSame, times-here}
+use Rattle.domain_parts.proofs.Queuing.{ended-more, received-fewer, received-more, received-priority}
+use Rattle.domain_parts.proofs.Slots.{handed-has, handed-same}
+use Rattle.domain_parts.proofs.Waits.{best-there, endpoints-less}
 
 -- ---- a buffer is given back
 

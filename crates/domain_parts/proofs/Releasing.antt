@@ -1,8 +1,8 @@
 -- A packet that is released: its buffer leaves the book and is given back.
-use Rattle.domain_core.proofs.LendingMeaning.{some-of}
-use Rattle.domain_core.proofs.Books.{same-slot}
+use Rattle.domain_parts.proofs.LendingMeaning.{some-of}
+use Rattle.domain_parts.proofs.Books.{same-slot}
 use Rattle.board_model.proofs.MessageLists.{some-position}
-use Rattle.domain_core.specs.DomainView.{has_packet_id, place_of_packet_id}
+use Rattle.domain_parts.specs.DomainView.{has_packet_id, place_of_packet_id}
 use Rattle.std.proofs.lemmas.Bool.{and_parts, and_from, eqb-true}
 use Rattle.std.proofs.Common.{◌≡◌, ℕ, zero, suc, ◌+◌, ◌<◌, Bool, true, false, cond, List, [], ◌∷◌, ◌++◌, length, map, Option, Some, None, refl, sym, ap, ◌∙◌, subst, arith, ◌≤◌, drop, eq-eqb}
 use Rattle.std.specs.Prelude.{count_by, is_some, not, option_and_then, option_map, slice_get, Contains, ◌==◌, find, is_none, if◌then◌else◌, ◌&&◌}
@@ -25,32 +25,32 @@ use Rattle.buffer_book.specs.Book.{Book, Kept, slot_of, with_away, if_lent, if_q
 use Rattle.lane_end.specs.ReceiveMoves.{Gave}
 use Rattle.message_queue.specs.Queue.{Waiting}
 use Rattle.request_set.specs.Requests.{Requests}
-use Rattle.domain_core.specs.LaneSeen.{LaneSeen}
-use Rattle.domain_core.specs.declared.peer.Peer.{Peer}
-use Rattle.domain_core.specs.AllMoved.{numbers_of}
-use Rattle.domain_core.specs.CallSteps.{Means, call_steps, if_some}
-use Rattle.domain_core.specs.GivingBack.{GivesBack, IsOutAt}
-use Rattle.domain_core.specs.InBook.{endpoints_in, numbered_at, packet_in, packets_in, requests_in, content_in}
-use Rattle.domain_core.specs.InPlaces.{AreInPlaces, AreInPlacesBut, IsLentAs, KeepOthers, is_misplaced, one_if, slots_of, times_in, times_waiting, is_same, IsShort}
-use Rattle.domain_core.specs.InRequests.{handed_slots}
-use Rattle.domain_core.specs.Out.{Out}
-use Rattle.domain_core.specs.Parts.{Parts, Sound, plain, state_of}
-use Rattle.domain_core.specs.Peers.{peers_in}
-use Rattle.domain_core.specs.Records.{Records, all_waiting, lent_slots, without_lent_at}
-use Rattle.domain_core.specs.Sound.{out_at}
-use Rattle.domain_core.specs.Steps.{Step, all_moves, done, done_all, packet_released}
-use Rattle.domain_core.specs.Stores.{KeepsBut}
-use Rattle.domain_core.proofs.Ending.{ids_in}
-use Rattle.domain_core.proofs.GivingLemmas.{given-peers, lends-out, sound-gave, All-at}
-use Rattle.domain_core.proofs.Handed.{packets-stay, requests-stay}
-use Rattle.domain_core.proofs.Leaving.{GivesUp, each-lent}
-use Rattle.domain_core.proofs.Meaning.{one-gave}
-use Rattle.domain_core.proofs.Placed.{HasMore, lent-nowhere, released, released-other, stands-of, times-here}
-use Rattle.domain_core.proofs.Receives.{map-without}
-use Rattle.domain_core.proofs.Slots.{length-more, misplaced-stay, times-all}
-use Rattle.domain_core.proofs.Stepping.{Any, gives-seen}
-use Rattle.domain_core.proofs.Storing.{keeps-away}
-use Rattle.domain_core.proofs.Waits.{endpoints-stay}
+use Rattle.domain_parts.specs.LaneSeen.{LaneSeen}
+use Rattle.domain_parts.specs.declared.peer.Peer.{Peer}
+use Rattle.domain_parts.specs.AllMoved.{numbers_of}
+use Rattle.domain_parts.specs.CallSteps.{Means, call_steps, if_some}
+use Rattle.domain_parts.specs.GivingBack.{GivesBack, IsOutAt}
+use Rattle.domain_parts.specs.InBook.{endpoints_in, numbered_at, packet_in, packets_in, requests_in, content_in}
+use Rattle.domain_parts.specs.InPlaces.{AreInPlaces, AreInPlacesBut, IsLentAs, KeepOthers, is_misplaced, one_if, slots_of, times_in, times_waiting, is_same, IsShort}
+use Rattle.domain_parts.specs.InRequests.{handed_slots}
+use Rattle.domain_parts.specs.Out.{Out}
+use Rattle.domain_parts.specs.Parts.{Parts, Sound, plain, state_of}
+use Rattle.domain_parts.specs.Peers.{peers_in}
+use Rattle.domain_parts.specs.Records.{Records, all_waiting, lent_slots, without_lent_at}
+use Rattle.domain_parts.specs.Sound.{out_at}
+use Rattle.domain_parts.specs.Steps.{Step, all_moves, done, done_all, packet_released}
+use Rattle.domain_parts.specs.Stores.{KeepsBut}
+use Rattle.domain_parts.proofs.Ending.{ids_in}
+use Rattle.domain_parts.proofs.GivingLemmas.{given-peers, lends-out, sound-gave, All-at}
+use Rattle.domain_parts.proofs.Handed.{packets-stay, requests-stay}
+use Rattle.domain_parts.proofs.Leaving.{GivesUp, each-lent}
+use Rattle.domain_parts.proofs.Meaning.{one-gave}
+use Rattle.domain_parts.proofs.Placed.{HasMore, lent-nowhere, released, released-other, stands-of, times-here}
+use Rattle.domain_parts.proofs.Receives.{map-without}
+use Rattle.domain_parts.proofs.Slots.{length-more, misplaced-stay, times-all}
+use Rattle.domain_parts.proofs.Stepping.{Any, gives-seen}
+use Rattle.domain_parts.proofs.Storing.{keeps-away}
+use Rattle.domain_parts.proofs.Waits.{endpoints-stay}
 
 -- the slots without one at a place
 less-lent : (ids : List PacketId) (i : ℕ) (id : PacketId) → slice_get ids i ≡ Some id → HasMore (slot_of id) (map slot_of (lists.without_at i ids)) (map slot_of ids)

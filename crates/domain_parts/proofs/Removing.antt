@@ -15,21 +15,21 @@ use Rattle.board_model.proofs.ListsCounts.{count-append, count-cons}
 use Rattle.buffer_book.specs.Book.{Book, kept_at}
 use Rattle.message_queue.specs.Queue.{Waiting}
 use Rattle.request_set.specs.Requests.{Requests}
-use Rattle.domain_core.specs.LaneSeen.{LaneSeen}
-use Rattle.domain_core.specs.declared.endpoints.Endpoint.{Endpoint}
-use Rattle.domain_core.specs.declared.peer.Peer.{Peer}
-use Rattle.domain_core.specs.AllMoved.{numbers_of}
-use Rattle.domain_core.specs.InBook.{channel_in, content_in, endpoint_in, endpoints_in, numbered_at, item_in, priority_in, source_in}
-use Rattle.domain_core.specs.InPlaces.{is_misplaced, one_if}
-use Rattle.domain_core.specs.Peers.{state_in}
-use Rattle.domain_core.specs.Records.{Records, all_waiting, slots_at, waiting_in, without_record_at}
-use Rattle.domain_core.specs.Sound.{AreSound}
-use Rattle.domain_core.specs.Tied.{AreTied}
-use Rattle.domain_core.proofs.GivingLemmas.{InPlacesAt}
-use Rattle.domain_core.proofs.Placed.{no-one}
-use Rattle.domain_core.proofs.Slots.{slots}
-use Rattle.domain_core.proofs.Tying.{ended_table, is_named, live-there, named-there, place-is, tied-ended}
-use Rattle.domain_core.proofs.Waits.{queue-there}
+use Rattle.domain_parts.specs.LaneSeen.{LaneSeen}
+use Rattle.domain_parts.specs.declared.endpoints.Endpoint.{Endpoint}
+use Rattle.domain_parts.specs.declared.peer.Peer.{Peer}
+use Rattle.domain_parts.specs.AllMoved.{numbers_of}
+use Rattle.domain_parts.specs.InBook.{channel_in, content_in, endpoint_in, endpoints_in, numbered_at, item_in, priority_in, source_in}
+use Rattle.domain_parts.specs.InPlaces.{is_misplaced, one_if}
+use Rattle.domain_parts.specs.Peers.{state_in}
+use Rattle.domain_parts.specs.Records.{Records, all_waiting, slots_at, waiting_in, without_record_at}
+use Rattle.domain_parts.specs.Sound.{AreSound}
+use Rattle.domain_parts.specs.Tied.{AreTied}
+use Rattle.domain_parts.proofs.GivingLemmas.{InPlacesAt}
+use Rattle.domain_parts.proofs.Placed.{no-one}
+use Rattle.domain_parts.proofs.Slots.{slots}
+use Rattle.domain_parts.proofs.Tying.{ended_table, is_named, live-there, named-there, place-is, tied-ended}
+use Rattle.domain_parts.proofs.Waits.{queue-there}
 
 -- ---- what waits, by its slots
 

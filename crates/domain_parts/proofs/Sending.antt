@@ -5,20 +5,20 @@ use Rattle.std.specs.List.{AllByRecursion}
 use Rattle.board_model.specs.Lists.{changed}
 use Rattle.board_model.specs.State as state
 use Rattle.board_model.specs.State.{DomainState, Item}
-use Rattle.domain_core.specs.PlacedCalls.{used_one, with_used}
+use Rattle.domain_parts.specs.PlacedCalls.{used_one, with_used}
 use Rattle.buffer_book.specs.Book.{Book}
 use Rattle.endpoint_table.specs.Table as endpoint_table
 use Rattle.request_set.specs.Requests.{Requests}
-use Rattle.domain_core.specs.LaneSeen.{LaneSeen}
-use Rattle.domain_core.specs.declared.peer.Peer.{Peer}
-use Rattle.domain_core.specs.AllMoved.{numbers_of}
-use Rattle.domain_core.specs.InPlaces.{AreInPlaces}
-use Rattle.domain_core.specs.Out.{out_of}
-use Rattle.domain_core.specs.Peers.{peer_in, state_in}
-use Rattle.domain_core.specs.Records.{Records}
-use Rattle.domain_core.specs.Sound.{AreRising, AreSound, IsSized, buffers_count, outs_count}
-use Rattle.domain_core.specs.Tied.{AreTied}
-use Rattle.domain_core.proofs.PeerPlaces.{All-from, All-map, All-unmap, changed-map, place-in}
+use Rattle.domain_parts.specs.LaneSeen.{LaneSeen}
+use Rattle.domain_parts.specs.declared.peer.Peer.{Peer}
+use Rattle.domain_parts.specs.AllMoved.{numbers_of}
+use Rattle.domain_parts.specs.InPlaces.{AreInPlaces}
+use Rattle.domain_parts.specs.Out.{out_of}
+use Rattle.domain_parts.specs.Peers.{peer_in, state_in}
+use Rattle.domain_parts.specs.Records.{Records}
+use Rattle.domain_parts.specs.Sound.{AreRising, AreSound, IsSized, buffers_count, outs_count}
+use Rattle.domain_parts.specs.Tied.{AreTied}
+use Rattle.domain_parts.proofs.PeerPlaces.{All-from, All-map, All-unmap, changed-map, place-in}
 
 -- ---- what the parts keep of the peers: their numbers, the sizes of their lanes, and the buffers that are out
 

@@ -7,10 +7,10 @@ use Rattle.board_model.proofs.ListsCounts.{count-append, count-cons, count-every
 use Rattle.board_model.proofs.MessageVisitLines.{count-map}
 use Rattle.buffer_book.specs.Book.{Book, Kept, with_place}
 use Rattle.message_queue.specs.Queue.{Waiting}
-use Rattle.domain_core.specs.InBook.{priority_in}
-use Rattle.domain_core.specs.InPlaces.{is_misplaced, is_same, one_if, times_in, times_waiting}
-use Rattle.domain_core.proofs.Books.{differ-back, kept-there}
-use Rattle.domain_core.proofs.Placed.{HasMore, HaveSame, no-one}
+use Rattle.domain_parts.specs.InBook.{priority_in}
+use Rattle.domain_parts.specs.InPlaces.{is_misplaced, is_same, one_if, times_in, times_waiting}
+use Rattle.domain_parts.proofs.Books.{differ-back, kept-there}
+use Rattle.domain_parts.proofs.Placed.{HasMore, HaveSame, no-one}
 
 abbrev pub slots : List Waiting → List Slot
 slots ws = map (λ (w : Waiting). w.slot) ws

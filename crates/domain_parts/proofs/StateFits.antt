@@ -12,14 +12,14 @@ use Rattle.endpoint_table.specs.InTable.{IsRising}
 use Rattle.endpoint_table.specs.Table.{Table}
 use Rattle.endpoint_table.specs.declared.record.Record.{Record}
 use Rattle.request_set.specs.Requests.{Requests}
-use Rattle.domain_core.specs.LaneSeen.{LaneSeen}
-use Rattle.domain_core.specs.declared.endpoints.Endpoint.{Endpoint}
-use Rattle.domain_core.specs.declared.peer.Peer.{Peer}
-use Rattle.domain_core.specs.InBook.{endpoints_in}
-use Rattle.domain_core.specs.Peers.{state_in}
-use Rattle.domain_core.specs.Records.{Records}
-use Rattle.domain_core.specs.Sound.{AreSound}
-use Rattle.domain_core.specs.Tied.{live_record}
+use Rattle.domain_parts.specs.LaneSeen.{LaneSeen}
+use Rattle.domain_parts.specs.declared.endpoints.Endpoint.{Endpoint}
+use Rattle.domain_parts.specs.declared.peer.Peer.{Peer}
+use Rattle.domain_parts.specs.InBook.{endpoints_in}
+use Rattle.domain_parts.specs.Peers.{state_in}
+use Rattle.domain_parts.specs.Records.{Records}
+use Rattle.domain_parts.specs.Sound.{AreSound}
+use Rattle.domain_parts.specs.Tied.{live_record}
 use Rattle.endpoint_table.proofs.RecordLemmas.{rising-filter}
 
 apart_of : (b : Book) (es : List Endpoint) → IsRising (map live_record es) → EndsApart (endpoints_in b es)

@@ -10,27 +10,27 @@ use Rattle.board_model.specs.DomainCall.{DomainCall}
 use Rattle.board_model.specs.Journal.{PlainAnswer, refuses}
 use Rattle.board_model.specs.Answer.{refusal, success}
 use Rattle.lane_end.specs.ReceiveMoves.{Gave}
-use Rattle.domain_core.specs.LaneSeen.{LaneSeen, after_moves}
-use Rattle.domain_core.specs.declared.peer.Peer.{Peer}
-use Rattle.domain_core.specs.AllMoved.{AllMoved, ends_of, numbers_of}
-use Rattle.domain_core.specs.GivingBack.{GivesBack, IsOutAt}
-use Rattle.domain_core.specs.LaneMoves.{LaneMove, receiver}
+use Rattle.domain_parts.specs.LaneSeen.{LaneSeen, after_moves}
+use Rattle.domain_parts.specs.declared.peer.Peer.{Peer}
+use Rattle.domain_parts.specs.AllMoved.{AllMoved, ends_of, numbers_of}
+use Rattle.domain_parts.specs.GivingBack.{GivesBack, IsOutAt}
+use Rattle.domain_parts.specs.LaneMoves.{LaneMove, receiver}
 use Rattle.board_model.specs.State as state
 use Rattle.buffer_book.specs.Book.{Book}
 use Rattle.endpoint_table.specs.Table as endpoint_table
 use Rattle.request_set.specs.Requests.{Requests}
-use Rattle.domain_core.specs.Records.{Records}
-use Rattle.domain_core.specs.Peers.{peer_in, peers_in, state_in}
-use Rattle.domain_core.specs.Sound.{AreRising, AreSound}
-use Rattle.domain_core.specs.CallSteps.{Acted, Acts, Succeeds}
-use Rattle.domain_core.specs.Parts.{Holding, Parts, Sound, holding_in, parts_in, peer_seen, peers_seen, plain, state_of}
-use Rattle.domain_core.specs.Steps.{Did, Step, all_moves, at_peer, book_after, done, done_all, moved_peer, names_told, peers_after, records_after, reply_owed, reply_put, requests_after, step_moves, table_after, with_names, with_reply, with_reply_put}
+use Rattle.domain_parts.specs.Records.{Records}
+use Rattle.domain_parts.specs.Peers.{peer_in, peers_in, state_in}
+use Rattle.domain_parts.specs.Sound.{AreRising, AreSound}
+use Rattle.domain_parts.specs.CallSteps.{Acted, Acts, Succeeds}
+use Rattle.domain_parts.specs.Parts.{Holding, Parts, Sound, holding_in, parts_in, peer_seen, peers_seen, plain, state_of}
+use Rattle.domain_parts.specs.Steps.{Did, Step, all_moves, at_peer, book_after, done, done_all, moved_peer, names_told, peers_after, records_after, reply_owed, reply_put, requests_after, step_moves, table_after, with_names, with_reply, with_reply_put}
 use Rattle.std.proofs.lemmas.List.{append-nil, append_assoc}
-use Rattle.domain_core.proofs.ChangedPeers.{changed-same, number-above}
-use Rattle.domain_core.proofs.Calling.{answer-done, answer-refused}
-use Rattle.domain_core.proofs.PeerPlaces.{peer-at}
-use Rattle.domain_core.proofs.Sending.{Outline, outline, same-sound}
-use Rattle.domain_core.proofs.Tables.{position-map}
+use Rattle.domain_parts.proofs.ChangedPeers.{changed-same, number-above}
+use Rattle.domain_parts.proofs.Calling.{answer-done, answer-refused}
+use Rattle.domain_parts.proofs.PeerPlaces.{peer-at}
+use Rattle.domain_parts.proofs.Sending.{Outline, outline, same-sound}
+use Rattle.domain_parts.proofs.Tables.{position-map}
 
 -- ---- refusals and successes
 

@@ -2,12 +2,12 @@
 use Rattle.std.proofs.Common.{◌≡◌, ℕ, zero, suc, ◌<◌, drop, Bool, true, false, cond, List, [], ◌∷◌, map, length, take, Option, Some, None, refl, sym, ap, ◌∙◌, subst, arith}
 use Rattle.std.specs.Prelude.{slice_get, option_map, position, unwrap_or, ◌==◌, ◌&&◌}
 use Rattle.lane_end.specs.SendMoves.{Sent}
-use Rattle.domain_core.specs.LaneSeen.{LaneSeen, after_moves}
-use Rattle.domain_core.specs.declared.peer.Peer.{Peer}
-use Rattle.domain_core.specs.LaneMoves.{LaneMove, sender}
-use Rattle.domain_core.specs.Peers.{state_in}
-use Rattle.domain_core.proofs.PeerPlaces.{no-peer-in, peer-at}
-use Rattle.domain_core.proofs.Sending.{outline, same-sound, state-sent}
+use Rattle.domain_parts.specs.LaneSeen.{LaneSeen, after_moves}
+use Rattle.domain_parts.specs.declared.peer.Peer.{Peer}
+use Rattle.domain_parts.specs.LaneMoves.{LaneMove, sender}
+use Rattle.domain_parts.specs.Peers.{state_in}
+use Rattle.domain_parts.proofs.PeerPlaces.{no-peer-in, peer-at}
+use Rattle.domain_parts.proofs.Sending.{outline, same-sound, state-sent}
 use Rattle.mc_base.specs.declared.name.Local.{Local}
 use Rattle.board_model.specs.State as state
 use Rattle.board_model.specs.State.{free_to, is_at, place_at, queue_at, queue_in}
@@ -15,34 +15,34 @@ use Rattle.board_model.specs.DomainCall.{receive_at}
 use Rattle.board_model.specs.Journal.{gives}
 use Rattle.board_model.specs.Answer.{given, success}
 use Rattle.buffer_book.specs.Book.{Book, IsQueued, content, queued_at, kept_at}
-use Rattle.domain_core.specs.InBook.{content_in, endpoint_in, endpoints_in, item_in}
+use Rattle.domain_parts.specs.InBook.{content_in, endpoint_in, endpoints_in, item_in}
 use Rattle.board_model.specs.Choice.{best, oldest}
 use Rattle.mc_base.specs.declared.request.Slot.{Slot}
 use Rattle.board_model.specs.Lists.{changed_at}
-use Rattle.domain_core.specs.declared.endpoints.Endpoint.{Endpoint}
-use Rattle.domain_core.proofs.Deleting.{gone-sound, oldest-out, oldest-queued, oldest-sound}
-use Rattle.domain_core.specs.PlacedCalls.{best_queued, with_received, with_used}
+use Rattle.domain_parts.specs.declared.endpoints.Endpoint.{Endpoint}
+use Rattle.domain_parts.proofs.Deleting.{gone-sound, oldest-out, oldest-queued, oldest-sound}
+use Rattle.domain_parts.specs.PlacedCalls.{best_queued, with_received, with_used}
 use Rattle.message_queue.specs.Queue.{Waiting}
-use Rattle.domain_core.specs.GivingBack.{GivesBack, IsOutAt}
-use Rattle.domain_core.specs.Records.{slots_at, waiting_in, with_best_taken_at, Records, with_oldest_taken, with_oldest_taken_at, without_record_at}
+use Rattle.domain_parts.specs.GivingBack.{GivesBack, IsOutAt}
+use Rattle.domain_parts.specs.Records.{slots_at, waiting_in, with_best_taken_at, Records, with_oldest_taken, with_oldest_taken_at, without_record_at}
 use Rattle.endpoint_table.specs.declared.record.Record.{Record}
-use Rattle.domain_core.specs.Tied.{live_record}
-use Rattle.domain_core.proofs.GivingLemmas.{oldest-same}
-use Rattle.domain_core.proofs.Tables.{position-map}
-use Rattle.domain_core.proofs.Tying.{place-is}
-use Rattle.domain_core.proofs.Waits.{queue-there}
+use Rattle.domain_parts.specs.Tied.{live_record}
+use Rattle.domain_parts.proofs.GivingLemmas.{oldest-same}
+use Rattle.domain_parts.proofs.Tables.{position-map}
+use Rattle.domain_parts.proofs.Tying.{place-is}
+use Rattle.domain_parts.proofs.Waits.{queue-there}
 use Rattle.std.specs.Prelude.{option_and_then}
 use Rattle.board_model.proofs.ListsCounts.{position-tells}
 use Rattle.std.proofs.lemmas.Option.{slice_get_within}
 use Rattle.std.proofs.lemmas.List.{length-map}
 use Rattle.endpoint_table.specs.Table.{deleted}
-use Rattle.domain_core.proofs.Removing.{delete-tied}
-use Rattle.domain_core.specs.CallSteps.{best_slot, call_steps, drops, if_some}
-use Rattle.domain_core.specs.Parts.{Parts, Sound, plain, state_of}
-use Rattle.domain_core.specs.Steps.{at_peer, best_dropped, done, done_all, endpoint_gone, frame_put, moved_peer, oldest_dropped, requests_after}
-use Rattle.domain_core.proofs.Queuing.{content-of, received-more}
-use Rattle.domain_core.proofs.Receiving.{best-is, best-out, best-taken, given-state, taken-sound}
-use Rattle.domain_core.proofs.Stepping.{Any, gives-seen, quiet-peers, set-is-map}
+use Rattle.domain_parts.proofs.Removing.{delete-tied}
+use Rattle.domain_parts.specs.CallSteps.{best_slot, call_steps, drops, if_some}
+use Rattle.domain_parts.specs.Parts.{Parts, Sound, plain, state_of}
+use Rattle.domain_parts.specs.Steps.{at_peer, best_dropped, done, done_all, endpoint_gone, frame_put, moved_peer, oldest_dropped, requests_after}
+use Rattle.domain_parts.proofs.Queuing.{content-of, received-more}
+use Rattle.domain_parts.proofs.Receiving.{best-is, best-out, best-taken, given-state, taken-sound}
+use Rattle.domain_parts.proofs.Stepping.{Any, gives-seen, quiet-peers, set-is-map}
 
 module _ (p : Parts) (sound : Sound p) (i : ℕ) (w : Waiting) (is : best (λ (x : Waiting). x.priority) (waiting_in (slice_get p.records.endpoints i)) ≡ Some w) where
   pub best_dropped-out : IsOutAt plain w.slot p.peers

@@ -6,10 +6,10 @@ use Rattle.mc_base.specs.declared.request.Slot.{Slot}
 use Rattle.board_model.specs.Journal.{Taken, taken}
 use Rattle.board_model.specs.Dealing.{keeps_buffer}
 use Rattle.buffer_book.specs.Book.{Book, IsAway, Kept, kept_at, with_away, with_place}
-use Rattle.domain_core.specs.InBook.{channel_in, content_in, item_at, priority_in, source_in}
-use Rattle.domain_core.specs.InPlaces.{slot_at}
-use Rattle.domain_core.specs.Stores.{AreStored, IsHeld, IsSame, IsStored, KeepsBut, KeepsHeld, Stores}
-use Rattle.domain_core.proofs.Books.{each-slot, kept-there}
+use Rattle.domain_parts.specs.InBook.{channel_in, content_in, item_at, priority_in, source_in}
+use Rattle.domain_parts.specs.InPlaces.{slot_at}
+use Rattle.domain_parts.specs.Stores.{AreStored, IsHeld, IsSame, IsStored, KeepsBut, KeepsHeld, Stores}
+use Rattle.domain_parts.proofs.Books.{each-slot, kept-there}
 
 -- ---- what is held stays
 

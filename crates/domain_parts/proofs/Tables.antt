@@ -11,13 +11,13 @@ use Rattle.board_model.specs.State as state
 use Rattle.board_model.specs.State.{channel_in, ChannelEnd}
 use Rattle.board_model.specs.Choice.{without_best}
 use Rattle.buffer_book.specs.Book.{Book}
-use Rattle.domain_core.specs.declared.endpoints.Endpoint.{Endpoint}
+use Rattle.domain_parts.specs.declared.endpoints.Endpoint.{Endpoint}
 use Rattle.packet_channel.specs.End.{end_of, kept_end, stage_of}
 use Rattle.packet_channel.specs.declared.channel.Channel.{Channel}
-use Rattle.domain_core.specs.Records.{all_waiting, kept, waiting_in, with_best_taken}
-use Rattle.domain_core.specs.InBook.{endpoints_in}
-use Rattle.domain_core.specs.InTable.{HaveRoom, HaveAddresses}
-use Rattle.domain_core.proofs.Waits.{waiting-within}
+use Rattle.domain_parts.specs.Records.{all_waiting, kept, waiting_in, with_best_taken}
+use Rattle.domain_parts.specs.InBook.{endpoints_in}
+use Rattle.domain_parts.specs.InTable.{HaveRoom, HaveAddresses}
+use Rattle.domain_parts.proofs.Waits.{waiting-within}
 use Rattle.message_queue.specs.Queue.{Waiting}
 
 -- ---- places

@@ -21,37 +21,37 @@ use Rattle.endpoint_table.specs.Table as endpoint_table
 use Rattle.message_queue.specs.Queue.{waiting}
 use Rattle.request_set.specs.declared.ask.Ask.{Ask}
 use Rattle.request_set.specs.Requests.{Requests, with_complete}
-use Rattle.domain_core.specs.declared.peer.Peer.{Peer}
-use Rattle.domain_core.specs.declared.replies.Reply.{Reply}
-use Rattle.domain_core.specs.Peers.{reply_in}
-use Rattle.domain_core.specs.AllMoved.{ends_of}
-use Rattle.domain_core.specs.Doing.{Doing, Takes, ids_in}
-use Rattle.domain_core.specs.InBook.{endpoint_in, priority_of}
-use Rattle.domain_core.specs.InPlaces.{AreInPlaces, slot_at, slots_of}
-use Rattle.domain_core.specs.InRequests.{handed_slots, handed_by}
-use Rattle.domain_core.specs.LaneMoves.{LaneMove, receiver}
-use Rattle.domain_core.specs.LaneSeen.{LaneSeen, after_move, after_moves}
-use Rattle.domain_core.specs.Parts.{Holding, Parts, Sound, holding_in, parts_in, peer_at, peer_seen, peers_seen, plain, state_of}
-use Rattle.domain_core.specs.Records.{Records, all_waiting, with_waiting_at, lent_slots}
-use Rattle.domain_core.specs.Sound.{out_at}
-use Rattle.domain_core.specs.Steps.{Step, at_peer, changed_peer, done, done_all, frame_handed, frame_queued, frame_returned, moved_peer, step_moves}
-use Rattle.domain_core.specs.Stores.{AreStored, KeepsHeld, Stores}
-use Rattle.domain_core.specs.Verdicts.{Desk, Effect, Fits, IsHanded, IsQueued, IsReturned, Shows, desk, effect_changes, framed_item}
-use Rattle.domain_core.specs.VisitMoves.{taking}
-use Rattle.domain_core.proofs.ChangedPeers.{set-changed}
-use Rattle.domain_core.proofs.Effects.{effect-done, effect-ids, effect-lent, effect-is, effect-keeps, effect-moves, effect_steps, placed-same, with_left}
-use Rattle.domain_core.proofs.PeerPlaces.{All-from}
-use Rattle.domain_core.proofs.PeersAt.{Fit, find-place, outs-room}
-use Rattle.domain_core.proofs.Placed.{is-away}
-use Rattle.domain_core.proofs.Slots.{length-all}
+use Rattle.domain_parts.specs.declared.peer.Peer.{Peer}
+use Rattle.domain_parts.specs.declared.replies.Reply.{Reply}
+use Rattle.domain_parts.specs.Peers.{reply_in}
+use Rattle.domain_parts.specs.AllMoved.{ends_of}
+use Rattle.domain_parts.specs.Doing.{Doing, Takes, ids_in}
+use Rattle.domain_parts.specs.InBook.{endpoint_in, priority_of}
+use Rattle.domain_parts.specs.InPlaces.{AreInPlaces, slot_at, slots_of}
+use Rattle.domain_parts.specs.InRequests.{handed_slots, handed_by}
+use Rattle.domain_parts.specs.LaneMoves.{LaneMove, receiver}
+use Rattle.domain_parts.specs.LaneSeen.{LaneSeen, after_move, after_moves}
+use Rattle.domain_parts.specs.Parts.{Holding, Parts, Sound, holding_in, parts_in, peer_at, peer_seen, peers_seen, plain, state_of}
+use Rattle.domain_parts.specs.Records.{Records, all_waiting, with_waiting_at, lent_slots}
+use Rattle.domain_parts.specs.Sound.{out_at}
+use Rattle.domain_parts.specs.Steps.{Step, at_peer, changed_peer, done, done_all, frame_handed, frame_queued, frame_returned, moved_peer, step_moves}
+use Rattle.domain_parts.specs.Stores.{AreStored, KeepsHeld, Stores}
+use Rattle.domain_parts.specs.Verdicts.{Desk, Effect, Fits, IsHanded, IsQueued, IsReturned, Shows, desk, effect_changes, framed_item}
+use Rattle.domain_parts.specs.VisitMoves.{taking}
+use Rattle.domain_parts.proofs.ChangedPeers.{set-changed}
+use Rattle.domain_parts.proofs.Effects.{effect-done, effect-ids, effect-lent, effect-is, effect-keeps, effect-moves, effect_steps, placed-same, with_left}
+use Rattle.domain_parts.proofs.PeerPlaces.{All-from}
+use Rattle.domain_parts.proofs.PeersAt.{Fit, find-place, outs-room}
+use Rattle.domain_parts.proofs.Placed.{is-away}
+use Rattle.domain_parts.proofs.Slots.{length-all}
 use Rattle.lane_end.proofs.CountLemmas.{length-apart}
-use Rattle.domain_core.proofs.Queuing.{enqueued-stored, handed-ids}
-use Rattle.domain_core.proofs.Stepping.{seen-set, set-is-map}
-use Rattle.domain_core.proofs.Outs.{is-out}
-use Rattle.domain_core.proofs.Storing.{Stores-returned, keeps-none}
-use Rattle.domain_core.proofs.TurnMeaning.{frame_handed-is, frame_queued-is, frame_returned-is}
-use Rattle.domain_core.proofs.TurnSteps.{but-one, frame_handed-keeps, frame_queued-keeps, frame_returned-keeps}
-use Rattle.domain_core.proofs.Turning.{doing-by, peer-is, peers-are, seen-there}
+use Rattle.domain_parts.proofs.Queuing.{enqueued-stored, handed-ids}
+use Rattle.domain_parts.proofs.Stepping.{seen-set, set-is-map}
+use Rattle.domain_parts.proofs.Outs.{is-out}
+use Rattle.domain_parts.proofs.Storing.{Stores-returned, keeps-none}
+use Rattle.domain_parts.proofs.TurnMeaning.{frame_handed-is, frame_queued-is, frame_returned-is}
+use Rattle.domain_parts.proofs.TurnSteps.{but-one, frame_handed-keeps, frame_queued-keeps, frame_returned-keeps}
+use Rattle.domain_parts.proofs.Turning.{doing-by, peer-is, peers-are, seen-there}
 use Rattle.buffer_book.proofs.PlaceLemmas.{set-same}
 
 -- ---- lists

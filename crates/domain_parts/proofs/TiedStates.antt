@@ -13,28 +13,28 @@ use Rattle.endpoint_table.proofs.RecordLemmas.{all-weaken}
 use Rattle.board_model.specs.Lists.{with_rising, without}
 use Rattle.board_model.specs.State as state
 use Rattle.board_model.specs.State.{DomainState, is_owed_end, place_at}
-use Rattle.domain_core.specs.PlacedCalls.{also_owed, ended_by_word, with_endpoint, without_endpoint}
+use Rattle.domain_parts.specs.PlacedCalls.{also_owed, ended_by_word, with_endpoint, without_endpoint}
 use Rattle.board_model.proofs.WholeFinds.{find-kept, find-mapped}
 use Rattle.buffer_book.specs.Book.{Book}
 use Rattle.request_set.specs.Requests.{Requests}
 use Rattle.request_set.specs.declared.ask.Complete.TheVariants as complete
-use Rattle.domain_core.specs.LaneSeen.{LaneSeen}
-use Rattle.domain_core.specs.declared.endpoints.Endpoint.{Endpoint}
-use Rattle.domain_core.specs.declared.peer.Peer.{Peer}
-use Rattle.domain_core.specs.declared.requests.Waiters.TheVariants as waiters
-use Rattle.domain_core.specs.AllMoved.{numbers_of}
-use Rattle.domain_core.specs.InBook.{endpoint_in, endpoints_in, requests_in, packets_in}
-use Rattle.domain_core.specs.InRequests.{with_all_complete}
-use Rattle.domain_core.specs.Owed.{owed_by}
-use Rattle.domain_core.specs.Peers.{announcement_in, ended_in, peer_in, peers_in, state_in, reply_in}
-use Rattle.domain_core.specs.Records.{Records, new_record, with_record}
-use Rattle.domain_core.specs.Sound.{AreRising}
-use Rattle.domain_core.specs.Tied.{AreTied, linked_among}
-use Rattle.domain_core.proofs.Completing.{requests-found}
-use Rattle.domain_core.proofs.Filters.{some-map}
-use Rattle.domain_core.proofs.PaidTables.{filter-same}
-use Rattle.domain_core.proofs.PeersAt.{any-owed, owed-ends}
-use Rattle.domain_core.proofs.Tying.{ended-created, ended-gone, ended_table, gone_event, made_event, tied-created, tied-ended}
+use Rattle.domain_parts.specs.LaneSeen.{LaneSeen}
+use Rattle.domain_parts.specs.declared.endpoints.Endpoint.{Endpoint}
+use Rattle.domain_parts.specs.declared.peer.Peer.{Peer}
+use Rattle.domain_parts.specs.declared.requests.Waiters.TheVariants as waiters
+use Rattle.domain_parts.specs.AllMoved.{numbers_of}
+use Rattle.domain_parts.specs.InBook.{endpoint_in, endpoints_in, requests_in, packets_in}
+use Rattle.domain_parts.specs.InRequests.{with_all_complete}
+use Rattle.domain_parts.specs.Owed.{owed_by}
+use Rattle.domain_parts.specs.Peers.{announcement_in, ended_in, peer_in, peers_in, state_in, reply_in}
+use Rattle.domain_parts.specs.Records.{Records, new_record, with_record}
+use Rattle.domain_parts.specs.Sound.{AreRising}
+use Rattle.domain_parts.specs.Tied.{AreTied, linked_among}
+use Rattle.domain_parts.proofs.Completing.{requests-found}
+use Rattle.domain_parts.proofs.Filters.{some-map}
+use Rattle.domain_parts.proofs.PaidTables.{filter-same}
+use Rattle.domain_parts.proofs.PeersAt.{any-owed, owed-ends}
+use Rattle.domain_parts.proofs.Tying.{ended-created, ended-gone, ended_table, gone_event, made_event, tied-created, tied-ended}
 
 -- ---- which peers are linked
 

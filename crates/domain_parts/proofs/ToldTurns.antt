@@ -5,7 +5,7 @@ use Rattle.std.specs.List.{flat_map, list_all}
 use Rattle.std.proofs.lemmas.Bool.{and_parts, eqb-true}
 use Rattle.std.proofs.lemmas.List.{append-nil}
 use Rattle.board_model.specs.Journal.{Line, Visit, Taken, turn_line, back_line, put_line, see_line, taken_line, looked, visit_lines, is_idle}
-use Rattle.domain_core.specs.Beginning.{told_of, has_begun, told_of_all, has_begun_after}
+use Rattle.domain_parts.specs.Beginning.{told_of, has_begun, told_of_all, has_begun_after}
 
 -- ---- one visit more
 

@@ -1,5 +1,5 @@
 -- What the steps of a turn mean for the state: each is the changes of a deed.
-use Rattle.domain_core.proofs.Filters.{filter-every}
+use Rattle.domain_parts.proofs.Filters.{filter-every}
 use Rattle.buffer_book.specs.Book.{Book}
 use Rattle.std.proofs.Common.{◌≡◌, ℕ, zero, suc, ◌+◌, ◌-◌, ◌<◌, ◌≤◌, true, false, cond, List, [], ◌∷◌, ◌++◌, length, map, drop, take, Option, Some, refl, sym, ap, ◌∙◌, arith}
 use Rattle.std.specs.Prelude.{filter, find, option_map, position, slice_get, slice_set, ◌==◌}
@@ -11,7 +11,7 @@ use Rattle.mc_base.specs.declared.name.EndName.{EndName}
 use Rattle.mc_base.specs.declared.request.RequestId.{RequestId}
 use Rattle.board_model.specs.Change.{Change, changed, changed_all, first_put, buffers_back, frame_taken, frames_shown, item_handed, item_queued, name_found, names_known}
 use Rattle.board_model.specs.Change as change
-use Rattle.domain_core.specs.PlacedFrames.{complete_with, queued_last}
+use Rattle.domain_parts.specs.PlacedFrames.{complete_with, queued_last}
 use Rattle.board_model.specs.Lists.{changed_at, changed_first}
 use Rattle.board_model.specs.Lists as lists
 use Rattle.board_model.specs.State as state
@@ -30,29 +30,29 @@ use Rattle.request_set.specs.declared.ask.Ask.{Ask}
 use Rattle.request_set.specs.declared.ask.Complete.{Complete}
 use Rattle.mc_base.specs.declared.name.Local.{Local}
 use Rattle.mc_base.specs.declared.refusal.Refusal.{Refusal}
-use Rattle.domain_core.specs.declared.endpoints.Endpoint.{Endpoint}
-use Rattle.domain_core.specs.declared.replies.Reply.{Reply}
-use Rattle.domain_core.specs.PlacedCalls.{ended_by_word}
-use Rattle.domain_core.specs.Records.{with_end}
-use Rattle.domain_core.specs.declared.peer.Peer.{Peer}
-use Rattle.domain_core.specs.AllMoved.{numbers_of}
-use Rattle.domain_core.specs.InBook.{endpoint_in, endpoints_in, outcome_in, priority_of}
-use Rattle.domain_core.specs.LaneMoves.{LaneMove, receiver, sender}
-use Rattle.domain_core.specs.LaneSeen.{LaneSeen, after_moves}
-use Rattle.domain_core.specs.Owed.{owed_by}
-use Rattle.domain_core.specs.Parts.{Parts, Sound, plain, state_of}
-use Rattle.domain_core.specs.Peers.{announcement_in, ended_in, peer_in, peers_in, reply_in}
-use Rattle.domain_core.specs.Steps.{at_peer, changed_peer, channel_given, channel_set, connect_settled, done, frame_handed, frame_queued, frame_returned, looked_ahead, looked_back, moved_peer, name_told, names_told, owed_put, receives_ended, reply_owed, reply_put, with_names, with_reply, with_reply_put}
-use Rattle.domain_core.specs.Verdicts.{framed_item}
-use Rattle.domain_core.specs.InPlaces.{slot_at}
-use Rattle.domain_core.specs.Table as held
-use Rattle.domain_core.proofs.ChangedPeers.{changed-same, set-changed}
-use Rattle.domain_core.proofs.Completing.{requests-ended, requests-found, requests-settled}
-use Rattle.domain_core.proofs.PaidTables.{filter-same, ended-left, owed-other, owed-own, paid-is, told-peers, told_times, with_owing}
-use Rattle.domain_core.proofs.PeersAt.{any-owed, changed-place, ends_at, numbers-set, owed-ends}
-use Rattle.domain_core.proofs.Queuing.{handed-table, queued-table}
-use Rattle.domain_core.proofs.Stepping.{quiet-peers, set-is-map}
-use Rattle.domain_core.proofs.TurnSteps.{but-one}
+use Rattle.domain_parts.specs.declared.endpoints.Endpoint.{Endpoint}
+use Rattle.domain_parts.specs.declared.replies.Reply.{Reply}
+use Rattle.domain_parts.specs.PlacedCalls.{ended_by_word}
+use Rattle.domain_parts.specs.Records.{with_end}
+use Rattle.domain_parts.specs.declared.peer.Peer.{Peer}
+use Rattle.domain_parts.specs.AllMoved.{numbers_of}
+use Rattle.domain_parts.specs.InBook.{endpoint_in, endpoints_in, outcome_in, priority_of}
+use Rattle.domain_parts.specs.LaneMoves.{LaneMove, receiver, sender}
+use Rattle.domain_parts.specs.LaneSeen.{LaneSeen, after_moves}
+use Rattle.domain_parts.specs.Owed.{owed_by}
+use Rattle.domain_parts.specs.Parts.{Parts, Sound, plain, state_of}
+use Rattle.domain_parts.specs.Peers.{announcement_in, ended_in, peer_in, peers_in, reply_in}
+use Rattle.domain_parts.specs.Steps.{at_peer, changed_peer, channel_given, channel_set, connect_settled, done, frame_handed, frame_queued, frame_returned, looked_ahead, looked_back, moved_peer, name_told, names_told, owed_put, receives_ended, reply_owed, reply_put, with_names, with_reply, with_reply_put}
+use Rattle.domain_parts.specs.Verdicts.{framed_item}
+use Rattle.domain_parts.specs.InPlaces.{slot_at}
+use Rattle.domain_parts.specs.Table as held
+use Rattle.domain_parts.proofs.ChangedPeers.{changed-same, set-changed}
+use Rattle.domain_parts.proofs.Completing.{requests-ended, requests-found, requests-settled}
+use Rattle.domain_parts.proofs.PaidTables.{filter-same, ended-left, owed-other, owed-own, paid-is, told-peers, told_times, with_owing}
+use Rattle.domain_parts.proofs.PeersAt.{any-owed, changed-place, ends_at, numbers-set, owed-ends}
+use Rattle.domain_parts.proofs.Queuing.{handed-table, queued-table}
+use Rattle.domain_parts.proofs.Stepping.{quiet-peers, set-is-map}
+use Rattle.domain_parts.proofs.TurnSteps.{but-one}
 
 not_none : {X : Type 0} (xs : List X) → 0 < length xs → (length xs == 0) ≡ false
 not_none [] some = absurd (omega (arith, some))

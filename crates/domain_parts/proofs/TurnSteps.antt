@@ -22,36 +22,36 @@ use Rattle.board_model.specs.Lists.{changed_at}
 use Rattle.request_set.specs.declared.ask.Ask.{Ask}
 use Rattle.request_set.specs.declared.ask.Complete.TheVariants as complete
 use Rattle.request_set.specs.Requests.{IsPending, Requests, request_of, receives_at}
-use Rattle.domain_core.specs.declared.endpoints.Endpoint.{Endpoint}
+use Rattle.domain_parts.specs.declared.endpoints.Endpoint.{Endpoint}
 use Rattle.packet_channel.specs.declared.channel.Channel.{Channel}
 use Rattle.mc_base.specs.declared.refusal.Refusal.{Refusal}
 use Rattle.request_set.specs.declared.ask.Complete.{Complete}
-use Rattle.domain_core.specs.declared.requests.Waiters.{Waiters}
-use Rattle.domain_core.specs.declared.replies.Reply.{Reply}
-use Rattle.domain_core.specs.declared.peer.Peer.{Peer}
-use Rattle.domain_core.specs.declared.requests.Waiters.TheVariants as waiters
-use Rattle.domain_core.specs.AllMoved.{numbers_of}
-use Rattle.domain_core.specs.InBook.{priority_of}
-use Rattle.domain_core.specs.InPlaces.{AreInPlaces, AreInPlacesBut, KeepOthers, slot_at, slots_of}
-use Rattle.domain_core.specs.InRequests.{AreReceives, MayEnd, handed_slots, with_all_complete}
-use Rattle.domain_core.specs.LaneMoves.{LaneMove, receiver, sender}
-use Rattle.domain_core.specs.LaneSeen.{LaneSeen, after_move, after_moves}
-use Rattle.domain_core.specs.Out.{Out, out_of}
-use Rattle.domain_core.specs.Parts.{Parts, Sound, plain}
-use Rattle.domain_core.specs.Records.{Records, all_waiting, with_channel_at, with_channel_given, with_end, with_waiting, with_waiting_at}
-use Rattle.domain_core.specs.Sound.{ArePeers, AreRising, IsSized, buffers_count, out_at, outs_count}
-use Rattle.domain_core.specs.Steps.{at_peer, changed_peer, channel_given, channel_set, connect_settled, done, frame_handed, frame_queued, frame_returned, looked_ahead, looked_back, moved_peer, name_told, names_told, owed_put, receives_ended, reply_owed, reply_put, with_names, with_reply, with_reply_put}
-use Rattle.domain_core.specs.Tied.{AreTied, live_record}
-use Rattle.domain_core.proofs.ChangedPeers.{changed-same}
-use Rattle.domain_core.proofs.Completing.{handed-all, receives-all}
-use Rattle.domain_core.proofs.GivingLemmas.{All-at, SameEndpoints, same-endpoints, same-tied}
-use Rattle.domain_core.proofs.Outs.{taken-places}
-use Rattle.domain_core.proofs.PaidTables.{paid-is, tied-told}
-use Rattle.domain_core.proofs.PeerPlaces.{All-from, set-same}
-use Rattle.domain_core.proofs.PeersAt.{all-set, outs-set}
-use Rattle.domain_core.proofs.Queuing.{handed-others, handed-places, handed-receives, handed-total, queued-others, queued-places, queued-total, same-held}
-use Rattle.domain_core.proofs.Sending.{Outline, outline, same-sound}
-use Rattle.domain_core.proofs.Stepping.{moved-numbers, quiet-peers, set-is-map}
+use Rattle.domain_parts.specs.declared.requests.Waiters.{Waiters}
+use Rattle.domain_parts.specs.declared.replies.Reply.{Reply}
+use Rattle.domain_parts.specs.declared.peer.Peer.{Peer}
+use Rattle.domain_parts.specs.declared.requests.Waiters.TheVariants as waiters
+use Rattle.domain_parts.specs.AllMoved.{numbers_of}
+use Rattle.domain_parts.specs.InBook.{priority_of}
+use Rattle.domain_parts.specs.InPlaces.{AreInPlaces, AreInPlacesBut, KeepOthers, slot_at, slots_of}
+use Rattle.domain_parts.specs.InRequests.{AreReceives, MayEnd, handed_slots, with_all_complete}
+use Rattle.domain_parts.specs.LaneMoves.{LaneMove, receiver, sender}
+use Rattle.domain_parts.specs.LaneSeen.{LaneSeen, after_move, after_moves}
+use Rattle.domain_parts.specs.Out.{Out, out_of}
+use Rattle.domain_parts.specs.Parts.{Parts, Sound, plain}
+use Rattle.domain_parts.specs.Records.{Records, all_waiting, with_channel_at, with_channel_given, with_end, with_waiting, with_waiting_at}
+use Rattle.domain_parts.specs.Sound.{ArePeers, AreRising, IsSized, buffers_count, out_at, outs_count}
+use Rattle.domain_parts.specs.Steps.{at_peer, changed_peer, channel_given, channel_set, connect_settled, done, frame_handed, frame_queued, frame_returned, looked_ahead, looked_back, moved_peer, name_told, names_told, owed_put, receives_ended, reply_owed, reply_put, with_names, with_reply, with_reply_put}
+use Rattle.domain_parts.specs.Tied.{AreTied, live_record}
+use Rattle.domain_parts.proofs.ChangedPeers.{changed-same}
+use Rattle.domain_parts.proofs.Completing.{handed-all, receives-all}
+use Rattle.domain_parts.proofs.GivingLemmas.{All-at, SameEndpoints, same-endpoints, same-tied}
+use Rattle.domain_parts.proofs.Outs.{taken-places}
+use Rattle.domain_parts.proofs.PaidTables.{paid-is, tied-told}
+use Rattle.domain_parts.proofs.PeerPlaces.{All-from, set-same}
+use Rattle.domain_parts.proofs.PeersAt.{all-set, outs-set}
+use Rattle.domain_parts.proofs.Queuing.{handed-others, handed-places, handed-receives, handed-total, queued-others, queued-places, queued-total, same-held}
+use Rattle.domain_parts.proofs.Sending.{Outline, outline, same-sound}
+use Rattle.domain_parts.proofs.Stepping.{moved-numbers, quiet-peers, set-is-map}
 
 -- ---- a move that changes no outline
 

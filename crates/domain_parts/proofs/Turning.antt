@@ -10,24 +10,24 @@ use Rattle.board_model.specs.State.{DomainState, held_from}
 use Rattle.buffer_book.specs.Book.{Book}
 use Rattle.endpoint_table.specs.Table as endpoint_table
 use Rattle.request_set.specs.Requests.{Requests}
-use Rattle.domain_core.specs.declared.peer.Peer.{Peer}
-use Rattle.domain_core.specs.AllMoved.{AllMoved, ends_of, numbers_of}
-use Rattle.domain_core.specs.CallSteps.{Rests}
-use Rattle.domain_core.specs.Doing.{Doing, ids_in}
-use Rattle.domain_core.specs.InPlaces.{AreInPlaces}
-use Rattle.domain_core.specs.Sound.{AreRising, out_at}
-use Rattle.domain_core.specs.LaneMoves.{LaneMove, sender}
-use Rattle.domain_core.specs.LaneSeen.{LaneSeen, after_move, after_moves}
-use Rattle.domain_core.specs.Parts.{Holding, Parts, Sound, holding_in, nobody, parts_in, peer_at, peer_seen, peers_seen, plain, state_of}
-use Rattle.domain_core.specs.Records.{Records}
-use Rattle.domain_core.specs.Steps.{Did, Step, all_moves, at_peer, done, done_all, changed_peer, moved_peer, names_told, reply_owed, reply_put, step_moves, with_names, with_reply, with_reply_put}
-use Rattle.domain_core.specs.Stores.{KeepsHeld}
-use Rattle.domain_core.proofs.CountsFrom.{both-are, lent-are, lent-is, queued-is}
-use Rattle.domain_core.proofs.Outs.{held-are}
-use Rattle.domain_core.proofs.PeerPlaces.{All-at, All-from}
-use Rattle.domain_core.proofs.Stepping.{did-then, done-numbers, moves-append, one-moved, one-seen}
-use Rattle.domain_core.proofs.Storing.{keeps-both, keeps-none}
-use Rattle.domain_core.proofs.Tables.{slice_get-read}
+use Rattle.domain_parts.specs.declared.peer.Peer.{Peer}
+use Rattle.domain_parts.specs.AllMoved.{AllMoved, ends_of, numbers_of}
+use Rattle.domain_parts.specs.CallSteps.{Rests}
+use Rattle.domain_parts.specs.Doing.{Doing, ids_in}
+use Rattle.domain_parts.specs.InPlaces.{AreInPlaces}
+use Rattle.domain_parts.specs.Sound.{AreRising, out_at}
+use Rattle.domain_parts.specs.LaneMoves.{LaneMove, sender}
+use Rattle.domain_parts.specs.LaneSeen.{LaneSeen, after_move, after_moves}
+use Rattle.domain_parts.specs.Parts.{Holding, Parts, Sound, holding_in, nobody, parts_in, peer_at, peer_seen, peers_seen, plain, state_of}
+use Rattle.domain_parts.specs.Records.{Records}
+use Rattle.domain_parts.specs.Steps.{Did, Step, all_moves, at_peer, done, done_all, changed_peer, moved_peer, names_told, reply_owed, reply_put, step_moves, with_names, with_reply, with_reply_put}
+use Rattle.domain_parts.specs.Stores.{KeepsHeld}
+use Rattle.domain_parts.proofs.CountsFrom.{both-are, lent-are, lent-is, queued-is}
+use Rattle.domain_parts.proofs.Outs.{held-are}
+use Rattle.domain_parts.proofs.PeerPlaces.{All-at, All-from}
+use Rattle.domain_parts.proofs.Stepping.{did-then, done-numbers, moves-append, one-moved, one-seen}
+use Rattle.domain_parts.proofs.Storing.{keeps-both, keeps-none}
+use Rattle.domain_parts.proofs.Tables.{slice_get-read}
 use Rattle.board_model.proofs.DeedJoins.{after-join}
 
 -- ---- deeds after deeds

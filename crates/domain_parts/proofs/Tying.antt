@@ -20,14 +20,14 @@ use Rattle.board_model.proofs.ListsCounts.{position-tells}
 use Rattle.board_model.proofs.MessageLists.{get-position, some-position}
 use Rattle.board_model.proofs.WholeFinds.{find-mapped}
 use Rattle.buffer_book.specs.Book.{Book}
-use Rattle.domain_core.specs.declared.endpoints.Endpoint.{Endpoint}
-use Rattle.domain_core.specs.InBook.{endpoint_in, endpoints_in}
-use Rattle.domain_core.specs.Peers.{ended_in}
-use Rattle.domain_core.specs.Records.{Records, new_record, with_record, without_record_at}
-use Rattle.domain_core.specs.Tied.{AreTied, live_record}
-use Rattle.domain_core.proofs.Filters.{every-filter, filter-every, filter-inside, find-both, length-parted, some-map}
-use Rattle.domain_core.proofs.PaidTables.{ended-left}
-use Rattle.domain_core.proofs.Tables.{position-map}
+use Rattle.domain_parts.specs.declared.endpoints.Endpoint.{Endpoint}
+use Rattle.domain_parts.specs.InBook.{endpoint_in, endpoints_in}
+use Rattle.domain_parts.specs.Peers.{ended_in}
+use Rattle.domain_parts.specs.Records.{Records, new_record, with_record, without_record_at}
+use Rattle.domain_parts.specs.Tied.{AreTied, live_record}
+use Rattle.domain_parts.proofs.Filters.{every-filter, filter-every, filter-inside, find-both, length-parted, some-map}
+use Rattle.domain_parts.proofs.PaidTables.{ended-left}
+use Rattle.domain_parts.proofs.Tables.{position-map}
 
 abbrev pub is_live : Record → Bool
 is_live x = x.live

@@ -18,10 +18,10 @@ use Rattle.board_model.proofs.RenamedCalls.{call-renamed, first-renamed, packet-
 use Rattle.board_model.proofs.RenamedChanges.{renamed-all}
 use Rattle.board_model.proofs.UnnamedDeeds.{all-unnamed, deeds-unnamed, visit-unnamed}
 use Rattle.buffer_book.specs.Book.{Book}
-use Rattle.domain_core.specs.AllMoved.{buffers_of}
-use Rattle.domain_core.specs.Calls.{brings_whole, gives_whole, place_ended, place_released, success_ends, success_releases}
-use Rattle.domain_core.specs.InBook.{item_at, numbered_at}
-use Rattle.domain_core.specs.NumberedDeeds.{number_in, numbered_deeds}
+use Rattle.domain_parts.specs.AllMoved.{buffers_of}
+use Rattle.domain_parts.specs.Calls.{brings_whole, gives_whole, place_ended, place_released, success_ends, success_releases}
+use Rattle.domain_parts.specs.InBook.{item_at, numbered_at}
+use Rattle.domain_parts.specs.NumberedDeeds.{number_in, numbered_deeds}
 
 -- ---- visits
 

@@ -11,25 +11,25 @@ use Rattle.board_model.specs.Turn.{IsVisit, AreVisits, after_visit, after_turn}
 use Rattle.board_model.specs.Unnamed.{unnamed}
 use Rattle.board_model.proofs.DeedJoins.{after-join}
 use Rattle.buffer_book.specs.Book.{Book}
-use Rattle.domain_core.specs.AllMoved.{AllMoved, numbers_of, turn_moves}
-use Rattle.domain_core.specs.Beginning.{told_of, told_of_all, has_begun, has_begun_after}
-use Rattle.domain_core.specs.CallSteps.{Rests}
-use Rattle.domain_core.specs.Doing.{Visits, ids_in}
-use Rattle.domain_core.specs.DomainView.{DomainView}
-use Rattle.domain_core.specs.LaneMoves.{LaneMove}
-use Rattle.domain_core.specs.NumberedDeeds.{numbered_deeds, turn_deeds}
-use Rattle.domain_core.specs.Parts.{Holding, Sound, plain, shown, state_of}
-use Rattle.domain_core.specs.Sound.{AreRising}
-use Rattle.domain_core.specs.Steps.{Did, Step, all_moves, at_peer}
-use Rattle.domain_core.specs.Stores.{AreStored, KeepsHeld}
-use Rattle.domain_core.specs.Turned.{AllStored, HaveNumbers, VisitsAll, MakesTurn}
-use Rattle.domain_core.specs.VisitMoves.{visit_moves}
-use Rattle.domain_core.proofs.PeerPlaces.{numbers-in}
-use Rattle.domain_core.proofs.Stepping.{did-then, moves-append}
-use Rattle.domain_core.proofs.Storing.{keeps-both, keeps-none, stay-stored}
-use Rattle.domain_core.proofs.ToldTurns.{told-last, begun-last, turn-told, turn-begun}
-use Rattle.domain_core.proofs.Turning.{did-numbers, did-rests, number-in}
-use Rattle.domain_core.proofs.Unnaming.{visit-numbered}
+use Rattle.domain_parts.specs.AllMoved.{AllMoved, numbers_of, turn_moves}
+use Rattle.domain_parts.specs.Beginning.{told_of, told_of_all, has_begun, has_begun_after}
+use Rattle.domain_parts.specs.CallSteps.{Rests}
+use Rattle.domain_parts.specs.Doing.{Visits, ids_in}
+use Rattle.domain_parts.specs.DomainView.{DomainView}
+use Rattle.domain_parts.specs.LaneMoves.{LaneMove}
+use Rattle.domain_parts.specs.NumberedDeeds.{numbered_deeds, turn_deeds}
+use Rattle.domain_parts.specs.Parts.{Holding, Sound, plain, shown, state_of}
+use Rattle.domain_parts.specs.Sound.{AreRising}
+use Rattle.domain_parts.specs.Steps.{Did, Step, all_moves, at_peer}
+use Rattle.domain_parts.specs.Stores.{AreStored, KeepsHeld}
+use Rattle.domain_parts.specs.Turned.{AllStored, HaveNumbers, VisitsAll, MakesTurn}
+use Rattle.domain_parts.specs.VisitMoves.{visit_moves}
+use Rattle.domain_parts.proofs.PeerPlaces.{numbers-in}
+use Rattle.domain_parts.proofs.Stepping.{did-then, moves-append}
+use Rattle.domain_parts.proofs.Storing.{keeps-both, keeps-none, stay-stored}
+use Rattle.domain_parts.proofs.ToldTurns.{told-last, begun-last, turn-told, turn-begun}
+use Rattle.domain_parts.proofs.Turning.{did-numbers, did-rests, number-in}
+use Rattle.domain_parts.proofs.Unnaming.{visit-numbered}
 
 -- ---- one visit more
 

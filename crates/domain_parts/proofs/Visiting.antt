@@ -15,25 +15,25 @@ use Rattle.board_model.specs.State.{DomainState, held_from, is_numbered}
 use Rattle.board_model.specs.Turn.{takes_named}
 use Rattle.board_model.proofs.MessageLists.{get-position}
 use Rattle.board_model.proofs.UnnamedCounts.{held-unnamed}
-use Rattle.domain_core.specs.Beginning.{beginning, look_lines}
-use Rattle.domain_core.specs.CallSteps.{Rests}
-use Rattle.domain_core.specs.Doing.{Doing, PutsDue, Takes, Visits, owed_at}
-use Rattle.domain_core.specs.NumberedDeeds.{number_in}
-use Rattle.domain_core.specs.LaneMoves.{LaneMove, sender, receiver}
-use Rattle.domain_core.specs.LaneSeen.{LaneSeen, after_moves}
-use Rattle.domain_core.specs.Owed.{put_lines}
-use Rattle.domain_core.specs.Parts.{Holding, Sound, nobody, peer_at, plain, state_of}
-use Rattle.domain_core.specs.Peers.{peer_in}
-use Rattle.domain_core.specs.Sound.{IsSized}
-use Rattle.domain_core.specs.Stores.{AreStored, Stores}
-use Rattle.domain_core.specs.VisitMoves.{giving_back, putting, taking}
-use Rattle.domain_core.proofs.Owing.{free-put}
-use Rattle.domain_core.proofs.PeerPlaces.{All-at}
-use Rattle.domain_core.proofs.PeersAt.{find-place}
-use Rattle.domain_core.proofs.Storing.{Stores-more}
-use Rattle.domain_core.proofs.ToldTurns.{none-in}
-use Rattle.domain_core.proofs.Unnaming.{visit-may}
-use Rattle.domain_core.proofs.Turning.{did-numbers, doing-ends, doing-none, doing-then, same-length, same-number, seen-then}
+use Rattle.domain_parts.specs.Beginning.{beginning, look_lines}
+use Rattle.domain_parts.specs.CallSteps.{Rests}
+use Rattle.domain_parts.specs.Doing.{Doing, PutsDue, Takes, Visits, owed_at}
+use Rattle.domain_parts.specs.NumberedDeeds.{number_in}
+use Rattle.domain_parts.specs.LaneMoves.{LaneMove, sender, receiver}
+use Rattle.domain_parts.specs.LaneSeen.{LaneSeen, after_moves}
+use Rattle.domain_parts.specs.Owed.{put_lines}
+use Rattle.domain_parts.specs.Parts.{Holding, Sound, nobody, peer_at, plain, state_of}
+use Rattle.domain_parts.specs.Peers.{peer_in}
+use Rattle.domain_parts.specs.Sound.{IsSized}
+use Rattle.domain_parts.specs.Stores.{AreStored, Stores}
+use Rattle.domain_parts.specs.VisitMoves.{giving_back, putting, taking}
+use Rattle.domain_parts.proofs.Owing.{free-put}
+use Rattle.domain_parts.proofs.PeerPlaces.{All-at}
+use Rattle.domain_parts.proofs.PeersAt.{find-place}
+use Rattle.domain_parts.proofs.Storing.{Stores-more}
+use Rattle.domain_parts.proofs.ToldTurns.{none-in}
+use Rattle.domain_parts.proofs.Unnaming.{visit-may}
+use Rattle.domain_parts.proofs.Turning.{did-numbers, doing-ends, doing-none, doing-then, same-length, same-number, seen-then}
 
 -- ---- frames, and one more
 

@@ -12,20 +12,20 @@ use Rattle.board_model.specs.Step.{is_timeout}
 use Rattle.board_model.specs.Unnamed.{no_names, unnamed}
 use Rattle.board_model.proofs.ListsMapped.{position-alike}
 use Rattle.board_model.proofs.RenamedCalls.{complete-renamed, refusal-renamed}
-use Rattle.domain_core.specs.Awaiting.{all_exist, first_complete_in, places_named}
-use Rattle.domain_core.specs.Calls.{Does, Lending}
-use Rattle.domain_core.specs.CallSteps.{Acts, Rests}
-use Rattle.domain_core.specs.DomainView.{DomainView, place_of_id}
-use Rattle.domain_core.specs.LaneMoves.{LaneMove}
-use Rattle.domain_core.specs.Parts.{Holding, shown, state_of}
-use Rattle.domain_core.specs.Turned.{MakesTurn}
-use Rattle.domain_core.specs.declared.wait_fault.WaitFault.{WaitFault}
-use Rattle.domain_core.specs.declared.wait_fault.WaitFault.TheVariants as fault
-use Rattle.domain_core.specs.Waiting.{AreAwaited, Polled, Waits, place_told, wait_entries, wait_on, waited, waited_any, waited_at}
-use Rattle.domain_core.proofs.CallLemmas.{does-of}
-use Rattle.domain_core.proofs.Stepping.{acts-refused}
-use Rattle.domain_core.proofs.WaitPlaces.{first-complete, first-is, no-wait, timeout-word, wait-ends, wait-invalid}
-use Rattle.domain_core.proofs.WaitSteps.{Polling, more-many, more-polls, more-stand, more-told, wait-acts}
+use Rattle.domain_parts.specs.Awaiting.{all_exist, first_complete_in, places_named}
+use Rattle.domain_parts.specs.Calls.{Does, Lending}
+use Rattle.domain_parts.specs.CallSteps.{Acts, Rests}
+use Rattle.domain_parts.specs.DomainView.{DomainView, place_of_id}
+use Rattle.domain_parts.specs.LaneMoves.{LaneMove}
+use Rattle.domain_parts.specs.Parts.{Holding, shown, state_of}
+use Rattle.domain_parts.specs.Turned.{MakesTurn}
+use Rattle.domain_parts.specs.declared.wait_fault.WaitFault.{WaitFault}
+use Rattle.domain_parts.specs.declared.wait_fault.WaitFault.TheVariants as fault
+use Rattle.domain_parts.specs.Waiting.{AreAwaited, Polled, Waits, place_told, wait_entries, wait_on, waited, waited_any, waited_at}
+use Rattle.domain_parts.proofs.CallLemmas.{does-of}
+use Rattle.domain_parts.proofs.Stepping.{acts-refused}
+use Rattle.domain_parts.proofs.WaitPlaces.{first-complete, first-is, no-wait, timeout-word, wait-ends, wait-invalid}
+use Rattle.domain_parts.proofs.WaitSteps.{Polling, more-many, more-polls, more-stand, more-told, wait-acts}
 
 -- ---- the turns
 

@@ -19,14 +19,14 @@ use Rattle.board_model.proofs.MessageLists.{get-position, some-position}
 use Rattle.buffer_book.specs.Book.{Book}
 use Rattle.request_set.specs.declared.ask.Complete.{Complete}
 use Rattle.request_set.specs.Requests.{Requests, Standing, first_done, is_done, progress_of, request_of}
-use Rattle.domain_core.specs.Calls.{Lending, tested}
-use Rattle.domain_core.specs.Awaiting.{first_complete_in, places_named}
-use Rattle.domain_core.specs.DomainView.{DomainView, place_of_id}
-use Rattle.domain_core.specs.InBook.{outcome_in, request_in, requests_in}
-use Rattle.domain_core.proofs.Calling.{test_by, test-is}
-use Rattle.domain_core.proofs.Ending.{ids_in, request-at}
-use Rattle.domain_core.proofs.Receives.{position-same}
-use Rattle.domain_core.proofs.Tables.{position-map}
+use Rattle.domain_parts.specs.Calls.{Lending, tested}
+use Rattle.domain_parts.specs.Awaiting.{first_complete_in, places_named}
+use Rattle.domain_parts.specs.DomainView.{DomainView, place_of_id}
+use Rattle.domain_parts.specs.InBook.{outcome_in, request_in, requests_in}
+use Rattle.domain_parts.proofs.Calling.{test_by, test-is}
+use Rattle.domain_parts.proofs.Ending.{ids_in, request-at}
+use Rattle.domain_parts.proofs.Receives.{position-same}
+use Rattle.domain_parts.proofs.Tables.{position-map}
 
 -- ---- one request
 

@@ -10,15 +10,15 @@ use Rattle.board_model.specs.State.{DomainState, request_at_place}
 use Rattle.board_model.specs.Step.{is_timeout}
 use Rattle.board_model.specs.Turn.{after_turn}
 use Rattle.board_model.proofs.WholeWaits.{turn_all_stand}
-use Rattle.domain_core.specs.Awaiting.{all_exist, first_complete_in, places_named}
-use Rattle.domain_core.specs.CallSteps.{Acted, Acts, Means, Succeeds}
-use Rattle.domain_core.specs.DomainView.{DomainView, place_of_id}
-use Rattle.domain_core.specs.LaneMoves.{LaneMove}
-use Rattle.domain_core.specs.Parts.{Holding, Parts, state_of}
-use Rattle.domain_core.specs.Turned.{MakesTurn, Turns}
-use Rattle.domain_core.specs.Waiting.{AreAwaited, Polls, wait_on}
-use Rattle.domain_core.proofs.Calling.{answer-done}
-use Rattle.domain_core.proofs.WaitPlaces.{complete-test, wait-pends, wait-stood}
+use Rattle.domain_parts.specs.Awaiting.{all_exist, first_complete_in, places_named}
+use Rattle.domain_parts.specs.CallSteps.{Acted, Acts, Means, Succeeds}
+use Rattle.domain_parts.specs.DomainView.{DomainView, place_of_id}
+use Rattle.domain_parts.specs.LaneMoves.{LaneMove}
+use Rattle.domain_parts.specs.Parts.{Holding, Parts, state_of}
+use Rattle.domain_parts.specs.Turned.{MakesTurn, Turns}
+use Rattle.domain_parts.specs.Waiting.{AreAwaited, Polls, wait_on}
+use Rattle.domain_parts.proofs.Calling.{answer-done}
+use Rattle.domain_parts.proofs.WaitPlaces.{complete-test, wait-pends, wait-stood}
 
 -- ---- turns
 

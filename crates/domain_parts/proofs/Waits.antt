@@ -8,8 +8,8 @@ use Rattle.board_model.specs.Lists.{changed_at}
 use Rattle.board_model.specs.State as state
 use Rattle.board_model.specs.State.{Item, is_from, queue_in}
 use Rattle.board_model.specs.Choice.{best, without_best}
-use Rattle.domain_core.specs.PlacedFrames.{queued_last}
-use Rattle.domain_core.specs.PlacedCalls.{received}
+use Rattle.domain_parts.specs.PlacedFrames.{queued_last}
+use Rattle.domain_parts.specs.PlacedCalls.{received}
 use Rattle.board_model.proofs.ListsCounts.{count-append, count-cons, count-every}
 use Rattle.board_model.proofs.MessageVisitLines.{count-map}
 use Rattle.board_model.proofs.MessageBest.{best-map, count-best, without_best-map}
@@ -18,15 +18,15 @@ use Rattle.buffer_book.specs.Book.{Book, Kept, with_place}
 use Rattle.message_queue.specs.Queue.{Waiting}
 use Rattle.packet_channel.specs.End.{end_of}
 use Rattle.packet_channel.specs.declared.channel.Channel.{Channel}
-use Rattle.domain_core.specs.declared.endpoints.Endpoint.{Endpoint}
+use Rattle.domain_parts.specs.declared.endpoints.Endpoint.{Endpoint}
 use Rattle.board_model.specs.Queues.{messages_at}
-use Rattle.domain_core.specs.Hearing.{messages_waiting}
-use Rattle.domain_core.specs.Table.{items_in}
-use Rattle.domain_core.specs.Records.{all_waiting, waiting_in, with_best_taken, with_waiting}
-use Rattle.domain_core.specs.InBook.{channel_in, content_in, endpoint_in, endpoints_in, item_in, source_in}
-use Rattle.domain_core.specs.InPlaces.{is_of, is_same, one_if, times_waiting}
-use Rattle.domain_core.proofs.Books.{differ-back, kept-there}
-use Rattle.domain_core.proofs.Placed.{no-one}
+use Rattle.domain_parts.specs.Hearing.{messages_waiting}
+use Rattle.domain_parts.specs.Table.{items_in}
+use Rattle.domain_parts.specs.Records.{all_waiting, waiting_in, with_best_taken, with_waiting}
+use Rattle.domain_parts.specs.InBook.{channel_in, content_in, endpoint_in, endpoints_in, item_in, source_in}
+use Rattle.domain_parts.specs.InPlaces.{is_of, is_same, one_if, times_waiting}
+use Rattle.domain_parts.proofs.Books.{differ-back, kept-there}
+use Rattle.domain_parts.proofs.Placed.{no-one}
 
 -- ---- how much waits
 

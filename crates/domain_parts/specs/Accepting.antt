@@ -14,13 +14,13 @@ use Rattle.packet_channel.specs.End.{end_of}
 use Rattle.packet_channel.specs.declared.channel.Channel.{Channel}
 use Rattle.request_set.specs.declared.ask.Complete.TheVariants as complete
 use Rattle.request_set.specs.Requests.{Requests, oldest_waiting}
-use Rattle.domain_core.specs.declared.dealing.Verdict.{Verdict}
-use Rattle.domain_core.specs.declared.dealing.Verdict.TheVariants as verdict
-use Rattle.domain_core.specs.declared.endpoints.Endpoint.{Endpoint}
-use Rattle.domain_core.specs.declared.requests.Waiters.TheVariants as waiters
-use Rattle.domain_core.specs.InRequests.{with_all_complete}
-use Rattle.domain_core.specs.Records.{Records, kept, with_channel_at}
-use Rattle.domain_core.specs.Verdicts.{Brings, local_of}
+use Rattle.domain_parts.specs.declared.dealing.Verdict.{Verdict}
+use Rattle.domain_parts.specs.declared.dealing.Verdict.TheVariants as verdict
+use Rattle.domain_parts.specs.declared.endpoints.Endpoint.{Endpoint}
+use Rattle.domain_parts.specs.declared.requests.Waiters.TheVariants as waiters
+use Rattle.domain_parts.specs.InRequests.{with_all_complete}
+use Rattle.domain_parts.specs.Records.{Records, kept, with_channel_at}
+use Rattle.domain_parts.specs.Verdicts.{Brings, local_of}
 
 -- ---- Connects
 

@@ -4,9 +4,9 @@ use Rattle.std.specs.Prelude.{ℕ, List, [], ◌∷◌, ◌++◌, ◌==◌, map,
 use Rattle.mc_base.specs.declared.request.Slot.{Slot}
 use Rattle.lane_end.specs.ReceiveMoves.{Gave}
 use Rattle.board_model.specs.Journal.{Visit}
-use Rattle.domain_core.specs.declared.peer.Peer.{Peer}
-use Rattle.domain_core.specs.LaneMoves.{LaneMove, receiver}
-use Rattle.domain_core.specs.VisitMoves.{putting, visit_moves}
+use Rattle.domain_parts.specs.declared.peer.Peer.{Peer}
+use Rattle.domain_parts.specs.LaneMoves.{LaneMove, receiver}
+use Rattle.domain_parts.specs.VisitMoves.{putting, visit_moves}
 
 -- the ends towards each peer, in the order of the peers
 abbrev pub ends_of : {L : Type 0} → List (Peer L) → List L

@@ -4,7 +4,7 @@ use Rattle.std.specs.Prelude.{ℕ, Bool, true, List, map, position, Option}
 use Rattle.std.specs.List.{list_all}
 use Rattle.mc_base.specs.declared.request.RequestId.{RequestId}
 use Rattle.board_model.specs.Answer.{is_complete_at, place_said, stands_at}
-use Rattle.domain_core.specs.DomainView.{DomainView, place_of_id}
+use Rattle.domain_parts.specs.DomainView.{DomainView, place_of_id}
 
 -- their places among the requests that exist
 abbrev pub places_named : {L : Type 0} → List RequestId → DomainView L → List (Option ℕ)

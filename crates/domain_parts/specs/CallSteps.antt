@@ -29,14 +29,14 @@ use Rattle.request_set.specs.declared.ask.Ask.TheVariants as ask
 use Rattle.request_set.specs.declared.ask.Complete.{Complete}
 use Rattle.request_set.specs.declared.ask.Complete.TheVariants as complete
 use Rattle.request_set.specs.Requests.{Requests}
-use Rattle.domain_core.specs.AllMoved.{AllMoved, moves_at, numbers_of}
-use Rattle.domain_core.specs.Calls.{IsFresh, success_ends, success_releases}
-use Rattle.domain_core.specs.InBook.{numbered_at}
-use Rattle.domain_core.specs.LaneMoves.{LaneMove}
-use Rattle.domain_core.specs.Parts.{Holding, Parts, state_of}
-use Rattle.domain_core.specs.Records.{slots_at, waiting_in}
-use Rattle.domain_core.specs.Steps.{Did, Step, all_moves, best_dropped, channel_given, channel_set, done_all, endpoint_gone, endpoint_made, frame_put, message_ended, next_lent, oldest_dropped, oldest_lent, packet_begun, packet_ended, packet_released, receive_begun, receives_ended, request_begun, request_ended}
-use Rattle.domain_core.specs.Stores.{KeepsBut}
+use Rattle.domain_parts.specs.AllMoved.{AllMoved, moves_at, numbers_of}
+use Rattle.domain_parts.specs.Calls.{IsFresh, success_ends, success_releases}
+use Rattle.domain_parts.specs.InBook.{numbered_at}
+use Rattle.domain_parts.specs.LaneMoves.{LaneMove}
+use Rattle.domain_parts.specs.Parts.{Holding, Parts, state_of}
+use Rattle.domain_parts.specs.Records.{slots_at, waiting_in}
+use Rattle.domain_parts.specs.Steps.{Did, Step, all_moves, best_dropped, channel_given, channel_set, done_all, endpoint_gone, endpoint_made, frame_put, message_ended, next_lent, oldest_dropped, oldest_lent, packet_begun, packet_ended, packet_released, receive_begun, receives_ended, request_begun, request_ended}
+use Rattle.domain_parts.specs.Stores.{KeepsBut}
 
 -- steps that hang on what is there
 abbrev pub if_some : {A : Type 0} → Option A → (A → List Step) → List Step

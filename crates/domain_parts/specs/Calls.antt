@@ -22,12 +22,12 @@ use Rattle.board_model.specs.Answer.{answer, first_complete, puts, refusal, unle
 use Rattle.board_model.specs.CallChanges as changes
 use Rattle.board_model.specs.Given.{frames_from}
 use Rattle.board_model.specs.Serial.{put_entry}
-use Rattle.domain_core.specs.DomainView.{DomainView}
-use Rattle.domain_core.specs.LaneMoves.{LaneMove}
-use Rattle.domain_core.specs.InBook.{item_at}
-use Rattle.domain_core.specs.Stores.{KeepsBut}
-use Rattle.domain_core.specs.AllMoved.{AllMoved, buffers_of, call_moves}
-use Rattle.domain_core.specs.Turned.{Turns}
+use Rattle.domain_parts.specs.DomainView.{DomainView}
+use Rattle.domain_parts.specs.LaneMoves.{LaneMove}
+use Rattle.domain_parts.specs.InBook.{item_at}
+use Rattle.domain_parts.specs.Stores.{KeepsBut}
+use Rattle.domain_parts.specs.AllMoved.{AllMoved, buffers_of, call_moves}
+use Rattle.domain_parts.specs.Turned.{Turns}
 
 -- the place of the request that success ends
 abbrev pub success_ends : DomainState → DomainCall → Option ℕ

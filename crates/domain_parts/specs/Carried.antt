@@ -2,11 +2,11 @@
 -- Source: the code that carries.
 use Rattle.std.specs.Prelude.{◌≡◌, ℕ, Bool, List, Some, find, position}
 use Rattle.board_model.specs.Lists.{changed}
-use Rattle.domain_core.specs.declared.ends.Ends.{Ends}
-use Rattle.domain_core.specs.declared.ends.Ends.TheVariants.{Linked}
-use Rattle.domain_core.specs.declared.peer.Peer.{Peer}
-use Rattle.domain_core.specs.AllMoved.{ends_of}
-use Rattle.domain_core.specs.Carrying.{AreJoined, LinksMeet}
+use Rattle.domain_parts.specs.declared.ends.Ends.{Ends}
+use Rattle.domain_parts.specs.declared.ends.Ends.TheVariants.{Linked}
+use Rattle.domain_parts.specs.declared.peer.Peer.{Peer}
+use Rattle.domain_parts.specs.AllMoved.{ends_of}
+use Rattle.domain_parts.specs.Carrying.{AreJoined, LinksMeet}
 
 -- both are ends of links, and these fit together
 abbrev pub AreJoinedEnds : {S R : Type 0} → (S → R → Type 0) → Ends S R → Ends S R → Type 0

@@ -7,10 +7,10 @@ use Rattle.lane_end.specs.PlainReceiver.{Receiver}
 use Rattle.lane_end.specs.PlainLane.{shuttled_sender, shuttled_receiver}
 use Rattle.lane_end.specs.declared.any.AnySend.{AnySend}
 use Rattle.lane_end.specs.declared.any.AnyRecv.{AnyRecv}
-use Rattle.domain_core.specs.declared.link.Link.{Link}
-use Rattle.domain_core.specs.declared.ends.Ends.{Ends}
-use Rattle.domain_core.specs.declared.ends.Ends.TheVariants.{Own, Linked}
-use Rattle.domain_core.specs.Opening.{links_in}
+use Rattle.domain_parts.specs.declared.link.Link.{Link}
+use Rattle.domain_parts.specs.declared.ends.Ends.{Ends}
+use Rattle.domain_parts.specs.declared.ends.Ends.TheVariants.{Own, Linked}
+use Rattle.domain_parts.specs.Opening.{links_in}
 
 -- links whose ends stand in one memory with the other domain's, and links with ends of any kind
 abbrev pub PlainLink : Type 0

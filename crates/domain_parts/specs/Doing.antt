@@ -7,15 +7,15 @@ use Rattle.board_model.specs.Journal.{Line, Taken, Visit, taken_line}
 use Rattle.board_model.specs.State.{owed_to}
 use Rattle.board_model.specs.Turn.{IsVisit, takes_named, turn_limit}
 use Rattle.board_model.specs.Unnamed.{unnamed}
-use Rattle.domain_core.specs.Beginning.{has_begun, told_of}
-use Rattle.domain_core.specs.LaneMoves.{LaneMove}
-use Rattle.domain_core.specs.NumberedDeeds.{number_in, numbered_deeds}
-use Rattle.domain_core.specs.Owed.{put_lines}
-use Rattle.domain_core.specs.Peers.{peer_in}
-use Rattle.domain_core.specs.Parts.{Holding, Parts, peer_at, plain, state_of}
-use Rattle.domain_core.specs.Steps.{Did, Step, all_moves, at_peer}
-use Rattle.domain_core.specs.Stores.{AreStored, KeepsHeld}
-use Rattle.domain_core.specs.VisitMoves.{putting, taking, visit_moves}
+use Rattle.domain_parts.specs.Beginning.{has_begun, told_of}
+use Rattle.domain_parts.specs.LaneMoves.{LaneMove}
+use Rattle.domain_parts.specs.NumberedDeeds.{number_in, numbered_deeds}
+use Rattle.domain_parts.specs.Owed.{put_lines}
+use Rattle.domain_parts.specs.Peers.{peer_in}
+use Rattle.domain_parts.specs.Parts.{Holding, Parts, peer_at, plain, state_of}
+use Rattle.domain_parts.specs.Steps.{Did, Step, all_moves, at_peer}
+use Rattle.domain_parts.specs.Stores.{AreStored, KeepsHeld}
+use Rattle.domain_parts.specs.VisitMoves.{putting, taking, visit_moves}
 
 abbrev pub ids_in : Parts → List RequestId
 ids_in p = map (λ r. r.id) p.requests.standing

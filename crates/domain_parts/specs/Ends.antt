@@ -5,13 +5,13 @@ use Rattle.std.specs.Prelude.{◌≡◌, ℕ, List, [], ◌++◌, length, refl}
 use Rattle.lane_end.specs.Loop.{Loop}
 use Rattle.lane_end.specs.SendMoves.{SendMove}
 use Rattle.lane_end.specs.ReceiveMoves.{ReceiveMove}
-use Rattle.domain_core.specs.declared.ends.Ends.{Ends}
-use Rattle.domain_core.specs.declared.link.Link.{Link}
-use Rattle.domain_core.specs.LaneSeen.{LaneSeen}
-use Rattle.domain_core.specs.declared.ends.Ends.TheVariants.{Own, Linked}
-use Rattle.domain_core.specs.LaneMoves.{LaneMove, sends, receives}
-use Rattle.domain_core.specs.LinkMoved.{LinkMoved, link-none, link-both}
-use Rattle.domain_core.specs.LoopMoved.{LoopMoved, LoopMoved-both, LoopMoved-size}
+use Rattle.domain_parts.specs.declared.ends.Ends.{Ends}
+use Rattle.domain_parts.specs.declared.link.Link.{Link}
+use Rattle.domain_parts.specs.LaneSeen.{LaneSeen}
+use Rattle.domain_parts.specs.declared.ends.Ends.TheVariants.{Own, Linked}
+use Rattle.domain_parts.specs.LaneMoves.{LaneMove, sends, receives}
+use Rattle.domain_parts.specs.LinkMoved.{LinkMoved, link-none, link-both}
+use Rattle.domain_parts.specs.LoopMoved.{LoopMoved, LoopMoved-both, LoopMoved-size}
 
 -- what is seen of each
 abbrev pub loop_seen : Loop → LaneSeen

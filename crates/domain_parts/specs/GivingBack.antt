@@ -3,9 +3,9 @@
 use Rattle.std.specs.Prelude.{◌≡◌, ℕ, List, [], ◌∷◌, ◌==◌, position, slice_get, slice_set, Some, Contains}
 use Rattle.mc_base.specs.declared.request.Slot.{Slot}
 use Rattle.lane_end.specs.ReceiveMoves.{Gave}
-use Rattle.domain_core.specs.LaneSeen.{LaneSeen, after_move}
-use Rattle.domain_core.specs.declared.peer.Peer.{Peer}
-use Rattle.domain_core.specs.LaneMoves.{LaneMove, receiver}
+use Rattle.domain_parts.specs.LaneSeen.{LaneSeen, after_move}
+use Rattle.domain_parts.specs.declared.peer.Peer.{Peer}
+use Rattle.domain_parts.specs.LaneMoves.{LaneMove, receiver}
 
 -- its buffer is out at the ends towards the peer, which is the first of its number
 pub record IsOutAt {L : Type 0} (v : L → LaneSeen) (slot : Slot) (ps : List (Peer L)) : Type 0 where

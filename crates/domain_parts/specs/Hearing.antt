@@ -3,7 +3,7 @@
 use Rattle.std.specs.Prelude.{ℕ, Bool, length, is_none, option_map, if◌then◌else◌}
 use Rattle.board_model.specs.Queues.{is_receiver_of}
 use Rattle.packet_channel.specs.End.{end_of}
-use Rattle.domain_core.specs.declared.endpoints.Endpoint.{Endpoint}
+use Rattle.domain_parts.specs.declared.endpoints.Endpoint.{Endpoint}
 
 -- an endpoint has that end
 abbrev pub hears_at : ℕ → ℕ → Endpoint → Bool

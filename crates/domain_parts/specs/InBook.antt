@@ -18,9 +18,9 @@ use Rattle.request_set.specs.declared.ask.Ask.TheVariants as ask
 use Rattle.request_set.specs.declared.ask.Complete.{Complete}
 use Rattle.request_set.specs.declared.ask.Complete.TheVariants as complete
 use Rattle.request_set.specs.Requests.{Standing, Requests}
-use Rattle.domain_core.specs.declared.endpoints.Endpoint.{Endpoint}
-use Rattle.domain_core.specs.Table.{Held, Table}
-use Rattle.domain_core.specs.Records.{Records}
+use Rattle.domain_parts.specs.declared.endpoints.Endpoint.{Endpoint}
+use Rattle.domain_parts.specs.Table.{Held, Table}
+use Rattle.domain_parts.specs.Records.{Records}
 
 -- the address that a buffer's frame came from, its content, its priority, and its channel or none
 abbrev pub source_in : Option Kept → ℕ

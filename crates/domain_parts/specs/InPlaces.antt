@@ -9,11 +9,11 @@ use Rattle.mc_base.specs.declared.request.Slot.{Slot}
 use Rattle.buffer_book.specs.Book.{Book, Kept, lent_as, place_at, kept_at, queued_at}
 use Rattle.message_queue.specs.Queue.{Waiting}
 use Rattle.request_set.specs.Requests.{Requests}
-use Rattle.domain_core.specs.Records.{Records, all_waiting, lent_slots}
-use Rattle.domain_core.specs.InBook.{priority_in}
-use Rattle.domain_core.specs.InRequests.{handed_slots}
+use Rattle.domain_parts.specs.Records.{Records, all_waiting, lent_slots}
+use Rattle.domain_parts.specs.InBook.{priority_in}
+use Rattle.domain_parts.specs.InRequests.{handed_slots}
 use Rattle.lane_end.specs.Numbers.{often, AreApart}
-use Rattle.domain_core.specs.Out.{Out}
+use Rattle.domain_parts.specs.Out.{Out}
 
 abbrev pub one_if : Bool → ℕ
 one_if b = cond b 1 0

@@ -11,8 +11,8 @@ use Rattle.request_set.specs.declared.ask.Complete.{Complete}
 use Rattle.request_set.specs.declared.ask.Complete.TheVariants as complete
 use Rattle.request_set.specs.Requests.{Standing, Requests, keys, receives_at}
 use Rattle.board_model.specs.Change.{same_name}
-use Rattle.domain_core.specs.declared.requests.Waiters.{Waiters}
-use Rattle.domain_core.specs.declared.requests.Waiters.TheVariants as waiters
+use Rattle.domain_parts.specs.declared.requests.Waiters.{Waiters}
+use Rattle.domain_parts.specs.declared.requests.Waiters.TheVariants as waiters
 
 -- the buffer in which a message or packet came
 abbrev pub slots_in : Option Complete → List Slot

@@ -6,9 +6,9 @@ use Rattle.mc_base.specs.Limits.{first_address, record_limit}
 use Rattle.message_queue.specs.Queue.{Queue, empty_queue}
 use Rattle.packet_channel.specs.End.{end_of, kept_end}
 use Rattle.packet_channel.specs.declared.channel.Channel.{Channel}
-use Rattle.domain_core.specs.declared.endpoints.Endpoint.{Endpoint}
-use Rattle.domain_core.specs.declared.endpoints.Endpoints.TheInside.{Inside}
-use Rattle.domain_core.specs.Records.{Records}
+use Rattle.domain_parts.specs.declared.endpoints.Endpoint.{Endpoint}
+use Rattle.domain_parts.specs.declared.endpoints.Endpoints.TheInside.{Inside}
+use Rattle.domain_parts.specs.Records.{Records}
 
 abbrev pub records_of : Inside → Records
 records_of t = record { number = t.number; endpoints = t.records.items; given = t.given; channels = t.channels; lent = t.lent.items; room = t.room }

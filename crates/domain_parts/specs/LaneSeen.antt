@@ -6,7 +6,7 @@ use Rattle.lane_end.specs.SendMoves as sending
 use Rattle.lane_end.specs.ReceiveMoves.{Gave, Took}
 use Rattle.lane_end.specs.ReceiveMoves as receiving
 use Rattle.lane_end.specs.ReceiverContract.{without}
-use Rattle.domain_core.specs.LaneMoves.{LaneMove, sender, receiver}
+use Rattle.domain_parts.specs.LaneMoves.{LaneMove, sender, receiver}
 
 -- how many buffers the lane to the peer has, and the lane from it; how many buffers are free to be put; how many frames are shown and
 -- not taken; and the numbers of the buffers that were taken and not given back

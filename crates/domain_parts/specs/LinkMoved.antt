@@ -4,8 +4,8 @@ use Rattle.std.specs.Prelude.{◌≡◌, List, [], ◌∷◌, ◌++◌, refl}
 use Rattle.std.proofs.Common.{ap, ◌∙◌}
 use Rattle.lane_end.specs.SendMoves.{SendMove}
 use Rattle.lane_end.specs.ReceiveMoves.{ReceiveMove}
-use Rattle.domain_core.specs.declared.link.Link.{Link}
-use Rattle.domain_core.specs.LaneMoves.{LaneMove, sender, receiver, sends, receives}
+use Rattle.domain_parts.specs.declared.link.Link.{Link}
+use Rattle.domain_parts.specs.LaneMoves.{LaneMove, sender, receiver, sends, receives}
 
 -- the moves lead from each end of the one link to that end of the other
 pub record LinkMoved {S R : Type 0} (Sent : S → List SendMove → S → Type 0) (Received : R → List ReceiveMove → R → Type 0) (old : Link S R) (moves : List LaneMove) (new : Link S R) : Type 0 where

@@ -4,7 +4,7 @@ use Rattle.std.specs.Prelude.{◌≡◌, List, ◌++◌, refl}
 use Rattle.lane_end.specs.Moves.{Lead}
 use Rattle.lane_end.specs.MoveLaws.{Lead-append, Lead-keeps}
 use Rattle.lane_end.specs.Loop.{Loop, MayLoopSend, loop_after_send, MayLoopReceive, loop_after_receive}
-use Rattle.domain_core.specs.LaneMoves.{LaneMove, sender, receiver}
+use Rattle.domain_parts.specs.LaneMoves.{LaneMove, sender, receiver}
 
 abbrev pub MayLoop : Loop → LaneMove → Type 0
 MayLoop l (sender m) = MayLoopSend l m

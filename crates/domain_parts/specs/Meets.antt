@@ -10,12 +10,12 @@ use Rattle.lane_end.specs.AnyLane.{EndsHaveMet}
 use Rattle.lane_end.specs.AnyLaneLaws.{met-seen}
 use Rattle.lane_end.specs.declared.any.AnySend.{AnySend}
 use Rattle.lane_end.specs.declared.any.AnyRecv.{AnyRecv}
-use Rattle.domain_core.specs.declared.ends.Ends.{Ends}
-use Rattle.domain_core.specs.declared.ends.Ends.TheVariants.{Own, Linked}
-use Rattle.domain_core.specs.declared.link.Link.{Link}
-use Rattle.domain_core.specs.Carried.{EndsMeet}
-use Rattle.domain_core.specs.Carrying.{HasShuttled, LinksMeet}
-use Rattle.domain_core.specs.Ends.{ends_seen, link_seen}
+use Rattle.domain_parts.specs.declared.ends.Ends.{Ends}
+use Rattle.domain_parts.specs.declared.ends.Ends.TheVariants.{Own, Linked}
+use Rattle.domain_parts.specs.declared.link.Link.{Link}
+use Rattle.domain_parts.specs.Carried.{EndsMeet}
+use Rattle.domain_parts.specs.Carrying.{HasShuttled, LinksMeet}
+use Rattle.domain_parts.specs.Ends.{ends_seen, link_seen}
 
 -- what holds where links meet holds where ends do
 pub over-links : {S R : Type 0} (Meet : S → R → S → R → Type 0) (P : Ends S R → Ends S R → Ends S R → Ends S R → Type 0) → ((a b c d : Link S R) → LinksMeet Meet a b c d → P (Linked a) (Linked b) (Linked c) (Linked d))

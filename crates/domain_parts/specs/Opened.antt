@@ -3,10 +3,10 @@
 use Rattle.std.specs.Prelude.{ℕ, nat_lt, not, List, [], ◌∷◌, map, if◌then◌else◌}
 use Rattle.std.specs.List.{prefix_len}
 use Rattle.lane_end.specs.Loop.{Loop}
-use Rattle.domain_core.specs.declared.link.Link.{Link}
-use Rattle.domain_core.specs.declared.ends.Ends.{Ends}
-use Rattle.domain_core.specs.declared.ends.Ends.TheVariants.{Own, Linked}
-use Rattle.domain_core.specs.declared.peer.Peer.{Peer}
+use Rattle.domain_parts.specs.declared.link.Link.{Link}
+use Rattle.domain_parts.specs.declared.ends.Ends.{Ends}
+use Rattle.domain_parts.specs.declared.ends.Ends.TheVariants.{Own, Linked}
+use Rattle.domain_parts.specs.declared.peer.Peer.{Peer}
 
 -- what is made of each link, and what is the domain's own in its place among them: before the first whose peer has a greater
 -- number

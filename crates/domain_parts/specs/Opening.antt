@@ -4,10 +4,10 @@ use Rattle.std.specs.Prelude.{◌≡◌, ◌≤◌, ◌≢◌, ℕ, nat_lt, List
 use Rattle.std.specs.List.{AllByRecursion}
 use Rattle.lane_end.specs.Loop.{Loop}
 use Rattle.board_model.specs.Scenario.{Neighbour, neighbour}
-use Rattle.domain_core.specs.declared.link.Link.{Link}
-use Rattle.domain_core.specs.declared.ends.Ends.{Ends}
-use Rattle.domain_core.specs.declared.ends.Ends.TheVariants.{Own, Linked}
-use Rattle.domain_core.specs.Sound.{AreRising}
+use Rattle.domain_parts.specs.declared.link.Link.{Link}
+use Rattle.domain_parts.specs.declared.ends.Ends.{Ends}
+use Rattle.domain_parts.specs.declared.ends.Ends.TheVariants.{Own, Linked}
+use Rattle.domain_parts.specs.Sound.{AreRising}
 
 -- the links of a domain: to other domains, in rising order
 pub record AreLinksOf {S R : Type 0} (number : ℕ) (ls : List (Link S R)) : Type 0 where

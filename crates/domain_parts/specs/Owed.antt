@@ -4,7 +4,7 @@ use Rattle.std.specs.Prelude.{ℕ, Bool, List, [], ◌∷◌, ◌++◌, map, Opt
 use Rattle.endpoint_table.specs.declared.announced.Announced.{Announced}
 use Rattle.endpoint_table.specs.Table.{Owing}
 use Rattle.board_model.specs.Journal.{Line, put_line}
-use Rattle.domain_core.specs.Beginning.{beginning}
+use Rattle.domain_parts.specs.Beginning.{beginning}
 
 -- the announcements that are owed to it
 abbrev pub owed_by : Option Owing → List Announced

@@ -7,13 +7,13 @@ use Rattle.request_set.specs.Requests.{Requests}
 use Rattle.endpoint_table.specs.Table as endpoint_table
 use Rattle.board_model.specs.State.{DomainState}
 use Rattle.board_model.specs.Unnamed.{unnamed}
-use Rattle.domain_core.specs.declared.peer.Peer.{Peer}
-use Rattle.domain_core.specs.AllMoved.{ends_of}
-use Rattle.domain_core.specs.DomainView.{DomainView}
-use Rattle.domain_core.specs.LaneSeen.{LaneSeen}
-use Rattle.domain_core.specs.Peers.{state_in}
-use Rattle.domain_core.specs.Records.{Records}
-use Rattle.domain_core.specs.Sound.{AreSound}
+use Rattle.domain_parts.specs.declared.peer.Peer.{Peer}
+use Rattle.domain_parts.specs.AllMoved.{ends_of}
+use Rattle.domain_parts.specs.DomainView.{DomainView}
+use Rattle.domain_parts.specs.LaneSeen.{LaneSeen}
+use Rattle.domain_parts.specs.Peers.{state_in}
+use Rattle.domain_parts.specs.Records.{Records}
+use Rattle.domain_parts.specs.Sound.{AreSound}
 
 -- what is seen of a peer and the ends towards it
 abbrev pub peer_seen : {L : Type 0} → (L → LaneSeen) → Peer L → Peer LaneSeen

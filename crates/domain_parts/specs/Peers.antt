@@ -9,12 +9,12 @@ use Rattle.endpoint_table.specs.declared.announced.Announced.{Announced}
 use Rattle.endpoint_table.specs.declared.record.Record.{Record}
 use Rattle.endpoint_table.specs.Table as endpoint_table
 use Rattle.endpoint_table.specs.Table.{owing_to}
-use Rattle.domain_core.specs.LaneSeen.{LaneSeen}
-use Rattle.domain_core.specs.declared.peer.Peer.{Peer}
-use Rattle.domain_core.specs.declared.replies.Reply.{Reply}
-use Rattle.domain_core.specs.Records.{Records}
-use Rattle.domain_core.specs.InBook.{endpoints_in, packets_in, requests_in}
-use Rattle.domain_core.specs.Owed.{owed_by}
+use Rattle.domain_parts.specs.LaneSeen.{LaneSeen}
+use Rattle.domain_parts.specs.declared.peer.Peer.{Peer}
+use Rattle.domain_parts.specs.declared.replies.Reply.{Reply}
+use Rattle.domain_parts.specs.Records.{Records}
+use Rattle.domain_parts.specs.InBook.{endpoints_in, packets_in, requests_in}
+use Rattle.domain_parts.specs.Owed.{owed_by}
 
 -- what is owed to a linked domain, as the table of endpoints has it
 abbrev pub announcement_in : Announced → Announcement

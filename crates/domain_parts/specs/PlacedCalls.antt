@@ -13,8 +13,8 @@ use Rattle.board_model.specs.State.{DomainState, Endpoint, Item, Announcement, P
 use Rattle.board_model.specs.Choice.{best, oldest, without_best}
 use Rattle.board_model.specs.Answer.{first_complete, local}
 use Rattle.board_model.specs.CallChanges.{held_by, item_lent}
-use Rattle.domain_core.specs.PlacedFrames.{with_found}
-use Rattle.domain_core.specs.PlacedVisits.{with_peers}
+use Rattle.domain_parts.specs.PlacedFrames.{with_found}
+use Rattle.domain_parts.specs.PlacedVisits.{with_peers}
 
 -- a new endpoint. Its address is 1024 and the number of endpoints that were created before
 abbrev pub new_endpoint : DomainState → Local → Endpoint

@@ -13,7 +13,7 @@ use Rattle.message_queue.specs.Queue.{Waiting, empty_queue, pushed, popped_best,
 use Rattle.packet_channel.specs.End.{kept_end}
 use Rattle.packet_channel.specs.declared.channel.Channel.{Channel}
 use Rattle.board_model.specs.Lists.{changed_at, without_at}
-use Rattle.domain_core.specs.declared.endpoints.Endpoint.{Endpoint}
+use Rattle.domain_parts.specs.declared.endpoints.Endpoint.{Endpoint}
 
 -- the domain's number, its endpoints, how many were created, how many channels were numbered, the packets that are lent, in the order in
 -- which they were lent, and for how many buffers each queue has room

@@ -6,14 +6,14 @@ use Rattle.mc_base.specs.Limits.{creation_limit}
 use Rattle.buffer_book.specs.Book.{Book}
 use Rattle.request_set.specs.Requests.{Requests}
 use Rattle.endpoint_table.specs.Table as endpoint_table
-use Rattle.domain_core.specs.LaneSeen.{LaneSeen}
-use Rattle.domain_core.specs.declared.peer.Peer.{Peer}
-use Rattle.domain_core.specs.Out.{Out, out_of}
-use Rattle.domain_core.specs.Records.{Records}
-use Rattle.domain_core.specs.InRequests.{AreReceives}
-use Rattle.domain_core.specs.InPlaces.{AreInPlaces, slots_of}
-use Rattle.domain_core.specs.AllMoved.{numbers_of}
-use Rattle.domain_core.specs.Tied.{AreTied}
+use Rattle.domain_parts.specs.LaneSeen.{LaneSeen}
+use Rattle.domain_parts.specs.declared.peer.Peer.{Peer}
+use Rattle.domain_parts.specs.Out.{Out, out_of}
+use Rattle.domain_parts.specs.Records.{Records}
+use Rattle.domain_parts.specs.InRequests.{AreReceives}
+use Rattle.domain_parts.specs.InPlaces.{AreInPlaces, slots_of}
+use Rattle.domain_parts.specs.AllMoved.{numbers_of}
+use Rattle.domain_parts.specs.Tied.{AreTied}
 
 -- each number is less than all that follow it
 abbrev pub AreRising : List ℕ → Type 0

@@ -25,16 +25,16 @@ use Rattle.request_set.specs.declared.ask.Complete.TheVariants as complete
 use Rattle.request_set.specs.Requests.{Requests, with_complete}
 use Rattle.message_queue.specs.Queue.{waiting}
 use Rattle.packet_channel.specs.declared.channel.Channel.{Channel}
-use Rattle.domain_core.specs.LaneSeen.{LaneSeen, after_move, after_moves}
-use Rattle.domain_core.specs.declared.peer.Peer.{Peer}
-use Rattle.domain_core.specs.declared.replies.Reply.{Reply}
-use Rattle.domain_core.specs.declared.requests.Waiters.TheVariants as waiters
-use Rattle.domain_core.specs.AllMoved.{AllMoved, numbers_of}
-use Rattle.domain_core.specs.InPlaces.{slot_at}
-use Rattle.domain_core.specs.InRequests.{handed_by, with_all_complete}
-use Rattle.domain_core.specs.LaneMoves.{LaneMove, sender, receiver}
-use Rattle.domain_core.specs.Parts.{Holding, Parts}
-use Rattle.domain_core.specs.Records.{Records, with_best_taken_at, with_channel_at, with_channel_given, with_last_lent, with_oldest_taken_at, with_record, with_waiting_at, without_lent_at, without_record_at}
+use Rattle.domain_parts.specs.LaneSeen.{LaneSeen, after_move, after_moves}
+use Rattle.domain_parts.specs.declared.peer.Peer.{Peer}
+use Rattle.domain_parts.specs.declared.replies.Reply.{Reply}
+use Rattle.domain_parts.specs.declared.requests.Waiters.TheVariants as waiters
+use Rattle.domain_parts.specs.AllMoved.{AllMoved, numbers_of}
+use Rattle.domain_parts.specs.InPlaces.{slot_at}
+use Rattle.domain_parts.specs.InRequests.{handed_by, with_all_complete}
+use Rattle.domain_parts.specs.LaneMoves.{LaneMove, sender, receiver}
+use Rattle.domain_parts.specs.Parts.{Holding, Parts}
+use Rattle.domain_parts.specs.Records.{Records, with_best_taken_at, with_channel_at, with_channel_given, with_last_lent, with_oldest_taken_at, with_record, with_waiting_at, without_lent_at, without_record_at}
 
 -- each peer, after the moves at the peer of its number
 abbrev pub moved_peer : (ℕ → List LaneMove) → Peer LaneSeen → Peer LaneSeen

@@ -4,10 +4,10 @@ use Rattle.std.specs.Prelude.{◌≡◌, ℕ, true, is_some, List, [], ◌∷◌
 use Rattle.mc_base.specs.declared.request.Slot.{Slot}
 use Rattle.buffer_book.specs.Book.{Book, kept_at}
 use Rattle.board_model.specs.Journal.{Taken}
-use Rattle.domain_core.specs.PlacedFrames.{item_of}
+use Rattle.domain_parts.specs.PlacedFrames.{item_of}
 use Rattle.board_model.specs.Dealing.{keeps_buffer}
-use Rattle.domain_core.specs.InBook.{item_at}
-use Rattle.domain_core.specs.InPlaces.{slot_at}
+use Rattle.domain_parts.specs.InBook.{item_at}
+use Rattle.domain_parts.specs.InPlaces.{slot_at}
 
 -- a buffer is held, in a queue or lent
 abbrev pub IsHeld : Book → Slot → Type 0

@@ -7,8 +7,8 @@ use Rattle.mc_base.specs.Limits.{first_address}
 use Rattle.endpoint_table.specs.declared.record.Record.{Record}
 use Rattle.endpoint_table.specs.InTable.{IsRising}
 use Rattle.endpoint_table.specs.Table.{Table, is_in_use}
-use Rattle.domain_core.specs.declared.endpoints.Endpoint.{Endpoint}
-use Rattle.domain_core.specs.Records.{Records}
+use Rattle.domain_parts.specs.declared.endpoints.Endpoint.{Endpoint}
+use Rattle.domain_parts.specs.Records.{Records}
 
 -- the record of a live endpoint
 abbrev pub live_record : Endpoint → Record

@@ -7,12 +7,12 @@ use Rattle.buffer_book.specs.Book.{Book}
 use Rattle.board_model.specs.Journal.{Line, Visit, is_idle, noted, turned}
 use Rattle.board_model.specs.Deeds.{after_deeds}
 use Rattle.board_model.specs.Turn.{IsTurn, after_turn}
-use Rattle.domain_core.specs.Stores.{KeepsHeld, AreStored}
-use Rattle.domain_core.specs.LaneMoves.{LaneMove}
-use Rattle.domain_core.specs.Beginning.{told_of_all, has_begun_after}
-use Rattle.domain_core.specs.AllMoved.{AllMoved, turn_moves}
-use Rattle.domain_core.specs.DomainView.{DomainView}
-use Rattle.domain_core.specs.NumberedDeeds.{turn_deeds}
+use Rattle.domain_parts.specs.Stores.{KeepsHeld, AreStored}
+use Rattle.domain_parts.specs.LaneMoves.{LaneMove}
+use Rattle.domain_parts.specs.Beginning.{told_of_all, has_begun_after}
+use Rattle.domain_parts.specs.AllMoved.{AllMoved, turn_moves}
+use Rattle.domain_parts.specs.DomainView.{DomainView}
+use Rattle.domain_parts.specs.NumberedDeeds.{turn_deeds}
 
 -- all frames that stay are stored
 abbrev pub AllStored : List Visit → List (List ℕ) → Book → Type 0

@@ -26,16 +26,16 @@ use Rattle.request_set.specs.declared.ask.Ask.{Ask}
 use Rattle.request_set.specs.declared.ask.Complete.{Complete}
 use Rattle.request_set.specs.declared.ask.Complete.TheVariants as complete
 use Rattle.request_set.specs.Requests.{IsPending, Requests, is_id, oldest_waiting, receives_at, request_of}
-use Rattle.domain_core.specs.declared.dealing.Verdict.{Verdict}
-use Rattle.domain_core.specs.declared.dealing.Verdict.TheVariants as verdict
-use Rattle.domain_core.specs.declared.dealing.Way.{Way}
-use Rattle.domain_core.specs.declared.replies.Reply.{Reply}
-use Rattle.domain_core.specs.declared.requests.Waiters.TheVariants as waiters
-use Rattle.domain_core.specs.InBook.{channel_of, endpoints_in, priority_of, requests_in}
-use Rattle.domain_core.specs.InRequests.{with_all_complete}
-use Rattle.domain_core.specs.Peers.{reply_in}
-use Rattle.domain_core.specs.PlacedFrames.{item_of}
-use Rattle.domain_core.specs.Records.{Records, with_channel_at}
+use Rattle.domain_parts.specs.declared.dealing.Verdict.{Verdict}
+use Rattle.domain_parts.specs.declared.dealing.Verdict.TheVariants as verdict
+use Rattle.domain_parts.specs.declared.dealing.Way.{Way}
+use Rattle.domain_parts.specs.declared.replies.Reply.{Reply}
+use Rattle.domain_parts.specs.declared.requests.Waiters.TheVariants as waiters
+use Rattle.domain_parts.specs.InBook.{channel_of, endpoints_in, priority_of, requests_in}
+use Rattle.domain_parts.specs.InRequests.{with_all_complete}
+use Rattle.domain_parts.specs.Peers.{reply_in}
+use Rattle.domain_parts.specs.PlacedFrames.{item_of}
+use Rattle.domain_parts.specs.Records.{Records, with_channel_at}
 
 -- what a frame that is taken may change beside its buffer: the endpoints, the requests, and the names and replies of its peer
 pub record Desk : Type 0 where

@@ -7,7 +7,7 @@ use Rattle.lane_end.specs.ReceiveMoves as receiving
 use Rattle.mc_base.specs.declared.fate.Fate.{Fate}
 use Rattle.board_model.specs.Journal.{Visit, Taken}
 use Rattle.board_model.specs.Dealing.{keeps_buffer}
-use Rattle.domain_core.specs.LaneMoves.{LaneMove, sender, receiver}
+use Rattle.domain_parts.specs.LaneMoves.{LaneMove, sender, receiver}
 
 -- owed frames are put, one after the other
 abbrev pub putting : List (List ℕ) → List LaneMove

@@ -9,13 +9,13 @@ use Rattle.board_model.specs.Answer.{answer}
 use Rattle.board_model.specs.DomainCall.{DomainCall, wait_for}
 use Rattle.board_model.specs.Journal.{Line, PlainAnswer, PlainEntry, refuses, completes, turned, waits, noted_all, Visit}
 use Rattle.board_model.specs.Step.{is_timeout}
-use Rattle.domain_core.specs.declared.wait_fault.WaitFault.{WaitFault}
-use Rattle.domain_core.specs.declared.wait_fault.WaitFault.TheVariants as fault
-use Rattle.domain_core.specs.Awaiting.{places_named, all_exist, first_complete_in}
-use Rattle.domain_core.specs.Calls.{Does, Lending, result_of_done}
-use Rattle.domain_core.specs.DomainView.{DomainView}
-use Rattle.domain_core.specs.LaneMoves.{LaneMove}
-use Rattle.domain_core.specs.Turned.{Turns}
+use Rattle.domain_parts.specs.declared.wait_fault.WaitFault.{WaitFault}
+use Rattle.domain_parts.specs.declared.wait_fault.WaitFault.TheVariants as fault
+use Rattle.domain_parts.specs.Awaiting.{places_named, all_exist, first_complete_in}
+use Rattle.domain_parts.specs.Calls.{Does, Lending, result_of_done}
+use Rattle.domain_parts.specs.DomainView.{DomainView}
+use Rattle.domain_parts.specs.LaneMoves.{LaneMove}
+use Rattle.domain_parts.specs.Turned.{Turns}
 
 -- a wait for these requests, as a domain knows it
 abbrev pub wait_on : {L : Type 0} → List RequestId → Bool → DomainView L → DomainCall

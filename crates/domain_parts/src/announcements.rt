@@ -3,8 +3,8 @@
 ghost use Rattle.std.specs.Prelude.{◌≡◌};
 ghost use Rattle.mc_base.specs.FullName.{endpoint_named};
 ghost use Rattle.board_model.specs.TakenFrames.{first_row, name_rows};
-ghost use Rattle.domain_core.specs.InRequests.{AreReceives};
-ghost use Rattle.domain_core.specs.Verdicts.{IsHeard};
+ghost use Rattle.domain_parts.specs.InRequests.{AreReceives};
+ghost use Rattle.domain_parts.specs.Verdicts.{IsHeard};
 
 use crate::requests::{Waiters, complete_all};
 use mc_base::{Fate, Full, Ns};

@@ -1,41 +1,17 @@
 //! How the link between two domains carries.
 
 ghost use Rattle.std.specs.Prelude.{◌≡◌, ◌<◌, ℕ, Bool, IfSome, length, position};
-ghost use Rattle.lane_end.specs.PlainSender.{Sends};
-ghost use Rattle.lane_end.specs.PlainReceiver.{Receives};
 ghost use Rattle.lane_end.specs.PlainLane.{AreOneLane};
-ghost use Rattle.lane_end.specs.AnySender.{AnySends};
-ghost use Rattle.lane_end.specs.AnyReceiver.{AnyReceives};
 ghost use Rattle.lane_end.specs.AnyLane.{AreEndsOfOneRing, EndsHaveMet};
-ghost use Rattle.domain_core.specs.AllMoved.{ends_of};
-ghost use Rattle.domain_core.specs.Carried.{MayMeet, PeersMeet};
-ghost use Rattle.domain_core.specs.Carrying.{AreJoined, HasShuttled, LinksMeet, leads_to};
-ghost use Rattle.domain_core.specs.Going.{CallsGoBy, StayLinkedBy, WaitsGoBy};
+ghost use Rattle.domain_parts.specs.AllMoved.{ends_of};
+ghost use Rattle.domain_parts.specs.Carried.{MayMeet, PeersMeet};
+ghost use Rattle.domain_parts.specs.Carrying.{AreJoined, HasShuttled, LinksMeet, leads_to};
 
 use crate::ends::Ends;
 use crate::link::Link;
 use crate::peer::Peer;
 use crate::peer_lane::PeerLane;
 use lane_end::{AnyRecv, AnySend, PlainRecv, PlainSend, meet_ends, shuttle};
-
-/// Shows that each call of a domain keeps the domain's number and changes its ends by moves alone, over plain lanes and over rings.
-pub fn calls_move_ends()
-    ensures plain { CallsGoBy Sends Receives }
-    ensures rings { CallsGoBy AnySends AnyReceives }
-{}
-
-/// Shows the same of each wait.
-pub fn waits_move_ends()
-    ensures plain { WaitsGoBy Sends Receives }
-    ensures rings { WaitsGoBy AnySends AnyReceives }
-{}
-
-/// Shows that two linked domains stay linked where one of them changes as its calls and waits change it, so that
-/// [`carry`](crate::carry) or [`carry_rings`](crate::carry_rings) can be called again.
-pub fn domains_stay_linked()
-    ensures plain { StayLinkedBy Sends Receives AreOneLane }
-    ensures rings { StayLinkedBy AnySends AnyReceives AreEndsOfOneRing }
-{}
 
 /// Ends towards a peer that can carry to the peer's ends, over plain lanes or over rings.
 pub trait MeetingEnds: PeerLane {
@@ -63,9 +39,9 @@ pub trait MeetingEnds: PeerLane {
 
 impl MeetingEnds for Ends<PlainSend, PlainRecv> {
     ghost use Rattle.lane_end.specs.PlainLane.{AreOneLane};
-    ghost use Rattle.domain_core.specs.Carrying.{HasShuttled, leads_to as leads_among};
-    ghost use Rattle.domain_core.specs.Carried.{AreJoinedEnds, EndsMeet};
-    ghost use Rattle.domain_core.specs.Meets.{plain-seen};
+    ghost use Rattle.domain_parts.specs.Carrying.{HasShuttled, leads_to as leads_among};
+    ghost use Rattle.domain_parts.specs.Carried.{AreJoinedEnds, EndsMeet};
+    ghost use Rattle.domain_parts.specs.Meets.{plain-seen};
 
     ghost leads = { leads_among };
 
@@ -88,9 +64,9 @@ impl MeetingEnds for Ends<PlainSend, PlainRecv> {
 
 impl<'a> MeetingEnds for Ends<AnySend<'a>, AnyRecv<'a>> {
     ghost use Rattle.lane_end.specs.AnyLane.{AreEndsOfOneRing, EndsHaveMet};
-    ghost use Rattle.domain_core.specs.Carrying.{leads_to as leads_among};
-    ghost use Rattle.domain_core.specs.Carried.{AreJoinedEnds, EndsMeet};
-    ghost use Rattle.domain_core.specs.Meets.{any-seen};
+    ghost use Rattle.domain_parts.specs.Carrying.{leads_to as leads_among};
+    ghost use Rattle.domain_parts.specs.Carried.{AreJoinedEnds, EndsMeet};
+    ghost use Rattle.domain_parts.specs.Meets.{any-seen};
 
     ghost leads = { leads_among };
 

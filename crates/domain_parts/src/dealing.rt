@@ -2,8 +2,8 @@
 
 ghost use Rattle.std.specs.Prelude.{◌≡◌, ◌<◌, length};
 ghost use Rattle.mc_base.specs.Letter.{plain_letter};
-ghost use Rattle.domain_core.specs.InRequests.{AreReceives};
-ghost use Rattle.domain_core.specs.Verdicts.{Brings, Deals, IsInBounds, Judges, beside, desk, fate_of};
+ghost use Rattle.domain_parts.specs.InRequests.{AreReceives};
+ghost use Rattle.domain_parts.specs.Verdicts.{Brings, Deals, IsInBounds, Judges, beside, desk, fate_of};
 
 mod connects;
 mod letters;

@@ -10,13 +10,13 @@ ghost use Rattle.board_model.specs.Choice.{best, oldest};
 ghost use Rattle.buffer_book.specs.Book.{Book};
 ghost use Rattle.message_queue.specs.Queue.{waiting};
 ghost use Rattle.board_model.specs.Queues.{hears};
-ghost use Rattle.domain_core.specs.Hearing.{hears_at, messages_waiting};
-ghost use Rattle.domain_core.specs.Table.{holding};
-ghost use Rattle.domain_core.specs.Records.{all_waiting, kept, opening_records, waiting_in, with_best_taken_at, with_channel_at, with_channel_given, with_last_lent, with_oldest_taken_at, with_record, with_waiting_at, without_lent_at, without_record_at};
-ghost use Rattle.domain_core.specs.DomainView.{place_of_packet_id};
-ghost use Rattle.domain_core.specs.InBook.{endpoints_in};
-ghost use Rattle.domain_core.specs.InTable.{AreInOrder, IsKept, IsNumbered, IsSpare};
-ghost use Rattle.domain_core.specs.Tied.{live_record};
+ghost use Rattle.domain_parts.specs.Hearing.{hears_at, messages_waiting};
+ghost use Rattle.domain_parts.specs.Table.{holding};
+ghost use Rattle.domain_parts.specs.Records.{all_waiting, kept, opening_records, waiting_in, with_best_taken_at, with_channel_at, with_channel_given, with_last_lent, with_oldest_taken_at, with_record, with_waiting_at, without_lent_at, without_record_at};
+ghost use Rattle.domain_parts.specs.DomainView.{place_of_packet_id};
+ghost use Rattle.domain_parts.specs.InBook.{endpoints_in};
+ghost use Rattle.domain_parts.specs.InTable.{AreInOrder, IsKept, IsNumbered, IsSpare};
+ghost use Rattle.domain_parts.specs.Tied.{live_record};
 
 use endpoint_table::EndpointTable;
 use mc_base::{FIRST_ADDRESS, Local, MAX_ENDPOINTS, NoMemory, PacketId, Priority, Side, Slot};
@@ -65,11 +65,11 @@ pub struct Endpoints {
 }
 
 impl Model for Endpoints {
-    ghost use Rattle.domain_core.specs.Records.{Records};
+    ghost use Rattle.domain_parts.specs.Records.{Records};
 
     ghost Value = { Records };
 
-    ghost use Rattle.domain_core.specs.InTable.{records_of, HasQueues};
+    ghost use Rattle.domain_parts.specs.InTable.{records_of, HasQueues};
 
     ghost view = { records_of };
 

@@ -13,7 +13,7 @@ pub enum Ends<S, R> {
 }
 
 impl<S: SendEnd, R: RecvEnd> PeerLane for Ends<S, R> {
-    ghost use Rattle.domain_core.specs.Ends.{ends_seen, EndsMoved, EndsMoved-none, EndsMoved-both, EndsMoved-size_to, EndsMoved-size_from};
+    ghost use Rattle.domain_parts.specs.Ends.{ends_seen, EndsMoved, EndsMoved-none, EndsMoved-both, EndsMoved-size_to, EndsMoved-size_from};
 
     ghost seen = { ends_seen S.size S.free R.size R.shown R.out };
 

@@ -8,8 +8,8 @@ ghost use Rattle.board_model.specs.Answer.{address_of, has_channel};
 ghost use Rattle.board_model.specs.Journal.{noted_all};
 ghost use Rattle.board_model.specs.Serial.{put_entry};
 ghost use Rattle.board_model.specs.Queues.{messages_at};
-ghost use Rattle.domain_core.specs.Parts.{Sound, shown, state_of};
-ghost use Rattle.domain_core.specs.Steps.{Did, frame_put};
+ghost use Rattle.domain_parts.specs.Parts.{Sound, shown, state_of};
+ghost use Rattle.domain_parts.specs.Steps.{Did, frame_put};
 
 mod channel_calls;
 mod data_calls;
@@ -48,8 +48,8 @@ pub struct Holdings<P: PeerLane> {
 }
 
 impl<P: PeerLane> Model for Holdings<P> {
-    ghost use Rattle.domain_core.specs.Parts.{Holding};
-    ghost use Rattle.domain_core.specs.HoldingParts.{IsSound, holding_of};
+    ghost use Rattle.domain_parts.specs.Parts.{Holding};
+    ghost use Rattle.domain_parts.specs.HoldingParts.{IsSound, holding_of};
 
     ghost Value = { Holding P };
 

@@ -15,8 +15,8 @@ pub struct Link<S, R> {
 }
 
 impl<S: SendEnd, R: RecvEnd> PeerLane for Link<S, R> {
-    ghost use Rattle.domain_core.specs.LinkMoved.{LinkMoved, link-none, link-both};
-    ghost use Rattle.domain_core.specs.Ends.{link_seen};
+    ghost use Rattle.domain_parts.specs.LinkMoved.{LinkMoved, link-none, link-both};
+    ghost use Rattle.domain_parts.specs.Ends.{link_seen};
 
     ghost seen = { link_seen S.size S.free R.size R.shown R.out };
 

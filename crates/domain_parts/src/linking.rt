@@ -2,9 +2,9 @@
 
 ghost use Rattle.std.specs.Prelude.{◌≡◌, ◌≤◌, ◌<◌, ◌^◌, [], ◌∷◌, IfOk, IfSome, length, map, nat_lt, option_to_list, position, sum_by};
 ghost use Rattle.lane_end.specs.Loop.{new_loop};
-ghost use Rattle.domain_core.specs.AllMoved.{ends_of};
-ghost use Rattle.domain_core.specs.Opened.{linked_peer, own_place, peers_opened, sizes_opened};
-ghost use Rattle.domain_core.specs.Opening.{links_in};
+ghost use Rattle.domain_parts.specs.AllMoved.{ends_of};
+ghost use Rattle.domain_parts.specs.Opened.{linked_peer, own_place, peers_opened, sizes_opened};
+ghost use Rattle.domain_parts.specs.Opening.{links_in};
 
 use crate::ends::Ends;
 use crate::link::Link;

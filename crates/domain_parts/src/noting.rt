@@ -2,8 +2,8 @@
 
 ghost use Rattle.std.specs.Prelude.{◌≡◌, ◌≤◌, ◌+◌, ◌++◌, ◌∷◌, [], ◌||◌, ◌==◌, not};
 ghost use Rattle.board_model.specs.Journal.{back_line, see_line};
-ghost use Rattle.domain_core.specs.Beginning.{beginning, look_lines};
-ghost use Rattle.domain_core.specs.Owed.{room_for};
+ghost use Rattle.domain_parts.specs.Beginning.{beginning, look_lines};
+ghost use Rattle.domain_parts.specs.Owed.{room_for};
 
 use mc_journal::{Entry, Journal};
 

@@ -22,8 +22,8 @@ pub fn own_lane(alloc: Global, pool: u32) -> Result<LoopLane, NoMemory>
 
 impl PeerLane for LoopLane {
     ghost use Rattle.std.specs.Prelude.{refl};
-    ghost use Rattle.domain_core.specs.LoopMoved.{LoopMoved, LoopMoved-both, LoopMoved-size};
-    ghost use Rattle.domain_core.specs.Ends.{loop_seen};
+    ghost use Rattle.domain_parts.specs.LoopMoved.{LoopMoved, LoopMoved-both, LoopMoved-size};
+    ghost use Rattle.domain_parts.specs.Ends.{loop_seen};
 
     ghost seen = { loop_seen };
 

@@ -6,8 +6,8 @@ ghost use Rattle.lane_end.specs.Numbers.{AreApart};
 ghost use Rattle.lane_end.specs.SendMoves.{Looked, Sent};
 ghost use Rattle.lane_end.specs.ReceiveMoves.{Took, Gave};
 ghost use Rattle.lane_end.specs.ReceiveMoves as receiving;
-ghost use Rattle.domain_core.specs.LaneMoves.{LaneMove, sender, receiver};
-ghost use Rattle.domain_core.specs.LaneSeen.{LaneSeen, after_move};
+ghost use Rattle.domain_parts.specs.LaneMoves.{LaneMove, sender, receiver};
+ghost use Rattle.domain_parts.specs.LaneSeen.{LaneSeen, after_move};
 
 use mc_base::Buffer;
 

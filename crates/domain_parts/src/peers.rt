@@ -2,7 +2,7 @@
 
 ghost use Rattle.std.specs.Prelude.{◌≡◌, ◌<◌, ◌==◌, IfSome, is_some, length, position, true};
 ghost use Rattle.buffer_book.specs.Book.{IsQueued, lent_as, slot_of, with_away};
-ghost use Rattle.domain_core.specs.GivingBack.{GivesBack, IsOutAt};
+ghost use Rattle.domain_parts.specs.GivingBack.{GivesBack, IsOutAt};
 
 use crate::peer::Peer;
 use crate::peer_lane::PeerLane;

@@ -26,8 +26,8 @@ pub struct Replies {
 
 impl Model for Replies {
     ghost use Rattle.std.specs.Prelude.{List};
-    ghost use Rattle.domain_core.specs.declared.replies.Reply.{Reply};
-    ghost use Rattle.domain_core.specs.InReplies.{AreLawful};
+    ghost use Rattle.domain_parts.specs.declared.replies.Reply.{Reply};
+    ghost use Rattle.domain_parts.specs.InReplies.{AreLawful};
 
     ghost Value = { List Reply };
 

@@ -5,10 +5,10 @@ ghost use Rattle.board_model.specs.State.{Asked};
 ghost use Rattle.board_model.specs.Answer.{result_by};
 ghost use Rattle.buffer_book.specs.Book.{Book};
 ghost use Rattle.request_set.specs.Requests.{IsPending, oldest_waiting, receives_at, request_of};
-ghost use Rattle.domain_core.specs.Calls.{GivesTo, Lending, LendsLast, result_of_done};
+ghost use Rattle.domain_parts.specs.Calls.{GivesTo, Lending, LendsLast, result_of_done};
 ghost use Rattle.mc_base.specs.declared.request.PacketId.{PacketId};
-ghost use Rattle.domain_core.specs.InBook.{outcome_in};
-ghost use Rattle.domain_core.specs.InRequests.{AreReceives, handed_by, handed_slots, is_among, slots_in, with_all_complete};
+ghost use Rattle.domain_parts.specs.InBook.{outcome_in};
+ghost use Rattle.domain_parts.specs.InRequests.{AreReceives, handed_by, handed_slots, is_among, slots_in, with_all_complete};
 
 use mc_base::{Done, EndName, Local, MAX_REQUESTS, RequestId, Slot};
 use request_set::{Ask, Complete, RequestSet};

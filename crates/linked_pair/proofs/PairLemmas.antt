@@ -12,7 +12,7 @@ use Rattle.lane_end.specs.Numbers.{IsLaneSize}
 use Rattle.lane_end.proofs.SoundLemmas.{new-one-lane}
 use Rattle.board_model.specs.DomainCall.{DomainCall}
 use Rattle.board_model.specs.Journal.{Line, PlainAnswer}
-use Rattle.domain_core.specs.declared.ends.Ends.TheVariants.{Own, Linked}
+use Rattle.domain_core.specs.declared.Ends.TheVariants.{Own, Linked}
 use Rattle.domain_core.specs.Ends.{EndsMoved}
 use Rattle.domain_core.specs.Calls.{Calls}
 use Rattle.domain_core.specs.Opening.{ends_opened, links_in}

@@ -3,10 +3,10 @@
 ghost use Rattle.std.specs.Prelude.{◌≡◌, ◌≤◌, ◌+◌, None};
 ghost use Rattle.mc_base.specs.declared.channel.Side.TheVariants.{Receiver, Sender};
 ghost use Rattle.board_model.specs.DomainCall.{close_at, connect_from, open_at};
-ghost use Rattle.domain_core.specs.Calls.{Calls, connected, deleted, given_by, sent};
-ghost use Rattle.domain_core.specs.Ends.{EndsMoved};
+ghost use Rattle.domain_parts.specs.Calls.{Calls, connected, deleted, given_by, sent};
+ghost use Rattle.domain_parts.specs.Ends.{EndsMoved};
 ghost use Rattle.board_model.specs.Queues.{queued_on};
-ghost use Rattle.domain_core.specs.Room.{call_bytes, call_entries};
+ghost use Rattle.domain_parts.specs.Room.{call_bytes, call_entries};
 
 use crate::domain::Domain;
 use lane_end::{RecvEnd, SendEnd};

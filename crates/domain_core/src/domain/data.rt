@@ -4,10 +4,10 @@ ghost use Rattle.std.specs.Prelude.{◌≡◌, ◌≤◌, ◌<◌, ◌+◌, ◌*
 ghost use Rattle.mc_base.specs.declared.refusal.Refusal.TheVariants.{BufInvalid};
 ghost use Rattle.mc_base.specs.Letter.{bytes_of_bits};
 ghost use Rattle.board_model.specs.DomainCall.{lend_at, packet_from, packet_request_at, release_of, scalar_at, scalar_from};
-ghost use Rattle.domain_core.specs.Calls.{Calls, IsLent, available, given, lent, requested, sent};
-ghost use Rattle.domain_core.specs.DomainView.{packet_lent_as, place_of_packet_id};
-ghost use Rattle.domain_core.specs.Ends.{EndsMoved};
-ghost use Rattle.domain_core.specs.Room.{call_bytes, call_entries};
+ghost use Rattle.domain_parts.specs.Calls.{Calls, IsLent, available, given, lent, requested, sent};
+ghost use Rattle.domain_parts.specs.DomainView.{packet_lent_as, place_of_packet_id};
+ghost use Rattle.domain_parts.specs.Ends.{EndsMoved};
+ghost use Rattle.domain_parts.specs.Room.{call_bytes, call_entries};
 
 use crate::domain::Domain;
 use lane_end::{RecvEnd, SendEnd};

@@ -5,16 +5,14 @@ ghost use Rattle.std.specs.List.{AllByRecursion};
 ghost use Rattle.mc_base.specs.declared.request.Slot.{Slot};
 ghost use Rattle.board_model.specs.State.{opening};
 ghost use Rattle.buffer_book.specs.Book.{kept_at};
-ghost use Rattle.domain_core.specs.Carrying.{AreLinked, Carries, HasShuttled};
-ghost use Rattle.domain_core.specs.Opening.{IsOpenLink, AreLinksOf, neighbours_opened, ends_opened, links_in};
+ghost use Rattle.domain_parts.specs.Carrying.{AreLinked, Carries, HasShuttled};
+ghost use Rattle.domain_parts.specs.Opening.{IsOpenLink, AreLinksOf, neighbours_opened, ends_opened, links_in};
 ghost use Rattle.lane_end.specs.AnyLane.{AreEndsOfOneRing, EndsHaveMet};
 ghost use Rattle.lane_end.specs.Loop.{new_loop};
 ghost use Rattle.lane_end.specs.PlainLane.{AreOneLane};
 
 use crate::domain::Domain;
-use crate::holdings::{self, Holdings};
-use crate::link::Link;
-use crate::link_room::LinkRoom;
+use domain_parts::{Holdings, Link, LinkRoom};
 use lane_end::{AnyRecv, AnySend, PlainRecv, PlainSend, RecvEnd, SendEnd};
 use mc_base::NoMemory;
 use std::alloc::Global;
@@ -73,7 +71,7 @@ pub fn carry(one: &mut Domain<PlainSend, PlainRecv>, two: &mut Domain<PlainSend,
     ensures two { two.new ≡ record two.old { ends = two.new.ends } }
     ensures linked { AreLinked AreOneLane one.new.state.number two.new.state.number one.new.ends two.new.ends }
 {
-    holdings::carry(&mut one.inside, &mut two.inside);
+    domain_parts::carry(&mut one.inside, &mut two.inside);
 }
 
 /// Has the ends of the link between two linked domains meet, whose lanes are over rings: each end then knows all that the other
@@ -88,5 +86,5 @@ pub fn carry_rings<'a>(
     ensures two { two.new ≡ record two.old { ends = two.new.ends } }
     ensures linked { AreLinked AreEndsOfOneRing one.new.state.number two.new.state.number one.new.ends two.new.ends }
 {
-    holdings::carry(&mut one.inside, &mut two.inside);
+    domain_parts::carry(&mut one.inside, &mut two.inside);
 }

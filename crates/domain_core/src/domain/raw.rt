@@ -2,9 +2,9 @@
 
 ghost use Rattle.std.specs.Prelude.{◌≤◌, ◌+◌, None, length};
 ghost use Rattle.board_model.specs.DomainCall.{raw_to};
-ghost use Rattle.domain_core.specs.Calls.{Calls, sent};
-ghost use Rattle.domain_core.specs.Ends.{EndsMoved};
-ghost use Rattle.domain_core.specs.Room.{call_bytes, call_entries};
+ghost use Rattle.domain_parts.specs.Calls.{Calls, sent};
+ghost use Rattle.domain_parts.specs.Ends.{EndsMoved};
+ghost use Rattle.domain_parts.specs.Room.{call_bytes, call_entries};
 
 use crate::domain::Domain;
 use lane_end::{RecvEnd, SendEnd};

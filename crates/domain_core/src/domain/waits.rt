@@ -1,16 +1,16 @@
 //! The calls that wait for requests.
 
 ghost use Rattle.std.specs.Prelude.{◌≡◌, ◌≤◌, ◌∷◌, [], false, true, IfOk, OnErr, length};
-ghost use Rattle.domain_core.specs.Awaiting.{first_settled};
-ghost use Rattle.domain_core.specs.Calls.{GivesTo, LendsBy};
-ghost use Rattle.domain_core.specs.DomainView.{packet_lent_as};
-ghost use Rattle.domain_core.specs.Ends.{EndsMoved};
-ghost use Rattle.domain_core.specs.Room.{call_bytes, call_entries};
-ghost use Rattle.domain_core.specs.Waiting.{Waits, waited, waited_any};
+ghost use Rattle.domain_parts.specs.Awaiting.{first_settled};
+ghost use Rattle.domain_parts.specs.Calls.{GivesTo, LendsBy};
+ghost use Rattle.domain_parts.specs.DomainView.{packet_lent_as};
+ghost use Rattle.domain_parts.specs.Ends.{EndsMoved};
+ghost use Rattle.domain_parts.specs.Room.{call_bytes, call_entries};
+ghost use Rattle.domain_parts.specs.Waiting.{Waits, waited, waited_any};
 
 use crate::domain::Domain;
-use crate::wait_fault::WaitFault;
 use arrayvec::ArrayVec;
+use domain_parts::WaitFault;
 use lane_end::{RecvEnd, SendEnd};
 use mc_base::{Done, RequestId};
 use mc_journal::Journal;

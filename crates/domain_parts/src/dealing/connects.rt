@@ -1,8 +1,8 @@
 //! Connects that are answered.
 
 ghost use Rattle.std.specs.Prelude.{◌≡◌, ◌<◌, Some, length};
-ghost use Rattle.domain_core.specs.Accepting.{Accepts, busy_at};
-ghost use Rattle.domain_core.specs.Verdicts.{Answers, beside};
+ghost use Rattle.domain_parts.specs.Accepting.{Accepts, busy_at};
+ghost use Rattle.domain_parts.specs.Verdicts.{Answers, beside};
 
 use crate::dealing::Way;
 use crate::endpoints::Endpoints;

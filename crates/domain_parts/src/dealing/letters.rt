@@ -2,9 +2,9 @@
 
 ghost use Rattle.std.specs.Prelude.{◌≡◌, ◌<◌, length};
 ghost use Rattle.mc_base.specs.Letter.{plain_letter};
-ghost use Rattle.domain_core.specs.Accepting.{Hears, settled_by, size_of};
-ghost use Rattle.domain_core.specs.InRequests.{AreReceives};
-ghost use Rattle.domain_core.specs.Verdicts.{IsInBounds};
+ghost use Rattle.domain_parts.specs.Accepting.{Hears, settled_by, size_of};
+ghost use Rattle.domain_parts.specs.InRequests.{AreReceives};
+ghost use Rattle.domain_parts.specs.Verdicts.{IsInBounds};
 
 use crate::dealing::{Verdict, bring};
 use crate::endpoints::Endpoints;

@@ -10,12 +10,12 @@ ghost use Rattle.board_model.specs.DomainCall.{lend_at, packet_from, packet_requ
 ghost use Rattle.board_model.specs.Journal.{noted_all};
 ghost use Rattle.board_model.specs.Serial.{put_entry};
 ghost use Rattle.board_model.specs.State.{place_at, queue_at};
-ghost use Rattle.domain_core.specs.Calls.{IsLent, available, given, lent, requested, sent};
-ghost use Rattle.domain_core.specs.CallSteps.{Acts, Succeeds};
-ghost use Rattle.domain_core.specs.DomainView.{packet_lent_as, place_of_packet_id};
-ghost use Rattle.domain_core.specs.Parts.{shown, state_of};
-ghost use Rattle.domain_core.specs.Records.{slots_at};
-ghost use Rattle.domain_core.specs.Steps.{Did, next_lent, oldest_lent};
+ghost use Rattle.domain_parts.specs.Calls.{IsLent, available, given, lent, requested, sent};
+ghost use Rattle.domain_parts.specs.CallSteps.{Acts, Succeeds};
+ghost use Rattle.domain_parts.specs.DomainView.{packet_lent_as, place_of_packet_id};
+ghost use Rattle.domain_parts.specs.Parts.{shown, state_of};
+ghost use Rattle.domain_parts.specs.Records.{slots_at};
+ghost use Rattle.domain_parts.specs.Steps.{Did, next_lent, oldest_lent};
 ghost use Rattle.mc_base.specs.declared.request.Slot.{Slot};
 
 use crate::holdings::Holdings;

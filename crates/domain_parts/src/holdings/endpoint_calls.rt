@@ -4,11 +4,11 @@ ghost use Rattle.std.specs.Prelude.{◌≡◌, ◌<◌, ◌∷◌, [], None, Som
 ghost use Rattle.mc_base.specs.declared.request.Slot.{Slot};
 ghost use Rattle.board_model.specs.DomainCall.{create_at, delete_at};
 ghost use Rattle.board_model.specs.State.{place_at};
-ghost use Rattle.domain_core.specs.Calls.{created, deleted};
-ghost use Rattle.domain_core.specs.CallSteps.{Acts, drops};
-ghost use Rattle.domain_core.specs.Parts.{state_of};
-ghost use Rattle.domain_core.specs.Records.{slots_at};
-ghost use Rattle.domain_core.specs.Steps.{Did, endpoint_gone, oldest_dropped};
+ghost use Rattle.domain_parts.specs.Calls.{created, deleted};
+ghost use Rattle.domain_parts.specs.CallSteps.{Acts, drops};
+ghost use Rattle.domain_parts.specs.Parts.{state_of};
+ghost use Rattle.domain_parts.specs.Records.{slots_at};
+ghost use Rattle.domain_parts.specs.Steps.{Did, endpoint_gone, oldest_dropped};
 
 use crate::holdings::Holdings;
 use crate::peer_lane::PeerLane;

@@ -6,10 +6,10 @@ ghost use Rattle.board_model.specs.DomainCall.{available_at, receive_at, send_fr
 ghost use Rattle.board_model.specs.Journal.{gives, noted_all};
 ghost use Rattle.board_model.specs.Serial.{put_entry};
 ghost use Rattle.board_model.specs.State.{place_at, queue_at};
-ghost use Rattle.domain_core.specs.Calls.{available, received, sent};
-ghost use Rattle.domain_core.specs.CallSteps.{Acts, Succeeds, call_steps};
-ghost use Rattle.domain_core.specs.Parts.{state_of};
-ghost use Rattle.domain_core.specs.Steps.{Did};
+ghost use Rattle.domain_parts.specs.Calls.{available, received, sent};
+ghost use Rattle.domain_parts.specs.CallSteps.{Acts, Succeeds, call_steps};
+ghost use Rattle.domain_parts.specs.Parts.{state_of};
+ghost use Rattle.domain_parts.specs.Steps.{Did};
 
 use crate::holdings::Holdings;
 use crate::messages::give;

@@ -6,9 +6,9 @@ ghost use Rattle.mc_base.specs.declared.request.Slot.{Slot};
 ghost use Rattle.board_model.specs.State.{opening};
 ghost use Rattle.buffer_book.specs.Book.{kept_at};
 ghost use Rattle.lane_end.specs.Loop.{new_loop};
-ghost use Rattle.domain_core.specs.Carried.{FirstMeet, MayMeet};
-ghost use Rattle.domain_core.specs.Opening.{AreLinksOf, IsOpenLink, ends_opened, links_in, neighbours_opened};
-ghost use Rattle.domain_core.specs.Parts.{shown, state_of};
+ghost use Rattle.domain_parts.specs.Carried.{FirstMeet, MayMeet};
+ghost use Rattle.domain_parts.specs.Opening.{AreLinksOf, IsOpenLink, ends_opened, links_in, neighbours_opened};
+ghost use Rattle.domain_parts.specs.Parts.{shown, state_of};
 
 use crate::carrying::{MeetingEnds, carry_between};
 use crate::endpoints::Endpoints;

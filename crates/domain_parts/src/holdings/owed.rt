@@ -5,12 +5,12 @@ ghost use Rattle.mc_base.specs.Limits.{name_service_address};
 ghost use Rattle.mc_base.specs.Frame.{made};
 ghost use Rattle.mc_base.specs.Announcement.{announcement, is_name};
 ghost use Rattle.endpoint_table.specs.Table.{announcement_of, owed_to};
-ghost use Rattle.domain_core.specs.CallSteps.{Rests};
+ghost use Rattle.domain_parts.specs.CallSteps.{Rests};
 ghost use Rattle.board_model.specs.State.{replying};
-ghost use Rattle.domain_core.specs.Doing.{Puts, PutsDue, owed_at};
-ghost use Rattle.domain_core.specs.Owed.{room_for};
-ghost use Rattle.domain_core.specs.Parts.{peer_at};
-ghost use Rattle.domain_core.specs.Peers.{reply_in};
+ghost use Rattle.domain_parts.specs.Doing.{Puts, PutsDue, owed_at};
+ghost use Rattle.domain_parts.specs.Owed.{room_for};
+ghost use Rattle.domain_parts.specs.Parts.{peer_at};
+ghost use Rattle.domain_parts.specs.Peers.{reply_in};
 
 use crate::holdings::Holdings;
 use crate::messages::write;

@@ -5,9 +5,9 @@ ghost use Rattle.board_model.specs.Answer.{puts};
 ghost use Rattle.board_model.specs.DomainCall.{raw_to};
 ghost use Rattle.board_model.specs.Journal.{noted_all};
 ghost use Rattle.board_model.specs.Serial.{put_entry};
-ghost use Rattle.domain_core.specs.Calls.{sent};
-ghost use Rattle.domain_core.specs.CallSteps.{Acts};
-ghost use Rattle.domain_core.specs.Parts.{state_of};
+ghost use Rattle.domain_parts.specs.Calls.{sent};
+ghost use Rattle.domain_parts.specs.CallSteps.{Acts};
+ghost use Rattle.domain_parts.specs.Parts.{state_of};
 
 use crate::holdings::Holdings;
 use crate::peer_lane::PeerLane;

@@ -4,12 +4,12 @@ ghost use Rattle.std.specs.Prelude.{◌≡◌, ◌≤◌, ◌<◌, ◌∷◌, []
 ghost use Rattle.mc_base.specs.Limits.{request_limit};
 ghost use Rattle.board_model.specs.DomainCall.{cancel_of, lookup_of, request_at, test_of};
 ghost use Rattle.board_model.specs.State.{place_at};
-ghost use Rattle.domain_core.specs.Calls.{GivesTo, IsFresh, LendsBy, cancelled, given, requested, tested};
-ghost use Rattle.domain_core.specs.CallSteps.{Acts, Succeeds};
-ghost use Rattle.domain_core.specs.DomainView.{packet_lent_as, place_of_id};
-ghost use Rattle.domain_core.specs.InRequests.{Receives, slots_in};
-ghost use Rattle.domain_core.specs.Parts.{Sound, shown, state_of};
-ghost use Rattle.domain_core.specs.Steps.{Did, request_begun};
+ghost use Rattle.domain_parts.specs.Calls.{GivesTo, IsFresh, LendsBy, cancelled, given, requested, tested};
+ghost use Rattle.domain_parts.specs.CallSteps.{Acts, Succeeds};
+ghost use Rattle.domain_parts.specs.DomainView.{packet_lent_as, place_of_id};
+ghost use Rattle.domain_parts.specs.InRequests.{Receives, slots_in};
+ghost use Rattle.domain_parts.specs.Parts.{Sound, shown, state_of};
+ghost use Rattle.domain_parts.specs.Steps.{Did, request_begun};
 
 use crate::holdings::Holdings;
 use crate::messages::give_at_most;

@@ -1,9 +1,9 @@
 //! Frames that are taken, and what is done with their buffers.
 
 ghost use Rattle.std.specs.Prelude.{◌≤◌, ◌<◌, ◌+◌, ◌*◌, length};
-ghost use Rattle.domain_core.specs.CallSteps.{Rests};
-ghost use Rattle.domain_core.specs.Doing.{Takes};
-ghost use Rattle.domain_core.specs.Parts.{peer_at};
+ghost use Rattle.domain_parts.specs.CallSteps.{Rests};
+ghost use Rattle.domain_parts.specs.Doing.{Takes};
+ghost use Rattle.domain_parts.specs.Parts.{peer_at};
 
 use crate::dealing::{Verdict, deal};
 use crate::holdings::Holdings;

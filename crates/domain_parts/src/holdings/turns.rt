@@ -5,12 +5,12 @@ ghost use Rattle.board_model.specs.Deeds.{looks_ahead, looks_back};
 ghost use Rattle.board_model.specs.State.{held_from};
 ghost use Rattle.lane_end.specs.ReceiveMoves as receiving;
 ghost use Rattle.lane_end.specs.SendMoves.{Looked};
-ghost use Rattle.domain_core.specs.CallSteps.{Rests};
-ghost use Rattle.domain_core.specs.Doing.{Doing, Visits, owed_at};
-ghost use Rattle.domain_core.specs.LaneMoves.{receiver, sender};
-ghost use Rattle.domain_core.specs.Owed.{room_for};
-ghost use Rattle.domain_core.specs.Parts.{Sound, peer_at, shown, state_of};
-ghost use Rattle.domain_core.specs.Turned.{MakesTurn, VisitsAll};
+ghost use Rattle.domain_parts.specs.CallSteps.{Rests};
+ghost use Rattle.domain_parts.specs.Doing.{Doing, Visits, owed_at};
+ghost use Rattle.domain_parts.specs.LaneMoves.{receiver, sender};
+ghost use Rattle.domain_parts.specs.Owed.{room_for};
+ghost use Rattle.domain_parts.specs.Parts.{Sound, peer_at, shown, state_of};
+ghost use Rattle.domain_parts.specs.Turned.{MakesTurn, VisitsAll};
 
 use crate::holdings::Holdings;
 use crate::noting::{note_back, note_see};

@@ -4,16 +4,16 @@ ghost use Rattle.std.specs.Prelude.{◌≡◌, ◌≤◌, ◌<◌, Bool, None, S
 ghost use Rattle.std.specs.List.{list_all};
 ghost use Rattle.board_model.specs.Answer.{stands_at};
 ghost use Rattle.board_model.specs.Journal.{completes};
-ghost use Rattle.domain_core.specs.Awaiting.{all_exist, first_complete_in};
-ghost use Rattle.domain_core.specs.Calls.{Does, GivesTo, LendsBy, result_of_done};
-ghost use Rattle.domain_core.specs.CallSteps.{Rests};
-ghost use Rattle.domain_core.specs.DomainView.{packet_lent_as, place_of_id};
-ghost use Rattle.domain_core.specs.Parts.{shown};
-ghost use Rattle.domain_core.specs.Waiting.{AreAwaited, Polled, Waits, place_told, wait_on, waited_at};
+ghost use Rattle.domain_parts.specs.Awaiting.{all_exist, first_complete_in};
+ghost use Rattle.domain_parts.specs.Calls.{Does, GivesTo, LendsBy, result_of_done};
+ghost use Rattle.domain_parts.specs.CallSteps.{Rests};
+ghost use Rattle.domain_parts.specs.DomainView.{packet_lent_as, place_of_id};
+ghost use Rattle.domain_parts.specs.Parts.{shown};
+ghost use Rattle.domain_parts.specs.Waiting.{AreAwaited, Polled, Waits, place_told, wait_on, waited_at};
 
-use crate::domain::{CALL_BYTES, CALL_ENTRIES};
 use crate::holdings::Holdings;
 use crate::peer_lane::PeerLane;
+use crate::room::{CALL_BYTES, CALL_ENTRIES};
 use crate::wait_fault::WaitFault;
 use mc_base::{Done, NoMemory, Refusal, RequestId};
 use mc_journal::{Entry, Journal};

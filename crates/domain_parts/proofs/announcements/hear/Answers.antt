@@ -1,6 +1,6 @@
 use Rattle.std.proofs.Common.{◌∙◌, [], refl, rules, sym, tests}
-use Rattle.domain_core.proofs.Judging.{none-forgotten}
-use Rattle.domain_core.proofs.announcements.hear.Goals as goal
+use Rattle.domain_parts.proofs.Judging.{none-forgotten}
+use Rattle.domain_parts.proofs.announcements.hear.Goals as goal
 
 pub returns-else-forget : goal.returns-else-forget
 returns-else-forget c = record {

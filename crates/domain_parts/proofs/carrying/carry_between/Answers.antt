@@ -1,6 +1,6 @@
 use Rattle.std.proofs.Common.{get_or, sym, subst}
-use Rattle.domain_core.proofs.Carries.{has-ends, no-ends, set-ends}
-use Rattle.domain_core.proofs.carrying.carry_between.Goals as goal
+use Rattle.domain_parts.proofs.Carries.{has-ends, no-ends, set-ends}
+use Rattle.domain_parts.proofs.carrying.carry_between.Goals as goal
 
 pub returns-in_default : goal.returns-in_default
 returns-in_default g c = absurd (no-ends g.P.MeetingEnds.leads c.args.two c.args.ones.now c.requires.there c.in_default.ensures.place c.requires.one_has)

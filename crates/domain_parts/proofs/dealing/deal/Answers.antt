@@ -4,11 +4,11 @@ use Rattle.mc_base.specs.Letter.{plain_letter}
 use Rattle.mc_base.specs.NameMap.{Names}
 use Rattle.board_model.specs.Dealing.{keeps_buffer}
 use Rattle.board_model.specs.TakenFrames.{first_row, name_rows, row, row_of}
-use Rattle.domain_core.specs.Verdicts.{desk, nothing}
-use Rattle.domain_core.proofs.Effects.{heard-returned}
-use Rattle.domain_core.proofs.Judging.{judged-verdict}
-use Rattle.domain_core.proofs.Readings.{fault-returned, short-read}
-use Rattle.domain_core.proofs.dealing.deal.Goals as goal
+use Rattle.domain_parts.specs.Verdicts.{desk, nothing}
+use Rattle.domain_parts.proofs.Effects.{heard-returned}
+use Rattle.domain_parts.proofs.Judging.{judged-verdict}
+use Rattle.domain_parts.proofs.Readings.{fault-returned, short-read}
+use Rattle.domain_parts.proofs.dealing.deal.Goals as goal
 
 pub returns-in-Faulty : goal.returns-in-Faulty
 returns-in-Faulty c = λ b s name shows. record {

@@ -1,11 +1,11 @@
 use Rattle.std.proofs.Common.{◌∙◌, ap, refl, sym, subst, true}
 use Rattle.mc_base.specs.Letter.{msg, plain_letter}
 use Rattle.board_model.specs.TakenFrames.{message_item}
-use Rattle.domain_core.specs.Verdicts.{IsJudged, desk, letter_row, nothing}
-use Rattle.domain_core.proofs.Acting.{acted-judged, nobody-row, of-channel}
-use Rattle.domain_core.proofs.Judging.{brought-judged, has-read, message-row, no-channel, nobody-there, on-channel, one-there, some-channel}
-use Rattle.domain_core.proofs.Readings.{none-from}
-use Rattle.domain_core.proofs.dealing.judge.Goals as goal
+use Rattle.domain_parts.specs.Verdicts.{IsJudged, desk, letter_row, nothing}
+use Rattle.domain_parts.proofs.Acting.{acted-judged, nobody-row, of-channel}
+use Rattle.domain_parts.proofs.Judging.{brought-judged, has-read, message-row, no-channel, nobody-there, on-channel, one-there, some-channel}
+use Rattle.domain_parts.proofs.Readings.{none-from}
+use Rattle.domain_parts.proofs.dealing.judge.Goals as goal
 
 pub returns-in_default-place_of_address : goal.returns-in_default-place_of_address
 returns-in_default-place_of_address c = λ b s name names shows.

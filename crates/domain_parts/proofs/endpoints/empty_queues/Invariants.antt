@@ -1,7 +1,7 @@
 use Rattle.std.proofs.Common.{◌≡◌, length}
 use Rattle.std.specs.List.{AllByRecursion}
-use Rattle.domain_core.specs.InTable.{IsSpare}
-use Rattle.domain_core.proofs.endpoints.empty_queues.Given as goal
+use Rattle.domain_parts.specs.InTable.{IsSpare}
+use Rattle.domain_parts.proofs.endpoints.empty_queues.Given as goal
 
 abbrev pub invariant-loop : goal.invariant-loop
 invariant-loop l = record {

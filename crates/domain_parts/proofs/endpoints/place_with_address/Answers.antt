@@ -1,8 +1,8 @@
 use Rattle.std.proofs.Common.{rules, ◌∙◌, ap, sym}
 use Rattle.std.specs.Ordering.{nat_cmp}
 use Rattle.std.proofs.lemmas.Fn.{always_returns_same}
-use Rattle.domain_core.proofs.Addresses.{place_found, searched}
-use Rattle.domain_core.proofs.endpoints.place_with_address.Goals as goal
+use Rattle.domain_parts.proofs.Addresses.{place_found, searched}
+use Rattle.domain_parts.proofs.endpoints.place_with_address.Goals as goal
 
 pub returns-in-Ok-clause-place : goal.returns-in-Ok-clause-place
 returns-in-Ok-clause-place c =

@@ -1,9 +1,9 @@
 use Rattle.std.proofs.Common.{rules, arith, ◌≡◌, ◌∙◌, [], ◌∷◌, ◌++◌, length, ap, sym}
-use Rattle.domain_core.specs.AllMoved.{ends_of}
-use Rattle.domain_core.specs.Opening.{links_in}
-use Rattle.domain_core.proofs.LinksIn.{few-links, links-more, none-left, same-links, whole-more}
-use Rattle.domain_core.proofs.linking.links_of.Goals.{in-Some-link_in, in_default}
-use Rattle.domain_core.proofs.linking.links_of.Goals as goal
+use Rattle.domain_parts.specs.AllMoved.{ends_of}
+use Rattle.domain_parts.specs.Opening.{links_in}
+use Rattle.domain_parts.proofs.LinksIn.{few-links, links-more, none-left, same-links, whole-more}
+use Rattle.domain_parts.proofs.linking.links_of.Goals.{in-Some-link_in, in_default}
+use Rattle.domain_parts.proofs.linking.links_of.Goals as goal
 
 pub unwrap-requires : goal.unwrap-requires
 unwrap-requires g c =

@@ -1,8 +1,8 @@
 use Rattle.std.proofs.Common.{◌≡◌, ◌≤◌, ◌++◌}
 use Rattle.std.specs.Prelude.{vec_capacity}
-use Rattle.domain_core.specs.AllMoved.{ends_of}
-use Rattle.domain_core.specs.Opening.{links_in}
-use Rattle.domain_core.proofs.linking.links_of.Given as goal
+use Rattle.domain_parts.specs.AllMoved.{ends_of}
+use Rattle.domain_parts.specs.Opening.{links_in}
+use Rattle.domain_parts.proofs.linking.links_of.Given as goal
 
 abbrev pub invariant-loop-peer : goal.invariant-loop-peer
 invariant-loop-peer g l = record {

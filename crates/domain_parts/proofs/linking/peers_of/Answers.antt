@@ -1,9 +1,9 @@
 use Rattle.std.proofs.Common.{◌≡◌, ◌∙◌, rules, map}
 use Rattle.std.specs.List.{insert}
 use Rattle.lane_end.specs.Loop.{new_loop}
-use Rattle.domain_core.specs.Opened.{linked_peer, own_place, own_peer}
-use Rattle.domain_core.proofs.LinkPlaces.{placed-insert}
-use Rattle.domain_core.proofs.linking.peers_of.Goals as goal
+use Rattle.domain_parts.specs.Opened.{linked_peer, own_place, own_peer}
+use Rattle.domain_parts.proofs.LinkPlaces.{placed-insert}
+use Rattle.domain_parts.proofs.linking.peers_of.Goals as goal
 
 pub returns : goal.returns
 returns g c =

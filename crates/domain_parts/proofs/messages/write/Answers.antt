@@ -2,7 +2,7 @@ use Rattle.std.proofs.Common.{◌≡◌, ◌∙◌, ◌+◌, ◌++◌, ap, sym, 
 use Rattle.mc_base.specs.Frame.{header, made}
 use Rattle.mc_base.specs.Letter.{plain_letter, spelling}
 use Rattle.std.proofs.lemmas.List.{take_at}
-use Rattle.domain_core.proofs.messages.write.Goals as goal
+use Rattle.domain_parts.proofs.messages.write.Goals as goal
 
 -- a frame in front of other bytes
 frame-cut : (src dst n : ℕ) (text rest : List ℕ) → n ≡ length text → take (16 + n) (header src dst n ++ (text ++ rest)) ≡ made src dst text

@@ -2,9 +2,9 @@ use Rattle.std.proofs.Common.{◌≡◌, ◌∙◌, sym, ap, subst, slice_index_
 use Rattle.std.specs.Prelude.{Contains, slice_get}
 use Rattle.std.proofs.lemmas.Option.{get_or_from_slice_get}
 use Rattle.lane_end.specs.ReceiveMoves.{Gave}
-use Rattle.domain_core.specs.LaneMoves.{receiver}
-use Rattle.domain_core.specs.LaneSeen.{after_move}
-use Rattle.domain_core.proofs.peers.give_back_lent.Goals as goal
+use Rattle.domain_parts.specs.LaneMoves.{receiver}
+use Rattle.domain_parts.specs.LaneSeen.{after_move}
+use Rattle.domain_parts.proofs.peers.give_back_lent.Goals as goal
 
 -- the place that is found is that of the peer at which the buffer is out
 found : {X : Type 0} (xs : List X) (x : X) (i j : ℕ) (o o' : Option ℕ) → o ≡ Some i → o ≡ o' → o' ≡ Some j → slice_get xs j ≡ Some x → slice_get xs i ≡ Some x

@@ -1,9 +1,9 @@
 use Rattle.std.proofs.Common.{◌∙◌, List, ap, sym, arith}
 use Rattle.request_set.specs.Requests.{Standing}
-use Rattle.domain_core.specs.InRequests.{completed_with}
-use Rattle.domain_core.proofs.Completing.{all-so_far, next-done, next-stays, none-more}
-use Rattle.domain_core.proofs.requests.complete_all.Goals.{then-include, else-include}
-use Rattle.domain_core.proofs.requests.complete_all.Goals as goal
+use Rattle.domain_parts.specs.InRequests.{completed_with}
+use Rattle.domain_parts.proofs.Completing.{all-so_far, next-done, next-stays, none-more}
+use Rattle.domain_parts.proofs.requests.complete_all.Goals.{then-include, else-include}
+use Rattle.domain_parts.proofs.requests.complete_all.Goals as goal
 
 pub loop-at-preserved : goal.loop-at-preserved
 loop-at-preserved c =

@@ -1,7 +1,7 @@
 use Rattle.std.proofs.Common.{◌≡◌}
-use Rattle.domain_core.specs.InRequests.{completed_with}
-use Rattle.domain_core.proofs.Completing.{so_far}
-use Rattle.domain_core.proofs.requests.complete_all.Given as goal
+use Rattle.domain_parts.specs.InRequests.{completed_with}
+use Rattle.domain_parts.proofs.Completing.{so_far}
+use Rattle.domain_parts.proofs.requests.complete_all.Given as goal
 
 abbrev pub invariant-loop-at : goal.invariant-loop-at
 invariant-loop-at l = record {

@@ -1,7 +1,7 @@
 use Rattle.std.proofs.Common.{◌∙◌, arith}
 use Rattle.std.specs.Prelude.{slice_get}
-use Rattle.domain_core.proofs.CountsFrom.{all-handed, all-listed, handed-next, held-listed}
-use Rattle.domain_core.proofs.requests.handed_from.Goals as goal
+use Rattle.domain_parts.proofs.CountsFrom.{all-handed, all-listed, handed-next, held-listed}
+use Rattle.domain_parts.proofs.requests.handed_from.Goals as goal
 
 pub loop-at-preserved : goal.loop-at-preserved
 loop-at-preserved c =

@@ -1,7 +1,7 @@
 use Rattle.std.proofs.Common.{◌≡◌, ◌≤◌, take}
 use Rattle.std.specs.Prelude.{count_by, ◌==◌}
-use Rattle.domain_core.specs.InRequests.{handed_slots}
-use Rattle.domain_core.proofs.requests.handed_from.Given as goal
+use Rattle.domain_parts.specs.InRequests.{handed_slots}
+use Rattle.domain_parts.proofs.requests.handed_from.Given as goal
 
 abbrev pub invariant-loop-at : goal.invariant-loop-at
 invariant-loop-at l = record {

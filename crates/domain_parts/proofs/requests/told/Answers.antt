@@ -1,5 +1,5 @@
 use Rattle.std.proofs.Common.{refl}
-use Rattle.domain_core.proofs.requests.told.Goals as goal
+use Rattle.domain_parts.proofs.requests.told.Goals as goal
 
 pub returns-in-Address-clause-lends : goal.returns-in-Address-clause-lends
 returns-in-Address-clause-lends c ids = refl

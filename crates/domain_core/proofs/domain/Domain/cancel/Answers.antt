@@ -1,10 +1,10 @@
 use Rattle.std.proofs.Common.{None, refl, subst}
 use Rattle.board_model.specs.DomainCall.{cancel_of}
-use Rattle.domain_core.specs.Calls.{Calls, cancelled}
-use Rattle.domain_core.specs.Ends.{EndsMoved}
-use Rattle.domain_core.specs.DomainView.{place_of_id}
-use Rattle.domain_core.specs.Parts.{shown}
-use Rattle.domain_core.proofs.CallLemmas.{calls-of}
+use Rattle.domain_parts.specs.Calls.{Calls, cancelled}
+use Rattle.domain_parts.specs.Ends.{EndsMoved}
+use Rattle.domain_parts.specs.DomainView.{place_of_id}
+use Rattle.domain_parts.specs.Parts.{shown}
+use Rattle.domain_parts.proofs.CallLemmas.{calls-of}
 use Rattle.domain_core.proofs.domain.Domain.cancel.Goals as goal
 
 pub returns-clause-call : goal.returns-clause-call

@@ -4,11 +4,11 @@ use Rattle.mc_base.specs.declared.channel.Side.TheVariants.{Receiver}
 use Rattle.mc_base.specs.declared.refusal.Refusal.{Refusal}
 use Rattle.board_model.specs.DomainCall.{close_at}
 use Rattle.board_model.specs.Journal.{PlainAnswer}
-use Rattle.domain_core.specs.Calls.{closed, deleted}
-use Rattle.domain_core.specs.CallSteps.{Acts}
-use Rattle.domain_core.specs.Ends.{EndsMoved}
-use Rattle.domain_core.specs.Parts.{shown}
-use Rattle.domain_core.proofs.CallLemmas.{calls-put}
+use Rattle.domain_parts.specs.Calls.{closed, deleted}
+use Rattle.domain_parts.specs.CallSteps.{Acts}
+use Rattle.domain_parts.specs.Ends.{EndsMoved}
+use Rattle.domain_parts.specs.Parts.{shown}
+use Rattle.domain_parts.proofs.CallLemmas.{calls-put}
 use Rattle.domain_core.proofs.domain.Domain.close_recv.Goals as goal
 
 answered : (r : Result ℕ Refusal) → closed Receiver r ≡ deleted r

@@ -2,11 +2,11 @@ use Rattle.std.proofs.Common.{◌≡◌, ◌∙◌, None, ap, subst, sym}
 use Rattle.mc_base.specs.declared.channel.Side.TheVariants.{Sender}
 use Rattle.board_model.specs.DomainCall.{close_at}
 use Rattle.board_model.specs.Journal.{PlainAnswer}
-use Rattle.domain_core.specs.Calls.{closed, sent}
-use Rattle.domain_core.specs.CallSteps.{Acts}
-use Rattle.domain_core.specs.Ends.{EndsMoved}
-use Rattle.domain_core.specs.Parts.{shown}
-use Rattle.domain_core.proofs.CallLemmas.{calls-put}
+use Rattle.domain_parts.specs.Calls.{closed, sent}
+use Rattle.domain_parts.specs.CallSteps.{Acts}
+use Rattle.domain_parts.specs.Ends.{EndsMoved}
+use Rattle.domain_parts.specs.Parts.{shown}
+use Rattle.domain_parts.proofs.CallLemmas.{calls-put}
 use Rattle.domain_core.proofs.domain.Domain.close_send.Goals as goal
 use Rattle.domain_core.proofs.domain.Domain.close_send.Goals.{in-Err, in-Ok}
 

@@ -1,8 +1,8 @@
 use Rattle.board_model.specs.DomainCall.{connect_from}
-use Rattle.domain_core.specs.Calls.{connected, given_by}
-use Rattle.domain_core.specs.Ends.{EndsMoved}
-use Rattle.domain_core.specs.Parts.{shown}
-use Rattle.domain_core.proofs.CallLemmas.{calls-put}
+use Rattle.domain_parts.specs.Calls.{connected, given_by}
+use Rattle.domain_parts.specs.Ends.{EndsMoved}
+use Rattle.domain_parts.specs.Parts.{shown}
+use Rattle.domain_parts.proofs.CallLemmas.{calls-put}
 use Rattle.domain_core.proofs.domain.Domain.connect.Goals as goal
 
 pub returns-clause-call : goal.returns-clause-call

@@ -1,9 +1,9 @@
 use Rattle.std.proofs.Common.{refl, None}
 use Rattle.board_model.specs.DomainCall.{create_at}
-use Rattle.domain_core.specs.Calls.{created}
-use Rattle.domain_core.specs.Ends.{EndsMoved}
-use Rattle.domain_core.specs.Parts.{shown}
-use Rattle.domain_core.proofs.CallLemmas.{calls-of}
+use Rattle.domain_parts.specs.Calls.{created}
+use Rattle.domain_parts.specs.Ends.{EndsMoved}
+use Rattle.domain_parts.specs.Parts.{shown}
+use Rattle.domain_parts.proofs.CallLemmas.{calls-of}
 use Rattle.domain_core.proofs.domain.Domain.create.Goals as goal
 
 pub returns-clause-call : goal.returns-clause-call

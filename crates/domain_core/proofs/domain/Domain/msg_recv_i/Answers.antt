@@ -1,9 +1,9 @@
 use Rattle.std.proofs.Common.{refl}
 use Rattle.board_model.specs.DomainCall.{request_at}
-use Rattle.domain_core.specs.Calls.{given, requested}
-use Rattle.domain_core.specs.Ends.{EndsMoved}
-use Rattle.domain_core.specs.Parts.{shown}
-use Rattle.domain_core.proofs.CallLemmas.{calls-of}
+use Rattle.domain_parts.specs.Calls.{given, requested}
+use Rattle.domain_parts.specs.Ends.{EndsMoved}
+use Rattle.domain_parts.specs.Parts.{shown}
+use Rattle.domain_parts.proofs.CallLemmas.{calls-of}
 use Rattle.domain_core.proofs.domain.Domain.msg_recv_i.Goals as goal
 
 pub returns-clause-call : goal.returns-clause-call

@@ -1,6 +1,6 @@
 use Rattle.std.proofs.Common.{◌∙◌, ap, sym}
 use Rattle.board_model.specs.Queues.{queued_on}
-use Rattle.domain_core.specs.Parts.{state_of}
+use Rattle.domain_parts.specs.Parts.{state_of}
 use Rattle.board_model.proofs.UnnamedCounts.{queue-unnamed-on}
 use Rattle.domain_core.proofs.domain.Domain.queued.Goals as goal
 

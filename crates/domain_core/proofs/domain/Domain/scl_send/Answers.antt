@@ -1,9 +1,9 @@
 use Rattle.std.proofs.Common.{None}
 use Rattle.board_model.specs.DomainCall.{scalar_from}
-use Rattle.domain_core.specs.Calls.{sent}
-use Rattle.domain_core.specs.Ends.{EndsMoved}
-use Rattle.domain_core.specs.Parts.{shown}
-use Rattle.domain_core.proofs.CallLemmas.{calls-put}
+use Rattle.domain_parts.specs.Calls.{sent}
+use Rattle.domain_parts.specs.Ends.{EndsMoved}
+use Rattle.domain_parts.specs.Parts.{shown}
+use Rattle.domain_parts.proofs.CallLemmas.{calls-put}
 use Rattle.domain_core.proofs.domain.Domain.scl_send.Goals as goal
 
 pub returns-clause-call : goal.returns-clause-call

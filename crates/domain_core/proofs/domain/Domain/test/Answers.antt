@@ -2,11 +2,11 @@ use Rattle.std.proofs.Common.{List, None, refl, subst}
 use Rattle.std.specs.Prelude.{IfOk}
 use Rattle.mc_base.specs.declared.request.PacketId.{PacketId}
 use Rattle.board_model.specs.DomainCall.{test_of}
-use Rattle.domain_core.specs.Calls.{Calls, LendsLast, tested}
-use Rattle.domain_core.specs.Ends.{EndsMoved}
-use Rattle.domain_core.specs.DomainView.{packet_lent_as, place_of_id}
-use Rattle.domain_core.specs.Parts.{shown}
-use Rattle.domain_core.proofs.CallLemmas.{calls-of}
+use Rattle.domain_parts.specs.Calls.{Calls, LendsLast, tested}
+use Rattle.domain_parts.specs.Ends.{EndsMoved}
+use Rattle.domain_parts.specs.DomainView.{packet_lent_as, place_of_id}
+use Rattle.domain_parts.specs.Parts.{shown}
+use Rattle.domain_parts.proofs.CallLemmas.{calls-of}
 use Rattle.domain_core.proofs.domain.Domain.test.Goals as goal
 
 pub returns-clause-call : goal.returns-clause-call

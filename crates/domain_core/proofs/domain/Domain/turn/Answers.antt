@@ -1,9 +1,9 @@
 use Rattle.std.proofs.Common.{refl, None}
 use Rattle.board_model.specs.DomainCall.{turn_alone}
 use Rattle.board_model.specs.Journal.{agrees}
-use Rattle.domain_core.specs.Ends.{EndsMoved}
-use Rattle.domain_core.specs.Parts.{shown}
-use Rattle.domain_core.proofs.CallLemmas.{calls-of, turn-acts}
+use Rattle.domain_parts.specs.Ends.{EndsMoved}
+use Rattle.domain_parts.specs.Parts.{shown}
+use Rattle.domain_parts.proofs.CallLemmas.{calls-of, turn-acts}
 use Rattle.domain_core.proofs.domain.Domain.turn.Goals as goal
 
 pub returns-clause-call : goal.returns-clause-call

@@ -1,11 +1,11 @@
 use Rattle.std.proofs.Common.{◌≡◌, ◌∷◌, [], false, rules, subst, sym}
 use Rattle.std.specs.Prelude.{Err, IfOk, Ok}
-use Rattle.domain_core.specs.Calls.{LendsLast}
-use Rattle.domain_core.specs.DomainView.{packet_lent_as}
-use Rattle.domain_core.specs.Ends.{EndsMoved}
-use Rattle.domain_core.specs.Parts.{shown}
-use Rattle.domain_core.specs.Waiting.{Waits, waited, waited_at}
-use Rattle.domain_core.proofs.WaitEnds.{err-one}
+use Rattle.domain_parts.specs.Calls.{LendsLast}
+use Rattle.domain_parts.specs.DomainView.{packet_lent_as}
+use Rattle.domain_parts.specs.Ends.{EndsMoved}
+use Rattle.domain_parts.specs.Parts.{shown}
+use Rattle.domain_parts.specs.Waiting.{Waits, waited, waited_at}
+use Rattle.domain_parts.proofs.WaitEnds.{err-one}
 use Rattle.domain_core.proofs.domain.Domain.wait.Goals as goal
 
 pub returns-in_err-done-clause-wait : goal.returns-in_err-done-clause-wait

@@ -3,7 +3,7 @@ use Rattle.lane_end.specs.PlainSender.{Sender}
 use Rattle.lane_end.specs.PlainReceiver.{Receiver}
 use Rattle.lane_end.specs.PlainLane.{AreOneLane, shuttled_sender}
 use Rattle.lane_end.proofs.LaneLemmas.{shuttled-one-lane}
-use Rattle.domain_core.specs.Carrying.{HasShuttled}
+use Rattle.domain_parts.specs.Carrying.{HasShuttled}
 use Rattle.domain_core.proofs.CarriedDomains.{carried-inside, kept-inside, linked-inside, still-linked}
 use Rattle.domain_core.proofs.domain.opening.carry.Goals as goal
 

@@ -4,10 +4,10 @@ use Rattle.mc_base.specs.declared.channel.Reason.TheVariants.{NoEndpoint}
 use Rattle.mc_base.specs.declared.fate.Fate.TheVariants.{Owed}
 use Rattle.board_model.specs.State.{endpoint_of}
 use Rattle.board_model.specs.TakenFrames.{connect_rows, first_row}
-use Rattle.domain_core.specs.Verdicts.{Desk, IsReturned, desk}
-use Rattle.domain_core.proofs.Judging.{connect-answered, connect-full, connect-nobody, nobody-there, one-there, replying}
-use Rattle.domain_core.proofs.dealing.connects.answer_connect.Goals.{in-None, in-Some}
-use Rattle.domain_core.proofs.dealing.connects.answer_connect.Goals as goal
+use Rattle.domain_parts.specs.Verdicts.{Desk, IsReturned, desk}
+use Rattle.domain_parts.proofs.Judging.{connect-answered, connect-full, connect-nobody, nobody-there, one-there, replying}
+use Rattle.domain_parts.proofs.dealing.connects.answer_connect.Goals.{in-None, in-Some}
+use Rattle.domain_parts.proofs.dealing.connects.answer_connect.Goals as goal
 
 pub returns-then-is_full : goal.returns-then-is_full
 returns-then-is_full c = λ b s names shows.

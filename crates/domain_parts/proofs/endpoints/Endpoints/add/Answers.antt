@@ -2,12 +2,12 @@ use Rattle.std.proofs.Common.{rules, None, ◌≡◌, ◌<◌, ◌≤◌, ◌+�
 use Rattle.std.proofs.lemmas.List.{length_push}
 use Rattle.endpoint_table.proofs.RecordLemmas.{all-weaken}
 use Rattle.message_queue.specs.Queue.{Queue}
-use Rattle.domain_core.specs.declared.endpoints.Endpoint.{Endpoint}
-use Rattle.domain_core.specs.Records.{Records, new_record, with_record}
-use Rattle.domain_core.specs.InTable.{IsKept, IsSpare, records_of, IsNumbered}
-use Rattle.domain_core.proofs.Addresses.{order-push}
-use Rattle.domain_core.proofs.Tables.{All-front, All-push}
-use Rattle.domain_core.proofs.endpoints.Endpoints.add.Goals as goal
+use Rattle.domain_parts.specs.declared.endpoints.Endpoint.{Endpoint}
+use Rattle.domain_parts.specs.Records.{Records, new_record, with_record}
+use Rattle.domain_parts.specs.InTable.{IsKept, IsSpare, records_of, IsNumbered}
+use Rattle.domain_parts.proofs.Addresses.{order-push}
+use Rattle.domain_parts.proofs.Tables.{All-front, All-push}
+use Rattle.domain_parts.proofs.endpoints.Endpoints.add.Goals as goal
 
 -- the record that is made
 abbrev made : goal.After-self-1 → Endpoint

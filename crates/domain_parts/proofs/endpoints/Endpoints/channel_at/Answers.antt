@@ -1,9 +1,9 @@
 use Rattle.std.proofs.Common.{ap, arith, length, ◌<◌}
-use Rattle.domain_core.specs.declared.endpoints.Endpoint.{Endpoint}
-use Rattle.domain_core.specs.InTable.{IsKept, IsNumbered}
-use Rattle.domain_core.specs.Records.{Records}
-use Rattle.domain_core.proofs.Tables.{All-read}
-use Rattle.domain_core.proofs.endpoints.Endpoints.channel_at.Goals as goal
+use Rattle.domain_parts.specs.declared.endpoints.Endpoint.{Endpoint}
+use Rattle.domain_parts.specs.InTable.{IsKept, IsNumbered}
+use Rattle.domain_parts.specs.Records.{Records}
+use Rattle.domain_parts.proofs.Tables.{All-read}
+use Rattle.domain_parts.proofs.endpoints.Endpoints.channel_at.Goals as goal
 
 pub returns-clause-kept : goal.returns-clause-kept
 returns-clause-kept c =

@@ -1,9 +1,9 @@
 use Rattle.std.proofs.Common.{List, ap, ◌∙◌}
 use Rattle.mc_base.specs.declared.request.PacketId.{PacketId}
-use Rattle.domain_core.specs.InTable.{records_of}
-use Rattle.domain_core.specs.Records.{Records, without_lent_at}
-use Rattle.domain_core.proofs.Tables.{removed}
-use Rattle.domain_core.proofs.endpoints.Endpoints.drop_lent.Goals as goal
+use Rattle.domain_parts.specs.InTable.{records_of}
+use Rattle.domain_parts.specs.Records.{Records, without_lent_at}
+use Rattle.domain_parts.proofs.Tables.{removed}
+use Rattle.domain_parts.proofs.endpoints.Endpoints.drop_lent.Goals as goal
 
 pub returns : goal.returns
 returns c =

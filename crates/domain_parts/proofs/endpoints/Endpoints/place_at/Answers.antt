@@ -1,12 +1,12 @@
 use Rattle.std.proofs.Common.{◌∙◌, ap, map, sym}
 use Rattle.board_model.specs.State.{place_at}
-use Rattle.domain_core.specs.Table.{holding}
-use Rattle.domain_core.specs.Records.{Records}
-use Rattle.domain_core.specs.InBook.{endpoints_in}
-use Rattle.domain_core.specs.Tied.{live_record}
-use Rattle.domain_core.proofs.Addresses.{named, unnamed}
-use Rattle.domain_core.proofs.Tying.{place-is}
-use Rattle.domain_core.proofs.endpoints.Endpoints.place_at.Goals as goal
+use Rattle.domain_parts.specs.Table.{holding}
+use Rattle.domain_parts.specs.Records.{Records}
+use Rattle.domain_parts.specs.InBook.{endpoints_in}
+use Rattle.domain_parts.specs.Tied.{live_record}
+use Rattle.domain_parts.proofs.Addresses.{named, unnamed}
+use Rattle.domain_parts.proofs.Tying.{place-is}
+use Rattle.domain_parts.proofs.endpoints.Endpoints.place_at.Goals as goal
 
 -- ---- no endpoint has the name
 

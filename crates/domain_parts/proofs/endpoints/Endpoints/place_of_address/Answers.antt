@@ -1,10 +1,10 @@
 use Rattle.std.proofs.Common.{◌∙◌, ap}
 use Rattle.board_model.specs.State.{has_address_of, place_of_address}
-use Rattle.domain_core.specs.Table.{holding}
-use Rattle.domain_core.specs.Records.{Records}
-use Rattle.domain_core.specs.InBook.{endpoint_in, endpoints_in}
-use Rattle.domain_core.proofs.Tables.{position-map}
-use Rattle.domain_core.proofs.endpoints.Endpoints.place_of_address.Goals as goal
+use Rattle.domain_parts.specs.Table.{holding}
+use Rattle.domain_parts.specs.Records.{Records}
+use Rattle.domain_parts.specs.InBook.{endpoint_in, endpoints_in}
+use Rattle.domain_parts.proofs.Tables.{position-map}
+use Rattle.domain_parts.proofs.endpoints.Endpoints.place_of_address.Goals as goal
 
 pub returns-clause-place : goal.returns-clause-place
 returns-clause-place c = λ b.

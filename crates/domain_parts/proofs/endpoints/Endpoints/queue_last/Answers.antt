@@ -1,11 +1,11 @@
 use Rattle.std.proofs.Common.{refl, rules, ◌<◌, ◌∙◌, List, ap, arith, length, ◌≡◌, ◌≤◌, ◌+◌}
 use Rattle.message_queue.specs.Queue.{Queue, waiting}
-use Rattle.domain_core.specs.declared.endpoints.Endpoint.{Endpoint}
-use Rattle.domain_core.specs.Records.{Records, all_waiting, with_waiting, with_waiting_at}
-use Rattle.domain_core.specs.InTable.{IsKept, records_of, IsNumbered}
-use Rattle.domain_core.proofs.Addresses.{all-written, order-written}
-use Rattle.domain_core.proofs.Tables.{changed-set, queue-within, room-at}
-use Rattle.domain_core.proofs.endpoints.Endpoints.queue_last.Goals as goal
+use Rattle.domain_parts.specs.declared.endpoints.Endpoint.{Endpoint}
+use Rattle.domain_parts.specs.Records.{Records, all_waiting, with_waiting, with_waiting_at}
+use Rattle.domain_parts.specs.InTable.{IsKept, records_of, IsNumbered}
+use Rattle.domain_parts.proofs.Addresses.{all-written, order-written}
+use Rattle.domain_parts.proofs.Tables.{changed-set, queue-within, room-at}
+use Rattle.domain_parts.proofs.endpoints.Endpoints.queue_last.Goals as goal
 
 -- its address stays
 pub invariant_of-self : goal.invariant_of-self

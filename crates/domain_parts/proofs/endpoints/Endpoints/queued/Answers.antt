@@ -1,8 +1,8 @@
 use Rattle.std.proofs.Common.{◌∙◌, ap, arith, length, sum_by}
-use Rattle.domain_core.specs.Hearing.{messages_waiting}
-use Rattle.domain_core.specs.Records.{Records, all_waiting}
-use Rattle.domain_core.proofs.Waits.{messages-within}
-use Rattle.domain_core.proofs.endpoints.Endpoints.queued.Goals as goal
+use Rattle.domain_parts.specs.Hearing.{messages_waiting}
+use Rattle.domain_parts.specs.Records.{Records, all_waiting}
+use Rattle.domain_parts.proofs.Waits.{messages-within}
+use Rattle.domain_parts.proofs.endpoints.Endpoints.queued.Goals as goal
 
 pub count_messages-requires : goal.count_messages-requires
 count_messages-requires c =

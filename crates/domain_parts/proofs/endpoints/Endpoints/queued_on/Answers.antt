@@ -5,14 +5,14 @@ use Rattle.board_model.proofs.MessageLists.{get-position}
 use Rattle.board_model.specs.State as state
 use Rattle.board_model.specs.State.{queue_in}
 use Rattle.buffer_book.specs.Book.{Book}
-use Rattle.domain_core.specs.declared.endpoints.Endpoint.{Endpoint}
+use Rattle.domain_parts.specs.declared.endpoints.Endpoint.{Endpoint}
 use Rattle.board_model.specs.Queues.{hears}
-use Rattle.domain_core.specs.Hearing.{hears_at}
-use Rattle.domain_core.specs.InBook.{endpoint_in, endpoints_in, item_in}
-use Rattle.domain_core.specs.Records.{Records, waiting_in}
-use Rattle.domain_core.proofs.Tables.{position-map, slice_get-read}
-use Rattle.domain_core.proofs.Waits.{queue-there}
-use Rattle.domain_core.proofs.endpoints.Endpoints.queued_on.Goals as goal
+use Rattle.domain_parts.specs.Hearing.{hears_at}
+use Rattle.domain_parts.specs.InBook.{endpoint_in, endpoints_in, item_in}
+use Rattle.domain_parts.specs.Records.{Records, waiting_in}
+use Rattle.domain_parts.proofs.Tables.{position-map, slice_get-read}
+use Rattle.domain_parts.proofs.Waits.{queue-there}
+use Rattle.domain_parts.proofs.endpoints.Endpoints.queued_on.Goals as goal
 
 -- the endpoint that hears it, by its place
 found : (b : Book) (owner number : ℕ) (es : List Endpoint) (o : Option ℕ) → o ≡ position (hears_at owner number) es → find (hears owner number) (endpoints_in b es) ≡ option_and_then (λ i. slice_get (endpoints_in b es) i) o

@@ -4,12 +4,12 @@ use Rattle.std.specs.List.{AllByRecursion}
 use Rattle.std.proofs.lemmas.List.{length_push}
 use Rattle.message_queue.specs.Queue.{Waiting, empty_queue}
 use Rattle.board_model.specs.Lists.{without_at}
-use Rattle.domain_core.specs.declared.endpoints.Endpoint.{Endpoint}
-use Rattle.domain_core.specs.Records.{Records, waiting_in, without_record_at}
-use Rattle.domain_core.specs.InTable.{AreInOrder, IsKept, IsSpare, records_of, IsNumbered}
-use Rattle.domain_core.proofs.Addresses.{order-without}
-use Rattle.domain_core.proofs.Tables.{All-push, All-without, length-without, removed, room-at, slice_get-read}
-use Rattle.domain_core.proofs.endpoints.Endpoints.remove.Goals as goal
+use Rattle.domain_parts.specs.declared.endpoints.Endpoint.{Endpoint}
+use Rattle.domain_parts.specs.Records.{Records, waiting_in, without_record_at}
+use Rattle.domain_parts.specs.InTable.{AreInOrder, IsKept, IsSpare, records_of, IsNumbered}
+use Rattle.domain_parts.proofs.Addresses.{order-without}
+use Rattle.domain_parts.proofs.Tables.{All-push, All-without, length-without, removed, room-at, slice_get-read}
+use Rattle.domain_parts.proofs.endpoints.Endpoints.remove.Goals as goal
 
 less : (c : goal.After-unwrap) → c.remove-endpoint.new.self.items ≡ without_at c.args.place c.self.inside.records.items
 less c = c.remove-endpoint.ensures.items ∙ removed c.self.inside.records.items c.args.place

@@ -1,12 +1,12 @@
 use Rattle.std.proofs.Common.{refl, rules, ◌<◌, ◌∙◌, List, ap, arith, length, ◌≡◌, ◌≤◌, ◌+◌}
 use Rattle.std.specs.Prelude.{Option}
 use Rattle.packet_channel.specs.declared.channel.Channel.{Channel}
-use Rattle.domain_core.specs.declared.endpoints.Endpoint.{Endpoint}
-use Rattle.domain_core.specs.Records.{Records, kept, with_channel_at, with_end}
-use Rattle.domain_core.specs.InTable.{IsKept, records_of, IsNumbered}
-use Rattle.domain_core.proofs.Addresses.{all-written, order-written}
-use Rattle.domain_core.proofs.Tables.{changed-set}
-use Rattle.domain_core.proofs.endpoints.Endpoints.set_channel.Goals as goal
+use Rattle.domain_parts.specs.declared.endpoints.Endpoint.{Endpoint}
+use Rattle.domain_parts.specs.Records.{Records, kept, with_channel_at, with_end}
+use Rattle.domain_parts.specs.InTable.{IsKept, records_of, IsNumbered}
+use Rattle.domain_parts.proofs.Addresses.{all-written, order-written}
+use Rattle.domain_parts.proofs.Tables.{changed-set}
+use Rattle.domain_parts.proofs.endpoints.Endpoints.set_channel.Goals as goal
 
 pub invariant_of-self : goal.invariant_of-self
 invariant_of-self c =

@@ -2,12 +2,12 @@ use Rattle.std.proofs.Common.{refl, rules, ◌≡◌, ◌<◌, ◌∙◌, List, 
 use Rattle.std.specs.Prelude.{IfSome, slice_get, Option}
 use Rattle.board_model.specs.Choice.{best}
 use Rattle.message_queue.specs.Queue.{Queue, Waiting, waiting}
-use Rattle.domain_core.specs.declared.endpoints.Endpoint.{Endpoint}
-use Rattle.domain_core.specs.Records.{Records, waiting_in, with_best_taken, with_best_taken_at}
-use Rattle.domain_core.specs.InTable.{IsKept, records_of, IsNumbered}
-use Rattle.domain_core.proofs.Addresses.{all-written, order-written}
-use Rattle.domain_core.proofs.Tables.{changed-set, slice_get-read}
-use Rattle.domain_core.proofs.endpoints.Endpoints.take_best.Goals as goal
+use Rattle.domain_parts.specs.declared.endpoints.Endpoint.{Endpoint}
+use Rattle.domain_parts.specs.Records.{Records, waiting_in, with_best_taken, with_best_taken_at}
+use Rattle.domain_parts.specs.InTable.{IsKept, records_of, IsNumbered}
+use Rattle.domain_parts.proofs.Addresses.{all-written, order-written}
+use Rattle.domain_parts.proofs.Tables.{changed-set, slice_get-read}
+use Rattle.domain_parts.proofs.endpoints.Endpoints.take_best.Goals as goal
 
 -- its address stays
 pub invariant_of-self : goal.invariant_of-self

@@ -6,20 +6,20 @@ use Rattle.board_model.specs.Journal.{tells}
 use Rattle.endpoint_table.specs.Table.{Table, create_answer}
 use Rattle.endpoint_table.specs.Table as endpoint_table
 use Rattle.request_set.specs.declared.ask.Complete.TheVariants as complete
-use Rattle.domain_core.specs.LaneSeen.{LaneSeen}
-use Rattle.domain_core.specs.declared.holdings.Holdings.TheInside.{Inside}
-use Rattle.domain_core.specs.declared.requests.Waiters.TheVariants as waiters
-use Rattle.domain_core.specs.Calls.{created}
-use Rattle.domain_core.specs.CallSteps.{Acts}
-use Rattle.domain_core.specs.InRequests.{with_all_complete}
-use Rattle.domain_core.specs.Parts.{Holding, Parts, holding_in, parts_in, peers_seen, plain}
-use Rattle.domain_core.specs.Records.{Records}
-use Rattle.domain_core.specs.Steps.{done, endpoint_made}
-use Rattle.domain_core.proofs.Creating.{create-address, create-done, create-few, create-refused, made-requests, made-sound}
-use Rattle.domain_core.proofs.Meaning.{create-means}
-use Rattle.domain_core.proofs.Stepping.{acts-done, acts-refused, quiet-moved, quiet-peers}
-use Rattle.domain_core.proofs.holdings.Holdings.add_endpoint.Given.{Over}
-use Rattle.domain_core.proofs.holdings.Holdings.add_endpoint.Goals as goal
+use Rattle.domain_parts.specs.LaneSeen.{LaneSeen}
+use Rattle.domain_parts.specs.declared.holdings.Holdings.TheInside.{Inside}
+use Rattle.domain_parts.specs.declared.requests.Waiters.TheVariants as waiters
+use Rattle.domain_parts.specs.Calls.{created}
+use Rattle.domain_parts.specs.CallSteps.{Acts}
+use Rattle.domain_parts.specs.InRequests.{with_all_complete}
+use Rattle.domain_parts.specs.Parts.{Holding, Parts, holding_in, parts_in, peers_seen, plain}
+use Rattle.domain_parts.specs.Records.{Records}
+use Rattle.domain_parts.specs.Steps.{done, endpoint_made}
+use Rattle.domain_parts.proofs.Creating.{create-address, create-done, create-few, create-refused, made-requests, made-sound}
+use Rattle.domain_parts.proofs.Meaning.{create-means}
+use Rattle.domain_parts.proofs.Stepping.{acts-done, acts-refused, quiet-moved, quiet-peers}
+use Rattle.domain_parts.proofs.holdings.Holdings.add_endpoint.Given.{Over}
+use Rattle.domain_parts.proofs.holdings.Holdings.add_endpoint.Goals as goal
 
 abbrev v : (g : Over) → (g.row.P.Denot → LaneSeen)
 v g = g.P.PeerLane.seen

@@ -1,9 +1,9 @@
 use Rattle.std.proofs.Common.{◌≡◌, ◌∙◌, ℕ, Option, Some, ap, sym, subst}
 use Rattle.std.specs.Prelude.{option_and_then, option_map, slice_get}
 use Rattle.board_model.specs.State.{Endpoint, address_at, place_at}
-use Rattle.domain_core.specs.Parts.{Holding, parts_in, state_of}
-use Rattle.domain_core.proofs.Tables.{address-there}
-use Rattle.domain_core.proofs.holdings.Holdings.address_at.Goals as goal
+use Rattle.domain_parts.specs.Parts.{Holding, parts_in, state_of}
+use Rattle.domain_parts.proofs.Tables.{address-there}
+use Rattle.domain_parts.proofs.holdings.Holdings.address_at.Goals as goal
 
 pub returns : goal.returns
 returns g c =

@@ -1,11 +1,11 @@
 use Rattle.std.proofs.Common.{◌≡◌, ◌≢◌, ◌<◌, ◌∙◌, ap, sym, subst, length, None, Some}
 use Rattle.std.specs.Prelude.{position, ◌==◌}
 use Rattle.board_model.specs.Answer.{address_of, known_address}
-use Rattle.domain_core.specs.Parts.{state_of}
-use Rattle.domain_core.proofs.PeerPlaces.{no-peer-in, other-address, peer-in}
-use Rattle.domain_core.proofs.Stepping.{state-seen}
-use Rattle.domain_core.proofs.Tables.{slice_get-read}
-use Rattle.domain_core.proofs.holdings.Holdings.address_of.Goals as goal
+use Rattle.domain_parts.specs.Parts.{state_of}
+use Rattle.domain_parts.proofs.PeerPlaces.{no-peer-in, other-address, peer-in}
+use Rattle.domain_parts.proofs.Stepping.{state-seen}
+use Rattle.domain_parts.proofs.Tables.{slice_get-read}
+use Rattle.domain_parts.proofs.holdings.Holdings.address_of.Goals as goal
 
 pub returns-in_err-place : goal.returns-in_err-place
 returns-in_err-place g c =

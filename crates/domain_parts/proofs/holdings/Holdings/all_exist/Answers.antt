@@ -2,9 +2,9 @@ use Rattle.std.proofs.Common.{rules, tests}
 use Rattle.std.proofs.lemmas.Iterator.{YieldsList-from_slice}
 use Rattle.std.proofs.lemmas.Iterator.Search.{all_from_yields_List}
 use Rattle.board_model.specs.Answer.{stands_at}
-use Rattle.domain_core.specs.DomainView.{place_of_id}
-use Rattle.domain_core.specs.Parts.{shown}
-use Rattle.domain_core.proofs.holdings.Holdings.all_exist.Goals as goal
+use Rattle.domain_parts.specs.DomainView.{place_of_id}
+use Rattle.domain_parts.specs.Parts.{shown}
+use Rattle.domain_parts.proofs.holdings.Holdings.all_exist.Goals as goal
 
 pub returns : goal.returns
 returns g c =

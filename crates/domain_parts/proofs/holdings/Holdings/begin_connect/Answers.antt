@@ -11,19 +11,19 @@ use Rattle.board_model.specs.Serial.{put_entry}
 use Rattle.board_model.specs.State.{address_at, place_at}
 use Rattle.packet_channel.specs.declared.channel.Channel.{Channel}
 use Rattle.request_set.specs.declared.ask.Ask.TheVariants as ask
-use Rattle.domain_core.specs.Calls.{IsFresh}
-use Rattle.domain_core.specs.CallSteps.{as_channel}
-use Rattle.domain_core.specs.Parts.{Parts, state_of}
-use Rattle.domain_core.specs.Records.{kept}
-use Rattle.domain_core.specs.Steps.{Did, Step, channel_given, channel_set, frame_put, request_begun}
-use Rattle.domain_core.proofs.Calling.{puts-done}
-use Rattle.domain_core.proofs.ChannelMeaning.{connect-end, connect-frame, connect-means, connect-steps, end-number}
-use Rattle.domain_core.proofs.Channels.{connect-done, lacks-none}
-use Rattle.domain_core.proofs.Ending.{ids_in}
-use Rattle.domain_core.proofs.Steps.{free-place, not-zero}
-use Rattle.domain_core.proofs.Stepping.{acts-done, did-then}
-use Rattle.domain_core.proofs.holdings.Holdings.begin_connect.Given.{Over}
-use Rattle.domain_core.proofs.holdings.Holdings.begin_connect.Goals as goal
+use Rattle.domain_parts.specs.Calls.{IsFresh}
+use Rattle.domain_parts.specs.CallSteps.{as_channel}
+use Rattle.domain_parts.specs.Parts.{Parts, state_of}
+use Rattle.domain_parts.specs.Records.{kept}
+use Rattle.domain_parts.specs.Steps.{Did, Step, channel_given, channel_set, frame_put, request_begun}
+use Rattle.domain_parts.proofs.Calling.{puts-done}
+use Rattle.domain_parts.proofs.ChannelMeaning.{connect-end, connect-frame, connect-means, connect-steps, end-number}
+use Rattle.domain_parts.proofs.Channels.{connect-done, lacks-none}
+use Rattle.domain_parts.proofs.Ending.{ids_in}
+use Rattle.domain_parts.proofs.Steps.{free-place, not-zero}
+use Rattle.domain_parts.proofs.Stepping.{acts-done, did-then}
+use Rattle.domain_parts.proofs.holdings.Holdings.begin_connect.Given.{Over}
+use Rattle.domain_parts.proofs.holdings.Holdings.begin_connect.Goals as goal
 
 module _ (g : Over) (c : goal.After-use_number g) where
   abbrev end : Channel

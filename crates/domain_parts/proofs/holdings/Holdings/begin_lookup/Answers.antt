@@ -5,12 +5,12 @@ use Rattle.board_model.specs.DomainCall.{lookup_of}
 use Rattle.board_model.specs.Journal.{tells}
 use Rattle.request_set.specs.declared.ask.Ask.TheVariants as ask
 use Rattle.request_set.specs.declared.ask.Complete.TheVariants as complete
-use Rattle.domain_core.specs.Parts.{state_of}
-use Rattle.domain_core.specs.Steps.{Did, request_begun}
-use Rattle.domain_core.proofs.Meaning.{lookup-means}
-use Rattle.domain_core.proofs.Stepping.{acts-done}
-use Rattle.domain_core.proofs.holdings.Holdings.begin_lookup.Goals.{in-None, in-Some}
-use Rattle.domain_core.proofs.holdings.Holdings.begin_lookup.Goals as goal
+use Rattle.domain_parts.specs.Parts.{state_of}
+use Rattle.domain_parts.specs.Steps.{Did, request_begun}
+use Rattle.domain_parts.proofs.Meaning.{lookup-means}
+use Rattle.domain_parts.proofs.Stepping.{acts-done}
+use Rattle.domain_parts.proofs.holdings.Holdings.begin_lookup.Goals.{in-None, in-Some}
+use Rattle.domain_parts.proofs.holdings.Holdings.begin_lookup.Goals as goal
 
 pub returns : goal.returns
 returns g c =

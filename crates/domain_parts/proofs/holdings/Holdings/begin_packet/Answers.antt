@@ -2,12 +2,12 @@ use Rattle.std.proofs.Common.{◌≡◌, ◌∙◌, None, sym, refl, rules, subs
 use Rattle.std.specs.Prelude.{Err}
 use Rattle.board_model.specs.DomainCall.{packet_request_at}
 use Rattle.packet_channel.specs.End.{end_of}
-use Rattle.domain_core.specs.Calls.{given, requested}
-use Rattle.domain_core.specs.CallSteps.{Acts}
-use Rattle.domain_core.specs.Parts.{state_of}
-use Rattle.domain_core.proofs.PacketWords.{request-refused}
-use Rattle.domain_core.proofs.Stepping.{acts-refused}
-use Rattle.domain_core.proofs.holdings.Holdings.begin_packet.Goals as goal
+use Rattle.domain_parts.specs.Calls.{given, requested}
+use Rattle.domain_parts.specs.CallSteps.{Acts}
+use Rattle.domain_parts.specs.Parts.{state_of}
+use Rattle.domain_parts.proofs.PacketWords.{request-refused}
+use Rattle.domain_parts.proofs.Stepping.{acts-refused}
+use Rattle.domain_parts.proofs.holdings.Holdings.begin_packet.Goals as goal
 
 pub returns-in_err-may_recv : goal.returns-in_err-may_recv
 returns-in_err-may_recv g c =

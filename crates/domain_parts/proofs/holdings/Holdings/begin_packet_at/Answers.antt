@@ -7,20 +7,20 @@ use Rattle.message_queue.specs.Queue.{Waiting}
 use Rattle.request_set.specs.declared.ask.Ask.TheVariants as ask
 use Rattle.request_set.specs.declared.ask.Complete.TheVariants as complete
 use Rattle.request_set.specs.Requests.{Requests, with_complete}
-use Rattle.domain_core.specs.LaneSeen.{LaneSeen}
-use Rattle.domain_core.specs.declared.endpoints.Endpoint.{Endpoint}
-use Rattle.domain_core.specs.declared.holdings.Holdings.TheInside.{Inside}
-use Rattle.domain_core.specs.CallSteps.{Succeeds}
-use Rattle.domain_core.specs.Parts.{Holding, Parts, Sound, holding_in, parts_in, peers_seen, plain, state_of}
-use Rattle.domain_core.specs.Records.{Records, waiting_in, with_oldest_taken_at}
-use Rattle.domain_core.specs.Steps.{Did, packet_begun, request_begun, with_last}
-use Rattle.domain_core.proofs.Asking.{asked-sound}
-use Rattle.domain_core.proofs.Beginning.{few-left, id-fresh, last-complete, last-receives}
-use Rattle.domain_core.proofs.LendingMeaning.{oldest-none, requested-means, requested-sound, requested-steps, waits-means, waits-steps}
-use Rattle.domain_core.proofs.Readings.{none-from}
-use Rattle.domain_core.proofs.Stepping.{quiet-moved, quiet-peers}
-use Rattle.domain_core.proofs.holdings.Holdings.begin_packet_at.Given.{Over}
-use Rattle.domain_core.proofs.holdings.Holdings.begin_packet_at.Goals as goal
+use Rattle.domain_parts.specs.LaneSeen.{LaneSeen}
+use Rattle.domain_parts.specs.declared.endpoints.Endpoint.{Endpoint}
+use Rattle.domain_parts.specs.declared.holdings.Holdings.TheInside.{Inside}
+use Rattle.domain_parts.specs.CallSteps.{Succeeds}
+use Rattle.domain_parts.specs.Parts.{Holding, Parts, Sound, holding_in, parts_in, peers_seen, plain, state_of}
+use Rattle.domain_parts.specs.Records.{Records, waiting_in, with_oldest_taken_at}
+use Rattle.domain_parts.specs.Steps.{Did, packet_begun, request_begun, with_last}
+use Rattle.domain_parts.proofs.Asking.{asked-sound}
+use Rattle.domain_parts.proofs.Beginning.{few-left, id-fresh, last-complete, last-receives}
+use Rattle.domain_parts.proofs.LendingMeaning.{oldest-none, requested-means, requested-sound, requested-steps, waits-means, waits-steps}
+use Rattle.domain_parts.proofs.Readings.{none-from}
+use Rattle.domain_parts.proofs.Stepping.{quiet-moved, quiet-peers}
+use Rattle.domain_parts.proofs.holdings.Holdings.begin_packet_at.Given.{Over}
+use Rattle.domain_parts.proofs.holdings.Holdings.begin_packet_at.Goals as goal
 
 abbrev v : (g : Over) → (g.row.P.Denot → LaneSeen)
 v g = g.P.PeerLane.seen

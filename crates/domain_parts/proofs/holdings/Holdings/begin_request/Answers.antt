@@ -3,18 +3,18 @@ use Rattle.mc_base.specs.declared.request.RequestId.{RequestId}
 use Rattle.request_set.specs.declared.ask.Ask.{Ask}
 use Rattle.request_set.specs.declared.ask.Complete.{Complete}
 use Rattle.request_set.specs.Requests.{Requests, with_complete}
-use Rattle.domain_core.specs.LaneSeen.{LaneSeen}
-use Rattle.domain_core.specs.declared.holdings.Holdings.TheInside.{Inside}
-use Rattle.domain_core.specs.Calls.{IsFresh}
-use Rattle.domain_core.specs.InRequests.{Receives, slots_in}
-use Rattle.domain_core.specs.Parts.{Holding, Parts, Sound, holding_in, parts_in, peers_seen, plain, shown, state_of}
-use Rattle.domain_core.specs.Steps.{Did, request_begun, with_last}
-use Rattle.domain_core.proofs.Asking.{asked-sound}
-use Rattle.domain_core.proofs.Beginning.{few-left, id-fresh, last-complete}
-use Rattle.domain_core.proofs.Readings.{none-from}
-use Rattle.domain_core.proofs.Stepping.{quiet-moved, quiet-peers}
-use Rattle.domain_core.proofs.holdings.Holdings.begin_request.Given.{Over}
-use Rattle.domain_core.proofs.holdings.Holdings.begin_request.Goals as goal
+use Rattle.domain_parts.specs.LaneSeen.{LaneSeen}
+use Rattle.domain_parts.specs.declared.holdings.Holdings.TheInside.{Inside}
+use Rattle.domain_parts.specs.Calls.{IsFresh}
+use Rattle.domain_parts.specs.InRequests.{Receives, slots_in}
+use Rattle.domain_parts.specs.Parts.{Holding, Parts, Sound, holding_in, parts_in, peers_seen, plain, shown, state_of}
+use Rattle.domain_parts.specs.Steps.{Did, request_begun, with_last}
+use Rattle.domain_parts.proofs.Asking.{asked-sound}
+use Rattle.domain_parts.proofs.Beginning.{few-left, id-fresh, last-complete}
+use Rattle.domain_parts.proofs.Readings.{none-from}
+use Rattle.domain_parts.proofs.Stepping.{quiet-moved, quiet-peers}
+use Rattle.domain_parts.proofs.holdings.Holdings.begin_request.Given.{Over}
+use Rattle.domain_parts.proofs.holdings.Holdings.begin_request.Goals as goal
 
 abbrev v : (g : Over) → (g.row.P.Denot → LaneSeen)
 v g = g.P.PeerLane.seen

@@ -3,9 +3,9 @@ use Rattle.std.specs.Prelude.{option_and_then, slice_get}
 use Rattle.board_model.proofs.MessageLists.{get-position}
 use Rattle.board_model.specs.Answer.{channel_at}
 use Rattle.board_model.specs.State.{channel_in, is_at, place_at}
-use Rattle.domain_core.specs.Parts.{Holding, parts_in, state_of}
-use Rattle.domain_core.proofs.Tables.{channel-there}
-use Rattle.domain_core.proofs.holdings.Holdings.channel_at.Goals as goal
+use Rattle.domain_parts.specs.Parts.{Holding, parts_in, state_of}
+use Rattle.domain_parts.proofs.Tables.{channel-there}
+use Rattle.domain_parts.proofs.holdings.Holdings.channel_at.Goals as goal
 
 pub returns-clause-there : goal.returns-clause-there
 returns-clause-there g c =

@@ -12,18 +12,18 @@ use Rattle.board_model.specs.Serial.{put_entry}
 use Rattle.board_model.specs.State.{ChannelEnd, place_at}
 use Rattle.packet_channel.specs.End.{end_of}
 use Rattle.packet_channel.specs.declared.channel.Channel.{Channel}
-use Rattle.domain_core.specs.Calls.{closed}
-use Rattle.domain_core.specs.CallSteps.{Acts, emptying}
-use Rattle.domain_core.specs.Parts.{Parts, state_of}
-use Rattle.domain_core.specs.Records.{kept, slots_at}
-use Rattle.domain_core.specs.Steps.{Did, Step, channel_set, frame_put}
-use Rattle.domain_core.proofs.Calling.{puts-done}
-use Rattle.domain_core.proofs.ChannelMeaning.{close-answer, close-means, close-puts, close-steps, emptied-did, emptied-place}
-use Rattle.domain_core.proofs.Channels.{answered-none, answered-word, kept-as, lacks-none, close-words, or_lacks}
-use Rattle.domain_core.proofs.Steps.{free-place, not-zero, place-within}
-use Rattle.domain_core.proofs.Stepping.{acts-done, acts-refused, did-then}
-use Rattle.domain_core.proofs.holdings.Holdings.close_end.Given.{Over}
-use Rattle.domain_core.proofs.holdings.Holdings.close_end.Goals as goal
+use Rattle.domain_parts.specs.Calls.{closed}
+use Rattle.domain_parts.specs.CallSteps.{Acts, emptying}
+use Rattle.domain_parts.specs.Parts.{Parts, state_of}
+use Rattle.domain_parts.specs.Records.{kept, slots_at}
+use Rattle.domain_parts.specs.Steps.{Did, Step, channel_set, frame_put}
+use Rattle.domain_parts.proofs.Calling.{puts-done}
+use Rattle.domain_parts.proofs.ChannelMeaning.{close-answer, close-means, close-puts, close-steps, emptied-did, emptied-place}
+use Rattle.domain_parts.proofs.Channels.{answered-none, answered-word, kept-as, lacks-none, close-words, or_lacks}
+use Rattle.domain_parts.proofs.Steps.{free-place, not-zero, place-within}
+use Rattle.domain_parts.proofs.Stepping.{acts-done, acts-refused, did-then}
+use Rattle.domain_parts.proofs.holdings.Holdings.close_end.Given.{Over}
+use Rattle.domain_parts.proofs.holdings.Holdings.close_end.Goals as goal
 
 -- ---- a word of the end
 

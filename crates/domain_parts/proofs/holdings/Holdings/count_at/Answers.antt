@@ -3,13 +3,13 @@ use Rattle.std.proofs.lemmas.List.{length-map}
 use Rattle.std.specs.Prelude.{slice_get}
 use Rattle.board_model.specs.DomainCall.{available_at}
 use Rattle.board_model.specs.State.{place_at, queue_at}
-use Rattle.domain_core.specs.CallSteps.{Succeeds}
-use Rattle.domain_core.specs.Parts.{Holding, holding_in, parts_in, state_of}
-use Rattle.domain_core.specs.Records.{waiting_in}
-use Rattle.domain_core.proofs.Meaning.{available-means}
-use Rattle.domain_core.proofs.Steps.{queue-long}
-use Rattle.domain_core.proofs.Stepping.{quiet-moved}
-use Rattle.domain_core.proofs.holdings.Holdings.count_at.Goals as goal
+use Rattle.domain_parts.specs.CallSteps.{Succeeds}
+use Rattle.domain_parts.specs.Parts.{Holding, holding_in, parts_in, state_of}
+use Rattle.domain_parts.specs.Records.{waiting_in}
+use Rattle.domain_parts.proofs.Meaning.{available-means}
+use Rattle.domain_parts.proofs.Steps.{queue-long}
+use Rattle.domain_parts.proofs.Stepping.{quiet-moved}
+use Rattle.domain_parts.proofs.holdings.Holdings.count_at.Goals as goal
 
 pub returns-clause-count : goal.returns-clause-count
 returns-clause-count g c =

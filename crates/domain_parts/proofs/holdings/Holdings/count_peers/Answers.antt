@@ -1,11 +1,11 @@
 use Rattle.std.proofs.Common.{arith, subst}
 use Rattle.std.proofs.lemmas.List.{length-map}
-use Rattle.domain_core.specs.Parts.{parts_in, peer_seen}
-use Rattle.domain_core.specs.CallSteps.{Rests}
-use Rattle.domain_core.specs.Parts.{Holding}
-use Rattle.domain_core.proofs.Stepping.{quiet-moved}
-use Rattle.domain_core.proofs.Turning.{peers-few}
-use Rattle.domain_core.proofs.holdings.Holdings.count_peers.Goals as goal
+use Rattle.domain_parts.specs.Parts.{parts_in, peer_seen}
+use Rattle.domain_parts.specs.CallSteps.{Rests}
+use Rattle.domain_parts.specs.Parts.{Holding}
+use Rattle.domain_parts.proofs.Stepping.{quiet-moved}
+use Rattle.domain_parts.proofs.Turning.{peers-few}
+use Rattle.domain_parts.proofs.holdings.Holdings.count_peers.Goals as goal
 
 pub returns-clause-few : goal.returns-clause-few
 returns-clause-few g c =

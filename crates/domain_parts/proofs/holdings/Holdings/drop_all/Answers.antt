@@ -1,15 +1,15 @@
 use Rattle.std.proofs.Common.{◌≡◌, ◌≤◌, ◌∙◌, List, ◌∷◌, ◌++◌, [], length, ap, sym, refl, subst, arith}
 use Rattle.std.proofs.lemmas.List.{append-nil, append_assoc, length-append, length-map, map_push}
 use Rattle.mc_base.specs.declared.request.Slot.{Slot}
-use Rattle.domain_core.specs.Records.{slots_at, waiting_in}
+use Rattle.domain_parts.specs.Records.{slots_at, waiting_in}
 use Rattle.std.specs.Prelude.{slice_get}
 use Rattle.message_queue.specs.Queue.{Waiting}
-use Rattle.domain_core.specs.Parts.{Holding}
-use Rattle.domain_core.specs.Steps.{Did, Step, oldest_dropped}
-use Rattle.domain_core.specs.CallSteps.{Dropping, drops}
-use Rattle.domain_core.proofs.Stepping.{did-none, did-then}
-use Rattle.domain_core.proofs.holdings.Holdings.drop_all.Given.{Over}
-use Rattle.domain_core.proofs.holdings.Holdings.drop_all.Goals as goal
+use Rattle.domain_parts.specs.Parts.{Holding}
+use Rattle.domain_parts.specs.Steps.{Did, Step, oldest_dropped}
+use Rattle.domain_parts.specs.CallSteps.{Dropping, drops}
+use Rattle.domain_parts.proofs.Stepping.{did-none, did-then}
+use Rattle.domain_parts.proofs.holdings.Holdings.drop_all.Given.{Over}
+use Rattle.domain_parts.proofs.holdings.Holdings.drop_all.Goals as goal
 
 pub loop-init : goal.loop-init
 loop-init g c =

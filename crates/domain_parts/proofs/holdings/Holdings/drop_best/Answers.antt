@@ -2,27 +2,27 @@ use Rattle.std.proofs.Common.{◌≡◌, ◌∙◌, List, ◌∷◌, [], length,
 use Rattle.std.specs.Vec.{with_items}
 use Rattle.std.proofs.lemmas.List.{with_items_is}
 use Rattle.message_queue.specs.Queue.{waiting}
-use Rattle.domain_core.specs.LaneSeen.{LaneSeen}
-use Rattle.domain_core.specs.declared.endpoints.Endpoint.{Endpoint}
-use Rattle.domain_core.specs.declared.holdings.Holdings.TheInside.{Inside}
-use Rattle.domain_core.specs.AllMoved.{AllMoved, ends_of, numbers_of}
-use Rattle.domain_core.specs.GivingBack.{GivesBack, IsOutAt}
-use Rattle.domain_core.specs.Records.{Records}
-use Rattle.domain_core.specs.Parts.{Holding, Parts, Sound, holding_in, parts_in, peers_seen, plain, state_of}
-use Rattle.domain_core.specs.Steps.{Did, Step, all_moves, best_dropped, done}
-use Rattle.domain_core.specs.CallSteps.{Succeeds}
+use Rattle.domain_parts.specs.LaneSeen.{LaneSeen}
+use Rattle.domain_parts.specs.declared.endpoints.Endpoint.{Endpoint}
+use Rattle.domain_parts.specs.declared.holdings.Holdings.TheInside.{Inside}
+use Rattle.domain_parts.specs.AllMoved.{AllMoved, ends_of, numbers_of}
+use Rattle.domain_parts.specs.GivingBack.{GivesBack, IsOutAt}
+use Rattle.domain_parts.specs.Records.{Records}
+use Rattle.domain_parts.specs.Parts.{Holding, Parts, Sound, holding_in, parts_in, peers_seen, plain, state_of}
+use Rattle.domain_parts.specs.Steps.{Did, Step, all_moves, best_dropped, done}
+use Rattle.domain_parts.specs.CallSteps.{Succeeds}
 use Rattle.board_model.specs.DomainCall.{receive_at}
 use Rattle.board_model.specs.State.{place_at}
 use Rattle.board_model.specs.Journal.{gives}
 use Rattle.board_model.specs.Answer.{success}
-use Rattle.domain_core.proofs.GivingLemmas.{given-length}
-use Rattle.domain_core.proofs.Meaning.{receive-means}
-use Rattle.domain_core.proofs.Receiving.{best-queued, content-fits}
-use Rattle.domain_core.proofs.Steps.{best_dropped-keeps, best_dropped-answer, best_dropped-out, best_dropped-steps}
-use Rattle.domain_core.proofs.Stepping.{given-moved, given-seen, out-unseen}
-use Rattle.domain_core.proofs.Tables.{taken-none}
-use Rattle.domain_core.proofs.holdings.Holdings.drop_best.Given.{Over}
-use Rattle.domain_core.proofs.holdings.Holdings.drop_best.Goals as goal
+use Rattle.domain_parts.proofs.GivingLemmas.{given-length}
+use Rattle.domain_parts.proofs.Meaning.{receive-means}
+use Rattle.domain_parts.proofs.Receiving.{best-queued, content-fits}
+use Rattle.domain_parts.proofs.Steps.{best_dropped-keeps, best_dropped-answer, best_dropped-out, best_dropped-steps}
+use Rattle.domain_parts.proofs.Stepping.{given-moved, given-seen, out-unseen}
+use Rattle.domain_parts.proofs.Tables.{taken-none}
+use Rattle.domain_parts.proofs.holdings.Holdings.drop_best.Given.{Over}
+use Rattle.domain_parts.proofs.holdings.Holdings.drop_best.Goals as goal
 
 abbrev v : (g : Over) → (g.row.P.Denot → LaneSeen)
 v g = g.P.PeerLane.seen

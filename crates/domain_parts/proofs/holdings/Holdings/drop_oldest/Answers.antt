@@ -2,17 +2,17 @@ use Rattle.std.proofs.Common.{◌≡◌, ◌∙◌, ◌∷◌, [], ap, sym, refl
 use Rattle.std.specs.Vec.{with_items}
 use Rattle.std.proofs.lemmas.List.{with_items_is}
 use Rattle.mc_base.specs.declared.request.Slot.{Slot}
-use Rattle.domain_core.specs.LaneSeen.{LaneSeen}
-use Rattle.domain_core.specs.Records.{Records, slots_at}
-use Rattle.domain_core.specs.declared.holdings.Holdings.TheInside.{Inside}
-use Rattle.domain_core.specs.GivingBack.{GivesBack, IsOutAt}
-use Rattle.domain_core.specs.Parts.{Holding, Parts, Sound, holding_in, parts_in}
-use Rattle.domain_core.specs.Steps.{Did, oldest_dropped}
-use Rattle.domain_core.proofs.GivingLemmas.{given-length}
-use Rattle.domain_core.proofs.Steps.{oldest_dropped-keeps, oldest_dropped-left, oldest_dropped-out, oldest_dropped-queued}
-use Rattle.domain_core.proofs.Stepping.{dropped-did, dropped-parts, out-unseen}
-use Rattle.domain_core.proofs.holdings.Holdings.drop_oldest.Given.{Over}
-use Rattle.domain_core.proofs.holdings.Holdings.drop_oldest.Goals as goal
+use Rattle.domain_parts.specs.LaneSeen.{LaneSeen}
+use Rattle.domain_parts.specs.Records.{Records, slots_at}
+use Rattle.domain_parts.specs.declared.holdings.Holdings.TheInside.{Inside}
+use Rattle.domain_parts.specs.GivingBack.{GivesBack, IsOutAt}
+use Rattle.domain_parts.specs.Parts.{Holding, Parts, Sound, holding_in, parts_in}
+use Rattle.domain_parts.specs.Steps.{Did, oldest_dropped}
+use Rattle.domain_parts.proofs.GivingLemmas.{given-length}
+use Rattle.domain_parts.proofs.Steps.{oldest_dropped-keeps, oldest_dropped-left, oldest_dropped-out, oldest_dropped-queued}
+use Rattle.domain_parts.proofs.Stepping.{dropped-did, dropped-parts, out-unseen}
+use Rattle.domain_parts.proofs.holdings.Holdings.drop_oldest.Given.{Over}
+use Rattle.domain_parts.proofs.holdings.Holdings.drop_oldest.Goals as goal
 
 abbrev v : (g : Over) → (g.row.P.Denot → LaneSeen)
 v g = g.P.PeerLane.seen

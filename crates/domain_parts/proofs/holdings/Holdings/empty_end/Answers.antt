@@ -2,12 +2,12 @@ use Rattle.std.proofs.Common.{◌∷◌, [], List, ap, refl, sym, subst}
 use Rattle.mc_base.specs.declared.channel.Side.{Side}
 use Rattle.mc_base.specs.declared.refusal.Refusal.TheVariants.{ChanClosed}
 use Rattle.mc_base.specs.declared.request.Slot.{Slot}
-use Rattle.domain_core.specs.CallSteps.{Empties, drops}
-use Rattle.domain_core.specs.Parts.{Parts}
-use Rattle.domain_core.specs.Records.{slots_at}
-use Rattle.domain_core.specs.Steps.{Did, receives_ended}
-use Rattle.domain_core.proofs.Stepping.{did-then}
-use Rattle.domain_core.proofs.holdings.Holdings.empty_end.Goals as goal
+use Rattle.domain_parts.specs.CallSteps.{Empties, drops}
+use Rattle.domain_parts.specs.Parts.{Parts}
+use Rattle.domain_parts.specs.Records.{slots_at}
+use Rattle.domain_parts.specs.Steps.{Did, receives_ended}
+use Rattle.domain_parts.proofs.Stepping.{did-then}
+use Rattle.domain_parts.proofs.holdings.Holdings.empty_end.Goals as goal
 
 pub returns-in-Sender-clause-did : goal.returns-in-Sender-clause-did
 returns-in-Sender-clause-did g c = subst (λ (side : Side). Empties g.P.PeerLane.Moved side c.args.place c.args.at c.args.self.now c.args.self.now) (sym c.in-Sender.is) refl

@@ -6,14 +6,14 @@ use Rattle.mc_base.specs.declared.request.Done.{Done}
 use Rattle.mc_base.specs.declared.request.RequestId.{RequestId}
 use Rattle.board_model.specs.DomainCall.{test_of}
 use Rattle.board_model.specs.Unnamed.{no_names}
-use Rattle.domain_core.specs.Calls.{result_of_done, tested}
-use Rattle.domain_core.specs.CallSteps.{Acts}
-use Rattle.domain_core.specs.DomainView.{packet_lent_as, place_of_id}
-use Rattle.domain_core.specs.Parts.{shown, state_of}
-use Rattle.domain_core.proofs.WaitPlaces.{complete-ends, named-complete, named-within}
-use Rattle.domain_core.proofs.WaitEnds.{ends-first}
+use Rattle.domain_parts.specs.Calls.{result_of_done, tested}
+use Rattle.domain_parts.specs.CallSteps.{Acts}
+use Rattle.domain_parts.specs.DomainView.{packet_lent_as, place_of_id}
+use Rattle.domain_parts.specs.Parts.{shown, state_of}
+use Rattle.domain_parts.proofs.WaitPlaces.{complete-ends, named-complete, named-within}
+use Rattle.domain_parts.proofs.WaitEnds.{ends-first}
 use Rattle.board_model.proofs.RenamedCalls.{answer-renamed}
-use Rattle.domain_core.proofs.holdings.Holdings.end_first.Goals as goal
+use Rattle.domain_parts.proofs.holdings.Holdings.end_first.Goals as goal
 
 -- what is read at a place of the list
 abbrev id_at : List RequestId → ℕ → RequestId

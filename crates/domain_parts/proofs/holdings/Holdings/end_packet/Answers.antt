@@ -6,18 +6,18 @@ use Rattle.mc_base.specs.declared.request.PacketId.{PacketId}
 use Rattle.board_model.specs.DomainCall.{release_of}
 use Rattle.board_model.specs.Journal.{agrees}
 use Rattle.buffer_book.specs.Book.{slot_of}
-use Rattle.domain_core.specs.LaneSeen.{LaneSeen}
-use Rattle.domain_core.specs.declared.holdings.Holdings.TheInside.{Inside}
-use Rattle.domain_core.specs.CallSteps.{Acts}
-use Rattle.domain_core.specs.DomainView.{place_of_packet_id}
-use Rattle.domain_core.specs.GivingBack.{GivesBack, IsOutAt}
-use Rattle.domain_core.specs.Parts.{Holding, Parts, Sound, holding_in, parts_in}
-use Rattle.domain_core.specs.Steps.{Did, Step, packet_released}
-use Rattle.domain_core.proofs.GivingLemmas.{given-length}
-use Rattle.domain_core.proofs.Releasing.{found-id, id-lent, release-done, release-means, release-steps, released-keeps, released-out}
-use Rattle.domain_core.proofs.Stepping.{acts-done, dropped-did, dropped-parts, out-unseen}
-use Rattle.domain_core.proofs.holdings.Holdings.end_packet.Given.{Over}
-use Rattle.domain_core.proofs.holdings.Holdings.end_packet.Goals as goal
+use Rattle.domain_parts.specs.LaneSeen.{LaneSeen}
+use Rattle.domain_parts.specs.declared.holdings.Holdings.TheInside.{Inside}
+use Rattle.domain_parts.specs.CallSteps.{Acts}
+use Rattle.domain_parts.specs.DomainView.{place_of_packet_id}
+use Rattle.domain_parts.specs.GivingBack.{GivesBack, IsOutAt}
+use Rattle.domain_parts.specs.Parts.{Holding, Parts, Sound, holding_in, parts_in}
+use Rattle.domain_parts.specs.Steps.{Did, Step, packet_released}
+use Rattle.domain_parts.proofs.GivingLemmas.{given-length}
+use Rattle.domain_parts.proofs.Releasing.{found-id, id-lent, release-done, release-means, release-steps, released-keeps, released-out}
+use Rattle.domain_parts.proofs.Stepping.{acts-done, dropped-did, dropped-parts, out-unseen}
+use Rattle.domain_parts.proofs.holdings.Holdings.end_packet.Given.{Over}
+use Rattle.domain_parts.proofs.holdings.Holdings.end_packet.Goals as goal
 
 abbrev v : (g : Over) → (g.row.P.Denot → LaneSeen)
 v g = g.P.PeerLane.seen

@@ -3,19 +3,19 @@ use Rattle.std.specs.Prelude.{Err}
 use Rattle.board_model.specs.DomainCall.{cancel_of}
 use Rattle.board_model.specs.Journal.{agrees}
 use Rattle.request_set.specs.Requests.{Requests, progress_of, without_request}
-use Rattle.domain_core.specs.LaneSeen.{LaneSeen}
-use Rattle.domain_core.specs.declared.holdings.Holdings.TheInside.{Inside}
-use Rattle.domain_core.specs.Calls.{cancelled}
-use Rattle.domain_core.specs.CallSteps.{Acts}
-use Rattle.domain_core.specs.DomainView.{place_of_id}
-use Rattle.domain_core.specs.Parts.{Holding, Parts, Sound, holding_in, parts_in, peers_seen, plain, shown, state_of}
-use Rattle.domain_core.specs.Steps.{done, request_ended}
-use Rattle.domain_core.proofs.Ending.{cancel-done, cancel-pending, cancel-refused, cancelled-same, ids_in}
-use Rattle.domain_core.proofs.Meaning.{cancel-means, gone-there}
-use Rattle.domain_core.proofs.Receiving.{quiet-sound}
-use Rattle.domain_core.proofs.Stepping.{acts-done, acts-refused, quiet-moved, quiet-peers}
-use Rattle.domain_core.proofs.holdings.Holdings.end_pending.Given.{Over}
-use Rattle.domain_core.proofs.holdings.Holdings.end_pending.Goals as goal
+use Rattle.domain_parts.specs.LaneSeen.{LaneSeen}
+use Rattle.domain_parts.specs.declared.holdings.Holdings.TheInside.{Inside}
+use Rattle.domain_parts.specs.Calls.{cancelled}
+use Rattle.domain_parts.specs.CallSteps.{Acts}
+use Rattle.domain_parts.specs.DomainView.{place_of_id}
+use Rattle.domain_parts.specs.Parts.{Holding, Parts, Sound, holding_in, parts_in, peers_seen, plain, shown, state_of}
+use Rattle.domain_parts.specs.Steps.{done, request_ended}
+use Rattle.domain_parts.proofs.Ending.{cancel-done, cancel-pending, cancel-refused, cancelled-same, ids_in}
+use Rattle.domain_parts.proofs.Meaning.{cancel-means, gone-there}
+use Rattle.domain_parts.proofs.Receiving.{quiet-sound}
+use Rattle.domain_parts.proofs.Stepping.{acts-done, acts-refused, quiet-moved, quiet-peers}
+use Rattle.domain_parts.proofs.holdings.Holdings.end_pending.Given.{Over}
+use Rattle.domain_parts.proofs.holdings.Holdings.end_pending.Goals as goal
 
 abbrev v : (g : Over) → (g.row.P.Denot → LaneSeen)
 v g = g.P.PeerLane.seen

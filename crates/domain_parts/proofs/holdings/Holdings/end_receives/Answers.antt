@@ -1,13 +1,13 @@
 use Rattle.std.proofs.Common.{◌≡◌, ◌∷◌, [], sym, subst}
 use Rattle.mc_base.specs.declared.refusal.Refusal.TheVariants.{ChanClosed}
-use Rattle.domain_core.specs.LaneSeen.{LaneSeen}
-use Rattle.domain_core.specs.declared.holdings.Holdings.TheInside.{Inside}
-use Rattle.domain_core.specs.Parts.{Holding, Parts, Sound, holding_in, parts_in, peers_seen}
-use Rattle.domain_core.specs.Steps.{Did, done, receives_ended}
-use Rattle.domain_core.proofs.Stepping.{quiet-moved, quiet-peers}
-use Rattle.domain_core.proofs.TurnSteps.{receives_ended-keeps}
-use Rattle.domain_core.proofs.holdings.Holdings.end_receives.Given.{Over}
-use Rattle.domain_core.proofs.holdings.Holdings.end_receives.Goals as goal
+use Rattle.domain_parts.specs.LaneSeen.{LaneSeen}
+use Rattle.domain_parts.specs.declared.holdings.Holdings.TheInside.{Inside}
+use Rattle.domain_parts.specs.Parts.{Holding, Parts, Sound, holding_in, parts_in, peers_seen}
+use Rattle.domain_parts.specs.Steps.{Did, done, receives_ended}
+use Rattle.domain_parts.proofs.Stepping.{quiet-moved, quiet-peers}
+use Rattle.domain_parts.proofs.TurnSteps.{receives_ended-keeps}
+use Rattle.domain_parts.proofs.holdings.Holdings.end_receives.Given.{Over}
+use Rattle.domain_parts.proofs.holdings.Holdings.end_receives.Goals as goal
 
 abbrev v : (g : Over) → (g.row.P.Denot → LaneSeen)
 v g = g.P.PeerLane.seen

@@ -1,9 +1,9 @@
-use Rattle.domain_core.proofs.Lending.{packet_at_place_in}
-use Rattle.domain_core.specs.Records.{with_last_lent}
+use Rattle.domain_parts.proofs.Lending.{packet_at_place_in}
+use Rattle.domain_parts.specs.Records.{with_last_lent}
 use Rattle.mc_base.specs.declared.name.Local.{Local}
 use Rattle.mc_base.specs.declared.request.RequestId.{RequestId}
 use Rattle.mc_base.specs.declared.request.PacketId.{PacketId}
-use Rattle.domain_core.proofs.LendingMeaning.{some-of, tested-room, book-lent, packet-answer, packet-means, packet_ended-keeps}
+use Rattle.domain_parts.proofs.LendingMeaning.{some-of, tested-room, book-lent, packet-answer, packet-means, packet_ended-keeps}
 use Rattle.request_set.specs.declared.ask.Complete.{Complete}
 use Rattle.std.proofs.Common.{rules, ◌≡◌, ◌∙◌, ◌∷◌, [], ℕ, List, length, take, ap, sym, refl, subst, Some, None, Option, ◌<◌}
 use Rattle.std.specs.Prelude.{Err, Ok}
@@ -18,26 +18,26 @@ use Rattle.board_model.specs.Unnamed.{unnamed}
 use Rattle.buffer_book.specs.Book.{queued_at, kept_at, Book, IsQueued, Kept}
 use Rattle.request_set.specs.declared.ask.Complete.TheVariants as complete
 use Rattle.request_set.specs.Requests.{Requests, progress_of, without_request}
-use Rattle.domain_core.specs.LaneSeen.{LaneSeen}
-use Rattle.domain_core.specs.declared.holdings.Holdings.TheInside.{Inside}
-use Rattle.domain_core.specs.Calls.{result_of_done, tested, brings_whole, LendsLast}
-use Rattle.domain_core.specs.CallSteps.{Acts, ending, how_held, Means}
-use Rattle.domain_core.specs.DomainView.{place_of_id, packet_lent_as, place_of_packet_id}
-use Rattle.domain_core.specs.GivingBack.{GivesBack, IsOutAt}
-use Rattle.domain_core.specs.InBook.{content_in}
-use Rattle.domain_core.specs.InRequests.{handed_slots, AreReceives}
-use Rattle.domain_core.specs.Parts.{Holding, Parts, Sound, holding_in, parts_in, peers_seen, plain, shown, state_of}
-use Rattle.domain_core.specs.Steps.{Did, done, message_ended, request_ended, Step, without_at, next_lent, packet_ended}
-use Rattle.domain_core.proofs.Unnaming.{lent-brings}
-use Rattle.domain_core.proofs.Ending.{held-message, ids_in, quiet-items, quiet-lends, quiet-result, quiet-same, quiet-slots, test-complete, test-done, test-refused, tested-fewer, tested-items, tested-lends, tested-result, packet-fewer, held-packet, by, left-receives, packet-request, request_for}
-use Rattle.domain_core.proofs.GivingLemmas.{given-length}
-use Rattle.domain_core.proofs.Meaning.{gone-there, held-there, quiet-means, tested-means}
-use Rattle.domain_core.proofs.Placed.{HasMore}
-use Rattle.domain_core.proofs.Queuing.{content-of}
-use Rattle.domain_core.proofs.Receiving.{content-fits, held-out, held-queued, quiet-sound, tested-sound}
-use Rattle.domain_core.proofs.Stepping.{Any, acts-done, acts-refused, given-moved, given-seen, gives-seen, out-unseen, quiet-moved, quiet-peers}
-use Rattle.domain_core.proofs.holdings.Holdings.end_request.Given.{Over}
-use Rattle.domain_core.proofs.holdings.Holdings.end_request.Goals as goal
+use Rattle.domain_parts.specs.LaneSeen.{LaneSeen}
+use Rattle.domain_parts.specs.declared.holdings.Holdings.TheInside.{Inside}
+use Rattle.domain_parts.specs.Calls.{result_of_done, tested, brings_whole, LendsLast}
+use Rattle.domain_parts.specs.CallSteps.{Acts, ending, how_held, Means}
+use Rattle.domain_parts.specs.DomainView.{place_of_id, packet_lent_as, place_of_packet_id}
+use Rattle.domain_parts.specs.GivingBack.{GivesBack, IsOutAt}
+use Rattle.domain_parts.specs.InBook.{content_in}
+use Rattle.domain_parts.specs.InRequests.{handed_slots, AreReceives}
+use Rattle.domain_parts.specs.Parts.{Holding, Parts, Sound, holding_in, parts_in, peers_seen, plain, shown, state_of}
+use Rattle.domain_parts.specs.Steps.{Did, done, message_ended, request_ended, Step, without_at, next_lent, packet_ended}
+use Rattle.domain_parts.proofs.Unnaming.{lent-brings}
+use Rattle.domain_parts.proofs.Ending.{held-message, ids_in, quiet-items, quiet-lends, quiet-result, quiet-same, quiet-slots, test-complete, test-done, test-refused, tested-fewer, tested-items, tested-lends, tested-result, packet-fewer, held-packet, by, left-receives, packet-request, request_for}
+use Rattle.domain_parts.proofs.GivingLemmas.{given-length}
+use Rattle.domain_parts.proofs.Meaning.{gone-there, held-there, quiet-means, tested-means}
+use Rattle.domain_parts.proofs.Placed.{HasMore}
+use Rattle.domain_parts.proofs.Queuing.{content-of}
+use Rattle.domain_parts.proofs.Receiving.{content-fits, held-out, held-queued, quiet-sound, tested-sound}
+use Rattle.domain_parts.proofs.Stepping.{Any, acts-done, acts-refused, given-moved, given-seen, gives-seen, out-unseen, quiet-moved, quiet-peers}
+use Rattle.domain_parts.proofs.holdings.Holdings.end_request.Given.{Over}
+use Rattle.domain_parts.proofs.holdings.Holdings.end_request.Goals as goal
 
 abbrev v : (g : Over) → (g.row.P.Denot → LaneSeen)
 v g = g.P.PeerLane.seen

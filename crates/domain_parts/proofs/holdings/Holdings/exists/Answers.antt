@@ -4,11 +4,11 @@ use Rattle.board_model.specs.Answer.{stands_at}
 use Rattle.board_model.specs.Unnamed.{no_names}
 use Rattle.request_set.specs.Requests.{Standing, request_of}
 use Rattle.request_set.specs.declared.ask.Ask.{Ask}
-use Rattle.domain_core.specs.DomainView.{place_of_id}
-use Rattle.domain_core.specs.Parts.{Holding, holding_in, shown, state_of}
-use Rattle.domain_core.proofs.WaitPlaces.{some-map, stands-at}
+use Rattle.domain_parts.specs.DomainView.{place_of_id}
+use Rattle.domain_parts.specs.Parts.{Holding, holding_in, shown, state_of}
+use Rattle.domain_parts.proofs.WaitPlaces.{some-map, stands-at}
 use Rattle.board_model.proofs.RenamedCalls.{stands-renamed}
-use Rattle.domain_core.proofs.holdings.Holdings.exists.Goals as goal
+use Rattle.domain_parts.proofs.holdings.Holdings.exists.Goals as goal
 
 pub returns : goal.returns
 returns g c =

@@ -3,12 +3,12 @@ use Rattle.board_model.specs.Answer.{is_complete_at}
 use Rattle.board_model.specs.Unnamed.{no_names, unnamed}
 use Rattle.board_model.proofs.ListsMapped.{position-alike}
 use Rattle.board_model.proofs.RenamedCalls.{complete-renamed}
-use Rattle.domain_core.specs.Awaiting.{first_complete_in, places_named}
-use Rattle.domain_core.specs.CallSteps.{Rests}
-use Rattle.domain_core.specs.Parts.{Holding, holding_in, shown, state_of}
-use Rattle.domain_core.proofs.Stepping.{quiet-moved}
-use Rattle.domain_core.proofs.WaitPlaces.{first-done, some-within}
-use Rattle.domain_core.proofs.holdings.Holdings.first_done.Goals as goal
+use Rattle.domain_parts.specs.Awaiting.{first_complete_in, places_named}
+use Rattle.domain_parts.specs.CallSteps.{Rests}
+use Rattle.domain_parts.specs.Parts.{Holding, holding_in, shown, state_of}
+use Rattle.domain_parts.proofs.Stepping.{quiet-moved}
+use Rattle.domain_parts.proofs.WaitPlaces.{first-done, some-within}
+use Rattle.domain_parts.proofs.holdings.Holdings.first_done.Goals as goal
 
 pub returns : goal.returns
 returns g c =

@@ -2,11 +2,11 @@ use Rattle.std.proofs.Common.{◌≡◌, ◌<◌, ◌∙◌, ap, sym, subst, len
 use Rattle.std.specs.Prelude.{option_map, position, unwrap_or, ◌==◌}
 use Rattle.board_model.specs.State as state
 use Rattle.board_model.specs.State.{free_to}
-use Rattle.domain_core.specs.Parts.{state_of}
-use Rattle.domain_core.proofs.PeerPlaces.{free-there, no-peer-in}
-use Rattle.domain_core.proofs.Stepping.{state-seen}
-use Rattle.domain_core.proofs.Tables.{slice_get-read}
-use Rattle.domain_core.proofs.holdings.Holdings.free_to.Goals as goal
+use Rattle.domain_parts.specs.Parts.{state_of}
+use Rattle.domain_parts.proofs.PeerPlaces.{free-there, no-peer-in}
+use Rattle.domain_parts.proofs.Stepping.{state-seen}
+use Rattle.domain_parts.proofs.Tables.{slice_get-read}
+use Rattle.domain_parts.proofs.holdings.Holdings.free_to.Goals as goal
 
 pub returns-in_default : goal.returns-in_default
 returns-in_default g c =

@@ -5,14 +5,14 @@ use Rattle.mc_base.specs.declared.request.Slot.{Slot}
 use Rattle.board_model.specs.Choice.{oldest}
 use Rattle.board_model.specs.State.{Item, place_at, queue_at}
 use Rattle.buffer_book.specs.Book.{queued_at, kept_at}
-use Rattle.domain_core.specs.Parts.{Holding, Parts, parts_in, state_of}
-use Rattle.domain_core.specs.Records.{slots_at}
-use Rattle.domain_core.specs.declared.holdings.Holdings.TheInside.{Inside}
-use Rattle.domain_core.proofs.DataMeaning.{no-oldest, oldest-there}
-use Rattle.domain_core.proofs.Queuing.{content-of}
-use Rattle.domain_core.proofs.Steps.{oldest_dropped-left, oldest_dropped-queued}
-use Rattle.domain_core.proofs.holdings.Holdings.front.Given.{Over}
-use Rattle.domain_core.proofs.holdings.Holdings.front.Goals as goal
+use Rattle.domain_parts.specs.Parts.{Holding, Parts, parts_in, state_of}
+use Rattle.domain_parts.specs.Records.{slots_at}
+use Rattle.domain_parts.specs.declared.holdings.Holdings.TheInside.{Inside}
+use Rattle.domain_parts.proofs.DataMeaning.{no-oldest, oldest-there}
+use Rattle.domain_parts.proofs.Queuing.{content-of}
+use Rattle.domain_parts.proofs.Steps.{oldest_dropped-left, oldest_dropped-queued}
+use Rattle.domain_parts.proofs.holdings.Holdings.front.Given.{Over}
+use Rattle.domain_parts.proofs.holdings.Holdings.front.Goals as goal
 
 abbrev p : (g : Over) → Inside g.row.P.Denot → Parts
 p g d = parts_in g.P.PeerLane.seen d.book d.endpoints d.requests d.table d.peers.items

@@ -2,9 +2,9 @@ use Rattle.std.proofs.Common.{◌≡◌, ◌∙◌, ℕ, Option, Some, ap, sym, 
 use Rattle.std.specs.Prelude.{option_and_then, slice_get}
 use Rattle.board_model.specs.Answer.{has_channel}
 use Rattle.board_model.specs.State.{endpoint_at, place_at}
-use Rattle.domain_core.specs.Parts.{Holding, parts_in, state_of}
-use Rattle.domain_core.proofs.Tables.{has-there}
-use Rattle.domain_core.proofs.holdings.Holdings.has_channel.Goals as goal
+use Rattle.domain_parts.specs.Parts.{Holding, parts_in, state_of}
+use Rattle.domain_parts.proofs.Tables.{has-there}
+use Rattle.domain_parts.proofs.holdings.Holdings.has_channel.Goals as goal
 
 pub returns : goal.returns
 returns g c =

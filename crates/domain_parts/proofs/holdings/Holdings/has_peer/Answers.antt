@@ -1,11 +1,11 @@
 use Rattle.std.proofs.Common.{◌∙◌, ap, subst, ◌≡◌, is_some}
 use Rattle.std.specs.Prelude.{position, ◌==◌}
 use Rattle.board_model.specs.State.{is_numbered, place_of_peer}
-use Rattle.domain_core.specs.Parts.{state_of}
-use Rattle.domain_core.specs.Peers.{peer_in}
-use Rattle.domain_core.proofs.Stepping.{state-seen}
-use Rattle.domain_core.proofs.Tables.{position-map}
-use Rattle.domain_core.proofs.holdings.Holdings.has_peer.Goals as goal
+use Rattle.domain_parts.specs.Parts.{state_of}
+use Rattle.domain_parts.specs.Peers.{peer_in}
+use Rattle.domain_parts.proofs.Stepping.{state-seen}
+use Rattle.domain_parts.proofs.Tables.{position-map}
+use Rattle.domain_parts.proofs.holdings.Holdings.has_peer.Goals as goal
 
 pub returns-clause-peer : goal.returns-clause-peer
 returns-clause-peer g c =

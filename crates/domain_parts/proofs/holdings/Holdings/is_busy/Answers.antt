@@ -3,12 +3,12 @@ use Rattle.std.specs.Prelude.{not, option_map, ◌==◌, ◌||◌}
 use Rattle.mc_base.specs.declared.name.Local.{Local}
 use Rattle.board_model.specs.State.{one_waits, place_at, queue_at}
 use Rattle.request_set.specs.Requests.{oldest_waiting}
-use Rattle.domain_core.specs.declared.endpoints.Endpoint.{Endpoint}
-use Rattle.domain_core.specs.Parts.{Holding, Parts, parts_in, plain, state_of}
-use Rattle.domain_core.specs.Records.{waiting_in}
-use Rattle.domain_core.proofs.Channels.{queued-so, waits-so}
-use Rattle.domain_core.proofs.Removing.{the}
-use Rattle.domain_core.proofs.holdings.Holdings.is_busy.Goals as goal
+use Rattle.domain_parts.specs.declared.endpoints.Endpoint.{Endpoint}
+use Rattle.domain_parts.specs.Parts.{Holding, Parts, parts_in, plain, state_of}
+use Rattle.domain_parts.specs.Records.{waiting_in}
+use Rattle.domain_parts.proofs.Channels.{queued-so, waits-so}
+use Rattle.domain_parts.proofs.Removing.{the}
+use Rattle.domain_parts.proofs.holdings.Holdings.is_busy.Goals as goal
 
 some-is : {X : Type 0} {x y : X} → Some x ≡ Some y → x ≡ y
 some-is e = cc

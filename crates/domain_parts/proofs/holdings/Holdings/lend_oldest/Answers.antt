@@ -4,16 +4,16 @@ use Rattle.mc_base.specs.declared.request.PacketId.{PacketId}
 use Rattle.mc_base.specs.declared.request.Slot.{Slot}
 use Rattle.board_model.specs.Choice.{oldest}
 use Rattle.message_queue.specs.Queue.{Waiting}
-use Rattle.domain_core.specs.LaneSeen.{LaneSeen}
-use Rattle.domain_core.specs.declared.holdings.Holdings.TheInside.{Inside}
-use Rattle.domain_core.specs.Parts.{Holding, Parts, Sound, holding_in, parts_in, peers_seen}
-use Rattle.domain_core.specs.Records.{Records, slots_at, waiting_in, with_last_lent}
-use Rattle.domain_core.specs.Steps.{Did, done, next_lent, oldest_lent}
-use Rattle.domain_core.proofs.LendingMeaning.{book-lent, oldest_lent-keeps, room-left}
-use Rattle.domain_core.proofs.Steps.{oldest_dropped-left, oldest_dropped-queued}
-use Rattle.domain_core.proofs.Stepping.{quiet-moved, quiet-peers}
-use Rattle.domain_core.proofs.holdings.Holdings.lend_oldest.Given.{Over}
-use Rattle.domain_core.proofs.holdings.Holdings.lend_oldest.Goals as goal
+use Rattle.domain_parts.specs.LaneSeen.{LaneSeen}
+use Rattle.domain_parts.specs.declared.holdings.Holdings.TheInside.{Inside}
+use Rattle.domain_parts.specs.Parts.{Holding, Parts, Sound, holding_in, parts_in, peers_seen}
+use Rattle.domain_parts.specs.Records.{Records, slots_at, waiting_in, with_last_lent}
+use Rattle.domain_parts.specs.Steps.{Did, done, next_lent, oldest_lent}
+use Rattle.domain_parts.proofs.LendingMeaning.{book-lent, oldest_lent-keeps, room-left}
+use Rattle.domain_parts.proofs.Steps.{oldest_dropped-left, oldest_dropped-queued}
+use Rattle.domain_parts.proofs.Stepping.{quiet-moved, quiet-peers}
+use Rattle.domain_parts.proofs.holdings.Holdings.lend_oldest.Given.{Over}
+use Rattle.domain_parts.proofs.holdings.Holdings.lend_oldest.Goals as goal
 
 abbrev v : (g : Over) → (g.row.P.Denot → LaneSeen)
 v g = g.P.PeerLane.seen

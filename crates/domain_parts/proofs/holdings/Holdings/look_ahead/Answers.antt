@@ -4,19 +4,19 @@ use Rattle.std.specs.Prelude.{slice_set}
 use Rattle.lane_end.specs.ReceiveMoves as receiving
 use Rattle.board_model.specs.Deeds.{looks_ahead}
 use Rattle.board_model.specs.State.{held_from}
-use Rattle.domain_core.specs.LaneMoves.{receiver}
-use Rattle.domain_core.specs.LaneSeen.{LaneSeen}
-use Rattle.domain_core.specs.declared.peer.Peer.{Peer}
-use Rattle.domain_core.specs.declared.holdings.Holdings.TheInside.{Inside}
-use Rattle.domain_core.specs.Doing.{Doing}
-use Rattle.domain_core.specs.Parts.{Holding, Parts, Sound, holding_in, parts_in, peer_at, peer_seen, peers_seen, state_of}
-use Rattle.domain_core.specs.Steps.{at_peer, moved_peer, looked_ahead}
-use Rattle.domain_core.proofs.TurnMeaning.{looked_ahead-is}
-use Rattle.domain_core.proofs.TurnSteps.{looked_ahead-keeps}
-use Rattle.domain_core.proofs.Turning.{doing-by, held-out, peer-is, peers-are, seen-there, there-read}
-use Rattle.domain_core.proofs.Storing.{keeps-none}
-use Rattle.domain_core.proofs.holdings.Holdings.look_ahead.Given.{Over}
-use Rattle.domain_core.proofs.holdings.Holdings.look_ahead.Goals as goal
+use Rattle.domain_parts.specs.LaneMoves.{receiver}
+use Rattle.domain_parts.specs.LaneSeen.{LaneSeen}
+use Rattle.domain_parts.specs.declared.peer.Peer.{Peer}
+use Rattle.domain_parts.specs.declared.holdings.Holdings.TheInside.{Inside}
+use Rattle.domain_parts.specs.Doing.{Doing}
+use Rattle.domain_parts.specs.Parts.{Holding, Parts, Sound, holding_in, parts_in, peer_at, peer_seen, peers_seen, state_of}
+use Rattle.domain_parts.specs.Steps.{at_peer, moved_peer, looked_ahead}
+use Rattle.domain_parts.proofs.TurnMeaning.{looked_ahead-is}
+use Rattle.domain_parts.proofs.TurnSteps.{looked_ahead-keeps}
+use Rattle.domain_parts.proofs.Turning.{doing-by, held-out, peer-is, peers-are, seen-there, there-read}
+use Rattle.domain_parts.proofs.Storing.{keeps-none}
+use Rattle.domain_parts.proofs.holdings.Holdings.look_ahead.Given.{Over}
+use Rattle.domain_parts.proofs.holdings.Holdings.look_ahead.Goals as goal
 
 abbrev v : (g : Over) → (g.row.P.Denot → LaneSeen)
 v g = g.P.PeerLane.seen

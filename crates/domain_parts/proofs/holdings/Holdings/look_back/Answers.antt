@@ -3,22 +3,22 @@ use Rattle.std.specs.Prelude.{slice_get}
 use Rattle.std.specs.Prelude.{slice_set}
 use Rattle.lane_end.specs.SendMoves.{Looked}
 use Rattle.board_model.specs.Deeds.{looks_back}
-use Rattle.domain_core.specs.LaneMoves.{sender}
-use Rattle.domain_core.specs.LaneSeen.{LaneSeen}
-use Rattle.domain_core.specs.declared.holdings.Holdings.TheInside.{Inside}
+use Rattle.domain_parts.specs.LaneMoves.{sender}
+use Rattle.domain_parts.specs.LaneSeen.{LaneSeen}
+use Rattle.domain_parts.specs.declared.holdings.Holdings.TheInside.{Inside}
 use Rattle.board_model.specs.State.{owed_to}
-use Rattle.domain_core.specs.declared.peer.Peer.{Peer}
-use Rattle.domain_core.specs.Peers.{peer_in}
-use Rattle.domain_core.specs.Doing.{Doing, owed_at}
-use Rattle.domain_core.specs.Parts.{Holding, Parts, Sound, holding_in, parts_in, peer_at, peer_seen, peers_seen, plain}
-use Rattle.domain_core.specs.Steps.{at_peer, moved_peer, looked_back}
-use Rattle.domain_core.proofs.Owing.{set-peer}
-use Rattle.domain_core.proofs.TurnMeaning.{looked_back-is}
-use Rattle.domain_core.proofs.TurnSteps.{looked_back-keeps}
-use Rattle.domain_core.proofs.Turning.{doing-by, peer-is, peers-are, seen-there, there-read}
-use Rattle.domain_core.proofs.Storing.{keeps-none}
-use Rattle.domain_core.proofs.holdings.Holdings.look_back.Given.{Over}
-use Rattle.domain_core.proofs.holdings.Holdings.look_back.Goals as goal
+use Rattle.domain_parts.specs.declared.peer.Peer.{Peer}
+use Rattle.domain_parts.specs.Peers.{peer_in}
+use Rattle.domain_parts.specs.Doing.{Doing, owed_at}
+use Rattle.domain_parts.specs.Parts.{Holding, Parts, Sound, holding_in, parts_in, peer_at, peer_seen, peers_seen, plain}
+use Rattle.domain_parts.specs.Steps.{at_peer, moved_peer, looked_back}
+use Rattle.domain_parts.proofs.Owing.{set-peer}
+use Rattle.domain_parts.proofs.TurnMeaning.{looked_back-is}
+use Rattle.domain_parts.proofs.TurnSteps.{looked_back-keeps}
+use Rattle.domain_parts.proofs.Turning.{doing-by, peer-is, peers-are, seen-there, there-read}
+use Rattle.domain_parts.proofs.Storing.{keeps-none}
+use Rattle.domain_parts.proofs.holdings.Holdings.look_back.Given.{Over}
+use Rattle.domain_parts.proofs.holdings.Holdings.look_back.Goals as goal
 
 abbrev v : (g : Over) → (g.row.P.Denot → LaneSeen)
 v g = g.P.PeerLane.seen

@@ -1,10 +1,10 @@
 use Rattle.std.proofs.Common.{◌∙◌, ap, sym, arith, sum_by}
 use Rattle.board_model.specs.Queues.{messages_at}
-use Rattle.domain_core.specs.Parts.{peers_seen, plain, state_of}
+use Rattle.domain_parts.specs.Parts.{peers_seen, plain, state_of}
 use Rattle.board_model.proofs.UnnamedCounts.{messages-unnamed}
-use Rattle.domain_core.proofs.CountsFrom.{waiting-fits}
-use Rattle.domain_core.proofs.Waits.{messages-in}
-use Rattle.domain_core.proofs.holdings.Holdings.messages_queued.Goals as goal
+use Rattle.domain_parts.proofs.CountsFrom.{waiting-fits}
+use Rattle.domain_parts.proofs.Waits.{messages-in}
+use Rattle.domain_parts.proofs.holdings.Holdings.messages_queued.Goals as goal
 
 pub queued-requires : goal.queued-requires
 queued-requires g c =

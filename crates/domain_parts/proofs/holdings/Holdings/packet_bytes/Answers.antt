@@ -2,13 +2,13 @@ use Rattle.std.proofs.Common.{◌≡◌, ◌≤◌, ◌∙◌, ℕ, true, false,
 use Rattle.std.specs.Prelude.{IsNone, option_map}
 use Rattle.board_model.specs.State.{LentPacket}
 use Rattle.buffer_book.specs.Book.{Kept, content, lent_as}
-use Rattle.domain_core.specs.declared.holdings.Holdings.TheInside.{Inside}
-use Rattle.domain_core.specs.DomainView.{packet_lent_as, place_of_packet_id}
-use Rattle.domain_core.specs.Parts.{Holding, Parts, parts_in, shown, state_of}
-use Rattle.domain_core.proofs.Unnaming.{lent-content, none-lent}
-use Rattle.domain_core.proofs.Releasing.{lent-short, lent-told, none-told}
-use Rattle.domain_core.proofs.holdings.Holdings.packet_bytes.Given.{Over}
-use Rattle.domain_core.proofs.holdings.Holdings.packet_bytes.Goals as goal
+use Rattle.domain_parts.specs.declared.holdings.Holdings.TheInside.{Inside}
+use Rattle.domain_parts.specs.DomainView.{packet_lent_as, place_of_packet_id}
+use Rattle.domain_parts.specs.Parts.{Holding, Parts, parts_in, shown, state_of}
+use Rattle.domain_parts.proofs.Unnaming.{lent-content, none-lent}
+use Rattle.domain_parts.proofs.Releasing.{lent-short, lent-told, none-told}
+use Rattle.domain_parts.proofs.holdings.Holdings.packet_bytes.Given.{Over}
+use Rattle.domain_parts.proofs.holdings.Holdings.packet_bytes.Goals as goal
 
 abbrev p : (g : Over) → Inside g.row.P.Denot → Parts
 p g d = parts_in g.P.PeerLane.seen d.book d.endpoints d.requests d.table d.peers.items

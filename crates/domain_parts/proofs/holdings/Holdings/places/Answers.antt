@@ -1,17 +1,17 @@
 use Rattle.std.proofs.Common.{◌≡◌, ◌∙◌, ◌+◌, ap, sym, refl, subst, arith, map, ℕ, List, Option, Some, None, true, false, is_some}
 use Rattle.std.specs.Prelude.{Contains, IsNone, count_by, position, ◌==◌}
 use Rattle.board_model.specs.State.{lent_from, queued_from}
-use Rattle.domain_core.specs.Parts.{state_of}
-use Rattle.domain_core.proofs.Stepping.{sound-unseen, state-seen}
-use Rattle.domain_core.specs.InPlaces.{is_of}
-use Rattle.domain_core.specs.InRequests.{handed_slots}
-use Rattle.domain_core.specs.Records.{all_waiting}
-use Rattle.domain_core.proofs.CountsFrom.{both-are, held-few, kept-from, lent-are, lent-within, lent-is, queued-is}
-use Rattle.domain_core.proofs.PeerPlaces.{contained-found, found-contained, number-place, numbers-in}
-use Rattle.domain_core.proofs.Slots.{slots}
-use Rattle.domain_core.proofs.holdings.Holdings.places.Given.{Over}
+use Rattle.domain_parts.specs.Parts.{state_of}
+use Rattle.domain_parts.proofs.Stepping.{sound-unseen, state-seen}
+use Rattle.domain_parts.specs.InPlaces.{is_of}
+use Rattle.domain_parts.specs.InRequests.{handed_slots}
+use Rattle.domain_parts.specs.Records.{all_waiting}
+use Rattle.domain_parts.proofs.CountsFrom.{both-are, held-few, kept-from, lent-are, lent-within, lent-is, queued-is}
+use Rattle.domain_parts.proofs.PeerPlaces.{contained-found, found-contained, number-place, numbers-in}
+use Rattle.domain_parts.proofs.Slots.{slots}
+use Rattle.domain_parts.proofs.holdings.Holdings.places.Given.{Over}
 use Rattle.board_model.proofs.UnnamedCounts.{lent-unnamed, queued-unnamed}
-use Rattle.domain_core.proofs.holdings.Holdings.places.Goals as goal
+use Rattle.domain_parts.proofs.holdings.Holdings.places.Goals as goal
 
 absurd-no : true ≡ false → ⊥
 absurd-no e = cc

@@ -1,10 +1,10 @@
 use Rattle.std.proofs.Common.{◌≡◌, rules, arith, sym, subst}
 use Rattle.std.specs.Prelude.{Err}
-use Rattle.domain_core.specs.Parts.{shown}
-use Rattle.domain_core.specs.Waiting.{Polled}
-use Rattle.domain_core.proofs.WaitSteps.{goes-on, no-turns, with-lines}
-use Rattle.domain_core.proofs.WaitEnds.{polled-none, polled-one, polled-out}
-use Rattle.domain_core.proofs.holdings.Holdings.poll.Goals as goal
+use Rattle.domain_parts.specs.Parts.{shown}
+use Rattle.domain_parts.specs.Waiting.{Polled}
+use Rattle.domain_parts.proofs.WaitSteps.{goes-on, no-turns, with-lines}
+use Rattle.domain_parts.proofs.WaitEnds.{polled-none, polled-one, polled-out}
+use Rattle.domain_parts.proofs.holdings.Holdings.poll.Goals as goal
 
 pub loop-init : goal.loop-init
 loop-init g c = record {

@@ -1,7 +1,7 @@
-use Rattle.domain_core.specs.CallSteps.{Rests}
-use Rattle.domain_core.specs.Parts.{shown}
-use Rattle.domain_core.proofs.WaitSteps.{Polling}
-use Rattle.domain_core.proofs.holdings.Holdings.poll.Given as goal
+use Rattle.domain_parts.specs.CallSteps.{Rests}
+use Rattle.domain_parts.specs.Parts.{shown}
+use Rattle.domain_parts.proofs.WaitSteps.{Polling}
+use Rattle.domain_parts.proofs.holdings.Holdings.poll.Given as goal
 
 abbrev pub invariant-loop : goal.invariant-loop
 invariant-loop g l = record {

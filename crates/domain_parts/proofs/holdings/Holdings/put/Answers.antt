@@ -3,18 +3,18 @@ use Rattle.std.specs.Prelude.{option_map, position, slice_set, unwrap_or, ◌==�
 use Rattle.board_model.specs.State as state
 use Rattle.board_model.specs.State.{free_to}
 use Rattle.lane_end.specs.SendMoves.{Sent}
-use Rattle.domain_core.specs.LaneSeen.{LaneSeen}
-use Rattle.domain_core.specs.declared.holdings.Holdings.TheInside.{Inside}
-use Rattle.domain_core.specs.LaneMoves.{sender}
-use Rattle.domain_core.specs.Parts.{Holding, Parts, Sound, holding_in, parts_in, peers_seen, state_of}
-use Rattle.domain_core.specs.Steps.{Did, all_moves, done, frame_put}
-use Rattle.domain_core.specs.AllMoved.{AllMoved, ends_of, numbers_of}
-use Rattle.domain_core.proofs.PeerPlaces.{free-there, no-peer-in, peer-at}
-use Rattle.domain_core.proofs.Steps.{frame_put-keeps}
-use Rattle.domain_core.proofs.Stepping.{one-moved, one-seen, state-seen}
-use Rattle.domain_core.proofs.Tables.{slice_get-read}
-use Rattle.domain_core.proofs.holdings.Holdings.put.Given.{Over}
-use Rattle.domain_core.proofs.holdings.Holdings.put.Goals as goal
+use Rattle.domain_parts.specs.LaneSeen.{LaneSeen}
+use Rattle.domain_parts.specs.declared.holdings.Holdings.TheInside.{Inside}
+use Rattle.domain_parts.specs.LaneMoves.{sender}
+use Rattle.domain_parts.specs.Parts.{Holding, Parts, Sound, holding_in, parts_in, peers_seen, state_of}
+use Rattle.domain_parts.specs.Steps.{Did, all_moves, done, frame_put}
+use Rattle.domain_parts.specs.AllMoved.{AllMoved, ends_of, numbers_of}
+use Rattle.domain_parts.proofs.PeerPlaces.{free-there, no-peer-in, peer-at}
+use Rattle.domain_parts.proofs.Steps.{frame_put-keeps}
+use Rattle.domain_parts.proofs.Stepping.{one-moved, one-seen, state-seen}
+use Rattle.domain_parts.proofs.Tables.{slice_get-read}
+use Rattle.domain_parts.proofs.holdings.Holdings.put.Given.{Over}
+use Rattle.domain_parts.proofs.holdings.Holdings.put.Goals as goal
 
 abbrev v : (g : Over) → (g.row.P.Denot → LaneSeen)
 v g = g.P.PeerLane.seen

@@ -5,23 +5,23 @@ use Rattle.board_model.specs.Deeds.{puts_owed}
 use Rattle.board_model.specs.Journal.{Line, put_line}
 use Rattle.endpoint_table.specs.Table.{Table, announcement_of, owed_to, owing_to}
 use Rattle.board_model.specs.State as state
-use Rattle.domain_core.specs.declared.peer.Peer.{Peer}
-use Rattle.domain_core.specs.declared.holdings.Holdings.TheInside.{Inside}
-use Rattle.domain_core.specs.Beginning.{beginning}
-use Rattle.domain_core.specs.Doing.{Puts}
-use Rattle.domain_core.specs.LaneMoves.{sender}
-use Rattle.domain_core.specs.LaneSeen.{LaneSeen}
-use Rattle.domain_core.specs.Owed.{owed_by, put_lines}
-use Rattle.domain_core.specs.Peers.{peer_in}
-use Rattle.domain_core.specs.Parts.{Holding, Parts, Sound, holding_in, parts_in, peer_at, peer_seen, plain}
-use Rattle.domain_core.specs.Steps.{done, owed_put}
-use Rattle.domain_core.proofs.Owing.{IsOldest, announced-owed, may-put, oldest-frame, set-peer}
-use Rattle.domain_core.proofs.Storing.{keeps-none}
-use Rattle.domain_core.proofs.TurnMeaning.{owed_put-is}
-use Rattle.domain_core.proofs.TurnSteps.{owed_put-keeps}
-use Rattle.domain_core.proofs.Turning.{doing-by, peer-is, peers-are, seen-there, there-read}
-use Rattle.domain_core.proofs.holdings.Holdings.put_announcement.Given.{Over}
-use Rattle.domain_core.proofs.holdings.Holdings.put_announcement.Goals as goal
+use Rattle.domain_parts.specs.declared.peer.Peer.{Peer}
+use Rattle.domain_parts.specs.declared.holdings.Holdings.TheInside.{Inside}
+use Rattle.domain_parts.specs.Beginning.{beginning}
+use Rattle.domain_parts.specs.Doing.{Puts}
+use Rattle.domain_parts.specs.LaneMoves.{sender}
+use Rattle.domain_parts.specs.LaneSeen.{LaneSeen}
+use Rattle.domain_parts.specs.Owed.{owed_by, put_lines}
+use Rattle.domain_parts.specs.Peers.{peer_in}
+use Rattle.domain_parts.specs.Parts.{Holding, Parts, Sound, holding_in, parts_in, peer_at, peer_seen, plain}
+use Rattle.domain_parts.specs.Steps.{done, owed_put}
+use Rattle.domain_parts.proofs.Owing.{IsOldest, announced-owed, may-put, oldest-frame, set-peer}
+use Rattle.domain_parts.proofs.Storing.{keeps-none}
+use Rattle.domain_parts.proofs.TurnMeaning.{owed_put-is}
+use Rattle.domain_parts.proofs.TurnSteps.{owed_put-keeps}
+use Rattle.domain_parts.proofs.Turning.{doing-by, peer-is, peers-are, seen-there, there-read}
+use Rattle.domain_parts.proofs.holdings.Holdings.put_announcement.Given.{Over}
+use Rattle.domain_parts.proofs.holdings.Holdings.put_announcement.Goals as goal
 
 abbrev v : (g : Over) → (g.row.P.Denot → LaneSeen)
 v g = g.P.PeerLane.seen

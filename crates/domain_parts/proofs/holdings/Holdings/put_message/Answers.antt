@@ -6,15 +6,15 @@ use Rattle.board_model.specs.Answer.{address_of, refusal, success_puts}
 use Rattle.board_model.specs.DomainCall.{send_from}
 use Rattle.board_model.specs.Journal.{agrees, noted_all}
 use Rattle.board_model.specs.Serial.{put_entry}
-use Rattle.domain_core.specs.Parts.{state_of}
-use Rattle.domain_core.specs.Steps.{Did, Step}
-use Rattle.domain_core.specs.CallSteps.{putting_all}
-use Rattle.domain_core.proofs.Calling.{puts-done}
-use Rattle.domain_core.proofs.Meaning.{send-means}
-use Rattle.domain_core.proofs.Steps.{free-place, not-zero}
-use Rattle.domain_core.proofs.Stepping.{acts-done}
-use Rattle.domain_core.proofs.holdings.Holdings.put_message.Given.{Over}
-use Rattle.domain_core.proofs.holdings.Holdings.put_message.Goals as goal
+use Rattle.domain_parts.specs.Parts.{state_of}
+use Rattle.domain_parts.specs.Steps.{Did, Step}
+use Rattle.domain_parts.specs.CallSteps.{putting_all}
+use Rattle.domain_parts.proofs.Calling.{puts-done}
+use Rattle.domain_parts.proofs.Meaning.{send-means}
+use Rattle.domain_parts.proofs.Steps.{free-place, not-zero}
+use Rattle.domain_parts.proofs.Stepping.{acts-done}
+use Rattle.domain_parts.proofs.holdings.Holdings.put_message.Given.{Over}
+use Rattle.domain_parts.proofs.holdings.Holdings.put_message.Goals as goal
 
 unrefused : (g : Over) (c : goal.After-put_letter g) → refusal (state_of c.args.self.now.parts) c.args.from.node (send_from c.args.from.port c.args.to c.args.priority c.args.bytes.now) ≡ None
 unrefused g c = search rules

@@ -4,13 +4,13 @@ use Rattle.std.proofs.lemmas.List.{length_push}
 use Rattle.board_model.specs.Deeds.{puts_owed}
 use Rattle.board_model.specs.Journal.{Line}
 use Rattle.mc_journal.specs.Written.{Written}
-use Rattle.domain_core.specs.Doing.{Puts, owed_at}
-use Rattle.domain_core.specs.LaneSeen.{LaneSeen}
-use Rattle.domain_core.specs.Parts.{Holding, peer_at}
-use Rattle.domain_core.specs.VisitMoves.{putting}
-use Rattle.domain_core.proofs.Owing.{Puts-more, all-due, eight-due, free-put, puts-none, some-put}
-use Rattle.domain_core.proofs.Turning.{did-numbers, doing-ends, same-length}
-use Rattle.domain_core.proofs.holdings.Holdings.put_owed.Goals as goal
+use Rattle.domain_parts.specs.Doing.{Puts, owed_at}
+use Rattle.domain_parts.specs.LaneSeen.{LaneSeen}
+use Rattle.domain_parts.specs.Parts.{Holding, peer_at}
+use Rattle.domain_parts.specs.VisitMoves.{putting}
+use Rattle.domain_parts.proofs.Owing.{Puts-more, all-due, eight-due, free-put, puts-none, some-put}
+use Rattle.domain_parts.proofs.Turning.{did-numbers, doing-ends, same-length}
+use Rattle.domain_parts.proofs.holdings.Holdings.put_owed.Goals as goal
 
 pub loop-init : goal.loop-init
 loop-init g c = record {

@@ -1,9 +1,9 @@
 use Rattle.std.proofs.Common.{◌≡◌, ◌≤◌, ◌+◌, ◌*◌, ℕ, List, length}
 use Rattle.std.specs.Prelude.{◌==◌, not, ◌||◌}
-use Rattle.domain_core.specs.Doing.{Puts}
-use Rattle.domain_core.specs.Owed.{room_for}
-use Rattle.domain_core.specs.Parts.{peer_at}
-use Rattle.domain_core.proofs.holdings.Holdings.put_owed.Given as goal
+use Rattle.domain_parts.specs.Doing.{Puts}
+use Rattle.domain_parts.specs.Owed.{room_for}
+use Rattle.domain_parts.specs.Parts.{peer_at}
+use Rattle.domain_parts.proofs.holdings.Holdings.put_owed.Given as goal
 
 abbrev pub invariant-loop : goal.invariant-loop
 invariant-loop g l = record {

@@ -8,14 +8,14 @@ use Rattle.board_model.specs.DomainCall.{raw_to}
 use Rattle.board_model.specs.Journal.{Line, agrees, noted_all}
 use Rattle.board_model.specs.Serial.{put_entry}
 use Rattle.board_model.specs.State.{DomainState, place_of_peer}
-use Rattle.domain_core.specs.Parts.{state_of}
-use Rattle.domain_core.proofs.Calling.{puts-done}
-use Rattle.domain_core.proofs.Meaning.{raw-means}
-use Rattle.domain_core.proofs.RawWords.{raw-done, raw-far, raw-full, raw-sound}
-use Rattle.domain_core.proofs.Steps.{free-place, not-zero}
-use Rattle.domain_core.proofs.Stepping.{acts-done, acts-refused}
-use Rattle.domain_core.proofs.holdings.Holdings.put_raw.Given.{Over}
-use Rattle.domain_core.proofs.holdings.Holdings.put_raw.Goals as goal
+use Rattle.domain_parts.specs.Parts.{state_of}
+use Rattle.domain_parts.proofs.Calling.{puts-done}
+use Rattle.domain_parts.proofs.Meaning.{raw-means}
+use Rattle.domain_parts.proofs.RawWords.{raw-done, raw-far, raw-full, raw-sound}
+use Rattle.domain_parts.proofs.Steps.{free-place, not-zero}
+use Rattle.domain_parts.proofs.Stepping.{acts-done, acts-refused}
+use Rattle.domain_parts.proofs.holdings.Holdings.put_raw.Given.{Over}
+use Rattle.domain_parts.proofs.holdings.Holdings.put_raw.Goals as goal
 
 -- ---- it is refused
 

@@ -12,17 +12,17 @@ use Rattle.board_model.specs.Journal.{agrees, noted_all}
 use Rattle.board_model.specs.Serial.{put_entry}
 use Rattle.board_model.specs.State.{ChannelEnd, place_at}
 use Rattle.packet_channel.specs.End.{end_of}
-use Rattle.domain_core.specs.Calls.{sent}
-use Rattle.domain_core.specs.CallSteps.{Acts, putting_all}
-use Rattle.domain_core.specs.Parts.{state_of}
-use Rattle.domain_core.specs.Steps.{Did, Step}
-use Rattle.domain_core.proofs.Calling.{puts-done}
-use Rattle.domain_core.proofs.Channels.{answered-none, answered-word, data-words, lacks-none, or_then}
-use Rattle.domain_core.proofs.DataMeaning.{data-means, data-puts}
-use Rattle.domain_core.proofs.Steps.{free-place, not-zero}
-use Rattle.domain_core.proofs.Stepping.{acts-done, acts-refused}
-use Rattle.domain_core.proofs.holdings.Holdings.put_scalar.Given.{Over}
-use Rattle.domain_core.proofs.holdings.Holdings.put_scalar.Goals as goal
+use Rattle.domain_parts.specs.Calls.{sent}
+use Rattle.domain_parts.specs.CallSteps.{Acts, putting_all}
+use Rattle.domain_parts.specs.Parts.{state_of}
+use Rattle.domain_parts.specs.Steps.{Did, Step}
+use Rattle.domain_parts.proofs.Calling.{puts-done}
+use Rattle.domain_parts.proofs.Channels.{answered-none, answered-word, data-words, lacks-none, or_then}
+use Rattle.domain_parts.proofs.DataMeaning.{data-means, data-puts}
+use Rattle.domain_parts.proofs.Steps.{free-place, not-zero}
+use Rattle.domain_parts.proofs.Stepping.{acts-done, acts-refused}
+use Rattle.domain_parts.proofs.holdings.Holdings.put_scalar.Given.{Over}
+use Rattle.domain_parts.proofs.holdings.Holdings.put_scalar.Goals as goal
 
 -- ---- a word of the end
 

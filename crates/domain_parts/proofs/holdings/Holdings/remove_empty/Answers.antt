@@ -1,16 +1,16 @@
 use Rattle.std.proofs.Common.{◌≡◌, ◌∙◌, ◌∷◌, [], Some, sym, refl, subst}
 use Rattle.std.specs.Prelude.{IsOk}
 use Rattle.board_model.specs.State.{place_at}
-use Rattle.domain_core.specs.LaneSeen.{LaneSeen}
-use Rattle.domain_core.specs.Records.{slots_at}
-use Rattle.domain_core.specs.declared.holdings.Holdings.TheInside.{Inside}
-use Rattle.domain_core.specs.Parts.{Holding, Parts, Sound, holding_in, parts_in, peers_seen, plain, state_of}
-use Rattle.domain_core.specs.Steps.{Did, done, endpoint_gone}
-use Rattle.domain_core.proofs.Removing.{delete-allowed}
-use Rattle.domain_core.proofs.Steps.{endpoint_gone-keeps, place-within}
-use Rattle.domain_core.proofs.Stepping.{quiet-moved, quiet-peers}
-use Rattle.domain_core.proofs.holdings.Holdings.remove_empty.Given.{Over}
-use Rattle.domain_core.proofs.holdings.Holdings.remove_empty.Goals as goal
+use Rattle.domain_parts.specs.LaneSeen.{LaneSeen}
+use Rattle.domain_parts.specs.Records.{slots_at}
+use Rattle.domain_parts.specs.declared.holdings.Holdings.TheInside.{Inside}
+use Rattle.domain_parts.specs.Parts.{Holding, Parts, Sound, holding_in, parts_in, peers_seen, plain, state_of}
+use Rattle.domain_parts.specs.Steps.{Did, done, endpoint_gone}
+use Rattle.domain_parts.proofs.Removing.{delete-allowed}
+use Rattle.domain_parts.proofs.Steps.{endpoint_gone-keeps, place-within}
+use Rattle.domain_parts.proofs.Stepping.{quiet-moved, quiet-peers}
+use Rattle.domain_parts.proofs.holdings.Holdings.remove_empty.Given.{Over}
+use Rattle.domain_parts.proofs.holdings.Holdings.remove_empty.Goals as goal
 
 abbrev v : (g : Over) → (g.row.P.Denot → LaneSeen)
 v g = g.P.PeerLane.seen

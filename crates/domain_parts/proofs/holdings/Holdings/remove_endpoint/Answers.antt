@@ -3,15 +3,15 @@ use Rattle.board_model.specs.Answer.{refusal}
 use Rattle.board_model.specs.DomainCall.{delete_at}
 use Rattle.board_model.specs.Journal.{tells}
 use Rattle.board_model.specs.State.{place_at}
-use Rattle.domain_core.specs.Records.{slots_at}
-use Rattle.domain_core.specs.Parts.{Parts, state_of}
-use Rattle.domain_core.specs.Steps.{Did, endpoint_gone}
-use Rattle.domain_core.specs.CallSteps.{drops, if_some}
-use Rattle.domain_core.proofs.Dropping.{delete-means}
-use Rattle.domain_core.proofs.Steps.{drops-place, queue-long}
-use Rattle.domain_core.proofs.Stepping.{acts-done, did-then}
-use Rattle.domain_core.proofs.holdings.Holdings.remove_endpoint.Given.{Over}
-use Rattle.domain_core.proofs.holdings.Holdings.remove_endpoint.Goals as goal
+use Rattle.domain_parts.specs.Records.{slots_at}
+use Rattle.domain_parts.specs.Parts.{Parts, state_of}
+use Rattle.domain_parts.specs.Steps.{Did, endpoint_gone}
+use Rattle.domain_parts.specs.CallSteps.{drops, if_some}
+use Rattle.domain_parts.proofs.Dropping.{delete-means}
+use Rattle.domain_parts.proofs.Steps.{drops-place, queue-long}
+use Rattle.domain_parts.proofs.Stepping.{acts-done, did-then}
+use Rattle.domain_parts.proofs.holdings.Holdings.remove_endpoint.Given.{Over}
+use Rattle.domain_parts.proofs.holdings.Holdings.remove_endpoint.Goals as goal
 
 pub remove_empty-requires-clause-there : goal.remove_empty-requires-clause-there
 remove_empty-requires-clause-there g c =

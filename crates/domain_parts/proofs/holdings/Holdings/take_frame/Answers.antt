@@ -7,20 +7,20 @@ use Rattle.board_model.specs.Journal.{take_line}
 use Rattle.buffer_book.specs.Book.{queued_in, with_queued}
 use Rattle.message_queue.specs.Queue.{waiting}
 use Rattle.request_set.specs.declared.ask.Complete.{Complete}
-use Rattle.domain_core.specs.InRequests.{handed_by}
+use Rattle.domain_parts.specs.InRequests.{handed_by}
 use Rattle.request_set.specs.Requests.{IsPending, with_complete}
-use Rattle.domain_core.specs.declared.holdings.Holdings.TheInside.{Inside}
-use Rattle.domain_core.specs.Doing.{Takes}
-use Rattle.domain_core.specs.InBook.{endpoint_in}
-use Rattle.domain_core.specs.InPlaces.{slot_at}
-use Rattle.domain_core.specs.LaneSeen.{LaneSeen}
-use Rattle.domain_core.specs.Parts.{Holding, Parts, holding_in, parts_in, state_of}
-use Rattle.domain_core.specs.Records.{with_waiting_at, all_waiting}
-use Rattle.domain_core.specs.Verdicts.{Desk, IsVerdict, desk, fate_of}
-use Rattle.domain_core.proofs.Taking.{away-slot, back-keeps, back-takes, given-out, handed-keeps, handed-takes, queued-keeps, queued-takes, room-left, shows}
-use Rattle.domain_core.proofs.Turning.{there-read}
-use Rattle.domain_core.proofs.holdings.Holdings.take_frame.Given.{Over}
-use Rattle.domain_core.proofs.holdings.Holdings.take_frame.Goals as goal
+use Rattle.domain_parts.specs.declared.holdings.Holdings.TheInside.{Inside}
+use Rattle.domain_parts.specs.Doing.{Takes}
+use Rattle.domain_parts.specs.InBook.{endpoint_in}
+use Rattle.domain_parts.specs.InPlaces.{slot_at}
+use Rattle.domain_parts.specs.LaneSeen.{LaneSeen}
+use Rattle.domain_parts.specs.Parts.{Holding, Parts, holding_in, parts_in, state_of}
+use Rattle.domain_parts.specs.Records.{with_waiting_at, all_waiting}
+use Rattle.domain_parts.specs.Verdicts.{Desk, IsVerdict, desk, fate_of}
+use Rattle.domain_parts.proofs.Taking.{away-slot, back-keeps, back-takes, given-out, handed-keeps, handed-takes, queued-keeps, queued-takes, room-left, shows}
+use Rattle.domain_parts.proofs.Turning.{there-read}
+use Rattle.domain_parts.proofs.holdings.Holdings.take_frame.Given.{Over}
+use Rattle.domain_parts.proofs.holdings.Holdings.take_frame.Goals as goal
 
 abbrev v : (g : Over) → (g.row.P.Denot → LaneSeen)
 v g = g.P.PeerLane.seen

@@ -1,12 +1,12 @@
 use Rattle.std.proofs.Common.{◌∙◌, ap, arith, sym}
 use Rattle.board_model.specs.Turn.{takes_named}
-use Rattle.domain_core.specs.LaneSeen.{LaneSeen}
-use Rattle.domain_core.specs.NumberedDeeds.{number_in}
-use Rattle.domain_core.specs.Parts.{peer_at}
-use Rattle.domain_core.specs.VisitMoves.{taking}
-use Rattle.domain_core.proofs.Turning.{did-numbers, doing-ends, same-length}
-use Rattle.domain_core.proofs.Visiting.{Takes-more, Takes-none, taken-shown}
-use Rattle.domain_core.proofs.holdings.Holdings.take_frames.Goals as goal
+use Rattle.domain_parts.specs.LaneSeen.{LaneSeen}
+use Rattle.domain_parts.specs.NumberedDeeds.{number_in}
+use Rattle.domain_parts.specs.Parts.{peer_at}
+use Rattle.domain_parts.specs.VisitMoves.{taking}
+use Rattle.domain_parts.proofs.Turning.{did-numbers, doing-ends, same-length}
+use Rattle.domain_parts.proofs.Visiting.{Takes-more, Takes-none, taken-shown}
+use Rattle.domain_parts.proofs.holdings.Holdings.take_frames.Goals as goal
 
 pub loop-init : goal.loop-init
 loop-init g c = record {

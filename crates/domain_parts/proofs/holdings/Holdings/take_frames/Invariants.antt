@@ -1,6 +1,6 @@
 use Rattle.std.proofs.Common.{◌≤◌, ◌+◌, ◌*◌}
-use Rattle.domain_core.specs.Doing.{Takes}
-use Rattle.domain_core.proofs.holdings.Holdings.take_frames.Given as goal
+use Rattle.domain_parts.specs.Doing.{Takes}
+use Rattle.domain_parts.proofs.holdings.Holdings.take_frames.Given as goal
 
 abbrev pub invariant-loop : goal.invariant-loop
 invariant-loop g l = record {

@@ -7,19 +7,19 @@ use Rattle.board_model.specs.DomainCall.{DomainCall, lend_at}
 use Rattle.board_model.specs.State.{place_at, queue_at}
 use Rattle.message_queue.specs.Queue.{Waiting}
 use Rattle.packet_channel.specs.End.{end_of}
-use Rattle.domain_core.specs.Calls.{gives_whole, lent}
-use Rattle.domain_core.specs.CallSteps.{Acts}
-use Rattle.domain_core.specs.DomainView.{packet_lent_as, place_of_packet_id}
-use Rattle.domain_core.specs.Parts.{Parts, shown, state_of}
-use Rattle.domain_core.specs.Records.{slots_at, waiting_in}
-use Rattle.domain_core.specs.Steps.{Did, Step, next_lent, oldest_lent, done}
-use Rattle.domain_core.proofs.LendingMeaning.{lend-answer, lend-means, lend-steps}
-use Rattle.domain_core.proofs.PacketWords.{lend-done, lend-refused}
-use Rattle.domain_core.proofs.Steps.{first-there, queue-long}
-use Rattle.domain_core.proofs.Stepping.{acts-done, acts-refused}
-use Rattle.domain_core.proofs.Unnaming.{lent-gives}
-use Rattle.domain_core.proofs.holdings.Holdings.take_packet.Given.{Over}
-use Rattle.domain_core.proofs.holdings.Holdings.take_packet.Goals as goal
+use Rattle.domain_parts.specs.Calls.{gives_whole, lent}
+use Rattle.domain_parts.specs.CallSteps.{Acts}
+use Rattle.domain_parts.specs.DomainView.{packet_lent_as, place_of_packet_id}
+use Rattle.domain_parts.specs.Parts.{Parts, shown, state_of}
+use Rattle.domain_parts.specs.Records.{slots_at, waiting_in}
+use Rattle.domain_parts.specs.Steps.{Did, Step, next_lent, oldest_lent, done}
+use Rattle.domain_parts.proofs.LendingMeaning.{lend-answer, lend-means, lend-steps}
+use Rattle.domain_parts.proofs.PacketWords.{lend-done, lend-refused}
+use Rattle.domain_parts.proofs.Steps.{first-there, queue-long}
+use Rattle.domain_parts.proofs.Stepping.{acts-done, acts-refused}
+use Rattle.domain_parts.proofs.Unnaming.{lent-gives}
+use Rattle.domain_parts.proofs.holdings.Holdings.take_packet.Given.{Over}
+use Rattle.domain_parts.proofs.holdings.Holdings.take_packet.Goals as goal
 
 pub returns-in_err-may_recv-clause-acts : goal.returns-in_err-may_recv-clause-acts
 returns-in_err-may_recv-clause-acts g c =

@@ -6,16 +6,16 @@ use Rattle.board_model.specs.DomainCall.{scalar_at}
 use Rattle.board_model.specs.Journal.{tells}
 use Rattle.board_model.specs.State.{queue_at}
 use Rattle.packet_channel.specs.End.{end_of}
-use Rattle.domain_core.specs.Calls.{available}
-use Rattle.domain_core.specs.CallSteps.{Acts}
-use Rattle.domain_core.specs.Parts.{state_of}
-use Rattle.domain_core.specs.Records.{slots_at}
-use Rattle.domain_core.specs.Steps.{Did, Step}
-use Rattle.domain_core.proofs.DataMeaning.{front-value, scalar-differs, scalar-done, scalar-empty, scalar-fits, scalar-means, scalar-other, scalar-refused, scalar-steps}
-use Rattle.domain_core.proofs.Readings.{none-from}
-use Rattle.domain_core.proofs.Steps.{first-there}
-use Rattle.domain_core.proofs.Stepping.{acts-done, acts-refused}
-use Rattle.domain_core.proofs.holdings.Holdings.take_scalar.Goals as goal
+use Rattle.domain_parts.specs.Calls.{available}
+use Rattle.domain_parts.specs.CallSteps.{Acts}
+use Rattle.domain_parts.specs.Parts.{state_of}
+use Rattle.domain_parts.specs.Records.{slots_at}
+use Rattle.domain_parts.specs.Steps.{Did, Step}
+use Rattle.domain_parts.proofs.DataMeaning.{front-value, scalar-differs, scalar-done, scalar-empty, scalar-fits, scalar-means, scalar-other, scalar-refused, scalar-steps}
+use Rattle.domain_parts.proofs.Readings.{none-from}
+use Rattle.domain_parts.proofs.Steps.{first-there}
+use Rattle.domain_parts.proofs.Stepping.{acts-done, acts-refused}
+use Rattle.domain_parts.proofs.holdings.Holdings.take_scalar.Goals as goal
 
 -- ---- it is refused
 

@@ -1,8 +1,8 @@
 use Rattle.std.proofs.Common.{Bool, subst}
-use Rattle.domain_core.specs.Parts.{shown}
-use Rattle.domain_core.specs.Turned.{VisitsAll}
-use Rattle.domain_core.proofs.VisitedAll.{turn-begun-made, turn-idle-made}
-use Rattle.domain_core.proofs.holdings.Holdings.take_turn.Goals as goal
+use Rattle.domain_parts.specs.Parts.{shown}
+use Rattle.domain_parts.specs.Turned.{VisitsAll}
+use Rattle.domain_parts.proofs.VisitedAll.{turn-begun-made, turn-idle-made}
+use Rattle.domain_parts.proofs.holdings.Holdings.take_turn.Goals as goal
 
 pub returns-then-visit_peers-clause-turn : goal.returns-then-visit_peers-clause-turn
 returns-then-visit_peers-clause-turn g c =

@@ -1,11 +1,11 @@
 use Rattle.std.proofs.Common.{◌∷◌, [], sym, subst}
-use Rattle.domain_core.specs.LaneSeen.{LaneSeen}
-use Rattle.domain_core.specs.declared.holdings.Holdings.TheInside.{Inside}
-use Rattle.domain_core.specs.Parts.{Holding, Parts, holding_in, parts_in, peers_seen}
-use Rattle.domain_core.specs.Steps.{Did, channel_given}
-use Rattle.domain_core.proofs.Stepping.{quiet-moved, quiet-peers}
-use Rattle.domain_core.proofs.holdings.Holdings.use_number.Given.{Over}
-use Rattle.domain_core.proofs.holdings.Holdings.use_number.Goals as goal
+use Rattle.domain_parts.specs.LaneSeen.{LaneSeen}
+use Rattle.domain_parts.specs.declared.holdings.Holdings.TheInside.{Inside}
+use Rattle.domain_parts.specs.Parts.{Holding, Parts, holding_in, parts_in, peers_seen}
+use Rattle.domain_parts.specs.Steps.{Did, channel_given}
+use Rattle.domain_parts.proofs.Stepping.{quiet-moved, quiet-peers}
+use Rattle.domain_parts.proofs.holdings.Holdings.use_number.Given.{Over}
+use Rattle.domain_parts.proofs.holdings.Holdings.use_number.Goals as goal
 
 abbrev v : (g : Over) → (g.row.P.Denot → LaneSeen)
 v g = g.P.PeerLane.seen

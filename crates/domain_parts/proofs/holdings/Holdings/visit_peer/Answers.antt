@@ -1,14 +1,14 @@
 use Rattle.std.proofs.Common.{◌<◌, ◌∙◌, arith, ap, length, ℕ, ◌++◌, ◌∷◌, []}
 use Rattle.board_model.specs.Deeds.{looks_ahead}
 use Rattle.board_model.specs.Journal.{back_line, see_line}
-use Rattle.domain_core.specs.Beginning.{look_lines}
+use Rattle.domain_parts.specs.Beginning.{look_lines}
 use Rattle.lane_end.specs.ReceiveMoves as receiving
-use Rattle.domain_core.specs.LaneMoves.{receiver}
-use Rattle.domain_core.specs.LaneSeen.{LaneSeen}
-use Rattle.domain_core.specs.Parts.{peer_at}
-use Rattle.domain_core.proofs.Turning.{did-numbers, did-rests, doing-ends, same-length}
-use Rattle.domain_core.proofs.Visiting.{visited}
-use Rattle.domain_core.proofs.holdings.Holdings.visit_peer.Goals as goal
+use Rattle.domain_parts.specs.LaneMoves.{receiver}
+use Rattle.domain_parts.specs.LaneSeen.{LaneSeen}
+use Rattle.domain_parts.specs.Parts.{peer_at}
+use Rattle.domain_parts.proofs.Turning.{did-numbers, did-rests, doing-ends, same-length}
+use Rattle.domain_parts.proofs.Visiting.{visited}
+use Rattle.domain_parts.proofs.holdings.Holdings.visit_peer.Goals as goal
 
 pub put_owed-begun-requires-clause-rests : goal.put_owed-begun-requires-clause-rests
 put_owed-begun-requires-clause-rests g c =

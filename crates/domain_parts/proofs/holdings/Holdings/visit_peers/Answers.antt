@@ -1,7 +1,7 @@
 use Rattle.std.proofs.Common.{◌<◌, ◌≤◌, arith, length}
-use Rattle.domain_core.proofs.Turning.{did-numbers, same-length}
-use Rattle.domain_core.proofs.VisitedAll.{so-far-all, so-far-more, so-far-none}
-use Rattle.domain_core.proofs.holdings.Holdings.visit_peers.Goals as goal
+use Rattle.domain_parts.proofs.Turning.{did-numbers, same-length}
+use Rattle.domain_parts.proofs.VisitedAll.{so-far-all, so-far-more, so-far-none}
+use Rattle.domain_parts.proofs.holdings.Holdings.visit_peers.Goals as goal
 
 pub loop-place-init : goal.loop-place-init
 loop-place-init g c = record {

@@ -1,7 +1,7 @@
 use Rattle.std.proofs.Common.{◌≤◌, ◌+◌, ◌*◌}
-use Rattle.domain_core.specs.Owed.{room_for}
-use Rattle.domain_core.proofs.VisitedAll.{SoFar}
-use Rattle.domain_core.proofs.holdings.Holdings.visit_peers.Given as goal
+use Rattle.domain_parts.specs.Owed.{room_for}
+use Rattle.domain_parts.proofs.VisitedAll.{SoFar}
+use Rattle.domain_parts.proofs.holdings.Holdings.visit_peers.Given as goal
 
 abbrev pub invariant-loop-place : goal.invariant-loop-place
 invariant-loop-place g l = record {

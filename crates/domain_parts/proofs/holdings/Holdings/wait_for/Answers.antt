@@ -1,14 +1,14 @@
 use Rattle.std.proofs.Common.{◌∙◌, sym, subst}
 use Rattle.std.specs.Prelude.{Ok}
-use Rattle.domain_core.specs.Awaiting.{all_exist}
-use Rattle.domain_core.specs.Calls.{LendsLast, result_of_done}
-use Rattle.domain_core.specs.DomainView.{packet_lent_as}
-use Rattle.domain_core.specs.Parts.{shown}
-use Rattle.domain_core.specs.Waiting.{Polled}
-use Rattle.domain_core.proofs.WaitPlaces.{all-named, named-within}
-use Rattle.domain_core.proofs.WaitSteps.{awaited-of, polls-packets}
-use Rattle.domain_core.proofs.WaitEnds.{ended-after, ended-at-once, ended-invalid, gave-up, timed-out}
-use Rattle.domain_core.proofs.holdings.Holdings.wait_for.Goals as goal
+use Rattle.domain_parts.specs.Awaiting.{all_exist}
+use Rattle.domain_parts.specs.Calls.{LendsLast, result_of_done}
+use Rattle.domain_parts.specs.DomainView.{packet_lent_as}
+use Rattle.domain_parts.specs.Parts.{shown}
+use Rattle.domain_parts.specs.Waiting.{Polled}
+use Rattle.domain_parts.proofs.WaitPlaces.{all-named, named-within}
+use Rattle.domain_parts.proofs.WaitSteps.{awaited-of, polls-packets}
+use Rattle.domain_parts.proofs.WaitEnds.{ended-after, ended-at-once, ended-invalid, gave-up, timed-out}
+use Rattle.domain_parts.proofs.holdings.Holdings.wait_for.Goals as goal
 
 -- ---- it is refused
 

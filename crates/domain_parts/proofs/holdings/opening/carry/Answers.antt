@@ -1,13 +1,13 @@
 use Rattle.std.proofs.Common.{◌≡◌, ◌∙◌, ap, sym, subst, Some}
 use Rattle.std.specs.Prelude.{find}
 use Rattle.std.specs.Vec.{with_items}
-use Rattle.domain_core.specs.LaneSeen.{LaneSeen}
-use Rattle.domain_core.specs.AllMoved.{ends_of}
-use Rattle.domain_core.specs.Carried.{with_ends, with_peer}
-use Rattle.domain_core.specs.Parts.{Sound, state_of}
-use Rattle.domain_core.proofs.Carries.{ends-with, holding-with, parts-with, same-found, written-with}
-use Rattle.domain_core.proofs.holdings.opening.carry.Given.{Over}
-use Rattle.domain_core.proofs.holdings.opening.carry.Goals as goal
+use Rattle.domain_parts.specs.LaneSeen.{LaneSeen}
+use Rattle.domain_parts.specs.AllMoved.{ends_of}
+use Rattle.domain_parts.specs.Carried.{with_ends, with_peer}
+use Rattle.domain_parts.specs.Parts.{Sound, state_of}
+use Rattle.domain_parts.proofs.Carries.{ends-with, holding-with, parts-with, same-found, written-with}
+use Rattle.domain_parts.proofs.holdings.opening.carry.Given.{Over}
+use Rattle.domain_parts.proofs.holdings.opening.carry.Goals as goal
 
 abbrev v : (g : Over) → (g.row.P.Denot → LaneSeen)
 v g = g.P.PeerLane.seen

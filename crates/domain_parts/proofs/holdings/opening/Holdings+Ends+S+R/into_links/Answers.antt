@@ -1,10 +1,10 @@
 use Rattle.std.proofs.Common.{arith}
 use Rattle.std.proofs.lemmas.List.{length-map}
-use Rattle.domain_core.specs.Ends.{ends_seen}
-use Rattle.domain_core.specs.AllMoved.{numbers_of}
-use Rattle.domain_core.specs.Parts.{peer_seen, peers_seen}
-use Rattle.domain_core.proofs.LinkPlaces.{length-rising}
-use Rattle.domain_core.proofs.holdings.opening.Holdings+Ends+S+R.into_links.Goals as goal
+use Rattle.domain_parts.specs.Ends.{ends_seen}
+use Rattle.domain_parts.specs.AllMoved.{numbers_of}
+use Rattle.domain_parts.specs.Parts.{peer_seen, peers_seen}
+use Rattle.domain_parts.proofs.LinkPlaces.{length-rising}
+use Rattle.domain_parts.proofs.holdings.opening.Holdings+Ends+S+R.into_links.Goals as goal
 
 pub links_of-requires : goal.links_of-requires
 links_of-requires g c =

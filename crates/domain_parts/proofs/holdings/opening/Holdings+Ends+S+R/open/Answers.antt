@@ -2,14 +2,14 @@ use Rattle.std.proofs.Common.{◌<◌, ◌∙◌, ℕ, List, map, ap, sym, subst
 use Rattle.std.specs.Prelude.{sum_by}
 use Rattle.buffer_book.specs.Book.{AllDiffer, Book, kept_at, opening_book}
 use Rattle.endpoint_table.specs.Table.{opening_table}
-use Rattle.domain_core.specs.Ends.{ends_seen}
-use Rattle.domain_core.specs.AllMoved.{ends_of}
-use Rattle.domain_core.specs.Opened.{sizes_opened}
-use Rattle.domain_core.specs.Records.{opening_records, Records}
-use Rattle.domain_core.proofs.Stepping.{sound-seen, state-seen}
-use Rattle.domain_core.proofs.Opening.{ends-opening, kept-none, parts-sound, parts-state, room-fits, sizes-apart}
+use Rattle.domain_parts.specs.Ends.{ends_seen}
+use Rattle.domain_parts.specs.AllMoved.{ends_of}
+use Rattle.domain_parts.specs.Opened.{sizes_opened}
+use Rattle.domain_parts.specs.Records.{opening_records, Records}
+use Rattle.domain_parts.proofs.Stepping.{sound-seen, state-seen}
+use Rattle.domain_parts.proofs.Opening.{ends-opening, kept-none, parts-sound, parts-state, room-fits, sizes-apart}
 use Rattle.board_model.specs.Unnamed.{unnamed}
-use Rattle.domain_core.proofs.holdings.opening.Holdings+Ends+S+R.open.Goals as goal
+use Rattle.domain_parts.proofs.holdings.opening.Holdings+Ends+S+R.open.Goals as goal
 
 pub buffers_in-requires : goal.buffers_in-requires
 buffers_in-requires g c =

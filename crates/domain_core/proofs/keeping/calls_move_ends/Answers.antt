@@ -1,5 +1,5 @@
 use Rattle.domain_core.proofs.Going.{plain-calls-go, any-calls-go}
-use Rattle.domain_core.proofs.carrying.calls_move_ends.Goals as goal
+use Rattle.domain_core.proofs.keeping.calls_move_ends.Goals as goal
 
 pub returns-clause-plain : goal.returns-clause-plain
 returns-clause-plain c = plain-calls-go

@@ -1,5 +1,5 @@
 use Rattle.domain_core.proofs.WaitsGoing.{any-waits-go, plain-waits-go}
-use Rattle.domain_core.proofs.carrying.waits_move_ends.Goals as goal
+use Rattle.domain_core.proofs.keeping.waits_move_ends.Goals as goal
 
 pub returns-clause-plain : goal.returns-clause-plain
 returns-clause-plain c = plain-waits-go

@@ -1,5 +1,5 @@
 use Rattle.domain_core.proofs.Going.{plain-stay, any-stay}
-use Rattle.domain_core.proofs.carrying.domains_stay_linked.Goals as goal
+use Rattle.domain_core.proofs.keeping.domains_stay_linked.Goals as goal
 
 pub returns-clause-plain : goal.returns-clause-plain
 returns-clause-plain c = plain-stay
