@@ -1,9 +1,12 @@
+use domain_core::WaitFault;
 use lane_end::LaneFault;
 use mc_base::{
     BufInvalid, Fault, FrameFault, Full, LetterFault, NoMemory, NsFault, Reason, Refusal,
     RequestLimit, SclSize,
 };
+use mc_journal::NotAnEntry;
 use outer_io::{Failed, ReadFault};
+use ring_trace::ImageFault;
 use scenario_lang::{LineReason, ScenarioFault};
 use shared_words::RingFault;
 use std::error::Error;
@@ -102,8 +105,23 @@ fn each_reason_of_a_line_has_a_text(rt: HostRuntime) -> Result<(), Fail> {
 }
 
 #[test]
+fn each_fault_of_an_image_has_a_text(rt: HostRuntime) -> Result<(), Fail> {
+    let faults = [
+        ImageFault::ImageSize,
+        ImageFault::Constant,
+        ImageFault::IdxAhead,
+        ImageFault::IdRange,
+        ImageFault::LenRange,
+    ];
+    for fault in faults {
+        assert!(rt; has_text(fault), "{fault:?}");
+    }
+    Ok(())
+}
+
+#[test]
 fn each_other_error_has_its_text(rt: HostRuntime) -> Result<(), Fail> {
-    let texts: [(InlineText<160>, &str); 11] = [
+    let texts: [(InlineText<160>, &str); 14] = [
         (InlineText::of(NoMemory), "out of memory"),
         (InlineText::of(BufInvalid), "no lent packet has this id"),
         (InlineText::of(SclSize), "the front scalar has another size"),
@@ -133,6 +151,15 @@ fn each_other_error_has_its_text(rt: HostRuntime) -> Result<(), Fail> {
             "the size of a lane is not from 1 to 256 buffers",
         ),
         (InlineText::of(ScenarioFault::NoMemory), "out of memory"),
+        (
+            InlineText::of(WaitFault::Refused(Refusal::Timeout)),
+            "no named request was complete within the limit of turns",
+        ),
+        (InlineText::of(WaitFault::NoMemory), "out of memory"),
+        (
+            InlineText::of(NotAnEntry),
+            "the line is no entry of a journal",
+        ),
     ];
     for (text, expected) in &texts {
         assert_eq!(rt; text.as_str(), *expected);

@@ -5,6 +5,7 @@ ghost use Rattle.ring_trace.specs.ImageFaults.{checked, size_of_length, faults, 
 ghost use Rattle.board_model.specs.RingImage.{image_length};
 
 use crate::rules::{broken_constant, broken_id, broken_len, index_in};
+use thiserror::Error;
 
 /// What an image is of: a queue's size and number, and its two indices.
 #[derive(Clone, Copy, Debug, PartialEq, Eq)]
@@ -16,17 +17,22 @@ pub struct ImageInfo {
 }
 
 /// What is wrong with an image, in the order in which it is reported.
-#[derive(Clone, Copy, Debug, PartialEq, Eq)]
+#[derive(Clone, Copy, Debug, PartialEq, Eq, Error)]
 pub enum ImageFault {
     /// The length is that of no queue.
+    #[error("the image has the length of no queue")]
     ImageSize,
     /// A field or a byte between the rings is not what it is in every image.
+    #[error("a byte is not what it is in every image")]
     Constant,
     /// The available index is further ahead of the used index than the queue is large.
+    #[error("the available index is further ahead of the used index than the queue is large")]
     IdxAhead,
     /// A number of a buffer is not below the size.
+    #[error("the number of a buffer is not below the size of the queue")]
     IdRange,
     /// A length is over a buffer's, or not 0 where it has to be.
+    #[error("a length is over a buffer's, or not 0 where it has to be")]
     LenRange,
 }
 
