@@ -1,5 +1,5 @@
 -- The text of a line, piece by piece.
-use Rattle.std.proofs.Common.{◌≡◌, List, ℕ, ◌-◌, ◌<◌, ◌≤◌, [], ◌∷◌, ◌++◌, length, take, drop, get_or, append_assoc, Option, None, Some, refl, sym, ap, ◌∙◌, arith}
+use Rattle.std.proofs.Common.{◌≡◌, List, ℕ, ◌-◌, ◌<◌, ◌≤◌, [], ◌∷◌, ◌++◌, length, take, drop, get_or, slice_get, append_assoc, Option, None, Some, refl, sym, ap, ◌∙◌, arith}
 use Rattle.std.specs.Prelude.{map, codes, decimal}
 use Rattle.std.specs.List.{flat_map}
 use Rattle.std.proofs.lemmas.List.{append-nil, take_rest}
@@ -8,7 +8,7 @@ use Rattle.board_model.specs.declared.scenario.Call.{Call}
 use Rattle.board_model.specs.declared.scenario.Call.TheVariants.{Create, Delete, Lookup, MsgSend, MsgRecv, MsgRecvI, MsgAvailable, Connect, OpenSend, OpenRecv, PktSend, PktRecv, PktRecvI, Release, SclSend, SclRecv, CloseSend, CloseRecv, Test, Wait, WaitAny, Cancel, Raw, Turn}
 use Rattle.board_model.specs.Grammar.{with_commas, spaced, line_of, call_words, label_words, tries_words}
 use Rattle.scenario_lang.specs.declared.canonical.Argument.{Argument}
-use Rattle.scenario_lang.specs.CallFronts.{label_front, tries_front, argument_word, blank_then, comma_then}
+use Rattle.scenario_lang.specs.CallFronts.{label_front, tries_front, argument_word, words_in, blank_then, comma_then}
 
 -- a line begins with its caller and a blank
 caller_then : (caller words : List ℕ) → (caller ++ 32 ∷ words) ++ (10 ∷ []) ≡ caller ++ (32 ∷ (words ++ (10 ∷ [])))
@@ -81,9 +81,15 @@ line_of-call caller label tries c =
 
 -- ---- the words of a call
 
-pub spaced-arguments : (word : List ℕ) (arguments : List Argument) → spaced (word ∷ map argument_word arguments) ≡ word ++ flat_map blank_then arguments
+pub spaced-arguments : (word : List ℕ) (arguments : List (Option Argument)) → spaced (word ∷ words_in arguments) ≡ word ++ flat_map blank_then arguments
 spaced-arguments word [] = sym (append-nil word)
-spaced-arguments word (a ∷ others) = ap (λ (t : List ℕ). word ++ 32 ∷ t) (spaced-arguments (argument_word a) others)
+spaced-arguments word (None ∷ others) = spaced-arguments word others
+spaced-arguments word (Some a ∷ others) = ap (λ (t : List ℕ). word ++ 32 ∷ t) (spaced-arguments (argument_word a) others)
+
+-- a list by its first item and the others
+pub front-others : (words : List (List ℕ)) (word : List ℕ) → slice_get words 0 ≡ Some word → word ∷ drop 1 words ≡ words
+front-others [] word e = absurd cc
+front-others (w ∷ ws) word e = let same : w ≡ word = cc in ap (λ (v : List ℕ). v ∷ ws) (sym same)
 
 -- labels with commas between them, of which all but the first come after a comma
 pub commas-then : (l : ArrayVec ℕ) (ls : List (ArrayVec ℕ)) → with_commas (map (λ m. m.items) (l ∷ ls)) ≡ l.items ++ flat_map comma_then ls

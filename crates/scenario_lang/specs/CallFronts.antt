@@ -26,9 +26,16 @@ argument_word (ChannelKind kind) = kind_text kind
 argument_word (Label label) = label.now
 argument_word (Labels labels) = with_commas (map (λ l. l.items) labels.now)
 
--- and with a blank before it
-abbrev pub blank_then : Argument → List ℕ
-blank_then argument = 32 ∷ argument_word argument
+-- the words of those that there are
+abbrev pub words_in : List (Option Argument) → List (List ℕ)
+words_in [] = []
+words_in (None ∷ others) = words_in others
+words_in (Some argument ∷ others) = argument_word argument ∷ words_in others
+
+-- and one with a blank before it
+abbrev pub blank_then : Option Argument → List ℕ
+blank_then None = []
+blank_then (Some argument) = 32 ∷ argument_word argument
 
 -- a label of several, after a comma: 44 is the comma
 abbrev pub comma_then : ArrayVec ℕ → List ℕ

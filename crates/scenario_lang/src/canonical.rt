@@ -1,11 +1,11 @@
 //! The canonical text of a scenario, put piece by piece.
 
-ghost use Rattle.std.specs.Prelude.{◌≡◌, ◌++◌, ◌∷◌, [], map, codes, decimal};
+ghost use Rattle.std.specs.Prelude.{◌≡◌, ◌++◌, ◌∷◌, [], map, drop, codes, decimal};
 ghost use Rattle.std.specs.List.{flat_map};
 ghost use Rattle.outer_io.specs.Puts.{Puts};
 ghost use Rattle.board_model.specs.Scenario.{label_in};
 ghost use Rattle.board_model.specs.Forms.{form};
-ghost use Rattle.scenario_lang.specs.CallFronts.{label_front, tries_front, argument_word, blank_then, comma_then};
+ghost use Rattle.scenario_lang.specs.CallFronts.{label_front, tries_front, words_in, blank_then, comma_then};
 ghost use Rattle.board_model.specs.Grammar.{canonical, domain_text, link_text, call_text, call_words, caller_text, name_text, with_commas, spaced, line_of};
 
 use self::Argument::{ChannelKind, Content, Label, Labels, Name, Number};
@@ -126,107 +126,103 @@ enum Argument<'a> {
 fn put_call<K: Sink>(out: &mut Writer<'_, K>, call: &Call)
     ensures { Puts K.Sink out.old out.new (spaced (call_words call.now)) }
 {
+    put_form(out, call.callee(), &arguments_of(call));
+}
+
+/// Returns the arguments of a call in their order. The places behind the last are empty.
+fn arguments_of(call: &Call) -> [Option<Argument<'_>>; 4]
+    ensures { words_in result ≡ drop 1 (call_words call.now) }
+{
     match call {
-        Call::Create { port } => put_form(out, Callee::Create, &[Number(*port as u64)]),
-        Call::Delete { port } => put_form(out, Callee::Delete, &[Number(*port as u64)]),
-        Call::Lookup { name } => put_form(out, Callee::Lookup, &[Name(*name)]),
+        Call::Create { port }
+        | Call::Delete { port }
+        | Call::MsgAvailable { port }
+        | Call::PktRecv { port }
+        | Call::PktRecvI { port }
+        | Call::CloseSend { port }
+        | Call::CloseRecv { port } => [Some(Number(*port as u64)), None, None, None],
+        Call::Lookup { name } => [Some(Name(*name)), None, None, None],
         Call::MsgSend {
             port,
             to,
             priority,
             bytes,
-        } => put_form(
-            out,
-            Callee::MsgSend,
-            &[
-                Number(*port as u64),
-                Name(*to),
-                Number(priority.number() as u64),
-                Content(bytes.as_slice()),
-            ],
-        ),
-        Call::MsgRecv { port, max } => put_form(
-            out,
-            Callee::MsgRecv,
-            &[Number(*port as u64), Number(*max as u64)],
-        ),
-        Call::MsgRecvI { port, max } => put_form(
-            out,
-            Callee::MsgRecvI,
-            &[Number(*port as u64), Number(*max as u64)],
-        ),
-        Call::MsgAvailable { port } => {
-            put_form(out, Callee::MsgAvailable, &[Number(*port as u64)])
+        } => [
+            Some(Number(*port as u64)),
+            Some(Name(*to)),
+            Some(Number(priority.number() as u64)),
+            Some(Content(bytes.as_slice())),
+        ],
+        Call::MsgRecv { port, max } | Call::MsgRecvI { port, max } => [
+            Some(Number(*port as u64)),
+            Some(Number(*max as u64)),
+            None,
+            None,
+        ],
+        Call::Connect { port, to, kind } => [
+            Some(Number(*port as u64)),
+            Some(Name(*to)),
+            Some(ChannelKind(*kind)),
+            None,
+        ],
+        Call::OpenSend { port, kind } | Call::OpenRecv { port, kind } => [
+            Some(Number(*port as u64)),
+            Some(ChannelKind(*kind)),
+            None,
+            None,
+        ],
+        Call::PktSend { port, bytes } => [
+            Some(Number(*port as u64)),
+            Some(Content(bytes.as_slice())),
+            None,
+            None,
+        ],
+        Call::Release { label } | Call::Test { label } | Call::Cancel { label } => {
+            [Some(Label(label.as_slice())), None, None, None]
         }
-        Call::Connect { port, to, kind } => put_form(
-            out,
-            Callee::Connect,
-            &[Number(*port as u64), Name(*to), ChannelKind(*kind)],
-        ),
-        Call::OpenSend { port, kind } => put_form(
-            out,
-            Callee::OpenSend,
-            &[Number(*port as u64), ChannelKind(*kind)],
-        ),
-        Call::OpenRecv { port, kind } => put_form(
-            out,
-            Callee::OpenRecv,
-            &[Number(*port as u64), ChannelKind(*kind)],
-        ),
-        Call::PktSend { port, bytes } => put_form(
-            out,
-            Callee::PktSend,
-            &[Number(*port as u64), Content(bytes.as_slice())],
-        ),
-        Call::PktRecv { port } => put_form(out, Callee::PktRecv, &[Number(*port as u64)]),
-        Call::PktRecvI { port } => put_form(out, Callee::PktRecvI, &[Number(*port as u64)]),
-        Call::Release { label } => put_form(out, Callee::Release, &[Label(label.as_slice())]),
-        Call::SclSend { port, bits, value } => put_form(
-            out,
-            Callee::SclSend,
-            &[
-                Number(*port as u64),
-                Number(bits_count(*bits) as u64),
-                Number(*value),
-            ],
-        ),
-        Call::SclRecv { port, bits } => put_form(
-            out,
-            Callee::SclRecv,
-            &[Number(*port as u64), Number(bits_count(*bits) as u64)],
-        ),
-        Call::CloseSend { port } => put_form(out, Callee::CloseSend, &[Number(*port as u64)]),
-        Call::CloseRecv { port } => put_form(out, Callee::CloseRecv, &[Number(*port as u64)]),
-        Call::Test { label } => put_form(out, Callee::Test, &[Label(label.as_slice())]),
-        Call::Wait { label, limit } => put_form(
-            out,
-            Callee::Wait,
-            &[Label(label.as_slice()), Number(*limit as u64)],
-        ),
-        Call::WaitAny { labels, limit } => put_form(
-            out,
-            Callee::WaitAny,
-            &[Labels(labels.as_slice()), Number(*limit as u64)],
-        ),
-        Call::Cancel { label } => put_form(out, Callee::Cancel, &[Label(label.as_slice())]),
-        Call::Raw { domain, bytes } => put_form(
-            out,
-            Callee::Raw,
-            &[Number(*domain as u64), Content(bytes.as_slice())],
-        ),
-        Call::Turn => put_form(out, Callee::Turn, &[]),
+        Call::SclSend { port, bits, value } => [
+            Some(Number(*port as u64)),
+            Some(Number(bits_count(*bits) as u64)),
+            Some(Number(*value)),
+            None,
+        ],
+        Call::SclRecv { port, bits } => [
+            Some(Number(*port as u64)),
+            Some(Number(bits_count(*bits) as u64)),
+            None,
+            None,
+        ],
+        Call::Wait { label, limit } => [
+            Some(Label(label.as_slice())),
+            Some(Number(*limit as u64)),
+            None,
+            None,
+        ],
+        Call::WaitAny { labels, limit } => [
+            Some(Labels(labels.as_slice())),
+            Some(Number(*limit as u64)),
+            None,
+            None,
+        ],
+        Call::Raw { domain, bytes } => [
+            Some(Number(*domain as u64)),
+            Some(Content(bytes.as_slice())),
+            None,
+            None,
+        ],
+        Call::Turn => [None, None, None, None],
     }
 }
 
 /// Puts the word of a call and its arguments.
-fn put_form<K: Sink>(out: &mut Writer<'_, K>, callee: Callee, arguments: &[Argument<'_>])
-    ensures { Puts K.Sink out.old out.new (spaced ((form callee).word ∷ map argument_word arguments.now)) }
+fn put_form<K: Sink>(out: &mut Writer<'_, K>, callee: Callee, arguments: &[Option<Argument<'_>>])
+    ensures { Puts K.Sink out.old out.new (spaced ((form callee).word ∷ words_in arguments.now)) }
 {
     out.put(row_of(callee).word);
     put_arguments(out, arguments);
 }
 
-fn put_arguments<K: Sink>(out: &mut Writer<'_, K>, arguments: &[Argument<'_>])
+fn put_arguments<K: Sink>(out: &mut Writer<'_, K>, arguments: &[Option<Argument<'_>>])
     ensures { Puts K.Sink out.old out.new (flat_map blank_then arguments.now) }
 {
     for argument in arguments {
@@ -234,10 +230,13 @@ fn put_arguments<K: Sink>(out: &mut Writer<'_, K>, arguments: &[Argument<'_>])
     }
 }
 
-/// Puts a blank and an argument.
-fn put_argument<K: Sink>(out: &mut Writer<'_, K>, argument: Argument<'_>)
+/// Puts a blank and an argument, where there is one.
+fn put_argument<K: Sink>(out: &mut Writer<'_, K>, argument: Option<Argument<'_>>)
     ensures { Puts K.Sink out.old out.new (blank_then argument.entry) }
 {
+    let Some(argument) = argument else {
+        return;
+    };
     out.put(b" ");
     match argument {
         Number(number) => out.put_number(number),
