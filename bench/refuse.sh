@@ -19,9 +19,26 @@ FOLDER, PROGRAM = sys.argv[1:]
 COUNTS = os.path.join(FOLDER, "counts")
 SERIAL, THREADS = b"mcapi-report 1 serial\n", b"mcapi-report 1 threads\n"
 
+SHORT_WAITS = b"""domain 0 nodes 1 pool 2
+domain 1 nodes 1 pool 2
+link 0 1 size 4
+0.0 create 1
+0.0 far = lookup 1:0:7
+0.0 wait far 1
+1.0 create 7
+0.0 wait far 10
+1.0 first = msg_recv_i 7 488
+1.0 second = msg_recv_i 7 488
+0.0 msg_send 1 1:0:7 0 6869
+1.0 wait_any second,first 10
+1.0 wait second 0
+"""
+
 def read(name):
     if name is None:
         return b""
+    if name == "short waits":
+        return SHORT_WAITS
     with open(os.path.join("examples", name), "rb") as file:
         return file.read()
 
@@ -31,7 +48,7 @@ FORMS = [
     (["run", "--serial"], "eight_domains.scenario"),
     (["run", "--serial"], "channels.scenario"),
     (["run", "--serial"], "waits.scenario"),
-    (["run"], "waits.scenario"),        # its waits are short: a domain whose peer is out of memory waits to its limit
+    (["run"], "short waits"),           # a domain whose peer is out of memory waits to its limit
     (["check"], "channels.scenario"),   # a report of its serial run
     (["frame"], "message.hex"),
     (["ring"], "ring.image"),
@@ -44,7 +61,7 @@ def run(words, given, **given_to_it):
     return done.returncode, done.stdout
 
 def said(words, name):
-    return " ".join(words) + (f" < examples/{name}" if name else "")
+    return " ".join(words) + (f" < {'' if name == 'short waits' else 'examples/'}{name}" if name else "")
 
 def counts():
     with open(COUNTS) as file:
