@@ -1,0 +1,19 @@
+use mc_base::NoMemory;
+use thiserror::Error;
+
+/// Why events have no order.
+#[derive(Clone, Copy, Debug, PartialEq, Eq, Error)]
+pub enum OrderFault {
+    /// The event at this line of the report waits for one that never comes.
+    #[error("the event at line {line} has no cause")]
+    NoCause { line: u32 },
+    /// An allocation failed, which may happen at any time.
+    #[error("out of memory")]
+    NoMemory,
+}
+
+impl From<NoMemory> for OrderFault {
+    fn from(_: NoMemory) -> OrderFault {
+        OrderFault::NoMemory
+    }
+}
