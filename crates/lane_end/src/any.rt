@@ -8,7 +8,7 @@ use crate::send_end::SendEnd;
 use mc_base::Buffer;
 
 /// A sending end of any kind.
-#[derive(Debug, Drop)]
+#[derive(Drop)]
 pub enum AnySend<'a> {
     /// A sender in the same memory as its receiver.
     Plain(PlainSend),
@@ -19,7 +19,7 @@ pub enum AnySend<'a> {
 }
 
 /// A receiving end of any kind.
-#[derive(Debug, Drop)]
+#[derive(Drop)]
 pub enum AnyRecv<'a> {
     /// A receiver in the same memory as its sender.
     Plain(PlainRecv),

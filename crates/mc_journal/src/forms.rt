@@ -4,7 +4,7 @@ ghost use Rattle.std.specs.Prelude.{◌≡◌};
 ghost use Rattle.mc_journal.specs.LineForms.{form_in, form_text, forms};
 
 /// What a line of a journal begins with.
-#[derive(Clone, Copy, Debug)]
+#[derive(Clone, Copy)]
 pub enum Form {
     Idle,
     Again,

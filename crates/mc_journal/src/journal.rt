@@ -15,10 +15,11 @@ use crate::text::put_kept;
 use mc_base::NoMemory;
 use outer_io::{Sink, Writer};
 use std::alloc::Global;
+use std::fmt;
 use std::marker::Model;
 
 /// What a domain did. Its entries have a fixed size, and the bytes of all of them lie in one array.
-#[derive(Debug, Drop)]
+#[derive(Drop)]
 pub struct Journal {
     entries: Vec<Kept>,
     bytes: Vec<u8>,
@@ -35,6 +36,14 @@ impl Model for Journal {
     ghost view = { λ j. record { lines = map (kept_line j.bytes.items) j.entries.items; bytes_held = vec_len j.bytes; entry_room = vec_capacity j.entries - vec_len j.entries; byte_room = vec_capacity j.bytes - vec_len j.bytes } };
 
     ghost invariant = { λ j. AreWithin j.bytes.items j.entries.items };
+}
+
+impl fmt::Debug for Journal {
+    fn fmt<W: fmt::Write>(&self, f: &mut fmt::Formatter<W>) -> fmt::Result {
+        f.debug_struct("Journal")
+            .field("entries", &self.entries.len())
+            .finish_non_exhaustive()
+    }
 }
 
 impl Journal {

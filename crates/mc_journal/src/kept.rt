@@ -11,14 +11,14 @@ use crate::entry::{Answer, Entry, Told};
 use mc_base::{Fate, Reason, Refusal};
 
 /// Where the bytes of an entry lie.
-#[derive(Clone, Copy, Debug)]
+#[derive(Clone, Copy)]
 pub struct Piece {
     start: usize,
     len: usize,
 }
 
 /// How a request ended, as it is kept.
-#[derive(Clone, Copy, Debug)]
+#[derive(Clone, Copy)]
 pub enum KeptResult {
     Address(u32),
     Accepted,
@@ -28,7 +28,7 @@ pub enum KeptResult {
 }
 
 /// An entry that is kept.
-#[derive(Clone, Copy, Debug)]
+#[derive(Clone, Copy)]
 pub enum Kept {
     Turn,
     Back(u8, u32),

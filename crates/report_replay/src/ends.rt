@@ -10,7 +10,7 @@ use crate::channel::{ChannelEnd, Stage};
 use mc_base::{Kind, Letter, Side};
 
 /// What a letter does at an end.
-#[derive(Clone, Copy, Debug)]
+#[derive(Clone, Copy)]
 pub(crate) enum Heard {
     /// It is acted on, and leaves this end, or none where the channel ends.
     Acts(Option<ChannelEnd>),

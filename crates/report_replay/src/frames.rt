@@ -9,7 +9,7 @@ use mc_base::LETTER_HEADER_SIZE;
 use rpmsg_frame::encode_into;
 
 /// The fields of a letter before its content, by the table of docs/FORMATS.md.
-#[derive(Clone, Copy, Debug)]
+#[derive(Clone, Copy)]
 pub(crate) struct Head {
     pub(crate) kind: u8,
     pub(crate) argument: u8,
@@ -17,7 +17,7 @@ pub(crate) struct Head {
 }
 
 /// From and to which address of a peer a frame goes.
-#[derive(Clone, Copy, Debug)]
+#[derive(Clone, Copy)]
 pub(crate) struct Way {
     pub(crate) peer: u8,
     pub(crate) source: u32,

@@ -7,7 +7,7 @@ use crate::peer::Reply;
 use mc_base::{EndName, Fate, Reason};
 
 /// What is to be done by a frame that is taken from a peer.
-#[derive(Debug, Drop)]
+#[derive(Drop)]
 pub(crate) enum Verdict {
     /// Nothing. The frame has this word.
     Nothing(Fate),

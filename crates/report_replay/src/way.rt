@@ -15,7 +15,7 @@ use mc_base::{Bits, Kind, Letter, NoMemory, Reason, Side};
 use std::alloc::Global;
 
 /// Where a letter comes from and where it goes, and what its frame is named by, if it has a name.
-#[derive(Clone, Copy, Debug)]
+#[derive(Clone, Copy)]
 pub(crate) struct Way {
     pub(crate) peer: u8,
     pub(crate) name: Option<u32>,

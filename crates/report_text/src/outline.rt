@@ -1,7 +1,7 @@
 use mc_base::Refusal;
 
 /// What the place of a journal's line among the others hangs on.
-#[derive(Clone, Copy, Debug)]
+#[derive(Clone, Copy)]
 pub enum Outline {
     Turn,
     Back { peer: u8, count: u32 },

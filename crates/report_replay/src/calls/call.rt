@@ -10,7 +10,7 @@ use arrayvec::ArrayVec;
 use mc_base::{Bits, EndName, Kind, Local, Priority, Side};
 
 /// A call. It names requests by their places among those that exist, and a lent packet by its place among those that are lent.
-#[derive(Debug, Drop)]
+#[derive(Drop)]
 pub enum DomainCall<'a> {
     Create {
         port: u16,

@@ -9,7 +9,7 @@ use crate::channel::{ChannelEnd, Stage};
 use mc_base::{Kind, Refusal, Side};
 
 /// What a call asks of an end of a channel: that it opens, that it sends or receives, or that it closes.
-#[derive(Clone, Copy, Debug)]
+#[derive(Clone, Copy)]
 pub(crate) enum EndCall {
     Opens { side: Side, kind: Kind },
     Sends { kind: Kind },
