@@ -10,6 +10,7 @@ use Rattle.board_model.proofs.PlaceBoards.{rising_differ}
 use Rattle.board_runner.specs.declared.station.Station.{Station}
 use Rattle.board_runner.specs.Near.{peers_of, EndsMatch}
 use Rattle.board_runner.specs.Stations.{IsStation, AreStations, IsRun, IsOnBoard, AreOnBoard, IsBoard}
+use Rattle.board_runner.proofs.RunFinds.{some_same}
 use Rattle.board_runner.proofs.RunStations.{number_in, station-number}
 
 -- a run's stations are those of its board
@@ -36,7 +37,7 @@ on-board-at : (s : Scenario) (ds : List DomainLine) (sts : List Station) (i : �
 on-board-at s [] [] i st are at = absurd cc
 on-board-at s [] (u ∷ us) i st are at = absurd are
 on-board-at s (d ∷ ds) [] i st are at = absurd are
-on-board-at s (d ∷ ds) (u ∷ us) zero st are at = let same : u ≡ st = cc in record { line = d; at = refl; is = subst (IsOnBoard s d) same are.0 }
+on-board-at s (d ∷ ds) (u ∷ us) zero st are at = let same : u ≡ st = some_same (Some u) u st refl at in record { line = d; at = refl; is = subst (IsOnBoard s d) same are.0 }
 on-board-at s (d ∷ ds) (u ∷ us) (suc i) st are at = let rest = on-board-at s ds us i st are.1 at in record { line = rest.line; at = rest.at; is = rest.is }
 
 numbers_are : (s : Scenario) (ds : List DomainLine) (sts : List Station) → AreOnBoard s ds sts → map number_in sts ≡ map (λ d. d.domain) ds
@@ -64,5 +65,5 @@ pub stations-put : (s : Scenario) (ds : List DomainLine) (sts : List Station) (i
 stations-put s [] [] i st st' are at keeps = tt
 stations-put s [] (u ∷ us) i st st' are at keeps = absurd are
 stations-put s (d ∷ ds) [] i st st' are at keeps = absurd are
-stations-put s (d ∷ ds) (u ∷ us) zero st st' are at keeps = let is : u ≡ st = cc in (keeps d (subst (IsOnBoard s d) is are.0), are.1)
+stations-put s (d ∷ ds) (u ∷ us) zero st st' are at keeps = let is : u ≡ st = some_same (Some u) u st refl at in (keeps d (subst (IsOnBoard s d) is are.0), are.1)
 stations-put s (d ∷ ds) (u ∷ us) (suc i) st st' are at keeps = (are.0, stations-put s ds us i st st' are.1 at keeps)

@@ -125,7 +125,7 @@ stations_kept : (s : Scenario) (ts : List run.Station) (sts : List Station) (i :
 stations_kept s [] [] i st st' are at keeps = tt
 stations_kept s [] (u ∷ us) i st st' are at keeps = absurd are
 stations_kept s (t ∷ ts) [] i st st' are at keeps = absurd are
-stations_kept s (t ∷ ts) (u ∷ us) zero st st' are at keeps = let is : u ≡ st = cc in (keeps t (subst (IsStation s t) is are.0), are.1)
+stations_kept s (t ∷ ts) (u ∷ us) zero st st' are at keeps = let is : u ≡ st = some_same (Some u) u st refl at in (keeps t (subst (IsStation s t) is are.0), are.1)
 stations_kept s (t ∷ ts) (u ∷ us) (suc i) st st' are at keeps = (are.0, stations_kept s ts us i st st' are.1 at keeps)
 
 get_other : {A : Type 0} (xs : List A) (i j : ℕ) (x y : A) → i ≢ j → slice_get xs j ≡ Some x → slice_get (slice_set xs i y) j ≡ Some x

@@ -28,6 +28,7 @@ use Rattle.board_runner.proofs.TurnEnds.{Moved, ExactAt, TurnedLanes, turned-lan
 use Rattle.board_runner.proofs.TurnLinks.{linked-one, linked-two}
 use Rattle.board_runner.proofs.TurnStations.{turned_station, station-turned}
 use Rattle.board_runner.proofs.RunFinds.{mapped-at, map-replaced, find-at, map-at}
+use Rattle.board_runner.proofs.RunFinds.{some_same}
 use Rattle.board_runner.proofs.RunStations.{domains_in, number_in, line_number, StationAt, station-at, station-number, stations-replaced, lines-differ, numbers-differ, domain-at, domain-replaced, near-was, near-replaced, holds-stands, stands-holds, has-both}
 
 -- ---- one station in the place of another
@@ -53,11 +54,11 @@ joins-replaced sts i st st' moves differ at same moved l h = record {
         → cond x (Some st'.domain) (domain_of (domains_in sts) l.sender) ≡ Some one → cond y (Some st'.domain) (domain_of (domains_in sts) l.receiver) ≡ Some two → AreLinked AreEndsOfOneRing l.sender l.receiver one.ends two.ends
     go apart one two true true e f at_one at_two = absurd (apart (eqb-true l.sender (number_in st) e ∙ sym (eqb-true l.receiver (number_in st) f)))
     go apart one two true false e f at_one at_two =
-        let is : st'.domain ≡ one = cc in
+        let is : st'.domain ≡ one = some_same (Some st'.domain) st'.domain one refl at_one in
         subst (λ (d : RunDomain). AreLinked AreEndsOfOneRing l.sender l.receiver d.ends two.ends) is
         (linked-one l.sender l.receiver st.domain.ends moves st'.domain.ends two.ends moved (h.joined apart st.domain two (here l.sender e) at_two))
     go apart one two false true e f at_one at_two =
-        let is : st'.domain ≡ two = cc in
+        let is : st'.domain ≡ two = some_same (Some st'.domain) st'.domain two refl at_two in
         subst (λ (d : RunDomain). AreLinked AreEndsOfOneRing l.sender l.receiver one.ends d.ends) is
         (linked-two l.sender l.receiver one.ends st.domain.ends moves st'.domain.ends moved (h.joined apart one st.domain at_one (here l.receiver f)))
     go apart one two false false e f at_one at_two = h.joined apart one two at_one at_two
