@@ -24,6 +24,8 @@ pub enum Deed {
     Look,
     /// Looks at what came back: how many buffers.
     LookBack,
+    /// Counts the buffers that are free at the sender.
+    Free,
     /// Shuttles what was put and given back, or lets the ends meet.
     Shuttle,
 }
@@ -46,6 +48,30 @@ pub fn assert_rows<L: Lane>(rt: &impl Abort, lane: &mut L, rows: &[Row]) {
     }
 }
 
+/// Does a deed of a sender.
+pub fn sends<S: SendEnd>(end: &mut S, deed: Deed) -> u32
+    ensures { (moves : List SendMove) × S.Moved end.old moves end.new }
+{
+    match deed {
+        Put(frame) => puts(end, frame),
+        PutLong => puts(end, &long_frame()),
+        LookBack => looks_back(end),
+        _ => end.free_len(),
+    }
+}
+
+/// Does a deed of a receiver.
+pub fn receives<R: RecvEnd>(end: &mut R, deed: Deed) -> u32
+    ensures { (moves : List ReceiveMove) × R.Moved end.old moves end.new }
+{
+    match deed {
+        Take(frame) => takes(end, frame),
+        TakeLong => takes(end, &long_frame()),
+        TakeTwo => takes_two(end),
+        _ => looks(end),
+    }
+}
+
 /// Puts a frame, where a buffer is free: 1 where one was.
 pub fn puts<S: SendEnd>(end: &mut S, frame: &[u8]) -> u32
     ensures { (moves : List SendMove) × S.Moved end.old moves end.new }
@@ -65,7 +91,7 @@ pub fn looks_back<S: SendEnd>(end: &mut S) -> u32
 }
 
 /// Looks at what came.
-pub fn looks<R: RecvEnd>(end: &mut R) -> u32
+fn looks<R: RecvEnd>(end: &mut R) -> u32
     ensures { (moves : List ReceiveMove) × R.Moved end.old moves end.new }
 {
     end.look()
@@ -106,7 +132,7 @@ pub fn keeps<R: RecvEnd>(end: &mut R) -> u32
 }
 
 /// Takes two frames, and gives the later one's buffer back first.
-pub fn takes_two<R: RecvEnd>(end: &mut R) -> u32
+fn takes_two<R: RecvEnd>(end: &mut R) -> u32
     ensures { (moves : List ReceiveMove) × R.Moved end.old moves end.new }
 {
     if end.look() < 2 {
@@ -121,7 +147,7 @@ pub fn takes_two<R: RecvEnd>(end: &mut R) -> u32
 }
 
 /// 512 bytes, few of which are the same.
-pub fn long_frame() -> [u8; 512] {
+fn long_frame() -> [u8; 512] {
     let mut frame = [0; 512];
     for i in 0..512 {
         frame[i] = (i % 251) as u8;
@@ -130,7 +156,7 @@ pub fn long_frame() -> [u8; 512] {
 }
 
 /// On a lane of two buffers whose looks show all that stands.
-pub const AT_ONCE: &[Row] = &[
+pub static AT_ONCE: [Row; 21] = [
     (Take(b"a"), 0),
     (Put(b"a"), 1),
     (PutLong, 1),

@@ -7,8 +7,9 @@ ghost use Rattle.lane_end.specs.LaneRun.{IsLaneRun};
 
 use crate::deeds::{keeps, looks_back, puts_three, takes};
 use lane_end::{
-    AnyRecv, AnySend, RecvEnd, SendEnd, finish_lane, halves_stay_of_one_ring, open_queue0,
-    open_queue1,
+    AnyRecv, AnySend, RecvEnd, RingHalf, RingRecv, RingSend, SendEnd, finish_lane,
+    finished_ends_are_one_lane, halves_stay_of_one_ring, looks_between_meetings_are_exact,
+    open_queue0, open_queue1,
 };
 use split_ring::{Closed, Ring};
 use std::alloc::Global;
@@ -34,7 +35,9 @@ fn finishes_from_driver(alloc: Global) -> Result<Closed, Fail>
 {
     halves_stay_of_one_ring();
     let (ring, driver, device, buffers) = Ring::new(alloc, 1, 8)?;
-    let (send, recv) = open_queue1(&ring, driver, device, buffers)?;
+    let Ok((send, recv)) = open_queue1(&ring, driver, device, buffers) else {
+        unreachable!()
+    };
     let mut send = AnySend::Driver(send);
     let mut recv = AnyRecv::Device(recv);
     plays(&mut send, &mut recv);
@@ -49,7 +52,9 @@ fn finishes_from_device(alloc: Global) -> Result<Closed, Fail>
 {
     halves_stay_of_one_ring();
     let (ring, driver, device, buffers) = Ring::new(alloc, 0, 8)?;
-    let (send, recv) = open_queue0(&ring, driver, device, buffers)?;
+    let Ok((send, recv)) = open_queue0(&ring, driver, device, buffers) else {
+        unreachable!()
+    };
     let mut send = AnySend::Device(send);
     let mut recv = AnyRecv::Driver(recv);
     plays(&mut send, &mut recv);
@@ -58,26 +63,123 @@ fn finishes_from_device(alloc: Global) -> Result<Closed, Fail>
     Ok(finish_lane(ring, send, recv))
 }
 
+/// What is in each place of a finished ring, and how often each half looked and how many entries it saw.
+struct Left {
+    driver_held: &'static [u16],
+    offered_left: &'static [u16],
+    device_held: &'static [u16],
+    returned_left: &'static [u16],
+    driver: (u64, u64),
+    device: (u64, u64),
+}
+
+/// Whether this is what is left in a finished ring.
+fn is_left(closed: &Closed, due: &Left) -> bool {
+    let mut is_due = closed.driver_held() == due.driver_held;
+    is_due &= closed.offered_left() == due.offered_left;
+    is_due &= closed.device_held() == due.device_held;
+    is_due &= closed.returned_left() == due.returned_left;
+    is_due &= (closed.driver_looks(), closed.driver_saw()) == due.driver;
+    is_due & ((closed.device_looks(), closed.device_saw()) == due.device)
+}
+
+const FROM_DRIVER: Left = Left {
+    driver_held: &[0, 6, 7],
+    offered_left: &[3, 4, 5],
+    device_held: &[2],
+    returned_left: &[1],
+    driver: (1, 1),
+    device: (3, 6),
+};
+
 #[test]
 fn each_place_has_its_buffers_from_the_driver(rt: HostRuntime) -> Result<(), Fail> {
     let closed = finishes_from_driver(rt.alloc())?;
-    assert_eq!(rt; closed.driver_held(), [0, 6, 7].as_slice());
-    assert_eq!(rt; closed.offered_left(), [3, 4, 5].as_slice());
-    assert_eq!(rt; closed.device_held(), [2].as_slice());
-    assert_eq!(rt; closed.returned_left(), [1].as_slice());
-    assert_eq!(rt; (closed.driver_looks(), closed.driver_saw()), (1, 1));
-    assert_eq!(rt; (closed.device_looks(), closed.device_saw()), (3, 6));
+    assert!(rt; is_left(&closed, &FROM_DRIVER));
     Ok(())
 }
+
+const FROM_DEVICE: Left = Left {
+    driver_held: &[2],
+    offered_left: &[1],
+    device_held: &[0, 6, 7],
+    returned_left: &[3, 4, 5],
+    driver: (3, 6),
+    device: (1, 1),
+};
 
 #[test]
 fn each_place_has_its_buffers_from_the_device(rt: HostRuntime) -> Result<(), Fail> {
     let closed = finishes_from_device(rt.alloc())?;
-    assert_eq!(rt; closed.device_held(), [0, 6, 7].as_slice());
-    assert_eq!(rt; closed.returned_left(), [3, 4, 5].as_slice());
-    assert_eq!(rt; closed.driver_held(), [2].as_slice());
-    assert_eq!(rt; closed.offered_left(), [1].as_slice());
-    assert_eq!(rt; (closed.device_looks(), closed.device_saw()), (1, 1));
-    assert_eq!(rt; (closed.driver_looks(), closed.driver_saw()), (3, 6));
+    assert!(rt; is_left(&closed, &FROM_DEVICE));
+    Ok(())
+}
+
+// Looks at what came back, puts three frames, gives one buffer back and keeps another.
+fn keeps_one<H: RingHalf, G: RingHalf>(send: &mut RingSend<'_, H>, recv: &mut RingRecv<'_, G>)
+    ensures sends { send.new.half.ring ≡ send.old.half.ring }
+    ensures receives { recv.new.half.ring ≡ recv.old.half.ring }
+{
+    looks_back(send);
+    puts_three(send);
+    takes(recv, b"a");
+    keeps(recv);
+}
+
+/// The ring of a lane from the driver, finished after this from the halves of its ends.
+fn keeps_one_from_driver(alloc: Global) -> Result<Closed, Fail> {
+    let (ring, driver, device, buffers) = Ring::new(alloc, 1, 4)?;
+    let Ok((mut send, mut recv)) = open_queue1(&ring, driver, device, buffers) else {
+        unreachable!()
+    };
+    keeps_one(&mut send, &mut recv);
+    let driver = send.into_half();
+    let device = recv.into_half();
+    Ok(ring.finish(driver, device))
+}
+
+/// The ring of a lane from the device, finished after the same.
+fn keeps_one_from_device(alloc: Global) -> Result<Closed, Fail> {
+    let (ring, driver, device, buffers) = Ring::new(alloc, 0, 4)?;
+    let Ok((mut send, mut recv)) = open_queue0(&ring, driver, device, buffers) else {
+        unreachable!()
+    };
+    keeps_one(&mut send, &mut recv);
+    let device = send.into_half();
+    let driver = recv.into_half();
+    Ok(ring.finish(driver, device))
+}
+
+const ONE_FROM_DRIVER: Left = Left {
+    driver_held: &[3],
+    offered_left: &[2],
+    device_held: &[1],
+    returned_left: &[0],
+    driver: (1, 0),
+    device: (2, 5),
+};
+
+#[test]
+fn a_finished_ring_agrees_with_the_ends_from_the_driver(rt: HostRuntime) -> Result<(), Fail> {
+    finished_ends_are_one_lane();
+    looks_between_meetings_are_exact();
+    let closed = keeps_one_from_driver(rt.alloc())?;
+    assert!(rt; is_left(&closed, &ONE_FROM_DRIVER));
+    Ok(())
+}
+
+const ONE_FROM_DEVICE: Left = Left {
+    driver_held: &[1],
+    offered_left: &[0],
+    device_held: &[3],
+    returned_left: &[2],
+    driver: (2, 5),
+    device: (1, 0),
+};
+
+#[test]
+fn a_finished_ring_agrees_with_the_ends_from_the_device(rt: HostRuntime) -> Result<(), Fail> {
+    let closed = keeps_one_from_device(rt.alloc())?;
+    assert!(rt; is_left(&closed, &ONE_FROM_DEVICE));
     Ok(())
 }

@@ -1,8 +1,6 @@
 //! Plain lanes, and lanes to oneself.
 
-use crate::deeds::{
-    AT_ONCE, Deed, Lane, Row, assert_rows, long_frame, looks, looks_back, puts, takes, takes_two,
-};
+use crate::deeds::{AT_ONCE, Deed, Lane, Row, assert_rows, puts, receives, sends};
 use lane_end::{
     AnyRecv, AnySend, LaneFault, LoopLane, PlainRecv, PlainSend, RecvEnd, SendEnd,
     may_cross_threads, plain_lane,
@@ -13,7 +11,7 @@ use std::test::Fail;
 
 mod pair;
 
-use Deed::{Look, LookBack, Put, PutLong, Shuttle, Take, TakeLong, TakeTwo};
+use Deed::{Free, Look, LookBack, Put, PutLong, Shuttle, Take, TakeLong, TakeTwo};
 use pair::Pair;
 
 // Takes the oldest frame, and sends it on, where a buffer is free: how many bytes it has.
@@ -45,26 +43,25 @@ fn new_alone(alloc: Global, size: u32) -> Result<(u32, u32), LaneFault> {
     Ok((lane.free_len(), RecvEnd::look(&mut lane)))
 }
 
-/// Whether both are refused for their size.
-fn is_no_size(alloc: Global, size: u32) -> bool {
-    matches!(new_plain(alloc, size), Err(LaneFault::Size))
-        && matches!(new_alone(alloc, size), Err(LaneFault::Size))
+/// Whether a lane is refused for its size, or made with all its buffers free.
+fn is_as_due(made: Result<(u32, u32), LaneFault>, size: u32, fits: bool) -> bool {
+    match made {
+        Ok(counts) => fits && counts == (size, 0),
+        Err(LaneFault::Size) => !fits,
+        Err(LaneFault::NoMemory) => false,
+    }
 }
 
-/// Whether both are made with all their buffers free.
-fn is_size(alloc: Global, size: u32) -> bool {
-    matches!(new_plain(alloc, size), Ok((free, 0)) if free == size)
-        && matches!(new_alone(alloc, size), Ok((free, 0)) if free == size)
-}
+/// Sizes, and whether there are lanes of them.
+const SIZES: &[(u32, bool)] = &[(0, false), (257, false), (1, true), (2, true), (256, true)];
 
 #[test]
 fn sizes_from_1_to_256_are_made(rt: HostRuntime) {
     may_cross_threads();
-    for size in [0, 257] {
-        assert!(rt; is_no_size(rt.alloc(), size), "{size}");
-    }
-    for size in [1, 2, 256] {
-        assert!(rt; is_size(rt.alloc(), size), "{size}");
+    for (size, fits) in SIZES {
+        let both = is_as_due(new_plain(rt.alloc(), *size), *size, *fits)
+            && is_as_due(new_alone(rt.alloc(), *size), *size, *fits);
+        assert!(rt; both, "{size}");
     }
 }
 
@@ -141,13 +138,8 @@ fn buffers_come_back_as_they_were_given(rt: HostRuntime) -> Result<(), Fail> {
 impl Lane for LoopLane {
     fn does(&mut self, deed: Deed) -> u32 {
         match deed {
-            Put(frame) => puts(self, frame),
-            PutLong => puts(self, &long_frame()),
-            Take(frame) => takes(self, frame),
-            TakeLong => takes(self, &long_frame()),
-            TakeTwo => takes_two(self),
-            Look => looks(self),
-            LookBack => looks_back(self),
+            Put(_) | PutLong | LookBack | Free => sends(self, deed),
+            Take(_) | TakeLong | TakeTwo | Look => receives(self, deed),
             Shuttle => 0,
         }
     }
@@ -156,7 +148,7 @@ impl Lane for LoopLane {
 #[test]
 fn a_lane_to_oneself_does_the_same(rt: HostRuntime) -> Result<(), Fail> {
     let mut lane = LoopLane::new(rt.alloc(), 2)?;
-    assert_rows(&rt, &mut lane, AT_ONCE);
+    assert_rows(&rt, &mut lane, &AT_ONCE);
     Ok(())
 }
 

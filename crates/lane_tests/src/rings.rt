@@ -1,53 +1,67 @@
 //! Lanes over rings, of both queues.
-ghost use Rattle.std.specs.Prelude.{◌≡◌};
+ghost use Rattle.std.specs.Prelude.{◌≤◌};
 
-use crate::deeds::{
-    AT_ONCE, Deed, Lane, Row, assert_rows, keeps, looks, looks_back, puts, puts_three, takes,
-};
-use lane_end::{
-    RecvEnd, RingHalf, RingRecv, RingSend, SendEnd, finished_ends_are_one_lane,
-    looks_between_meetings_are_exact, may_cross_threads, open_queue0, open_queue1,
-};
-use split_ring::{Closed, Ring};
+use crate::deeds::{AT_ONCE, Deed, Lane, Row, assert_rows};
+use lane_end::may_cross_threads;
+use split_ring::Ring;
 use std::alloc::Global;
 use std::process::Abort;
 use std::test::Fail;
 
 mod pair;
 
-use Deed::{Look, LookBack, Put, PutLong, Shuttle, Take, TakeLong, TakeTwo};
+use Deed::{Free, Look, LookBack, Put, PutLong, Shuttle, Take, TakeLong, TakeTwo};
 use pair::Pair;
 
-/// Asserts what comes of each deed on a lane of two buffers over queue 1.
-fn assert_from_driver(rt: &impl Abort, alloc: Global, rows: &[Row]) -> Result<(), Fail> {
-    let (ring, driver, device, buffers) = Ring::new(alloc, 1, 2)?;
-    let (send, recv) = open_queue1(&ring, driver, device, buffers)?;
-    let mut lane = Pair::from_driver(send, recv);
-    assert_rows(rt, &mut lane, rows);
-    Ok(())
+// The lane from the driver is over queue 1, and that from the device over queue 0.
+const DRIVER: u8 = 1;
+
+const DEVICE: u8 = 0;
+
+/// What is played on a lane.
+#[derive(Clone, Copy)]
+enum Play {
+    /// These rows.
+    Rows(&'static [Row]),
+    /// All its buffers are used once.
+    Whole,
+    /// All its buffers are used so many times.
+    Rounds(u32),
 }
 
-/// The same over queue 0.
-fn assert_from_device(rt: &impl Abort, alloc: Global, rows: &[Row]) -> Result<(), Fail> {
-    let (ring, driver, device, buffers) = Ring::new(alloc, 0, 2)?;
-    let (send, recv) = open_queue0(&ring, driver, device, buffers)?;
-    let mut lane = Pair::from_device(send, recv);
-    assert_rows(rt, &mut lane, rows);
+use Play::{Rounds, Rows, Whole};
+
+/// Asserts what comes of a play on a lane of this size.
+fn assert_play<L: Lane>(rt: &impl Abort, lane: &mut L, size: u32, play: Play) {
+    match play {
+        Rows(rows) => assert_rows(rt, lane, rows),
+        Whole => assert!(rt; is_whole(lane, size), "size {size}"),
+        Rounds(rounds) => assert!(rt; goes_round(lane, rounds)),
+    }
+}
+
+/// Asserts what comes of a play on a lane of this size over a ring of this queue.
+fn assert_over(rt: &impl Abort, alloc: Global, queue: u8, size: u32, play: Play) -> Result<(), Fail>
+    requires { queue ≤ 1 }
+{
+    let (ring, driver, device, buffers) = Ring::new(alloc, queue, size)?;
+    let mut lane = Pair::open(&ring, queue, driver, device, buffers);
+    assert_play(rt, &mut lane, size, play);
     Ok(())
 }
 
 #[test]
 fn frames_arrive_at_once_from_the_driver(rt: HostRuntime) -> Result<(), Fail> {
-    assert_from_driver(&rt, rt.alloc(), AT_ONCE)
+    assert_over(&rt, rt.alloc(), DRIVER, 2, Rows(&AT_ONCE))
 }
 
 #[test]
 fn frames_arrive_at_once_from_the_device(rt: HostRuntime) -> Result<(), Fail> {
-    assert_from_device(&rt, rt.alloc(), AT_ONCE)
+    assert_over(&rt, rt.alloc(), DEVICE, 2, Rows(&AT_ONCE))
 }
 
 // A look shows at least what stood at the meeting before it, and at most what stands at the next.
-const BETWEEN_MEETINGS: &[Row] = &[
+static BETWEEN_MEETINGS: [Row; 27] = [
     (Shuttle, 0),
     (Look, 0),
     (Put(b"a"), 1),
@@ -79,65 +93,41 @@ const BETWEEN_MEETINGS: &[Row] = &[
 
 #[test]
 fn meetings_with_the_driver_change_no_look(rt: HostRuntime) -> Result<(), Fail> {
-    assert_from_driver(&rt, rt.alloc(), BETWEEN_MEETINGS)
+    assert_over(&rt, rt.alloc(), DRIVER, 2, Rows(&BETWEEN_MEETINGS))
 }
 
 #[test]
 fn meetings_with_the_device_change_no_look(rt: HostRuntime) -> Result<(), Fail> {
-    assert_from_device(&rt, rt.alloc(), BETWEEN_MEETINGS)
+    assert_over(&rt, rt.alloc(), DEVICE, 2, Rows(&BETWEEN_MEETINGS))
 }
 
-// How many frames can be put before no buffer is free.
-fn fills<S: SendEnd>(end: &mut S) -> u32 {
-    for put in 0..300 {
-        if puts(end, b"a") == 0 {
-            return put;
-        }
-    }
-    300
-}
-
-// How many frames can be taken before none is shown.
-fn empties<R: RecvEnd>(end: &mut R) -> u32 {
-    for taken in 0..300 {
-        if takes(end, b"a") == 0 {
-            return taken;
+// How often a deed succeeds, at most 300 times.
+fn succeeds<L: Lane>(lane: &mut L, deed: Deed) -> u32 {
+    for done in 0..300 {
+        if lane.does(deed) == 0 {
+            return done;
         }
     }
     300
 }
 
 // Whether all buffers of a lane of this size are free, can be put, come, go back and are free again.
-fn is_whole<S: SendEnd, R: RecvEnd>(send: &mut S, recv: &mut R, size: u32) -> bool {
-    send.free_len() == size
-        && fills(send) == size
-        && send.free_len() == 0
-        && looks(recv) == size
-        && empties(recv) == size
-        && looks_back(send) == size
-        && send.free_len() == size
-}
-
-/// Whether the lane from the driver is whole.
-fn is_whole_from_driver(alloc: Global, size: u32) -> Result<bool, Fail> {
-    let (ring, driver, device, buffers) = Ring::new(alloc, 1, size)?;
-    let (mut send, mut recv) = open_queue1(&ring, driver, device, buffers)?;
-    Ok(is_whole(&mut send, &mut recv, size))
-}
-
-/// Whether the lane from the device is whole.
-fn is_whole_from_device(alloc: Global, size: u32) -> Result<bool, Fail> {
-    let (ring, driver, device, buffers) = Ring::new(alloc, 0, size)?;
-    let (mut send, mut recv) = open_queue0(&ring, driver, device, buffers)?;
-    Ok(is_whole(&mut send, &mut recv, size))
+fn is_whole<L: Lane>(lane: &mut L, size: u32) -> bool {
+    lane.does(Free) == size
+        && succeeds(lane, Put(b"a")) == size
+        && lane.does(Free) == 0
+        && lane.does(Look) == size
+        && succeeds(lane, Take(b"a")) == size
+        && lane.does(LookBack) == size
+        && lane.does(Free) == size
 }
 
 #[test]
 fn lanes_open_with_all_buffers_free(rt: HostRuntime) -> Result<(), Fail> {
     may_cross_threads();
     for size in [2, 16, 256] {
-        assert!(rt; is_whole_from_driver(rt.alloc(), size)?, "{size}");
-        assert!(rt; is_whole_from_device(rt.alloc(), size)?, "{size}");
+        assert_over(&rt, rt.alloc(), DRIVER, size, Whole)?;
+        assert_over(&rt, rt.alloc(), DEVICE, size, Whole)?;
     }
     Ok(())
 }
@@ -172,76 +162,10 @@ const ROUNDS: u32 = 700;
 
 #[test]
 fn indices_wrap_from_the_driver(rt: HostRuntime) -> Result<(), Fail> {
-    let (ring, driver, device, buffers) = Ring::new(rt.alloc(), 1, 256)?;
-    let (send, recv) = open_queue1(&ring, driver, device, buffers)?;
-    let mut lane = Pair::from_driver(send, recv);
-    assert!(rt; goes_round(&mut lane, ROUNDS));
-    Ok(())
+    assert_over(&rt, rt.alloc(), DRIVER, 256, Rounds(ROUNDS))
 }
 
 #[test]
 fn indices_wrap_from_the_device(rt: HostRuntime) -> Result<(), Fail> {
-    let (ring, driver, device, buffers) = Ring::new(rt.alloc(), 0, 256)?;
-    let (send, recv) = open_queue0(&ring, driver, device, buffers)?;
-    let mut lane = Pair::from_device(send, recv);
-    assert!(rt; goes_round(&mut lane, ROUNDS));
-    Ok(())
-}
-
-// Looks at what came back, puts three frames, gives one buffer back and keeps another: the looks showed 0, 3 and 2.
-fn plays<H: RingHalf, G: RingHalf>(send: &mut RingSend<'_, H>, recv: &mut RingRecv<'_, G>) -> bool
-    ensures sends { send.new.half.ring ≡ send.old.half.ring }
-    ensures receives { recv.new.half.ring ≡ recv.old.half.ring }
-{
-    let back = looks_back(send);
-    let put = puts_three(send);
-    let taken = takes(recv, b"a");
-    let shown = keeps(recv);
-    (back, put, taken, shown) == (0, 3, 1, 2)
-}
-
-/// The ring of a lane from the driver, finished after this.
-fn finishes_from_driver(alloc: Global) -> Result<Closed, Fail> {
-    let (ring, driver, device, buffers) = Ring::new(alloc, 1, 4)?;
-    let (mut send, mut recv) = open_queue1(&ring, driver, device, buffers)?;
-    plays(&mut send, &mut recv);
-    let driver = send.into_half();
-    let device = recv.into_half();
-    Ok(ring.finish(driver, device))
-}
-
-/// The ring of a lane from the device, finished after the same.
-fn finishes_from_device(alloc: Global) -> Result<Closed, Fail> {
-    let (ring, driver, device, buffers) = Ring::new(alloc, 0, 4)?;
-    let (mut send, mut recv) = open_queue0(&ring, driver, device, buffers)?;
-    plays(&mut send, &mut recv);
-    let device = send.into_half();
-    let driver = recv.into_half();
-    Ok(ring.finish(driver, device))
-}
-
-#[test]
-fn a_finished_ring_agrees_with_the_ends_from_the_driver(rt: HostRuntime) -> Result<(), Fail> {
-    finished_ends_are_one_lane();
-    looks_between_meetings_are_exact();
-    let closed = finishes_from_driver(rt.alloc())?;
-    assert_eq!(rt; closed.offered_left(), [2].as_slice());
-    assert_eq!(rt; closed.returned_left(), [0].as_slice());
-    assert_eq!(rt; closed.driver_held(), [3].as_slice());
-    assert_eq!(rt; closed.device_held(), [1].as_slice());
-    assert_eq!(rt; (closed.driver_looks(), closed.driver_saw()), (1, 0));
-    assert_eq!(rt; (closed.device_looks(), closed.device_saw()), (2, 5));
-    Ok(())
-}
-
-#[test]
-fn a_finished_ring_agrees_with_the_ends_from_the_device(rt: HostRuntime) -> Result<(), Fail> {
-    let closed = finishes_from_device(rt.alloc())?;
-    assert_eq!(rt; closed.offered_left(), [0].as_slice());
-    assert_eq!(rt; closed.returned_left(), [2].as_slice());
-    assert_eq!(rt; closed.driver_held(), [1].as_slice());
-    assert_eq!(rt; closed.device_held(), [3].as_slice());
-    assert_eq!(rt; (closed.device_looks(), closed.device_saw()), (1, 0));
-    assert_eq!(rt; (closed.driver_looks(), closed.driver_saw()), (2, 5));
-    Ok(())
+    assert_over(&rt, rt.alloc(), DEVICE, 256, Rounds(ROUNDS))
 }

@@ -1,6 +1,7 @@
 ghost use Rattle.lane_end.specs.PlainLane.{AreOneLane};
 
-use crate::deeds::{Deed, Lane, long_frame, looks, looks_back, puts, takes, takes_two};
+use crate::deeds::{Deed, Lane, receives, sends};
+use Deed::{Free, Look, LookBack, Put, PutLong, Shuttle, Take, TakeLong, TakeTwo};
 use lane_end::{LaneFault, PlainRecv, PlainSend, ends_stay_one_lane, plain_lane, shuttle};
 use std::alloc::Global;
 
@@ -20,43 +21,23 @@ impl Pair {
         }
     }
 
-    fn puts(&mut self, frame: &[u8]) -> u32 {
+    fn sends(&mut self, deed: Deed) -> u32 {
         ends_stay_one_lane();
-        puts(&mut self.send, frame)
+        sends(&mut self.send, deed)
     }
 
-    fn looks_back(&mut self) -> u32 {
+    fn receives(&mut self, deed: Deed) -> u32 {
         ends_stay_one_lane();
-        looks_back(&mut self.send)
-    }
-
-    fn looks(&mut self) -> u32 {
-        ends_stay_one_lane();
-        looks(&mut self.recv)
-    }
-
-    fn takes(&mut self, frame: &[u8]) -> u32 {
-        ends_stay_one_lane();
-        takes(&mut self.recv, frame)
-    }
-
-    fn takes_two(&mut self) -> u32 {
-        ends_stay_one_lane();
-        takes_two(&mut self.recv)
+        receives(&mut self.recv, deed)
     }
 }
 
 impl Lane for Pair {
     fn does(&mut self, deed: Deed) -> u32 {
         match deed {
-            Deed::Put(frame) => self.puts(frame),
-            Deed::PutLong => self.puts(&long_frame()),
-            Deed::Take(frame) => self.takes(frame),
-            Deed::TakeLong => self.takes(&long_frame()),
-            Deed::TakeTwo => self.takes_two(),
-            Deed::Look => self.looks(),
-            Deed::LookBack => self.looks_back(),
-            Deed::Shuttle => {
+            Put(_) | PutLong | LookBack | Free => self.sends(deed),
+            Take(_) | TakeLong | TakeTwo | Look => self.receives(deed),
+            Shuttle => {
                 shuttle(&mut self.send, &mut self.recv);
                 0
             }

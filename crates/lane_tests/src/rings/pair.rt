@@ -1,10 +1,16 @@
-ghost use Rattle.lane_end.specs.RingLane.{AreOfOneRing};
+//! Both ends of a lane over a ring.
+ghost use Rattle.std.specs.Prelude.{◌≡◌, ◌≤◌, vec_capacity};
+ghost use Rattle.shared_words.specs.declared.view.Role.TheVariants as role;
+ghost use Rattle.shared_words.specs.Shape.{IsRingSize};
+ghost use Rattle.shared_words.specs.Shown.{size_of};
+ghost use Rattle.split_ring.specs.Ends.{new_end, AreHeld, IsSound};
+ghost use Rattle.lane_end.specs.RingOpening.{new_buffers};
 
-use crate::deeds::{Deed, Lane, long_frame, looks, looks_back, puts, takes, takes_two};
-use lane_end::{
-    AnyRecv, AnySend, DeviceRecv, DeviceSend, DriverRecv, DriverSend, ends_stay_of_one_ring,
-    meet_ends,
-};
+use crate::deeds::{Deed, Lane, receives, sends};
+use Deed::{Free, Look, LookBack, Put, PutLong, Shuttle, Take, TakeLong, TakeTwo};
+use lane_end::{AnyRecv, AnySend, ends_stay_of_one_ring, meet_ends, open_queue0, open_queue1};
+use mc_base::Buffer;
+use split_ring::{Device, Driver, Ring};
 use std::marker::Model;
 
 /// The two ends of a lane over one ring.
@@ -27,63 +33,58 @@ impl<'a> Model for Pair<'a> {
 }
 
 impl<'a> Pair<'a> {
-    /// Over queue 1.
-    pub fn from_driver(send: DriverSend<'a>, recv: DeviceRecv<'a>) -> Pair<'a>
-        requires { AreOfOneRing send recv }
+    /// Opens the lane over a new ring of this queue.
+    pub fn open(
+        ring: &'a Ring,
+        queue: u8,
+        driver: Driver,
+        device: Device,
+        buffers: Vec<Buffer>,
+    ) -> Pair<'a>
+        requires queue { (ring.now.queue ≡ queue) × (queue ≤ 1) }
+        requires size { IsRingSize (size_of ring.now.ring) }
+        requires halves { (driver ≡ new_end ring.now.ring) × (device ≡ new_end ring.now.ring) }
+        requires sound { IsSound role.Driver driver × IsSound role.Device device }
+        requires buffers { buffers.items ≡ new_buffers ring.now.ring }
+        requires held { AreHeld role.Driver driver buffers.items }
+        requires room { size_of ring.now.ring ≤ vec_capacity buffers }
     {
-        Pair {
-            send: AnySend::Driver(send),
-            recv: AnyRecv::Device(recv),
+        if queue == 0 {
+            let Ok((send, recv)) = open_queue0(ring, driver, device, buffers) else {
+                unreachable!()
+            };
+            Pair {
+                send: AnySend::Device(send),
+                recv: AnyRecv::Driver(recv),
+            }
+        } else {
+            let Ok((send, recv)) = open_queue1(ring, driver, device, buffers) else {
+                unreachable!()
+            };
+            Pair {
+                send: AnySend::Driver(send),
+                recv: AnyRecv::Device(recv),
+            }
         }
     }
 
-    /// Over queue 0.
-    pub fn from_device(send: DeviceSend<'a>, recv: DriverRecv<'a>) -> Pair<'a>
-        requires { AreOfOneRing send recv }
-    {
-        Pair {
-            send: AnySend::Device(send),
-            recv: AnyRecv::Driver(recv),
-        }
+    fn sends(&mut self, deed: Deed) -> u32 {
+        ends_stay_of_one_ring();
+        sends(&mut self.send, deed)
     }
 
-    fn puts(&mut self, frame: &[u8]) -> u32 {
+    fn receives(&mut self, deed: Deed) -> u32 {
         ends_stay_of_one_ring();
-        puts(&mut self.send, frame)
-    }
-
-    fn looks_back(&mut self) -> u32 {
-        ends_stay_of_one_ring();
-        looks_back(&mut self.send)
-    }
-
-    fn looks(&mut self) -> u32 {
-        ends_stay_of_one_ring();
-        looks(&mut self.recv)
-    }
-
-    fn takes(&mut self, frame: &[u8]) -> u32 {
-        ends_stay_of_one_ring();
-        takes(&mut self.recv, frame)
-    }
-
-    fn takes_two(&mut self) -> u32 {
-        ends_stay_of_one_ring();
-        takes_two(&mut self.recv)
+        receives(&mut self.recv, deed)
     }
 }
 
 impl<'a> Lane for Pair<'a> {
     fn does(&mut self, deed: Deed) -> u32 {
         match deed {
-            Deed::Put(frame) => self.puts(frame),
-            Deed::PutLong => self.puts(&long_frame()),
-            Deed::Take(frame) => self.takes(frame),
-            Deed::TakeLong => self.takes(&long_frame()),
-            Deed::TakeTwo => self.takes_two(),
-            Deed::Look => self.looks(),
-            Deed::LookBack => self.looks_back(),
-            Deed::Shuttle => {
+            Put(_) | PutLong | LookBack | Free => self.sends(deed),
+            Take(_) | TakeLong | TakeTwo | Look => self.receives(deed),
+            Shuttle => {
                 meet_ends(&mut self.send, &mut self.recv);
                 0
             }

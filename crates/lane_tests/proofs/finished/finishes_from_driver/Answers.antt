@@ -15,12 +15,12 @@ returns c =
     let run : HaveRun role.Driver ring sends.0 receives.0 c.into_half-send.result c.into_half-recv.result = record {
       sent = record {
         end = c.plays.new.send;
-        moved = subst (λ (s : RingSender). AnySends (send.Driver s) sends.0 c.plays.new.send) c.in_ok-send.ensures.sender sends.1;
+        moved = subst (λ (s : RingSender). AnySends (send.Driver s) sends.0 c.plays.new.send) c.in-Ok.ensures.sender sends.1;
         leaves = c.into_half-send.ensures;
       };
       received = record {
         end = c.plays.new.recv;
-        moved = subst (λ (r : RingReceiver). AnyReceives (recv.Device r) receives.0 c.plays.new.recv) c.in_ok-send.ensures.receiver receives.1;
+        moved = subst (λ (r : RingReceiver). AnyReceives (recv.Device r) receives.0 c.plays.new.recv) c.in-Ok.ensures.receiver receives.1;
         leaves = c.into_half-recv.ensures;
       };
     } in (sends.0, receives.0, subst (λ (size : ℕ). IsLaneRun role.Driver size sends.0 receives.0 c.finish_lane.result) c.in_ok-ring.ensures.ring.1 (c.finish_lane.ensures.run role.Driver sends.0 receives.0 run))

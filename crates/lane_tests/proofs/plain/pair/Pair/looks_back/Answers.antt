@@ -1,7 +1,0 @@
-use Rattle.std.proofs.Common.{refl, []}
-use Rattle.lane_tests.proofs.plain.pair.Pair.looks_back.Goals as goal
-
-pub invariant_of-self : goal.invariant_of-self
-invariant_of-self c = let lane = c.args.self.now in record {
-  lane = c.ends_stay_one_lane.ensures lane.send c.looks_back.new.end lane.recv lane.recv c.looks_back.ensures.0 [] lane.lane c.looks_back.ensures.1 refl;
-}

@@ -1,6 +1,0 @@
-use Rattle.std.proofs.Common.{[]}
-use Rattle.lane_end.specs.AnyReceiver as any
-use Rattle.lane_tests.proofs.rings.pair.Pair.looks_back.Goals as goal
-
-pub invariant_of-self : goal.invariant_of-self
-invariant_of-self c = let i = c.self.inside in c.ends_stay_of_one_ring.ensures i.send c.looks_back.new.end i.recv i.recv c.looks_back.ensures.0 [] c.self.invariant c.looks_back.ensures.1 (any.AnyReceives-none i.recv)
