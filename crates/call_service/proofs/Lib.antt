@@ -1,0 +1,5 @@
+mod Numbers
+mod Histories
+mod Repeats
+mod Arrivals
+mod Keeping
