@@ -1,5 +1,5 @@
 -- A call that answers with a word is refused with it.
-use Rattle.std.proofs.Common.{◌≡◌, ℕ, true, false, not, List, [], ◌∷◌, length, Option, Some, None, refl, ap, ◌∙◌}
+use Rattle.std.proofs.Common.{◌≡◌, ℕ, false, List, [], ◌∷◌, length, Option, Some, None, refl, ap, ◌∙◌}
 use Rattle.std.specs.Prelude.{◌==◌}
 use Rattle.mc_base.specs.declared.channel.Bits.{Bits}
 use Rattle.mc_base.specs.declared.channel.Side.TheVariants.{Sender, Receiver}
@@ -7,7 +7,7 @@ use Rattle.mc_base.specs.declared.refusal.Refusal.{Refusal}
 use Rattle.board_model.specs.State.{Item, DomainState, queue_at}
 use Rattle.board_model.specs.Choice.{best, oldest}
 use Rattle.board_model.specs.DomainCall.{DomainCall, create_at, delete_at, lookup_of, send_from, receive_at, request_at, available_at, connect_from, open_at, packet_from, lend_at, packet_request_at, release_of, scalar_from, scalar_at, close_at, test_of, wait_for, cancel_of, raw_to, turn_alone}
-use Rattle.board_model.specs.Journal.{PlainAnswer, PlainResult, refuses, agrees, tells, gives, connects, completes}
+use Rattle.board_model.specs.Journal.{PlainResult, refuses, agrees, tells, gives, connects, completes}
 use Rattle.board_model.specs.Answer.{local, holds, words_of, refusal, lent_whole, value_of, given, success, answer_by, answer}
 use Rattle.board_model.proofs.MessageAlls.{none-passes}
 use Rattle.board_model.proofs.MessageBest.{best-none}
