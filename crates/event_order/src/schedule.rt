@@ -14,6 +14,8 @@ struct Script {
     end: usize,
     done: u32,
     call: Option<u32>,
+    /// Its last event put a frame, which is that of the call where an answer follows.
+    put: bool,
 }
 
 /// How far the events are scheduled: what is left of each domain's, how many frames are on each lane and how many buffers are on their way
@@ -41,6 +43,7 @@ fn scripts_of(events: &[Event]) -> [Script; 8] {
         end: 0,
         done: 0,
         call: None,
+        put: false,
     };
     let mut scripts = [none; 8];
     for (place, event) in events.iter().enumerate() {
@@ -74,12 +77,14 @@ impl Schedule<'_> {
         self.scripts[domain].call = first_answer(left);
     }
 
-    /// How long a domain may wait for its next event: not at all where its call is due, and else the longer the more it did.
-    fn patience(&self, domain: usize) -> u32
+    /// How long a domain may wait for its next event: not at all where its call is due, or is answered behind its put, and else the longer the more
+    /// it did.
+    fn patience(&self, domain: usize, event: Event) -> u32
         requires { domain < 8 }
     {
         let script = self.scripts[domain];
-        if self.call.is_some() && script.call == self.call {
+        let ends_call = script.put && matches!(event.what, What::Answer { .. });
+        if ends_call || (self.call.is_some() && script.call == self.call) {
             0
         } else {
             script.done.saturating_add(1)
@@ -116,7 +121,7 @@ impl Schedule<'_> {
         let mut least = u32::MAX;
         for domain in 0..8 {
             if let Some(event) = self.next_of(domain) {
-                let patience = self.patience(domain);
+                let patience = self.patience(domain, event);
                 if self.is_ready(event) && patience < least {
                     best = Some(domain);
                     least = patience;
@@ -133,6 +138,7 @@ impl Schedule<'_> {
         let script = &mut self.scripts[domain];
         script.next = script.next.saturating_add(1);
         script.done = script.done.saturating_add(1);
+        script.put = matches!(event.what, What::Put { .. });
         match event.what {
             What::Put { peer } => {
                 let place = lane(event.domain, peer);

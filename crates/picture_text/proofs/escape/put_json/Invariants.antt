@@ -1,0 +1,8 @@
+use Rattle.std.proofs.Common.{take}
+use Rattle.std.specs.List.{flat_map}
+use Rattle.outer_io.specs.Puts.{Puts}
+use Rattle.picture_text.specs.Escapes.{json_of}
+use Rattle.picture_text.proofs.escape.put_json.Given as goal
+
+abbrev pub invariant-loop-byte : goal.invariant-loop-byte
+invariant-loop-byte g l = Puts g.K.Sink l.initial.out l.out (flat_map json_of (take l.byte-index l.text))
