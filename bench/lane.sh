@@ -4,22 +4,21 @@
 # Run it at the top of the repository: sh bench/lane.sh [TURNS]
 # Instructions are counted by callgrind, where valgrind is installed.
 #
-# A proved program is built only where it is older than its sources.
+# The proved program is built only where it is older than its sources.
 set -e
 mkdir -p bench/out
 rustc -O --edition 2021 -o bench/out/plain_ring bench/plain_ring.rs
 (cd crates/ring_bench && rt run >/dev/null 2>&1)
-(cd crates/lane_bench && rt run >/dev/null 2>&1)
 export MALLOC_TRIM_THRESHOLD_=1000000000
 TURNS=${1:-7} exec python3 - <<'END'
 import os, re, shutil, subprocess, tempfile
 
-PLAIN, HALVES, LANE = "bench/out/plain_ring", "crates/ring_bench/out/ring_bench", "crates/lane_bench/out/lane_bench"
+PLAIN, PROVED = "bench/out/plain_ring", "crates/ring_bench/out/ring_bench"
 PROGRAMS = [
     ("plain Rust", PLAIN, []),
-    ("halves", HALVES, []),
-    ("ends, queue 1", LANE, ["1"]),
-    ("ends, queue 0", LANE, ["0"]),
+    ("halves", PROVED, ["halves"]),
+    ("ends, queue 1", PROVED, ["1"]),
+    ("ends, queue 0", PROVED, ["0"]),
 ]
 SHOWN = 4   # how many functions of each program
 
@@ -52,9 +51,9 @@ def counted(words):
 
 
 for mode, size, rounds, trips in [("one", 256, 3_000_000, 1), ("each", 256, 12_000, 256)]:
-    for name, program, queue in PROGRAMS:
-        few, many = [[program, mode, str(size), str(n)] + queue for n in (rounds // 60, rounds // 30)]
-        all_rounds = [program, mode, str(size), str(rounds)] + queue
+    for name, program, over in PROGRAMS:
+        few, many = [[program, mode, str(size), str(n)] + over for n in (rounds // 60, rounds // 30)]
+        all_rounds = [program, mode, str(size), str(rounds)] + over
         least = min(seconds(all_rounds) for _ in range(int(os.environ["TURNS"]))) * 1e9 / (rounds * trips)
         print(f"{mode:5} {name:14} {least:6.1f} ns", end="")
         if not shutil.which("valgrind"):

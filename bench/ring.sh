@@ -66,7 +66,7 @@ for mode, size, rounds, trips, threads in [
     proved, plain = [], []
     for _ in range(int(os.environ["TURNS"])):
         plain.append(seconds(PLAIN, words, threads))
-        proved.append(seconds(PROVED, words, threads))
+        proved.append(seconds(PROVED, words + ["halves"], threads))
     scale = 1e9 / (rounds * trips)
     a, b = [statistics.median(times) * scale for times in (proved, plain)]
     c, d = [min(times) * scale for times in (proved, plain)]

@@ -1,14 +1,47 @@
-//! Both ends of a lane on one thread.
+//! The ends of a lane over a ring, both on one thread.
 ghost use Rattle.std.specs.Prelude.{◌≤◌, ◌<◌, length};
 ghost use Rattle.mc_base.specs.Limits.{buffer_size};
 
-use lane_end::{RecvEnd, SendEnd};
+use lane_end::{RecvEnd, SendEnd, open_queue0, open_queue1};
+use split_ring::Ring;
+use std::alloc::Global;
 
 /// How many frames move at a time.
 #[derive(Clone, Copy)]
 pub enum Mode {
     One,
     Each,
+}
+
+impl Mode {
+    pub fn of(word: &str) -> Mode {
+        match word {
+            "each" => Mode::Each,
+            _ => Mode::One,
+        }
+    }
+}
+
+/// How many buffers came back from the device in rounds over queue 1, where there is a lane of this size.
+pub fn from_driver(alloc: Global, mode: Mode, size: u32, rounds: u32) -> Option<u64> {
+    let Ok((ring, driver, device, buffers)) = Ring::new(alloc, 1, size) else {
+        return None;
+    };
+    let Ok((mut send, mut recv)) = open_queue1(&ring, driver, device, buffers) else {
+        unreachable!()
+    };
+    Some(run(&mut send, &mut recv, mode, rounds))
+}
+
+/// How many came back from the driver in rounds over queue 0.
+pub fn from_device(alloc: Global, mode: Mode, size: u32, rounds: u32) -> Option<u64> {
+    let Ok((ring, driver, device, buffers)) = Ring::new(alloc, 0, size) else {
+        return None;
+    };
+    let Ok((mut send, mut recv)) = open_queue0(&ring, driver, device, buffers) else {
+        unreachable!()
+    };
+    Some(run(&mut send, &mut recv, mode, rounds))
 }
 
 /// A frame of 1 to 512 bytes, whose length differs from round to round.
@@ -45,7 +78,7 @@ fn serve<R: RecvEnd>(recv: &mut R) {
 }
 
 /// Does the rounds, and answers how many buffers came back.
-pub fn run<S: SendEnd, R: RecvEnd>(send: &mut S, recv: &mut R, mode: Mode, rounds: u32) -> u64 {
+fn run<S: SendEnd, R: RecvEnd>(send: &mut S, recv: &mut R, mode: Mode, rounds: u32) -> u64 {
     let bytes = [7; 512];
     let mut back: u64 = 0;
     for round in 0..rounds {

@@ -1,5 +1,5 @@
 use Rattle.std.proofs.Common.{◌≡◌, ◌+◌}
-use Rattle.lane_bench.proofs.rounds.serve.Given as goal
+use Rattle.ring_bench.proofs.lane.serve.Given as goal
 
 -- what is shown and not taken is what the loop has left
 abbrev pub invariant-loop : goal.invariant-loop
