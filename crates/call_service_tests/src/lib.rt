@@ -1,0 +1,11 @@
+//! Tests of numbered calls, by the public calls of the service, in a crate of their own: each is proved once.
+#![tactic(auto)]
+
+#[cfg(test)]
+mod faults;
+#[cfg(test)]
+mod many;
+#[cfg(test)]
+mod rows;
+#[cfg(test)]
+mod service_rows;
