@@ -134,31 +134,31 @@ function split_line(    blank) {
 
 # What is wrong with the form of the line.
 function wrong_form(    i, word, due, why) {
-    if (is_call && split(words[1], some, ".") != 2) return "`" words[1] "` is no caller: D.N, a domain and its node"
+    if (is_call && split(words[1], some, ".") != 2) return "`" words[1] "` is not a caller, which is D.N: a domain and its node"
     if (is_call && call_at == 4 && (why = label_slip(words[2])) != "") return why
-    if (pattern == "") return is_call && call_at > words_count ? "the line ends where a call is due" : \
-        "`" (is_call ? call : words[1]) "` is no " (is_call ? "call" : "first word of a line")
+    if (pattern == "") return is_call && call_at > words_count ? "the line ends where a call is expected" : \
+        "`" (is_call ? call : words[1]) "` is not " (is_call ? "a call" : "the first word of any line")
     if (is_call && takes_label[call] && words[3] != "=") return "`" call "` needs a label: its request or packet has no name yet"
     if (has_try && call ~ /^wait/) return "a wait takes no try: it makes turns of its own, up to its limit"
     for (i = 1; i <= pattern_count; i++) {
         word = words[from + i - 1]
         due = pattern_word[i]
-        if (from + i - 1 > words_count) return "the line ends where " (due ~ /^[A-Z]/ ? due : "`" due "`") " is due"
-        if (due ~ /^[a-z]/ && word != due) return "`" word "` stands where `" due "` is due"
-        if (due == "KIND" && word != "packet" && word != "scalar") return "`" word "` is no KIND: the word packet or scalar"
-        if (due == "D:N:P" && split(word, some, ":") != 3) return "`" word "` is no name: D:N:P, with two colons"
+        if (from + i - 1 > words_count) return "the line ends where " (due ~ /^[A-Z]/ ? due : "`" due "`") " is expected"
+        if (due ~ /^[a-z]/ && word != due) return "`" due "` is expected in place of `" word "`"
+        if (due == "KIND" && word != "packet" && word != "scalar") return "`" word "` is not a KIND, which is the word packet or scalar"
+        if (due == "D:N:P" && split(word, some, ":") != 3) return "`" word "` is not a name, which is D:N:P with two colons"
         if (due == "LABEL" && (why = label_slip(word)) != "") return why
         if (due == "LABEL,LABEL" && (why = labels_slip(word)) != "") return why
     }
     if (words_count > from + pattern_count - 1)
-        return "`" words[from + pattern_count] "` stands behind the last word of this form; " \
+        return "`" words[from + pattern_count] "` comes after the last word of this form; " \
             "a comment is a line of its own, with # before it"
     return ""
 }
 
 function label_slip(word) {
     if (word ~ /^[a-z][a-z0-9_]*$/ && length(word) <= 16) return ""
-    return "`" word "` is no label: " (word ~ /[A-Z]/ ? "it has a capital letter" : word !~ /^[a-z]/ ? "it does not begin with a letter" : \
+    return "`" word "` is not a label: " (word ~ /[A-Z]/ ? "it has a capital letter" : word !~ /^[a-z]/ ? "it does not begin with a letter" : \
         length(word) > 16 ? "it has more than 16 characters" : "it has another character than a to z, digits and _")
 }
 
@@ -188,7 +188,7 @@ function wrong_number(    i, due, word, parts, why, bits) {
             if (why == "") why = number_slip(parts[3], "P of a name", range["P of a name"])
         } else if (due == "BITS") {
             bits = word
-            if (word !~ /^(8|16|32|64)$/) return "`" word "` is no BITS: 8, 16, 32 or 64"
+            if (word !~ /^(8|16|32|64)$/) return "`" word "` is not one of the BITS 8, 16, 32 and 64"
         } else if (due == "VALUE") why = number_slip(word, "VALUE of " bits " bits", "0 " greatest(bits))
         else if (due ~ /^[A-Z]+$/ && (words[1] " " due) in range && !is_call) why = number_slip(word, due, range[words[1] " " due])
         else if (is_call && due in range) why = number_slip(word, due, range[due])
@@ -204,7 +204,7 @@ function greatest(bits) {
 
 function number_slip(word, name, low_high,    ends) {
     split(low_high, ends, " ")
-    if (word !~ /^[0-9]+$/) return "`" word "` is no number, where " name " is " ends[1] " to " ends[2]
+    if (word !~ /^[0-9]+$/) return "`" word "` is not a number; " name " is " ends[1] " to " ends[2]
     if (word ~ /^0[0-9]/) return "`" word "` has a leading zero"
     if (below(word, ends[1]) || below(ends[2], word)) return "`" word "` is out of range: " name " is " ends[1] " to " ends[2]
     return ""
@@ -234,7 +234,7 @@ function wrong_bytes(    i, word, bad) {
         bad = word
         gsub(/[0-9a-fA-F]/, "", bad)
         word = length(word) > 40 ? substr(word, 1, 40) ".." : word
-        if (bad != "") return "`" word "`: `" substr(bad, 1, 1) "` is no hexadecimal digit"
+        if (bad != "") return "`" word "`: `" substr(bad, 1, 1) "` is not a hexadecimal digit"
         bad = length(words[from + i - 1])
         if (bad % 2) return "`" word "` has " bad " digits, and two make a byte"
         return "`" word "` has " bad / 2 " bytes, and " (call == "raw" ? "`raw` puts 1 to 512" : "9,000 are the most")
@@ -316,7 +316,7 @@ function wrong_link(    i, word) {
         if ((word[2] == words[2] && word[3] == words[3]) || (word[2] == words[3] && word[3] == words[2]))
             return "domains " words[2] " and " words[3] " are linked by line " i " already; one link has a lane each way"
     }
-    return "size " words[5] " is no power of two from 2 to 256"
+    return "size " words[5] " is not a power of two from 2 to 256"
 }
 
 # The form that the line has, or the nearest one.
