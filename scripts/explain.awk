@@ -158,7 +158,8 @@ function wrong_form(    i, word, due, why) {
 
 function label_slip(word) {
     if (word ~ /^[a-z][a-z0-9_]*$/ && length(word) <= 16) return ""
-    return "`" word "` is not a label: " (word ~ /[A-Z]/ ? "it has a capital letter" : word !~ /^[a-z]/ ? "it does not begin with a letter" : \
+    return "`" word "` is not a label: " \
+        (word ~ /[A-Z]/ ? "it has a capital letter" : word !~ /^[a-z]/ ? "it does not begin with a letter" : \
         length(word) > 16 ? "it has more than 16 characters" : "it has another character than a to z, digits and _")
 }
 
