@@ -74,13 +74,15 @@ struct Left {
 }
 
 /// Whether this is what is left in a finished ring.
-fn is_left(closed: &Closed, due: &Left) -> bool {
+fn is_left(finished: Result<Closed, Fail>, due: &Left) -> Result<bool, Fail> {
+    let closed = finished?;
     let mut is_due = closed.driver_held() == due.driver_held;
     is_due &= closed.offered_left() == due.offered_left;
     is_due &= closed.device_held() == due.device_held;
     is_due &= closed.returned_left() == due.returned_left;
     is_due &= (closed.driver_looks(), closed.driver_saw()) == due.driver;
-    is_due & ((closed.device_looks(), closed.device_saw()) == due.device)
+    is_due &= (closed.device_looks(), closed.device_saw()) == due.device;
+    Ok(is_due)
 }
 
 const FROM_DRIVER: Left = Left {
@@ -94,8 +96,7 @@ const FROM_DRIVER: Left = Left {
 
 #[test]
 fn each_place_has_its_buffers_from_the_driver(rt: HostRuntime) -> Result<(), Fail> {
-    let closed = finishes_from_driver(rt.alloc())?;
-    assert!(rt; is_left(&closed, &FROM_DRIVER));
+    assert!(rt; is_left(finishes_from_driver(rt.alloc()), &FROM_DRIVER)?);
     Ok(())
 }
 
@@ -110,8 +111,7 @@ const FROM_DEVICE: Left = Left {
 
 #[test]
 fn each_place_has_its_buffers_from_the_device(rt: HostRuntime) -> Result<(), Fail> {
-    let closed = finishes_from_device(rt.alloc())?;
-    assert!(rt; is_left(&closed, &FROM_DEVICE));
+    assert!(rt; is_left(finishes_from_device(rt.alloc()), &FROM_DEVICE)?);
     Ok(())
 }
 
@@ -163,8 +163,7 @@ const ONE_FROM_DRIVER: Left = Left {
 fn a_finished_ring_agrees_with_the_ends_from_the_driver(rt: HostRuntime) -> Result<(), Fail> {
     finished_ends_are_one_lane();
     looks_between_meetings_are_exact();
-    let closed = keeps_one_from_driver(rt.alloc())?;
-    assert!(rt; is_left(&closed, &ONE_FROM_DRIVER));
+    assert!(rt; is_left(keeps_one_from_driver(rt.alloc()), &ONE_FROM_DRIVER)?);
     Ok(())
 }
 
@@ -179,7 +178,6 @@ const ONE_FROM_DEVICE: Left = Left {
 
 #[test]
 fn a_finished_ring_agrees_with_the_ends_from_the_device(rt: HostRuntime) -> Result<(), Fail> {
-    let closed = keeps_one_from_device(rt.alloc())?;
-    assert!(rt; is_left(&closed, &ONE_FROM_DEVICE));
+    assert!(rt; is_left(keeps_one_from_device(rt.alloc()), &ONE_FROM_DEVICE)?);
     Ok(())
 }

@@ -173,24 +173,30 @@ fn fills_up(from: &mut AnyRecv, to: &mut AnySend, len: u32) -> bool {
     sends_on(from, to) == len && to.free_len() == 0 && to.look() == 0
 }
 
+// Whether the one frame, of three bytes, is sent on once over ends of any kind.
+fn sends_on_once_of_any_kind(from: PlainRecv, to: PlainSend) -> bool {
+    let mut from = AnyRecv::Plain(from);
+    let mut to = AnySend::Plain(to);
+    fills_up(&mut from, &mut to, 3) && fills_up(&mut from, &mut to, 0)
+}
+
 #[test]
 fn frames_are_sent_on_over_ends_of_any_kind(rt: HostRuntime) -> Result<(), Fail> {
     let (from, to) = ends(rt.alloc())?;
-    let (mut from, mut to) = (AnyRecv::Plain(from), AnySend::Plain(to));
-    assert!(rt; fills_up(&mut from, &mut to, 3) && fills_up(&mut from, &mut to, 0));
+    assert!(rt; sends_on_once_of_any_kind(from, to));
     Ok(())
 }
 
 // Whether one frame is sent on from one lane to another.
-fn sends_on_alone(from: &mut LoopLane, to: &mut LoopLane) -> bool {
+fn sends_on_alone(alloc: Global) -> Result<bool, LaneFault> {
+    let mut from = LoopLane::new(alloc, 1)?;
+    let mut to = LoopLane::new(alloc, 1)?;
     from.does(Put(b"abc"));
-    sends_on_once(from, to) && to.does(Take(b"abc")) == 1
+    Ok(sends_on_once(&mut from, &mut to) && to.does(Take(b"abc")) == 1)
 }
 
 #[test]
 fn frames_are_sent_on_over_lanes_to_oneself(rt: HostRuntime) -> Result<(), Fail> {
-    let mut from = LoopLane::new(rt.alloc(), 1)?;
-    let mut to = LoopLane::new(rt.alloc(), 1)?;
-    assert!(rt; sends_on_alone(&mut from, &mut to));
+    assert!(rt; sends_on_alone(rt.alloc())?);
     Ok(())
 }

@@ -32,12 +32,16 @@ enum Play {
 use Play::{Rounds, Rows, Whole};
 
 /// Asserts what comes of a play on a lane of this size.
-fn assert_play<L: Lane>(rt: &impl Abort, lane: &mut L, size: u32, play: Play) {
-    match play {
-        Rows(rows) => assert_rows(rt, lane, rows),
-        Whole => assert!(rt; is_whole(lane, size), "size {size}"),
-        Rounds(rounds) => assert!(rt; goes_round(lane, rounds)),
-    }
+fn assert_play(rt: &impl Abort, mut lane: Pair<'_>, size: u32, play: Play) {
+    let is_due = match play {
+        Rows(rows) => {
+            assert_rows(rt, &mut lane, rows);
+            true
+        }
+        Whole => is_whole(&mut lane, size),
+        Rounds(rounds) => goes_round(&mut lane, rounds),
+    };
+    assert!(rt; is_due, "size {size}");
 }
 
 /// Asserts what comes of a play on a lane of this size over a ring of this queue.
@@ -45,8 +49,8 @@ fn assert_over(rt: &impl Abort, alloc: Global, queue: u8, size: u32, play: Play)
     requires { queue ≤ 1 }
 {
     let (ring, driver, device, buffers) = Ring::new(alloc, queue, size)?;
-    let mut lane = Pair::open(&ring, queue, driver, device, buffers);
-    assert_play(rt, &mut lane, size, play);
+    let lane = Pair::open(&ring, queue, driver, device, buffers);
+    assert_play(rt, lane, size, play);
     Ok(())
 }
 
@@ -113,13 +117,13 @@ fn succeeds<L: Lane>(lane: &mut L, deed: Deed) -> u32 {
 
 // Whether all buffers of a lane of this size are free, can be put, come, go back and are free again.
 fn is_whole<L: Lane>(lane: &mut L, size: u32) -> bool {
-    lane.does(Free) == size
-        && succeeds(lane, Put(b"a")) == size
-        && lane.does(Free) == 0
-        && lane.does(Look) == size
-        && succeeds(lane, Take(b"a")) == size
-        && lane.does(LookBack) == size
-        && lane.does(Free) == size
+    let mut is_due = lane.does(Free) == size;
+    is_due &= succeeds(lane, Put(b"a")) == size;
+    is_due &= lane.does(Free) == 0;
+    is_due &= lane.does(Look) == size;
+    is_due &= succeeds(lane, Take(b"a")) == size;
+    is_due &= lane.does(LookBack) == size;
+    is_due & (lane.does(Free) == size)
 }
 
 #[test]
@@ -144,17 +148,15 @@ fn does_all<L: Lane>(lane: &mut L, deed: Deed, times: u32) -> bool {
 
 // Whether a lane of 256 is filled, half taken, met and emptied in each round.
 fn goes_round<L: Lane>(lane: &mut L, rounds: u32) -> bool {
+    let mut is_due = true;
     for _ in 0..rounds {
-        let is_round = does_all(lane, Put(b"a"), 256)
-            && does_all(lane, Take(b"a"), 128)
-            && lane.does(Shuttle) == 0
-            && does_all(lane, Take(b"a"), 128)
-            && lane.does(LookBack) == 256;
-        if !is_round {
-            return false;
-        }
+        is_due &= does_all(lane, Put(b"a"), 256);
+        is_due &= does_all(lane, Take(b"a"), 128);
+        is_due &= lane.does(Shuttle) == 0;
+        is_due &= does_all(lane, Take(b"a"), 128);
+        is_due &= lane.does(LookBack) == 256;
     }
-    true
+    is_due
 }
 
 // So many that the indices of a ring wrap twice: more than 131,072 frames.
