@@ -24,7 +24,7 @@ use Rattle.report_text.proofs.TextFronts.{Ended}
 use Rattle.report_text.proofs.UnendedWords.{HaveNone, decimal-none, spaced-none}
 use Rattle.mc_journal.specs.EntryText.{IsEntryLine}
 use Rattle.report_laws.specs.RunReports.{HaveEntryLines}
-use Rattle.report_laws.proofs.Pieces.{AreTextsOf}
+use Rattle.report_laws.specs.Reasons.{AreTextsOf}
 use Rattle.report_laws.proofs.TextRows.{text-append, text-map}
 use Rattle.report_laws.proofs.WholeRows.{line-ended, entry-none, entry-ended}
 

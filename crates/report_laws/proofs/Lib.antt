@@ -20,6 +20,7 @@ mod BackWalks
 mod PlacesDue
 mod BacksFit
 pub mod RunsRight
+pub mod ReasonsOfRuns
 mod ExactForms
 mod RightTexts
 mod BacksTold

@@ -7,7 +7,7 @@ use Rattle.board_model.specs.declared.scenario.Scenario.{Scenario}
 use Rattle.board_model.specs.Board.{DomainJournal, IsBoardRun}
 use Rattle.board_model.specs.Journal.{PlainEntry, joined}
 use Rattle.board_model.specs.LinkedBoard.{IsLinkedBoard}
-use Rattle.board_model.specs.Report.{Mode, line_text, lines_of}
+use Rattle.board_model.specs.Report.{Mode}
 use Rattle.board_model.specs.Run.{IsDomainRun, IsWhole}
 use Rattle.board_model.specs.Scenario.{script, rising}
 use Rattle.board_model.specs.Unjoined.{peers_of}
@@ -22,16 +22,7 @@ use Rattle.report_text.specs.TextPass.{puts_of_script, told_by_text}
 use Rattle.report_text.specs.TotalPass.{number_texts, rings_due, wrong_ring_back}
 use Rattle.report_text.proofs.RunsTold.{IsRight}
 use Rattle.report_laws.specs.RunReports.{BacksFit, IsRunReport}
-
--- the journal in a text has the lines of this one
-pub record IsTextOf (j : DomainJournal) (t : JournalText) : Type 0 where
-  pub line : t.line ≡ j.line
-  pub texts : t.texts ≡ map line_text (lines_of j)
-
-abbrev pub AreTextsOf : List DomainJournal → List JournalText → Type 0
-AreTextsOf [] [] = Unit {0}
-AreTextsOf (j ∷ js) (t ∷ ts) = IsTextOf j t × AreTextsOf js ts
-AreTextsOf js ts = ⊥
+use Rattle.report_laws.specs.Reasons.{IsTextOf, AreTextsOf}
 
 -- ---- the first pass
 

@@ -27,7 +27,8 @@ use Rattle.report_text.proofs.TotalsTold.{IsDue, numbers-same, rings-same}
 use Rattle.report_text.proofs.LinesTold.{first-same}
 use Rattle.report_text.proofs.RightReports.{rings-due-same}
 use Rattle.report_laws.specs.RunReports.{IsRunReport, ReportsAreOfOneRun, RunReportsAreRight}
-use Rattle.report_laws.proofs.Pieces.{AreTextsOf, IsReadBack, HaveRightSteps, AreToldRuns}
+use Rattle.report_laws.specs.Reasons.{AreTextsOf}
+use Rattle.report_laws.proofs.Pieces.{IsReadBack, HaveRightSteps, AreToldRuns}
 use Rattle.report_laws.proofs.TextsReadBack.{reports_read_back}
 use Rattle.report_laws.proofs.StepsRight.{steps_right}
 use Rattle.report_laws.proofs.LanesFit.{lanes_fit}
@@ -35,7 +36,7 @@ use Rattle.report_laws.proofs.BacksFit.{backs_fit}
 use Rattle.report_laws.proofs.ToldRuns.{dues-are}
 
 module _ (s : Scenario) (board : IsLinkedBoard s) where
-  steps-of : (js : List DomainJournal) (ts : List JournalText) → AllByRecursion (IsRight s board) ts → AreTextsOf js ts → AllByRecursion (λ j. IsDomainRun s j.line j.entries) js → AllByRecursion (λ j. IsWhole s j.line j.entries) js → HaveRightSteps s js ts
+  pub steps-of : (js : List DomainJournal) (ts : List JournalText) → AllByRecursion (IsRight s board) ts → AreTextsOf js ts → AllByRecursion (λ j. IsDomainRun s j.line j.entries) js → AllByRecursion (λ j. IsWhole s j.line j.entries) js → HaveRightSteps s js ts
   steps-of [] [] right texts runs whole = tt
   steps-of [] (t ∷ ts) right texts runs whole = absurd texts
   steps-of (j ∷ js) [] right texts runs whole = absurd texts

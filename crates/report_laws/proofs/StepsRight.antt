@@ -25,7 +25,8 @@ use Rattle.report_text.proofs.EntriesTold.{unjoined-is}
 use Rattle.report_text.proofs.LinesTold.{Tell}
 use Rattle.report_text.proofs.RunsTold.{IsRight, told-parts, due-left}
 use Rattle.report_text.proofs.StepsDue.{Due}
-use Rattle.report_laws.proofs.Pieces.{IsTextOf, StepsOfRunsAreRight}
+use Rattle.report_laws.specs.Reasons.{IsTextOf}
+use Rattle.report_laws.proofs.Pieces.{StepsOfRunsAreRight}
 use Rattle.report_laws.proofs.LineTexts.{texts-one}
 use Rattle.report_laws.proofs.RunForms.{domain-run}
 use Rattle.report_laws.proofs.EntriesAlike.{HaveOneEntry, entries-alike}
@@ -46,13 +47,13 @@ module _ (s : Scenario) (board : IsLinkedBoard s) (j : DomainJournal) (t : Journ
     told-run : ToldRun (script s t.line.domain) (start s t.line) (journal_told s t).entries j.entries
     told-run = run-due (script s t.line.domain) (journal_told s t).entries j.entries (start s t.line) (left_by s t.line j.entries) told run.steps
 
-    none-wrong : wrong_step s t ≡ None
+    pub none-wrong : wrong_step s t ≡ None
     none-wrong =
         let parts = told-parts s board t right in
         let same : (journal_told s t).entries ≡ flat_map (part_entries (peers_of s t.line)) (parts_of s t) = unjoined-is s t.line (lines_of_texts t.texts) in
         ap (moved t.number) (parts-right (peers_of s t.line) (script s t.line.domain) (parts_of s t) (start s t.line) t.texts tt parts.fits (subst (Tell t.texts) parts.lines right.tells) (subst (Due (script s t.line.domain) (start s t.line)) same told-run.due))
 
-    none-left : IsWhole s t.line j.entries → unfinished s t ≡ None
+    pub none-left : IsWhole s t.line j.entries → unfinished s t ≡ None
     none-left whole =
         let left : left_behind s t ≡ left_by s t.line j.entries = sym (due-left s board t) ∙ ap (left_by s t.line) told-run.with_due in
         let called : (left_behind s t).lines_called ≡ length (script s t.line.domain) = ap (λ (r : RunState). r.lines_called) left ∙ whole in

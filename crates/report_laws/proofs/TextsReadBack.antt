@@ -25,7 +25,8 @@ use Rattle.report_laws.proofs.FormsMet.{journal-meets}
 use Rattle.report_laws.proofs.JournalRows.{heading_row, journal_rows, IsReady, journals-read}
 use Rattle.report_laws.proofs.NumberRows.{numbers-read}
 use Rattle.report_laws.proofs.NumbersFit.{journals-lawful, numbers-meet}
-use Rattle.report_laws.proofs.Pieces.{AreTextsOf, IsReadBack, ReportsAreReadBack}
+use Rattle.report_laws.specs.Reasons.{AreTextsOf}
+use Rattle.report_laws.proofs.Pieces.{IsReadBack, ReportsAreReadBack}
 use Rattle.report_laws.proofs.ReportRows.{number_rows, numbers-first, report_rows, report-lines}
 use Rattle.report_laws.proofs.LinesFit.{lines_fit}
 use Rattle.report_laws.proofs.RunsInOrder.{runs_in_order}

@@ -1,1 +1,2 @@
 pub mod RunReports
+pub mod Reasons

@@ -6,6 +6,9 @@ use Rattle.board_model.specs.declared.scenario.Scenario.{Scenario}
 use Rattle.board_model.specs.Scenario.{lanes}
 use Rattle.board_model.specs.Board.{DomainJournal, IsBoardRun, AreWhole}
 use Rattle.board_model.specs.Language.{IsLawfulBoard}
+use Rattle.board_model.specs.LinkedBoard.{IsLinkedBoard}
+use Rattle.board_model.specs.Run.{IsDomainRun}
+use Rattle.board_model.specs.Unjoined.{unjoined}
 use Rattle.board_model.specs.Places.{places_of}
 use Rattle.board_model.specs.Report.{Mode, serial, threads, lines_of, report_of}
 use Rattle.board_model.specs.Totals.{channel_totals, totals}
@@ -54,6 +57,10 @@ pub record AreOneRun (m n : Mode) (s t : Scenario) (js ks : List DomainJournal) 
 
 abbrev pub ReportsAreOfOneRun : Type 0
 ReportsAreOfOneRun = (text : List ℕ) (m n : Mode) (s t : Scenario) (js ks : List DomainJournal) → IsRunReport m s js text → IsRunReport n t ks text → AreOneRun m n s t js ks
+
+-- the joined journal of each domain's run is read back as its plain one
+abbrev pub RunsAreReadBack : Type 0
+RunsAreReadBack = (s : Scenario) (j : DomainJournal) → IsLinkedBoard s → IsDomainRun s j.line j.entries → unjoined s j.line (lines_of j) ≡ j.entries
 
 -- each line of a board's run is one of an entry: its numbers are in the ranges of their types, and its bytes are bytes
 abbrev pub HaveEntryLines : DomainJournal → Type 0
