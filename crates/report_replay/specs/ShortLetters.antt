@@ -1,5 +1,5 @@
 -- A letter whose content fits into an item.
--- Source: docs/FORMATS.md, "Letters": a message or a packet has at most 488 bytes.
+-- Source: docs/FORMATS.md, "Payload header, version 1": a message or a packet has at most 488 bytes.
 use Rattle.std.specs.Prelude.{◌≤◌, length}
 use Rattle.mc_base.specs.Limits.{item_size}
 use Rattle.mc_base.specs.Letter.{PlainLetter, msg, packet}

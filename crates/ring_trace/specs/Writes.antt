@@ -1,5 +1,5 @@
 -- The writes of the code as those of the definitions, and which fit into an image.
--- Source: docs/FORMATS.md, "An image".
+-- Source: docs/FORMATS.md, "Writes of the two sides".
 use Rattle.std.specs.Prelude.{ℕ, ◌+◌, ◌<◌, ◌≤◌, ◌^◌}
 use Rattle.board_model.specs.RingImage.{ImageWrite}
 use Rattle.ring_trace.specs.declared.writes.Write.{Write}

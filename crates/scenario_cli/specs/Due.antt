@@ -1,5 +1,5 @@
 -- What a status says of the input and the output.
--- Source: README.md, "Forms and statuses". `rest` is what a source has to come, and `old` and `new` are what a sink holds
+-- Source: docs/FORMATS.md, "Statuses". `rest` is what a source has to come, and `old` and `new` are what a sink holds
 -- before and after, each where it is told.
 use Rattle.std.specs.Prelude.{◌≡◌, ℕ, ◌<◌, ◌≤◌, List, [], length, Option, None, Some, IfSome, IsSome, Ok, Err}
 use Rattle.std.specs.Io.KnownBytes.{Appends}

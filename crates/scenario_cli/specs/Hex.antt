@@ -1,5 +1,5 @@
 -- Bytes as hexadecimal text that is read: digits of either case, two a byte, with blanks anywhere.
--- Source: README.md, "A frame and its meaning".
+-- Source: docs/FORMATS.md, "Text of a frame".
 use Rattle.std.specs.Prelude.{ℕ, ◌+◌, ◌*◌, ◌%◌, Bool, not, ◌||◌, ◌==◌, List, [], ◌∷◌, length, position, filter_map, Option, Some, None, is_some, if◌then◌else◌}
 use Rattle.board_model.specs.FileWords.{digit_value}
 

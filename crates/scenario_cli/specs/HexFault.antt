@@ -1,5 +1,5 @@
 -- What reading a hexadecimal text byte by byte makes of it.
--- Source: README.md, "A frame and its meaning".
+-- Source: docs/FORMATS.md, "Text of a frame".
 use Rattle.std.specs.Prelude.{◌≡◌, ℕ, ◌+◌, ◌*◌, List, [], ◌∷◌, ◌++◌, Option, Some, None}
 use Rattle.scenario_cli.specs.declared.hex.HexFault.{HexFault}
 use Rattle.scenario_cli.specs.declared.hex.HexFault.TheVariants.{At, NoMemory}

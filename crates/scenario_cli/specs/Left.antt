@@ -1,5 +1,5 @@
 -- What the run of a board leaves, in either mode.
--- Source: README.md, "Forms and statuses".
+-- Source: docs/FORMATS.md, "Statuses".
 use Rattle.std.specs.Prelude.{◌≡◌, ℕ, List, []}
 use Rattle.board_model.specs.declared.scenario.Scenario.{Scenario}
 use Rattle.board_model.specs.Board.{DomainJournal}

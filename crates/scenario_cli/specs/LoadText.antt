@@ -1,6 +1,6 @@
 -- The words of the form `load N`, and what it writes: N, and of the report of the serial run of the load board the lines of the channels,
 -- that of the messages and the last.
--- Source: README.md, "Forms and statuses"; docs/FORMATS.md, "The load board" and "Report".
+-- Source: docs/FORMATS.md, "Statuses" and "The load board" and "Report".
 use Rattle.std.specs.Prelude.{◌≡◌, ℕ, ◌≤◌, List, [], ◌∷◌, ◌++◌, codes, decimal}
 use Rattle.board_model.specs.declared.scenario.Scenario.{Scenario}
 use Rattle.board_model.specs.LoadBoard.{load_board, load_limit}

@@ -1,5 +1,5 @@
 -- What a load says of the status and of what a sink holds before and after, where it is told.
--- Source: README.md, "Forms and statuses".
+-- Source: docs/FORMATS.md, "Statuses".
 use Rattle.std.specs.Prelude.{◌≡◌, ◌≢◌, ℕ, ◌≤◌, List, [], ◌∷◌, length, Option}
 use Rattle.std.specs.Io.KnownBytes.{Appends}
 use Rattle.outer_io.specs.Writes.{AppendsPart}

@@ -1,5 +1,5 @@
 -- What is written where the input tells no scenario: the first line that is refused, and its first reason.
--- Source: README.md, "Forms and statuses"; docs/FORMATS.md, "Scenario files".
+-- Source: docs/FORMATS.md, "Statuses" and "Scenario files".
 use Rattle.std.specs.Prelude.{ℕ, List, [], ◌∷◌, codes, decimal}
 use Rattle.board_model.specs.declared.reason.LineReason.{LineReason}
 use Rattle.board_model.specs.declared.reason.LineReason.TheVariants.{Byte, Long, Form, Number, Bytes, Order, Domain, Link, Label, Sound}

@@ -1,5 +1,5 @@
 -- What is told of a report: that it is right, or its first wrong line and why it is wrong.
--- Source: README.md, "Forms and statuses"; docs/FORMATS.md, "How a report is checked".
+-- Source: docs/FORMATS.md, "Statuses" and "How a report is checked".
 use Rattle.std.specs.Prelude.{◌≡◌, ℕ, List, [], ◌∷◌, codes}
 use Rattle.board_model.specs.Grammar.{line_of}
 use Rattle.board_model.specs.declared.scenario.Scenario.{Scenario}

@@ -1,5 +1,5 @@
 -- The words of the program, its fixed texts and its limits.
--- Source: README.md, "Forms and statuses".
+-- Source: docs/FORMATS.md, "Statuses".
 use Rattle.std.specs.Prelude.{◌≡◌, ◌⊎◌, ℕ, List, [], ◌∷◌, map, codes, string_bytes, String}
 use Rattle.std.specs.Global.{Global}
 use Rattle.board_model.specs.Report.{Mode, serial, threads}

@@ -1,5 +1,5 @@
 -- What is written where an input is wrong: the place and the reason.
--- Source: README.md, "Forms and statuses".
+-- Source: docs/FORMATS.md, "Statuses".
 use Rattle.std.specs.Prelude.{ℕ, List, [], ◌∷◌, codes, decimal}
 use Rattle.board_model.specs.Grammar.{line_of}
 
