@@ -1,10 +1,9 @@
 -- The reason for which a report is wrong says of its journals what it means.
-use Rattle.std.proofs.Common.{◌≡◌, ◌⊎◌, inl, inr, ℕ, suc, ◌-◌, ◌^◌, ◌<◌, List, [], ◌∷◌, length, map, Option, Some, None, refl, sym, ap, subst, ◌∙◌}
-use Rattle.std.specs.Prelude.{slice_get, Ok}
+use Rattle.std.proofs.Common.{◌≡◌, ℕ, suc, ◌-◌, ◌^◌, ◌<◌, List, [], ◌∷◌, length, map, Option, Some, None, refl, sym, ap, subst, ◌∙◌}
+use Rattle.std.specs.Prelude.{Ok}
 use Rattle.std.specs.List.{AllByRecursion}
 use Rattle.board_model.specs.declared.scenario.Scenario.{Scenario}
 use Rattle.board_model.specs.Scenario.{rising}
-use Rattle.board_model.specs.Board.{DomainJournal, IsBoardRun, AreWhole}
 use Rattle.board_model.specs.LinkedBoard.{IsLinkedBoard}
 use Rattle.board_model.specs.Run.{IsDomainRun}
 use Rattle.board_model.proofs.LawfulBoards.{lawful_is_linked}
@@ -23,7 +22,7 @@ use Rattle.report_text.specs.Verdicts.{wrong_or, by_steps, by_told, verdict_on}
 use Rattle.report_text.proofs.ReportsTold.{text-lawful, journals-right}
 use Rattle.report_text.proofs.RightReports.{right_reports}
 use Rattle.report_text.proofs.RunsTold.{IsRight, rising-lawful, run-told}
-use Rattle.report_laws.specs.Reasons.{IsTextOf, AreTextsOf, IsOfNoRun, IsOfPart, IsOfWhole, HasOne, AreOfBoardRun, AreOfNoBoardRun, Explains, ReasonsAreOfRuns}
+use Rattle.report_laws.specs.Reasons.{IsTextOf, AreTextsOf, IsOfNoRun, IsOfPart, IsOfWhole, HasOne, AreOfNoBoardRun, Explains, ReasonsAreOfRuns}
 use Rattle.report_laws.proofs.LanesFit.{lanes_fit}
 use Rattle.report_laws.proofs.RunsRight.{steps-of}
 use Rattle.report_laws.proofs.StepsRight.{none-wrong, none-left}
