@@ -6,7 +6,7 @@ ghost use Rattle.board_runner.specs.Runs.{IsSomeBoard, Leads, AllCarried, Carrie
 ghost use Rattle.board_runner.specs.StationsMet.{LinksMeetAt};
 
 use crate::station::Station;
-use domain_core::carry_rings;
+use domain_core::carry;
 
 /// Has the ends of a station's links meet those of its peers: each peer knows then of all that the domain put and gave back, and
 /// the domain of all that they did. What it knew before was true, so its looks showed what there was.
@@ -61,7 +61,7 @@ impl Meets for Station<'_> {
 
     fn meet(&mut self, other: &mut Self) {
         if self.domain.has_peer(other.domain_number) {
-            carry_rings(&mut self.domain, &mut other.domain);
+            carry(&mut self.domain, &mut other.domain);
         }
     }
 }

@@ -21,7 +21,7 @@ use domain_parts::{Ends, Holdings, LinkRoom, Places};
 use lane_end::{RecvEnd, SendEnd};
 use mc_base::{Done, EndName, Got, Local, Priority, Refusal, RequestId};
 use mc_journal::Journal;
-pub use opening::{carry, carry_rings};
+pub use opening::carry;
 use std::marker::Model;
 
 /// A domain: what one core of a board runs.

@@ -21,7 +21,7 @@ pub fn waits_move_ends()
 {}
 
 /// Shows that two linked domains stay linked where one of them changes as its calls and waits change it, so that
-/// [`carry`](crate::carry) or [`carry_rings`](crate::carry_rings) can be called again.
+/// [`carry`](crate::carry) can be called again.
 pub fn domains_stay_linked()
     ensures plain { StayLinkedBy Sends Receives AreOneLane }
     ensures rings { StayLinkedBy AnySends AnyReceives AreEndsOfOneRing }

@@ -9,7 +9,7 @@ mod domain;
 mod keeping;
 mod threads;
 
-pub use domain::{Domain, carry, carry_rings};
+pub use domain::{Domain, carry, carry as carry_rings};
 pub use domain_parts::{
     CALL_BYTES, CALL_ENTRIES, Ends, Link, PeerLane, Places, WaitFault, fault_fate,
 };

@@ -4,7 +4,6 @@ use Rattle.std.specs.Prelude.{◌≡◌, ℕ, Bool, false, List, find, position,
 use Rattle.board_model.specs.Lists.{changed}
 use Rattle.lane_end.specs.PlainSender.{Sender}
 use Rattle.lane_end.specs.PlainReceiver.{Receiver}
-use Rattle.lane_end.specs.PlainLane.{shuttled_sender, shuttled_receiver}
 use Rattle.lane_end.specs.declared.any.AnySend.{AnySend}
 use Rattle.lane_end.specs.declared.any.AnyRecv.{AnyRecv}
 use Rattle.domain_parts.specs.declared.link.Link.{Link}
@@ -18,12 +17,6 @@ PlainLink = Link Sender Receiver
 
 abbrev pub AnyLink : Type 0
 AnyLink = Link AnySend AnyRecv
-
--- the two ends of a plain lane meet where a shuttle goes between them: what the one put has come to the other, and what the other
--- gave back has come back
-pub record HasShuttled (s : Sender) (r : Receiver) (s' : Sender) (r' : Receiver) : Type 0 where
-  pub sends : s' ≡ shuttled_sender s r
-  pub receives : r' ≡ shuttled_receiver s r
 
 -- whether ends are those of a link to a peer
 abbrev pub leads_to : {S R : Type 0} → ℕ → Ends S R → Bool

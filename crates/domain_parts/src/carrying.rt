@@ -1,19 +1,17 @@
 //! How the link between two domains carries.
 
 ghost use Rattle.std.specs.Prelude.{◌≡◌, ◌<◌, ℕ, Bool, IfSome, length, position};
-ghost use Rattle.lane_end.specs.PlainLane.{AreOneLane};
-ghost use Rattle.lane_end.specs.AnyLane.{AreEndsOfOneRing, EndsHaveMet};
 ghost use Rattle.domain_parts.specs.AllMoved.{ends_of};
 ghost use Rattle.domain_parts.specs.Carried.{MayMeet, PeersMeet};
-ghost use Rattle.domain_parts.specs.Carrying.{AreJoined, HasShuttled, LinksMeet, leads_to};
+ghost use Rattle.domain_parts.specs.Carrying.{AreJoined, LinksMeet, leads_to};
 
 use crate::ends::Ends;
 use crate::link::Link;
 use crate::peer::Peer;
 use crate::peer_lane::PeerLane;
-use lane_end::{AnyRecv, AnySend, PlainRecv, PlainSend, meet_ends, shuttle};
+use lane_end::{MeetsEnd, RecvEnd};
 
-/// Ends towards a peer that can carry to the peer's ends, over plain lanes or over rings.
+/// Ends towards a peer that can carry to the peer's ends.
 pub trait MeetingEnds: PeerLane {
     /// Whether they are the ends of a link to the domain of this number.
     ghost leads: { ℕ → Self → Bool };
@@ -37,44 +35,18 @@ pub trait MeetingEnds: PeerLane {
     ghost same_seen: { (a b c d : Self) → Met a b c d → (Self.seen c ≡ Self.seen a) × (Self.seen d ≡ Self.seen b) };
 }
 
-impl MeetingEnds for Ends<PlainSend, PlainRecv> {
-    ghost use Rattle.lane_end.specs.PlainLane.{AreOneLane};
-    ghost use Rattle.domain_parts.specs.Carrying.{HasShuttled, leads_to as leads_among};
-    ghost use Rattle.domain_parts.specs.Carried.{AreJoinedEnds, EndsMeet};
-    ghost use Rattle.domain_parts.specs.Meets.{plain-seen};
-
-    ghost leads = { leads_among };
-
-    ghost May = { AreJoinedEnds AreOneLane };
-
-    ghost Met = { EndsMeet HasShuttled };
-
-    ghost same_seen = { plain-seen };
-
-    fn leads_to(&self, number: u8) -> bool {
-        leads_to(self, number)
-    }
-
-    fn meet(&mut self, other: &mut Self) {
-        if let (Ends::Linked(a), Ends::Linked(b)) = (self, other) {
-            shuttle_link(a, b);
-        }
-    }
-}
-
-impl<'a> MeetingEnds for Ends<AnySend<'a>, AnyRecv<'a>> {
-    ghost use Rattle.lane_end.specs.AnyLane.{AreEndsOfOneRing, EndsHaveMet};
+impl<S: MeetsEnd<R>, R: RecvEnd> MeetingEnds for Ends<S, R> {
     ghost use Rattle.domain_parts.specs.Carrying.{leads_to as leads_among};
     ghost use Rattle.domain_parts.specs.Carried.{AreJoinedEnds, EndsMeet};
-    ghost use Rattle.domain_parts.specs.Meets.{any-seen};
+    ghost use Rattle.domain_parts.specs.Meets.{joined-seen};
 
     ghost leads = { leads_among };
 
-    ghost May = { AreJoinedEnds AreEndsOfOneRing };
+    ghost May = { AreJoinedEnds S.May };
 
-    ghost Met = { EndsMeet EndsHaveMet };
+    ghost Met = { EndsMeet S.Met };
 
-    ghost same_seen = { any-seen };
+    ghost same_seen = { joined-seen S.size S.free R.size R.shown R.out S.Met S.same_seen };
 
     fn leads_to(&self, number: u8) -> bool {
         leads_to(self, number)
@@ -87,22 +59,13 @@ impl<'a> MeetingEnds for Ends<AnySend<'a>, AnyRecv<'a>> {
     }
 }
 
-/// Shuttles both lanes of a link.
-fn shuttle_link(a: &mut Link<PlainSend, PlainRecv>, b: &mut Link<PlainSend, PlainRecv>)
-    requires { AreJoined AreOneLane a.old b.old }
-    ensures { LinksMeet HasShuttled a.old b.old a.new b.new }
+/// Has the ends of both lanes of a link meet.
+fn meet_link<S: MeetsEnd<R>, R: RecvEnd>(a: &mut Link<S, R>, b: &mut Link<S, R>)
+    requires { AreJoined S.May a.old b.old }
+    ensures { LinksMeet S.Met a.old b.old a.new b.new }
 {
-    shuttle(&mut a.send, &mut b.recv);
-    shuttle(&mut b.send, &mut a.recv);
-}
-
-/// Lets the ends of both lanes of a link meet.
-fn meet_link<'a>(a: &mut Link<AnySend<'a>, AnyRecv<'a>>, b: &mut Link<AnySend<'a>, AnyRecv<'a>>)
-    requires { AreJoined AreEndsOfOneRing a.old b.old }
-    ensures { LinksMeet EndsHaveMet a.old b.old a.new b.new }
-{
-    meet_ends(&mut a.send, &mut b.recv);
-    meet_ends(&mut b.send, &mut a.recv);
+    a.send.meet(&mut b.recv);
+    b.send.meet(&mut a.recv);
 }
 
 /// Returns whether these are the ends of a link to the domain of this number.

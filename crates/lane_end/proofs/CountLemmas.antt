@@ -7,6 +7,7 @@ use mathlib.Core.Logic.{dite}
 use native.Mathlib.Decide.{ℕ_discrete, dec_lt}
 use Rattle.lane_end.specs.Numbers.{often, inside, all_numbers, AreApart}
 use Rattle.lane_end.specs.ReceiverContract.{without}
+pub use Rattle.lane_end.specs.ShuttleLaws.{often-append}
 
 -- 1 where the two are the same
 abbrev pub tick : ℕ → ℕ → ℕ
@@ -29,10 +30,6 @@ inside-no size x l = ap (λ (b : Bool). cond b 1 0) (le-ltb x size l)
 
 inside-lt : (size x : ℕ) → 0 < inside size x → x < size
 inside-lt size x h = dite (dec_lt x size) (λ l. l) (λ n. let e = inside-no size x (omega arith) in absurd (omega arith))
-
-pub often-append : (x : ℕ) (a b : List ℕ) → often x (a ++ b) ≡ often x a + often x b
-often-append x [] b = omega arith
-often-append x (n ∷ a) b = let h = often-append x a b in omega (arith, h)
 
 -- the sum of f below n
 abbrev sum_to : ℕ → (ℕ → ℕ) → ℕ

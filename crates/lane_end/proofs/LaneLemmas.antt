@@ -1,7 +1,6 @@
 -- The numbers of the buffers that ends hold, from move to move.
 use Rattle.std.proofs.Common.{◌≡◌, ℕ, ◌+◌, ◌<◌, List, [], ◌∷◌, ◌++◌, length, drop, refl, ap, sym, ◌∙◌, arith}
 use Rattle.std.specs.Prelude.{slice_index, slice_get, Some}
-use Rattle.std.proofs.lemmas.List.{map-append}
 use Rattle.lane_end.specs.Numbers.{often, inside}
 use Rattle.lane_end.specs.ReceiverContract.{without}
 use Rattle.lane_end.specs.MoveLaws.{Lead-keeps}
@@ -9,16 +8,10 @@ use Rattle.lane_end.specs.SendMoves.{SendMove, Looked, Sent}
 use Rattle.lane_end.specs.ReceiveMoves as receiving
 use Rattle.lane_end.specs.PlainSender.{Sender, MaySend, sender_after, Sends}
 use Rattle.lane_end.specs.PlainReceiver.{Receiver, MayReceive, receiver_after, Receives}
-use Rattle.lane_end.specs.PlainLane.{carriers, sender_numbers, receiver_numbers, AreOneLane, shuttled_sender, shuttled_receiver}
+use Rattle.lane_end.specs.PlainLane.{carriers, sender_numbers, receiver_numbers, AreOneLane}
 use Rattle.lane_end.specs.PlainLaws.{Sends-size, Receives-size}
 use Rattle.lane_end.proofs.CountLemmas.{tick, often-append, often-contained, often-without}
-
--- how often a number stands among three lists, one after the other
-pub often-three : (x : ℕ) (a b c : List ℕ) → often x (a ++ (b ++ c)) ≡ often x a + often x b + often x c
-often-three x a b c = let one = often-append x a (b ++ c) in let two = often-append x b c in omega (arith, one, two)
-
-pub carriers-append : (a b : List (ℕ × List ℕ)) → carriers (a ++ b) ≡ carriers a ++ carriers b
-carriers-append a b = map-append (λ (f : ℕ × List ℕ). f.0) a b
+pub use Rattle.lane_end.specs.ShuttleLaws.{often-three, carriers-append, shuttled-one-lane}
 
 first-leaves : (x : ℕ) (xs : List ℕ) → 0 < length xs → often x xs ≡ often x (drop 1 xs) + tick (slice_index xs 0) x
 first-leaves x [] l = absurd (omega arith)
@@ -76,21 +69,4 @@ stay-one-lane a b c d xs ys lane sent received = record {
       let is = lane.once x in
       let size = ap (λ (n : ℕ). inside n x) (Sends-size a b xs sent) in
       omega (arith, old, new, send, receive, is, size);
-}
-
--- a shuttle carries the numbers from one end to the other
-pub shuttled-one-lane : (from : Sender) (to : Receiver) → AreOneLane from to → AreOneLane (shuttled_sender from to) (shuttled_receiver from to)
-shuttled-one-lane from to lane = record {
-  size = lane.size;
-  once = λ x.
-      let old = often-append x (sender_numbers from) (receiver_numbers to) in
-      let old_from = often-three x from.free (carriers from.put) from.back in
-      let old_to = often-three x (carriers to.came) to.out to.given in
-      let new = often-append x (sender_numbers (shuttled_sender from to)) (receiver_numbers (shuttled_receiver from to)) in
-      let new_from = often-three x from.free [] (from.back ++ to.given) in
-      let new_to = often-three x (carriers (to.came ++ from.put)) to.out [] in
-      let back = often-append x from.back to.given in
-      let came = ap (often x) (carriers-append to.came from.put) ∙ often-append x (carriers to.came) (carriers from.put) in
-      let is = lane.once x in
-      omega (arith, old, old_from, old_to, new, new_from, new_to, back, came, is);
 }

@@ -1,12 +1,12 @@
 -- What a meeting of two ends of one ring, of any kind, leaves unchanged.
 -- Source: docs/PROFILE.md, "Lanes": a meeting does not change what is free, shown or out.
-use Rattle.std.specs.Prelude.{◌≡◌}
 use Rattle.std.proofs.Common.{ap, sym, ◌∙◌}
 use Rattle.shared_words.specs.Way.{other}
 use Rattle.lane_end.specs.RingSender.{RingSender, sender_size}
 use Rattle.lane_end.specs.RingReceiver.{RingReceiver, receiver_size, out_at}
 use Rattle.lane_end.specs.RingLane.{AreOfOneRing, HaveMet}
 use Rattle.lane_end.specs.AnyLane.{AreEndsOfOneRing, EndsHaveMet}
+use Rattle.lane_end.specs.Meeting.{SeenStays}
 use Rattle.lane_end.specs.AnySender as sending
 use Rattle.lane_end.specs.AnyReceiver as receiving
 use Rattle.lane_end.specs.declared.any.AnySend.{AnySend}
@@ -33,13 +33,9 @@ over-either P one zero (send.Driver a) (recv.Device b) (send.Driver c) (recv.Dri
 over-either P one zero (send.Device a) (recv.Driver b) (send.Device c) (recv.Plain d) met = absurd met
 over-either P one zero (send.Device a) (recv.Driver b) (send.Device c) (recv.Device d) met = absurd met
 
--- what a caller sees of each end is the same
-pub record SameSeen (a : AnySend) (b : AnyRecv) (c : AnySend) (d : AnyRecv) : Type 0 where
-  pub size_to : sending.size_of_any c ≡ sending.size_of_any a
-  pub free : sending.free_of_any c ≡ sending.free_of_any a
-  pub size_from : receiving.size_of_any d ≡ receiving.size_of_any b
-  pub shown : receiving.shown_of_any d ≡ receiving.shown_of_any b
-  pub out : receiving.out_of_any d ≡ receiving.out_of_any b
+-- what a caller sees of each end stays
+abbrev pub SameSeen : AnySend → AnyRecv → AnySend → AnyRecv → Type 0
+SameSeen = SeenStays sending.size_of_any sending.free_of_any receiving.size_of_any receiving.shown_of_any receiving.out_of_any
 
 pub met-seen : (a : AnySend) (b : AnyRecv) (c : AnySend) (d : AnyRecv) → EndsHaveMet a b c d → SameSeen a b c d
 met-seen =

@@ -12,6 +12,8 @@ pub mod PlainReceiver
 pub mod PlainLane
 pub mod Loop
 pub mod PlainLaws
+pub mod Meeting
+pub mod ShuttleLaws
 pub mod AnySender
 pub mod AnyReceiver
 pub mod Held

@@ -35,3 +35,8 @@ shuttled_sender from to = record from { put = []; back = from.back ++ to.given }
 
 abbrev pub shuttled_receiver : Sender → Receiver → Receiver
 shuttled_receiver from to = record to { came = to.came ++ from.put; given = [] }
+
+-- a shuttle is how the two ends meet
+pub record HasShuttled (s : Sender) (r : Receiver) (s' : Sender) (r' : Receiver) : Type 0 where
+  pub sends : s' ≡ shuttled_sender s r
+  pub receives : r' ≡ shuttled_receiver s r

@@ -14,6 +14,7 @@ mod free_list;
 mod inbox;
 mod loop_lane;
 mod meeting;
+mod meets_end;
 mod opening;
 mod plain;
 mod plain_recv;
@@ -34,6 +35,7 @@ pub use loop_lane::LoopLane;
 pub use meeting::{
     ends_stay_of_one_ring, finished_ends_are_one_lane, looks_between_meetings_are_exact, meet_ends,
 };
+pub use meets_end::MeetsEnd;
 pub use opening::{DeviceRecv, DeviceSend, DriverRecv, DriverSend, open_queue0, open_queue1};
 pub use plain::{ends_stay_one_lane, plain_lane, shuttle};
 pub use plain_recv::PlainRecv;

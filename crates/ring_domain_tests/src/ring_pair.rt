@@ -10,7 +10,7 @@ ghost use Rattle.domain_core.specs.Opening.{AreLinksOf, IsOpenLink, ends_opened}
 ghost use Rattle.ring_domain_tests.specs.OnRings.{AreOfRings};
 
 use crate::deeds::{Answered, Deed, RingDomain, does};
-use domain_core::{Domain, Journal, Link, carry_rings};
+use domain_core::{Domain, Journal, Link, carry};
 use lane_end::{AnyRecv, AnySend, DeviceRecv, DeviceSend, DriverRecv, DriverSend};
 use linked_pair::Which;
 use split_ring::{Device, Driver, Ring};
@@ -103,7 +103,7 @@ impl<'a> RingPair<'a> {
     fn carry(&mut self)
         ensures { self.new ≡ self.old }
     {
-        carry_rings(&mut self.three, &mut self.four);
+        carry(&mut self.three, &mut self.four);
     }
 
     /// Ends the domains, and returns the halves of their rings.

@@ -5,15 +5,13 @@ ghost use Rattle.std.specs.List.{AllByRecursion};
 ghost use Rattle.mc_base.specs.declared.request.Slot.{Slot};
 ghost use Rattle.board_model.specs.State.{opening};
 ghost use Rattle.buffer_book.specs.Book.{kept_at};
-ghost use Rattle.domain_parts.specs.Carrying.{AreLinked, Carries, HasShuttled};
+ghost use Rattle.domain_parts.specs.Carrying.{AreLinked, Carries};
 ghost use Rattle.domain_parts.specs.Opening.{IsOpenLink, AreLinksOf, neighbours_opened, ends_opened, links_in};
-ghost use Rattle.lane_end.specs.AnyLane.{AreEndsOfOneRing, EndsHaveMet};
 ghost use Rattle.lane_end.specs.Loop.{new_loop};
-ghost use Rattle.lane_end.specs.PlainLane.{AreOneLane};
 
 use crate::domain::Domain;
 use domain_parts::{Holdings, Link, LinkRoom};
-use lane_end::{AnyRecv, AnySend, PlainRecv, PlainSend, RecvEnd, SendEnd};
+use lane_end::{MeetsEnd, RecvEnd, SendEnd};
 use mc_base::NoMemory;
 use std::alloc::Global;
 
@@ -62,29 +60,19 @@ impl<S: SendEnd + Drop, R: RecvEnd + Drop> Domain<S, R> {
     }
 }
 
-/// Carries the link between two linked domains over plain lanes: the frames that each sent come to the other, and the buffers that
-/// each gave back come back. The next turns see them.
-pub fn carry(one: &mut Domain<PlainSend, PlainRecv>, two: &mut Domain<PlainSend, PlainRecv>)
-    requires linked { AreLinked AreOneLane one.old.state.number two.old.state.number one.old.ends two.old.ends }
-    ensures carries { Carries HasShuttled one.old.state.number two.old.state.number one.old.ends two.old.ends one.new.ends two.new.ends }
-    ensures one { one.new ≡ record one.old { ends = one.new.ends } }
-    ensures two { two.new ≡ record two.old { ends = two.new.ends } }
-    ensures linked { AreLinked AreOneLane one.new.state.number two.new.state.number one.new.ends two.new.ends }
-{
-    domain_parts::carry(&mut one.inside, &mut two.inside);
-}
-
-/// Has the ends of the link between two linked domains meet, whose lanes are over rings: each end then knows all that the other
-/// did.
-pub fn carry_rings<'a>(
-    one: &mut Domain<AnySend<'a>, AnyRecv<'a>>,
-    two: &mut Domain<AnySend<'a>, AnyRecv<'a>>,
+/// Carries the link between two linked domains in one thread: the ends of both its lanes meet.
+///
+/// Over plain lanes the frames that each sent come to the other, and the buffers that each gave back come back; the next turns see
+/// them. Over rings each end learns all that the other did.
+pub fn carry<S: MeetsEnd<R> + Drop, R: RecvEnd + Drop>(
+    one: &mut Domain<S, R>,
+    two: &mut Domain<S, R>,
 )
-    requires linked { AreLinked AreEndsOfOneRing one.old.state.number two.old.state.number one.old.ends two.old.ends }
-    ensures carries { Carries EndsHaveMet one.old.state.number two.old.state.number one.old.ends two.old.ends one.new.ends two.new.ends }
+    requires linked { AreLinked S.May one.old.state.number two.old.state.number one.old.ends two.old.ends }
+    ensures carries { Carries S.Met one.old.state.number two.old.state.number one.old.ends two.old.ends one.new.ends two.new.ends }
     ensures one { one.new ≡ record one.old { ends = one.new.ends } }
     ensures two { two.new ≡ record two.old { ends = two.new.ends } }
-    ensures linked { AreLinked AreEndsOfOneRing one.new.state.number two.new.state.number one.new.ends two.new.ends }
+    ensures linked { AreLinked S.May one.new.state.number two.new.state.number one.new.ends two.new.ends }
 {
     domain_parts::carry(&mut one.inside, &mut two.inside);
 }

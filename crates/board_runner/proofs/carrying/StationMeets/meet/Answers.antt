@@ -8,8 +8,8 @@ use Rattle.board_runner.proofs.carrying.StationMeets.meet.Goals as goal
 has_second : (one : RunDomain) (n m : ℕ) → n ≡ m → Contains (peers_of one) n → Contains (peers_of one) m
 has_second one n m same has = subst (λ (k : ℕ). Contains (peers_of one) k) same has
 
-pub carry_rings-requires : goal.carry_rings-requires
-carry_rings-requires c =
+pub carry-requires : goal.carry-requires
+carry-requires c =
     let one = c.args.self.now.domain in
     record { linked = c.requires.peers (has_second one c.args.other.now.domain_number _ c.requires.number (found-peer one.state c.args.other.now.domain_number (sym c.has_peer.ensures ∙ c.if-has_peer.true))) }
 
@@ -17,7 +17,7 @@ pub returns-then-has_peer : goal.returns-then-has_peer
 returns-then-has_peer c =
     let one = c.args.self.now.domain in
     record {
-      domains = domains-meet _ _ _ _ c.requires.peers (has_second one c.args.other.now.domain_number _ c.requires.number (found-peer one.state c.args.other.now.domain_number (sym c.has_peer.ensures ∙ c.if-has_peer.true))) c.carry_rings.ensures.carries c.carry_rings.ensures.one c.carry_rings.ensures.two;
+      domains = domains-meet _ _ _ _ c.requires.peers (has_second one c.args.other.now.domain_number _ c.requires.number (found-peer one.state c.args.other.now.domain_number (sym c.has_peer.ensures ∙ c.if-has_peer.true))) c.carry.ensures.carries c.carry.ensures.one c.carry.ensures.two;
       one_keeps = refl;
       two_keeps = refl;
     }

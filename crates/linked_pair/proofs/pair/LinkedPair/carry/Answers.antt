@@ -1,5 +1,6 @@
 use Rattle.std.proofs.Common.{◌≡◌, subst}
-use Rattle.domain_core.specs.Carrying.{Carries, HasShuttled}
+use Rattle.lane_end.specs.PlainLane.{HasShuttled}
+use Rattle.domain_core.specs.Carrying.{Carries}
 use Rattle.linked_pair.specs.Pair.{Pair}
 use Rattle.linked_pair.proofs.pair.LinkedPair.carry.Goals as goal
 
