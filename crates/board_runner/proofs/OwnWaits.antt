@@ -267,7 +267,7 @@ module _ (s : Scenario) (board : IsLinkedBoard s) (d : DomainLine) (ends : List 
           let timeouts : is_timeout (plain_answer m.answer) ≡ is_timeout (answer begun.run.state line.node (call_at begun.run line)) = ap is_timeout does.answer ∙ waiting-is s t last begun.at.stands line is_wait says in
           let many : 0 + length w.turns ≡ length w.turns = omega arith in
           wait_goes last to new m begun.run begun.entries begun.at is_call ran.notes few
-          (ends_begun (answer begun.run.state line.node (call_at begun.run line)) (0 + length w.turns) begun.run.waited begun.waited (omega (arith, w.few)) (λ out. many ∙ w.ends.1 (timeouts ∙ out)) begun.done)
+          (ends_begun (answer begun.run.state line.node (call_at begun.run line)) (0 + length w.turns) begun.run.waited begun.waited (omega (arith, w.few)) (λ out. many ∙ (w.ends.1 (timeouts ∙ out)).0) begun.done)
       go false e =
           let once = made-at-once (old.number + 1) limit ids says old.domain to.domain old.journal.lines to.journal.lines (plain_answer m.answer) m.lent w (none-polled ids w.turns old.domain w.polled_to w.polls e) ran.waits.made.lends in
           let t = station_in d h.run h.entries in

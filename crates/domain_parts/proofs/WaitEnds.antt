@@ -124,7 +124,7 @@ module _ {L : Type 0} (M : L → List LaneMove → L → Type 0) (ids : List Req
         told = begins h.turns h.told;
         ends = (
           does-of M 0 (wait_on ids says_place (shown new)) new new (refuses Timeout) None rests (acts-refused M 0 (wait_on ids says_place (shown new)) new new Timeout (sym (refusal-renamed no_names (state_of new.parts) 0 (wait_on ids says_place (shown new))) ∙ timeout-word (shown new).state (places_named ids (shown new)) says_place h.ends.0) refl),
-          λ e. h.ends.1,
+          λ e. (h.ends.1, refl),
         );
       }
 

@@ -51,10 +51,10 @@ pub record Polled {L : Type 0} (Moved : L → List LaneMove → L → Type 0) (l
 abbrev pub wait_entries : ℕ → Bool → List (List Visit) → List PlainEntry
 wait_entries number begins turns = if begins then waits number ∷ map turned turns else []
 
--- how it ends: with an answer, which is a timeout at the limit alone; or with none, where memory ran out
+-- how it ends: with an answer, which is a timeout at the limit alone, and then the domain stayed; or with none, where memory ran out
 abbrev pub EndsPolled : {L : Type 0} → (L → List LaneMove → L → Type 0) → ℕ → ℕ → List RequestId → Bool → DomainView L → DomainView L → Option PlainAnswer → Type 0
 EndsPolled Moved limit made ids says_place polled new None = AreAwaited ids polled × (made < limit) × (new ≡ polled)
-EndsPolled Moved limit made ids says_place polled new (Some answered) = Does Moved 0 (wait_on ids says_place polled) polled new answered None × (is_timeout answered ≡ true → made ≡ limit)
+EndsPolled Moved limit made ids says_place polled new (Some answered) = Does Moved 0 (wait_on ids says_place polled) polled new answered None × (is_timeout answered ≡ true → (made ≡ limit) × (new ≡ polled))
 
 -- a wait of the line of a number, with its lines
 pub record Waits {L : Type 0} (Moved : L → List LaneMove → L → Type 0) (number limit : ℕ) (ids : List RequestId) (says_place : Bool) (old new : DomainView L) (lines lines' : List Line) (answered : Option PlainAnswer) : Type 0 where
