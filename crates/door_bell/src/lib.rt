@@ -11,6 +11,7 @@ mod bell_send;
 mod fault;
 mod kinds;
 mod law;
+mod meeting;
 mod ringer;
 mod rule;
 mod sleeper;
