@@ -10,7 +10,7 @@ use std::alloc::Global;
 use std::test::Fail;
 
 /// A ring of size 4, queue 1, after one frame of 26 bytes went over and its buffer came back.
-pub const ONE_FRAME: [u8; 118] = [
+pub static ONE_FRAME: [u8; 118] = [
     0, 8, 0, 0, 0, 0, 0, 0, 26, 0, 0, 0, 0, 0, 0, 0, // descriptor 0
     0, 10, 0, 0, 0, 0, 0, 0, 0, 0, 0, 0, 0, 0, 0, 0, // descriptor 1
     0, 12, 0, 0, 0, 0, 0, 0, 0, 0, 0, 0, 0, 0, 0, 0, // descriptor 2
@@ -24,7 +24,7 @@ pub const ONE_FRAME: [u8; 118] = [
 ];
 
 /// A ring of size 2, queue 0, of which every buffer was offered with its whole length.
-const PRIMED: [u8; 66] = [
+static PRIMED: [u8; 66] = [
     0, 0, 0, 0, 0, 0, 0, 0, 0, 2, 0, 0, 2, 0, 0, 0, // descriptor 0
     0, 2, 0, 0, 0, 0, 0, 0, 0, 2, 0, 0, 2, 0, 0, 0, // descriptor 1
     0, 0, 2, 0, 0, 0, 1, 0, 0, 0, // available ring
