@@ -132,10 +132,15 @@ fn first_faults_are_told(rt: HostRuntime) {
     }
     let mut flagged = CREATE;
     flagged[39] = 1;
-    assert!(rt; ns_fault(&flagged) == Some(NsFault::NsFlags));
-    assert!(rt; ns_fault(&CREATE[..39]) == Some(NsFault::NsSize));
-    assert!(rt; ns_fault(&[0xff; 41]) == Some(NsFault::NsSize));
-    assert!(rt; ns_fault(&[]) == Some(NsFault::NsSize));
+    let payloads: [(&[u8], NsFault); 4] = [
+        (&flagged, NsFault::NsFlags),
+        (&CREATE[..39], NsFault::NsSize),
+        (&[0xff; 41], NsFault::NsSize),
+        (&[], NsFault::NsSize),
+    ];
+    for (i, (payload, fault)) in payloads.iter().enumerate() {
+        assert!(rt; ns_fault(*payload) == Some(*fault), "payload {i}");
+    }
 }
 
 #[test]
@@ -177,7 +182,7 @@ fn a_frame_has_its_first_fault(rt: HostRuntime) {
             Some(Fault::Frame(FrameFault::HeaderLen)),
         ),
     ];
-    for (fault, due) in rows {
-        assert_eq!(rt; fault, due);
+    for (i, (fault, due)) in rows.iter().enumerate() {
+        assert!(rt; *fault == *due, "row {i}");
     }
 }

@@ -63,8 +63,8 @@ fn faults_are_told(rt: HostRuntime) {
         (&longer_by_one, FrameFault::HeaderLen),
         (&HI[..25], FrameFault::HeaderLen),
     ];
-    for (bytes, fault) in rows {
-        assert_eq!(rt; decode(bytes).err(), Some(fault));
+    for (i, (bytes, fault)) in rows.iter().enumerate() {
+        assert!(rt; decode(*bytes).err() == Some(*fault), "row {i}");
     }
 }
 

@@ -123,46 +123,55 @@ fn is_written(letter: &Letter<'_>, bytes: &[u8]) -> bool
     len == bytes.len() && written == bytes && rest.iter().all(|b| *b == 0xee)
 }
 
+/// Asserts that each row holds.
+fn assert_rows(rt: &impl Abort, rows: &[bool]) {
+    for (i, holds) in rows.iter().enumerate() {
+        assert!(rt; *holds, "row {i}");
+    }
+}
+
 #[test]
 fn each_letter_is_written(rt: HostRuntime) -> Result<(), Fail> {
     let priority = Priority::new(3).ok_or("3 is a priority")?;
-    let hi = b"hi".as_slice();
+    let bytes = b"hi".as_slice();
     let channel = 7;
-    let plain = |kind: u8| [0x4d, 1, kind, 0, 7, 0, 0, 0];
-    let msg = Letter::Msg {
-        priority,
-        bytes: hi,
-    };
-    assert!(rt; is_written(&msg, &[0x4d, 1, 1, 3, 0, 0, 0, 0, 0x68, 0x69]));
+    let msg = Letter::Msg { priority, bytes };
     let connect = Letter::Connect {
         channel: 0x0102_0304,
         kind: Kind::Scalar,
     };
-    assert!(rt; is_written(&connect, &CONNECT));
-    assert!(rt; is_written(&Letter::Accept { channel: 1 }, &ACCEPT));
     let reject = Letter::Reject {
         channel: 0xffff_ffff,
         reason: Reason::Busy,
     };
-    assert!(rt; is_written(&reject, &REJECT));
-    assert!(rt; is_written(&Letter::RecvOpen { channel }, &plain(5)));
-    assert!(rt; is_written(&Letter::SendOpen { channel }, &plain(6)));
-    let packet = Letter::Packet { channel, bytes: hi };
-    assert!(rt; is_written(&packet, &[0x4d, 1, 7, 0, 7, 0, 0, 0, 0x68, 0x69]));
-    let scalar = Letter::Scalar {
+    let packet = Letter::Packet { channel, bytes };
+    let scalar_16 = Letter::Scalar {
         channel,
         bits: Bits::B16,
         value: 0x1234,
     };
-    assert!(rt; is_written(&scalar, &SCALAR_16));
-    let scalar = Letter::Scalar {
+    let scalar_64 = Letter::Scalar {
         channel,
         bits: Bits::B64,
         value: u64::MAX,
     };
-    assert!(rt; is_written(&scalar, &SCALAR_64));
-    assert!(rt; is_written(&Letter::SendClose { channel }, &plain(9)));
-    assert!(rt; is_written(&Letter::RecvClose { channel }, &plain(10)));
+    let rows = [
+        is_written(&msg, &[0x4d, 1, 1, 3, 0, 0, 0, 0, 0x68, 0x69]),
+        is_written(&connect, &CONNECT),
+        is_written(&Letter::Accept { channel: 1 }, &ACCEPT),
+        is_written(&reject, &REJECT),
+        is_written(&Letter::RecvOpen { channel }, &[0x4d, 1, 5, 0, 7, 0, 0, 0]),
+        is_written(&Letter::SendOpen { channel }, &[0x4d, 1, 6, 0, 7, 0, 0, 0]),
+        is_written(&packet, &[0x4d, 1, 7, 0, 7, 0, 0, 0, 0x68, 0x69]),
+        is_written(&scalar_16, &SCALAR_16),
+        is_written(&scalar_64, &SCALAR_64),
+        is_written(&Letter::SendClose { channel }, &[0x4d, 1, 9, 0, 7, 0, 0, 0]),
+        is_written(
+            &Letter::RecvClose { channel },
+            &[0x4d, 1, 10, 0, 7, 0, 0, 0],
+        ),
+    ];
+    assert_rows(&rt, &rows);
     letters_read_back();
     no_payload_has_two_letters();
     Ok(())

@@ -101,11 +101,16 @@ fn is_faulty(frame: &[u8], due: Fault) -> bool {
 
 #[test]
 fn a_frame_is_faulty_announces_or_sends(rt: HostRuntime) {
-    assert!(rt; announces(&announced(0), true));
-    assert!(rt; announces(&announced(1), false));
-    assert!(rt; is_faulty(&announced(2), Fault::Ns(NsFault::NsFlags)));
-    assert!(rt; is_faulty(&[0; 15], Fault::Frame(FrameFault::FrameShort)));
-    assert!(rt; is_faulty(&[0; 513], Fault::Frame(FrameFault::FrameLong)));
-    assert!(rt; is_faulty(&[0; 16], Fault::Letter(LetterFault::PayloadShort)));
+    let rows = [
+        announces(&announced(0), true),
+        announces(&announced(1), false),
+        is_faulty(&announced(2), Fault::Ns(NsFault::NsFlags)),
+        is_faulty(&[0; 15], Fault::Frame(FrameFault::FrameShort)),
+        is_faulty(&[0; 513], Fault::Frame(FrameFault::FrameLong)),
+        is_faulty(&[0; 16], Fault::Letter(LetterFault::PayloadShort)),
+    ];
+    for (i, holds) in rows.iter().enumerate() {
+        assert!(rt; *holds, "row {i}");
+    }
     frames_say_what_they_carry();
 }
