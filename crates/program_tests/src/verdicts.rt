@@ -1,5 +1,5 @@
-use crate::changes::{Change, link, right, script, step, text, total};
-use crate::reports::{
+use crate::verdicts::changes::{Change, link, right, script, step, text, total};
+use crate::verdicts::reports::{
     CHANNELS, EACH_AFTER_THE_OTHER, EIGHT_DOMAINS, MESSAGE, NO_CALL, OUT_OF_ORDER,
     OWN_OUT_OF_ORDER, RAW_FRAMES, RINGS, TAKEN_BEFORE_IT_IS_PUT, WAITS,
 };
@@ -7,6 +7,11 @@ use report_check::{CheckReason, Verdict, check};
 use std::alloc::{AllocError, Global};
 use std::process::Abort;
 use std::test::Fail;
+
+mod changes;
+mod cursor;
+mod due_lines;
+mod reports;
 
 /// The lines of rings of `OUT_OF_ORDER`, each with the other's image.
 const FIRST_WITH_SECOND: &[u8] =

@@ -1,5 +1,5 @@
-use crate::tests::frame::frame;
-use crate::tests::{comes_out, ends_with, serial};
+use crate::forms::frame::frame;
+use crate::forms::{comes_out, ends_with, serial};
 use std::alloc::{AllocError, Global};
 use std::process::Abort;
 use std::test::Fail;

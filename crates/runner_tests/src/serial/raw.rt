@@ -1,6 +1,6 @@
 //! Lines that put raw frames, by the reports of serial runs.
 
-use crate::waits::{Row, tells};
+use crate::serial::waits::{Row, tells};
 use std::test::Fail;
 
 /// Four frames with faults of a letter and of an announcement, on a link of four buffers. Each has its word, and no buffer is lost.

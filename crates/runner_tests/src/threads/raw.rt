@@ -1,6 +1,6 @@
 //! Raw frames of domains on threads: each line answers as in a serial run, whenever the frames come.
 
-use crate::tests::{answer_of, journal_at, read};
+use crate::threads::{answer_of, journal_at, read};
 use board_runner::{NoGate, Outcome, run_threads};
 use domain_core::Answer;
 use mc_base::Refusal;

@@ -1,7 +1,7 @@
 ghost use Rattle.std.specs.Prelude.{◌≡◌, ◌<◌, IfSome, Ok, length};
 ghost use Rattle.board_model.specs.Language.{told_by};
 
-use crate::gates::{InOrder, Meeting};
+use crate::threads::gates::{InOrder, Meeting};
 use board_model::Scenario;
 use board_runner::{Gate, NoGate, Outcome, Totals, run_threads};
 use domain_core::{Answer, Entry, Journal};
@@ -10,6 +10,11 @@ use scenario_lang::read_scenario;
 use std::alloc::{AllocError, Global};
 use std::test::Fail;
 use std::thread::Threads;
+
+mod gates;
+mod raw;
+mod rings;
+mod waits;
 
 pub fn read(alloc: Global, text: &[u8]) -> Option<Scenario>
     ensures told { IfSome result (λ s. told_by text.now ≡ Ok s) }

@@ -11,6 +11,10 @@ use scenario_lang::read_scenario;
 use std::alloc::{AllocError, Global};
 use std::test::Fail;
 
+mod limits;
+mod raw;
+mod waits;
+
 /// The domains don't stand in rising number.
 const TEXT: &[u8] = b"domain 5 nodes 1 pool 2
 domain 2 nodes 1 pool 3

@@ -1,6 +1,6 @@
 //! Lines that wait, by the reports of serial runs.
 
-use crate::tests::{read, write};
+use crate::serial::{read, write};
 use board_runner::run_serial;
 use outer_io::MemSink;
 use std::alloc::Global;

@@ -1,6 +1,6 @@
 //! The limits of a domain that only long scripts reach.
 
-use crate::tests::run;
+use crate::serial::run;
 use board_runner::Outcome;
 use domain_core::{Answer, Entry};
 use mc_base::Refusal;

@@ -1,6 +1,6 @@
 //! Waits of domains on threads: each makes its own turns until the other domain did its part.
 
-use crate::tests::{answer_of, is_refused, journal_at, run};
+use crate::threads::{answer_of, is_refused, journal_at, run};
 use board_runner::{NoGate, Totals};
 use domain_core::{Answer, Told};
 use mc_base::Refusal;

@@ -1,4 +1,4 @@
-use crate::tests::{EMPTY, Given, assert_limits, assert_lines, comes_out};
+use crate::forms::{EMPTY, Given, assert_limits, assert_lines, comes_out};
 use std::alloc::Global;
 use std::process::Abort;
 use std::test::Fail;

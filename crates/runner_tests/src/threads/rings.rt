@@ -1,4 +1,4 @@
-use crate::tests::run;
+use crate::threads::run;
 use board_runner::{NoGate, Outcome};
 use ring_trace::{check_image, image_of};
 use std::alloc::Global;
