@@ -24,7 +24,7 @@ link 5 2 size 4
 2.0 msg_recv 7 488
 ";
 
-const REPORT: &[u8] = b"mcapi-report 1 serial
+static REPORT: &[u8] = b"mcapi-report 1 serial
 domain 5 nodes 1 pool 2
 domain 2 nodes 1 pool 3
 link 5 2 size 4
@@ -180,7 +180,7 @@ fn writes_journals_in_rising_number(rt: HostRuntime) -> Result<(), Fail> {
 }
 
 /// A run that leaves messages and buffers at every place.
-const NUMBERS: &[u8] = b"domain 5 nodes 1 pool 2
+static NUMBERS: &[u8] = b"domain 5 nodes 1 pool 2
 domain 2 nodes 1 pool 4
 link 5 2 size 8
 2.0 create 7
@@ -252,7 +252,7 @@ fn a_run_leaves_its_numbers(rt: HostRuntime) -> Result<(), Fail> {
 }
 
 /// Three connects: one of domain 2, and two of domain 5, of which the second is rejected.
-const CONNECTS: &[u8] = b"domain 5 nodes 1 pool 4
+static CONNECTS: &[u8] = b"domain 5 nodes 1 pool 4
 domain 2 nodes 1 pool 4
 5.0 create 1
 5.0 create 2

@@ -4,7 +4,7 @@ ghost use Rattle.board_model.specs.Language.{told_by};
 use crate::threads::gates::{InOrder, Meeting};
 use board_model::Scenario;
 use board_runner::{Gate, NoGate, Outcome, Totals, run_threads};
-use domain_core::{Answer, Entry, Journal};
+use domain_core::{Answer, Entry, Journal, Told};
 use mc_base::Refusal;
 use scenario_lang::read_scenario;
 use std::alloc::{AllocError, Global};
@@ -49,22 +49,56 @@ pub fn answer_of(journal: &Journal, line: u32) -> Option<Answer<'_>> {
     None
 }
 
-fn is_ok(answer: Option<Answer<'_>>) -> bool {
-    matches!(answer, Some(Answer::Ok))
+/// What a line answers.
+#[derive(Clone, Copy)]
+pub enum Due {
+    Ok,
+    Refused(Refusal),
+    /// A message of this one byte.
+    Received(u8),
+    /// A wait found this address.
+    Found(u32),
+    /// A wait ended with the second of its requests, which brought this one byte.
+    BroughtBySecond(u8),
 }
 
-pub fn is_refused(answer: Option<Answer<'_>>, word: Refusal) -> bool {
+/// Whether this is what a line answers.
+fn is_due(answer: Answer<'_>, due: Due) -> bool {
     match answer {
-        Some(Answer::Refused(refused)) => refused == word,
+        Answer::Ok => matches!(due, Due::Ok),
+        Answer::Refused(refused) => matches!(due, Due::Refused(word) if word == refused),
+        Answer::Bytes { size, bytes } => {
+            matches!(due, Due::Received(byte) if size == 1 && bytes.first() == Some(&byte))
+        }
+        Answer::Done { place, result } => match result {
+            Told::Address(found) => {
+                matches!(due, Due::Found(address) if place == None && found == address)
+            }
+            Told::Bytes { size, bytes } => {
+                matches!(due, Due::BroughtBySecond(byte) if place == Some(2) && size == 1 && bytes.first() == Some(&byte))
+            }
+            _ => false,
+        },
         _ => false,
     }
 }
 
-fn is_received(answer: Option<Answer<'_>>, byte: u8) -> bool {
-    match answer {
-        Some(Answer::Bytes { size, bytes }) => size == 1 && bytes.first() == Some(&byte),
-        _ => false,
+/// A domain by its journal's place, the number of a line of its script, and what that line answers.
+pub type Answered = (usize, u32, Due);
+
+fn is_answered(outcome: &Outcome, (at, line, due): Answered) -> Option<bool> {
+    let answer = answer_of(journal_at(outcome, at)?, line)?;
+    Some(is_due(answer, due))
+}
+
+/// The first row whose line answers otherwise.
+pub fn first_wrong(outcome: &Outcome, rows: &[Answered]) -> Option<usize> {
+    for (i, row) in rows.iter().enumerate() {
+        if is_answered(outcome, *row) != Some(true) {
+            return Some(i);
+        }
     }
+    None
 }
 
 /// The journal at a place of an outcome.
@@ -81,19 +115,22 @@ link 0 1 size 2
 1.0 create 2
 ";
 
+/// Whether there are so many journals and rings.
+fn has_sizes(outcome: &Outcome, journals: usize, rings: usize) -> bool {
+    outcome.journals.as_slice().len() == journals && outcome.rings.as_slice().len() == rings
+}
+
 #[test]
 fn two_domains_see_each_others_flag(rt: HostRuntime) -> Result<(), Fail> {
     let gate = Meeting::new();
     let outcome = run(&rt, rt.alloc(), MEETING, &gate).ok_or("memory")?;
-    assert!(rt; gate.met() == 2);
-    assert!(rt; outcome.journals.as_slice().len() == 2);
-    assert!(rt; outcome.rings.as_slice().len() == 2);
+    assert!(rt; gate.met() == 2 && has_sizes(&outcome, 2, 2));
     Ok(())
 }
 
 // ---- lines in an order
 
-const ORDER: &[u8] = b"domain 0 nodes 1 pool 2
+static ORDER: &[u8] = b"domain 0 nodes 1 pool 2
 domain 1 nodes 1 pool 2
 link 0 1 size 4
 0.0 create 1
@@ -158,39 +195,45 @@ fn run_in<R: Threads + Sync>(
     if gate.gave_up() { None } else { Some(outcome) }
 }
 
+static ANSWERS_IN_FIRST: [Answered; 4] = [
+    (0, 3, Due::Ok),
+    (0, 4, Due::Ok),
+    (1, 3, Due::Received(0x61)),
+    (1, 4, Due::Received(0x62)),
+];
+
 #[test]
 fn each_message_is_received_where_it_is_sent_first(rt: HostRuntime) -> Result<(), Fail> {
     let outcome = run_in(&rt, rt.alloc(), ORDER, &FIRST).ok_or("order")?;
-    let sender = journal_at(&outcome, 0).ok_or("journal")?;
-    let receiver = journal_at(&outcome, 1).ok_or("journal")?;
-    assert!(rt; is_ok(answer_of(sender, 3)));
-    assert!(rt; is_ok(answer_of(sender, 4)));
-    assert!(rt; is_received(answer_of(receiver, 3), 0x61));
-    assert!(rt; is_received(answer_of(receiver, 4), 0x62));
+    assert!(rt; first_wrong(&outcome, &ANSWERS_IN_FIRST) == None);
     Ok(())
 }
+
+static ANSWERS_IN_SECOND: [Answered; 4] = [
+    (0, 3, Due::Ok),
+    (0, 4, Due::Ok),
+    (1, 3, Due::Refused(Refusal::Empty)),
+    (1, 4, Due::Received(0x61)),
+];
 
 #[test]
 fn a_receive_before_the_send_finds_nothing(rt: HostRuntime) -> Result<(), Fail> {
     let outcome = run_in(&rt, rt.alloc(), ORDER, &SECOND).ok_or("order")?;
-    let sender = journal_at(&outcome, 0).ok_or("journal")?;
-    let receiver = journal_at(&outcome, 1).ok_or("journal")?;
-    assert!(rt; is_ok(answer_of(sender, 3)));
-    assert!(rt; is_ok(answer_of(sender, 4)));
-    assert!(rt; is_refused(answer_of(receiver, 3), Refusal::Empty));
-    assert!(rt; is_received(answer_of(receiver, 4), 0x61));
+    assert!(rt; first_wrong(&outcome, &ANSWERS_IN_SECOND) == None);
     Ok(())
 }
+
+static ANSWERS_IN_THIRD: [Answered; 4] = [
+    (0, 3, Due::Refused(Refusal::PeerInvalid)),
+    (0, 4, Due::Ok),
+    (1, 3, Due::Refused(Refusal::Empty)),
+    (1, 4, Due::Received(0x62)),
+];
 
 #[test]
 fn a_name_is_unknown_until_its_domain_made_a_turn(rt: HostRuntime) -> Result<(), Fail> {
     let outcome = run_in(&rt, rt.alloc(), ORDER, &THIRD).ok_or("order")?;
-    let sender = journal_at(&outcome, 0).ok_or("journal")?;
-    let receiver = journal_at(&outcome, 1).ok_or("journal")?;
-    assert!(rt; is_refused(answer_of(sender, 3), Refusal::PeerInvalid));
-    assert!(rt; is_ok(answer_of(sender, 4)));
-    assert!(rt; is_refused(answer_of(receiver, 3), Refusal::Empty));
-    assert!(rt; is_received(answer_of(receiver, 4), 0x62));
+    assert!(rt; first_wrong(&outcome, &ANSWERS_IN_THIRD) == None);
     Ok(())
 }
 
@@ -214,8 +257,7 @@ const ONE_MESSAGE: Totals = Totals {
 #[test]
 fn two_endpoints_one_message(rt: HostRuntime) -> Result<(), Fail> {
     let outcome = run(&rt, rt.alloc(), ONE, &NoGate).ok_or("memory")?;
-    assert!(rt; outcome.messages == ONE_MESSAGE);
-    assert!(rt; outcome.rings.as_slice().len() == 0);
+    assert!(rt; outcome.messages == ONE_MESSAGE && outcome.rings.as_slice().len() == 0);
     Ok(())
 }
 
@@ -286,27 +328,28 @@ const ALL_TAKEN: Totals = Totals {
     ring: 0,
 };
 
+/// Whether all messages are taken that eight domains send over rings of this size.
+fn are_all_taken<R: Threads + Sync>(rt: &R, alloc: Global, size: &[u8]) -> Option<bool> {
+    let text = all_linked(alloc, size).ok()?;
+    let outcome = run(rt, alloc, &text, &NoGate)?;
+    Some(outcome.messages == ALL_TAKEN && outcome.rings.as_slice().len() == 56)
+}
+
 #[test]
 fn eight_domains_over_rings_of_2(rt: HostRuntime) -> Result<(), Fail> {
-    let text = all_linked(rt.alloc(), b"2")?;
-    let outcome = run(&rt, rt.alloc(), &text, &NoGate).ok_or("memory")?;
-    assert!(rt; outcome.messages == ALL_TAKEN);
-    assert!(rt; outcome.rings.as_slice().len() == 56);
+    assert!(rt; are_all_taken(&rt, rt.alloc(), b"2").ok_or("memory")?);
     Ok(())
 }
 
 #[test]
 fn eight_domains_over_rings_of_256(rt: HostRuntime) -> Result<(), Fail> {
-    let text = all_linked(rt.alloc(), b"256")?;
-    let outcome = run(&rt, rt.alloc(), &text, &NoGate).ok_or("memory")?;
-    assert!(rt; outcome.messages == ALL_TAKEN);
-    assert!(rt; outcome.rings.as_slice().len() == 56);
+    assert!(rt; are_all_taken(&rt, rt.alloc(), b"256").ok_or("memory")?);
     Ok(())
 }
 
 // ---- a host with two remotes
 
-const HOST_BOARD: &[u8] = b"domain 0 nodes 1 pool 2
+static HOST_BOARD: &[u8] = b"domain 0 nodes 1 pool 2
 domain 1 nodes 1 pool 2
 domain 2 nodes 1 pool 2
 link 0 1 size 256
@@ -324,7 +367,7 @@ link 0 2 size 256
 2.0 try 100000000 test host
 ";
 
-const HOST_ROUND: &[u8] = b"0.0 try 100000000 msg_send 1 1:0:1 1 7069
+static HOST_ROUND: &[u8] = b"0.0 try 100000000 msg_send 1 1:0:1 1 7069
 0.0 try 100000000 msg_send 1 2:0:1 1 7069
 0.0 try 100000000 msg_recv 1 9
 0.0 try 100000000 msg_recv 1 9
@@ -357,15 +400,14 @@ fn a_host_and_two_remotes_ten_times(rt: HostRuntime) -> Result<(), Fail> {
     let text = host_and_remotes(rt.alloc())?;
     for _run in 0..10 {
         let outcome = run(&rt, rt.alloc(), &text, &NoGate).ok_or("memory")?;
-        assert!(rt; outcome.messages == HOST_TOTALS);
-        assert!(rt; outcome.rings.as_slice().len() == 4);
+        assert!(rt; outcome.messages == HOST_TOTALS && outcome.rings.as_slice().len() == 4);
     }
     Ok(())
 }
 
 // ---- a slow receiver
 
-const SLOW: &[u8] = b"domain 0 nodes 1 pool 2
+static SLOW: &[u8] = b"domain 0 nodes 1 pool 2
 domain 1 nodes 1 pool 2
 link 0 1 size 2
 0.0 create 1
@@ -395,19 +437,21 @@ static SLOW_RECEIVER: [Place; 9] = [
     (1, 3),
 ];
 
+static ANSWERS_OF_SLOW: [Answered; 7] = [
+    (0, 4, Due::Ok),
+    (0, 5, Due::Ok),
+    (0, 6, Due::Refused(Refusal::NoBuffer)),
+    (0, 7, Due::Ok),
+    (1, 3, Due::Received(0x61)),
+    (1, 4, Due::Received(0x62)),
+    (1, 5, Due::Received(0x64)),
+];
+
 #[test]
 fn a_sender_without_a_buffer_goes_on_once_the_receiver_took_one(
     rt: HostRuntime,
 ) -> Result<(), Fail> {
     let outcome = run_in(&rt, rt.alloc(), SLOW, &SLOW_RECEIVER).ok_or("order")?;
-    let sender = journal_at(&outcome, 0).ok_or("journal")?;
-    let receiver = journal_at(&outcome, 1).ok_or("journal")?;
-    assert!(rt; is_ok(answer_of(sender, 4)));
-    assert!(rt; is_ok(answer_of(sender, 5)));
-    assert!(rt; is_refused(answer_of(sender, 6), Refusal::NoBuffer));
-    assert!(rt; is_ok(answer_of(sender, 7)));
-    assert!(rt; is_received(answer_of(receiver, 3), 0x61));
-    assert!(rt; is_received(answer_of(receiver, 4), 0x62));
-    assert!(rt; is_received(answer_of(receiver, 5), 0x64));
+    assert!(rt; first_wrong(&outcome, &ANSWERS_OF_SLOW) == None);
     Ok(())
 }

@@ -4,7 +4,7 @@ use crate::serial::waits::{Row, tells};
 use std::test::Fail;
 
 /// Four frames with faults of a letter and of an announcement, on a link of four buffers. Each has its word, and no buffer is lost.
-const LETTERS: Row = (
+static LETTERS: Row = (
     b"domain 0 nodes 1 pool 2
 domain 1 nodes 1 pool 2
 link 0 1 size 4
@@ -48,7 +48,7 @@ end
 );
 
 /// Nine frames, one for each other fault that fits on a link, on a link of 16 buffers. A turn takes eight of them.
-const FRAMES: Row = (
+static FRAMES: Row = (
     b"domain 0 nodes 1 pool 2
 domain 1 nodes 1 pool 2
 link 0 1 size 16
@@ -121,7 +121,7 @@ end
 );
 
 /// Raw frames to a domain that is not declared, and to the domain itself, whose pool has two buffers.
-const OWN_LANE: Row = (
+static OWN_LANE: Row = (
     b"domain 0 nodes 1 pool 2
 0.0 raw 5 00
 0.0 raw 0 00
@@ -174,7 +174,7 @@ end
 );
 
 /// A link of two buffers: the third frame finds none free, and the fourth as soon as the first two came back.
-const NONE_FREE: Row = (
+static NONE_FREE: Row = (
     b"domain 0 nodes 1 pool 2
 domain 1 nodes 1 pool 2
 link 0 1 size 2

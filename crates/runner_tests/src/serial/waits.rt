@@ -10,7 +10,7 @@ use std::test::Fail;
 pub type Row = (&'static [u8], &'static [&'static [u8]]);
 
 /// The first wait has the limit 0, the second 3.
-const TIMEOUTS: Row = (
+static TIMEOUTS: Row = (
     b"domain 0 nodes 1 pool 2
 0.0 create 1
 0.0 r = msg_recv_i 1 488
@@ -44,7 +44,7 @@ end
 );
 
 /// A wait ends with the second of two requests, and tells its place.
-const SECOND_OF_TWO: Row = (
+static SECOND_OF_TWO: Row = (
     b"domain 0 nodes 1 pool 2
 0.0 create 1
 0.0 create 2
@@ -90,7 +90,7 @@ end
 );
 
 /// Of eight requests the last and then the fifth is complete; the same label stands twice in a list, one of whose requests ended before.
-const GROUPS: Row = (
+static GROUPS: Row = (
     b"domain 0 nodes 1 pool 4
 0.0 create 1
 0.0 create 2
@@ -134,7 +134,7 @@ messages accepted 2 taken 2 dropped 0 queued 0 ring 0
 );
 
 /// Requests that ended before their wait: by a delete, by a cancel, and by a wait.
-const ENDED: Row = (
+static ENDED: Row = (
     b"domain 0 nodes 1 pool 2
 0.0 create 1
 0.0 create 2
@@ -180,7 +180,7 @@ end
 
 /// In a round domain 0 turns before domain 1: what it put is taken by the wait of domain 1 in the first round. The name that domain 1
 /// announces is known to the wait of domain 0 in the second.
-const ROUNDS: Row = (
+static ROUNDS: Row = (
     b"domain 0 nodes 1 pool 2
 domain 1 nodes 1 pool 2
 link 0 1 size 2
@@ -221,7 +221,7 @@ call 5 done 1 61
 );
 
 /// Waits for channels and packets: the greatest limit, a packet that is lent under its label, and both kinds of close.
-const CLOSES: Row = (
+static CLOSES: Row = (
     b"domain 0 nodes 1 pool 2
 domain 1 nodes 1 pool 2
 link 0 1 size 4
@@ -287,7 +287,7 @@ channel 0 1 accepted 1 taken 1 dropped 0 queued 0 ring 0
 );
 
 /// Two domains over a ring of 2: the wait ends after two rounds, and a third message finds no buffer.
-const SMALL_RING: Row = (
+static SMALL_RING: Row = (
     b"domain 0 nodes 1 pool 2
 domain 1 nodes 1 pool 2
 link 0 1 size 2
@@ -358,7 +358,7 @@ end
 );
 
 /// A channel of scalars, whose connect is waited for: another size leaves the item, and a packet is of another type.
-const SCALARS: Row = (
+static SCALARS: Row = (
     b"domain 0 nodes 1 pool 2
 domain 1 nodes 1 pool 2
 link 0 1 size 4

@@ -1,7 +1,7 @@
 //! Raw frames of domains on threads: each line answers as in a serial run, whenever the frames come.
 
-use crate::threads::{answer_of, journal_at, read};
-use board_runner::{NoGate, Outcome, run_threads};
+use crate::threads::{Answered, Due, answer_of, first_wrong, journal_at, run};
+use board_runner::{NoGate, Outcome};
 use domain_core::Answer;
 use mc_base::Refusal;
 use std::alloc::Global;
@@ -9,7 +9,7 @@ use std::test::Fail;
 use std::thread::Threads;
 
 /// Four frames with faults of a letter and of an announcement, on a link of four buffers.
-const LETTERS: &[u8] = b"domain 0 nodes 1 pool 2
+static LETTERS: &[u8] = b"domain 0 nodes 1 pool 2
 domain 1 nodes 1 pool 2
 link 0 1 size 4
 0.0 raw 1 000400000004000000000000080000000001010000000000
@@ -20,7 +20,7 @@ link 0 1 size 4
 ";
 
 /// Nine frames, one for each other fault that fits on a link, on a link of 16 buffers.
-const FRAMES: &[u8] = b"domain 0 nodes 1 pool 2
+static FRAMES: &[u8] = b"domain 0 nodes 1 pool 2
 domain 1 nodes 1 pool 2
 link 0 1 size 16
 0.0 raw 1 00
@@ -42,12 +42,6 @@ const OWN_LANE: &[u8] = b"domain 0 nodes 1 pool 2
 0.0 raw 0 00
 ";
 
-fn run<R: Threads + Sync>(rt: &R, alloc: Global, text: &[u8]) -> Result<Outcome, Fail> {
-    let scenario = read(alloc, text).ok_or("memory")?;
-    let outcome = run_threads(rt, alloc, &scenario, &NoGate).map_err(|_| "memory")?;
-    Ok(outcome)
-}
-
 /// How many of the first lines of a domain answer ok, one after the other.
 fn answers(outcome: &Outcome, at: usize) -> Option<u32> {
     let journal = journal_at(outcome, at)?;
@@ -61,29 +55,29 @@ fn answers(outcome: &Outcome, at: usize) -> Option<u32> {
     Some(lines)
 }
 
-fn is_refused(answer: Option<Answer<'_>>, word: Refusal) -> bool {
-    match answer {
-        Some(Answer::Refused(refused)) => refused == word,
-        _ => false,
-    }
+/// Whether so many of the first lines of each of two domains answer ok.
+fn are_put<R: Threads + Sync>(
+    rt: &R,
+    alloc: Global,
+    text: &[u8],
+    lines: (u32, u32),
+) -> Option<bool> {
+    let outcome = run(rt, alloc, text, &NoGate)?;
+    Some((answers(&outcome, 0)?, answers(&outcome, 1)?) == lines)
 }
 
 #[test]
 fn each_frame_is_put(rt: HostRuntime) -> Result<(), Fail> {
-    let letters = run(&rt, rt.alloc(), LETTERS)?;
-    assert!(rt; answers(&letters, 0) == Some(4));
-    assert!(rt; answers(&letters, 1) == Some(1));
-    let frames = run(&rt, rt.alloc(), FRAMES)?;
-    assert!(rt; answers(&frames, 0) == Some(9));
-    assert!(rt; answers(&frames, 1) == Some(2));
+    assert!(rt; are_put(&rt, rt.alloc(), LETTERS, (4, 1)).ok_or("memory")?);
+    assert!(rt; are_put(&rt, rt.alloc(), FRAMES, (9, 2)).ok_or("memory")?);
     Ok(())
 }
 
+static ANSWERS: [Answered; 2] = [(0, 1, Due::Refused(Refusal::LinkInvalid)), (0, 2, Due::Ok)];
+
 #[test]
 fn a_frame_goes_over_a_lane_alone(rt: HostRuntime) -> Result<(), Fail> {
-    let outcome = run(&rt, rt.alloc(), OWN_LANE)?;
-    let journal = journal_at(&outcome, 0).ok_or("journal")?;
-    assert!(rt; is_refused(answer_of(journal, 1), Refusal::LinkInvalid));
-    assert!(rt; matches!(answer_of(journal, 2), Some(Answer::Ok)));
+    let outcome = run(&rt, rt.alloc(), OWN_LANE, &NoGate).ok_or("memory")?;
+    assert!(rt; first_wrong(&outcome, &ANSWERS) == None);
     Ok(())
 }

@@ -5,7 +5,7 @@ use std::alloc::Global;
 use std::test::Fail;
 
 /// Two domains that send each other messages over one link, and a third that is linked to both and sends nothing.
-const BOARD: &[u8] = b"domain 0 nodes 1 pool 2
+static BOARD: &[u8] = b"domain 0 nodes 1 pool 2
 domain 1 nodes 1 pool 2
 domain 2 nodes 1 pool 2
 link 1 0 size 4
