@@ -1,7 +1,7 @@
 //! Reports of runs.
 
 /// One domain sends itself a message.
-pub const MESSAGE: &[u8] = b"mcapi-report 1 serial
+pub static MESSAGE: &[u8] = b"mcapi-report 1 serial
 domain 0 nodes 1 pool 2
 0.0 create 1
 0.0 create 2
@@ -25,7 +25,7 @@ end
 ";
 
 /// Two domains connect a channel, with waits and tries.
-pub const BOARD: &[u8] = b"mcapi-report 1 serial
+pub static BOARD: &[u8] = b"mcapi-report 1 serial
 domain 0 nodes 1 pool 2
 domain 3 nodes 1 pool 2
 link 0 3 size 2
@@ -107,7 +107,7 @@ end
 ";
 
 /// Raw frames are put to a peer, to a domain without a lane and to the domain itself.
-pub const RAW: &[u8] = b"mcapi-report 1 serial
+pub static RAW: &[u8] = b"mcapi-report 1 serial
 domain 0 nodes 1 pool 2
 domain 3 nodes 1 pool 2
 link 0 3 size 2
@@ -147,7 +147,7 @@ end
 ";
 
 /// Three domains on threads, with two links and no calls.
-pub const RINGS: &[u8] = b"mcapi-report 1 threads
+pub static RINGS: &[u8] = b"mcapi-report 1 threads
 domain 0 nodes 1 pool 2
 domain 1 nodes 1 pool 2
 domain 3 nodes 1 pool 2

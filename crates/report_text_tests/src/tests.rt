@@ -66,23 +66,40 @@ fn assert_changes(
     Ok(())
 }
 
+fn assert_tables(
+    rt: &impl Abort,
+    alloc: Global,
+    tables: &[(&[u8], &[Change])],
+) -> Result<(), Fail> {
+    for (report, rows) in tables {
+        assert_changes(rt, alloc, *report, *rows)?;
+    }
+    Ok(())
+}
+
 #[test]
 fn first_wrong_line_of_a_text_is_found(rt: HostRuntime) -> Result<(), Fail> {
-    assert_changes(&rt, rt.alloc(), MESSAGE, &HEADING)?;
-    assert_changes(&rt, rt.alloc(), MESSAGE, &SCENARIO)?;
-    assert_changes(&rt, rt.alloc(), MESSAGE, &NUMBERS)?;
-    assert_changes(&rt, rt.alloc(), RINGS, &RING_LINES)
+    let tables: [(&[u8], &[Change]); 4] = [
+        (MESSAGE, &HEADING),
+        (MESSAGE, &SCENARIO),
+        (MESSAGE, &NUMBERS),
+        (RINGS, &RING_LINES),
+    ];
+    assert_tables(&rt, rt.alloc(), &tables)
 }
 
 #[test]
 fn first_wrong_line_of_a_journal_is_found(rt: HostRuntime) -> Result<(), Fail> {
-    assert_changes(&rt, rt.alloc(), MESSAGE, &JOURNAL_HEADINGS)?;
-    assert_changes(&rt, rt.alloc(), MESSAGE, &ROWS_OF_TURNS)?;
-    assert_changes(&rt, rt.alloc(), MESSAGE, &PUTS)?;
-    assert_changes(&rt, rt.alloc(), MESSAGE, &LOOKS)?;
-    assert_changes(&rt, rt.alloc(), MESSAGE, &ANSWERS)?;
-    assert_changes(&rt, rt.alloc(), BOARD, &BOARD_LINES)?;
-    assert_changes(&rt, rt.alloc(), RAW, &RAW_LINES)
+    let tables: [(&[u8], &[Change]); 7] = [
+        (MESSAGE, &JOURNAL_HEADINGS),
+        (MESSAGE, &ROWS_OF_TURNS),
+        (MESSAGE, &PUTS),
+        (MESSAGE, &LOOKS),
+        (MESSAGE, &ANSWERS),
+        (BOARD, &BOARD_LINES),
+        (RAW, &RAW_LINES),
+    ];
+    assert_tables(&rt, rt.alloc(), &tables)
 }
 
 /// Whether a text that ends early is wrong at the line of its end, wherever that is.
@@ -104,11 +121,9 @@ fn are_cuts_found(alloc: Global, report: &[u8]) -> bool {
 
 #[test]
 fn each_front_of_a_report_is_wrong_where_it_ends(rt: HostRuntime) {
-    assert!(rt; are_cuts_found(rt.alloc(), MESSAGE));
-    assert!(rt; are_cuts_found(rt.alloc(), BOARD));
-    assert!(rt; are_cuts_found(rt.alloc(), RAW));
-    assert!(rt; are_cuts_found(rt.alloc(), RINGS));
-    assert!(rt; are_cuts_found(rt.alloc(), NO_CALL));
+    for (i, report) in [MESSAGE, BOARD, RAW, RINGS, NO_CALL].iter().enumerate() {
+        assert!(rt; are_cuts_found(rt.alloc(), *report), "report {i}");
+    }
 }
 
 /// Texts, and their first wrong line.
