@@ -18,51 +18,81 @@ fn opened(alloc: Global) -> Result<State, NoMemory> {
     State::open(alloc, 0, 1, &[(0, 2), (1, 4)])
 }
 
+/// A node and a call there, and the word by which it is refused, if it is.
+type Row<'a> = (u8, DomainCall<'a>, Option<Refusal>);
+
+fn assert_refusals(rt: &impl Abort, state: &State, rows: &[Row<'_>]) {
+    for (i, (node, call, word)) in rows.iter().enumerate() {
+        assert!(rt; state.refusal(*node, call) == *word, "row {i}");
+    }
+}
+
 #[test]
 fn calls_are_refused_by_their_first_word(rt: HostRuntime) -> Result<(), Fail> {
     let state = opened(rt.alloc())?;
-    let create = DomainCall::Create { port: 1 };
-    assert!(rt; state.refusal(0, &create).is_none());
-    assert!(rt; state.refusal(1, &create) == Some(Refusal::NodeInvalid));
-    let receive = DomainCall::Receive { port: 1, max: 9 };
-    assert!(rt; state.refusal(0, &receive) == Some(Refusal::EndpInvalid));
-    let Some(priority) = Priority::new(1) else {
-        return Ok(());
-    };
+    let priority = Priority::new(1).ok_or("1 is a priority")?;
     let send = DomainCall::Send {
         port: 1,
         to: FAR,
         priority,
         bytes: b"hello",
     };
-    assert!(rt; state.refusal(0, &send) == Some(Refusal::EndpInvalid));
     let connect = DomainCall::Connect {
         port: 1,
         to: FAR,
         kind: Kind::Packet,
     };
-    assert!(rt; state.refusal(0, &connect) == Some(Refusal::EndpInvalid));
     let close = DomainCall::Close {
         port: 1,
         side: Side::Sender,
     };
-    assert!(rt; state.refusal(0, &close) == Some(Refusal::EndpInvalid));
+    let rows = [
+        (0, DomainCall::Create { port: 1 }, None),
+        (
+            1,
+            DomainCall::Create { port: 1 },
+            Some(Refusal::NodeInvalid),
+        ),
+        (
+            0,
+            DomainCall::Receive { port: 1, max: 9 },
+            Some(Refusal::EndpInvalid),
+        ),
+        (0, send, Some(Refusal::EndpInvalid)),
+        (0, connect, Some(Refusal::EndpInvalid)),
+        (0, close, Some(Refusal::EndpInvalid)),
+    ];
+    assert_refusals(&rt, &state, &rows);
     Ok(())
 }
 
 #[test]
 fn calls_that_name_nothing_are_refused(rt: HostRuntime) -> Result<(), Fail> {
     let state = opened(rt.alloc())?;
-    let test = DomainCall::Test { request: None };
-    assert!(rt; state.refusal(0, &test) == Some(Refusal::RequestInvalid));
-    let cancel = DomainCall::Cancel { request: Some(0) };
-    assert!(rt; state.refusal(0, &cancel) == Some(Refusal::RequestInvalid));
-    let release = DomainCall::Release { packet: None };
-    assert!(rt; state.refusal(0, &release) == Some(Refusal::BufInvalid));
-    let lost = DomainCall::Raw { to: 5, bytes: &[0] };
-    assert!(rt; state.refusal(0, &lost) == Some(Refusal::LinkInvalid));
-    let raw = DomainCall::Raw { to: 1, bytes: &[0] };
-    assert!(rt; state.refusal(0, &raw).is_none());
-    assert!(rt; state.refusal(0, &DomainCall::Turn).is_none());
+    let rows = [
+        (
+            0,
+            DomainCall::Test { request: None },
+            Some(Refusal::RequestInvalid),
+        ),
+        (
+            0,
+            DomainCall::Cancel { request: Some(0) },
+            Some(Refusal::RequestInvalid),
+        ),
+        (
+            0,
+            DomainCall::Release { packet: None },
+            Some(Refusal::BufInvalid),
+        ),
+        (
+            0,
+            DomainCall::Raw { to: 5, bytes: &[0] },
+            Some(Refusal::LinkInvalid),
+        ),
+        (0, DomainCall::Raw { to: 1, bytes: &[0] }, None),
+        (0, DomainCall::Turn, None),
+    ];
+    assert_refusals(&rt, &state, &rows);
     Ok(())
 }
