@@ -5,7 +5,7 @@ use std::alloc::Global;
 use std::test::Fail;
 
 /// The load board of one packet, line by line.
-const ONE: &[u8] = b"domain 0 nodes 1 pool 2
+static ONE: &[u8] = b"domain 0 nodes 1 pool 2
 domain 1 nodes 1 pool 2
 domain 2 nodes 1 pool 2
 domain 3 nodes 1 pool 2
@@ -68,7 +68,7 @@ link 3 0 size 16
 ";
 
 /// The lines with which that of 2,000 packets ends.
-const END: &[u8] = b"3.0 p2000 = try 4294967295 pkt_recv 2
+static END: &[u8] = b"3.0 p2000 = try 4294967295 pkt_recv 2
 0.0 release p2000
 1.0 release p2000
 2.0 release p2000
