@@ -181,17 +181,17 @@ pub fn stepped<S: SendEnd, R: RecvEnd>(
         }
         OpenSend(port, kind) => {
             let answer = domain.open_send(journal, Local { node: 0, port }, kind);
-            Ok(Some(answer.map(|()| Number(0))))
+            Ok(Some(done(answer)))
         }
         OpenRecv(port, kind) => {
             let answer = domain.open_recv(journal, Local { node: 0, port }, kind);
-            Ok(Some(answer.map(|()| Number(0))))
+            Ok(Some(done(answer)))
         }
         SendPacket(port, byte, size) => {
             let content = [byte; 489];
             let (bytes, _) = content.split_at(size.min(489));
             let answer = domain.pkt_send(journal, Local { node: 0, port }, bytes);
-            Ok(Some(answer.map(|()| Number(0))))
+            Ok(Some(done(answer)))
         }
         ReceivePacket(port, byte) => match domain.pkt_recv(journal, Local { node: 0, port }) {
             Ok(id) => Ok(lent(domain, id, byte)),
@@ -204,11 +204,11 @@ pub fn stepped<S: SendEnd, R: RecvEnd>(
         ReadPacket(buffer, serial, byte) => Ok(lent(domain, packet(buffer, serial), byte)),
         Release(buffer, serial) => {
             let answer = domain.release(journal, packet(buffer, serial));
-            Ok(Some(answer.map(|()| Number(0))))
+            Ok(Some(done(answer)))
         }
         SendScalar(port, value) => {
             let answer = sent_scalar(domain, journal, Local { node: 0, port }, value);
-            Ok(Some(answer.map(|()| Number(0))))
+            Ok(Some(done(answer)))
         }
         ReceiveScalar(port, bits) => {
             let answer = domain.scl_recv(journal, Local { node: 0, port }, bits);
@@ -216,7 +216,7 @@ pub fn stepped<S: SendEnd, R: RecvEnd>(
         }
         CloseSend(port) => {
             let answer = domain.close_send(journal, Local { node: 0, port });
-            Ok(Some(answer.map(|()| Number(0))))
+            Ok(Some(done(answer)))
         }
         CloseRecv(port) => {
             let answer = domain.close_recv(journal, Local { node: 0, port });
@@ -224,12 +224,12 @@ pub fn stepped<S: SendEnd, R: RecvEnd>(
         }
         PutRaw(peer, which) => {
             let answer = domain.raw_put(journal, peer, frame_of(which));
-            Ok(Some(answer.map(|()| Number(0))))
+            Ok(Some(done(answer)))
         }
         Test(serial, byte) => Ok(tested(domain, journal, id_of(ids, serial), byte)),
         Cancel(serial) => {
             let answer = domain.cancel(journal, id_of(ids, serial));
-            Ok(Some(answer.map(|()| Number(0))))
+            Ok(Some(done(answer)))
         }
         Wait(limit, serial, byte) => waited(domain, journal, id_of(ids, serial), limit, byte),
         WaitAny(limit, serials, place, byte) => {
@@ -299,7 +299,17 @@ fn sent_scalar<S: SendEnd, R: RecvEnd>(
 }
 
 fn number(answer: Result<u32, Refusal>) -> Answered {
-    answer.map(|n| Number(u64::from(n)))
+    match answer {
+        Ok(n) => Ok(Number(u64::from(n))),
+        Err(word) => Err(word),
+    }
+}
+
+fn done(answer: Result<(), Refusal>) -> Answered {
+    match answer {
+        Ok(()) => Ok(Number(0)),
+        Err(word) => Err(word),
+    }
 }
 
 /// Keeps the id of a request that was begun.
@@ -463,7 +473,20 @@ fn assert_rows(rt: &impl Abort, lone: &mut Lone, rows: &[Row]) -> Result<(), Fai
     Ok(())
 }
 
-/// The same in a new domain, whose pool has two buffers.
+/// The same of one list of rows after the other, in a new domain whose pool has so many buffers.
+fn assert_parts(rt: &impl Abort, alloc: Global, pool: u32, parts: &[&[Row]]) -> Result<(), Fail>
+    requires some { 1 ≤ pool }
+    requires most { pool ≤ 256 }
+{
+    assert_of(Lone::open(alloc, 1, pool), |lone| {
+        for rows in parts {
+            assert_rows(rt, lone, rows)?;
+        }
+        Ok(())
+    })
+}
+
+/// The same of one list, where the pool has two buffers.
 fn assert_all(rt: &impl Abort, alloc: Global, rows: &[Row]) -> Result<(), Fail> {
-    assert_of(Lone::open(alloc, 1, 2), |lone| assert_rows(rt, lone, rows))
+    assert_parts(rt, alloc, 2, &[rows])
 }

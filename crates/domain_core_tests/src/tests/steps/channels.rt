@@ -186,9 +186,7 @@ const NO_BUFFER_AT_ENDS: [Row; 13] = [
 
 #[test]
 fn calls_at_ends_need_a_buffer(rt: HostRuntime) -> Result<(), Fail> {
-    assert_of(Lone::open(rt.alloc(), 1, 1), |lone| {
-        assert_rows(&rt, lone, &NO_BUFFER_AT_ENDS)
-    })
+    assert_parts(&rt, rt.alloc(), 1, &[&NO_BUFFER_AT_ENDS])
 }
 
 const REJECTED: [Row; 15] = [

@@ -58,10 +58,7 @@ const SCALARS: [Row; 28] = [
 
 #[test]
 fn scalars_of_each_size(rt: HostRuntime) -> Result<(), Fail> {
-    assert_of(Lone::open(rt.alloc(), 1, 2), |lone| {
-        assert_rows(&rt, lone, &opened(Scalar))?;
-        assert_rows(&rt, lone, &SCALARS)
-    })
+    assert_parts(&rt, rt.alloc(), 2, &[&opened(Scalar), &SCALARS])
 }
 
 /// A receiver that takes nothing holds the buffers of the lane, and a sender that closes leaves what is queued.
@@ -112,14 +109,8 @@ const LONG_PACKETS: [Row; 5] = [
 
 #[test]
 fn packets_are_dropped_where_the_receiver_closes(rt: HostRuntime) -> Result<(), Fail> {
-    assert_of(Lone::open(rt.alloc(), 1, 2), |lone| {
-        assert_rows(&rt, lone, &opened(Packet))?;
-        assert_rows(&rt, lone, &PACKETS)
-    })?;
-    assert_of(Lone::open(rt.alloc(), 1, 2), |lone| {
-        assert_rows(&rt, lone, &opened(Packet))?;
-        assert_rows(&rt, lone, &LONG_PACKETS)
-    })
+    assert_parts(&rt, rt.alloc(), 2, &[&opened(Packet), &PACKETS])?;
+    assert_parts(&rt, rt.alloc(), 2, &[&opened(Packet), &LONG_PACKETS])
 }
 
 /// Each refusal stands before the next, on the way to an open channel of scalars.
@@ -194,10 +185,7 @@ const LENT: [Row; 19] = [
 
 #[test]
 fn packets_are_lent_and_released(rt: HostRuntime) -> Result<(), Fail> {
-    assert_of(Lone::open(rt.alloc(), 1, 2), |lone| {
-        assert_rows(&rt, lone, &opened(Packet))?;
-        assert_rows(&rt, lone, &LENT)
-    })
+    assert_parts(&rt, rt.alloc(), 2, &[&opened(Packet), &LENT])
 }
 
 /// A request for a packet waits for one, holds it until it is tested off, and ends where the receiver closes.
@@ -219,10 +207,7 @@ const REQUESTED: [Row; 13] = [
 
 #[test]
 fn packets_are_requested(rt: HostRuntime) -> Result<(), Fail> {
-    assert_of(Lone::open(rt.alloc(), 1, 2), |lone| {
-        assert_rows(&rt, lone, &opened(Packet))?;
-        assert_rows(&rt, lone, &REQUESTED)
-    })
+    assert_parts(&rt, rt.alloc(), 2, &[&opened(Packet), &REQUESTED])
 }
 
 /// Sends 64 packets of one byte, each of which is received and stays lent. The frames that opened the channel used the
@@ -294,8 +279,5 @@ const SENDER_CLOSES: [Row; 9] = [
 
 #[test]
 fn requests_for_packets_end_where_the_sender_closes(rt: HostRuntime) -> Result<(), Fail> {
-    assert_of(Lone::open(rt.alloc(), 1, 2), |lone| {
-        assert_rows(&rt, lone, &opened(Packet))?;
-        assert_rows(&rt, lone, &SENDER_CLOSES)
-    })
+    assert_parts(&rt, rt.alloc(), 2, &[&opened(Packet), &SENDER_CLOSES])
 }
