@@ -1,6 +1,6 @@
 -- What events need of others: a frame is put before it is taken, and a buffer is given back before it comes back.
 -- Source: docs/FORMATS.md, "Journal text".
-use Rattle.std.specs.Prelude.{◌≡◌, ◌≤◌, ◌<◌, ◌==◌, ℕ, List, if◌then◌else◌, sum_by, take}
+use Rattle.std.specs.Prelude.{◌≤◌, ◌<◌, ◌==◌, ℕ, List, if◌then◌else◌, sum_by, take}
 use Rattle.event_order.specs.declared.event.Event.{Event}
 use Rattle.event_order.specs.declared.event.What.{What}
 use Rattle.event_order.specs.declared.event.What.TheVariants.{Put, Take, Give, Back}
