@@ -1,5 +1,5 @@
 -- The order of each domain's events among themselves.
--- Source: docs/PICTURES.md, "Order".
+-- Source: docs/FORMATS.md, "Journal text".
 use Rattle.std.specs.Prelude.{◌≡◌, ◌+◌, ◌<◌, ◌==◌, ℕ, List, [], ◌∷◌, Bool, true, false, if◌then◌else◌, nat_lt}
 use Rattle.event_order.specs.declared.event.Event.{Event}
 

@@ -1,5 +1,5 @@
 -- Bytes as they stand in SVG and in JSON.
--- Source: docs/PICTURES.md, "What is written".
+-- Source: XML 1.0, section 2.4, and RFC 8259, section 7.
 use Rattle.std.specs.Prelude.{ℕ, List, [], ◌∷◌, codes, if◌then◌else◌, ◌==◌, ◌&&◌, nat_lt}
 
 -- a printable byte as it is, and any other as a question mark
