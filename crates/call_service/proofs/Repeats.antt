@@ -114,6 +114,6 @@ pub all_left_out : (h : List Carried) (rs : List Request) → history_from h (fi
 all_left_out h [] = refl
 all_left_out h (r ∷ rs) =
     elim (cases_Bool (is_known r.client r.number h)) [
-      inl known ↦ ap (history_from h) (first_known h r rs known) ∙ all_left_out h rs ∙ ap (λ s. history_from s.history rs) (sym (served-known h r known))
-    | inr new ↦ ap (history_from h) (first_new h r rs new) ∙ all_left_out (served h r).history rs
+      | inl known ↦ ap (history_from h) (first_known h r rs known) ∙ all_left_out h rs ∙ ap (λ s. history_from s.history rs) (sym (served-known h r known))
+      | inr new ↦ ap (history_from h) (first_new h r rs new) ∙ all_left_out (served h r).history rs
     ]

@@ -13,12 +13,13 @@ use Rattle.call_service.proofs.service.Service.handle.Goals as goal
 is_replied : (s : State) (r : Request) (p : Reply) (old : List ℕ) → reply_or_full s r ≡ Ok p → reply_bytes r.number p ≡ (handled_request s old (Ok r)).reply
 is_replied s r p old has =
     elim (cases_Bool (is_full s r)) [
-      inl full ↦ absurd (let other : Err Full ≡ reply_or_full s r = rw full refl in let both : Err Full ≡ Ok p = other ∙ has in cc)
-    | inr room ↦
-        let same : Ok (served s.history r).reply ≡ reply_or_full s r = rw room refl in
-        let both : Ok (served s.history r).reply ≡ Ok p = same ∙ has in
-        let is : p ≡ (served s.history r).reply = cc in
-        ap (reply_bytes r.number) is ∙ rw room refl ]
+      | inl full ↦ absurd (let other : Err Full ≡ reply_or_full s r = rw full refl in let both : Err Full ≡ Ok p = other ∙ has in cc)
+      | inr room ↦
+          let same : Ok (served s.history r).reply ≡ reply_or_full s r = rw room refl in
+          let both : Ok (served s.history r).reply ≡ Ok p = same ∙ has in
+          let is : p ≡ (served s.history r).reply = cc in
+          ap (reply_bytes r.number) is ∙ rw room refl
+    ]
 
 pub returns-clause-reply : goal.returns-clause-reply
 returns-clause-reply c =

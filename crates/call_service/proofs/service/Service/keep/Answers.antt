@@ -23,4 +23,5 @@ invariant_of-self c =
       cells = rw items (cells-more h e c.self.inside.cells c.from.result c.self.invariant.cells c.from.ensures c.requires.cell is);
       last = rw items (lasts-more h e c.self.inside.last c.from-2.result (record { number = e.number; reply = c.reply_to.result }) c.self.invariant.last c.from-2.ensures c.requires.client (ap (λ r. record { number = e.number; reply = r }) c.reply_to.ensures));
       room = search (rules, arith);
-      fits = rw items (rw (length-more h e) (omega (arith, room, few, rooms))) }
+      fits = rw items (rw (length-more h e) (omega (arith, room, few, rooms)));
+    }
