@@ -1,9 +1,9 @@
 //! Writes the text of a report, piece by piece.
 
-ghost use Rattle.std.specs.Prelude.{◌≡◌, ◌≤◌, ◌++◌, ◌∷◌, [], ℕ, length, codes, decimal, IsOk};
+ghost use Rattle.std.specs.Prelude.{◌≡◌, ◌≤◌, ◌++◌, ◌∷◌, [], ℕ, length, codes, decimal, IsOk, OnErr};
 ghost use Rattle.std.specs.List.{flat_map};
 ghost use Rattle.outer_io.specs.Faults.{HasCause};
-ghost use Rattle.outer_io.specs.Writes.{Writes};
+ghost use Rattle.outer_io.specs.Writes.{Writes, WritesStop};
 ghost use Rattle.outer_io.specs.Puts.{Puts};
 ghost use Rattle.board_model.specs.Scenario.{rising};
 ghost use Rattle.board_model.specs.Grammar.{line_of};
@@ -44,6 +44,7 @@ pub fn write_report<K: Sink>(
     ensures bytes { Writes (K.written sink.old) (K.written sink.new) result (outcome_report (mode_of threads) scenario.now outcome.now) }
     ensures cause { HasCause (K.faults sink.old) (K.faults sink.new) result }
     ensures room { (n : ℕ) → K.takes sink.old n → length (outcome_report (mode_of threads) scenario.now outcome.now) ≤ n → IsOk result }
+    ensures none_after_failure { OnErr result (WritesStop (K.written sink.old) (K.written sink.new) (K.calls sink.old) (K.calls sink.new) (outcome_report (mode_of threads) scenario.now outcome.now)) }
 {
     let mut out = Writer::new(sink);
     put_report(&mut out, scenario, outcome, threads);
