@@ -1,13 +1,11 @@
 -- The line of a frame, piece by piece, and what is told of a text.
-use Rattle.std.proofs.Common.{◌≡◌, ℕ, Bool, true, false, List, [], ◌∷◌, ◌++◌, Option, Some, None, refl, sym, ap, ◌∙◌, append_assoc}
-use Rattle.std.specs.Prelude.{codes, decimal, if◌then◌else◌}
+use Rattle.std.proofs.Common.{◌≡◌, ℕ, Bool, true, false, List, [], ◌∷◌, ◌++◌, Option, Some, None, refl, sym, ap, subst, ◌∙◌, append_assoc}
+use Rattle.std.specs.Prelude.{codes, decimal, IsSome, if◌then◌else◌}
 use Rattle.mc_base.specs.Letter.{PlainLetter, msg, connect, accept, reject, recv_open, send_open, packet, scalar, send_close, recv_close}
 use Rattle.board_model.specs.Grammar.{spaced}
 use Rattle.scenario_cli.specs.Hex.{hex_fault, bytes_spelled}
 use Rattle.scenario_cli.specs.WrongText.{wrong_line}
 use Rattle.scenario_cli.specs.FrameText.{right_line, letter_words, announcement_words, frame_wrong, wrong_by, wrong_in, IsFrameText, TellsRight}
-use Rattle.scenario_cli.specs.Content.{IsToldOf, says, fails}
-use Rattle.scenario_cli.specs.Due.{IsFrameDue, right, wrong}
 
 -- the word and the addresses before the words of the content
 abbrev pub addresses : ℕ → ℕ → List ℕ
@@ -44,6 +42,9 @@ hex_wrong text place is = ap (λ (o : Option ℕ). wrong_by o (bytes_spelled tex
 pub tells_right : (text bytes due : List ℕ) → hex_fault text ≡ None → bytes ≡ bytes_spelled text → frame_wrong bytes ≡ None → IsFrameText bytes due → TellsRight text due
 tells_right text bytes due none spelled sound told = record { sound = spelled_wrong text bytes none spelled ∙ sound; told = rw (← spelled) told }
 
-pub due_of : (text bytes due : List ℕ) → hex_fault text ≡ None → bytes ≡ bytes_spelled text → IsToldOf bytes due → IsFrameDue text due
-due_of text bytes due none spelled (says sound told) = right (tells_right text bytes due none spelled sound told)
-due_of text bytes due none spelled (fails is) = wrong (spelled_wrong text bytes none spelled ∙ is)
+-- a text is a sound frame or none, and not both
+pub some_wrong : (text : List ℕ) → wrong_in text ≡ None → IsSome (wrong_in text) → ⊥
+some_wrong text none some = subst (λ o. IsSome o → ⊥) (sym none) (λ k. cc k) some
+
+pub none_wrong : (text line : List ℕ) → wrong_in text ≡ Some line → wrong_in text ≡ None → ⊥
+none_wrong text line some none = let both : Some line ≡ None = sym some ∙ none in absurd cc

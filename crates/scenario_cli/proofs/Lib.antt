@@ -1,8 +1,10 @@
-pub mod Written
 pub mod LeftLemmas
 pub mod Inputs
 pub mod WordLemmas
-pub mod Statuses
+pub mod ModeForms
+pub mod Telling
+pub mod Answering
+pub mod FormWords
 pub mod HexLemmas
 pub mod FaultPlaces
 pub mod FrameLines

@@ -1,9 +1,8 @@
--- Words of a load: their number, and that they are no other form; and the statuses that a load leaves.
-use Rattle.std.proofs.Common.{◌≡◌, ◌≢◌, ℕ, ◌≤◌, List, [], ◌∷◌, ◌++◌, length, Option, Some, None, Result, Ok, Err, refl, sym, ap, ap₂, ◌∙◌, arith, append_assoc, inl, inr}
-use Rattle.std.specs.Prelude.{OnOk, OnErr, IfSome, codes, decimal, string_bytes, String}
+-- Words of a load: their number, and that they are no other form.
+use Rattle.std.proofs.Common.{◌≡◌, ℕ, ◌≤◌, List, [], ◌∷◌, ◌++◌, length, Option, Some, None, sym, ap, ap₂, ◌∙◌, arith, append_assoc}
+use Rattle.std.specs.Prelude.{IfSome, codes, decimal, string_bytes, String}
 use Rattle.std.specs.Global.{Global}
 use Rattle.std.proofs.lemmas.List.{length-map}
-use Rattle.outer_io.specs.declared.Failed.{Failed}
 use Rattle.board_model.specs.FileWords.{number, number_of}
 use Rattle.board_model.specs.Numerals.{at_most}
 use Rattle.board_model.specs.LoadBoard.{load_limit}
@@ -12,9 +11,8 @@ use Rattle.board_model.specs.Report.{ending}
 use Rattle.board_model.proofs.WordDecimals.{number-decimal, decimal-is, decimal-read}
 use Rattle.scenario_cli.specs.declared.form.Form.{Form}
 use Rattle.scenario_cli.specs.declared.form.Form.TheVariants.{Run, SerialRun, Check, Frame, Ring}
-use Rattle.scenario_cli.specs.Words.{words_of, IsForm, IsNoLoad, IsNoForm, IsOneOf}
+use Rattle.scenario_cli.specs.Words.{words_of, IsForm, IsNoLoad, IsNoForm}
 use Rattle.scenario_cli.specs.LoadText.{IsLoad}
-use Rattle.scenario_cli.specs.Loading.{Loads}
 
 -- ---- the number
 
@@ -79,48 +77,6 @@ no_load_many words other n load = other (sym (length-map words (λ (w : String G
 -- and words of such a form are not those of no form
 pub form_no_usage : (form : Form) (words : List (List ℕ)) → IsForm form words → IsNoForm words → ⊥
 form_no_usage form words is none = none.no_input form is
-
--- ---- the statuses
-
-pub after_load : (r : Result (Unit {0}) Failed) (status : ℕ) → OnOk r (status ≡ 0) → OnErr r (status ≡ 5) → IsOneOf (0 ∷ 5 ∷ 6 ∷ []) status
-after_load (Ok x) status whole failed = inl whole
-after_load (Err e) status whole failed = inr (inl failed)
-
--- nothing is said where memory ran out
-pub out_of_memory : (packets : ℕ) (old new : Option (List ℕ)) (takes : ℕ → Type 0) → Loads packets 6 old new takes
-out_of_memory packets old new takes = record {
-  statuses = inr (inr (inl refl));
-  whole = λ is. absurd (omega (arith, is));
-  breaks_off = λ is. absurd (omega (arith, is));
-  room = λ n fits taken is. omega (arith, is);
-}
-
-pub load_statuses : (n : ℕ) → IsOneOf (0 ∷ 5 ∷ 6 ∷ []) n → IsOneOf (0 ∷ 2 ∷ 5 ∷ 6 ∷ []) n
-load_statuses n (inl e) = inl e
-load_statuses n (inr (inl e)) = inr (inr (inl e))
-load_statuses n (inr (inr (inl e))) = inr (inr (inr (inl e)))
-load_statuses n (inr (inr (inr h))) = absurd h
-
-pub no_usage : (n : ℕ) → IsOneOf (0 ∷ 5 ∷ 6 ∷ []) n → n ≢ 2
-no_usage n (inl e) is = omega (arith, e, is)
-no_usage n (inr (inl e)) is = omega (arith, e, is)
-no_usage n (inr (inr (inl e))) is = omega (arith, e, is)
-no_usage n (inr (inr (inr h))) is = h
-
--- the statuses where nothing is read
-pub unread_statuses : (n : ℕ) → IsOneOf (0 ∷ 2 ∷ 5 ∷ 6 ∷ []) n → IsOneOf (0 ∷ 1 ∷ 2 ∷ 3 ∷ 4 ∷ 5 ∷ 6 ∷ 7 ∷ []) n
-unread_statuses n (inl e) = inl e
-unread_statuses n (inr (inl e)) = inr (inr (inl e))
-unread_statuses n (inr (inr (inl e))) = inr (inr (inr (inr (inr (inl e)))))
-unread_statuses n (inr (inr (inr (inl e)))) = inr (inr (inr (inr (inr (inr (inl e))))))
-unread_statuses n (inr (inr (inr (inr h)))) = absurd h
-
-pub unread_not : (n m : ℕ) → IsOneOf (0 ∷ 2 ∷ 5 ∷ 6 ∷ []) n → m ≢ 0 → m ≢ 2 → m ≢ 5 → m ≢ 6 → n ≢ m
-unread_not n m (inl e) naught two five six is = naught (sym is ∙ e)
-unread_not n m (inr (inl e)) naught two five six is = two (sym is ∙ e)
-unread_not n m (inr (inr (inl e))) naught two five six is = five (sym is ∙ e)
-unread_not n m (inr (inr (inr (inl e)))) naught two five six is = six (sym is ∙ e)
-unread_not n m (inr (inr (inr (inr h)))) naught two five six is = h
 
 -- ---- the text
 

@@ -1,17 +1,12 @@
--- The line of what the code read of a frame, and the line that is told of any bytes.
+-- The line of what the code read of a frame.
 -- Source: docs/FORMATS.md, "Text of a frame".
-use Rattle.std.specs.Prelude.{◌≡◌, ℕ, List, Some, None}
+use Rattle.std.specs.Prelude.{ℕ, List}
 use Rattle.mc_base.specs.Limits.{name_service_address}
 use Rattle.mc_base.specs.Letter.{plain_letter}
 use Rattle.scenario_cli.specs.declared.frame.content.Content.{Content}
 use Rattle.scenario_cli.specs.declared.frame.content.Content.TheVariants as content
-use Rattle.scenario_cli.specs.FrameText.{right_line, letter_words, announcement_words, IsFrameText, frame_wrong}
+use Rattle.scenario_cli.specs.FrameText.{right_line, letter_words, announcement_words}
 
 abbrev pub content_line : Content → List ℕ
 content_line (content.Letter src dst letter) = right_line src dst (letter_words (plain_letter letter))
 content_line (content.Announcement src ns) = right_line src name_service_address (announcement_words ns.name.items ns.addr ns.create)
-
--- the line is what is told of a frame: what it says where it is sound, and else what is wrong
-pub data IsToldOf (frame line : List ℕ) : Type 0 where
-  says : frame_wrong frame ≡ None → IsFrameText frame line → IsToldOf frame line
-  fails : frame_wrong frame ≡ Some line → IsToldOf frame line

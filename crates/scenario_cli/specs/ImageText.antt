@@ -30,8 +30,3 @@ image_fault_text LenRange = codes "len_range"
 -- the line of a fault at its place
 abbrev pub image_fault_line : ℕ × ImageFault → List ℕ
 image_fault_line fault = wrong_line fault.0 (image_fault_text fault.1)
-
--- the output that is due for bytes that are to be an image: what it is of, or what is wrong
-pub data IsImageDue (bytes output : List ℕ) : Type 0 where
-  sound : (info : ImageInfo) → IsImage bytes info → output ≡ image_line info → IsImageDue bytes output
-  unsound : (fault : ℕ × ImageFault) → IsNoImage bytes fault → output ≡ image_fault_line fault → IsImageDue bytes output

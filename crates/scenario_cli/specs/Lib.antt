@@ -1,6 +1,5 @@
 pub mod Words
 pub mod LoadText
-pub mod Loading
 pub mod RefusedText
 pub mod WrongText
 pub mod VerdictText
@@ -8,6 +7,7 @@ pub mod Hex
 pub mod FrameText
 pub mod ImageText
 pub mod Due
+pub mod Answers
 pub mod Left
 pub mod HexFault
 pub mod Places

@@ -1,16 +1,15 @@
 //! The words that ask for no input: the serial run of a load board, of which the totals alone are written, and words of no form.
 
-ghost use Rattle.std.specs.Prelude.{◌≡◌, ◌≢◌, ◌≤◌, ◌∷◌, [], ℕ, length, IfOk, IsOk};
-ghost use Rattle.std.specs.Io.KnownBytes.{Appends};
+ghost use Rattle.std.specs.Prelude.{◌≡◌, ◌≢◌, ◌≤◌, ℕ, length, IfOk, IsOk, OnErr};
 ghost use Rattle.board_model.specs.LoadBoard.{load_board, load_limit};
 ghost use Rattle.board_model.specs.SerialRun.{serial_run};
 ghost use Rattle.board_runner.specs.Outcome.{IsOutcome};
-ghost use Rattle.outer_io.specs.Faults.{Rose, HasCause};
-ghost use Rattle.outer_io.specs.Writes.{Writes, AppendsPart};
+ghost use Rattle.outer_io.specs.Faults.{HasCause};
+ghost use Rattle.outer_io.specs.Writes.{Writes, WritesStop};
 ghost use Rattle.outer_io.specs.Puts.{Puts};
-ghost use Rattle.scenario_cli.specs.Words.{words_of, IsNoLoad, usage_text, IsOneOf};
+ghost use Rattle.scenario_cli.specs.Words.{words_of, IsNoLoad, usage_text};
 ghost use Rattle.scenario_cli.specs.LoadText.{IsLoad, load_report};
-ghost use Rattle.scenario_cli.specs.Loading.{Loads};
+ghost use Rattle.scenario_cli.specs.Answers.{Writes as WritesWhole, WritesAtOnce, Unread};
 
 use crate::form::load_of;
 use crate::status::{self, after_write};
@@ -25,17 +24,10 @@ const USAGE: &[u8] = b"usage: mcrun run | run --serial | check | frame | ring | 
 
 /// Does what words say that are of no form with an input: runs a load board, or writes the usage. Returns the status.
 pub fn without_input<K: Sink>(alloc: Global, words: &[String], output: &mut K) -> u8
-    ensures status { IsOneOf (0 ∷ 2 ∷ 5 ∷ 6 ∷ []) result }
-    ensures load { (packets : ℕ) → IsLoad packets (words_of words.now) → Loads packets result (K.written output.old) (K.written output.new) (K.takes output.old) }
+    ensures unread { Unread K.Sink result output.old output.new }
+    ensures load { (packets : ℕ) → IsLoad packets (words_of words.now) → WritesWhole K.Sink (load_report packets) 0 result output.old output.new }
+    ensures usage { IsNoLoad (words_of words.now) → WritesAtOnce K.Sink usage_text 2 result output.old output.new }
     ensures usage_words { result ≡ 2 → IsNoLoad (words_of words.now) }
-    ensures usage { result ≡ 2 → Appends (K.written output.old) (K.written output.new) usage_text }
-    ensures no_form { IsNoLoad (words_of words.now) → IsOneOf (2 ∷ 5 ∷ []) result }
-    ensures breaks_off { IsNoLoad (words_of words.now) → result ≡ 5 → AppendsPart (K.written output.old) (K.written output.new) usage_text }
-    ensures failed { result ≡ 5 → Rose (K.faults output.old) (K.faults output.new) }
-    ensures nothing { result ≡ 6 → output.new ≡ output.old }
-    ensures no_fault { result ≢ 5 → K.faults output.new ≡ K.faults output.old }
-    ensures faults { K.faults output.old ≤ K.faults output.new }
-    ensures room { (n : ℕ) → IsNoLoad (words_of words.now) → length usage_text ≤ n → K.takes output.old n → result ≢ 5 }
 {
     match load_of(words) {
         Some(packets) => run_load(alloc, packets, output),
@@ -47,11 +39,9 @@ pub fn without_input<K: Sink>(alloc: Global, words: &[String], output: &mut K) -
 fn run_load<K: Sink>(alloc: Global, packets: u32, output: &mut K) -> u8
     requires some { 1 ≤ packets }
     requires few { packets ≤ load_limit }
-    ensures load { Loads packets result (K.written output.old) (K.written output.new) (K.takes output.old) }
-    ensures failed { result ≡ 5 → Rose (K.faults output.old) (K.faults output.new) }
-    ensures nothing { result ≡ 6 → output.new ≡ output.old }
-    ensures no_fault { result ≢ 5 → K.faults output.new ≡ K.faults output.old }
-    ensures faults { K.faults output.old ≤ K.faults output.new }
+    ensures unread { Unread K.Sink result output.old output.new }
+    ensures load { WritesWhole K.Sink (load_report packets) 0 result output.old output.new }
+    ensures not_usage { result ≢ 2 }
 {
     match load_outcome(alloc, packets) {
         Ok(outcome) => after_write(write_load(packets, &outcome, output), status::DONE),
@@ -80,6 +70,7 @@ fn write_load<K: Sink>(packets: u32, outcome: &Outcome, output: &mut K) -> Resul
     ensures bytes { Writes (K.written output.old) (K.written output.new) result (load_report packets) }
     ensures cause { HasCause (K.faults output.old) (K.faults output.new) result }
     ensures room { (n : ℕ) → K.takes output.old n → length (load_report packets) ≤ n → IsOk result }
+    ensures none_after_failure { OnErr result (WritesStop (K.written output.old) (K.written output.new) (K.calls output.old) (K.calls output.new) (load_report packets)) }
 {
     let mut out = Writer::new(output);
     put_load(&mut out, packets, outcome);

@@ -1,8 +1,8 @@
 //! The refusal of a scenario file.
 
-ghost use Rattle.std.specs.Prelude.{◌≡◌, ◌≤◌, ℕ, length, IsOk};
+ghost use Rattle.std.specs.Prelude.{◌≡◌, ◌≤◌, ℕ, length, IsOk, OnErr};
 ghost use Rattle.outer_io.specs.Faults.{HasCause};
-ghost use Rattle.outer_io.specs.Writes.{Writes};
+ghost use Rattle.outer_io.specs.Writes.{Writes, WritesStop};
 ghost use Rattle.outer_io.specs.Puts.{Puts};
 ghost use Rattle.scenario_cli.specs.RefusedText.{line_reason_text, refused_text};
 
@@ -18,6 +18,7 @@ pub fn write_refusal<K: Sink>(line: u32, reason: LineReason, output: &mut K) -> 
     ensures bytes { Writes (K.written output.old) (K.written output.new) result (refused_text line reason) }
     ensures cause { HasCause (K.faults output.old) (K.faults output.new) result }
     ensures room { (n : ℕ) → K.takes output.old n → length (refused_text line reason) ≤ n → IsOk result }
+    ensures none_after_failure { OnErr result (WritesStop (K.written output.old) (K.written output.new) (K.calls output.old) (K.calls output.new) (refused_text line reason)) }
 {
     let mut out = Writer::new(output);
     put_refusal(&mut out, line, reason);

@@ -1,14 +1,12 @@
-ghost use Rattle.std.specs.Prelude.{◌≡◌, ◌≢◌, ◌≤◌, ◌∷◌, [], ℕ, List, length, IfOk};
-ghost use Rattle.std.specs.Io.KnownBytes.{Appends};
-ghost use Rattle.board_model.specs.declared.scenario.Scenario.{Scenario as Told};
-ghost use Rattle.board_model.specs.Language.{IsLawfulBoard, RefusedLine};
+//! The forms `run` and `run --serial`: a scenario in, the report of a run of its board or the refusal out.
+
+ghost use Rattle.std.specs.Prelude.{◌≤◌, ℕ, List, length, IfOk};
+ghost use Rattle.board_model.specs.Language.{IsLawfulBoard};
 ghost use Rattle.board_runner.specs.Mode.{mode_of};
-ghost use Rattle.outer_io.specs.Faults.{Rose};
-ghost use Rattle.outer_io.specs.Writes.{AppendsPart};
-ghost use Rattle.scenario_cli.specs.Words.{IsOneOf, input_limit};
-ghost use Rattle.scenario_cli.specs.RefusedText.{refusal_text};
-ghost use Rattle.scenario_cli.specs.Due.{IsReport, IsRunDue, IsScenario, IsRefused};
-ghost use Rattle.scenario_cli.specs.Left.{IsLeft, IsReportOf};
+ghost use Rattle.scenario_cli.specs.Words.{input_limit, run_in};
+ghost use Rattle.scenario_cli.specs.Due.{IsScenario};
+ghost use Rattle.scenario_cli.specs.Left.{IsLeft};
+ghost use Rattle.scenario_cli.specs.Answers.{Tells};
 
 use crate::refused::write_refusal;
 use crate::status::{self, after_write};
@@ -30,17 +28,7 @@ pub fn run_text<T: Threads + Sync, K: Sink>(
     output: &mut K,
 ) -> u8
     requires { length text.now ≤ input_limit }
-    ensures status { IsOneOf (0 ∷ 3 ∷ 5 ∷ 6 ∷ []) result }
-    ensures reported { result ≡ 0 → (due : List ℕ) × IsReport (mode_of threads) text.now due × Appends (K.written output.old) (K.written output.new) due }
-    ensures refused { result ≡ 3 → (r : RefusedLine) × IsRefused text.now r × Appends (K.written output.old) (K.written output.new) (refusal_text r) }
-    ensures breaks_off { result ≡ 5 → (due : List ℕ) × IsRunDue (mode_of threads) text.now due × AppendsPart (K.written output.old) (K.written output.new) due }
-    ensures failed { result ≡ 5 → Rose (K.faults output.old) (K.faults output.new) }
-    ensures nothing { result ≡ 6 → output.new ≡ output.old }
-    ensures no_fault { result ≢ 5 → K.faults output.new ≡ K.faults output.old }
-    ensures faults { K.faults output.old ≤ K.faults output.new }
-    ensures scenario { (told : Told) → IsScenario text.now told → result ≢ 3 }
-    ensures no_scenario { (r : RefusedLine) → IsRefused text.now r → result ≢ 0 }
-    ensures room { (n : ℕ) → ((due : List ℕ) → IsRunDue (mode_of threads) text.now due → length due ≤ n) → K.takes output.old n → result ≢ 5 }
+    ensures { Tells K.Sink (run_in (mode_of threads)) text.now result output.old output.new }
 {
     match read_scenario(alloc, text) {
         Ok(scenario) => run_scenario(rt, alloc, threads, &scenario, output),
@@ -60,14 +48,7 @@ fn run_scenario<T: Threads + Sync, K: Sink>(
     output: &mut K,
 ) -> u8
     requires lawful { IsLawfulBoard scenario.now }
-    ensures status { IsOneOf (0 ∷ 5 ∷ 6 ∷ []) result }
-    ensures reported { result ≡ 0 → (due : List ℕ) × IsReportOf (mode_of threads) scenario.now due × Appends (K.written output.old) (K.written output.new) due }
-    ensures breaks_off { result ≡ 5 → (due : List ℕ) × IsReportOf (mode_of threads) scenario.now due × AppendsPart (K.written output.old) (K.written output.new) due }
-    ensures failed { result ≡ 5 → Rose (K.faults output.old) (K.faults output.new) }
-    ensures nothing { result ≡ 6 → output.new ≡ output.old }
-    ensures no_fault { result ≢ 5 → K.faults output.new ≡ K.faults output.old }
-    ensures faults { K.faults output.old ≤ K.faults output.new }
-    ensures room { (n : ℕ) → ((due : List ℕ) → IsReportOf (mode_of threads) scenario.now due → length due ≤ n) → K.takes output.old n → result ≢ 5 }
+    ensures { (text : List ℕ) → IsScenario text scenario.now → Tells K.Sink (run_in (mode_of threads)) text result output.old output.new }
 {
     match run_board(rt, alloc, threads, scenario) {
         Ok(outcome) => after_write(

@@ -1,9 +1,9 @@
 //! The line of a wrong input: where it is wrong, and why.
 
-ghost use Rattle.std.specs.Prelude.{◌≤◌, ℕ, length, IsOk};
+ghost use Rattle.std.specs.Prelude.{◌≤◌, ℕ, length, IsOk, OnErr};
 ghost use Rattle.outer_io.specs.Faults.{HasCause};
 ghost use Rattle.outer_io.specs.Puts.{Puts};
-ghost use Rattle.outer_io.specs.Writes.{Writes};
+ghost use Rattle.outer_io.specs.Writes.{Writes, WritesStop};
 ghost use Rattle.scenario_cli.specs.WrongText.{wrong_line};
 
 use outer_io::{Failed, Sink, Writer};
@@ -17,6 +17,7 @@ pub fn write_wrong<K: Sink>(place: usize, reason: &[u8], sink: &mut K) -> Result
     ensures bytes { Writes (K.written sink.old) (K.written sink.new) result (wrong_line place reason.now) }
     ensures cause { HasCause (K.faults sink.old) (K.faults sink.new) result }
     ensures room { (n : ℕ) → K.takes sink.old n → length (wrong_line place reason.now) ≤ n → IsOk result }
+    ensures none_after_failure { OnErr result (WritesStop (K.written sink.old) (K.written sink.new) (K.calls sink.old) (K.calls sink.new) (wrong_line place reason.now)) }
 {
     let mut out = Writer::new(sink);
     put_wrong(&mut out, place, reason);

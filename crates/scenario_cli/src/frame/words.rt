@@ -1,12 +1,12 @@
 //! The lines of frames, put to a sink piece by piece.
 
-ghost use Rattle.std.specs.Prelude.{◌≡◌, ◌≤◌, ◌*◌, ◌++◌, ◌∷◌, [], ℕ, length, codes, decimal, IsOk, if◌then◌else◌};
+ghost use Rattle.std.specs.Prelude.{◌≡◌, ◌≤◌, ◌*◌, ◌++◌, ◌∷◌, [], ℕ, length, codes, decimal, IsOk, OnErr, if◌then◌else◌};
 ghost use Rattle.mc_base.specs.Limits.{name_service_address};
 ghost use Rattle.mc_base.specs.Text.{hex_text};
 ghost use Rattle.mc_base.specs.Letter.{plain_letter, bytes_of_bits};
 ghost use Rattle.outer_io.specs.Faults.{HasCause};
 ghost use Rattle.outer_io.specs.Puts.{Puts};
-ghost use Rattle.outer_io.specs.Writes.{Writes};
+ghost use Rattle.outer_io.specs.Writes.{Writes, WritesStop};
 ghost use Rattle.board_model.specs.Grammar.{spaced};
 ghost use Rattle.scenario_cli.specs.FrameText.{letter_words, announcement_words, right_line};
 ghost use Rattle.scenario_cli.specs.Content.{content_line};
@@ -22,6 +22,7 @@ pub fn write_right<K: Sink>(content: Content<'_>, sink: &mut K) -> Result<(), Fa
     ensures bytes { Writes (K.written sink.old) (K.written sink.new) result (content_line content.entry) }
     ensures cause { HasCause (K.faults sink.old) (K.faults sink.new) result }
     ensures room { (n : ℕ) → K.takes sink.old n → length (content_line content.entry) ≤ n → IsOk result }
+    ensures none_after_failure { OnErr result (WritesStop (K.written sink.old) (K.written sink.new) (K.calls sink.old) (K.calls sink.new) (content_line content.entry)) }
 {
     let mut out = Writer::new(sink);
     put_right(&mut out, content);

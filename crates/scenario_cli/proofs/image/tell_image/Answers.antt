@@ -1,22 +1,28 @@
-use Rattle.std.proofs.Common.{refl, sym, arith}
-use Rattle.scenario_cli.specs.ImageText.{sound, unsound, image_line}
-use Rattle.scenario_cli.proofs.Written.{part_text, no_failure}
+use Rattle.std.proofs.Common.{◌≡◌, refl, sym, ◌∙◌, ℕ, Ok, Err}
+use Rattle.std.specs.Prelude.{Result}
+use Rattle.ring_trace.specs.declared.checking.ImageInfo.{ImageInfo}
+use Rattle.ring_trace.specs.declared.checking.ImageFault.{ImageFault}
+use Rattle.scenario_cli.specs.declared.form.Form.TheVariants.{Ring}
+use Rattle.scenario_cli.specs.ImageText.{image_line, image_fault_line}
+use Rattle.scenario_cli.specs.Answers.{good, bad}
+use Rattle.scenario_cli.proofs.Telling.{write-tells}
 use Rattle.scenario_cli.proofs.image.tell_image.Goals as goal
 
-pub returns-in-Ok-clause-breaks_off : goal.returns-in-Ok-clause-breaks_off
-returns-in-Ok-clause-breaks_off g c = λ is.
-    (image_line c.in-Ok.info, sound c.in-Ok.info (sym c.in-Ok.ensures) refl, part_text c.write_info.result c.after_write.result 0 _ _ _ c.after_write.ensures.whole (omega arith) c.write_info.ensures.bytes is)
+either : (r : Result ImageInfo (ℕ × ImageFault)) (info : ImageInfo) (fault : ℕ × ImageFault) → r ≡ Ok info → r ≡ Err fault → ⊥
+either r info fault ok err = let both : Ok info ≡ Err fault = sym ok ∙ err in absurd cc
 
-pub returns-in-Ok-clause-room : goal.returns-in-Ok-clause-room
-returns-in-Ok-clause-room g c = λ n fits takes.
-    no_failure c.write_info.result c.after_write.result 0 c.after_write.ensures.whole (omega arith) (c.write_info.ensures.room n takes (fits _ (sound c.in-Ok.info (sym c.in-Ok.ensures) refl)))
+pub returns-in-Ok : goal.returns-in-Ok
+returns-in-Ok g c =
+    let is = sym c.in-Ok.ensures in
+    write-tells g.K.Sink c.args.output.now c.write_info.new.sink (image_line c.in-Ok.info) Ring good c.args.image.now (record { info = c.in-Ok.info; is = is; written = refl }) (λ err. either _ c.in-Ok.info err.0 is err.1) c.write_info.result c.after_write.result c.after_write.ensures.whole c.after_write.ensures.failed
+    (record { bytes = c.write_info.ensures.bytes; cause = c.write_info.ensures.cause; room = c.write_info.ensures.room; last = c.write_info.ensures.none_after_failure })
 
-pub returns-in-Err-clause-breaks_off : goal.returns-in-Err-clause-breaks_off
-returns-in-Err-clause-breaks_off g c = λ is.
+pub returns-in-Err : goal.returns-in-Err
+returns-in-Err g c =
+    let fault : ℕ × ImageFault = (c.in-Err.place, c.in-Err.fault) in
+    let is = sym c.in-Err.ensures in
     let bytes = rw c.image_fault_word.ensures at c.write_wrong-written.ensures.bytes in
-    (_, unsound (c.in-Err.place, c.in-Err.fault) (sym c.in-Err.ensures) refl, part_text c.write_wrong-written.result c.after_write-in-Err.result 1 _ _ _ c.after_write-in-Err.ensures.whole (omega arith) bytes is)
-
-pub returns-in-Err-clause-room : goal.returns-in-Err-clause-room
-returns-in-Err-clause-room g c = λ n fits takes.
     let room = rw c.image_fault_word.ensures at c.write_wrong-written.ensures.room in
-    no_failure c.write_wrong-written.result c.after_write-in-Err.result 1 c.after_write-in-Err.ensures.whole (omega arith) (room n takes (fits _ (unsound (c.in-Err.place, c.in-Err.fault) (sym c.in-Err.ensures) refl)))
+    let last = rw c.image_fault_word.ensures at c.write_wrong-written.ensures.none_after_failure in
+    write-tells g.K.Sink c.args.output.now c.write_wrong-written.new.sink (image_fault_line fault) Ring bad c.args.image.now (record { fault = fault; is = is; written = refl }) (λ ok. either _ ok.0 fault ok.1 is) c.write_wrong-written.result c.after_write-in-Err.result c.after_write-in-Err.ensures.whole c.after_write-in-Err.ensures.failed
+    (record { bytes = bytes; cause = c.write_wrong-written.ensures.cause; room = room; last = last })

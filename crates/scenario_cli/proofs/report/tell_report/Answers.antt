@@ -1,46 +1,39 @@
-use Rattle.std.proofs.Common.{◌≡◌, ℕ, ◌≤◌, length, sym, ◌∙◌, subst, arith}
-use Rattle.outer_io.specs.Writes.{AppendsPart}
+use Rattle.std.proofs.Common.{◌≡◌, ℕ, refl, sym, ◌∙◌, arith}
 use Rattle.report_text.specs.declared.verdict.CheckReason.{CheckReason}
 use Rattle.report_text.specs.declared.verdict.Verdict.{Verdict}
 use Rattle.report_text.specs.declared.verdict.Verdict.TheVariants.{Right, Wrong}
+use Rattle.report_text.specs.Verdicts.{verdict_on}
+use Rattle.report_laws.proofs.ReasonsOfRuns.{reasons-of-runs}
+use Rattle.scenario_cli.specs.declared.form.Form.TheVariants.{Check}
 use Rattle.scenario_cli.specs.VerdictText.{verdict_line}
-use Rattle.scenario_cli.proofs.ReportsTold.{right_is_of_run, run_is_right}
-use Rattle.scenario_cli.proofs.Written.{part_text, whole_text, no_failure}
+use Rattle.scenario_cli.specs.Answers.{good, bad}
+use Rattle.scenario_cli.proofs.ReportsTold.{right_is_of_run}
+use Rattle.scenario_cli.proofs.Telling.{write-tells, memory-tells}
 use Rattle.scenario_cli.proofs.report.tell_report.Goals as goal
 
-right_is_no_wrong : (line : ℕ) (reason : CheckReason) → Right ≡ Wrong line reason → ⊥
-right_is_no_wrong line reason e = absurd cc
+either : (v : Verdict) (line : ℕ) (reason : CheckReason) → v ≡ Right → v ≡ Wrong line reason → ⊥
+either v line reason right wrong = let both : Right ≡ Wrong line reason = sym right ∙ wrong in absurd cc
 
-pub returns-in-Ok-Right-clause-checked : goal.returns-in-Ok-Right-clause-checked
-returns-in-Ok-Right-clause-checked g c = λ is.
+pub returns-in-Ok-Right : goal.returns-in-Ok-Right
+returns-in-Ok-Right g c =
     let few = c.requires in
-    right_is_of_run c.args.report.now (omega (arith, few)) (sym c.in-Ok-Right.ensures ∙ c.in-Ok-Right.field-0-is)
+    let right : verdict_on c.args.report.now ≡ Right = sym c.in-Ok-Right.ensures ∙ c.in-Ok-Right.field-0-is in
+    write-tells g.K.Sink c.args.output.now c.write_all.new.sink (verdict_line Right) Check good c.args.report.now (record { right = right; of_run = right_is_of_run c.args.report.now (omega (arith, few)) right; written = refl }) (λ wrong. either _ wrong.0.0 wrong.0.1 right wrong.1) c.write_all.result c.after_write.result
+    c.after_write.ensures.whole c.after_write.ensures.failed
+    (record { bytes = c.write_all.ensures.bytes; cause = c.write_all.ensures.cause; room = λ n takes fits. (c.write_all.ensures.room n takes fits).0; last = c.write_all.ensures.none_after_failure })
 
-pub returns-in-Ok-Right-clause-breaks_off : goal.returns-in-Ok-Right-clause-breaks_off
-returns-in-Ok-Right-clause-breaks_off g c = λ is.
-    subst (λ (v : Verdict). AppendsPart (g.K.Sink.written c.args.output.now) (g.K.Sink.written c.write_all.new.sink) (verdict_line v)) (sym (sym c.in-Ok-Right.ensures ∙ c.in-Ok-Right.field-0-is))
-    (part_text c.write_all.result c.after_write.result 0 _ _ _ c.after_write.ensures.whole (omega arith) c.write_all.ensures.bytes is)
-
-pub returns-in-Ok-Right-clause-room : goal.returns-in-Ok-Right-clause-room
-returns-in-Ok-Right-clause-room g c = λ n fits takes.
-    no_failure c.write_all.result c.after_write.result 0 c.after_write.ensures.whole (omega arith) (c.write_all.ensures.room n takes (subst (λ (v : Verdict). length (verdict_line v) ≤ n) (sym c.in-Ok-Right.ensures ∙ c.in-Ok-Right.field-0-is) fits)).0
-
-pub returns-in-Ok-Wrong-clause-wrong : goal.returns-in-Ok-Wrong-clause-wrong
-returns-in-Ok-Wrong-clause-wrong g c = λ is.
+pub returns-in-Ok-Wrong : goal.returns-in-Ok-Wrong
+returns-in-Ok-Wrong g c =
+    let few = c.requires in
+    let line = c.in-Ok-Wrong.line in
+    let reason = c.in-Ok-Wrong.reason in
+    let wrong : verdict_on c.args.report.now ≡ Wrong line reason = sym c.in-Ok-Wrong.ensures ∙ c.in-Ok-Wrong.field-0-is in
     let bytes = rw c.reason_word.ensures at c.write_wrong-written.ensures.bytes in
-    ((c.in-Ok-Wrong.line, c.in-Ok-Wrong.reason), sym c.in-Ok-Wrong.ensures ∙ c.in-Ok-Wrong.field-0-is, whole_text c.write_wrong-written.result c.after_write-in-Ok-Wrong.result _ _ _ c.after_write-in-Ok-Wrong.ensures.failed bytes (omega (arith, is)))
-
-pub returns-in-Ok-Wrong-clause-breaks_off : goal.returns-in-Ok-Wrong-clause-breaks_off
-returns-in-Ok-Wrong-clause-breaks_off g c = λ is.
-    let bytes = rw c.reason_word.ensures at c.write_wrong-written.ensures.bytes in
-    subst (λ (v : Verdict). AppendsPart (g.K.Sink.written c.args.output.now) (g.K.Sink.written c.write_wrong-written.new.sink) (verdict_line v)) (sym (sym c.in-Ok-Wrong.ensures ∙ c.in-Ok-Wrong.field-0-is))
-    (part_text c.write_wrong-written.result c.after_write-in-Ok-Wrong.result 1 _ _ _ c.after_write-in-Ok-Wrong.ensures.whole (omega arith) bytes is)
-
-pub returns-in-Ok-Wrong-clause-room : goal.returns-in-Ok-Wrong-clause-room
-returns-in-Ok-Wrong-clause-room g c = λ n fits takes.
     let room = rw c.reason_word.ensures at c.write_wrong-written.ensures.room in
-    no_failure c.write_wrong-written.result c.after_write-in-Ok-Wrong.result 1 c.after_write-in-Ok-Wrong.ensures.whole (omega arith) (room n takes (subst (λ (v : Verdict). length (verdict_line v) ≤ n) (sym c.in-Ok-Wrong.ensures ∙ c.in-Ok-Wrong.field-0-is) fits))
+    let last = rw c.reason_word.ensures at c.write_wrong-written.ensures.none_after_failure in
+    write-tells g.K.Sink c.args.output.now c.write_wrong-written.new.sink (verdict_line (Wrong line reason)) Check bad c.args.report.now (record { wrong = (line, reason); is = wrong; explained = reasons-of-runs c.args.report.now line reason (omega (arith, few)) wrong; written = refl }) (λ right. either _ line reason right wrong)
+    c.write_wrong-written.result c.after_write-in-Ok-Wrong.result c.after_write-in-Ok-Wrong.ensures.whole c.after_write-in-Ok-Wrong.ensures.failed
+    (record { bytes = bytes; cause = c.write_wrong-written.ensures.cause; room = room; last = last })
 
-pub returns-in-Ok-Wrong-clause-of_run : goal.returns-in-Ok-Wrong-clause-of_run
-returns-in-Ok-Wrong-clause-of_run g c = λ of is.
-    right_is_no_wrong c.in-Ok-Wrong.line c.in-Ok-Wrong.reason (sym (run_is_right c.args.report.now of) ∙ (sym c.in-Ok-Wrong.ensures ∙ c.in-Ok-Wrong.field-0-is))
+pub returns-in-Err : goal.returns-in-Err
+returns-in-Err g c = memory-tells _ _ _ _
